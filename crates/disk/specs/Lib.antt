@@ -1,0 +1,6 @@
+pub mod Disk
+pub mod Laws
+pub mod Plans
+pub mod Memory
+pub mod MemoryInside
+pub mod FileDisks

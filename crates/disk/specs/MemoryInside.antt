@@ -1,0 +1,19 @@
+-- How a disk in memory is kept.
+use Rattle.std.specs.Prelude.{◌≡◌, ◌<◌, ℕ, false, List, [], length, slice_index_or}
+use Rattle.disk.specs.Disk.{IsSector}
+use Rattle.disk.specs.Memory.{MemoryState}
+use Rattle.disk.specs.declared.memory.MemDisk.TheInside.{Inside}
+
+abbrev pub state_of : Inside → MemoryState
+state_of m = record { reads = m.image.sectors.items; synced = m.synced.items; attempted = m.attempted.items; loose = m.image.loose.items; counts = m.schedule }
+
+-- so many sectors
+pub record AreSectors (count : ℕ) (sectors : List (List ℕ)) : Type 0 where
+  pub size : length sectors ≡ count
+  pub whole : (n : ℕ) → n < count → IsSector (slice_index_or sectors n [])
+
+pub record IsKept (m : Inside) : Type 0 where
+  pub synced : AreSectors (length m.image.sectors.items) m.synced.items
+  pub attempted : AreSectors (length m.image.sectors.items) m.attempted.items
+  -- a firm sector was last synced as a read gives it
+  pub firm : (n : ℕ) → slice_index_or m.image.loose.items n false ≡ false → slice_index_or m.synced.items n [] ≡ slice_index_or m.image.sectors.items n []

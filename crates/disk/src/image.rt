@@ -1,0 +1,104 @@
+// The sectors of a disk that is kept in memory, and which of them are loose.
+ghost use Rattle.std.specs.Prelude.{◌≡◌, ◌/◌, ◌<◌, ◌^◌, ℕ, List, [], true, false, length, replicate, slice_set, slice_index_or, IfOk};
+ghost use Rattle.disk.specs.Disk.{image_of, IsFirm, IsSector};
+
+use std::alloc::{AllocError, Global};
+
+#[derive(Drop)]
+pub struct Image {
+    pub sectors: Vec<[u8; 512]>,
+    pub loose: Vec<bool>,
+    ghost each: { length loose.items ≡ length sectors.items },
+    ghost numbered: { length sectors.items < 2 ^ 32 },
+    ghost whole: { (n : ℕ) → n < length sectors.items → IsSector (slice_index_or sectors.items n []) },
+}
+
+/// So many sectors of zeros.
+fn zeros(alloc: Global, count: u32) -> Result<Vec<[u8; 512]>, AllocError>
+    ensures { IfOk result (λ sectors. sectors.items ≡ replicate count (replicate 512 0)) }
+{
+    vec![in alloc; [0; 512]; count as usize]
+}
+
+/// The same sectors.
+pub fn copied(alloc: Global, sectors: &[[u8; 512]]) -> Result<Vec<[u8; 512]>, AllocError>
+    ensures { IfOk result (λ copy. copy.items ≡ sectors.now) }
+{
+    sectors.to_vec(alloc)
+}
+
+impl Image {
+    /// An image of zeros, none of whose sectors is loose.
+    pub fn blank(alloc: Global, count: u32) -> Result<Image, AllocError>
+        ensures sectors { IfOk result (λ image. image.sectors.items ≡ replicate count (replicate 512 0)) }
+        ensures firm { IfOk result (λ image. IsFirm image.loose.items) }
+    {
+        Image::firm(alloc, zeros(alloc, count)?)
+    }
+
+    /// An image of the whole sectors of these bytes, none of which is loose.
+    pub fn of(alloc: Global, bytes: &[u8]) -> Result<Image, AllocError>
+        requires { length bytes.now / 512 < 2 ^ 32 }
+        ensures sectors { IfOk result (λ image. image.sectors.items ≡ image_of bytes.now) }
+        ensures firm { IfOk result (λ image. IsFirm image.loose.items) }
+    {
+        Image::of_sectors(alloc, bytes.as_chunks::<512>().0)
+    }
+
+    fn of_sectors(alloc: Global, sectors: &[[u8; 512]]) -> Result<Image, AllocError>
+        requires numbered { length sectors.now < 2 ^ 32 }
+        requires whole { (n : ℕ) → n < length sectors.now → IsSector (slice_index_or sectors.now n []) }
+        ensures sectors { IfOk result (λ image. image.sectors.items ≡ sectors.now) }
+        ensures firm { IfOk result (λ image. IsFirm image.loose.items) }
+    {
+        Image::firm(alloc, copied(alloc, sectors)?)
+    }
+
+    fn firm(alloc: Global, sectors: Vec<[u8; 512]>) -> Result<Image, AllocError>
+        requires numbered { length sectors.items < 2 ^ 32 }
+        requires whole { (n : ℕ) → n < length sectors.items → IsSector (slice_index_or sectors.items n []) }
+        ensures sectors { IfOk result (λ image. image.sectors.items ≡ sectors.items) }
+        ensures firm { IfOk result (λ image. IsFirm image.loose.items) }
+    {
+        let loose = vec![in alloc; false; sectors.len()]?;
+        Ok(Image { sectors, loose })
+    }
+
+    pub fn count(&self) -> u32
+        ensures { result ≡ length self.now.sectors.items }
+    {
+        self.sectors.len() as u32
+    }
+
+    pub fn sector(&self, n: u32) -> &[u8; 512]
+        requires { n < length self.now.sectors.items }
+        ensures { result.now ≡ slice_index_or self.now.sectors.items n [] }
+    {
+        &self.sectors[n as usize]
+    }
+
+    /// The sector gets this content.
+    pub fn put(&mut self, n: u32, sector: &[u8; 512])
+        requires { n < length self.old.sectors.items }
+        ensures sectors { self.new.sectors.items ≡ slice_set self.old.sectors.items n sector.now }
+        ensures loose { self.new.loose.items ≡ self.old.loose.items }
+    {
+        self.sectors[n as usize] = *sector;
+    }
+
+    pub fn loosen(&mut self, n: u32)
+        requires { n < length self.old.sectors.items }
+        ensures sectors { self.new.sectors.items ≡ self.old.sectors.items }
+        ensures loose { self.new.loose.items ≡ slice_set self.old.loose.items n true }
+    {
+        self.loose[n as usize] = true;
+    }
+
+    /// No sector is loose any more.
+    pub fn settle(&mut self)
+        ensures sectors { self.new.sectors.items ≡ self.old.sectors.items }
+        ensures firm { IsFirm self.new.loose.items }
+    {
+        self.loose.fill(false);
+    }
+}

@@ -1,0 +1,16 @@
+//! A disk of sectors of 512 bytes: what a read gives, and what a crash may leave.
+#![tactic(auto)]
+
+mod disk;
+mod file;
+mod image;
+mod memory;
+mod plan;
+mod tally;
+#[cfg(test)]
+mod tests;
+
+pub use disk::{DiskFault, SectorDisk};
+pub use file::{FileDisk, FileFault};
+pub use memory::{MemDisk, Torn};
+pub use plan::Plan;

@@ -1,0 +1,238 @@
+// A disk in memory, whose failures and stop are planned, and which can be crashed.
+ghost use Rattle.std.specs.Prelude.{None, ◌≡◌, ◌*◌, ◌/◌, ◌<◌, ◌≤◌, ◌↔◌, ◌^◌, ℕ, Bool, List, [], true, false, length, replicate, slice_set, slice_index_or, OnOk, OnErr, IfOk, IsErrOf};
+ghost use Rattle.disk.specs.Disk.{image_of, IsFirm, IsSector, MayLeave, Elapses, HasCause, since_now};
+
+use crate::image::{Image, copied};
+use crate::plan::Schedule;
+use crate::{DiskFault, Plan, SectorDisk};
+use std::alloc::{AllocError, Global};
+use std::marker::Model;
+
+/// What a crash leaves in each loose sector.
+#[derive(Clone, Copy, Debug, PartialEq, Eq)]
+pub enum Torn {
+    /// What was there at the last successful sync.
+    Old,
+    /// What the last write was to put there, failed or not.
+    New,
+    /// This byte 512 times.
+    Fill(u8),
+}
+
+/// A disk in memory. Its calls fail by a [`Plan`], and [`crash`](MemDisk::crash) gives what a power cut would leave.
+/// It takes all its memory when it is made.
+#[derive(Drop)]
+pub struct MemDisk {
+    image: Image,
+    synced: Vec<[u8; 512]>,
+    attempted: Vec<[u8; 512]>,
+    schedule: Schedule,
+}
+
+impl Model for MemDisk {
+    ghost use Rattle.disk.specs.Memory.{MemoryState};
+
+    ghost Value = { MemoryState };
+
+    ghost use Rattle.disk.specs.MemoryInside.{state_of, IsKept};
+
+    ghost view = { state_of };
+
+    ghost invariant = { IsKept };
+}
+
+impl SectorDisk for MemDisk {
+    ghost use Rattle.disk.specs.Plans.{fails, counted, write_fails, write_counted};
+
+    ghost reads = { λ disk. disk.reads };
+
+    ghost loose = { λ disk. disk.loose };
+
+    ghost moment = { λ _. 0 };
+
+    ghost left_since = { λ disk. since_now disk.reads disk.loose };
+
+    ghost failures = { λ disk. disk.counts.failures };
+
+    ghost counts_now = { λ disk t image le now. now };
+
+    ghost only_now = { λ disk image left. left };
+
+    fn sectors(&self) -> u32 {
+        self.image.count()
+    }
+
+    fn read(&mut self, n: u32, sector: &mut [u8; 512]) -> Result<(), DiskFault>
+        ensures content { OnOk result (slice_index_or self.old.reads n [] ≡ sector.new) }
+        ensures same_reads { self.new.reads ≡ self.old.reads }
+        ensures same_loose { self.new.loose ≡ self.old.loose }
+        ensures time { Elapses 0 0 (since_now self.old.reads self.old.loose) (since_now self.new.reads self.new.loose) (MayLeave self.new.reads self.new.loose) }
+        ensures beyond { IsErrOf result DiskFault.NoSuchSector ↔ (length self.old.reads ≤ n) }
+        ensures unchanged { IsErrOf result DiskFault.NoSuchSector → self.new ≡ self.old }
+        ensures untouched { IsErrOf result DiskFault.NoSuchSector → sector.new ≡ sector.old }
+        ensures cause { HasCause self.old.counts.failures self.new.counts.failures result }
+
+        // by the plan
+        ensures planned { n < length self.old.reads → (IsErrOf result DiskFault.Device ↔ (fails self.old.counts ≡ true)) }
+        ensures counts { n < length self.old.reads → self.new.counts ≡ counted self.old.counts }
+
+        // for a crash
+        ensures same_synced { self.new.synced ≡ self.old.synced }
+        ensures same_attempted { self.new.attempted ≡ self.old.attempted }
+    {
+        if n >= self.image.count() {
+            return Err(DiskFault::NoSuchSector);
+        }
+        if self.schedule.fails() {
+            return Err(DiskFault::Device);
+        }
+        *sector = *self.image.sector(n);
+        Ok(())
+    }
+
+    fn write(&mut self, n: u32, sector: &[u8; 512]) -> Result<(), DiskFault>
+        ensures written { OnOk result (self.new.reads ≡ slice_set self.old.reads n sector.now) }
+        ensures elsewhere { self.new.reads ≡ slice_set self.old.reads n (slice_index_or self.new.reads n []) }
+        ensures loosened { self.new.loose ≡ slice_set self.old.loose n true }
+        ensures torn { n < length self.old.reads → IsSector (slice_index_or self.new.reads n []) }
+        ensures time { Elapses 0 0 (since_now self.old.reads self.old.loose) (since_now self.new.reads self.new.loose) (MayLeave self.new.reads self.new.loose) }
+        ensures beyond { IsErrOf result DiskFault.NoSuchSector ↔ (length self.old.reads ≤ n) }
+        ensures unchanged { IsErrOf result DiskFault.NoSuchSector → self.new ≡ self.old }
+        ensures cause { HasCause self.old.counts.failures self.new.counts.failures result }
+
+        // by the plan
+        ensures planned { n < length self.old.reads → (IsErrOf result DiskFault.Device ↔ (write_fails self.old.counts ≡ true)) }
+        ensures counts { n < length self.old.reads → self.new.counts ≡ write_counted self.old.counts }
+        ensures failed { OnErr result (self.new.reads ≡ self.old.reads) }
+
+        // for a crash; at every exit
+        ensures same_synced { self.new.synced ≡ self.old.synced }
+        ensures attempted { self.new.attempted ≡ slice_set self.old.attempted n sector.now }
+    {
+        if n >= self.image.count() {
+            return Err(DiskFault::NoSuchSector);
+        }
+        self.attempted[n as usize] = *sector;
+        self.image.loosen(n);
+        if self.schedule.write_fails() {
+            return Err(DiskFault::Device);
+        }
+        self.image.put(n, sector);
+        Ok(())
+    }
+
+    fn sync(&mut self) -> Result<(), DiskFault>
+        ensures firm { OnOk result (IsFirm self.new.loose) }
+        ensures err { OnErr result (self.new.loose ≡ self.old.loose) }
+        ensures same_reads { self.new.reads ≡ self.old.reads }
+        ensures crash { (image : List (List ℕ)) → MayLeave self.new.reads self.new.loose image → MayLeave self.old.reads self.old.loose image }
+        ensures time { Elapses 0 0 (since_now self.old.reads self.old.loose) (since_now self.new.reads self.new.loose) (MayLeave self.new.reads self.new.loose) }
+        ensures there { IsErrOf result DiskFault.NoSuchSector → ⊥ }
+        ensures cause { HasCause self.old.counts.failures self.new.counts.failures result }
+
+        // by the plan
+        ensures planned { IsErrOf result DiskFault.Device ↔ (fails self.old.counts ≡ true) }
+        ensures counts { self.new.counts ≡ counted self.old.counts }
+
+        // for a crash
+        ensures synced { OnOk result (self.new.synced ≡ self.old.reads) }
+        ensures not_synced { OnErr result (self.new.synced ≡ self.old.synced) }
+        ensures same_attempted { self.new.attempted ≡ self.old.attempted }
+    {
+        if self.schedule.fails() {
+            return Err(DiskFault::Device);
+        }
+        copy_loose(&mut self.synced, &self.image);
+        self.image.settle();
+        Ok(())
+    }
+}
+
+impl MemDisk {
+    ghost use Rattle.disk.specs.Plans.{started};
+    ghost use Rattle.disk.specs.Memory.{crash_content, IsCrashed};
+
+    /// A disk of this many sectors of zeros, with nothing planned.
+    /// It answers `AllocError` where memory is refused.
+    pub fn blank(alloc: Global, sectors: u32) -> Result<MemDisk, AllocError>
+        ensures reads { IfOk result (λ disk. disk.reads ≡ replicate sectors (replicate 512 0)) }
+        ensures synced { IfOk result (λ disk. disk.synced ≡ disk.reads) }
+        ensures attempted { IfOk result (λ disk. disk.attempted ≡ disk.reads) }
+        ensures firm { IfOk result (λ disk. IsFirm disk.loose) }
+        ensures counts { IfOk result (λ disk. disk.counts ≡ started (record { fail = None; stop = None })) }
+    {
+        MemDisk::on(alloc, Image::blank(alloc, sectors)?, Plan::default())
+    }
+
+    /// A disk that holds the whole sectors of these bytes, all of them synced.
+    /// It answers `AllocError` where memory is refused.
+    pub fn of(alloc: Global, image: Vec<u8>, plan: Plan) -> Result<MemDisk, AllocError>
+        requires { length image.items / 512 < 2 ^ 32 }
+        ensures reads { IfOk result (λ disk. disk.reads ≡ image_of image.items) }
+        ensures synced { IfOk result (λ disk. disk.synced ≡ disk.reads) }
+        ensures attempted { IfOk result (λ disk. disk.attempted ≡ disk.reads) }
+        ensures firm { IfOk result (λ disk. IsFirm disk.loose) }
+        ensures counts { IfOk result (λ disk. disk.counts ≡ started plan) }
+    {
+        MemDisk::on(alloc, Image::of(alloc, &image)?, plan)
+    }
+
+    fn on(alloc: Global, image: Image, plan: Plan) -> Result<MemDisk, AllocError>
+        ensures reads { IfOk result (λ disk. disk.reads ≡ image.sectors.items) }
+        ensures synced { IfOk result (λ disk. disk.synced ≡ image.sectors.items) }
+        ensures attempted { IfOk result (λ disk. disk.attempted ≡ image.sectors.items) }
+        ensures loose { IfOk result (λ disk. disk.loose ≡ image.loose.items) }
+        ensures counts { IfOk result (λ disk. disk.counts ≡ started plan) }
+    {
+        let synced = copied(alloc, &image.sectors)?;
+        let attempted = copied(alloc, &image.sectors)?;
+        Ok(MemDisk {
+            image,
+            synced,
+            attempted,
+            schedule: Schedule::new(plan),
+        })
+    }
+
+    /// The bytes that a crash leaves now. It answers `AllocError` where memory is refused.
+    pub fn crash(&self, alloc: Global, torn: Torn) -> Result<Vec<u8>, AllocError>
+        ensures size { IfOk result (λ bytes. length bytes.items ≡ length self.now.reads * 512) }
+        ensures image { IfOk result (λ bytes. IsCrashed torn self.now (image_of bytes.items)) }
+        ensures left { IfOk result (λ bytes. MayLeave self.now.reads self.now.loose (image_of bytes.items)) }
+    {
+        let mut bytes = Vec::with_capacity(alloc, self.image.sectors.len() * 512)?;
+        for n in 0..self.image.sectors.len() {
+            bytes.extend_from_slice(&self.left_in(torn, n))?;
+        }
+        Ok(bytes)
+    }
+
+    /// What a crash leaves in a sector.
+    fn left_in(&self, torn: Torn, n: usize) -> [u8; 512]
+        requires { n < length self.now.reads }
+        ensures content { result ≡ crash_content torn self.now n }
+        ensures whole { IsSector result }
+    {
+        if !self.image.loose[n] {
+            return self.image.sectors[n];
+        }
+        match torn {
+            Torn::Old => self.synced[n],
+            Torn::New => self.attempted[n],
+            Torn::Fill(byte) => [byte; 512],
+        }
+    }
+}
+
+/// The loose sectors of the image.
+fn copy_loose(synced: &mut [[u8; 512]], image: &Image)
+    requires each { length synced.old ≡ length image.now.sectors.items }
+    requires firm { (n : ℕ) → slice_index_or image.now.loose.items n false ≡ false → slice_index_or synced.old n [] ≡ slice_index_or image.now.sectors.items n [] }
+    ensures { synced.new ≡ image.now.sectors.items }
+{
+    for n in 0..image.sectors.len() {
+        if image.loose[n] {
+            synced[n] = image.sectors[n];
+        }
+    }
+}
