@@ -1,0 +1,9 @@
+pub mod Bags
+pub mod Lists
+pub mod Times
+pub mod Fields
+pub mod Loop
+pub mod Spellings
+pub mod Fixed
+pub mod Written
+pub mod Readings

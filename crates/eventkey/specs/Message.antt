@@ -1,0 +1,40 @@
+-- Messages and their order (a message stamped with a receive time: Jefferson 1985; the order is this project's profile).
+use Rattle.std.specs.Ordering.{nat_cmp, ordering_then, is_lt, is_eq}
+use Rattle.std.specs.Prelude.{ℕ, ◌^◌, ◌<◌, Bool, ◌≡◌, false}
+use Rattle.std.specs.declared.cmp.Ordering.{Ordering}
+
+pub record Message : Type 0 where
+  pub time : ℕ
+  pub from : ℕ
+  pub number : ℕ
+  pub to : ℕ
+  pub a : ℕ
+  pub b : ℕ
+
+-- its numbers lie in their ranges
+pub record IsRanged (x : Message) : Type 0 where
+  pub time : x.time < 2 ^ 41
+  pub from : x.from < 2 ^ 32
+  pub number : x.number < 2 ^ 64
+  pub to : x.to < 2 ^ 32
+  pub a : x.a < 2 ^ 64
+  pub b : x.b < 2 ^ 64
+
+-- by the fields, in the order in which they stand
+unfoldable pub message_cmp : Message → Message → Ordering
+message_cmp m n =
+    ordering_then (nat_cmp m.time n.time)
+    (ordering_then (nat_cmp m.from n.from)
+    (ordering_then (nat_cmp m.number n.number)
+    (ordering_then (nat_cmp m.to n.to)
+    (ordering_then (nat_cmp m.a n.a) (nat_cmp m.b n.b)))))
+
+abbrev pub is_before : Message → Message → Bool
+is_before m n = is_lt (message_cmp m n)
+
+abbrev pub is_same : Message → Message → Bool
+is_same m n = is_eq (message_cmp m n)
+
+-- not before the other
+abbrev pub IsAtMost : Message → Message → Type 0
+IsAtMost x y = is_before y x ≡ false

@@ -1,0 +1,110 @@
+// Messages as bytes (this project's profile). Each number has its highest byte first.
+
+ghost use Rattle.std.specs.Prelude.{◌≡◌, ◌<◌, ◌≤◌, ◌^◌, ◌↔◌, IfOk, length, List, ℕ, take, drop, slice_index, ◌++◌};
+ghost use Rattle.eventkey.specs.Message.{Message, IsRanged};
+ghost use Rattle.eventkey.specs.Spelling.{made, message_bytes, message_in, message_read, sign_byte, sign_of, signed_bytes, signed_read};
+ghost use Rattle.eventkey.specs.declared.KeyFault.TheVariants.{Short, TimeTooLarge, BadSign};
+
+use crate::{KeyFault, Message, Sign, Signed};
+use byteorder::{BigEndian, ByteOrder};
+
+/// How many bytes a message has.
+pub const MESSAGE_BYTES: usize = 40;
+
+/// How many bytes a signed message has.
+pub const SIGNED_BYTES: usize = 41;
+
+/// Writes the 40 bytes of a message.
+pub fn put_message(message: &Message, out: &mut [u8; 40])
+    ensures { out.new ≡ message_bytes message.now }
+{
+    BigEndian::write_u64(out, message.time());
+    BigEndian::write_u32(&mut out[8..], message.from());
+    BigEndian::write_u64(&mut out[12..], message.number());
+    BigEndian::write_u32(&mut out[20..], message.to());
+    BigEndian::write_u64(&mut out[24..], message.a());
+    BigEndian::write_u64(&mut out[32..], message.b());
+}
+
+/// Reads the message in the first 40 bytes, and ignores what follows. Refused are fewer bytes
+/// (`Short`) and then a time of 2^41 ticks or more (`TimeTooLarge`).
+pub fn get_message(bytes: &[u8]) -> Result<Message, KeyFault>
+    ensures exact { result ≡ message_read bytes.now }
+    ensures short { (result ≡ Err KeyFault.Short) ↔ (length bytes.now < 40) }
+    ensures late { (result ≡ Err KeyFault.TimeTooLarge) ↔ ((40 ≤ length bytes.now) × (2 ^ 41 ≤ (message_in bytes.now).time)) }
+
+    // What is read is spelled so, and what is spelled so is read, whatever follows.
+    ensures spelled { IfOk result (λ x. take 40 bytes.now ≡ message_bytes x) }
+    ensures again { (x : Message) (rest : List ℕ) → IsRanged x → bytes.now ≡ message_bytes x ++ rest → result ≡ Ok x }
+{
+    if bytes.len() < MESSAGE_BYTES {
+        return Err(KeyFault::Short);
+    }
+    fixed_fields(bytes)
+}
+
+/// The fields at their places.
+#[tactic(auto, unfolding(crate::specs::Spelling::message_in))]
+fn fixed_fields(bytes: &[u8]) -> Result<Message, KeyFault>
+    requires { 40 ≤ length bytes.now }
+    ensures { result ≡ made (message_in bytes.now) }
+{
+    let time = BigEndian::read_u64(bytes);
+    let from = BigEndian::read_u32(bytes.split_at(8).1);
+    let number = BigEndian::read_u64(bytes.split_at(12).1);
+    let to = BigEndian::read_u32(bytes.split_at(20).1);
+    let a = BigEndian::read_u64(bytes.split_at(24).1);
+    let b = BigEndian::read_u64(bytes.split_at(32).1);
+    Message::new(time, from, number, to, a, b)
+}
+
+/// Writes the 41 bytes of a signed message: the byte of its sign, 0 for a message and 1 for an
+/// antimessage, and then the message.
+pub fn put_signed(signed: &Signed, out: &mut [u8; 41])
+    ensures { out.new ≡ signed_bytes signed.now }
+{
+    let mut body = [0; MESSAGE_BYTES];
+    put_message(&signed.message, &mut body);
+    out[0] = byte_of(signed.sign);
+    out[1..].copy_from_slice(&body);
+}
+
+/// Reads the signed message in the first 41 bytes, and ignores what follows. Refused are fewer
+/// bytes (`Short`), then a first byte above 1 (`BadSign`), then a time of 2^41 ticks or more
+/// (`TimeTooLarge`).
+pub fn get_signed(bytes: &[u8]) -> Result<Signed, KeyFault>
+    ensures exact { result ≡ signed_read bytes.now }
+    ensures short { (result ≡ Err KeyFault.Short) ↔ (length bytes.now < 41) }
+    ensures sign { (result ≡ Err KeyFault.BadSign) ↔ ((41 ≤ length bytes.now) × (2 ≤ slice_index bytes.now 0)) }
+    ensures late { (result ≡ Err KeyFault.TimeTooLarge) ↔ ((41 ≤ length bytes.now) × (slice_index bytes.now 0 < 2) × (2 ^ 41 ≤ (message_in (drop 1 bytes.now)).time)) }
+
+    // What is read is spelled so, and what is spelled so is read, whatever follows.
+    ensures spelled { IfOk result (λ s. take 41 bytes.now ≡ signed_bytes s) }
+    ensures again { (s : Signed) (rest : List ℕ) → IsRanged s.message → bytes.now ≡ signed_bytes s ++ rest → result ≡ Ok s }
+{
+    sign_and_message(bytes)
+}
+
+fn sign_and_message(bytes: &[u8]) -> Result<Signed, KeyFault>
+    ensures { result ≡ signed_read bytes.now }
+{
+    if bytes.len() < SIGNED_BYTES {
+        return Err(KeyFault::Short);
+    }
+    let sign = match bytes[0] {
+        0 => Sign::Plus,
+        1 => Sign::Minus,
+        _ => return Err(KeyFault::BadSign),
+    };
+    let message = get_message(bytes.split_at(1).1)?;
+    Ok(Signed { sign, message })
+}
+
+fn byte_of(sign: Sign) -> u8
+    ensures { result ≡ sign_byte sign }
+{
+    match sign {
+        Sign::Plus => 0,
+        Sign::Minus => 1,
+    }
+}

@@ -1,0 +1,187 @@
+//! Messages of a simulation: their order and their bytes.
+#![tactic(auto)]
+
+ghost use Rattle.std.specs.Prelude.{◌≡◌, if◌then◌else◌, nat_lt, ◌<◌, ◌≤◌, ◌^◌, ◌↔◌, IfOk, IsErrOf, IsTrue, length, MatchResult, List, ℕ, take, ◌++◌};
+ghost use Rattle.eventkey.specs.Spelling.{made};
+ghost use Rattle.eventkey.specs.Message.{message_cmp, is_before, is_same, Message, IsRanged};
+ghost use Rattle.eventkey.specs.declared.Signed.{Signed};
+ghost use Rattle.eventkey.specs.declared.KeyFault.TheVariants.{Short, TimeTooLarge, BadSign};
+
+mod bytes;
+mod laws;
+mod list;
+mod reading;
+#[cfg(test)]
+mod tests;
+
+pub use bytes::{MESSAGE_BYTES, SIGNED_BYTES, get_message, get_signed, put_message, put_signed};
+pub use laws::{law_of_bags, law_of_messages, law_of_order, law_of_signed_messages};
+pub use list::Listed;
+pub use reading::{
+    append_message, append_messages, append_signed, append_signed_list, read_message,
+    read_messages, read_signed, read_signed_list, read_u8, read_u32, read_u64,
+};
+use std::cmp::Ordering;
+use std::marker::Model;
+use thiserror::Error;
+
+/// A message of a simulation, stamped with its receive time (Jefferson 1985): the time in ticks, the
+/// number of its sender, the sender's count of messages before it, the number of its receiver, and
+/// two words of content. Messages are ordered by these, in this order (this project's profile).
+#[derive(Clone, Copy, Debug, PartialEq, Eq, PartialOrd, Ord)]
+pub struct Message {
+    time: u64,
+    from: u32,
+    number: u64,
+    to: u32,
+    a: u64,
+    b: u64,
+}
+
+impl Model for Message {
+    ghost use Rattle.eventkey.specs.Message.{Message, IsRanged};
+
+    ghost Value = { Message };
+
+    ghost view = { λ m. record { time = m.time; from = m.from; number = m.number; to = m.to; a = m.a; b = m.b } };
+
+    ghost invariant = { λ m. IsRanged (record { time = m.time; from = m.from; number = m.number; to = m.to; a = m.a; b = m.b }) };
+
+    ghost inverse = { λ v. record { time = v.time; from = v.from; number = v.number; to = v.to; a = v.a; b = v.b } };
+}
+
+/// Why bytes or numbers are no message.
+#[derive(Clone, Copy, Debug, PartialEq, Eq, Error)]
+pub enum KeyFault {
+    /// There are fewer bytes than it has.
+    #[error("Short")]
+    Short,
+    /// Its time is 2^41 ticks or more.
+    #[error("TimeTooLarge")]
+    TimeTooLarge,
+    /// The byte of its sign is above 1.
+    #[error("BadSign")]
+    BadSign,
+}
+
+impl Message {
+    /// The least time in ticks that no message has.
+    pub const TIME_LIMIT: u64 = 1 << 41;
+
+    /// The message of these numbers. `TimeTooLarge` comes for a time of 2^41 ticks or more.
+    pub fn new(
+        time: u64,
+        from: u32,
+        number: u64,
+        to: u32,
+        a: u64,
+        b: u64,
+    ) -> Result<Message, KeyFault>
+        ensures { result ≡ made (record { time = time; from = from; number = number; to = to; a = a; b = b }) }
+    {
+        if time < Message::TIME_LIMIT {
+            Ok(Message {
+                time,
+                from,
+                number,
+                to,
+                a,
+                b,
+            })
+        } else {
+            Err(KeyFault::TimeTooLarge)
+        }
+    }
+
+    /// Answers nothing: the contract says that the numbers lie in their ranges.
+    pub fn ranged(&self)
+        ensures { IsRanged self.now }
+    {
+        let _ = &self.time;
+    }
+
+    /// Whether this message comes first.
+    #[tactic(auto, unfolding(crate::specs::Message::message_cmp))]
+    pub fn is_before(&self, other: &Message) -> bool
+        ensures { result ≡ is_before self.now other.now }
+    {
+        *self < *other
+    }
+
+    /// Whether the six numbers are the same.
+    #[tactic(auto, unfolding(crate::specs::Message::message_cmp))]
+    pub fn is_same(&self, other: &Message) -> bool
+        ensures same { result ≡ is_same self.now other.now }
+        ensures equal { IsTrue result ↔ (self.now ≡ other.now) }
+    {
+        *self == *other
+    }
+
+    /// The order of messages.
+    #[tactic(auto, unfolding(crate::specs::Message::message_cmp))]
+    pub fn order(&self, other: &Message) -> Ordering
+        ensures { result ≡ message_cmp self.now other.now }
+    {
+        self.cmp(other)
+    }
+
+    /// The receive time in ticks, below 2^41.
+    pub fn time(&self) -> u64
+        ensures { result ≡ self.now.time }
+    {
+        self.time
+    }
+
+    /// The number of the sender.
+    pub fn from(&self) -> u32
+        ensures { result ≡ self.now.from }
+    {
+        self.from
+    }
+
+    /// How many messages the sender had sent before it.
+    pub fn number(&self) -> u64
+        ensures { result ≡ self.now.number }
+    {
+        self.number
+    }
+
+    /// The number of the receiver.
+    pub fn to(&self) -> u32
+        ensures { result ≡ self.now.to }
+    {
+        self.to
+    }
+
+    /// The first word of its content.
+    pub fn a(&self) -> u64
+        ensures { result ≡ self.now.a }
+    {
+        self.a
+    }
+
+    /// The second word of its content.
+    pub fn b(&self) -> u64
+        ensures { result ≡ self.now.b }
+    {
+        self.b
+    }
+}
+
+/// Whether a message is sent or taken back (Jefferson 1985).
+#[derive(Clone, Copy, Debug, PartialEq, Eq)]
+pub enum Sign {
+    /// It is sent.
+    Plus,
+    /// It is taken back, by an antimessage.
+    Minus,
+}
+
+/// A message with a sign.
+#[derive(Clone, Copy, Debug, PartialEq, Eq)]
+pub struct Signed {
+    /// Its sign.
+    pub sign: Sign,
+    /// The message.
+    pub message: Message,
+}

@@ -1,0 +1,43 @@
+// A list of values that contracts see as the list itself.
+
+ghost use Rattle.std.specs.Prelude.{◌≡◌, ◌++◌, ◌∷◌, [], length, OnOk, OnErr};
+
+use std::alloc::{AllocError, AllocFailed, Global};
+
+/// A vector that contracts see as the list of its items, so that a struct with such a field is seen as plain data.
+#[derive(Drop)]
+pub struct Listed<T: Drop> {
+    items: Vec<T>,
+}
+
+impl<T: Drop> std::marker::Model for Listed<T> {
+    ghost use Rattle.std.specs.Prelude.{List};
+
+    ghost Value = { List T };
+
+    ghost view = { λ l. l.items.items };
+}
+
+impl<T: Drop> Listed<T> {
+    /// The list of a vector's items. It takes no memory.
+    pub fn from_vec(items: Vec<T>) -> Listed<T>
+        ensures { result ≡ items.items }
+    {
+        Listed { items }
+    }
+
+    /// The items.
+    pub fn as_slice(&self) -> &[T]
+        ensures { result.now ≡ self.now }
+    {
+        self.items.as_slice()
+    }
+
+    /// The vector itself. It takes no memory.
+    pub fn into_vec(self) -> Vec<T>
+        ensures { result.items ≡ self }
+    {
+        let Listed { items } = self;
+        items
+    }
+}

@@ -1,0 +1,154 @@
+// Reading and writing from left to right, for bodies of several fields.
+
+ghost use Rattle.std.specs.Prelude.{◌≡◌, ◌++◌, option_map, OnOk, OnErr, vec_len, ℕ};
+ghost use Rattle.std.specs.List.{flat_map};
+ghost use Rattle.eventkey.specs.Message.{Message};
+ghost use Rattle.eventkey.specs.Reading.{Gives, items_at, number_at};
+ghost use Rattle.eventkey.specs.Spelling.{message_at, message_bytes, signed_at, signed_bytes};
+
+use crate::{
+    MESSAGE_BYTES, Message, SIGNED_BYTES, Signed, get_message, get_signed, put_message, put_signed,
+};
+use byteorder::{BigEndian, ByteOrder};
+use std::alloc::{AllocError, Global};
+
+/// A byte and the bytes behind it, or `None` where there is none.
+#[tactic(auto, unfolding(crate::specs::Reading::number_at))]
+pub fn read_u8(bytes: &[u8]) -> Option<(u8, &[u8])>
+    ensures { option_map (λ x. (x.0, x.1.now)) result ≡ number_at 1 bytes.now }
+{
+    if bytes.is_empty() {
+        return None;
+    }
+    Some((bytes[0], &bytes[1..]))
+}
+
+/// A number of 4 bytes, the highest first, and the bytes behind it, or `None` where there are fewer.
+#[tactic(auto, unfolding(crate::specs::Reading::number_at))]
+pub fn read_u32(bytes: &[u8]) -> Option<(u32, &[u8])>
+    ensures { option_map (λ x. (x.0, x.1.now)) result ≡ number_at 4 bytes.now }
+{
+    if bytes.len() < 4 {
+        return None;
+    }
+    Some((BigEndian::read_u32(bytes), &bytes[4..]))
+}
+
+/// A number of 8 bytes, the highest first, and the bytes behind it, or `None` where there are fewer.
+#[tactic(auto, unfolding(crate::specs::Reading::number_at))]
+pub fn read_u64(bytes: &[u8]) -> Option<(u64, &[u8])>
+    ensures { option_map (λ x. (x.0, x.1.now)) result ≡ number_at 8 bytes.now }
+{
+    if bytes.len() < 8 {
+        return None;
+    }
+    Some((BigEndian::read_u64(bytes), &bytes[8..]))
+}
+
+/// A message and the bytes behind its 40, or `None` where `get_message` refuses.
+pub fn read_message(bytes: &[u8]) -> Option<(Message, &[u8])>
+    ensures { option_map (λ x. (x.0, x.1.now)) result ≡ message_at bytes.now }
+{
+    match get_message(bytes) {
+        Ok(message) => Some((message, &bytes[MESSAGE_BYTES..])),
+        Err(_) => None,
+    }
+}
+
+/// A signed message and the bytes behind its 41, or `None` where `get_signed` refuses.
+pub fn read_signed(bytes: &[u8]) -> Option<(Signed, &[u8])>
+    ensures { option_map (λ x. (x.0, x.1.now)) result ≡ signed_at bytes.now }
+{
+    match get_signed(bytes) {
+        Ok(signed) => Some((signed, &bytes[SIGNED_BYTES..])),
+        Err(_) => None,
+    }
+}
+
+/// So many messages and the bytes behind them, or `None` where one of them can't be read.
+/// `AllocError` comes where the list can't grow.
+pub fn read_messages(
+    alloc: Global,
+    count: u32,
+    bytes: &[u8],
+) -> Result<Option<(Vec<Message>, &[u8])>, AllocError>
+    ensures { Gives (λ x. (x.0.items, x.1.now)) result (items_at message_at count bytes.now) }
+{
+    let mut messages = Vec::new(alloc);
+    let mut rest = bytes;
+    for _ in 0..count {
+        match read_message(rest) {
+            None => return Ok(None),
+            Some(read) => {
+                messages.push(read.0)?;
+                rest = read.1;
+            }
+        }
+    }
+    Ok(Some((messages, rest)))
+}
+
+/// So many signed messages and the bytes behind them, or `None` where one of them can't be read.
+/// `AllocError` comes where the list can't grow.
+pub fn read_signed_list(
+    alloc: Global,
+    count: u32,
+    bytes: &[u8],
+) -> Result<Option<(Vec<Signed>, &[u8])>, AllocError>
+    ensures { Gives (λ x. (x.0.items, x.1.now)) result (items_at signed_at count bytes.now) }
+{
+    let mut list = Vec::new(alloc);
+    let mut rest = bytes;
+    for _ in 0..count {
+        match read_signed(rest) {
+            None => return Ok(None),
+            Some((signed, after)) => {
+                list.push(signed)?;
+                rest = after;
+            }
+        }
+    }
+    Ok(Some((list, rest)))
+}
+
+/// Appends the 40 bytes of a message. After an `AllocError` the bytes are as before.
+pub fn append_message(out: &mut Vec<u8>, message: &Message) -> Result<(), AllocError>
+    ensures ok { OnOk result (out.new.items ≡ out.old.items ++ message_bytes message.now) }
+    ensures err { OnErr result (out.new.items ≡ out.old.items) }
+{
+    let mut bytes = [0; MESSAGE_BYTES];
+    put_message(message, &mut bytes);
+    out.extend_from_slice(&bytes)
+}
+
+/// Appends the 41 bytes of a signed message. After an `AllocError` the bytes are as before.
+pub fn append_signed(out: &mut Vec<u8>, signed: &Signed) -> Result<(), AllocError>
+    ensures ok { OnOk result (out.new.items ≡ out.old.items ++ signed_bytes signed.now) }
+    ensures err { OnErr result (out.new.items ≡ out.old.items) }
+{
+    let mut bytes = [0; SIGNED_BYTES];
+    put_signed(signed, &mut bytes);
+    out.extend_from_slice(&bytes)
+}
+
+/// Appends the bytes of these messages, one after the other. After an `AllocError` some of the
+/// first may stand there.
+pub fn append_messages(out: &mut Vec<u8>, messages: &[Message]) -> Result<(), AllocError>
+    ensures { OnOk result (out.new.items ≡ out.old.items ++ flat_map message_bytes messages.now) }
+{
+    for message in messages {
+        append_message(out, message)?;
+    }
+    Ok(())
+}
+
+/// Appends the bytes of these signed messages, one after the other. After an `AllocError` some of
+/// the first may stand there.
+pub fn append_signed_list(out: &mut Vec<u8>, list: &[Signed]) -> Result<(), AllocError>
+    ensures { OnOk result (out.new.items ≡ out.old.items ++ flat_map signed_bytes list.now) }
+{
+    for signed in list {
+        append_signed(out, signed)?;
+    }
+    Ok(())
+}

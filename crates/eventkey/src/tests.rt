@@ -1,0 +1,180 @@
+// Worked values of messages and their bytes.
+
+use crate::*;
+use std::test::Fail;
+
+/// The message (3,0,1,1,0,1).
+const SPELLED: [u8; 40] = [
+    0, 0, 0, 0, 0, 0, 0, 3, 0, 0, 0, 0, 0, 0, 0, 0, 0, 0, 0, 1, 0, 0, 0, 1, 0, 0, 0, 0, 0, 0, 0, 0,
+    0, 0, 0, 0, 0, 0, 0, 1,
+];
+
+#[test]
+fn spells_a_message(rt: HostRuntime) -> Result<(), Fail> {
+    let message = Message::new(3, 0, 1, 1, 0, 1)?;
+    let mut bytes = [7; 40];
+    put_message(&message, &mut bytes);
+    assert_eq!(rt; bytes, SPELLED);
+    assert_eq!(rt; get_message(&bytes)?, message);
+    Ok(())
+}
+
+#[test]
+fn spells_an_antimessage(rt: HostRuntime) -> Result<(), Fail> {
+    let signed = Signed {
+        sign: Sign::Minus,
+        message: Message::new(3, 0, 1, 1, 0, 1)?,
+    };
+    let mut bytes = [7; 41];
+    put_signed(&signed, &mut bytes);
+    assert_eq!(rt; bytes[0], 1);
+    assert_eq!(rt; bytes[1..], SPELLED[..]);
+    assert_eq!(rt; get_signed(&bytes)?, signed);
+    Ok(())
+}
+
+#[test]
+fn refuses_a_time_at_the_limit(rt: HostRuntime) -> Result<(), Fail> {
+    let latest = Message::new(2199023255551, 0, 0, 0, 0, 0)?;
+    assert_eq!(rt; latest.time(), 2199023255551);
+    let refused = Message::new(2199023255552, 0, 0, 0, 0, 0);
+    assert_eq!(rt; refused, Err(KeyFault::TimeTooLarge));
+    let mut bytes = [0; 41];
+    bytes[2] = 2;
+    assert_eq!(rt; get_message(&bytes), Err(KeyFault::TimeTooLarge));
+    bytes[2] = 1;
+    assert_eq!(rt; get_message(&bytes)?.time(), 1099511627776);
+    Ok(())
+}
+
+#[test]
+fn refuses_in_order(rt: HostRuntime) {
+    assert_eq!(rt; get_message(&[0; 39]), Err(KeyFault::Short));
+    assert_eq!(rt; get_signed(&[0; 40]), Err(KeyFault::Short));
+    assert_eq!(rt; get_signed(&[2; 40]), Err(KeyFault::Short));
+    assert_eq!(rt; get_signed(&[2; 41]), Err(KeyFault::BadSign));
+    assert_eq!(rt; get_signed(&[1; 41]), Err(KeyFault::TimeTooLarge));
+}
+
+#[test]
+fn ignores_what_follows(rt: HostRuntime) -> Result<(), Fail> {
+    let mut bytes = Vec::new(rt.alloc());
+    bytes.extend_from_slice(&SPELLED)?;
+    bytes.extend_from_slice(&[9; 3])?;
+    assert_eq!(rt; get_message(&bytes)?, Message::new(3, 0, 1, 1, 0, 1)?);
+    let Some((message, rest)) = read_message(&bytes) else {
+        return Err(Fail::new("a message stands there"));
+    };
+    assert_eq!(rt; message.b(), 1);
+    assert_eq!(rt; rest, [9; 3].as_slice());
+    Ok(())
+}
+
+#[test]
+fn orders_by_each_field_in_turn(rt: HostRuntime) -> Result<(), Fail> {
+    let first = Message::new(1, 1, 1, 1, 1, 1)?;
+    let later = [
+        Message::new(1, 1, 1, 1, 1, 2)?,
+        Message::new(1, 1, 1, 1, 2, 0)?,
+        Message::new(1, 1, 1, 2, 0, 0)?,
+        Message::new(1, 1, 2, 0, 0, 0)?,
+        Message::new(1, 2, 0, 0, 0, 0)?,
+        Message::new(2, 0, 0, 0, 0, 0)?,
+    ];
+    let mut least = first;
+    for message in later {
+        assert!(rt; least < message);
+        assert!(rt; least.is_before(&message));
+        assert!(rt; !message.is_before(&least));
+        assert!(rt; !message.is_same(&least));
+        assert_eq!(rt; message.order(&least), Ordering::Greater);
+        least = message;
+    }
+    assert!(rt; first.is_same(&first));
+    Ok(())
+}
+
+#[test]
+fn tells_its_fields(rt: HostRuntime) -> Result<(), Fail> {
+    let message = Message::new(1, 2, 3, 4, 5, 6)?;
+    message.ranged();
+    assert_eq!(rt;
+        (message.time(), message.from(), message.number()),
+        (1, 2, 3)
+    );
+    assert_eq!(rt; (message.to(), message.a(), message.b()), (4, 5, 6));
+    Ok(())
+}
+
+#[test]
+fn reads_and_appends_lists(rt: HostRuntime) -> Result<(), Fail> {
+    let messages = [
+        Message::new(1, 2, 3, 4, 5, 6)?,
+        Message::new(3, 0, 1, 1, 0, 1)?,
+    ];
+    let mut bytes = Vec::new(rt.alloc());
+    append_messages(&mut bytes, &messages)?;
+    assert_eq!(rt; bytes.len(), 80);
+    assert_eq!(rt; bytes[40..], SPELLED[..]);
+    let Some((list, rest)) = read_messages(rt.alloc(), 2, &bytes)? else {
+        return Err(Fail::new("two messages stand there"));
+    };
+    assert_eq!(rt; list.as_slice(), messages.as_slice());
+    assert_eq!(rt; rest.len(), 0);
+    assert!(rt; read_messages(rt.alloc(), 3, &bytes)?.is_none());
+    Ok(())
+}
+
+#[test]
+fn reads_and_appends_signed_lists(rt: HostRuntime) -> Result<(), Fail> {
+    let message = Message::new(3, 0, 1, 1, 0, 1)?;
+    let list = [
+        Signed {
+            sign: Sign::Plus,
+            message,
+        },
+        Signed {
+            sign: Sign::Minus,
+            message,
+        },
+    ];
+    let mut bytes = Vec::new(rt.alloc());
+    append_signed_list(&mut bytes, &list)?;
+    assert_eq!(rt; bytes.len(), 82);
+    assert_eq!(rt; (bytes[0], bytes[41]), (0, 1));
+    let Some((again, rest)) = read_signed_list(rt.alloc(), 2, &bytes)? else {
+        return Err(Fail::new("two signed messages stand there"));
+    };
+    assert_eq!(rt; again.as_slice(), list.as_slice());
+    assert_eq!(rt; rest.len(), 0);
+    assert!(rt; read_signed_list(rt.alloc(), 3, &bytes)?.is_none());
+    Ok(())
+}
+
+#[test]
+fn reads_numbers(rt: HostRuntime) -> Result<(), Fail> {
+    let bytes = [1, 2, 3, 4, 5, 6, 7, 8, 9, 10, 11, 12, 13];
+    let Some((one, rest)) = read_u8(&bytes) else {
+        return Err(Fail::new("a byte stands there"));
+    };
+    let Some((four, rest)) = read_u32(rest) else {
+        return Err(Fail::new("four bytes stand there"));
+    };
+    let Some((eight, rest)) = read_u64(rest) else {
+        return Err(Fail::new("eight bytes stand there"));
+    };
+    assert_eq!(rt; (one, four, eight), (1, 0x02030405, 0x060708090a0b0c0d));
+    assert!(rt; read_u8(rest).is_none());
+    assert!(rt; read_u32(&bytes[10..]).is_none());
+    assert!(rt; read_u64(&bytes[6..]).is_none());
+    Ok(())
+}
+
+#[test]
+fn lists_hold_their_items(rt: HostRuntime) -> Result<(), Fail> {
+    let items = vec![in rt.alloc(); 1, 2]?;
+    let list = Listed::from_vec(items);
+    assert_eq!(rt; list.as_slice(), [1, 2].as_slice());
+    assert_eq!(rt; list.into_vec().as_slice(), [1, 2].as_slice());
+    Ok(())
+}
