@@ -1,0 +1,4 @@
+pub mod Worlds
+pub mod Steps
+pub mod Runs
+pub mod Heaps

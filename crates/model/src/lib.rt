@@ -1,0 +1,102 @@
+//! Models of a simulation, and the plain runner.
+#![tactic(auto)]
+
+ghost use Rattle.std.specs.Prelude.{◌≡◌, ◌<◌, ◌≤◌, ◌+◌, ◌^◌, length, slice_index, ℕ, All};
+ghost use Rattle.eventkey.specs.Message.{Message};
+ghost use Rattle.model.specs.Meaning.{Meaning, IsLawful, IsWords, stamped};
+
+mod laws;
+mod pending;
+mod runner;
+mod state;
+#[cfg(test)]
+mod tests;
+
+use eventkey::Message;
+pub use laws::{law_of_runs, law_of_sequential_simulation, law_of_worlds};
+pub use runner::{World, WorldParts};
+use smallvec::SmallVec;
+pub use state::State;
+use std::alloc::Global;
+use thiserror::Error;
+
+/// The state words of a process: at most 16, of 64 bits (this project's profile).
+pub type Words = SmallVec<u64, 16>;
+
+/// A message that is to be sent.
+#[derive(Clone, Copy, Debug, Default, PartialEq, Eq)]
+pub struct Outgoing {
+    /// The number of the logical process that receives it.
+    pub to: u32,
+    /// How many ticks after the handling it is received, at least 1.
+    pub delay: u32,
+    /// The first word of its content.
+    pub a: u64,
+    /// The second word of its content.
+    pub b: u64,
+}
+
+/// The sends of one handling, or of one start: at most 8, in the order of sending.
+pub type Sends = SmallVec<Outgoing, 8>;
+
+/// Why a world can't go on.
+#[derive(Clone, Copy, Debug, PartialEq, Eq, Error)]
+pub enum WorldFault {
+    /// A list can't grow.
+    #[error("NoMemory")]
+    NoMemory,
+    /// The send number of a process would pass 2^63.
+    #[error("NumberLimit")]
+    NumberLimit,
+}
+
+/// What a simulation runs: logical processes that act only by handling messages (Jefferson 1985).
+/// Each answer is a function of the arguments and takes no memory; the laws of `IsLawful` bound it.
+pub trait Model {
+    ghost meaning: { Self → Meaning };
+
+    /// How many logical processes there are, 1 to 1,024.
+    fn lps(&self) -> u32
+        ensures { result ≡ (meaning self.now).lps };
+
+    /// The words that tell this model from others, at most 8.
+    fn identity(&self, alloc: Global) -> SmallVec<u64, 8>
+        ensures { result.items ≡ (meaning self.now).identity };
+
+    /// The state in which a process starts, and what it sends then.
+    fn start(&self, alloc: Global, lp: u32) -> (Words, Sends)
+        requires { lp < (meaning self.now).lps }
+        ensures state { result.0.items ≡ (meaning self.now).start_state lp }
+        ensures sends { result.1.items ≡ (meaning self.now).start_sends lp };
+
+    /// The state of a process after a message, and what it sends then. It is defined for every list of
+    /// at most 16 words and every message, also for those that never come in a sequential simulation.
+    fn handle(&self, alloc: Global, lp: u32, state: &Words, message: &Message) -> (Words, Sends)
+        requires in_range { lp < (meaning self.now).lps }
+        requires few { length state.now.items ≤ 16 }
+        ensures state { result.0.items ≡ (meaning self.now).next_state lp state.now.items message.now }
+        ensures sends { result.1.items ≡ (meaning self.now).sends lp state.now.items message.now };
+
+    ghost lawful: { (m : Self) → IsLawful (meaning m) };
+}
+
+/// The message that a handling at this time, in ticks, makes of a send. It takes no memory.
+pub fn stamp(lp: u32, time: u64, number: u64, outgoing: &Outgoing) -> Message
+    requires time { time < 2 ^ 40 }
+    requires number { number < 2 ^ 63 }
+    ensures { result ≡ stamped lp time number outgoing.now }
+{
+    let Outgoing { to, delay, a, b } = *outgoing;
+    Message::new(time + u64::from(delay), lp, number, to, a, b).unwrap()
+}
+
+/// Answers nothing: the contract says that the words are numbers of 64 bits.
+pub fn ranged(words: &Words)
+    ensures { All (λ w. w < 2 ^ 64) words.now.items }
+{
+    each_ranged(words.as_slice());
+}
+
+fn each_ranged(words: &[u64])
+    ensures { All (λ w. w < 2 ^ 64) words.now }
+{}

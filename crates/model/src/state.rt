@@ -1,0 +1,43 @@
+// A saved state of a process.
+
+ghost use Rattle.std.specs.Prelude.{◌≡◌};
+
+use crate::Words;
+
+/// State words that contracts see as the list of them, so that a struct with such a field is seen as plain data.
+#[derive(Drop)]
+pub struct State {
+    words: Words,
+}
+
+impl std::marker::Model for State {
+    ghost use Rattle.std.specs.Prelude.{List, ℕ};
+
+    ghost Value = { List ℕ };
+
+    ghost view = { λ s. s.words.items };
+}
+
+impl State {
+    /// The state of these words. It takes no memory.
+    pub fn from_words(words: Words) -> State
+        ensures { result ≡ words.items }
+    {
+        State { words }
+    }
+
+    /// The words.
+    pub fn words(&self) -> &Words
+        ensures { result.now.items ≡ self.now }
+    {
+        &self.words
+    }
+
+    /// The words themselves. It takes no memory.
+    pub fn into_words(self) -> Words
+        ensures { result.items ≡ self }
+    {
+        let State { words } = self;
+        words
+    }
+}

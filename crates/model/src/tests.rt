@@ -1,0 +1,188 @@
+// A token ring, run by the plain runner.
+
+ghost use Rattle.std.specs.Prelude.{◌≡◌, ◌≤◌, ◌<◌, ◌^◌, ℕ, length};
+ghost use Rattle.model.specs.Ring.{ring_meaning, ring_lawful};
+
+use crate::{Model as Simulated, Outgoing, Sends, State, Words, World, ranged, stamp};
+use eventkey::Message;
+use smallvec::SmallVec;
+use std::alloc::Global;
+use std::test::Fail;
+
+#[derive(Drop)]
+struct Ring {
+    lps: u32,
+    hold: u32,
+    ghost some: { 1 ≤ lps },
+    ghost few: { lps ≤ 1024 },
+    ghost held: { 1 ≤ hold },
+    ghost fits: { hold < 2 ^ 32 },
+}
+
+impl Simulated for Ring {
+    ghost meaning = { λ r. ring_meaning r.lps r.hold };
+
+    ghost lawful = { λ r. ring_lawful r.lps r.hold r.some r.few r.held r.fits };
+
+    fn lps(&self) -> u32 {
+        self.lps
+    }
+
+    fn identity(&self, alloc: Global) -> SmallVec<u64, 8> {
+        let mut words = SmallVec::new(alloc);
+        words.push_reserved(1);
+        words.push_reserved(u64::from(self.hold));
+        words
+    }
+
+    fn start(&self, alloc: Global, lp: u32) -> (Words, Sends) {
+        let mut words = SmallVec::new(alloc);
+        words.push_reserved(0);
+        let mut sends = SmallVec::new(alloc);
+        if lp == 0 {
+            sends.push_reserved(Outgoing {
+                to: 0,
+                delay: 1,
+                a: 0,
+                b: 0,
+            });
+        }
+        (words, sends)
+    }
+
+    fn handle(&self, alloc: Global, lp: u32, state: &Words, message: &Message) -> (Words, Sends) {
+        let count = state.as_slice().first().copied().unwrap_or(0);
+        let mut words = SmallVec::new(alloc);
+        words.push_reserved(count.saturating_add(1));
+        let mut sends = SmallVec::new(alloc);
+        sends.push_reserved(Outgoing {
+            to: (lp + 1) % self.lps,
+            delay: self.hold,
+            a: message.a(),
+            b: message.b().wrapping_add(1),
+        });
+        (words, sends)
+    }
+}
+
+/// The log of a ring of three processes that hold the token two ticks, up to time 10.
+const LOGGED: [[u64; 6]; 5] = [
+    [1, 0, 0, 0, 0, 0],
+    [3, 0, 1, 1, 0, 1],
+    [5, 1, 0, 2, 0, 2],
+    [7, 2, 0, 0, 0, 3],
+    [9, 0, 2, 1, 0, 4],
+];
+
+fn fields(x: &Message) -> [u64; 6] {
+    [
+        x.time(),
+        u64::from(x.from()),
+        x.number(),
+        u64::from(x.to()),
+        x.a(),
+        x.b(),
+    ]
+}
+
+#[test]
+fn goes_round(rt: HostRuntime) -> Result<(), Fail> {
+    let ring = Ring { lps: 3, hold: 2 };
+    let mut world = World::open(rt.alloc(), &ring, 10)?;
+    assert_eq!(rt; world.end(), 10);
+    world.run_to(&ring, 1)?;
+    assert_eq!(rt; world.log().len(), 0);
+    assert_eq!(rt; world.time(), 1);
+    assert_eq!(rt; world.numbers(), [1, 0, 0].as_slice());
+    world.run_to(&ring, 100)?;
+    assert_eq!(rt; world.time(), 10);
+    assert_eq!(rt; world.numbers(), [3, 2, 1].as_slice());
+    assert_eq!(rt; world.log().len(), 5);
+    for (x, logged) in world.log().iter().zip(LOGGED) {
+        assert_eq!(rt; fields(x), logged);
+    }
+    for (number, words) in world.states().iter().enumerate() {
+        assert_eq!(rt; words.as_slice(), [[2], [2], [1]][number.min(2)].as_slice());
+    }
+    assert_eq!(rt; world.step(&ring)?, None);
+    let last = Message::new(11, 1, 1, 2, 0, 5)?;
+    assert_eq!(rt; world.pending(), [last].as_slice());
+    Ok(())
+}
+
+// The fields of the message that the next step handles.
+fn stepped(world: &mut World, ring: &Ring) -> Result<[u64; 6], Fail>
+    requires { length world.old.world.states ≡ ring.now.lps }
+    ensures { length world.new.world.states ≡ length world.old.world.states }
+{
+    match world.step(ring)? {
+        Some(x) => Ok(fields(&x)),
+        None => Err(Fail::new("nothing is pending")),
+    }
+}
+
+#[test]
+fn steps_one_by_one(rt: HostRuntime) -> Result<(), Fail> {
+    let ring = Ring { lps: 3, hold: 2 };
+    let mut world = World::open(rt.alloc(), &ring, 10)?;
+    assert_eq!(rt; stepped(&mut world, &ring)?, LOGGED[0]);
+    assert_eq!(rt; stepped(&mut world, &ring)?, LOGGED[1]);
+    assert_eq!(rt; stepped(&mut world, &ring)?, LOGGED[2]);
+    assert_eq!(rt; stepped(&mut world, &ring)?, LOGGED[3]);
+    assert_eq!(rt; stepped(&mut world, &ring)?, LOGGED[4]);
+    assert_eq!(rt; world.step(&ring)?, None);
+    assert_eq!(rt; world.time(), 0);
+    Ok(())
+}
+
+#[test]
+fn is_taken_apart(rt: HostRuntime) -> Result<(), Fail> {
+    let ring = Ring { lps: 3, hold: 2 };
+    let mut world = World::open(rt.alloc(), &ring, 10)?;
+    world.run_to(&ring, 4)?;
+    let parts = world.into_parts();
+    assert_eq!(rt; parts.time, 4);
+    assert_eq!(rt; parts.numbers.as_slice(), [2, 1, 0].as_slice());
+    assert_eq!(rt; parts.states.len(), 3);
+    assert_eq!(rt; parts.log.len(), 2);
+    let next = Message::new(5, 1, 0, 2, 0, 2)?;
+    assert_eq!(rt; parts.pending.as_slice(), [next].as_slice());
+    Ok(())
+}
+
+#[test]
+fn keeps_a_later_time(rt: HostRuntime) -> Result<(), Fail> {
+    let ring = Ring { lps: 3, hold: 2 };
+    let mut world = World::open(rt.alloc(), &ring, 10)?;
+    world.run_to(&ring, 6)?;
+    world.run_to(&ring, 2)?;
+    assert_eq!(rt; world.time(), 6);
+    assert_eq!(rt; world.log().len(), 3);
+    Ok(())
+}
+
+#[test]
+fn stamps_a_send(rt: HostRuntime) -> Result<(), Fail> {
+    let outgoing = Outgoing {
+        to: 4,
+        delay: 3,
+        a: 5,
+        b: 6,
+    };
+    let message = stamp(2, 7, 9, &outgoing);
+    assert_eq!(rt; message, Message::new(10, 2, 9, 4, 5, 6)?);
+    Ok(())
+}
+
+#[test]
+fn holds_sixteen_words(rt: HostRuntime) -> Result<(), Fail> {
+    let mut words: Words = SmallVec::new(rt.alloc());
+    for word in 0..16 {
+        words.push(word)?;
+    }
+    ranged(&words);
+    let state = State::from_words(words);
+    assert_eq!(rt; state.words().as_slice().len(), 16);
+    assert_eq!(rt; state.into_words().as_slice()[15], 15);
+    Ok(())
+}
