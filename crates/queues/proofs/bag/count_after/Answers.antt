@@ -1,0 +1,12 @@
+use Rattle.std.proofs.Common.{rules, of_calls, arith, not, length}
+use Rattle.std.proofs.lemmas.Fn.{always_returns_same}
+use Rattle.eventkey.specs.Message.{Message, is_before}
+use Rattle.queues.proofs.Halves.{after_is, kept_parted}
+use Rattle.queues.proofs.bag.count_after.Goals as goal
+
+pub returns : goal.returns
+returns c =
+    let m = c.args.message.now in
+    let xs = c.args.ascending.now in
+    let point = c.partition_point-kept.ensures.partitioned (λ (y : Message). not (is_before m y)) (always_returns_same _ _ _ (λ a r f k. search (rules, of_calls))) (kept_parted m xs c.requires) in
+    omega (arith, after_is m xs c.partition_point-kept.result c.partition_point-kept.ensures.bound point.0 point.1)

@@ -1,0 +1,4 @@
+pub mod Inside
+pub mod Place
+pub mod Queue
+pub mod Record

@@ -1,0 +1,191 @@
+// The input queue of a logical process.
+
+ghost use Rattle.std.specs.Prelude.{◌≡◌, ◌<◌, ◌≤◌, ◌+◌, ◌++◌, [], length, nat_lt, Ok, None, IfOk, OnOk, OnErr};
+ghost use Rattle.eventkey.specs.Bag.{add_all};
+ghost use Rattle.eventkey.specs.Signed.{minus, plus};
+ghost use Rattle.queues.specs.Queue.{IsInOrder, arrival, arrived, first_before, first_time, released, taken};
+
+use crate::{Arrival, bag};
+use eventkey::{Message, Sign, Signed};
+use std::alloc::{AllocError, Global};
+
+/// The input queue of a logical process (Jefferson 1985), seen as three ascending lists: the messages done, those
+/// that wait to be handled, none less than the last one done, and the antimessages that wait for their message. No
+/// antimessage stands with its message.
+#[derive(Drop)]
+pub struct InputQueue {
+    done: Vec<Message>,
+    // The bags have their least message last, so that it is taken, and what is undone put back, at the end.
+    waiting: Vec<Message>,
+    antis: Vec<Message>,
+}
+
+impl std::marker::Model for InputQueue {
+    ghost use Rattle.queues.specs.Queue.{Queue, IsInOrder};
+    ghost use Rattle.queues.specs.Inside.{queue_of};
+
+    ghost Value = { Queue };
+
+    ghost view = { queue_of };
+
+    ghost invariant = { λ q. IsInOrder (queue_of q) };
+}
+
+impl InputQueue {
+    /// The empty queue.
+    pub fn new(alloc: Global) -> InputQueue
+        ensures { result ≡ record { done = []; waiting = []; antis = [] } }
+    {
+        InputQueue {
+            done: Vec::new(alloc),
+            waiting: Vec::new(alloc),
+            antis: Vec::new(alloc),
+        }
+    }
+
+    /// The queue in which these messages wait, in whatever order they are handed in. It takes no memory.
+    pub fn of_waiting(alloc: Global, messages: Vec<Message>) -> InputQueue
+        ensures { result ≡ record { done = []; waiting = add_all messages.items []; antis = [] } }
+    {
+        let mut waiting = messages;
+        bag::sort(&mut waiting);
+        InputQueue {
+            done: Vec::new(alloc),
+            waiting,
+            antis: Vec::new(alloc),
+        }
+    }
+
+    /// The lists are in order, and no antimessage stands with its message.
+    pub fn in_order(&self)
+        ensures { IsInOrder self.now }
+    {
+        let _ = &self.done;
+    }
+
+    /// How many messages are done.
+    pub fn done_len(&self) -> usize
+        ensures { result ≡ length self.now.done }
+    {
+        self.done.len()
+    }
+
+    /// How many messages wait.
+    pub fn waiting_len(&self) -> usize
+        ensures { result ≡ length self.now.waiting }
+    {
+        self.waiting.len()
+    }
+
+    /// How many antimessages wait.
+    pub fn antis_len(&self) -> usize
+        ensures { result ≡ length self.now.antis }
+    {
+        self.antis.len()
+    }
+
+    /// A message or an antimessage arrives: done messages that come after it wait again, and it meets its opposite or
+    /// stays for it. It is refused only for want of memory, and then the queue is unchanged.
+    pub fn arrive(&mut self, signed: Signed) -> Result<Arrival, AllocError>
+        ensures answer { IfOk result (λ a. a ≡ arrival signed self.old) }
+        ensures arrived { OnOk result (self.new ≡ arrived signed self.old) }
+        ensures unchanged { OnErr result (self.new ≡ self.old) }
+    {
+        match signed.sign {
+            Sign::Plus => self.arrive_plus(signed.message),
+            Sign::Minus => self.arrive_minus(signed.message),
+        }
+    }
+
+    // A message meets its antimessage, or undoes what comes after it and waits.
+    fn arrive_plus(&mut self, message: Message) -> Result<Arrival, AllocError>
+        ensures answer { IfOk result (λ a. a ≡ arrival (plus message) self.old) }
+        ensures arrived { OnOk result (self.new ≡ arrived (plus message) self.old) }
+        ensures unchanged { OnErr result (self.new ≡ self.old) }
+    {
+        if let Some(place) = bag::find(self.antis.as_slice(), &message) {
+            self.antis.remove(place);
+            return Ok(Arrival::Annihilated { back: 0 });
+        }
+        let back = bag::count_after(self.done.as_slice(), &message);
+        // What can fail comes first.
+        self.waiting.reserve(back + 1)?;
+        bag::wait_again(&mut self.done, &mut self.waiting, back);
+        bag::put(&mut self.waiting, message);
+        Ok(Arrival::Queued { back })
+    }
+
+    // An antimessage meets its message, waiting or done, or waits for it.
+    fn arrive_minus(&mut self, message: Message) -> Result<Arrival, AllocError>
+        ensures answer { IfOk result (λ a. a ≡ arrival (minus message) self.old) }
+        ensures arrived { OnOk result (self.new ≡ arrived (minus message) self.old) }
+        ensures unchanged { OnErr result (self.new ≡ self.old) }
+    {
+        if let Some(place) = bag::find(self.waiting.as_slice(), &message) {
+            self.waiting.remove(place);
+            return Ok(Arrival::Annihilated { back: 0 });
+        }
+        if bag::holds(self.done.as_slice(), &message) {
+            let later = bag::count_after(self.done.as_slice(), &message);
+            self.waiting.reserve(later)?;
+            bag::wait_again(&mut self.done, &mut self.waiting, later);
+            // The last one done is now the message itself.
+            self.done.pop();
+            return Ok(Arrival::Annihilated { back: later + 1 });
+        }
+        self.antis.reserve(1)?;
+        bag::put(&mut self.antis, message);
+        Ok(Arrival::Waits)
+    }
+
+    /// The least waiting message, if its time is below `end`, in ticks. It takes no memory.
+    pub fn next(&self, end: u64) -> Option<Message>
+        ensures { result ≡ first_before end self.now.waiting }
+    {
+        match self.waiting.last() {
+            Some(message) if message.time() < end => Some(*message),
+            _ => None,
+        }
+    }
+
+    /// The least waiting message, if its time is below `end`, in ticks: it is done now. It is refused only for want of
+    /// memory, and then the queue is unchanged.
+    pub fn take_next(&mut self, end: u64) -> Result<Option<Message>, AllocError>
+        ensures answer { IfOk result (λ next. next ≡ first_before end self.old.waiting) }
+        ensures taken { OnOk result (self.new ≡ taken end self.old) }
+        ensures unchanged { OnErr result (self.new ≡ self.old) }
+        ensures idle { first_before end self.old.waiting ≡ None → result ≡ Ok None }
+    {
+        let Some(message) = self.next(end) else {
+            return Ok(None);
+        };
+        self.done.push(message)?;
+        self.waiting.pop();
+        Ok(Some(message))
+    }
+
+    /// Lets go of the done messages below the floor, in ticks. It takes no memory.
+    pub fn release(&mut self, floor: u64)
+        ensures { self.new ≡ released floor self.old }
+    {
+        let count = self.done.as_slice().partition_point(
+            |message: &Message| -> bool
+                ensures { result ≡ nat_lt message.now.time floor }
+            { message.time() < floor },
+        );
+        self.done.drain(..count);
+    }
+
+    /// The least time, in ticks, of what waits, antimessages too; none where nothing does. It takes no memory.
+    pub fn low(&self) -> Option<u64>
+        ensures { result ≡ first_time (self.now.waiting ++ self.now.antis) }
+    {
+        let waiting = bag::least_time(self.waiting.as_slice());
+        let antis = bag::least_time(self.antis.as_slice());
+        match (waiting, antis) {
+            (Some(message), Some(anti)) => Some(message.min(anti)),
+            (Some(message), None) => Some(message),
+            (None, low) => low,
+        }
+    }
+}

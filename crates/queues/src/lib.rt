@@ -1,0 +1,62 @@
+//! The queues of a logical process (Jefferson 1985): its input queue, and the history of what it handled.
+#![tactic(auto)]
+
+ghost use Rattle.queues.specs.Queue.{QueuesArriveByCases, QueuesStayApart, QueuesStayInOrder, QueuesCount, ArrivalsTellBack, back_of};
+ghost use Rattle.std.specs.Prelude.{◌≡◌};
+
+mod bag;
+mod handled;
+mod input;
+#[cfg(test)]
+mod tests;
+
+use eventkey::{Listed, Message};
+pub use handled::History;
+pub use input::InputQueue;
+use model::State;
+
+/// One message handled: what the process was before it, and the messages that it sent.
+#[derive(Drop)]
+pub struct Record {
+    /// The message that was handled.
+    pub message: Message,
+    /// The state words before it.
+    pub before: State,
+    /// The send number before it.
+    pub number_before: u64,
+    /// The messages that the handling sent, in the order of sending.
+    pub sent: Listed<Message>,
+}
+
+/// What became of a message or an antimessage that arrived.
+#[derive(Clone, Copy, Debug, PartialEq, Eq)]
+pub enum Arrival {
+    /// It waits to be handled, and so many handled messages wait again.
+    Queued { back: usize },
+    /// It met its opposite, and so many handled messages wait again or are gone.
+    Annihilated { back: usize },
+    /// The antimessage waits for its message.
+    Waits,
+}
+
+impl Arrival {
+    /// How many handled messages wait again or are gone.
+    pub fn back(&self) -> usize
+        ensures { result ≡ back_of self.now }
+    {
+        match self {
+            Arrival::Queued { back } | Arrival::Annihilated { back } => *back,
+            Arrival::Waits => 0,
+        }
+    }
+}
+
+/// The laws of arrivals at an input queue: the five cases, that no antimessage comes to stand with its message, that
+/// the lists stay in order, and the count of each message before and after.
+pub fn law_of_queues()
+    ensures cases { QueuesArriveByCases }
+    ensures apart { QueuesStayApart }
+    ensures in_order { QueuesStayInOrder }
+    ensures count { QueuesCount }
+    ensures back { ArrivalsTellBack }
+{}
