@@ -1,0 +1,6 @@
+pub mod Arrivals
+pub mod Calls
+pub mod Handlings
+pub mod Laws
+pub mod Sound
+pub mod Telling

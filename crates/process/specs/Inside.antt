@@ -1,0 +1,17 @@
+-- What a contract sees of a process: its queue and its history are one record of lists.
+use Rattle.std.specs.Prelude.{[], ◌≡◌, false}
+use Rattle.queues.specs.Record.{messages}
+use Rattle.process.specs.View.{IsSound, ProcessView}
+use Rattle.process.specs.declared.logical.Process.TheInside.{Inside}
+
+abbrev pub view_of : Inside → ProcessView
+view_of p = record {
+  lp = p.lp;
+  floor = p.floor;
+  spent = p.spent;
+  process = record { gathered = []; done = p.history; waiting = p.queue.waiting; antis = p.queue.antis; state = p.state; number = p.number };
+}
+
+-- a process that is not spent is sound, and its queue has done what its history tells
+abbrev pub IsWhole : Inside → Type 0
+IsWhole p = p.spent ≡ false → (p.queue.done ≡ messages p.history) × IsSound (view_of p)

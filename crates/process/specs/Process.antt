@@ -1,0 +1,88 @@
+-- One logical process (Jefferson 1985): how it takes an arrival, handles a message, and lets go of what no rollback reaches.
+use Rattle.process.specs.declared.Done.{Done}
+use Rattle.std.specs.Prelude.{ℕ, List, map, ◌+◌, [], ◌∷◌, ◌++◌, length, ◌^◌, Bool, nat_le, flat_map}
+use Rattle.eventkey.specs.Bag.{remove_one}
+use Rattle.eventkey.specs.Message.{Message}
+use Rattle.eventkey.specs.Signed.{minus}
+use Rattle.eventkey.specs.declared.Signed.{Signed}
+use Rattle.model.specs.Meaning.{Meaning, stamp}
+use Rattle.queues.specs.Record.{handled_before, handled_from, messages, number_before, sent_in, state_before}
+use Rattle.queues.specs.declared.Record.{Record}
+use Rattle.queues.specs.Queue.{Queue, arrived, back, but_last, last_of}
+
+-- one logical process: what it told and is not yet committed, what it handled beyond that, its bags, and itself
+pub record Process : Type 0 where
+  pub gathered : List Record
+  pub done : List Record
+  pub waiting : List Message  -- a bag
+  pub antis : List Message  -- a bag
+  pub state : List ℕ
+  pub number : ℕ
+
+abbrev pub queue_of : Process → Queue
+queue_of q = record { done = messages q.done; waiting = q.waiting; antis = q.antis }
+
+-- the process after an arrival, and the antimessages of what it undid
+abbrev pub arrive : Signed → Process → Process
+arrive s q =
+    let n = back s (queue_of q) in
+    let r = arrived s (queue_of q) in
+    record {
+      gathered = q.gathered;
+      done = but_last n q.done;
+      waiting = r.waiting;
+      antis = r.antis;
+      state = state_before (last_of n q.done) q.state;
+      number = number_before (last_of n q.done) q.number;
+    }
+
+abbrev pub taken_back : Signed → Process → List Signed
+taken_back s q = map minus (sent_in (last_of (back s (queue_of q)) q.done))
+
+-- What one process makes of a message: the handling, and the process after it
+abbrev pub handling_of : Meaning → ℕ → Message → Process → Record
+handling_of m lp x q = record { message = x; before = q.state; number_before = q.number; sent = stamp lp x.time q.number (m.sends lp q.state x) }
+
+abbrev pub handle : Meaning → ℕ → Message → Process → Process
+handle m lp x q = record {
+  gathered = q.gathered;
+  done = q.done ++ handling_of m lp x q ∷ [];
+  waiting = remove_one x q.waiting;
+  antis = q.antis;
+  state = m.next_state lp q.state x;
+  number = q.number + length (handling_of m lp x q).sent;
+}
+
+-- What is below the floor is gathered
+abbrev pub collect : ℕ → Process → Process
+collect floor q = record q { gathered = q.gathered ++ handled_before floor q.done; done = handled_from floor q.done }
+
+-- the send number of the process has room for what it sends
+abbrev pub has_room : Meaning → Message → Process → Bool
+has_room m x q = nat_le (q.number + length (m.sends x.to q.state x)) (2 ^ 63)
+
+abbrev pub nobody : Process
+nobody = record { gathered = []; done = []; waiting = []; antis = []; state = []; number = 0 }
+
+abbrev pub handlings : Process → List Record
+handlings q = q.gathered ++ q.done
+
+-- all that the processes sent in handlings that are not committed
+abbrev pub sent_by : Process → List Message
+sent_by q = flat_map (λ (h : Record). h.sent) (handlings q)
+
+-- a process as its node has it: what was told is gone
+abbrev pub bare : Process → Process
+bare q = record q { gathered = [] }
+
+-- what was handled before the floor is let go
+abbrev pub release : ℕ → Process → Process
+release floor q = record q { done = handled_from floor q.done }
+
+-- these handlings are told, where this state and number came after them
+abbrev pub told : List Record → List ℕ → ℕ → List Done
+told [] state number = []
+told (h ∷ hs) state number = record { message = h.message; sent = h.sent; after = state_before hs state; number_after = number_before hs number } ∷ told hs state number
+
+abbrev pub fossils_of : ℕ → Process → List Done
+fossils_of floor q = told (handled_before floor q.done) (state_before (handled_from floor q.done) q.state) (number_before (handled_from floor q.done) q.number)

@@ -1,0 +1,64 @@
+-- What a caller sees of a logical process, and what its calls answer and leave (this project's profile).
+use Rattle.std.specs.List.{AllByRecursion as Every, list_any}
+use Rattle.std.specs.Prelude.{not, nat_lt, ◌==◌, ℕ, Bool, false, true, List, [], ◌++◌, map, Option, Some, length, ◌≡◌, ◌≤◌, ◌^◌}
+use Rattle.eventkey.specs.Bag.{add_all}
+use Rattle.eventkey.specs.Message.{Message}
+use Rattle.eventkey.specs.Signed.{plus}
+use Rattle.eventkey.specs.declared.Signed.{Signed}
+use Rattle.model.specs.Meaning.{Meaning}
+use Rattle.queues.specs.Queue.{IsInOrder, first_before}
+use Rattle.queues.specs.Record.{messages}
+use Rattle.queues.specs.declared.Record.{Record}
+use Rattle.process.specs.Process.{Process, handle, handling_of, has_room, queue_of}
+use Rattle.process.specs.declared.ProcessFault.{ProcessFault}
+use Rattle.process.specs.declared.ProcessFault.TheVariants.{BelowFloor, NoMemory, NotMine, NumberLimit, Spent}
+
+-- a process, its number, the floor before which it takes nothing, and whether it has ended at want of memory or at the number limit
+pub record ProcessView : Type 0 where
+  pub lp : ℕ
+  pub floor : ℕ
+  pub spent : Bool
+  pub process : Process
+
+-- what holds of every process that is not spent
+pub record IsSound (v : ProcessView) : Type 0 where
+  pub in_order : IsInOrder (queue_of v.process)
+  pub own_done : Every (λ (x : Message). x.to ≡ v.lp) (messages v.process.done)
+  pub own_waiting : Every (λ (x : Message). x.to ≡ v.lp) v.process.waiting
+  pub own_antis : Every (λ (x : Message). x.to ≡ v.lp) v.process.antis
+  pub few : length v.process.state ≤ 16
+  pub few_before : Every (λ (h : Record). length h.before ≤ 16) v.process.done
+  pub number : v.process.number ≤ 2 ^ 63
+  pub number_before : Every (λ (h : Record). h.number_before ≤ 2 ^ 63) v.process.done
+
+-- the process in this state, with this send number, for which these messages wait
+abbrev pub loaded : List ℕ → ℕ → List Message → Process
+loaded state number pending = record { gathered = []; done = []; waiting = add_all pending []; antis = []; state = state; number = number }
+
+-- one of these messages is for another process; the time of one is below the floor
+abbrev pub has_foreign : ℕ → List Message → Bool
+has_foreign lp xs = list_any (λ (x : Message). not (x.to == lp)) xs
+
+abbrev pub has_early : ℕ → List Message → Bool
+has_early floor xs = list_any (λ (x : Message). nat_lt x.time floor) xs
+
+-- A refused call: what was handed in is no more than added to, and either the process has ended or nothing changed
+abbrev pub IsRefused : ProcessFault → ProcessView → ProcessView → List Signed → List Signed → Type 0
+IsRefused NotMine old new before after = (new ≡ old) × (after ≡ before)
+IsRefused BelowFloor old new before after = (new ≡ old) × (after ≡ before)
+IsRefused NoMemory old new before after = (new.spent ≡ true) × (more : List Signed) × (after ≡ before ++ more)
+IsRefused NumberLimit old new before after = (new.spent ≡ true) × (more : List Signed) × (after ≡ before ++ more)
+IsRefused Spent old new before after = (new ≡ old) × (after ≡ before)
+
+-- the least waiting message below the end was handled, and what it sends was appended
+pub record HasRun (m : Meaning) (end : ℕ) (old new : ProcessView) (before after : List Signed) : Type 0 where
+  pub message : Message
+  pub next : first_before end old.process.waiting ≡ Some message
+  pub process : new ≡ record old { process = handle m old.lp message old.process }
+  pub out : after ≡ before ++ map plus (handling_of m old.lp message old.process).sent
+
+-- the least waiting message below the end cannot be handled, since the send number would pass its limit
+pub record LacksRoom (m : Meaning) (end : ℕ) (q : Process) : Type 0 where
+  pub message : Message
+  pub next : first_before end q.waiting ≡ Some message
+  pub room : has_room m message q ≡ false

@@ -1,0 +1,86 @@
+//! One logical process (Jefferson 1985): it handles its messages in order, and takes back what came too early.
+#![tactic(auto)]
+
+ghost use Rattle.std.specs.Prelude.{◌≡◌};
+ghost use Rattle.process.specs.Told.{ArrivalIsTold, ArrivalIsBalanced, ArrivalTakesBack, ArrivalLooksAhead, HandlingIsTold, HandlingIsBalanced, CollectingIsTold};
+ghost use Rattle.process.specs.declared.ProcessFault.TheVariants.{NoMemory};
+
+mod fossils;
+mod logical;
+mod sends;
+#[cfg(test)]
+mod tests;
+
+use eventkey::{Listed, Message};
+pub use logical::Process;
+use model::State;
+use std::alloc::{AllocError, AllocFailed};
+use thiserror::Error;
+
+/// Why a process refuses a call.
+#[derive(Clone, Copy, Debug, PartialEq, Eq, Error)]
+pub enum ProcessFault {
+    /// The message is for another process.
+    #[error("NotMine")]
+    NotMine,
+    /// The time of the message is below the process's floor.
+    #[error("BelowFloor")]
+    BelowFloor,
+    /// Memory was wanted and not there.
+    #[error("NoMemory")]
+    NoMemory,
+    /// The sends would take the send number past its limit.
+    #[error("NumberLimit")]
+    NumberLimit,
+    /// An earlier call ended the process, by want of memory or at the number limit.
+    #[error("Spent")]
+    Spent,
+}
+
+impl From<AllocError> for ProcessFault {
+    ghost from_gives = { λ _ e. e ≡ NoMemory };
+
+    fn from(_error: AllocError) -> ProcessFault {
+        ProcessFault::NoMemory
+    }
+}
+
+impl<T: Drop> From<AllocFailed<T>> for ProcessFault {
+    ghost from_gives = { λ _ e. e ≡ NoMemory };
+
+    fn from(_error: AllocFailed<T>) -> ProcessFault {
+        ProcessFault::NoMemory
+    }
+}
+
+/// A handling that no rollback reaches any more, with what the process was after it.
+#[derive(Drop)]
+pub struct Done {
+    /// The message that was handled.
+    pub message: Message,
+    /// The messages that the handling sent, in the order of sending.
+    pub sent: Listed<Message>,
+    /// The state words after it.
+    pub after: State,
+    /// The send number after it.
+    pub number_after: u64,
+}
+
+/// One message that arrives at one process.
+pub fn law_of_arrivals()
+    ensures told { ArrivalIsTold }
+    ensures balanced { ArrivalIsBalanced }
+    ensures takes_back { ArrivalTakesBack }
+    ensures looks_ahead { ArrivalLooksAhead }
+{}
+
+/// One message that a process handles.
+pub fn law_of_handlings()
+    ensures told { HandlingIsTold }
+    ensures balanced { HandlingIsBalanced }
+{}
+
+/// What a process gives up to the floor.
+pub fn law_of_collecting()
+    ensures { CollectingIsTold }
+{}
