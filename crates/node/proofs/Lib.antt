@@ -1,0 +1,11 @@
+pub mod Deliveries
+pub mod Lesser
+pub mod Owns
+pub mod Seats
+pub mod Tournaments
+pub mod Turns
+pub mod Runs
+pub mod Lows
+pub mod Collects
+pub mod Handled
+pub mod Loads

@@ -1,0 +1,219 @@
+-- What a load has to be: tests that go through lists one by one, and the processes of a node as a progression.
+use Rattle.std.proofs.Common.{◌≡◌, ℕ, zero, suc, ◌+◌, ◌*◌, ◌<◌, ◌≤◌, List, [], ◌∷◌, ◌++◌, length, get_or, map, drop, take, set, min, ◌-◌, ◌^◌, replicate, Option, None, refl, sym, subst, ◌∙◌, ap, arith, inl, inr}
+use Rattle.std.specs.List.{AllByRecursion as Every, list_any}
+use Rattle.std.proofs.Math.Nat.{mul-le-mul_left}
+use Rattle.std.specs.Prelude.{not, ◌==◌, nat_lt, true, false}
+use Rattle.std.proofs.lemmas.List.Elements.{All-from_recursion}
+use Rattle.std.proofs.lemmas.List.Folds.{list_any_none}
+use Rattle.eventkey.specs.Message.{Message}
+use Rattle.std.proofs.Math.Seq.{set-append_seam, take-suc}
+use Rattle.std.proofs.lemmas.Bool.{both_ways, cases_lt, eq-eqb, le-ltb, not_from_true}
+use Rattle.std.proofs.lemmas.List.{append-nil, append_assoc, get_or-map, length-map, length-take, map-append}
+use Rattle.eventkey.proofs.Lists.{Every-get_or, Every-add_all, Every-weaker}
+use Rattle.node.proofs.Deliveries.{rest_of}
+use Rattle.node.proofs.Seats.{own_strided}
+use Rattle.process.specs.View.{ProcessView}
+use Rattle.queues.specs.Queue.{first_before}
+use Rattle.node.proofs.Collects.{take_all}
+use Rattle.node.specs.Handling.{IsOwnLoad, Node, loaded, loaded_process, own_lps}
+use Rattle.node.specs.declared.Load.{Load}
+use Rattle.process.specs.Process.{Process}
+use Rattle.node.specs.Roster.{IsSeated, IsStaffed, Place, lps_of, processes_of}
+use Rattle.node.specs.Seats.{nexts_of, seat_of}
+use Rattle.node.specs.declared.Part.{Part}
+
+-- 1. Each element passes
+
+module _ {X : Type 0} (P : X → Type 0) where
+  pub every_more : (xs : List X) (i : ℕ) (x : X) → i < length xs → x ≡ get_or xs i x → P x → (Every P (drop i xs) → Every P xs) → Every P (drop (i + 1) xs) → Every P xs
+  every_more xs i x l is p so_far rest = so_far (subst (Every P) (sym (rest_of xs i x l is)) (p, rest))
+
+  pub every_fails : (xs : List X) (i : ℕ) (x : X) → i < length xs → x ≡ get_or xs i x → (P x → ⊥) → Every P xs → ⊥
+  every_fails xs i x l is not_here all = not_here (subst P (sym is) (Every-get_or P xs i x l all))
+
+  drop_all : (xs : List X) (i : ℕ) → length xs ≤ i → drop i xs ≡ []
+  drop_all [] zero l = refl
+  drop_all [] (suc i) l = refl
+  drop_all (x ∷ xs) zero l = absurd (omega arith)
+  drop_all (x ∷ xs) (suc i) l = drop_all xs i (omega arith)
+
+  pub every_ends : (xs : List X) (i : ℕ) → length xs ≤ i → (Every P (drop i xs) → Every P xs) → Every P xs
+  every_ends xs i l so_far = so_far (subst (Every P) (sym (drop_all xs i l)) tt)
+
+-- 2. The parts are those of the node's processes
+
+-- so many of them are, where next is the process that comes then
+pub record IsOwnSoFar (node nodes lps : ℕ) (xs : List ℕ) (i next : ℕ) : Type 0 where
+  pub next_is : next ≡ node + i * nodes
+  pub small : next < lps + nodes + node + 1
+  pub at : (k : ℕ) → k < i → get_or xs k 0 ≡ node + k * nodes
+  pub inside : (k : ℕ) → k < i → node + k * nodes < lps
+
+pub own_begins : (node nodes lps : ℕ) (xs : List ℕ) → IsOwnSoFar node nodes lps xs 0 node
+own_begins node nodes lps xs = record { next_is = omega arith; small = omega arith; at = λ k l. absurd (omega arith); inside = λ k l. absurd (omega arith) }
+
+pub own_more : (node nodes lps : ℕ) (xs : List ℕ) (i next : ℕ) → get_or xs i 0 ≡ next → next < lps → IsOwnSoFar node nodes lps xs i next → IsOwnSoFar node nodes lps xs (i + 1) (next + nodes)
+own_more node nodes lps xs i next here l h =
+    let is = h.next_is in
+    record {
+      next_is = omega arith;
+      small = omega arith;
+      at = λ k j. elim (cases_lt k i) [
+        | inl e ↦ h.at k e
+        | inr e ↦ (let same : k ≡ i = omega arith in subst (λ n. get_or xs n 0 ≡ node + n * nodes) (sym same) (here ∙ is))
+      ];
+      inside = λ k j. elim (cases_lt k i) [
+        | inl e ↦ h.inside k e
+        | inr e ↦ (let same : k ≡ i = omega arith in subst (λ n. node + n * nodes < lps) (sym same) (omega arith))
+      ];
+    }
+
+same_lists : (xs ys : List ℕ) → length xs ≡ length ys → ((k : ℕ) → k < length xs → get_or xs k 0 ≡ get_or ys k 0) → xs ≡ ys
+same_lists [] [] l h = refl
+same_lists [] (y ∷ ys) l h = absurd (omega arith)
+same_lists (x ∷ xs) [] l h = absurd (omega arith)
+same_lists (x ∷ xs) (y ∷ ys) l h =
+    ap (λ z. z ∷ xs) (h 0 (omega arith)) ∙ ap (λ zs. y ∷ zs) (same_lists xs ys (omega arith) (λ k j. h (suc k) (omega arith)))
+
+module _ (node nodes lps : ℕ) (some : node < nodes) (xs : List ℕ) where
+  pub own_all : (i next : ℕ) → length xs ≡ i → lps ≤ next → IsOwnSoFar node nodes lps xs i next → xs ≡ own_lps nodes node lps
+  own_all i next len far h =
+      let own = own_strided nodes node some lps in
+      let is = h.next_is in
+      let all = own.all in
+      let n : ℕ = length (own_lps nodes node lps) in
+      let same : length xs ≡ n = elim (cases_lt i n) [
+        | inl e ↦ absurd (let w = own.within i e in omega arith)
+        | inr e ↦ elim (cases_lt n i) [
+          | inl f ↦ absurd (let w = h.inside n f in omega arith)
+          | inr f ↦ omega arith
+        ]
+      ] in
+      same_lists xs (own_lps nodes node lps) same (λ k l. h.at k (omega arith) ∙ sym (own.at k (omega arith)))
+
+  pub own_far : (i next : ℕ) → length xs ≡ i → IsOwnSoFar node nodes lps xs i next → xs ≡ own_lps nodes node lps → lps ≤ next
+  own_far i next len h e =
+      let own = own_strided nodes node some lps in
+      let all = own.all in
+      let is = h.next_is in
+      let same = ap length e in
+      let n : length (own_lps nodes node lps) ≡ i = omega arith in
+      subst (λ k. lps ≤ k) (sym is) (subst (λ k. lps ≤ node + k * nodes) n all)
+
+  pub own_here : (i next : ℕ) → i < length xs → IsOwnSoFar node nodes lps xs i next → xs ≡ own_lps nodes node lps → (get_or xs i 0 ≡ next) × (next < lps)
+  own_here i next l h e =
+      let own = own_strided nodes node some lps in
+      let is = h.next_is in
+      let inside : i < length (own_lps nodes node lps) = subst (λ ys. i < length ys) e l in
+      let w = own.within i inside in
+      (ap (λ ys. get_or ys i 0) e ∙ own.at i inside ∙ sym is, omega arith)
+
+pub lp_at : (parts : List Part) (i : ℕ) (p : Part) → i < length parts → p ≡ get_or parts i p → get_or (map (λ (q : Part). q.lp) parts) i 0 ≡ p.lp
+lp_at parts i p l is = get_or-map (λ (q : Part). q.lp) parts i p 0 l ∙ ap (λ (q : Part). q.lp) (sym is)
+
+-- 3. The messages of a part
+
+pub none_foreign : (lp : ℕ) (xs : List Message) → Every (λ (x : Message). x.to ≡ lp) xs → list_any (λ (x : Message). not (x.to == lp)) xs ≡ true → ⊥
+none_foreign lp xs h e =
+    both_ways (list_any (λ (x : Message). not (x.to == lp)) xs)
+    (list_any_none (λ (x : Message). not (x.to == lp)) xs
+    (All-from_recursion (λ (x : Message). not (x.to == lp) ≡ false) xs (Every-weaker (λ (x : Message). x.to ≡ lp) (λ (x : Message). not (x.to == lp) ≡ false) (λ x p. not_from_true (x.to == lp) (eq-eqb x.to lp p)) xs h))) e
+
+pub none_early : (floor : ℕ) (xs : List Message) → Every (λ (x : Message). floor ≤ x.time) xs → list_any (λ (x : Message). nat_lt x.time floor) xs ≡ true → ⊥
+none_early floor xs h e =
+    both_ways (list_any (λ (x : Message). nat_lt x.time floor) xs)
+    (list_any_none (λ (x : Message). nat_lt x.time floor) xs
+    (All-from_recursion (λ (x : Message). nat_lt x.time floor ≡ false) xs (Every-weaker (λ (x : Message). floor ≤ x.time) (λ (x : Message). nat_lt x.time floor ≡ false) (λ x p. le-ltb x.time floor p) xs h))) e
+
+-- 4. The processes of the parts
+
+abbrev pub nexts_so_far : ℕ → ℕ → ℕ → List Part → List (Option Message)
+nexts_so_far end floor i parts = nexts_of end (map (seat_of floor) (take i parts)) ++ replicate (length parts - i) None
+
+take_one_more : (parts : List Part) (i : ℕ) (p : Part) → i < length parts → p ≡ get_or parts i p → take (i + 1) parts ≡ take i parts ++ p ∷ []
+take_one_more parts i p l is = ap (λ n. take n parts) {x = i + 1} {y = suc i} (omega arith) ∙ take-suc parts i p l ∙ ap (λ (q : Part). take i parts ++ q ∷ []) (sym is)
+
+pub seats_more : (floor : ℕ) (parts : List Part) (i : ℕ) (p : Part) (seats seats' : List ProcessView) (seat : ProcessView) → i < length parts → p ≡ get_or parts i p → seats ≡ map (seat_of floor) (take i parts) → seat ≡ seat_of floor p →
+    seats' ≡ seats ++ seat ∷ [] → seats' ≡ map (seat_of floor) (take (i + 1) parts)
+seats_more floor parts i p seats seats' seat l is so_far seat_is more =
+    more
+    ∙ ap (λ (xs : List ProcessView). xs ++ seat ∷ []) so_far
+    ∙ ap (λ (x : ProcessView). map (seat_of floor) (take i parts) ++ x ∷ []) seat_is
+    ∙ sym (map-append (seat_of floor) (take i parts) (p ∷ []))
+    ∙ sym (ap (map (seat_of floor)) (take_one_more parts i p l is))
+
+pub nexts_more : (end floor : ℕ) (parts : List Part) (i : ℕ) (p : Part) (nexts nexts' : List (Option Message)) (seat : ProcessView) (next : Option Message) → i < length parts → p ≡ get_or parts i p → nexts ≡ nexts_so_far end floor i parts →
+    seat ≡ seat_of floor p → next ≡ first_before end seat.process.waiting → nexts' ≡ set nexts i next → nexts' ≡ nexts_so_far end floor (i + 1) parts
+nexts_more end floor parts i p nexts nexts' seat next l is so_far seat_is next_is set_is =
+    let known : List (Option Message) = nexts_of end (map (seat_of floor) (take i parts)) in
+    let rest : List (Option Message) = replicate (length parts - (i + 1)) None in
+    let size : i ≡ length known =
+    sym (length-map (map (seat_of floor) (take i parts)) (λ (q : ProcessView). first_before end q.process.waiting) ∙ length-map (take i parts) (seat_of floor) ∙ length-take i parts ∙ min-eq i (length parts) l) in
+    let open_ones : replicate (length parts - i) None ≡ None ∷ rest = ap (λ n. replicate n None) {x = length parts - i} {y = suc (length parts - (i + 1))} (omega arith) in
+    set_is
+    ∙ ap (λ (xs : List (Option Message)). set xs i next) (so_far ∙ ap (λ (xs : List (Option Message)). known ++ xs) open_ones)
+    ∙ ap (λ n. set (known ++ None ∷ rest) n next) size
+    ∙ set-append_seam known None rest next
+    ∙ ap (λ (x : Option Message). known ++ x ∷ rest) (next_is ∙ ap (λ (q : ProcessView). first_before end q.process.waiting) seat_is)
+    ∙ sym (append_assoc known (first_before end (seat_of floor p).process.waiting ∷ []) rest)
+    ∙ ap (λ (xs : List (Option Message)). xs ++ rest)
+    (sym (map-append (λ (q : ProcessView). first_before end q.process.waiting) (map (seat_of floor) (take i parts)) (seat_of floor p ∷ []))
+    ∙ ap (nexts_of end) (sym (map-append (seat_of floor) (take i parts) (p ∷ [])) ∙ sym (ap (map (seat_of floor)) (take_one_more parts i p l is))))
+  where
+    min-eq : (a b : ℕ) → a < b → min a b ≡ a
+    min-eq a b h = omega arith
+
+pub nexts_all : (end floor : ℕ) (parts : List Part) (i : ℕ) (nexts : List (Option Message)) → length parts ≤ i → nexts ≡ nexts_so_far end floor i parts → nexts ≡ nexts_of end (map (seat_of floor) parts)
+nexts_all end floor parts i nexts l is =
+    is
+    ∙ ap (λ n. nexts_of end (map (seat_of floor) (take i parts)) ++ replicate n None) {x = length parts - i} {y = zero} (omega arith)
+    ∙ append-nil (nexts_of end (map (seat_of floor) (take i parts)))
+    ∙ ap (λ (ps : List Part). nexts_of end (map (seat_of floor) ps)) (take_all parts i l)
+
+pub seats_staffed : (p : Place) (parts : List Part) → p.node < p.nodes → p.end ≤ 2 ^ 40 → map (λ (q : Part). q.lp) parts ≡ own_lps p.nodes p.node p.lps → Every (λ (q : Part). Every (λ (x : Message). x.to ≡ q.lp) q.pending) parts →
+    IsStaffed p (map (seat_of p.floor) parts) (nexts_of p.end (map (seat_of p.floor) parts))
+seats_staffed p parts node end own pending = record {
+  node = node;
+  end = end;
+  lps = lps-seats parts ∙ own;
+  seated = seated-seats parts pending;
+  known = refl;
+}
+  where
+    lps-seats : (ps : List Part) → lps_of (map (seat_of p.floor) ps) ≡ map (λ (q : Part). q.lp) ps
+    lps-seats [] = refl
+    lps-seats (q ∷ ps) = ap (λ xs. q.lp ∷ xs) (lps-seats ps)
+
+    seated-seats : (ps : List Part) → Every (λ (q : Part). Every (λ (x : Message). x.to ≡ q.lp) q.pending) ps → Every (IsSeated p.floor) (map (seat_of p.floor) ps)
+    seated-seats [] h = tt
+    seated-seats (q ∷ ps) h = (record { floor_is = refl; unspent = refl; own_done = tt; own_waiting = Every-add_all (λ (x : Message). x.to ≡ q.lp) q.pending [] h.0 tt }, seated-seats ps h.1)
+
+pub processes-seats : (floor : ℕ) (parts : List Part) → processes_of (map (seat_of floor) parts) ≡ map loaded_process parts
+processes-seats floor [] = refl
+processes-seats floor (q ∷ ps) = ap (λ xs. loaded_process q ∷ xs) (processes-seats floor ps)
+
+pub own_few : (node nodes lps : ℕ) → node < nodes → length (own_lps nodes node lps) ≤ lps
+own_few node nodes lps some =
+    let own = own_strided nodes node some lps in
+    let n : ℕ = length (own_lps nodes node lps) in
+    elim (cases_lt 0 n) [
+      | inl e ↦ (let w = own.within (n - 1) (omega arith) in omega (arith, mul-le-mul_left {m = 1} {n = nodes} (n - 1) (omega arith)))
+      | inr e ↦ omega arith
+    ]
+
+-- the load, as it is found to be
+pub own_load : (lps lps' : ℕ) (load : Load) (parts : List Part) → lps' ≡ lps → parts ≡ load.parts → map (λ (q : Part). q.lp) parts ≡ own_lps load.nodes load.node lps' →
+    Every (λ (q : Part). Every (λ (x : Message). x.to ≡ q.lp) q.pending) parts → IsOwnLoad lps load
+own_load lps lps' load parts l e own pending = record {
+  parts = ap (map (λ (q : Part). q.lp)) (sym e) ∙ own ∙ ap (own_lps load.nodes load.node) l;
+  pending = subst (Every (λ (q : Part). Every (λ (x : Message). x.to ≡ q.lp) q.pending)) e pending;
+}
+
+abbrev loaded_with : Load → ℕ → List Process → Node
+loaded_with load lps qs = record { node = load.node; nodes = load.nodes; lps = lps; end = load.end; floor = load.floor; spent = false; processes = qs }
+
+pub loaded_is : (lps lps' : ℕ) (load : Load) (parts : List Part) (seats : List ProcessView) → lps' ≡ lps → parts ≡ load.parts → seats ≡ map (seat_of load.floor) parts →
+    loaded_with load lps' (processes_of seats) ≡ loaded lps load
+loaded_is lps lps' load parts seats l e s =
+    ap (λ k. loaded_with load k (processes_of seats)) l
+    ∙ ap (loaded_with load lps) (ap processes_of s ∙ processes-seats load.floor parts ∙ ap (map loaded_process) e)

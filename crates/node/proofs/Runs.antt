@@ -1,0 +1,137 @@
+-- All turns of a node, one after the other: those that are done, and those that are left.
+use Rattle.std.proofs.Common.{◌≡◌, ℕ, zero, suc, ◌+◌, ◌-◌, ◌<◌, ◌≤◌, true, false, List, [], ◌∷◌, Option, Some, None, refl, sym, subst, ◌∙◌, ap, arith, cond, inl, inr}
+use Rattle.std.specs.Prelude.{nat_lt}
+use Rattle.std.proofs.lemmas.Bool.{cases_Bool, cases_lt, cond-true, cond-false, lt-ltb, le-ltb}
+use Rattle.std.proofs.lemmas.Option.{none-some, same_Some}
+use Rattle.eventkey.proofs.Bags.{at_most_total, time_from_at_most}
+use Rattle.eventkey.specs.Message.{IsAtMost, Message}
+use Rattle.eventkey.specs.declared.Signed.{Signed}
+use Rattle.model.specs.Meaning.{Meaning}
+use Rattle.process.specs.Process.{has_room}
+use Rattle.node.proofs.Deliveries.{working}
+use Rattle.node.proofs.Lesser.{lesser_comm, lesser_first, lesser_none}
+use Rattle.process.specs.View.{ProcessView}
+use Rattle.queues.specs.Queue.{first_before}
+use Rattle.node.specs.Node.{Work, first, here, least_of, lesser, run_here, run_one_here, turn_here}
+use Rattle.node.specs.Roster.{IsStaffed, Place, processes_of}
+use Rattle.node.specs.Seats.{nexts_of}
+use Rattle.node.specs.Tournament.{least_among}
+
+-- 1. The least message before the end
+
+-- the message, if its time is before the end
+abbrev pub before : ℕ → Option Message → Option Message
+before end None = None
+before end (Some x) = cond (nat_lt x.time end) (Some x) None
+
+is_before_end : (end : ℕ) (x : Message) → x.time < end → before end (Some x) ≡ Some x
+is_before_end end x l = cond-true (nat_lt x.time end) (Some x) None (lt-ltb x.time end l)
+
+is_past_end : (end : ℕ) (x : Message) → end ≤ x.time → before end (Some x) ≡ None
+is_past_end end x l = cond-false (nat_lt x.time end) (Some x) None (le-ltb x.time end l)
+
+before_lesser_first : (end : ℕ) (x y : Message) → IsAtMost x y → before end (lesser (Some x) (Some y)) ≡ lesser (before end (Some x)) (before end (Some y))
+before_lesser_first end x y h =
+    ap (before end) (lesser_first x y h) ∙ elim (cases_lt x.time end) [
+      | inl l ↦ is_before_end end x l ∙ sym (ap (λ (o : Option Message). lesser o (before end (Some y))) (is_before_end end x l) ∙ elim (cases_lt y.time end) [
+        | inl k ↦ ap (lesser (Some x)) (is_before_end end y k) ∙ lesser_first x y h
+        | inr k ↦ ap (lesser (Some x)) (is_past_end end y k)
+      ])
+      | inr l ↦ (let later = time_from_at_most x y h in
+          is_past_end end x l ∙ sym (ap (λ (o : Option Message). lesser o (before end (Some y))) (is_past_end end x l) ∙ is_past_end end y (omega arith)))
+    ]
+
+before_lesser : (end : ℕ) (x y : Option Message) → before end (lesser x y) ≡ lesser (before end x) (before end y)
+before_lesser end None y = refl
+before_lesser end (Some x) None = sym (lesser_none (before end (Some x)))
+before_lesser end (Some x) (Some y) = elim (at_most_total x y) [
+  | inl h ↦ before_lesser_first end x y h
+  | inr h ↦ ap (before end) (lesser_comm (Some x) (Some y)) ∙ before_lesser_first end y x h ∙ lesser_comm (before end (Some y)) (before end (Some x))
+]
+
+before_first : (end : ℕ) (xs : List Message) → first_before end xs ≡ before end (first xs)
+before_first end [] = refl
+before_first end (x ∷ xs) = refl
+
+least_nexts : (end : ℕ) (seats : List ProcessView) → least_among (nexts_of end seats) ≡ before end (least_of (processes_of seats))
+least_nexts end [] = refl
+least_nexts end (q ∷ seats) =
+    ap (λ (o : Option Message). lesser o (least_among (nexts_of end seats))) (before_first end q.process.waiting)
+    ∙ ap (lesser (before end (first q.process.waiting))) (least_nexts end seats)
+    ∙ sym (before_lesser end (first q.process.waiting) (least_of (processes_of seats)))
+
+-- what the tournament tells is what the node handles next
+pub least_is : (p : Place) (seats : List ProcessView) (nexts : List (Option Message)) → IsStaffed p seats nexts → before p.end (least_of (processes_of seats)) ≡ least_among nexts
+least_is p seats nexts h = sym (ap least_among h.known ∙ least_nexts p.end seats)
+
+-- 2. Turns
+
+module _ (m : Meaning) (end nodes : ℕ) where
+  turn_idle : (rest : Work → Option Work) (w : Work) (o : Option Message) → before end o ≡ None → turn_here m end nodes rest w o ≡ Some w
+  turn_idle rest w None e = refl
+  turn_idle rest w (Some x) e = elim (cases_Bool (nat_lt x.time end)) [
+    | inl l ↦ absurd (none-some x (sym e ∙ cond-true (nat_lt x.time end) (Some x) None l))
+    | inr l ↦ cond-false (nat_lt x.time end) (cond (has_room m x (here nodes w x.to)) (rest (run_one_here m nodes x w)) None) (Some w) l
+  ]
+
+  turn_of : (rest : Work → Option Work) (w : Work) (o : Option Message) (x : Message) → before end o ≡ Some x → turn_here m end nodes rest w o ≡ cond (has_room m x (here nodes w x.to)) (rest (run_one_here m nodes x w)) None
+  turn_of rest w None x e = absurd (none-some x e)
+  turn_of rest w (Some y) x e = elim (cases_Bool (nat_lt y.time end)) [
+    | inl l ↦
+        cond-true (nat_lt y.time end) (cond (has_room m y (here nodes w y.to)) (rest (run_one_here m nodes y w)) None) (Some w) l
+        ∙ ap (λ (z : Message). cond (has_room m z (here nodes w z.to)) (rest (run_one_here m nodes z w)) None) (same_Some y x (sym (cond-true (nat_lt y.time end) (Some y) None l) ∙ e))
+    | inr l ↦ absurd (none-some x (sym (cond-false (nat_lt y.time end) (Some y) None l) ∙ e))
+  ]
+
+  run_idle : (budget : ℕ) (w : Work) → before end (least_of w.processes) ≡ None → run_here m end nodes budget w ≡ Some w
+  run_idle zero w e = refl
+  run_idle (suc budget) w e = turn_idle (λ (v : Work). run_here m end nodes budget v) w (least_of w.processes) e
+
+  run_more : (budget : ℕ) (w : Work) (x : Message) → before end (least_of w.processes) ≡ Some x → run_here m end nodes (suc budget) w ≡ cond (has_room m x (here nodes w x.to)) (run_here m end nodes budget (run_one_here m nodes x w)) None
+  run_more budget w x e = turn_of (λ (v : Work). run_here m end nodes budget v) w (least_of w.processes) x e
+
+  one_less : (budget ran : ℕ) (w : Work) → ran < budget → run_here m end nodes (budget - ran) w ≡ run_here m end nodes (suc (budget - (ran + 1))) w
+  one_less budget ran w l = ap (λ n. run_here m end nodes n w) {x = budget - ran} {y = suc (budget - (ran + 1))} (omega arith)
+
+  pub turns_go_on : (budget ran : ℕ) (w w' : Work) (x : Message) (total : Option Work) → ran < budget → before end (least_of w.processes) ≡ Some x → has_room m x (here nodes w x.to) ≡ true →
+      w' ≡ run_one_here m nodes x w → run_here m end nodes (budget - ran) w ≡ total → run_here m end nodes (budget - (ran + 1)) w' ≡ total
+  turns_go_on budget ran w w' x total l e room one so_far =
+      ap (run_here m end nodes (budget - (ran + 1))) one
+      ∙ sym (cond-true (has_room m x (here nodes w x.to)) (run_here m end nodes (budget - (ran + 1)) (run_one_here m nodes x w)) None room)
+      ∙ sym (run_more (budget - (ran + 1)) w x e)
+      ∙ sym (one_less budget ran w l)
+      ∙ so_far
+
+  pub turns_fail : (budget ran : ℕ) (w : Work) (x : Message) (total : Option Work) → ran < budget → before end (least_of w.processes) ≡ Some x → has_room m x (here nodes w x.to) ≡ false →
+      run_here m end nodes (budget - ran) w ≡ total → total ≡ None
+  turns_fail budget ran w x total l e room so_far =
+      sym so_far
+      ∙ one_less budget ran w l
+      ∙ run_more (budget - (ran + 1)) w x e
+      ∙ cond-false (has_room m x (here nodes w x.to)) (run_here m end nodes (budget - (ran + 1)) (run_one_here m nodes x w)) None room
+
+  pub turns_stop : (budget ran : ℕ) (w : Work) (total : Option Work) → before end (least_of w.processes) ≡ None → run_here m end nodes (budget - ran) w ≡ total → total ≡ Some w
+  turns_stop budget ran w total e so_far = sym so_far ∙ run_idle (budget - ran) w e
+
+  pub turns_done : (budget ran : ℕ) (w : Work) (total : Option Work) → budget ≤ ran → run_here m end nodes (budget - ran) w ≡ total → total ≡ Some w
+  turns_done budget ran w total l so_far = sym so_far ∙ ap (λ n. run_here m end nodes n w) {x = budget - ran} {y = zero} (omega arith)
+
+-- 3. The loop of turns, at a place that stays what it was
+
+module _ (m : Meaning) (p p' : Place) (seats : List ProcessView) (nexts : List (Option Message)) (same : p ≡ p') (staffed : IsStaffed p seats nexts) (budget ran : ℕ) (out : List Signed) (total : Option Work) where
+  pub run_goes_on : (x : Message) (w : Work) → ran < budget → least_among nexts ≡ Some x → has_room m x (here p.nodes (working (processes_of seats) out ran) x.to) ≡ true → w ≡ run_one_here m p.nodes x (working (processes_of seats) out ran) →
+      run_here m p'.end p'.nodes (budget - ran) (working (processes_of seats) out ran) ≡ total → run_here m p'.end p'.nodes (budget - (ran + 1)) w ≡ total
+  run_goes_on x w l e room one =
+      subst (λ (k : Place). run_here m k.end k.nodes (budget - ran) (working (processes_of seats) out ran) ≡ total → run_here m k.end k.nodes (budget - (ran + 1)) w ≡ total) same
+      (turns_go_on m p.end p.nodes budget ran (working (processes_of seats) out ran) w x total l (least_is p seats nexts staffed ∙ e) room one)
+
+  pub run_fails : (x : Message) → ran < budget → least_among nexts ≡ Some x → has_room m x (here p.nodes (working (processes_of seats) out ran) x.to) ≡ false →
+      run_here m p'.end p'.nodes (budget - ran) (working (processes_of seats) out ran) ≡ total → total ≡ None
+  run_fails x l e room =
+      subst (λ (k : Place). run_here m k.end k.nodes (budget - ran) (working (processes_of seats) out ran) ≡ total → total ≡ None) same
+      (turns_fail m p.end p.nodes budget ran (working (processes_of seats) out ran) x total l (least_is p seats nexts staffed ∙ e) room)
+
+  pub run_stops : least_among nexts ≡ None → run_here m p'.end p'.nodes (budget - ran) (working (processes_of seats) out ran) ≡ total → total ≡ Some (working (processes_of seats) out ran)
+  run_stops e =
+      subst (λ (k : Place). run_here m k.end k.nodes (budget - ran) (working (processes_of seats) out ran) ≡ total → total ≡ Some (working (processes_of seats) out ran)) same
+      (turns_stop m p.end p.nodes budget ran (working (processes_of seats) out ran) total (least_is p seats nexts staffed ∙ e))

@@ -1,0 +1,18 @@
+use Rattle.std.proofs.Common.{◌≡◌, ◌∙◌, ◌≤◌, Err, ap, sym, subst, List, rules}
+use Rattle.std.specs.List.{AllByRecursion as Every}
+use Rattle.std.proofs.lemmas.Result.{err_from_is_err_and}
+use Rattle.eventkey.specs.Message.{Message}
+use Rattle.node.proofs.Deliveries.{memory_left}
+use Rattle.node.proofs.Loads.{none_early, none_foreign}
+use Rattle.node.proofs.node.seated.Goals as goal
+
+pub returns-in_err-process-clause-memory : goal.returns-in_err-process-clause-memory
+returns-in_err-process-clause-memory c =
+    let p = err_from_is_err_and c.from_residual-in_err-process.result c.from_residual-in_err-process.ensures.1 in
+    let same : c.in_ok-pending.pending.items ≡ c.args.part.now.pending = c.in_ok-pending.ensures.items_if_clones_equal (search rules) ∙ c.as_slice-2.ensures in
+    rw (p.1, p.2)
+    (memory_left c.in_err-process.field-0.0
+    (λ e. none_foreign c.args.part.now.lp c.in_ok-pending.pending.items (subst (λ (xs : List Message). Every (λ (x : Message). x.to ≡ c.args.part.now.lp) xs) (sym same) c.requires.own) (c.in_err-process.ensures.not_mine.0 (ap Err e)))
+    (λ e. none_early c.args.floor c.in_ok-pending.pending.items (subst (λ (xs : List Message). Every (λ (x : Message). c.args.floor ≤ x.time) xs) (sym same) c.requires.late) (c.in_err-process.ensures.below_floor.0 (ap Err e)).1)
+    (λ e. c.in_err-process.ensures.unlimited (ap Err e))
+    (λ e. c.in_err-process.ensures.unspent (ap Err e)))

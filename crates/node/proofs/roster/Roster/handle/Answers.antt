@@ -1,0 +1,11 @@
+use Rattle.std.proofs.Common.{◌∙◌, false}
+use Rattle.node.proofs.Handled.{answered}
+use Rattle.node.specs.Roster.{node_of, place_of, processes_of}
+use Rattle.node.proofs.roster.Roster.handle.Goals as goal
+
+pub returns-clause-handled : goal.returns-clause-handled
+returns-clause-handled g c =
+    answered (g.M.Model.meaning c.args.model.now) c.args.parcel (place_of c.args.self.now) (place_of c.deliver_all.new.self) (place_of c.run.new.self)
+    (processes_of c.args.self.now.processes.items) (processes_of c.deliver_all.new.self.processes.items) (processes_of c.run.new.self.processes.items)
+    c.as_slice.result.now c.new-out.result.items c.deliver_all.new.out.items c.run.new.out.items c.from_vec.result c.in_ok-ran.ran c.low.result c.from_vec-2.result (node_of false c.collect.new.self)
+    c.as_slice.ensures c.new-out.ensures.items c.in_ok-deliver_all.ensures.place (c.in_ok-deliver_all.ensures.work 0) c.in_ok-ran.ensures.place c.in_ok-ran.ensures.work c.in_ok-fossils.ensures.node c.from_vec.ensures c.low.ensures (c.from_vec-2.ensures ∙ c.in_ok-fossils.ensures.fossils)

@@ -1,0 +1,7 @@
+use Rattle.std.proofs.Common.{◌≡◌, take}
+use Rattle.node.specs.Node.{low_of}
+use Rattle.node.specs.Roster.{processes_of}
+use Rattle.node.proofs.roster.Roster.low.Given as goal
+
+abbrev pub invariant-loop-process : goal.invariant-loop-process
+invariant-loop-process l = l.low ≡ low_of (processes_of (take l.process-index l.self.processes.items))

@@ -1,0 +1,31 @@
+use Rattle.std.proofs.Common.{◌∙◌, ◌+◌, sym, inl, inr}
+use Rattle.std.proofs.lemmas.Result.{err_from_is_err_and}
+use Rattle.node.proofs.Runs.{run_fails, run_goes_on, run_stops}
+use Rattle.node.specs.Roster.{place_of, work_of}
+use Rattle.node.proofs.roster.Roster.run.Goals as goal
+
+pub returns-in_default-clause-work : goal.returns-in_default-clause-work
+returns-in_default-clause-work g c =
+    run_stops (g.M.Model.meaning c.args.model.now) (place_of c.loop-ran.self) (place_of c.args.self.now) c.loop-ran.self.processes.items c.loop-ran.self.nexts c.loop-ran.invariant.place c.loop-ran.invariant.ready c.args.budget c.loop-ran.ran c.loop-ran.out.items _
+    (sym c.least.ensures ∙ c.in_default.is) c.loop-ran.invariant.work
+
+pub returns-in_err-run_one-clause-causes : goal.returns-in_err-run_one-clause-causes
+returns-in_err-run_one-clause-causes g c =
+    let p = err_from_is_err_and c.from_residual.result c.from_residual.ensures.1 in
+    rw (p.1, p.2) (elim (c.in_err-run_one.ensures.causes c.loop-ran.ran) [
+      | inl e ↦ inl e
+      | inr e ↦ inr (
+        e.0,
+        run_fails (g.M.Model.meaning c.args.model.now) (place_of c.loop-ran.self) (place_of c.args.self.now) c.loop-ran.self.processes.items c.loop-ran.self.nexts c.loop-ran.invariant.place c.loop-ran.invariant.ready c.args.budget c.loop-ran.ran c.loop-ran.out.items _
+            c.in-Some.message c.loop-ran-test.true (sym c.in-Some.ensures) e.1 c.loop-ran.invariant.work,
+      )
+    ])
+
+pub loop-ran-preserved : goal.loop-ran-preserved
+loop-ran-preserved g c = record {
+  ready = c.in_ok-run_one.ensures.ready;
+  place = c.in_ok-run_one.ensures.place ∙ c.loop-ran.invariant.place;
+  work =
+      run_goes_on (g.M.Model.meaning c.args.model.now) (place_of c.loop-ran.self) (place_of c.args.self.now) c.loop-ran.self.processes.items c.loop-ran.self.nexts c.loop-ran.invariant.place c.loop-ran.invariant.ready c.args.budget c.loop-ran.ran c.loop-ran.out.items _
+      c.in-Some.message (work_of c.run_one.new.self c.run_one.new.out.items (c.loop-ran.ran + 1)) c.loop-ran-test.true (sym c.in-Some.ensures) (c.in_ok-run_one.ensures.room c.loop-ran.ran) (c.in_ok-run_one.ensures.work c.loop-ran.ran) c.loop-ran.invariant.work;
+}

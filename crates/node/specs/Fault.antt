@@ -1,0 +1,12 @@
+-- What a process refuses, its node refuses.
+use Rattle.node.specs.declared.NodeFault.{NodeFault}
+use Rattle.node.specs.declared.NodeFault.TheVariants as node
+use Rattle.process.specs.declared.ProcessFault.{ProcessFault}
+use Rattle.process.specs.declared.ProcessFault.TheVariants.{NotMine, BelowFloor, NoMemory, NumberLimit, Spent}
+
+abbrev pub fault_of : ProcessFault → NodeFault
+fault_of NotMine = node.NotMine
+fault_of BelowFloor = node.BelowFloor
+fault_of NoMemory = node.NoMemory
+fault_of NumberLimit = node.NumberLimit
+fault_of Spent = node.Spent

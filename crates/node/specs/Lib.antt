@@ -1,0 +1,6 @@
+pub mod Node
+pub mod Fault
+pub mod Handling
+pub mod Roster
+pub mod Seats
+pub mod Tournament

@@ -1,0 +1,96 @@
+-- A node at work on its own processes: deliveries, turns, collection. Process lp is its number lp / nodes.
+use Rattle.std.specs.Prelude.{ℕ, List, [], ◌∷◌, Option, Some, None, ◌++◌, flat_map, ◌%◌, Bool, nat_eq, if◌then◌else◌, ◌/◌, get_or, ◌+◌, set, map, nat_lt, zero, suc, option_map}
+use Rattle.eventkey.specs.Bag.{least_time}
+use Rattle.eventkey.specs.Message.{Message, is_before}
+use Rattle.eventkey.specs.Signed.{plus}
+use Rattle.eventkey.specs.declared.Signed.{Signed}
+use Rattle.model.specs.Meaning.{Meaning}
+use Rattle.process.specs.Process.{Process, arrive, collect, fossils_of, handle, handling_of, has_room, nobody, release, taken_back}
+use Rattle.node.specs.declared.Parcel.{Parcel}
+use Rattle.node.specs.declared.Reply.{Reply}
+
+-- the least time of these messages, if there are any
+abbrev pub first_time : List Message → Option ℕ
+first_time [] = None
+first_time (x ∷ xs) = Some (least_time x.time xs)
+
+-- the least time of what waits and of the antimessages of these processes
+abbrev pub low_of : List Process → Option ℕ
+low_of qs = first_time (flat_map (λ (q : Process). q.waiting ++ q.antis) qs)
+
+-- A node at work: all processes (it changes its own), what it sent so far, and how many messages it handled
+pub record Work : Type 0 where
+  pub processes : List Process
+  pub out : List Signed
+  pub ran : ℕ
+
+-- process lp sits on this node of so many
+abbrev pub sits_on : ℕ → ℕ → ℕ → Bool
+sits_on nodes node lp = nat_eq (lp % nodes) node
+
+abbrev pub first : List Message → Option Message
+first [] = None
+first (x ∷ xs) = Some x
+
+abbrev pub lesser_with : Message → Option Message → Option Message
+lesser_with x None = Some x
+lesser_with x (Some y) = if is_before y x then Some y else Some x
+
+abbrev pub lesser : Option Message → Option Message → Option Message
+lesser None y = y
+lesser (Some x) y = lesser_with x y
+
+-- A node handles a parcel: all deliveries in order, then the turns, then it collects what is below the floor
+abbrev pub start : List Process → Work
+start qs = record { processes = qs; out = []; ran = 0 }
+
+abbrev pub here : ℕ → Work → ℕ → Process
+here nodes w lp = get_or w.processes (lp / nodes) nobody
+
+abbrev pub deliver_one_here : ℕ → Signed → Work → Work
+deliver_one_here nodes s w = record {
+  processes = set w.processes (s.message.to / nodes) (arrive s (here nodes w s.message.to));
+  out = w.out ++ taken_back s (here nodes w s.message.to);
+  ran = w.ran;
+}
+
+abbrev pub deliver_here : ℕ → List Signed → Work → Work
+deliver_here nodes [] w = w
+deliver_here nodes (s ∷ ss) w = deliver_here nodes ss (deliver_one_here nodes s w)
+
+abbrev pub least_of : List Process → Option Message
+least_of [] = None
+least_of (q ∷ qs) = lesser (first q.waiting) (least_of qs)
+
+abbrev pub run_one_here : Meaning → ℕ → Message → Work → Work
+run_one_here m nodes x w = record {
+  processes = set w.processes (x.to / nodes) (handle m x.to x (here nodes w x.to));
+  out = w.out ++ map plus (handling_of m x.to x (here nodes w x.to)).sent;
+  ran = w.ran + 1;
+}
+
+abbrev pub turn_here : Meaning → ℕ → ℕ → (Work → Option Work) → Work → Option Message → Option Work
+turn_here m end nodes rest w None = Some w
+turn_here m end nodes rest w (Some x) = if nat_lt x.time end then (if has_room m x (here nodes w x.to) then rest (run_one_here m nodes x w) else None) else Some w
+
+abbrev pub run_here : Meaning → ℕ → ℕ → ℕ → Work → Option Work
+run_here m end nodes zero w = Some w
+run_here m end nodes (suc budget) w = turn_here m end nodes (λ (v : Work). run_here m end nodes budget v) w (least_of w.processes)
+
+abbrev pub collected_here : ℕ → Work → Work
+collected_here floor w = record w { processes = map (λ (q : Process). collect floor q) w.processes }
+
+abbrev pub handle_here : Meaning → ℕ → ℕ → Parcel → List Process → Option Work
+handle_here m end nodes parcel qs =
+    option_map (λ (w : Work). collected_here parcel.floor w) (run_here m end nodes parcel.budget (deliver_here nodes parcel.deliver (start qs)))
+
+-- what the node makes of a parcel before it collects
+abbrev pub work_here : Meaning → ℕ → ℕ → Parcel → List Process → Option Work
+work_here m end nodes parcel qs = run_here m end nodes parcel.budget (deliver_here nodes parcel.deliver (start qs))
+
+abbrev pub reply_of : ℕ → Work → Reply
+reply_of floor w = record { out = w.out; low = low_of w.processes; fossils = flat_map (λ (q : Process). fossils_of floor q) w.processes; ran = w.ran }
+
+-- the processes of the node afterwards
+abbrev pub released : ℕ → Work → List Process
+released floor w = map (λ (q : Process). release floor q) w.processes

@@ -1,0 +1,222 @@
+// A node between parcels.
+
+ghost use Rattle.std.specs.Prelude.{◌≡◌, ◌<◌, ◌≤◌, ◌^◌, ◌↔◌, ◌⊎◌, ◌==◌, Some, None, Err, IfOk, IfErr, IsTrue, length, map, nat_lt, not, true, false};
+ghost use Rattle.std.specs.List.{AllByRecursion as Every};
+ghost use Rattle.node.specs.Handling.{IsInRange, own_lps};
+ghost use Rattle.node.specs.Seats.{nexts_of, seat_of};
+ghost use Rattle.node.specs.declared.NodeFault.TheVariants.{NoMemory};
+
+use crate::roster::Roster;
+use crate::tournament::Tournament;
+use crate::{Load, NodeFault, Parcel, Part, Reply};
+use eventkey::Message;
+use model::{Model as Simulated, Words};
+use process::Process;
+use std::alloc::Global;
+
+/// Some logical processes of a simulation: all those whose number leaves the node's number, divided by how many nodes
+/// there are.
+#[derive(Drop)]
+pub struct Node {
+    spent: bool,
+    roster: Roster,
+}
+
+impl std::marker::Model for Node {
+    ghost use Rattle.std.specs.Prelude.{◌≡◌, false};
+    ghost use Rattle.node.specs.Handling.{Node};
+
+    ghost Value = { Node };
+
+    ghost use Rattle.node.specs.Roster.{IsReady, node_of};
+
+    ghost view = { λ n. node_of n.spent n.roster };
+
+    ghost invariant = { λ n. n.spent ≡ false → IsReady n.roster };
+}
+
+impl Node {
+    ghost use Rattle.node.specs.Handling.{Fails, IsAnswered, IsLoadFrom, IsOwnLoad, loaded, refusal};
+    ghost use Rattle.node.specs.declared.NodeFault.{NodeFault};
+    ghost use Rattle.node.specs.declared.NodeFault.TheVariants.{BelowFloor, NoMemory, NotMine};
+
+    /// The node of a model that a load tells of.
+    ///
+    /// NotMine where the parts are not exactly the node's processes, ascending, or where a message is pending for another
+    /// process than its part's; else BelowFloor where a message is pending before the floor.
+    pub fn load<M: Simulated>(alloc: Global, model: &M, load: Load) -> Result<Node, NodeFault>
+        requires node { load.node < load.nodes }
+        requires nodes { load.nodes ≤ 64 }
+        requires end { load.end ≤ 2 ^ 40 }
+        requires parts { Every IsInRange load.parts }
+        ensures loaded { IfOk result (λ node. node ≡ loaded (M.meaning model.now).lps load) }
+        ensures not_mine { (result ≡ Err NotMine) ↔ (IsOwnLoad (M.meaning model.now).lps load → ⊥) }
+        ensures below_floor { (result ≡ Err BelowFloor) ↔ (IsOwnLoad (M.meaning model.now).lps load × (IsLoadFrom load → ⊥)) }
+        ensures failed { IfErr result (λ fault. (fault ≡ NotMine) ⊎ (fault ≡ BelowFloor) ⊎ (fault ≡ NoMemory)) }
+    {
+        let lps = model.lps();
+        let parts = load.parts.as_slice();
+        if !are_own(parts, load.node, load.nodes, lps) || !are_for_own(parts) {
+            return Err(NodeFault::NotMine);
+        }
+        if !are_all_from(load.floor, parts) {
+            return Err(NodeFault::BelowFloor);
+        }
+        let (processes, nexts) = seat_all(alloc, parts, load.end, load.floor)?;
+        Ok(Node {
+            spent: false,
+            roster: Roster {
+                alloc,
+                node: load.node,
+                nodes: load.nodes,
+                lps,
+                end: load.end,
+                floor: load.floor,
+                processes,
+                nexts,
+            },
+        })
+    }
+
+    /// Handles a parcel: all deliveries in their order, then up to its budget of messages, each time the least one of the
+    /// whole node below the end, then it collects what is below the parcel's floor.
+    ///
+    /// Spent where the node is; FloorFell where the parcel's floor is before the node's; else the fault of the first
+    /// delivery that has one: NotMine, or BelowFloor by the floor that the node had before. These leave the node as it
+    /// was. After want of memory, and after NumberLimit, the node is spent.
+    pub fn handle<M: Simulated>(&mut self, model: &M, parcel: Parcel) -> Result<Reply, NodeFault>
+        requires { self.old.spent ≡ false → (M.meaning model.now).lps ≡ self.old.lps }
+        ensures handled { IfOk result (λ reply. IsAnswered (M.meaning model.now) parcel self.old self.new reply) }
+        ensures refused { (fault : NodeFault) → refusal self.old parcel ≡ Some fault → (result ≡ Err fault) × (self.new ≡ self.old) }
+        ensures failed { refusal self.old parcel ≡ None → IfErr result (λ fault. Fails (M.meaning model.now) parcel self.old fault × (self.new.spent ≡ true)) }
+    {
+        if let Some(fault) = self.refusal(&parcel) {
+            return Err(fault);
+        }
+        // Until all is done: want of memory may come halfway.
+        self.spent = true;
+        let reply = self.roster.handle(model, parcel)?;
+        self.spent = false;
+        Ok(reply)
+    }
+
+    // Why the whole parcel is refused, if it is.
+    fn refusal(&self, parcel: &Parcel) -> Option<NodeFault>
+        ensures { result ≡ refusal self.now parcel.now }
+    {
+        if self.spent {
+            Some(NodeFault::Spent)
+        } else if parcel.floor < self.roster.floor {
+            Some(NodeFault::FloorFell)
+        } else {
+            self.roster.first_fault(parcel.deliver.as_slice())
+        }
+    }
+}
+
+/// Whether these are the parts of the node's processes, ascending.
+fn are_own(parts: &[Part], node: u32, nodes: u32, lps: u32) -> bool
+    requires node { node < nodes }
+    requires nodes { nodes ≤ 64 }
+    requires lps { lps ≤ 1024 }
+    ensures { IsTrue result ↔ (map (λ p. p.lp) parts.now ≡ own_lps nodes node lps) }
+{
+    let mut next = node;
+    for part in parts {
+        if part.lp != next {
+            return false;
+        }
+        if next >= lps {
+            return false;
+        }
+        next += nodes;
+    }
+    next >= lps
+}
+
+/// Whether all messages that are pending are for the process of their part.
+fn are_for_own(parts: &[Part]) -> bool
+    ensures { IsTrue result ↔ Every (λ p. Every (λ x. x.to ≡ p.lp) p.pending) parts.now }
+{
+    for part in parts {
+        if !are_for(part.lp, part.pending.as_slice()) {
+            return false;
+        }
+    }
+    true
+}
+
+/// Whether all these messages are for one process.
+fn are_for(lp: u32, pending: &[Message]) -> bool
+    ensures { IsTrue result ↔ Every (λ x. x.to ≡ lp) pending.now }
+{
+    for message in pending {
+        if message.to() != lp {
+            return false;
+        }
+    }
+    true
+}
+
+/// Whether nothing is pending before the floor, in ticks.
+fn are_all_from(floor: u64, parts: &[Part]) -> bool
+    ensures { IsTrue result ↔ Every (λ p. Every (λ x. floor ≤ x.time) p.pending) parts.now }
+{
+    for part in parts {
+        if !are_from(floor, part.pending.as_slice()) {
+            return false;
+        }
+    }
+    true
+}
+
+/// Whether none of these messages is before the floor, in ticks.
+fn are_from(floor: u64, pending: &[Message]) -> bool
+    ensures { IsTrue result ↔ Every (λ x. floor ≤ x.time) pending.now }
+{
+    for message in pending {
+        if message.time() < floor {
+            return false;
+        }
+    }
+    true
+}
+
+/// The processes of these parts, and their next messages before the end.
+fn seat_all(
+    alloc: Global,
+    parts: &[Part],
+    end: u64,
+    floor: u64,
+) -> Result<(Vec<Process>, Tournament), NodeFault>
+    requires few { length parts.now < 2 ^ 32 }
+    requires range { Every IsInRange parts.now }
+    requires own { Every (λ p. Every (λ x. x.to ≡ p.lp) p.pending) parts.now }
+    requires late { Every (λ p. Every (λ x. floor ≤ x.time) p.pending) parts.now }
+    ensures processes { IfOk result (λ seats. seats.0.items ≡ map (seat_of floor) parts.now) }
+    ensures nexts { IfOk result (λ seats. seats.1 ≡ nexts_of end (map (seat_of floor) parts.now)) }
+    ensures memory { IfErr result (λ fault. fault ≡ NoMemory) }
+{
+    let mut processes = Vec::with_capacity(alloc, parts.len())?;
+    let mut nexts = Tournament::new(alloc, parts.len())?;
+    for (place, part) in parts.iter().enumerate() {
+        let process = seated(alloc, part, floor)?;
+        nexts.set(place, process.next(end));
+        processes.push(process)?;
+    }
+    Ok((processes, nexts))
+}
+
+/// The process of a part whose messages are for it, and not before the floor.
+fn seated(alloc: Global, part: &Part, floor: u64) -> Result<Process, NodeFault>
+    requires range { IsInRange part.now }
+    requires own { Every (λ x. x.to ≡ part.now.lp) part.now.pending }
+    requires late { Every (λ x. floor ≤ x.time) part.now.pending }
+    ensures process { IfOk result (λ p. p ≡ seat_of floor part.now) }
+    ensures memory { IfErr result (λ fault. fault ≡ NoMemory) }
+{
+    let words = Words::from_slice(alloc, part.words.words().as_slice())?;
+    let pending = part.pending.as_slice().to_vec(alloc)?;
+    let process = Process::load(alloc, part.lp, words, part.number, pending, floor)?;
+    Ok(process)
+}

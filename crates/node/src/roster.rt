@@ -1,0 +1,207 @@
+// The processes of a node, and which of them has the least message to handle.
+
+ghost use Rattle.std.specs.Prelude.{◌≡◌, ◌≤◌, ◌<◌, ◌+◌, ◌⊎◌, ℕ, Option, Some, None, [], OnOk, IfOk, IfErr, MatchOption, flat_map, map, true, false};
+ghost use Rattle.process.specs.Process.{has_room};
+ghost use Rattle.node.specs.Handling.{Fails, IsAnswered, after, first_fault, is_own};
+ghost use Rattle.node.specs.Node.{deliver_here, deliver_one_here, here, low_of, reply_of, run_here, run_one_here};
+ghost use Rattle.node.specs.Roster.{IsReady, earliest, node_of, place_of, processes_of, work_of};
+ghost use Rattle.node.specs.Tournament.{least_among};
+ghost use Rattle.node.specs.declared.NodeFault.TheVariants.{NoMemory, NumberLimit};
+
+use crate::tournament::Tournament;
+use crate::{NodeFault, Parcel, Reply};
+use eventkey::{Listed, Message, Signed};
+use model::Model as Simulated;
+use process::{Done, Process};
+use std::alloc::Global;
+
+/// The processes of one node, process lp at place lp / nodes, and the tournament of their next messages before the end.
+#[derive(Drop)]
+pub struct Roster {
+    pub alloc: Global,
+    pub node: u32,
+    pub nodes: u32,
+    pub lps: u32,
+    pub end: u64,
+    pub floor: u64,
+    pub processes: Vec<Process>,
+    pub nexts: Tournament,
+}
+
+impl Roster {
+    /// Whether process `lp` is one of the node's.
+    pub fn is_own(&self, lp: u32) -> bool
+        requires { self.now.node < self.now.nodes }
+        ensures { result ≡ is_own (node_of false self.now) lp }
+    {
+        lp % self.nodes == self.node && lp < self.lps
+    }
+
+    /// Why the first delivery at fault is refused, if there is one.
+    pub fn first_fault(&self, deliveries: &[Signed]) -> Option<NodeFault>
+        requires { self.now.node < self.now.nodes }
+        ensures { result ≡ first_fault (node_of false self.now) deliveries.now }
+    {
+        for delivery in deliveries {
+            if !self.is_own(delivery.message.to()) {
+                return Some(NodeFault::NotMine);
+            }
+            if delivery.message.time() < self.floor {
+                return Some(NodeFault::BelowFloor);
+            }
+        }
+        None
+    }
+
+    /// Hands a delivery to its process.
+    pub fn deliver(&mut self, delivery: &Signed, out: &mut Vec<Signed>) -> Result<(), NodeFault>
+        requires ready { IsReady self.old }
+        requires own { is_own (node_of false self.old) delivery.now.message.to ≡ true }
+        requires late { self.old.floor ≤ delivery.now.message.time }
+        ensures ready { OnOk result (IsReady self.new) }
+        ensures place { OnOk result (place_of self.new ≡ place_of self.old) }
+        ensures work { (ran : ℕ) → OnOk result (work_of self.new out.new.items ran ≡ deliver_one_here self.old.nodes delivery.now (work_of self.old out.old.items ran)) }
+        ensures memory { IfErr result (λ fault. fault ≡ NoMemory) }
+    {
+        let place = (delivery.message.to() / self.nodes) as usize;
+        let process = &mut self.processes[place];
+        process.deliver(*delivery, out)?;
+        let next = process.next(self.end);
+        self.nexts.set(place, next);
+        Ok(())
+    }
+
+    /// Hands all deliveries over, in their order.
+    pub fn deliver_all(
+        &mut self,
+        deliveries: &[Signed],
+        out: &mut Vec<Signed>,
+    ) -> Result<(), NodeFault>
+        requires ready { IsReady self.old }
+        requires accepted { first_fault (node_of false self.old) deliveries.now ≡ None }
+        ensures ready { OnOk result (IsReady self.new) }
+        ensures place { OnOk result (place_of self.new ≡ place_of self.old) }
+        ensures work { (ran : ℕ) → OnOk result (work_of self.new out.new.items ran ≡ deliver_here self.old.nodes deliveries.now (work_of self.old out.old.items ran)) }
+        ensures memory { IfErr result (λ fault. fault ≡ NoMemory) }
+    {
+        for delivery in deliveries {
+            self.deliver(delivery, out)?;
+        }
+        Ok(())
+    }
+
+    /// Handles the least message of the node.
+    pub fn run_one<M: Simulated>(
+        &mut self,
+        model: &M,
+        message: &Message,
+        out: &mut Vec<Signed>,
+    ) -> Result<(), NodeFault>
+        requires ready { IsReady self.old }
+        requires lps { (M.meaning model.now).lps ≡ self.old.lps }
+        requires least { least_among self.old.nexts ≡ Some message.now }
+        ensures ready { OnOk result (IsReady self.new) }
+        ensures place { OnOk result (place_of self.new ≡ place_of self.old) }
+        ensures work { (ran : ℕ) → OnOk result (work_of self.new out.new.items (ran + 1) ≡ run_one_here (M.meaning model.now) self.old.nodes message.now (work_of self.old out.old.items ran)) }
+        ensures room { (ran : ℕ) → OnOk result (has_room (M.meaning model.now) message.now (here self.old.nodes (work_of self.old out.old.items ran) message.now.to) ≡ true) }
+        ensures causes { (ran : ℕ) → IfErr result (λ fault. (fault ≡ NoMemory) ⊎ ((fault ≡ NumberLimit) × (has_room (M.meaning model.now) message.now (here self.old.nodes (work_of self.old out.old.items ran) message.now.to) ≡ false))) }
+    {
+        let place = (message.to() / self.nodes) as usize;
+        let process = &mut self.processes[place];
+        process.run_one(model, self.end, out)?;
+        let next = process.next(self.end);
+        self.nexts.set(place, next);
+        Ok(())
+    }
+
+    /// Handles up to so many times the least message of the node, and answers how often it did.
+    pub fn run<M: Simulated>(
+        &mut self,
+        model: &M,
+        budget: u32,
+        out: &mut Vec<Signed>,
+    ) -> Result<u32, NodeFault>
+        requires ready { IsReady self.old }
+        requires lps { (M.meaning model.now).lps ≡ self.old.lps }
+        ensures ready { OnOk result (IsReady self.new) }
+        ensures place { OnOk result (place_of self.new ≡ place_of self.old) }
+        ensures work { IfOk result (λ ran. run_here (M.meaning model.now) self.old.end self.old.nodes budget (work_of self.old out.old.items 0) ≡ Some (work_of self.new out.new.items ran)) }
+        ensures causes { IfErr result (λ fault. (fault ≡ NoMemory) ⊎ ((fault ≡ NumberLimit) × (run_here (M.meaning model.now) self.old.end self.old.nodes budget (work_of self.old out.old.items 0) ≡ None))) }
+    {
+        for ran in 0..budget {
+            let Some(message) = self.nexts.least() else {
+                return Ok(ran);
+            };
+            self.run_one(model, &message, out)?;
+        }
+        Ok(budget)
+    }
+
+    /// Takes what is below the floor, in ticks, out of all processes.
+    pub fn collect(&mut self, floor: u64) -> Result<Vec<Done>, NodeFault>
+        requires ready { IsReady self.old }
+        requires floor { self.old.floor ≤ floor }
+        ensures ready { OnOk result (IsReady self.new) }
+        ensures node { OnOk result (node_of false self.new ≡ after floor (work_of self.old [] 0) (node_of false self.old)) }
+        ensures fossils { IfOk result (λ fossils. fossils.items ≡ (reply_of floor (work_of self.old [] 0)).fossils) }
+        ensures memory { IfErr result (λ fault. fault ≡ NoMemory) }
+    {
+        let mut fossils = Vec::new(self.alloc);
+        for process in self.processes.iter_mut() {
+            let mut gone = process.collect(floor)?;
+            fossils.append(&mut gone)?;
+        }
+        self.floor = floor;
+        Ok(fossils)
+    }
+
+    /// The least time, in ticks, of what waits at the node, antimessages too.
+    pub fn low(&self) -> Option<u64>
+        ensures { result ≡ low_of (processes_of self.now.processes.items) }
+    {
+        let mut low = None;
+        for process in &self.processes {
+            low = earliest(low, process.low());
+        }
+        low
+    }
+
+    /// Handles a parcel: all deliveries in their order, then up to its budget of messages, then it collects what is below
+    /// the parcel's floor.
+    pub fn handle<M: Simulated>(&mut self, model: &M, parcel: Parcel) -> Result<Reply, NodeFault>
+        requires ready { IsReady self.old }
+        requires lps { (M.meaning model.now).lps ≡ self.old.lps }
+        requires accepted { first_fault (node_of false self.old) parcel.deliver ≡ None }
+        requires floor { self.old.floor ≤ parcel.floor }
+        ensures ready { OnOk result (IsReady self.new) }
+        ensures handled { IfOk result (λ reply. IsAnswered (M.meaning model.now) parcel (node_of false self.old) (node_of false self.new) reply) }
+        ensures failed { IfErr result (λ fault. Fails (M.meaning model.now) parcel (node_of false self.old) fault) }
+    {
+        let Parcel {
+            deliver,
+            budget,
+            floor,
+        } = parcel;
+        let mut out = Vec::new(self.alloc);
+        self.deliver_all(deliver.as_slice(), &mut out)?;
+        let ran = self.run(model, budget, &mut out)?;
+        let fossils = self.collect(floor)?;
+        Ok(Reply {
+            out: Listed::from_vec(out),
+            low: self.low(),
+            fossils: Listed::from_vec(fossils),
+            ran,
+        })
+    }
+}
+
+/// The lesser of two times, where each may be missing.
+fn earliest(one: Option<u64>, other: Option<u64>) -> Option<u64>
+    ensures { result ≡ earliest one other }
+{
+    match (one, other) {
+        (Some(x), Some(y)) => Some(x.min(y)),
+        (Some(x), None) => Some(x),
+        (None, rest) => rest,
+    }
+}
