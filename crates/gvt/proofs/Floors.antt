@@ -1,0 +1,103 @@
+-- Least times: of parts, of one more, of all that a ledger keeps.
+use Rattle.std.specs.Prelude.{option_map}
+use Rattle.std.proofs.Common.{ℕ, ◌≡◌, List, [], ◌∷◌, ◌++◌, map, flat_map, min, Option, Some, None, refl, ap, ◌∙◌, sym, arith, ◌<◌, ◌+◌, length, get_or, take}
+use Rattle.std.proofs.lemmas.List.{map-append, take_more}
+use Rattle.std.proofs.lemmas.List.Sums.{fold_more}
+use Rattle.std.specs.List.{fold}
+use Rattle.eventkey.specs.Bag.{least_time}
+use Rattle.eventkey.specs.Message.{Message}
+use Rattle.eventkey.specs.declared.Signed.{Signed}
+use Rattle.gvt.specs.Accounts.{low_posted, lows_in, parcel_at, parcels_in, with_node, floors_in}
+use Rattle.gvt.specs.Ledger.{delivered_by, ledger_floor, least_floor, least_low}
+use Rattle.gvt.specs.Times.{lesser_low, low_in}
+use Rattle.gvt.specs.declared.account.Account.{Account}
+use Rattle.gvt.specs.declared.account.Posted.{Posted}
+
+abbrev messages : List Signed → List Message
+messages ss = map (λ (s : Signed). s.message) ss
+
+least_time-append : (t : ℕ) (xs ys : List Message) → least_time t (xs ++ ys) ≡ least_time (least_time t xs) ys
+least_time-append t [] ys = refl
+least_time-append t (x ∷ xs) ys = least_time-append (min t x.time) xs ys
+
+least_time-min : (t a : ℕ) (xs : List Message) → least_time (min t a) xs ≡ min (least_time t xs) a
+least_time-min t a [] = refl
+least_time-min t a (x ∷ xs) =
+    let swap : min (min t a) x.time ≡ min (min t x.time) a = omega arith in
+    ap (λ n. least_time n xs) swap ∙ least_time-min (min t x.time) a xs
+
+-- of some times together it is the lesser of a time and of their own least
+pub least_time_by_low : (t : ℕ) (ss : List Signed) → least_time t (messages ss) ≡ least_low t (low_in ss ∷ [])
+least_time_by_low t [] = refl
+least_time_by_low t (s ∷ ss) =
+    let swap : min t s.message.time ≡ min s.message.time t = omega arith in
+    ap (λ n. least_time n (messages ss)) swap ∙ (least_time-min s.message.time t (messages ss) ∙ omega arith)
+
+lesser_low-some : (a : ℕ) (b : Option ℕ) → lesser_low (Some a) b ≡ Some (least_low a (b ∷ []))
+lesser_low-some a None = refl
+lesser_low-some a (Some b) = refl
+
+pub low_in-append : (ss ts : List Signed) → low_in (ss ++ ts) ≡ lesser_low (low_in ss) (low_in ts)
+low_in-append [] ts = refl
+low_in-append (s ∷ ss) ts =
+    let all = least_time-append s.message.time (messages ss) (messages ts) in
+    ap Some (ap (least_time s.message.time) (map-append (λ (s : Signed). s.message) ss ts)
+    ∙ (all ∙ least_time_by_low (least_time s.message.time (messages ss)) ts))
+    ∙ sym (lesser_low-some (least_time s.message.time (messages ss)) (low_in ts))
+
+low_posted_is : (t : ℕ) (account : Account) → least_low t (low_posted account.posted ∷ []) ≡ least_time t (messages (delivered_by (parcel_at account)))
+low_posted_is t account = elim account.posted as (λ p. least_low t (low_posted p ∷ []) ≡ least_time t (messages (delivered_by (option_map (λ (posted : Posted). posted.parcel.value) p)))) [
+  | None ↦ refl
+  | Some posted ↦ ap (λ low. least_low t (low ∷ [])) posted.least_is ∙ sym (least_time_by_low t posted.parcel.value.deliver)
+]
+
+low_last : (t : ℕ) (low : Option ℕ) (lows : List (Option ℕ)) (xs ys : List Message) →
+    least_low (least_time (least_time (least_low t (low ∷ [])) xs) ys) lows ≡ least_low (least_time (least_time t xs) ys) (low ∷ lows)
+low_last t None lows xs ys = refl
+low_last t (Some low) lows xs ys =
+    ap (λ n. least_low n lows) (ap (λ n. least_time n ys) (least_time-min t low xs) ∙ least_time-min (least_time t xs) low ys)
+
+nodes_floor : (t : ℕ) (accounts : List Account) →
+    fold with_node t accounts ≡ least_low (least_time t (messages (flat_map delivered_by (parcels_in accounts)))) (lows_in accounts)
+nodes_floor t [] = refl
+nodes_floor t (account ∷ accounts) =
+    let here = messages (delivered_by (parcel_at account)) in
+    let rest = messages (flat_map delivered_by (parcels_in accounts)) in
+    let lows = lows_in accounts in
+    let told = least_low t (account.low ∷ []) in
+    nodes_floor (with_node t account) accounts
+    ∙ (ap (λ n. least_low (least_time n rest) lows) (low_posted_is told account)
+    ∙ (low_last t account.low lows here rest
+    ∙ ap (λ n. least_low n (account.low ∷ lows)) (sym (
+    ap (least_time t) (map-append (λ (s : Signed). s.message) (delivered_by (parcel_at account)) (flat_map delivered_by (parcels_in accounts)))
+    ∙ least_time-append t here rest))))
+
+-- The floor is found from what is kept
+pub floor_is : (end : ℕ) (transit : List Signed) (accounts : List Account) →
+    fold with_node (least_low end (low_in transit ∷ [])) accounts ≡ ledger_floor end transit (parcels_in accounts) (lows_in accounts)
+floor_is end transit accounts =
+    let posted = flat_map delivered_by (parcels_in accounts) in
+    let lows = lows_in accounts in
+    ap (λ n. fold with_node n accounts) (sym (least_time_by_low end transit))
+    ∙ (nodes_floor (least_time end (messages transit)) accounts
+    ∙ ap (λ n. least_low n lows) (sym (ap (least_time end) (map-append (λ (s : Signed). s.message) transit posted) ∙ least_time-append end (messages transit) (messages posted))))
+
+-- The floor of one node more
+pub floor_more : (t : ℕ) (accounts : List Account) (i : ℕ) (account : Account) (floor floor' : ℕ) → i < length accounts → account ≡ get_or accounts i account →
+    floor ≡ fold with_node t (take i accounts) → floor' ≡ with_node floor account → floor' ≡ fold with_node t (take (i + 1) accounts)
+floor_more t accounts i account floor floor' within at so_far next =
+    next ∙ (ap (λ n. with_node n account) so_far ∙ (ap (with_node (fold with_node t (take i accounts))) at ∙ sym (fold_more with_node t accounts i account within)))
+
+least_floor-push : (t : ℕ) (fs : List ℕ) (f : ℕ) → least_floor t (fs ++ f ∷ []) ≡ min (least_floor t fs) f
+least_floor-push t [] f = refl
+least_floor-push t (g ∷ fs) f = least_floor-push (min t g) fs f
+
+-- the least floor answered by one node more
+pub least_answered_more : (t : ℕ) (accounts : List Account) (i : ℕ) (account : Account) (least least' : ℕ) → i < length accounts → account ≡ get_or accounts i account →
+    least ≡ least_floor t (floors_in (take i accounts)) → least' ≡ min least account.answered → least' ≡ least_floor t (floors_in (take (i + 1) accounts))
+least_answered_more t accounts i account least least' within at so_far next =
+    let more : floors_in (take (i + 1) accounts) ≡ floors_in (take i accounts) ++ account.answered ∷ [] =
+    ap floors_in (take_more accounts i account within)
+    ∙ (map-append (λ (a : Account). a.answered) (take i accounts) (get_or accounts i account ∷ [])
+    ∙ ap (λ (a : Account). floors_in (take i accounts) ++ a.answered ∷ []) (sym at)) in
+    next ∙ (ap (λ n. min n account.answered) so_far ∙ sym (ap (least_floor t) more ∙ least_floor-push t (floors_in (take i accounts)) account.answered))

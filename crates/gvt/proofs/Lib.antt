@@ -1,0 +1,4 @@
+pub mod Floors
+pub mod Marks
+pub mod Openings
+pub mod Picking

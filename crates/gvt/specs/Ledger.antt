@@ -1,0 +1,76 @@
+-- The ledger of a running system: what travels, what the nodes told last, and the floor that follows (global virtual time: Jefferson 1985, Fujimoto 1990).
+use Rattle.std.specs.Prelude.{ℕ, List, [], ◌∷◌, min, Option, Some, None, ◌++◌, map, flat_map, Bool, is_some, get_or, set, length, ◌&&◌, replicate}
+use Rattle.eventkey.specs.Bag.{least_time}
+use Rattle.eventkey.specs.declared.Signed.{Signed}
+use Rattle.node.specs.declared.Parcel.{Parcel}
+use Rattle.node.specs.declared.Reply.{Reply}
+use Rattle.gvt.specs.Picks.{are_distinct, can_pick, not_picked, picked}
+
+-- the least of a time and of the lows that nodes told
+abbrev pub least_low : ℕ → List (Option ℕ) → ℕ
+least_low t [] = t
+least_low t (None ∷ lows) = least_low t lows
+least_low t (Some low ∷ lows) = least_low (min t low) lows
+
+-- what an outstanding parcel delivers; nothing where none is outstanding
+abbrev pub delivered_by : Option Parcel → List Signed
+delivered_by None = []
+delivered_by (Some parcel) = parcel.deliver
+
+-- the floor: the least of the end, the times in transit, the times in outstanding parcels and the last lows of the nodes
+abbrev pub ledger_floor : ℕ → List Signed → List (Option Parcel) → List (Option ℕ) → ℕ
+ledger_floor end transit parcels lows = least_low (least_time end (map (λ (s : Signed). s.message) (transit ++ flat_map delivered_by parcels))) lows
+
+-- the least of a time and of the floors that the nodes have answered
+abbrev pub least_floor : ℕ → List ℕ → ℕ
+least_floor t [] = t
+least_floor t (f ∷ fs) = least_floor (min t f) fs
+
+-- A ledger; its last three lists have one entry a node (this project's profile)
+pub record Ledger : Type 0 where
+  pub end : ℕ
+  pub transit : List Signed
+  pub parcels : List (Option Parcel)  -- the outstanding ones
+  pub lows : List (Option ℕ)  -- as each node told last
+  pub floors : List ℕ  -- of the parcel that each node answered last
+
+abbrev pub floor_of : Ledger → ℕ
+floor_of ledger = ledger_floor ledger.end ledger.transit ledger.parcels ledger.lows
+
+abbrev pub nodes_of : Ledger → ℕ
+nodes_of ledger = length ledger.floors
+
+-- the parcel that the node has not answered yet
+abbrev pub outstanding : Ledger → ℕ → Option Parcel
+outstanding ledger node = get_or ledger.parcels node None
+
+abbrev pub is_busy : Ledger → ℕ → Bool
+is_busy ledger node = is_some (outstanding ledger node)
+
+-- the picks are places of transit, no two the same, and each has a message for the node
+abbrev pub may_pick : Ledger → ℕ → List ℕ → Bool
+may_pick ledger node picks = can_pick (nodes_of ledger) node ledger.transit picks && are_distinct picks
+
+-- the ledger before anything travels
+abbrev pub started : ℕ → ℕ → ℕ → List (Option ℕ) → Ledger
+started nodes end floor lows = record { end = end; transit = []; parcels = replicate nodes None; lows = lows; floors = replicate nodes floor }
+
+-- the parcel of these picks, with the floor that holds before it is posted
+abbrev pub parcel_of : Ledger → List ℕ → ℕ → Parcel
+parcel_of ledger picks budget = record { deliver = picked ledger.transit picks; budget = budget; floor = floor_of ledger }
+
+-- the ledger after the node is posted that parcel
+abbrev pub after_post : Ledger → ℕ → List ℕ → ℕ → Ledger
+after_post ledger node picks budget = record ledger {
+  transit = not_picked picks 0 ledger.transit;
+  parcels = set ledger.parcels node (Some (parcel_of ledger picks budget));
+}
+
+-- the ledger after the node answers this parcel with this reply
+abbrev pub after_take : Ledger → ℕ → Parcel → Reply → Ledger
+after_take ledger node parcel reply = record ledger {
+  transit = ledger.transit ++ reply.out;
+  parcels = set ledger.parcels node None;
+  lows = set ledger.lows node reply.low;
+  floors = set ledger.floors node parcel.floor;
+}

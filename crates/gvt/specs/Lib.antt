@@ -1,0 +1,5 @@
+pub mod Ledger
+pub mod Picks
+pub mod Times
+pub mod Marks
+pub mod Accounts

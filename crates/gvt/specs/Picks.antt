@@ -1,0 +1,31 @@
+-- Picks: places in transit whose messages a node is posted.
+use Rattle.std.specs.Prelude.{ℕ, Bool, false, List, [], ◌∷◌, nat_eq, ◌||◌, true, ◌&&◌, not, map, get_or, ◌+◌, if◌then◌else◌, length, nat_lt}
+use Rattle.eventkey.specs.Signed.{plus}
+use Rattle.eventkey.specs.declared.Signed.{Signed}
+use Rattle.node.specs.Node.{sits_on}
+
+-- Post: the picked messages of transit become the parcel of a node that has none
+abbrev pub has : ℕ → List ℕ → Bool
+has i [] = false
+has i (k ∷ ks) = nat_eq i k || has i ks
+
+abbrev pub are_distinct : List ℕ → Bool
+are_distinct [] = true
+are_distinct (i ∷ is) = not (has i is) && are_distinct is
+
+-- the message that a pick not in transit would name
+abbrev pub nothing : Signed
+nothing = plus (record { time = 0; from = 0; number = 0; to = 0; a = 0; b = 0 })
+
+abbrev pub picked : List Signed → List ℕ → List Signed
+picked transit picks = map (λ (i : ℕ). get_or transit i nothing) picks
+
+-- the messages at no picked place, of those from place i on
+abbrev pub not_picked : List ℕ → ℕ → List Signed → List Signed
+not_picked picks i [] = []
+not_picked picks i (s ∷ ss) = if has i picks then not_picked picks (i + 1) ss else s ∷ not_picked picks (i + 1) ss
+
+-- each pick is a place of transit and names a message for the node
+abbrev pub can_pick : ℕ → ℕ → List Signed → List ℕ → Bool
+can_pick nodes node transit [] = true
+can_pick nodes node transit (i ∷ is) = (nat_lt i (length transit) && sits_on nodes node (get_or transit i nothing).message.to) && can_pick nodes node transit is

@@ -1,0 +1,214 @@
+//! The ledger of a running simulation: what travels between its nodes, and the floor below which no rollback goes
+//! (global virtual time: Jefferson 1985, Fujimoto 1990).
+#![tactic(auto)]
+
+ghost use Rattle.std.specs.Prelude.{◌≡◌, ◌<◌, ◌≤◌, ◌↔◌, ℕ, true, false, length, IfOk, OnOk, OnErr, IsErrOf, IsTrue, Some, None, get_or};
+ghost use Rattle.node.specs.declared.Parcel.{Parcel};
+ghost use Rattle.gvt.specs.Ledger.{Ledger, after_post, after_take, floor_of, is_busy, least_floor, may_pick, nodes_of, outstanding, parcel_of, started};
+ghost use Rattle.gvt.specs.declared.LedgerFault.TheVariants.{NoMemory};
+
+mod account;
+mod accounts;
+mod times;
+mod transit;
+
+use account::Account;
+use accounts::{note_answered, note_posted, opened};
+use eventkey::{Listed, Signed};
+use node::{Parcel, Reply};
+use std::alloc::{AllocError, AllocFailed, Global};
+use std::marker::Model;
+use thiserror::Error;
+use times::lowered;
+use transit::Transit;
+
+/// Why the ledger refuses a call.
+#[derive(Clone, Copy, Debug, PartialEq, Eq, Error)]
+pub enum LedgerFault {
+    /// A parcel is outstanding at the node.
+    #[error("Busy")]
+    Busy,
+    /// No parcel is outstanding at the node.
+    #[error("Idle")]
+    Idle,
+    /// No node has this number.
+    #[error("NoSuchNode")]
+    NoSuchNode,
+    /// A pick is no place of transit, or has a message for another node, or names the same place as another pick.
+    #[error("NoSuchPick")]
+    NoSuchPick,
+    /// Memory was refused.
+    #[error("NoMemory")]
+    NoMemory,
+}
+
+impl From<AllocError> for LedgerFault {
+    ghost from_gives = { λ _ e. e ≡ NoMemory };
+
+    fn from(_error: AllocError) -> LedgerFault {
+        LedgerFault::NoMemory
+    }
+}
+
+impl<T: Drop> From<AllocFailed<T>> for LedgerFault {
+    ghost from_gives = { λ _ e. e ≡ NoMemory };
+
+    fn from(_error: AllocFailed<T>) -> LedgerFault {
+        LedgerFault::NoMemory
+    }
+}
+
+/// What travels between the nodes, what each node told last, and the floor that follows from both.
+///
+/// Contracts see it as the record of its end, its transit, and for each node its outstanding parcel, its last low and
+/// the floor of the parcel that it answered last.
+#[derive(Drop)]
+pub struct Ledger {
+    end: u64,
+    nodes: u32,
+    transit: Transit,
+    accounts: Vec<Account>,
+}
+
+impl Model for Ledger {
+    ghost use Rattle.std.specs.Prelude.{◌≡◌, length};
+    ghost use Rattle.gvt.specs.Ledger.{Ledger};
+
+    ghost Value = { Ledger };
+
+    ghost use Rattle.gvt.specs.Accounts.{floors_in, lows_in, parcels_in};
+
+    ghost view = { λ l. record { end = l.end; transit = l.transit; parcels = parcels_in l.accounts.items; lows = lows_in l.accounts.items; floors = floors_in l.accounts.items } };
+
+    ghost invariant = { λ l. length l.accounts.items ≡ l.nodes };
+}
+
+impl Ledger {
+    /// A ledger of so many nodes, over which nothing travels yet.
+    ///
+    /// No time counts past `end`, in ticks. Each node starts with `floor` as the floor that it answered last, in ticks,
+    /// and with its entry of `lows`: the least time, in ticks, of what waits at it, none where nothing does.
+    /// It is refused for memory alone.
+    pub fn new(
+        alloc: Global,
+        nodes: u32,
+        end: u64,
+        floor: u64,
+        lows: &[Option<u64>],
+    ) -> Result<Ledger, LedgerFault>
+        requires { length lows.now ≡ nodes }
+        ensures ok { IfOk result (λ ledger. ledger ≡ started nodes end floor lows.now) }
+        ensures err { OnErr result (IsErrOf result LedgerFault.NoMemory) }
+    {
+        Ok(Ledger {
+            end,
+            nodes,
+            transit: Transit::new(alloc),
+            accounts: opened(alloc, floor, lows)?,
+        })
+    }
+
+    /// What travels and is in no parcel, by place. It takes no memory.
+    pub fn transit(&self) -> &[Signed]
+        ensures { result.now ≡ self.now.transit }
+    {
+        self.transit.as_slice()
+    }
+
+    /// Whether a parcel is outstanding at the node, which is there. It takes no memory.
+    pub fn busy(&self, node: u32) -> bool
+        requires { node < nodes_of self.now }
+        ensures { result ≡ is_busy self.now node }
+    {
+        self.accounts[node as usize].is_busy()
+    }
+
+    /// The floor, in ticks: the least of the end, the times in transit, the times in outstanding parcels and the lows
+    /// that the nodes told last. It takes no memory, and its cost is that of one pass over the nodes.
+    pub fn floor(&self) -> u64
+        ensures { result ≡ floor_of self.now }
+    {
+        let mut floor = lowered(self.end, self.transit.least());
+        for account in &self.accounts {
+            floor = account.lowers(floor);
+        }
+        floor
+    }
+
+    /// The least of the end and of the floors of the parcels that the nodes answered last, in ticks. It takes no memory.
+    pub fn least_answered(&self) -> u64
+        ensures { result ≡ least_floor self.now.end self.now.floors }
+    {
+        let mut least = self.end;
+        for account in &self.accounts {
+            least = least.min(account.answered);
+        }
+        least
+    }
+
+    /// Takes the messages at these places of transit out of it, as the parcel that the node is to handle, with at most
+    /// `budget` messages to be handled and the floor that held before.
+    ///
+    /// The parcel has them in the order of the picks, and the others keep their order. It is refused, in this order,
+    /// where no node has this number, where a parcel is outstanding there, where a pick is no place of transit, has a
+    /// message for another node or comes twice, and where memory is refused; then nothing changes. Its cost is that of
+    /// one pass over the picks, one over transit and one over the nodes.
+    pub fn post(&mut self, node: u32, picks: &[u32], budget: u32) -> Result<Parcel, LedgerFault>
+        ensures parcel { IfOk result (λ parcel. parcel ≡ parcel_of self.old picks.now budget) }
+        ensures posted { OnOk result (self.new ≡ after_post self.old node picks.now budget) }
+        ensures no_such_node { IsErrOf result LedgerFault.NoSuchNode ↔ (nodes_of self.old ≤ node) }
+        ensures busy { IsErrOf result LedgerFault.Busy ↔ ((node < nodes_of self.old) × IsTrue (is_busy self.old node)) }
+        ensures no_such_pick { IsErrOf result LedgerFault.NoSuchPick ↔ ((node < nodes_of self.old) × (is_busy self.old node ≡ false) × (may_pick self.old node picks.now ≡ false)) }
+        ensures no_memory { IsErrOf result LedgerFault.NoMemory → (node < nodes_of self.old) × (is_busy self.old node ≡ false) × IsTrue (may_pick self.old node picks.now) }
+        ensures idle { IsErrOf result LedgerFault.Idle → ⊥ }
+        ensures err { OnErr result (self.new ≡ self.old) }
+    {
+        if node >= self.nodes {
+            return Err(LedgerFault::NoSuchNode);
+        }
+        if self.accounts[node as usize].is_busy() {
+            return Err(LedgerFault::Busy);
+        }
+        let floor = self.floor();
+        let deliver = self.transit.pick(self.nodes, node, picks)?;
+        let parcel = Parcel {
+            deliver: Listed::from_vec(deliver),
+            budget,
+            floor,
+        };
+        note_posted(self.accounts.as_mut_slice(), node as usize, &parcel);
+        Ok(parcel)
+    }
+
+    /// Notes the node's reply to its outstanding parcel: what it sent joins transit's end, and its low and the floor of
+    /// that parcel are the last ones.
+    ///
+    /// It is refused, in this order, where no node has this number, where no parcel is outstanding there, and where
+    /// memory is refused; then nothing changes.
+    pub fn take(&mut self, node: u32, reply: &Reply) -> Result<(), LedgerFault>
+        ensures ok { (parcel : Parcel) → outstanding self.old node ≡ Some parcel → OnOk result (self.new ≡ after_take self.old node parcel reply.now) }
+        ensures no_such_node { IsErrOf result LedgerFault.NoSuchNode ↔ (nodes_of self.old ≤ node) }
+        ensures idle { IsErrOf result LedgerFault.Idle ↔ ((node < nodes_of self.old) × (is_busy self.old node ≡ false)) }
+        ensures no_memory { IsErrOf result LedgerFault.NoMemory → (node < nodes_of self.old) × IsTrue (is_busy self.old node) }
+        ensures others { (IsErrOf result LedgerFault.Busy → ⊥) × (IsErrOf result LedgerFault.NoSuchPick → ⊥) }
+        ensures err { OnErr result (self.new ≡ self.old) }
+    {
+        if node >= self.nodes {
+            return Err(LedgerFault::NoSuchNode);
+        }
+        let Some(answered) = self.accounts[node as usize].posted_floor() else {
+            return Err(LedgerFault::Idle);
+        };
+        self.transit.append(reply.out.as_slice())?;
+        note_answered(
+            self.accounts.as_mut_slice(),
+            node as usize,
+            reply.low,
+            answered,
+        );
+        Ok(())
+    }
+}
+
+#[cfg(test)]
+mod tests;

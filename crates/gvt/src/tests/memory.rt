@@ -1,0 +1,46 @@
+use super::*;
+
+// What is refused memory once leaves the ledger as it was, and the same call works then. With ample memory each call works at
+// once; `rt try --test --fail-alloc N` refuses the allocation of each number in turn.
+
+fn made(alloc: Global, lows: [Option<u64>; 2]) -> Result<Ledger, LedgerFault> {
+    match two_nodes(alloc, 0, lows) {
+        Err(LedgerFault::NoMemory) => two_nodes(alloc, 0, lows),
+        other => other,
+    }
+}
+
+fn posted(ledger: &mut Ledger, node: u32, picks: &[u32]) -> Result<Parcel, LedgerFault> {
+    let (count, floor) = (ledger.transit().len(), ledger.floor());
+    match post(ledger, node, picks) {
+        Err(LedgerFault::NoMemory) if ledger.transit().len() == count && ledger.floor() == floor =>
+            { post(ledger, node, picks) }
+        other => other,
+    }
+}
+
+fn taken(alloc: Global, ledger: &mut Ledger, node: u32, out: &[Signed]) -> Result<(), LedgerFault> {
+    let (count, floor) = (ledger.transit().len(), ledger.floor());
+    match take(alloc, ledger, node, out, None) {
+        Err(LedgerFault::NoMemory) if ledger.transit().len() == count && ledger.floor() == floor =>
+            { take(alloc, ledger, node, out, None) }
+        other => other,
+    }
+}
+
+#[test]
+fn a_call_that_was_refused_memory_works_the_next_time(rt: HostRuntime) -> Result<(), Fail> {
+    let mut ledger = made(rt.alloc(), [Some(6), Some(8)])?;
+    let sent = [plus(4, 0, 1)?, plus(5, 1, 1)?];
+    let _parcel = posted(&mut ledger, 0, &[])?;
+    taken(rt.alloc(), &mut ledger, 0, &sent)?;
+    let parcel = posted(&mut ledger, 1, &[1])?;
+    assert_eq!(rt;
+        (parcel.deliver.as_slice().len(), ledger.transit().len()),
+        (1, 1)
+    );
+    let more = [plus(4, 0, 1)?; 20];
+    taken(rt.alloc(), &mut ledger, 1, &more)?;
+    assert_eq!(rt; (ledger.transit().len(), ledger.floor()), (21, 4));
+    Ok(())
+}

@@ -1,0 +1,74 @@
+use super::*;
+
+// Posts as a plain list has them: the picked ones by place, and those at no picked place.
+fn picked_plainly(
+    alloc: Global,
+    transit: &mut Vec<Signed>,
+    picks: &[u32],
+) -> Result<Vec<Signed>, AllocError> {
+    let mut deliver = Vec::new(alloc);
+    for pick in picks {
+        if let Some(one) = transit.get(*pick as usize) {
+            deliver.push(*one)?;
+        }
+    }
+    let mut left = Vec::new(alloc);
+    for (place, one) in transit.iter().enumerate() {
+        if !picks.iter().any(|pick| *pick as usize == place) {
+            left.push(*one)?;
+        }
+    }
+    *transit = left;
+    Ok(deliver)
+}
+
+// Three of four messages for the node, the last first.
+fn chosen_for(alloc: Global, transit: &[Signed], node: u32) -> Result<Vec<u32>, Fail> {
+    let mut picks = Vec::new(alloc);
+    for (place, one) in transit.iter().enumerate() {
+        if one.message.to() % 3 == node && place % 4 != 1 {
+            picks.push(u32::try_from(place)?)?;
+        }
+    }
+    picks.reverse();
+    Ok(picks)
+}
+
+// Whether one post and its reply, which sends half of it on, leave what a plain list has.
+fn posts_as_a_list(
+    alloc: Global,
+    ledger: &mut Ledger,
+    transit: &mut Vec<Signed>,
+    node: u32,
+) -> Result<bool, Fail> {
+    let picks = chosen_for(alloc, transit.as_slice(), node)?;
+    let parcel = post(ledger, node, picks.as_slice())?;
+    let deliver = picked_plainly(alloc, transit, picks.as_slice())?;
+    let posted = parcel.deliver.as_slice() == deliver.as_slice()
+        && ledger.transit() == transit.as_slice();
+    let out = deliver.as_slice();
+    let out = &out[..out.len() / 2];
+    take(alloc, ledger, node, out, None)?;
+    transit.extend_from_slice(out)?;
+    let least = transit.iter().map(|one| one.message.time()).min();
+    Ok(posted && ledger.transit() == transit.as_slice() && ledger.floor() == least.unwrap_or(5000))
+}
+
+#[test]
+fn a_long_transit_is_posted_as_a_plain_list_would(rt: HostRuntime) -> Result<(), Fail> {
+    let alloc = rt.alloc();
+    let mut ledger = Ledger::new(alloc, 3, 5000, 0, &[None, None, None])?;
+    let mut transit = Vec::new(alloc);
+    for i in 0..600u32 {
+        transit.push(plus(u64::from(i % 97), u64::from(i), i % 7)?)?;
+    }
+    sends(alloc, &mut ledger, 0, transit.as_slice(), None)?;
+    for turn in 0..30u32 {
+        assert!(rt;
+            posts_as_a_list(alloc, &mut ledger, &mut transit, turn % 3)?,
+            "at {turn}"
+        );
+    }
+    assert!(rt; transit.len() < 300);
+    Ok(())
+}

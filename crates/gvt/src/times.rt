@@ -1,0 +1,39 @@
+// Least times, in ticks.
+
+ghost use Rattle.std.specs.Prelude.{◌≡◌, ◌∷◌, []};
+ghost use Rattle.gvt.specs.Ledger.{least_low};
+ghost use Rattle.gvt.specs.Times.{lesser_low, low_in};
+
+use eventkey::Signed;
+
+/// The lesser of two times; an absent one is no bound.
+pub(crate) fn lesser(first: Option<u64>, second: Option<u64>) -> Option<u64>
+    ensures { result ≡ lesser_low first second }
+{
+    match (first, second) {
+        (None, _) => second,
+        (_, None) => first,
+        (Some(one), Some(other)) => Some(one.min(other)),
+    }
+}
+
+/// A time, or the low where that is less.
+pub(crate) fn lowered(time: u64, low: Option<u64>) -> u64
+    ensures { result ≡ least_low time (low ∷ []) }
+{
+    match low {
+        Some(low) => time.min(low),
+        None => time,
+    }
+}
+
+/// The least time of these messages and antimessages, if there are any.
+pub(crate) fn least_of(signed: &[Signed]) -> Option<u64>
+    ensures { result ≡ low_in signed.now }
+{
+    let mut least = None;
+    for one in signed {
+        least = lesser(least, Some(one.message.time()));
+    }
+    least
+}

@@ -1,0 +1,185 @@
+// The messages in transit, by place.
+
+ghost use Rattle.std.specs.Prelude.{◌≡◌, ◌++◌, ◌<◌, ◌≤◌, ◌↔◌, ℕ, [], length, take, get_or, replicate, false, ◌&&◌, OnOk, OnErr, IfOk, IfErr, IsErrOf, ◌⊎◌, IsTrue, slice_index, not};
+ghost use Rattle.eventkey.specs.declared.Signed.{Signed};
+ghost use Rattle.gvt.specs.Marks.{unmarked};
+ghost use Rattle.gvt.specs.Picks.{are_distinct, can_pick, not_picked, picked};
+ghost use Rattle.gvt.specs.Times.{low_in};
+
+use crate::LedgerFault;
+use crate::times::{least_of, lesser};
+use eventkey::Signed;
+use std::alloc::{AllocError, Global};
+use std::marker::Model;
+
+/// The messages that travel and are in no parcel, each at its place.
+#[derive(Drop)]
+pub(crate) struct Transit {
+    messages: Vec<Signed>,
+    /// One for each place; set only while places are picked.
+    marks: Vec<bool>,
+    /// The least time of the messages, in ticks.
+    least: Option<u64>,
+}
+
+impl Model for Transit {
+    ghost use Rattle.std.specs.Prelude.{◌≡◌, List, length, replicate, false};
+    ghost use Rattle.eventkey.specs.declared.Signed.{Signed};
+    ghost use Rattle.gvt.specs.Times.{low_in};
+
+    ghost Value = { List Signed };
+
+    ghost view = { λ t. t.messages.items };
+
+    ghost invariant = { λ t. (t.marks.items ≡ replicate (length t.messages.items) false) × (t.least ≡ low_in t.messages.items) };
+}
+
+impl Transit {
+    /// Nothing travels. It takes no memory.
+    pub(crate) fn new(alloc: Global) -> Transit
+        ensures { result ≡ [] }
+    {
+        Transit {
+            messages: Vec::new(alloc),
+            marks: Vec::new(alloc),
+            least: None,
+        }
+    }
+
+    /// The messages by place.
+    pub(crate) fn as_slice(&self) -> &[Signed]
+        ensures { result.now ≡ self.now }
+    {
+        self.messages.as_slice()
+    }
+
+    /// The least time of the messages, in ticks, if there are any.
+    pub(crate) fn least(&self) -> Option<u64>
+        ensures { result ≡ low_in self.now }
+    {
+        self.least
+    }
+
+    /// Puts these messages at the end.
+    pub(crate) fn append(&mut self, sent: &[Signed]) -> Result<(), AllocError>
+        ensures ok { OnOk result (self.new ≡ self.old ++ sent.now) }
+        ensures err { OnErr result (self.new ≡ self.old) }
+    {
+        self.marks.reserve(sent.len())?;
+        self.messages.extend_from_slice(sent)?;
+        self.marks.resize(self.messages.len(), false).unwrap();
+        self.least = lesser(self.least, least_of(sent));
+        Ok(())
+    }
+
+    /// Takes out the messages at these places, in the order of the picks; the others keep their order.
+    ///
+    /// Its cost is that of one pass over the picks and one over what is in transit.
+    pub(crate) fn pick(
+        &mut self,
+        nodes: u32,
+        node: u32,
+        picks: &[u32],
+    ) -> Result<Vec<Signed>, LedgerFault>
+        requires { 0 < nodes }
+        ensures taken { IfOk result (λ v. v.items ≡ picked self.old picks.now) }
+        ensures left { OnOk result (self.new ≡ not_picked picks.now 0 self.old) }
+        ensures no_such_pick { IsErrOf result LedgerFault.NoSuchPick ↔ ((can_pick nodes node self.old picks.now && are_distinct picks.now) ≡ false) }
+        ensures faults { IfErr result (λ fault. (fault ≡ LedgerFault.NoSuchPick) ⊎ (fault ≡ LedgerFault.NoMemory)) }
+        ensures err { OnErr result (self.new ≡ self.old) }
+    {
+        let picked = chosen(
+            *self.messages.allocator(),
+            self.messages.as_slice(),
+            self.marks.as_mut_slice(),
+            nodes,
+            node,
+            picks,
+        );
+        if picked.is_ok() {
+            drop_marked(&mut self.messages, &mut self.marks);
+            self.least = least_of(self.messages.as_slice());
+        }
+        self.marks.as_mut_slice().fill(false);
+        picked
+    }
+}
+
+/// Marks the picked places, as far as each has a message for the node and is picked once. Whether all are so.
+fn mark(messages: &[Signed], marks: &mut [bool], nodes: u32, node: u32, picks: &[u32]) -> bool
+    requires some { 0 < nodes }
+    requires clear { marks.old ≡ replicate (length messages.now) false }
+    ensures good { result ≡ (can_pick nodes node messages.now picks.now && are_distinct picks.now) }
+    ensures marked { IsTrue result → unmarked marks.new messages.now ≡ not_picked picks.now 0 messages.now }
+{
+    for pick in picks {
+        let place = *pick as usize;
+        if place >= messages.len() || marks[place] || messages[place].message.to() % nodes != node {
+            return false;
+        }
+        marks[place] = true;
+    }
+    true
+}
+
+/// The messages at these places, in the order of the picks; then just the places are marked.
+fn chosen(
+    alloc: Global,
+    messages: &[Signed],
+    marks: &mut [bool],
+    nodes: u32,
+    node: u32,
+    picks: &[u32],
+) -> Result<Vec<Signed>, LedgerFault>
+    requires some { 0 < nodes }
+    requires clear { marks.old ≡ replicate (length messages.now) false }
+    ensures taken { IfOk result (λ v. v.items ≡ picked messages.now picks.now) }
+    ensures marked { OnOk result (unmarked marks.new messages.now ≡ not_picked picks.now 0 messages.now) }
+    ensures no_such_pick { IsErrOf result LedgerFault.NoSuchPick ↔ ((can_pick nodes node messages.now picks.now && are_distinct picks.now) ≡ false) }
+    ensures faults { IfErr result (λ fault. (fault ≡ LedgerFault.NoSuchPick) ⊎ (fault ≡ LedgerFault.NoMemory)) }
+{
+    if !mark(messages, marks, nodes, node, picks) {
+        return Err(LedgerFault::NoSuchPick);
+    }
+    copied(alloc, messages, picks)
+}
+
+/// The messages at these places, in the order of the picks.
+fn copied(alloc: Global, messages: &[Signed], picks: &[u32]) -> Result<Vec<Signed>, LedgerFault>
+    requires { (k : ℕ) → k < length picks.now → slice_index picks.now k < length messages.now }
+    ensures ok { IfOk result (λ v. v.items ≡ picked messages.now picks.now) }
+    ensures err { IfErr result (λ fault. fault ≡ LedgerFault.NoMemory) }
+{
+    let mut picked = Vec::with_capacity(alloc, picks.len())?;
+    for pick in picks {
+        picked.push(messages[*pick as usize])?;
+    }
+    Ok(picked)
+}
+
+/// Moves the messages with no mark to the front, in their order. Their number.
+fn keep_unmarked(messages: &mut [Signed], marks: &[bool]) -> usize
+    requires { length marks.now ≡ length messages.old }
+    ensures within { result ≤ length messages.old }
+    ensures kept { take result messages.new ≡ unmarked marks.now messages.old }
+{
+    let mut kept = 0;
+    for (place, marked) in marks.iter().enumerate() {
+        if !*marked {
+            messages[kept] = messages[place];
+            kept += 1;
+        }
+    }
+    kept
+}
+
+/// Takes out the messages with a mark; the others keep their order, and as many marks are left.
+fn drop_marked(messages: &mut Vec<Signed>, marks: &mut Vec<bool>)
+    requires { length marks.old.items ≡ length messages.old.items }
+    ensures left { messages.new.items ≡ unmarked marks.old.items messages.old.items }
+    ensures as_many { length marks.new.items ≡ length messages.new.items }
+{
+    let kept = keep_unmarked(messages.as_mut_slice(), marks.as_slice());
+    messages.truncate(kept);
+    marks.truncate(kept);
+}
