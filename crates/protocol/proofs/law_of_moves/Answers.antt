@@ -1,0 +1,9 @@
+use Rattle.protocol.proofs.Runs.{moves_are_sound}
+use Rattle.protocol.proofs.Refusals.{made_or_refused}
+use Rattle.protocol.proofs.law_of_moves.Goals as goal
+
+pub returns-clause-sound : goal.returns-clause-sound
+returns-clause-sound c = moves_are_sound
+
+pub returns-clause-made : goal.returns-clause-made
+returns-clause-made c = made_or_refused

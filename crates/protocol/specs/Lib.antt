@@ -1,0 +1,4 @@
+pub mod Picture
+pub mod Moves
+pub mod Sound
+pub mod Laws
