@@ -1,0 +1,11 @@
+pub mod Headers
+pub mod Bodies
+pub mod Steps
+pub mod Replays
+pub mod Prefixes
+pub mod Standing
+pub mod Causes
+pub mod Filled
+pub mod Replaying
+pub mod Logs
+mod Examples

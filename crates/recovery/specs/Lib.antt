@@ -1,0 +1,9 @@
+pub mod Header
+pub mod Bodies
+pub mod Replay
+pub mod Stands
+pub mod Causes
+pub mod Laws
+pub mod Front
+pub mod Recovered
+pub mod Ring
