@@ -1,0 +1,86 @@
+// Reading the command line.
+
+ghost use Rattle.std.specs.Prelude.{◌≡◌, map, false, true, IfOk};
+ghost use Rattle.clap.specs.Words.{app_of, fault_of, FailsBy};
+ghost use Rattle.clap.specs.declared.builder.command.Command.TheViews.{out-Command as fields_of};
+ghost use Rattle.timewarp.specs.Line.{program, seq_command, Says};
+
+use clap::{Arg, Command, Error};
+use std::alloc::{AllocError, Global};
+use std::convert::AsStr;
+
+/// What a command line asks for.
+#[derive(Clone, Copy, Debug, PartialEq, Eq)]
+pub enum Line<'a> {
+    /// Run a model by the plain runner.
+    Seq {
+        /// The path of the model file.
+        model: &'a str,
+    },
+}
+
+/// The command that a line's words name, and its values. The first word is the program's own name.
+///
+/// Where there is none, the answer is `clap`'s error: its text tells the user what is wrong, or is the help that was
+/// asked for. `clap` also answers by an error where memory runs out.
+pub fn read_line<'a, S: AsStr>(alloc: Global, words: &'a [S]) -> Result<Line<'a>, Error>
+    ensures ok { IfOk result (Says (map S.text words.entry.now)) }
+    ensures refused { FailsBy (fault_of program (map S.text words.entry.now)) result }
+{
+    let matches = program(alloc)?.try_get_matches_from(words)?;
+    match matches.subcommand() {
+        Some((_, seq)) => Ok(Line::Seq {
+            model: seq.get_str("MODEL").unwrap_or(""),
+        }),
+        None => unreachable!(),
+    }
+}
+
+/// All commands.
+fn program<'a>(alloc: Global) -> Result<Command<'a>, AllocError>
+    ensures app { IfOk result (λ c. app_of c ≡ program) }
+    ensures plain { IfOk result (λ c. (fields_of c).has_globals ≡ false) }
+    ensures required { IfOk result (λ c. (fields_of c).subcommand_required ≡ true) }
+{
+    Command::new(alloc, "timewarp")
+        .about(
+            "Simulates logical processes that send one another messages stamped with virtual times",
+        )
+        .after_help(
+            "Virtual times are whole ticks. Models are described by TOML files, as models/ring.toml.",
+        )
+        .subcommand_required(true)
+        .arg_required_else_help(true)
+        .disable_help_subcommand(true)
+        .subcommand(seq(alloc)?)
+}
+
+/// The command `seq`.
+fn seq<'a>(alloc: Global) -> Result<Command<'a>, AllocError>
+    ensures app { IfOk result (λ c. app_of c ≡ seq_command) }
+    ensures plain { IfOk result (λ c. (fields_of c).has_globals ≡ false) }
+{
+    let model = Arg::new(alloc, "MODEL").required(true).help(
+        "The model file: TOML with exactly the keys of its model (see below)",
+    );
+    Command::new(alloc, "seq")
+        .about(
+            "Runs a model to its end, one event at a time, and prints its log and its final world",
+        )
+        .after_help(MODEL_HELP)
+        .arg(model)
+}
+
+const MODEL_HELP: &str = "\
+A token ring has these keys:
+  model = \"ring\"
+  lps     processes, 1 to 1024
+  end     ticks at which the run ends, 1 to 1099511627776
+  hold    ticks for which a process holds a token, 1 to 4294967295
+  tokens  1 to 8 times lps
+
+Output, all numbers decimal:
+  TIME FROM NUMBER TO A B          each event that was handled
+  virtual time TIME                ticks
+  lp LP sent NUMBER state WORDS    each process
+  pending TIME FROM NUMBER TO A B  each message that is not handled";
