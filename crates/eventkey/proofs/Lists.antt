@@ -1,5 +1,5 @@
 -- Lists: what holds of every element, ascending lists, signed messages.
-use Rattle.std.proofs.Common.{ℕ, zero, suc, ◌+◌, ◌<◌, List, [], ◌∷◌, ◌++◌, map, flat_map, arith, length, set, get_or, sym, subst, inl, inr, ◌≡◌, true, ◌≤◌, refl, ap, ◌∙◌, Option, Some, None, filter, Bool, ◌==◌, eqb-true, replicate, ◌-◌}
+use Rattle.std.proofs.Common.{ℕ, zero, suc, ◌+◌, ◌<◌, List, [], ◌∷◌, ◌++◌, map, flat_map, arith, length, set, get_or, sym, subst, inl, inr, ◌≡◌, true, ◌≤◌, refl, ap, ◌∙◌, Option, Some, None, filter, Bool, ◌==◌, eqb-true, replicate}
 use Rattle.std.proofs.lemmas.Bool.{cases_Bool, cond_both, both_ways}
 use Rattle.std.proofs.lemmas.Option.{none-some, same_Some}
 use Rattle.std.specs.List.{AllByRecursion as Every}

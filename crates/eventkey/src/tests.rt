@@ -54,6 +54,13 @@ fn refuses_in_order(rt: HostRuntime) {
     assert_eq!(rt; get_signed(&[2; 40]), Err(KeyFault::Short));
     assert_eq!(rt; get_signed(&[2; 41]), Err(KeyFault::BadSign));
     assert_eq!(rt; get_signed(&[1; 41]), Err(KeyFault::TimeTooLarge));
+    assert_eq!(rt; get_message(&[255; 39]), Err(KeyFault::Short));
+    assert_eq!(rt; get_message(&[255; 40]), Err(KeyFault::TimeTooLarge));
+    let mut early = [0; 41];
+    early[0] = 2;
+    assert_eq!(rt; get_signed(&early), Err(KeyFault::BadSign));
+    early[0] = 1;
+    assert!(rt; get_signed(&early).is_ok());
 }
 
 #[test]
@@ -176,5 +183,50 @@ fn lists_hold_their_items(rt: HostRuntime) -> Result<(), Fail> {
     let list = Listed::from_vec(items);
     assert_eq!(rt; list.as_slice(), [1, 2].as_slice());
     assert_eq!(rt; list.into_vec().as_slice(), [1, 2].as_slice());
+    Ok(())
+}
+
+#[test]
+fn a_refused_append_changes_nothing(rt: HostRuntime) -> Result<(), Fail> {
+    let message = Message::new(3, 0, 1, 1, 0, 1)?;
+    let mut bytes = Vec::new(rt.alloc());
+    if append_message(&mut bytes, &message).is_err() {
+        assert_eq!(rt; bytes.len(), 0);
+        append_message(&mut bytes, &message)?;
+    }
+    assert_eq!(rt; bytes.as_slice(), SPELLED.as_slice());
+    let sign = Sign::Minus;
+    if append_signed(&mut bytes, &Signed { sign, message }).is_err() {
+        assert_eq!(rt; bytes.as_slice(), SPELLED.as_slice());
+        append_signed(&mut bytes, &Signed { sign, message })?;
+    }
+    assert_eq!(rt; bytes.len(), 81);
+    assert_eq!(rt; bytes[40], 1);
+    assert_eq!(rt; bytes[41..], SPELLED[..]);
+    Ok(())
+}
+
+#[test]
+fn reads_a_list_again_after_want_of_memory(rt: HostRuntime) -> Result<(), Fail> {
+    let messages = match read_messages(rt.alloc(), 1, &SPELLED) {
+        Err(_) => read_messages(rt.alloc(), 1, &SPELLED)?,
+        Ok(messages) => messages,
+    };
+    let Some((messages, rest)) = messages else {
+        return Err(Fail::new("a message stands there"));
+    };
+    assert_eq!(rt; messages.as_slice(), [get_message(&SPELLED)?].as_slice());
+    assert_eq!(rt; rest.len(), 0);
+    Ok(())
+}
+
+#[test]
+fn tells_its_faults(rt: HostRuntime) -> Result<(), Fail> {
+    let text = format!(in rt.alloc(); "{}", KeyFault::Short)?;
+    assert_eq!(rt; text.as_str(), "Short");
+    let text = format!(in rt.alloc(); "{}", KeyFault::TimeTooLarge)?;
+    assert_eq!(rt; text.as_str(), "TimeTooLarge");
+    let text = format!(in rt.alloc(); "{}", KeyFault::BadSign)?;
+    assert_eq!(rt; text.as_str(), "BadSign");
     Ok(())
 }

@@ -1,4 +1,4 @@
-use Rattle.std.proofs.Common.{refl, ap, ◌∙◌}
+use Rattle.std.proofs.Common.{refl}
 use Rattle.eventkey.proofs.Written.{begins, put_field, all_written}
 use Rattle.byteorder.specs.Endian.{big_bytes}
 use Rattle.eventkey.specs.Spelling.{message_bytes}
