@@ -1,20 +1,20 @@
 -- The opening world, one step and runs of steps, in the values that the code has.
-use Rattle.std.specs.Prelude.{nat_lt, nat_le, Result, Ok, Err, IsErr, ◌↔◌}
-use Rattle.std.proofs.Common.{◌≡◌, ℕ, zero, suc, ◌+◌, ◌-◌, ◌*◌, ◌^◌, ◌<◌, ◌≤◌, Bool, true, false, if◌then◌else◌, List, [], ◌∷◌, ◌++◌, length, drop, map, flat_map, set, get_or, Option, Some, None, refl, sym, ap, subst, ◌∙◌, append-nil, arith, inl, inr, lit<, length-set}
-use Rattle.std.proofs.lemmas.Bool.{cases_lt, false≢true, ltb-true, ltb-false, and_parts, leb-true}
+use Rattle.std.specs.Prelude.{nat_lt, nat_le, Result, Ok, IsErr, ◌↔◌}
+use Rattle.std.proofs.Common.{◌≡◌, ℕ, zero, suc, ◌+◌, ◌-◌, ◌*◌, ◌^◌, ◌<◌, ◌≤◌, Bool, true, false, if◌then◌else◌, List, [], ◌∷◌, ◌++◌, length, drop, map, flat_map, set, get_or, Option, Some, None, refl, sym, ap, subst, ◌∙◌, append-nil, arith, lit<}
+use Rattle.std.proofs.lemmas.Bool.{false≢true, ltb-true, ltb-false, and_parts, leb-true}
 use Rattle.std.specs.List.{AllByRecursion as Every, slice_get}
 use Rattle.std.proofs.Math.Nat.{one-le-pow, pow-le-pow_right, pow-succ', mul-le-mul_right, add-mul, one-mul}
 use Rattle.std.proofs.lemmas.List.{map-append, length-map}
 use Rattle.std.proofs.lemmas.List.Concat.{flat_map-append}
 use Rattle.std.proofs.lemmas.List.Elements.{at_read}
 use Rattle.eventkey.proofs.Bags.{time_from_at_most}
-use Rattle.eventkey.proofs.Lists.{Every-get_or, Every-map, Every-set, Every-weaker, get_or-map}
+use Rattle.eventkey.proofs.Lists.{Every-set, Every-weaker, get_or-map}
 use Rattle.eventkey.specs.Bag.{IsAscending, add, add_all}
-use Rattle.eventkey.specs.Message.{IsAtMost, Message, IsRanged, is_before}
+use Rattle.eventkey.specs.Message.{IsAtMost, Message, is_before}
 use Rattle.model.specs.Inside.{IsSimulation}
-use Rattle.model.specs.Meaning.{IsAddressed, IsLawful, IsSend, IsWords, Meaning, stamp, stamped}
-use Rattle.model.specs.Runner.{Handles, IsIdle, IsLimited, IsRun, RunsTo, Simulation, is_due}
-use Rattle.model.specs.World.{IsWorld, Reaches, World, at_time, below, can_handle, handled, number_of, opening, state_of, step}
+use Rattle.model.specs.Meaning.{IsAddressed, IsLawful, IsSend, Meaning, stamp, stamped}
+use Rattle.model.specs.Runner.{Handles, IsIdle, IsLimited, IsRun, Simulation, is_due}
+use Rattle.model.specs.World.{IsWorld, Reaches, World, below, handled, number_of, opening, state_of, step}
 use Rattle.model.specs.declared.Outgoing.{Outgoing}
 use Rattle.model.specs.declared.WorldFault.{WorldFault}
 use Rattle.model.proofs.Steps.{opening_IsReached, step_made}

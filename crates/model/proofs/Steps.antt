@@ -1,17 +1,17 @@
 -- What steps of the sequential simulation keep of the log and the numbers, and that they lead from one world up to some time to each later one.
 use Rattle.std.specs.Prelude.{nat_lt, nat_le}
-use Rattle.std.proofs.Common.{◌≡◌, ℕ, zero, suc, ◌+◌, ◌-◌, ◌^◌, ◌<◌, ◌≤◌, max, true, false, List, [], ◌∷◌, ◌++◌, length, Option, Some, None, refl, sym, ap, ap₂, subst, ◌∙◌, append-nil, arith, inl, inr}
+use Rattle.std.proofs.Common.{◌≡◌, ℕ, zero, suc, ◌+◌, ◌-◌, ◌^◌, ◌<◌, ◌≤◌, max, true, List, [], ◌∷◌, ◌++◌, length, Some, None, refl, sym, ap, subst, ◌∙◌, arith}
 use Rattle.std.specs.List.{AllByRecursion as Every}
-use Rattle.std.proofs.lemmas.Bool.{and_from, and_parts, cond-false, cond-true, leb-true, ltb-true, lt-ltb, le-leb, le-ltb}
+use Rattle.std.proofs.lemmas.Bool.{and_from, and_parts, cond-true, leb-true, ltb-true, lt-ltb, le-leb}
 use Rattle.eventkey.specs.Bag.{IsAscending}
 use Rattle.eventkey.specs.Message.{IsAtMost, Message}
-use Rattle.eventkey.proofs.Bags.{at_most_from_before, at_most_trans, earlier_before, time_from_at_most}
+use Rattle.eventkey.proofs.Bags.{at_most_from_before, at_most_trans, earlier_before}
 use Rattle.eventkey.proofs.Lists.{Every-add_all, Every-all, Every-append, Every-map, Every-set, Every-weaker, IsAllAtMost, IsAscending-append}
 use Rattle.model.specs.Meaning.{IsAddressed, IsLawful, Meaning, stamp}
-use Rattle.model.specs.Runner.{IsIdle, IsReached, IsRun, RunsTo}
+use Rattle.model.specs.Runner.{IsIdle, IsReached}
 use Rattle.model.specs.Sequential.{EachWorldIsReached, OpeningIsUpto, RunsAreUpto, UptoIsReachedFrom}
 use Rattle.model.specs.World.{IsUpto, IsWorld, Reaches, World, at_time, below, can_handle, handled, number_of, opening, state_of, step, step_from}
-use Rattle.model.proofs.Worlds.{Every-below, Reaches-append, fewer_steps, handled_IsWorld, log_goes_on, opening_IsWorld, same_steps, stamp_later, step_is, words_at}
+use Rattle.model.proofs.Worlds.{Every-below, Reaches-append, fewer_steps, handled_IsWorld, opening_IsWorld, same_steps, stamp_later, step_is, words_at}
 
 -- 1. The log ascends, and what is in it is at most what is pending
 

@@ -1,6 +1,6 @@
 -- What a contract sees of a `World`.
 use Rattle.std.specs.List.{AllByRecursion as Every}
-use Rattle.std.specs.Prelude.{ℕ, ◌≤◌, ◌^◌, map, length}
+use Rattle.std.specs.Prelude.{◌≤◌, ◌^◌, map, length}
 use Rattle.model.specs.Runner.{Simulation}
 use Rattle.model.specs.World.{IsWorld}
 use Rattle.model.specs.declared.runner.World.TheInside.{Inside}

@@ -3,7 +3,7 @@ use Rattle.std.specs.List.{AllByRecursion as Every}
 use Rattle.std.specs.Prelude.{◌≡◌, ℕ, List, [], ◌∷◌, ◌++◌, ◌+◌, ◌^◌, ◌<◌, ◌≤◌, length, max, Some, Bool, false, nat_lt}
 use Rattle.eventkey.specs.Bag.{IsAscending}
 use Rattle.eventkey.specs.Message.{IsAtMost, Message}
-use Rattle.model.specs.Meaning.{IsAddressed, IsWords, Meaning}
+use Rattle.model.specs.Meaning.{IsAddressed, Meaning}
 use Rattle.model.specs.World.{IsWorld, Reaches, World, at_time, number_of, state_of, step}
 
 -- a world, and the time at which its simulation ends

@@ -1,9 +1,9 @@
 // A token ring, run by the plain runner.
 
-ghost use Rattle.std.specs.Prelude.{◌≡◌, ◌≤◌, ◌<◌, ◌^◌, ℕ, length};
+ghost use Rattle.std.specs.Prelude.{◌≡◌, ◌≤◌, ◌<◌, ◌^◌, ℕ, length, IfOk};
 ghost use Rattle.model.specs.Ring.{ring_meaning, ring_lawful};
 
-use crate::{Model as Simulated, Outgoing, Sends, State, Words, World, ranged, stamp};
+use crate::{Model as Simulated, Outgoing, Sends, State, Words, World, WorldFault, ranged, stamp};
 use eventkey::Message;
 use smallvec::SmallVec;
 use std::alloc::Global;
@@ -135,6 +135,112 @@ fn steps_one_by_one(rt: HostRuntime) -> Result<(), Fail> {
     Ok(())
 }
 
+// All there is of a ring of three processes with one token: the time, how many messages were handled,
+// the send numbers, the counts, and the time and the receiver of the token.
+fn told(world: &World) -> [u64; 10] {
+    let (time, receiver) = token(world);
+    [
+        world.time(),
+        world.log().len() as u64,
+        number_at(world, 0),
+        number_at(world, 1),
+        number_at(world, 2),
+        count_at(world, 0),
+        count_at(world, 1),
+        count_at(world, 2),
+        time,
+        receiver,
+    ]
+}
+
+fn token(world: &World) -> (u64, u64) {
+    match world.least() {
+        Some(x) => (x.time(), u64::from(x.to())),
+        None => (0, 99),
+    }
+}
+
+fn number_at(world: &World, lp: usize) -> u64 {
+    world.numbers().get(lp).copied().unwrap_or(99)
+}
+
+fn count_at(world: &World, lp: usize) -> u64 {
+    match world.states().get(lp) {
+        Some(words) => words.as_slice().first().copied().unwrap_or(99),
+        None => 99,
+    }
+}
+
+/// What is told of that ring at its opening and after each step, as long as its time is 0.
+const TOLD: [[u64; 10]; 6] = [
+    [0, 0, 1, 0, 0, 0, 0, 0, 1, 0],
+    [0, 1, 2, 0, 0, 1, 0, 0, 3, 1],
+    [0, 2, 2, 1, 0, 1, 1, 0, 5, 2],
+    [0, 3, 2, 1, 1, 1, 1, 1, 7, 0],
+    [0, 4, 3, 1, 1, 2, 1, 1, 9, 1],
+    [0, 5, 3, 2, 1, 2, 2, 1, 11, 2],
+];
+
+// The opening world of a ring of three processes that hold the token two ticks, asked for again
+// where memory is refused.
+fn opened(alloc: Global) -> Result<World, Fail>
+    ensures { IfOk result (λ w. length w.world.states ≡ 3) }
+{
+    let ring = Ring { lps: 3, hold: 2 };
+    if let Ok(world) = World::open(alloc, &ring, 10) {
+        return Ok(world);
+    }
+    let world = World::open(alloc, &ring, 10)?;
+    Ok(world)
+}
+
+// The message that one step handles, asked for again where memory is refused, and what is told then.
+fn stepped_at_last(world: &mut World, ring: &Ring) -> Result<([u64; 6], [u64; 10]), Fail>
+    requires { length world.old.world.states ≡ ring.now.lps }
+    ensures { length world.new.world.states ≡ length world.old.world.states }
+{
+    let before = told(world);
+    let handled = match world.step(ring) {
+        Ok(Some(x)) => fields(&x),
+        Ok(None) => return Err(Fail::new("nothing is pending")),
+        Err(_) => {
+            if told(world) != before {
+                return Err(Fail::new("a refused step changed the world"));
+            }
+            stepped(world, ring)?
+        }
+    };
+    Ok((handled, told(world)))
+}
+
+#[test]
+fn a_refused_step_changes_nothing(rt: HostRuntime) -> Result<(), Fail> {
+    let ring = Ring { lps: 3, hold: 2 };
+    let mut world = opened(rt.alloc())?;
+    assert_eq!(rt; told(&world), TOLD[0]);
+    assert_eq!(rt; stepped_at_last(&mut world, &ring)?, (LOGGED[0], TOLD[1]));
+    assert_eq!(rt; stepped_at_last(&mut world, &ring)?, (LOGGED[1], TOLD[2]));
+    assert_eq!(rt; stepped_at_last(&mut world, &ring)?, (LOGGED[2], TOLD[3]));
+    assert_eq!(rt; stepped_at_last(&mut world, &ring)?, (LOGGED[3], TOLD[4]));
+    assert_eq!(rt; stepped_at_last(&mut world, &ring)?, (LOGGED[4], TOLD[5]));
+    Ok(())
+}
+
+#[test]
+fn a_refused_run_keeps_whole_steps(rt: HostRuntime) -> Result<(), Fail> {
+    let ring = Ring { lps: 3, hold: 2 };
+    let mut world = opened(rt.alloc())?;
+    if let Err(fault) = world.run_to(&ring, 10) {
+        assert_eq!(rt; fault, WorldFault::NoMemory);
+        let steps = world.log().len().min(5);
+        assert_eq!(rt; told(&world), TOLD[steps]);
+        world.run_to(&ring, 10)?;
+    }
+    assert_eq!(rt; world.time(), 10);
+    assert_eq!(rt; told(&world)[1..], TOLD[5][1..]);
+    Ok(())
+}
+
 #[test]
 fn is_taken_apart(rt: HostRuntime) -> Result<(), Fail> {
     let ring = Ring { lps: 3, hold: 2 };
@@ -184,5 +290,14 @@ fn holds_sixteen_words(rt: HostRuntime) -> Result<(), Fail> {
     let state = State::from_words(words);
     assert_eq!(rt; state.words().as_slice().len(), 16);
     assert_eq!(rt; state.into_words().as_slice()[15], 15);
+    Ok(())
+}
+
+#[test]
+fn tells_its_faults(rt: HostRuntime) -> Result<(), Fail> {
+    let text = format!(in rt.alloc(); "{}", WorldFault::NoMemory)?;
+    assert_eq!(rt; text.as_str(), "NoMemory");
+    let text = format!(in rt.alloc(); "{}", WorldFault::NumberLimit)?;
+    assert_eq!(rt; text.as_str(), "NumberLimit");
     Ok(())
 }
