@@ -1,10 +1,9 @@
 -- What an arrival keeps of a queue, and where its messages go.
-use Rattle.std.proofs.Common.{◌≡◌, ℕ, ◌+◌, false, true, List, [], ◌∷◌, refl, ap, arith, length, ◌≤◌, ◌++◌, ◌∙◌}
+use Rattle.std.proofs.Common.{◌≡◌, ℕ, ◌+◌, false, true, [], ◌∷◌, refl, ap, arith, ◌++◌}
 use Rattle.std.proofs.lemmas.Bool.{cond_both, ltb-true}
 use Rattle.std.specs.List.{AllByRecursion as Every}
-use Rattle.std.specs.Prelude.{nat_lt}
 use Rattle.eventkey.proofs.Bags.{IsAscending-add, IsAscending-add_all, IsAscending-remove_one, at_most_from_before, copies-add, copies-add_all, copies-append, copies-remove_one}
-use Rattle.eventkey.proofs.Lists.{Every-add, Every-add_all, Every-left, Every-remove_one, Every-right, Every-weaker, IsAllAtMost, IsAscending-across, IsAscending-left, IsAscending-right}
+use Rattle.eventkey.proofs.Lists.{Every-add, Every-add_all, Every-left, Every-remove_one, Every-right, Every-weaker, IsAllAtMost, IsAscending-across, IsAscending-left}
 use Rattle.eventkey.specs.Bag.{IsAscending, add, copies, is_among, one_if_same, remove_one}
 use Rattle.eventkey.specs.Message.{IsAtMost, Message, is_before}
 use Rattle.eventkey.specs.Signed.{minus, of_sign, plus}
@@ -12,7 +11,7 @@ use Rattle.eventkey.specs.declared.Sign.{Sign}
 use Rattle.eventkey.specs.declared.Sign.TheVariants.{Minus, Plus}
 use Rattle.eventkey.specs.declared.Signed.{Signed}
 use Rattle.queues.proofs.Places.{before_after, but_last-last_of, last_of_none, those_after, those_from}
-use Rattle.queues.specs.Queue.{IsInOrder, Queue, after, arrived, back, but_last, last_of, settle, wait_again}
+use Rattle.queues.specs.Queue.{Queue, after, arrived, back, but_last, last_of, settle, wait_again}
 
 -- 1. What an arrival keeps
 

@@ -1,18 +1,17 @@
 -- The least message of a bag, and the least time of two.
-use Rattle.std.proofs.Common.{◌≡◌, ℕ, ◌+◌, ◌-◌, ◌<◌, ◌≤◌, List, [], ◌∷◌, ◌++◌, Option, Some, None, true, false, refl, ap, sym, ◌∙◌, arith, length, reverse, get_or, take, drop, min, subst, zero, suc, inl, inr}
+use Rattle.std.proofs.Common.{◌≡◌, ℕ, ◌+◌, ◌-◌, ◌<◌, ◌≤◌, List, [], ◌∷◌, ◌++◌, Some, None, true, false, refl, ap, sym, ◌∙◌, arith, length, reverse, get_or, take, drop, min, subst, zero, suc, inl, inr}
 use Rattle.std.proofs.lemmas.Bool.{cases_Bool, cond_both, le-leb, lt-leb, lt-ltb, ltb-true, ltb-false}
 use Rattle.std.proofs.lemmas.List.{get_or_at, length-append, reverse-append, reverse-reverse, take_at, append-nil}
 use Rattle.std.proofs.lemmas.Option.{slice_get-get_or, same_Some, none-some}
 use Rattle.std.specs.List.{AllByRecursion as Every, AllWithin, slice_get}
-use Rattle.std.specs.Prelude.{filter, nat_le, nat_lt, option_map}
-use Rattle.eventkey.proofs.Bags.{Every-from_members, copies-append, one_if_same_cases, same_from_at_most, time_from_at_most, copies-remove_one-le}
+use Rattle.std.specs.Prelude.{filter, nat_le, nat_lt}
+use Rattle.eventkey.proofs.Bags.{copies-append, time_from_at_most}
 use Rattle.eventkey.proofs.Lists.{Every-append, Every-filter, Every-weaker, IsAscending-append, IsAscending-filter, IsAllAtMost}
-use Rattle.eventkey.proofs.Times.{least_time-le}
 use Rattle.eventkey.specs.Bag.{IsAscending, copies, least_time, one_if_same, remove_one}
-use Rattle.eventkey.specs.Message.{IsAtMost, Message, is_before}
+use Rattle.eventkey.specs.Message.{IsAtMost, Message}
 use Rattle.queues.proofs.Halves.{ascending_at}
 use Rattle.queues.proofs.Moves.{remove_first, same_queue}
-use Rattle.queues.specs.Queue.{IsApart, IsInOrder, Queue, first_before, first_time, released, taken}
+use Rattle.queues.specs.Queue.{IsInOrder, Queue, first_before, first_time, released, taken}
 
 -- 1. The last of a bag that is kept greatest first
 

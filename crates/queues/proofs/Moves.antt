@@ -1,19 +1,18 @@
 -- The lists as the code leaves them are the lists after an arrival.
-use Rattle.std.proofs.Common.{◌≡◌, ℕ, ◌+◌, ◌-◌, ◌<◌, ◌≤◌, List, [], ◌∷◌, ◌++◌, true, false, refl, ap, ap₂, sym, ◌∙◌, arith, length, take, drop, get_or}
+use Rattle.std.proofs.Common.{◌≡◌, ℕ, ◌+◌, ◌-◌, ◌<◌, List, [], ◌∷◌, ◌++◌, true, false, refl, ap, sym, ◌∙◌, arith, length, take, get_or}
 use Rattle.std.proofs.lemmas.Bool.{ltb-true}
 use Rattle.std.proofs.lemmas.List.{append_assoc, length-append, length-drop, take_at, take_more}
 use Rattle.std.specs.List.{AllByRecursion as Every}
 use Rattle.eventkey.proofs.Bags.{IsAscending-add_all, copies-add_all, copies-append, same_ascending, is_same_itself}
 use Rattle.eventkey.proofs.Lists.{Every-weaker, Every-right, IsAllAtMost, IsAscending-append, IsAscending-right}
 use Rattle.eventkey.specs.Bag.{IsAscending, add, add_all, copies, is_among, remove_one}
-use Rattle.eventkey.specs.Message.{IsAtMost, Message, is_before}
+use Rattle.eventkey.specs.Message.{IsAtMost, Message}
 use Rattle.eventkey.specs.Signed.{minus, plus}
 use Rattle.queues.proofs.Halves.{last_kept}
-use Rattle.queues.proofs.Places.{after-le, but_last-last_of}
+use Rattle.queues.proofs.Places.{but_last-last_of}
 use Rattle.queues.proofs.Queues.{queues_arrive_by_cases}
 use Rattle.queues.proofs.Undone.{but_last-append, last_of-append, but_last-take, last_of-drop}
 use Rattle.queues.specs.Queue.{IsInOrder, Queue, after, arrival, arrived, but_last, last_of}
-use Rattle.queues.specs.declared.Arrival.{Arrival}
 use Rattle.queues.specs.declared.Arrival.TheVariants.{Annihilated, Queued, Waits}
 
 -- what is undone goes before all that waits

@@ -1,7 +1,7 @@
 -- The first and the last messages of an ascending list.
-use Rattle.std.proofs.Common.{◌≡◌, ℕ, ◌+◌, List, [], ◌∷◌, ◌++◌, map, refl, ap, inl, inr, length, suc, ◌≤◌, arith, true, ◌⊎◌, false, ◌∙◌, ◌<◌, subst}
+use Rattle.std.proofs.Common.{◌≡◌, ℕ, ◌+◌, List, [], ◌∷◌, ◌++◌, map, refl, ap, inl, inr, length, suc, ◌≤◌, arith, true, ◌⊎◌, false, ◌∙◌, ◌<◌, subst, sym}
 use Rattle.std.proofs.lemmas.Bool.{cases_Bool, cond_both, ltb-false, ltb-true, both_ways, cases_lt}
-use Rattle.std.proofs.lemmas.List.{length-map}
+use Rattle.std.proofs.lemmas.List.{append-nil, length-map}
 use Rattle.std.specs.List.{AllByRecursion as Every}
 use Rattle.std.specs.Prelude.{nat_lt}
 use Rattle.eventkey.proofs.Bags.{at_most_from_before, at_most_itself, is_before_itself, none_from_Every, one_if_same_cases}
@@ -24,6 +24,9 @@ module _ {X : Type 0} where
   pub last_of_none : (xs : List X) → last_of 0 xs ≡ []
   last_of_none [] = refl
   last_of_none (x ∷ xs) = cond_both (nat_lt (length xs) 0) (x ∷ xs) (last_of 0 xs) (λ ys. ys ≡ []) (λ e. absurd (omega (arith, ltb-true (length xs) 0 e))) (λ _. last_of_none xs)
+
+  pub but_last_none : (xs : List X) → but_last 0 xs ≡ xs
+  but_last_none xs = sym (append-nil (but_last 0 xs)) ∙ (ap (λ (ys : List X). but_last 0 xs ++ ys) (sym (last_of_none xs)) ∙ but_last-last_of 0 xs)
 
 module _ {X Y : Type 0} (f : X → Y) where
   pub map-but_last : (n : ℕ) (xs : List X) → map f (but_last n xs) ≡ but_last n (map f xs)

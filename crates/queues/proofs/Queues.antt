@@ -13,7 +13,7 @@ use Rattle.queues.proofs.Arrivals.{IsQueue, arrived_copies, arrived_kept}
 use Rattle.queues.proofs.Halves.{last_kept}
 use Rattle.queues.proofs.Places.{after-le, but_last-last_of, last_of_none, those_from}
 use Rattle.queues.specs.declared.Arrival.TheVariants.{Annihilated, Queued, Waits}
-use Rattle.queues.specs.Queue.{ArrivalsTellBack, IsApart, IsInOrder, Queue, QueuesArriveByCases, QueuesCount, QueuesStayApart, QueuesStayInOrder, after, arrival, arrived, back, back_of, but_last, last_of, settle, wait_again}
+use Rattle.queues.specs.Queue.{ArrivalsTellBack, IsApart, Queue, QueuesArriveByCases, QueuesCount, QueuesStayApart, QueuesStayInOrder, after, arrival, arrived, back, back_of, but_last, last_of, settle, wait_again}
 
 but_last_none : (xs : List Message) → but_last 0 xs ≡ xs
 but_last_none [] = refl

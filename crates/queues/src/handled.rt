@@ -79,6 +79,10 @@ impl History {
         ensures unchanged { OnErr result (self.new ≡ self.old) }
     {
         let count = count_before(self.records.as_slice(), floor);
+        if count == 0 {
+            // The others would be moved for nothing.
+            return self.take_back(0);
+        }
         let kept = self.records.split_off(count)?;
         Ok(mem::replace(&mut self.records, kept))
     }

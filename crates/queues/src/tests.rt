@@ -27,21 +27,28 @@ fn lens(queue: &InputQueue) -> (usize, usize, usize) {
     (queue.done_len(), queue.waiting_len(), queue.antis_len())
 }
 
+/// The least message that waits, and the least time.
+fn least(queue: &InputQueue) -> (Option<Message>, Option<u64>) {
+    (queue.next(u64::MAX), queue.low())
+}
+
 fn arrive(rt: &impl Abort, queue: &mut InputQueue, signed: Signed) -> Result<Arrival, Fail> {
-    let before = lens(queue);
+    let (before, first) = (lens(queue), least(queue));
     if let Ok(arrival) = queue.arrive(signed) {
         return Ok(arrival);
     }
     assert_eq!(rt; lens(queue), before);
+    assert_eq!(rt; least(queue), first);
     Ok(queue.arrive(signed)?)
 }
 
 fn take_next(rt: &impl Abort, queue: &mut InputQueue, end: u64) -> Result<Option<Message>, Fail> {
-    let before = lens(queue);
+    let (before, first) = (lens(queue), least(queue));
     if let Ok(next) = queue.take_next(end) {
         return Ok(next);
     }
     assert_eq!(rt; lens(queue), before);
+    assert_eq!(rt; least(queue), first);
     Ok(queue.take_next(end)?)
 }
 
@@ -160,11 +167,19 @@ fn record(alloc: Global, time: u64) -> Result<Record, Fail> {
     })
 }
 
+/// How many records there are, and the time of the first.
+fn extent(history: &History) -> (usize, Option<u64>) {
+    (
+        history.len(),
+        history.first().map(|first| first.message.time()),
+    )
+}
+
 /// A record is pushed, again where memory was refused the first time, which changed nothing.
 fn push(rt: &impl Abort, alloc: Global, history: &mut History, time: u64) -> Result<(), Fail> {
-    let len = history.len();
+    let before = extent(history);
     if history.push(record(alloc, time)?).is_err() {
-        assert_eq!(rt; history.len(), len);
+        assert_eq!(rt; extent(history), before);
         history.push(record(alloc, time)?)?;
     }
     Ok(())
@@ -177,42 +192,64 @@ fn history_of_four(rt: &impl Abort, alloc: Global) -> Result<History, Fail> {
     for time in [1, 2, 3, 4] {
         push(rt, alloc, &mut history, time)?;
     }
-    assert_eq!(rt; history.len(), 4);
+    assert_eq!(rt; extent(&history), (4, Some(1)));
     Ok(history)
+}
+
+/// The last records are taken back, again where memory was refused the first time, which changed nothing.
+fn take_back(rt: &impl Abort, history: &mut History, count: usize) -> Result<Vec<Record>, Fail> {
+    let before = extent(history);
+    let count = count.min(history.len());
+    if let Ok(undone) = history.take_back(count) {
+        return Ok(undone);
+    }
+    assert_eq!(rt; extent(history), before);
+    let count = count.min(history.len());
+    Ok(history.take_back(count)?)
+}
+
+/// The first records are released, again where memory was refused the first time, which changed nothing.
+fn release(rt: &impl Abort, history: &mut History, floor: u64) -> Result<Vec<Record>, Fail> {
+    let before = extent(history);
+    if let Ok(released) = history.release(floor) {
+        return Ok(released);
+    }
+    assert_eq!(rt; extent(history), before);
+    Ok(history.release(floor)?)
+}
+
+/// These records have these times.
+fn are_of(rt: &impl Abort, records: &[Record], times: &[u64]) {
+    assert_eq!(rt; records.len(), times.len());
+    for (record, time) in records.iter().zip(times) {
+        assert_eq!(rt;
+            (record.message.time(), record.number_before),
+            (*time, *time)
+        );
+    }
 }
 
 #[test]
 fn history_gives_back_its_end(rt: HostRuntime) -> Result<(), Fail> {
     let mut history = history_of_four(&rt, rt.alloc())?;
-    if history.len() < 2 {
-        return Ok(());
-    }
-    let undone = match history.take_back(2) {
-        Ok(undone) => undone,
-        Err(_) => {
-            assert_eq!(rt; history.len(), 4);
-            return Ok(());
-        }
-    };
-    assert_eq!(rt; undone.len(), 2);
-    assert_eq!(rt; undone.first().map(|last| last.number_before), Some(3));
-    assert_eq!(rt; history.len(), 2);
+    let none = take_back(&rt, &mut history, 0)?;
+    are_of(&rt, none.as_slice(), [].as_slice());
+    let undone = take_back(&rt, &mut history, 2)?;
+    are_of(&rt, undone.as_slice(), [3, 4].as_slice());
+    assert_eq!(rt; extent(&history), (2, Some(1)));
     Ok(())
 }
 
 #[test]
 fn history_lets_go_of_its_beginning(rt: HostRuntime) -> Result<(), Fail> {
     let mut history = history_of_four(&rt, rt.alloc())?;
-    let released = match history.release(2) {
-        Ok(released) => released,
-        Err(_) => {
-            assert_eq!(rt; history.len(), 4);
-            history.release(2)?
-        }
-    };
-    assert_eq!(rt; released.len(), 1);
-    assert_eq!(rt; released.first().map(|first| first.number_before), Some(1));
-    assert_eq!(rt; history.first().map(|first| first.number_before), Some(2));
-    assert_eq!(rt; history.len(), 3);
+    let none = release(&rt, &mut history, 1)?;
+    are_of(&rt, none.as_slice(), [].as_slice());
+    let released = release(&rt, &mut history, 3)?;
+    are_of(&rt, released.as_slice(), [1, 2].as_slice());
+    assert_eq!(rt; extent(&history), (2, Some(3)));
+    let rest = release(&rt, &mut history, 5)?;
+    are_of(&rt, rest.as_slice(), [3, 4].as_slice());
+    assert_eq!(rt; extent(&history), (0, None));
     Ok(())
 }

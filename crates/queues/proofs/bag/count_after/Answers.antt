@@ -1,4 +1,4 @@
-use Rattle.std.proofs.Common.{rules, of_calls, arith, not, length}
+use Rattle.std.proofs.Common.{rules, of_calls, arith, not}
 use Rattle.std.proofs.lemmas.Fn.{always_returns_same}
 use Rattle.eventkey.specs.Message.{Message, is_before}
 use Rattle.queues.proofs.Halves.{after_is, kept_parted}

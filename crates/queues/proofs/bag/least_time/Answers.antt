@@ -1,4 +1,4 @@
-use Rattle.std.proofs.Common.{◌≡◌, ◌∙◌, ap, sym}
+use Rattle.std.proofs.Common.{ap, sym}
 use Rattle.queues.proofs.Firsts.{first_is, last_is_first, none_is_empty}
 use Rattle.queues.specs.Queue.{first_time}
 use Rattle.queues.proofs.bag.least_time.Goals as goal

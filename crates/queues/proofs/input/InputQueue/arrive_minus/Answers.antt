@@ -1,5 +1,5 @@
-use Rattle.std.proofs.Common.{◌≡◌, ◌≤◌, ◌++◌, ◌-◌, ◌∙◌, ap, arith, refl, reverse, subst, sym, false, true, List, length, rules, take, vec_len, ℕ}
-use Rattle.eventkey.specs.Bag.{IsAscending, add, is_among, remove_one}
+use Rattle.std.proofs.Common.{◌≡◌, ◌++◌, ◌-◌, ◌∙◌, ap, arith, refl, reverse, subst, sym, false, true, List, length, rules, take, vec_len, ℕ}
+use Rattle.eventkey.specs.Bag.{add, is_among}
 use Rattle.eventkey.specs.Message.{Message}
 use Rattle.eventkey.specs.Signed.{minus}
 use Rattle.queues.proofs.Moves.{minus_met, minus_stayed, minus_undone}
@@ -7,7 +7,7 @@ use Rattle.queues.proofs.Places.{after-le}
 use Rattle.queues.proofs.Queues.{queues_stay_in_order}
 use Rattle.queues.specs.Inside.{queue_of}
 use Rattle.queues.specs.Place.{StandsAt}
-use Rattle.queues.specs.Queue.{IsInOrder, Queue, after, arrived, last_of}
+use Rattle.queues.specs.Queue.{IsInOrder, after, arrived, last_of}
 use Rattle.queues.proofs.input.InputQueue.arrive_minus.Goals as goal
 
 -- 1. The message waits

@@ -1,13 +1,13 @@
-use Rattle.std.proofs.Common.{◌≡◌, ◌≤◌, ◌++◌, ◌∙◌, ap, arith, refl, reverse, subst, sym, false, true, List, length}
-use Rattle.eventkey.specs.Bag.{IsAscending, add, is_among, remove_one}
+use Rattle.std.proofs.Common.{◌≡◌, ◌++◌, ◌∙◌, ap, arith, refl, reverse, subst, sym, false, List}
+use Rattle.eventkey.specs.Bag.{IsAscending, is_among}
 use Rattle.eventkey.specs.Message.{Message}
 use Rattle.eventkey.specs.Signed.{plus}
-use Rattle.queues.proofs.Moves.{plus_met, plus_met_answer, plus_stayed, plus_stayed_answer, undone_ascending}
+use Rattle.queues.proofs.Moves.{plus_met, plus_stayed, undone_ascending}
 use Rattle.queues.proofs.Places.{after-le}
 use Rattle.queues.proofs.Queues.{queues_stay_in_order}
 use Rattle.queues.specs.Inside.{queue_of}
 use Rattle.queues.specs.Place.{StandsAt}
-use Rattle.queues.specs.Queue.{IsInOrder, Queue, after, arrived, last_of}
+use Rattle.queues.specs.Queue.{IsInOrder, after, arrived, last_of}
 use Rattle.queues.proofs.input.InputQueue.arrive_plus.Goals as goal
 
 met : (c : goal.After-remove) → StandsAt c.args.message c.self.inside.antis.items c.in-Some.place

@@ -1,12 +1,12 @@
-use Rattle.std.proofs.Common.{◌≡◌, ◌∙◌, ap, refl, subst, sym, rules, of_calls, drop, length, true, false}
+use Rattle.std.proofs.Common.{◌≡◌, ◌∙◌, ap, refl, subst, sym, rules, of_calls}
 use Rattle.std.proofs.lemmas.Fn.{always_returns_same}
-use Rattle.std.specs.Prelude.{filter, nat_le, nat_lt}
+use Rattle.std.specs.Prelude.{nat_lt}
 use Rattle.eventkey.specs.Bag.{IsAscending}
 use Rattle.eventkey.specs.Message.{Message}
 use Rattle.queues.proofs.Firsts.{dropped_is, early_parted, released_in_order}
 use Rattle.queues.proofs.Moves.{same_queue}
 use Rattle.queues.specs.Inside.{queue_of}
-use Rattle.queues.specs.Queue.{IsInOrder, Queue, released}
+use Rattle.queues.specs.Queue.{IsInOrder, released}
 use Rattle.queues.proofs.input.InputQueue.release.Goals as goal
 
 released_now : (c : goal.After-drop-drain) → queue_of (record { done = c.drop-drain.new.self.0; waiting = c.self.inside.waiting; antis = c.self.inside.antis }) ≡ released c.args.floor (queue_of c.self.inside)
