@@ -1,15 +1,13 @@
 -- What an arrival keeps of a process, and where its messages go.
-use Rattle.std.proofs.Common.{◌≡◌, ℕ, ◌+◌, false, ◌++◌, refl, true, [], ◌∷◌, arith, ap, ◌^◌, ◌≤◌, List, ◌∙◌, length, ◌<◌, sym}
-use Rattle.std.proofs.lemmas.Bool.{cond_both, ltb-true}
+use Rattle.std.proofs.Common.{◌≡◌, ℕ, ◌+◌, ◌++◌, [], ◌∷◌, arith, ap, ◌^◌, ◌≤◌, List, ◌∙◌, length, ◌<◌, sym}
 use Rattle.std.proofs.lemmas.List.{map-append, append_assoc}
 use Rattle.std.proofs.lemmas.List.Concat.{flat_map-append}
 use Rattle.std.specs.List.{AllByRecursion as Every}
-use Rattle.eventkey.proofs.Bags.{IsAscending-add, IsAscending-add_all, IsAscending-remove_one, at_most_from_before, copies-add, copies-add_all, copies-append, copies-remove_one, time_from_at_most}
-use Rattle.eventkey.proofs.Lists.{Every-add, Every-add_all, Every-both, Every-flat_map, Every-left, Every-map, Every-remove_one, Every-right, Every-unmap, Every-weaker, IsAllAtMost, IsAscending-across, IsAscending-left, IsAscending-right, minus_of_minus, plus_of_minus}
-use Rattle.eventkey.specs.Bag.{IsAscending, add, copies, is_among, one_if_same, remove_one}
-use Rattle.eventkey.specs.Message.{IsAtMost, IsRanged, Message, is_before}
-use Rattle.eventkey.specs.Signed.{minus, of_sign, plus}
-use Rattle.eventkey.specs.declared.Sign.{Sign}
+use Rattle.eventkey.proofs.Bags.{copies-append, time_from_at_most}
+use Rattle.eventkey.proofs.Lists.{Every-both, Every-flat_map, Every-left, Every-map, Every-right, Every-unmap, Every-weaker, IsAscending-left, IsAscending-right, minus_of_minus, plus_of_minus}
+use Rattle.eventkey.specs.Bag.{IsAscending, copies}
+use Rattle.eventkey.specs.Message.{IsAtMost, IsRanged, Message}
+use Rattle.eventkey.specs.Signed.{minus, of_sign}
 use Rattle.eventkey.specs.declared.Sign.TheVariants.{Minus, Plus}
 use Rattle.eventkey.specs.declared.Signed.{Signed}
 use Rattle.model.specs.Meaning.{IsLawful, IsSend, IsWords, Meaning, stamp}
@@ -18,7 +16,7 @@ use Rattle.queues.proofs.Arrivals.{IsQueue, arrived_copies, arrived_kept, settle
 use Rattle.queues.proofs.Places.{but_last-last_of, map-but_last, map-last_of}
 use Rattle.queues.specs.Record.{messages, number_before, sent_in, state_before}
 use Rattle.queues.specs.declared.Record.{Record}
-use Rattle.queues.specs.Queue.{Queue, after, arrived, back, but_last, last_of, settle, wait_again}
+use Rattle.queues.specs.Queue.{arrived, back, but_last, last_of, wait_again}
 use Rattle.process.specs.Process.{Process, arrive, handlings, queue_of, sent_by, taken_back}
 use Rattle.process.specs.Told.{IsFold, IsTold, held}
 

@@ -1,20 +1,19 @@
 -- The fields as the calls leave them are the process after the call.
-use Rattle.std.proofs.Common.{◌≡◌, ℕ, ◌+◌, ◌≤◌, ◌++◌, List, [], ◌∷◌, Some, length, refl, ap, sym, ◌∙◌, arith, subst}
+use Rattle.std.proofs.Common.{◌≡◌, ℕ, ◌+◌, ◌≤◌, ◌++◌, List, [], ◌∷◌, Some, length, ap, sym, ◌∙◌, arith, subst}
 use Rattle.std.proofs.lemmas.List.{length-map}
 use Rattle.eventkey.specs.Bag.{IsAscending}
 use Rattle.eventkey.specs.Message.{Message}
 use Rattle.eventkey.specs.declared.Signed.{Signed}
 use Rattle.model.proofs.Worlds.{length-stamp}
-use Rattle.model.specs.Meaning.{Meaning, stamp}
-use Rattle.model.specs.declared.Outgoing.{Outgoing}
+use Rattle.model.specs.Meaning.{Meaning}
 use Rattle.queues.proofs.Moves.{same_queue}
 use Rattle.queues.proofs.Queues.{arrivals_tell_back}
 use Rattle.queues.specs.Queue.{Queue, arrival, arrived, back, back_of, but_last, first_before, last_of, released, taken}
-use Rattle.queues.specs.Record.{handled_from, messages, number_before, sent_in, state_before}
+use Rattle.queues.specs.Record.{handled_from, messages, number_before, state_before}
 use Rattle.queues.specs.declared.Arrival.{Arrival}
 use Rattle.queues.specs.declared.Record.{Record}
 use Rattle.process.proofs.Sound.{queue_of_arrive, queue_of_handle, queue_of_release}
-use Rattle.process.specs.Process.{Process, arrive, handle, handling_of, queue_of, release, taken_back}
+use Rattle.process.specs.Process.{Process, arrive, handle, handling_of, queue_of, release}
 
 pub same_process : (p q : Process) → p.gathered ≡ q.gathered → p.done ≡ q.done → p.waiting ≡ q.waiting → p.antis ≡ q.antis → p.state ≡ q.state → p.number ≡ q.number → p ≡ q
 same_process p q g d w a s n = λ i. record { gathered = g i; done = d i; waiting = w i; antis = a i; state = s i; number = n i }

@@ -92,14 +92,14 @@ module _ (P : Message → Type 0) (m : Meaning) (lp : ℕ) (x : Message) (q : Pr
 
 -- 2. Collecting
 
-handled_before-from : (floor : ℕ) (hs : List Record) → handled_before floor hs ++ handled_from floor hs ≡ hs
+pub handled_before-from : (floor : ℕ) (hs : List Record) → handled_before floor hs ++ handled_from floor hs ≡ hs
 handled_before-from floor [] = refl
 handled_before-from floor (h ∷ hs) = elim (cases_Bool (nat_lt h.message.time floor)) [
   | inl e ↦ rw e (ap (λ (ks : List Record). h ∷ ks) (handled_before-from floor hs))
   | inr e ↦ rw e refl
 ]
 
-before_is_below : (floor : ℕ) (hs : List Record) → Every (λ (x : Message). x.time < floor) (messages (handled_before floor hs))
+pub before_is_below : (floor : ℕ) (hs : List Record) → Every (λ (x : Message). x.time < floor) (messages (handled_before floor hs))
 before_is_below floor [] = tt
 before_is_below floor (h ∷ hs) = elim (cases_Bool (nat_lt h.message.time floor)) [
   | inl e ↦ rw e (ltb-true h.message.time floor e, before_is_below floor hs)

@@ -2,5 +2,6 @@ pub mod Arrivals
 pub mod Calls
 pub mod Handlings
 pub mod Laws
+pub mod Rollbacks
 pub mod Sound
 pub mod Telling

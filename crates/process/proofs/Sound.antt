@@ -1,13 +1,12 @@
 -- What every call keeps of a process.
-use Rattle.std.proofs.Common.{◌≡◌, ◌≢◌, ℕ, ◌+◌, ◌<◌, ◌≤◌, ◌^◌, ◌++◌, ◌==◌, ◌&&◌, Bool, List, [], ◌∷◌, Some, true, false, not, map, length, refl, ap, sym, ◌∙◌, arith, subst, inl, inr, All, eqb-true}
+use Rattle.std.proofs.Common.{◌≡◌, ℕ, ◌+◌, ◌<◌, ◌≤◌, ◌^◌, ◌++◌, ◌==◌, Bool, List, [], ◌∷◌, Some, true, false, length, refl, ap, sym, ◌∙◌, arith, subst, inl, inr, eqb-true}
 use Rattle.std.proofs.lemmas.Bool.{cases_Bool, cond_both, le-leb, lt-leb, ltb-false, ltb-true}
 use Rattle.std.proofs.lemmas.List.{map-append}
-use Rattle.std.proofs.lemmas.List.Elements.{recursion_from_All}
-use Rattle.std.specs.List.{AllByRecursion as Every, filter, list_any}
+use Rattle.std.specs.List.{AllByRecursion as Every, filter}
 use Rattle.std.specs.Prelude.{nat_le, nat_lt}
 use Rattle.eventkey.proofs.Bags.{IsAscending-add_all, time_from_at_most}
 use Rattle.eventkey.proofs.Lists.{Every-add_all, Every-append, Every-filter, Every-left, Every-right, Every-weaker}
-use Rattle.eventkey.specs.Bag.{IsAscending, add_all, remove_one}
+use Rattle.eventkey.specs.Bag.{IsAscending, remove_one}
 use Rattle.eventkey.specs.Message.{IsAtMost, IsRanged, Message}
 use Rattle.eventkey.specs.declared.Signed.{Signed}
 use Rattle.model.proofs.Worlds.{length-stamp}
@@ -17,12 +16,12 @@ use Rattle.queues.proofs.Firsts.{first_before_is, released_in_order, taken_in_or
 use Rattle.queues.proofs.Moves.{remove_first, same_queue}
 use Rattle.queues.proofs.Places.{but_last-last_of}
 use Rattle.queues.proofs.Queues.{queues_stay_in_order}
-use Rattle.queues.specs.Queue.{IsInOrder, Queue, arrived, back, but_last, first_before, last_of, released, taken}
+use Rattle.queues.specs.Queue.{IsInOrder, arrived, back, but_last, first_before, last_of, released, taken}
 use Rattle.queues.specs.Record.{handled_from, messages, number_before, state_before}
 use Rattle.queues.specs.declared.Record.{Record}
 use Rattle.process.proofs.Arrivals.{done_of_arrive}
 use Rattle.process.specs.Process.{Process, arrive, handle, handling_of, queue_of, release}
-use Rattle.process.specs.View.{IsSound, ProcessView, has_early, has_foreign, loaded}
+use Rattle.process.specs.View.{IsSound, ProcessView, has_foreign, loaded}
 
 -- 1. Loading
 

@@ -7,9 +7,10 @@ use Rattle.eventkey.specs.Signed.{of_sign}
 use Rattle.eventkey.specs.declared.Sign.TheVariants.{Minus, Plus}
 use Rattle.eventkey.specs.declared.Signed.{Signed}
 use Rattle.model.specs.Meaning.{IsLawful, IsWords, Meaning, stamp}
+use Rattle.queues.specs.Queue.{back, last_of}
 use Rattle.queues.specs.Record.{messages}
 use Rattle.queues.specs.declared.Record.{Record}
-use Rattle.process.specs.Process.{Process, arrive, collect, handle, handling_of, handlings, sent_by, taken_back}
+use Rattle.process.specs.Process.{Process, arrive, collect, fossils_of, handle, handling_of, handlings, queue_of, release, sent_by, taken_back}
 
 -- what a process has of a message, handled or waiting
 abbrev pub held : Message → Process → ℕ
@@ -76,3 +77,19 @@ abbrev pub CollectingIsTold : Type 0
 CollectingIsTold = (m : Meaning) (lp time : ℕ) (state : List ℕ) (number floor floor' : ℕ) (q : Process) → time ≤ floor → floor ≤ floor' →
     Every (λ (x : Message). floor' ≤ x.time) q.waiting → Every (λ (x : Message). floor' ≤ x.time) q.antis →
     IsTold m lp time state number floor q → IsTold m lp time state number floor' (collect floor' q)
+
+-- What arrives from a floor on takes back no handling before it.
+abbrev pub RollbacksStayAbove : Type 0
+RollbacksStayAbove = (floor : ℕ) (s : Signed) (q : Process) → IsAscending (messages q.done) → floor ≤ s.message.time →
+    Every (λ (h : Record). floor ≤ h.message.time) (last_of (back s (queue_of q)) q.done)
+
+-- So what is told of the handlings before a floor is final: neither an arrival nor a handling from there on changes it.
+abbrev pub FossilsAreFinal : Type 0
+FossilsAreFinal = (floor : ℕ) (q : Process) → IsAscending (messages q.done) →
+    ((s : Signed) → floor ≤ s.message.time → fossils_of floor (arrive s q) ≡ fossils_of floor q)
+    × ((m : Meaning) (lp : ℕ) (x : Message) → floor ≤ x.time → fossils_of floor (handle m lp x q) ≡ fossils_of floor q)
+
+-- Nor does a process that let go of them do anything else with what arrives from there on.
+abbrev pub ReleasesAreUnseen : Type 0
+ReleasesAreUnseen = (floor : ℕ) (s : Signed) (q : Process) → IsAscending (messages q.done) → floor ≤ s.message.time →
+    (arrive s (release floor q) ≡ release floor (arrive s q)) × (taken_back s (release floor q) ≡ taken_back s q)

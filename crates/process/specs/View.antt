@@ -1,6 +1,6 @@
 -- What a caller sees of a logical process, and what its calls answer and leave (this project's profile).
 use Rattle.std.specs.List.{AllByRecursion as Every, list_any}
-use Rattle.std.specs.Prelude.{not, nat_lt, ◌==◌, ℕ, Bool, false, true, List, [], ◌++◌, map, Option, Some, length, ◌≡◌, ◌≤◌, ◌^◌}
+use Rattle.std.specs.Prelude.{not, nat_lt, ◌==◌, ℕ, Bool, false, true, List, [], ◌++◌, map, Some, length, ◌≡◌, ◌≤◌, ◌^◌}
 use Rattle.eventkey.specs.Bag.{add_all}
 use Rattle.eventkey.specs.Message.{Message}
 use Rattle.eventkey.specs.Signed.{plus}

@@ -2,7 +2,7 @@
 #![tactic(auto)]
 
 ghost use Rattle.std.specs.Prelude.{◌≡◌};
-ghost use Rattle.process.specs.Told.{ArrivalIsTold, ArrivalIsBalanced, ArrivalTakesBack, ArrivalLooksAhead, HandlingIsTold, HandlingIsBalanced, CollectingIsTold};
+ghost use Rattle.process.specs.Told.{ArrivalIsTold, ArrivalIsBalanced, ArrivalTakesBack, ArrivalLooksAhead, HandlingIsTold, HandlingIsBalanced, CollectingIsTold, RollbacksStayAbove, FossilsAreFinal, ReleasesAreUnseen};
 ghost use Rattle.process.specs.declared.ProcessFault.TheVariants.{NoMemory};
 
 mod fossils;
@@ -83,4 +83,11 @@ pub fn law_of_handlings()
 /// What a process gives up to the floor.
 pub fn law_of_collecting()
     ensures { CollectingIsTold }
+{}
+
+/// What no rollback reaches: the handlings before a floor, where nothing arrives before it any more.
+pub fn law_of_rollbacks()
+    ensures above { RollbacksStayAbove }
+    ensures fossils { FossilsAreFinal }
+    ensures unseen { ReleasesAreUnseen }
 {}

@@ -332,36 +332,75 @@ fn is_spent_at_the_number_limit(rt: HostRuntime) -> Result<(), Fail> {
     Ok(())
 }
 
-/// A message is handled, undone by a straggler, and the straggler handled.
-fn straggle(
+/// Want of memory left the list with what it held, at its beginning, and the process spent.
+fn is_refused(
+    rt: &impl Abort,
+    alloc: Global,
     process: &mut Process,
-    out: &mut Vec<Signed>,
-    message: Message,
-    straggler: Message,
-) -> Result<bool, ProcessFault>
+    out: &[Signed],
+    fault: ProcessFault,
+) -> Result<(), Fail>
     requires { process.old.lp < 3 }
-    ensures { process.new.lp ≡ process.old.lp }
 {
-    process.deliver(plus(message), out)?;
-    process.run_one(&Ring, 10, out)?;
-    process.deliver(plus(straggler), out)?;
-    process.run_one(&Ring, 10, out)
+    assert_eq!(rt; fault, ProcessFault::NoMemory);
+    assert_eq!(rt; out.first().copied(), Some(held()?));
+    is_spent(rt, alloc, process, Message::new(5, 0, 1, 1, 0, 1)?);
+    Ok(())
+}
+
+/// What a list holds before the call.
+fn held() -> Result<Signed, Fail> {
+    Ok(minus(Message::new(9, 2, 8, 0, 0, 0)?))
+}
+
+/// The list that holds it, without room for more.
+fn full(alloc: Global) -> Result<Vec<Signed>, Fail> {
+    let mut out = Vec::with_capacity(alloc, 1)?;
+    out.push(held()?)?;
+    Ok(out)
 }
 
 #[test]
-fn is_spent_where_memory_was_refused(rt: HostRuntime) -> Result<(), Fail> {
-    let a = Message::new(5, 0, 1, 1, 0, 1)?;
-    let straggler = Message::new(4, 2, 0, 1, 7, 0)?;
+fn deliver_refused_memory_leaves_it_spent(rt: HostRuntime) -> Result<(), Fail> {
+    let straggler = plus(Message::new(4, 2, 0, 1, 7, 0)?);
+    let sent = minus(Message::new(7, 1, 0, 2, 0, 2)?);
+    let mut process = after_a(&rt, rt.alloc())?;
+    let mut out = full(rt.alloc())?;
+    match process.deliver(straggler, &mut out) {
+        Ok(()) => assert_eq!(rt; out.as_slice(), [held()?, sent].as_slice()),
+        Err(fault) => is_refused(&rt, rt.alloc(), &mut process, out.as_slice(), fault)?,
+    }
+    Ok(())
+}
+
+#[test]
+fn run_one_refused_memory_leaves_it_spent(rt: HostRuntime) -> Result<(), Fail> {
+    let a = plus(Message::new(5, 0, 1, 1, 0, 1)?);
+    let sent = plus(Message::new(7, 1, 0, 2, 0, 2)?);
     let mut process = load(rt.alloc())?;
-    let mut out = Vec::new(rt.alloc());
-    match straggle(&mut process, &mut out, a, straggler) {
+    deliver(&rt, rt.alloc(), &mut process, a, None)?;
+    let mut out = full(rt.alloc())?;
+    match process.run_one(&Ring, 10, &mut out) {
         Ok(ran) => {
             assert!(rt; ran);
-            assert_eq!(rt; out.len(), 3);
+            assert_eq!(rt; out.as_slice(), [held()?, sent].as_slice());
         }
+        Err(fault) => is_refused(&rt, rt.alloc(), &mut process, out.as_slice(), fault)?,
+    }
+    Ok(())
+}
+
+#[test]
+fn collect_refused_memory_leaves_it_spent(rt: HostRuntime) -> Result<(), Fail> {
+    let mut process = after_a(&rt, rt.alloc())?;
+    if process.floor() > 6 {
+        return Ok(());
+    }
+    match process.collect(6) {
+        Ok(fossils) => assert_eq!(rt; fossils.len(), 1),
         Err(fault) => {
-            assert_eq!(rt; fault, ProcessFault::NoMemory);
-            is_spent(&rt, rt.alloc(), &mut process, a);
+            let out = full(rt.alloc())?;
+            is_refused(&rt, rt.alloc(), &mut process, out.as_slice(), fault)?;
         }
     }
     Ok(())

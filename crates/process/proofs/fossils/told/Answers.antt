@@ -1,4 +1,4 @@
-use Rattle.std.proofs.Common.{◌≡◌, ◌++◌, ◌∷◌, [], List, ◌∙◌, ap, reverse}
+use Rattle.std.proofs.Common.{◌++◌, List, ◌∙◌, ap, reverse}
 use Rattle.process.proofs.Telling.{told_one_more}
 use Rattle.process.specs.Process.{told}
 use Rattle.process.specs.declared.Done.{Done}

@@ -1,5 +1,4 @@
 use Rattle.std.proofs.Common.{◌≡◌, ◌≤◌, ◌+◌, ◌-◌, ◌++◌, length, map, take, vec_len, vec_capacity}
-use Rattle.eventkey.specs.declared.Signed.{Signed}
 use Rattle.eventkey.specs.Message.{Message}
 use Rattle.process.proofs.sends.append.Given as goal
 

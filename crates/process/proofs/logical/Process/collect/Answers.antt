@@ -1,4 +1,4 @@
-use Rattle.std.proofs.Common.{◌≡◌, ◌∙◌, ap, false, refl, subst, sym}
+use Rattle.std.proofs.Common.{false, refl, subst, sym}
 use Rattle.process.proofs.Calls.{collected_done, collected_is}
 use Rattle.process.proofs.Sound.{released_sound}
 use Rattle.process.specs.Inside.{view_of}

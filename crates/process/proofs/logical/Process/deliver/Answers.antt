@@ -1,10 +1,9 @@
-use Rattle.std.proofs.Common.{◌≡◌, ℕ, ◌∙◌, ◌++◌, List, ap, false, map, refl, subst, sym}
+use Rattle.std.proofs.Common.{◌≡◌, ◌∙◌, ◌++◌, List, ap, false, map, refl, subst, sym}
 use Rattle.eventkey.specs.Signed.{minus}
-use Rattle.eventkey.specs.declared.Signed.{Signed}
 use Rattle.process.proofs.Calls.{back_fits, delivered_done, delivered_is, undone_is}
 use Rattle.process.proofs.Sound.{arrived_sound}
 use Rattle.process.specs.Inside.{view_of}
-use Rattle.process.specs.Process.{Process, arrive, queue_of, taken_back}
+use Rattle.process.specs.Process.{Process, arrive, taken_back}
 use Rattle.process.specs.View.{IsSound, ProcessView}
 use Rattle.queues.specs.Record.{sent_in}
 use Rattle.queues.specs.declared.Record.{Record}

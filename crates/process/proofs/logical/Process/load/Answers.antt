@@ -1,4 +1,4 @@
-use Rattle.std.proofs.Common.{◌≡◌, ℕ, ◌≤◌, ◌∙◌, List, [], ap, false, length, refl, subst, sym}
+use Rattle.std.proofs.Common.{◌≡◌, ◌∙◌, ap, false, refl, subst, sym}
 use Rattle.process.proofs.Calls.{same_process}
 use Rattle.process.proofs.Sound.{loaded_sound}
 use Rattle.process.specs.Inside.{view_of}

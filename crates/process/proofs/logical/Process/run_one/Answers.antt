@@ -1,15 +1,14 @@
-use Rattle.std.proofs.Common.{◌≡◌, ℕ, ◌+◌, ◌<◌, ◌≤◌, ◌^◌, ◌∙◌, ◌++◌, ◌∷◌, [], List, Some, All, ap, arith, false, length, map, refl, subst, sym}
+use Rattle.std.proofs.Common.{◌≡◌, ℕ, ◌+◌, ◌<◌, ◌≤◌, ◌^◌, ◌∙◌, ◌++◌, List, Some, All, ap, arith, false, length, map, refl, subst, sym}
 use Rattle.std.proofs.lemmas.List.Elements.{recursion_from_All}
 use Rattle.eventkey.specs.Message.{Message}
 use Rattle.eventkey.specs.Signed.{plus}
 use Rattle.model.specs.Meaning.{IsWords, stamp}
-use Rattle.model.specs.declared.Outgoing.{Outgoing}
 use Rattle.process.proofs.Calls.{handled_done, handled_is}
 use Rattle.process.proofs.Sound.{handled_sound}
 use Rattle.process.specs.Inside.{view_of}
 use Rattle.process.specs.Process.{Process, handle, handling_of}
 use Rattle.process.specs.View.{HasRun, IsSound, ProcessView}
-use Rattle.queues.specs.Queue.{Queue, first_before}
+use Rattle.queues.specs.Queue.{first_before}
 use Rattle.queues.specs.declared.Record.{Record}
 use Rattle.process.proofs.logical.Process.run_one.Given as given
 use Rattle.process.proofs.logical.Process.run_one.Goals as goal
