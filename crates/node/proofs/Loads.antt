@@ -8,8 +8,8 @@ use Rattle.std.proofs.lemmas.List.Folds.{list_any_none}
 use Rattle.eventkey.specs.Message.{Message}
 use Rattle.std.proofs.Math.Seq.{set-append_seam, take-suc}
 use Rattle.std.proofs.lemmas.Bool.{both_ways, cases_lt, eq-eqb, le-ltb, not_from_true}
-use Rattle.std.proofs.lemmas.List.{append-nil, append_assoc, get_or-map, length-map, length-take, map-append}
-use Rattle.eventkey.proofs.Lists.{Every-get_or, Every-add_all, Every-weaker}
+use Rattle.std.proofs.lemmas.List.{append-nil, append_assoc, get_or-map, length-append, length-map, length-replicate, map-append}
+use Rattle.eventkey.proofs.Lists.{Every-get_or, Every-add_all, Every-right, Every-weaker}
 use Rattle.node.proofs.Deliveries.{rest_of}
 use Rattle.node.proofs.Seats.{own_strided}
 use Rattle.process.specs.View.{ProcessView}
@@ -127,48 +127,69 @@ none_early floor xs h e =
 
 -- 4. The processes of the parts
 
-abbrev pub nexts_so_far : ℕ → ℕ → ℕ → List Part → List (Option Message)
-nexts_so_far end floor i parts = nexts_of end (map (seat_of floor) (take i parts)) ++ replicate (length parts - i) None
+-- of these parts some are seated, and the rest is to come
+pub record IsSeatedSoFar (end floor : ℕ) (parts done rest : List Part) (seats : List ProcessView) (nexts : List (Option Message)) : Type 0 where
+  pub all : done ++ rest ≡ parts
+  pub seats_are : seats ≡ map (seat_of floor) done
+  pub nexts_are : nexts ≡ nexts_of end (map (seat_of floor) done) ++ replicate (length rest) None
 
-take_one_more : (parts : List Part) (i : ℕ) (p : Part) → i < length parts → p ≡ get_or parts i p → take (i + 1) parts ≡ take i parts ++ p ∷ []
-take_one_more parts i p l is = ap (λ n. take n parts) {x = i + 1} {y = suc i} (omega arith) ∙ take-suc parts i p l ∙ ap (λ (q : Part). take i parts ++ q ∷ []) (sym is)
+pub every_next : (P : Part → Type 0) (parts done rest rest' : List Part) (p : Part) → done ++ rest ≡ parts → rest ≡ p ∷ rest' → Every P parts → P p
+every_next P parts done rest rest' p all step h = (Every-right P done (p ∷ rest') (subst (Every P) (sym all ∙ ap (λ (r : List Part). done ++ r) step) h)).0
 
-pub seats_more : (floor : ℕ) (parts : List Part) (i : ℕ) (p : Part) (seats seats' : List ProcessView) (seat : ProcessView) → i < length parts → p ≡ get_or parts i p → seats ≡ map (seat_of floor) (take i parts) → seat ≡ seat_of floor p →
-    seats' ≡ seats ++ seat ∷ [] → seats' ≡ map (seat_of floor) (take (i + 1) parts)
-seats_more floor parts i p seats seats' seat l is so_far seat_is more =
-    more
-    ∙ ap (λ (xs : List ProcessView). xs ++ seat ∷ []) so_far
-    ∙ ap (λ (x : ProcessView). map (seat_of floor) (take i parts) ++ x ∷ []) seat_is
-    ∙ sym (map-append (seat_of floor) (take i parts) (p ∷ []))
-    ∙ sym (ap (map (seat_of floor)) (take_one_more parts i p l is))
-
-pub nexts_more : (end floor : ℕ) (parts : List Part) (i : ℕ) (p : Part) (nexts nexts' : List (Option Message)) (seat : ProcessView) (next : Option Message) → i < length parts → p ≡ get_or parts i p → nexts ≡ nexts_so_far end floor i parts →
-    seat ≡ seat_of floor p → next ≡ first_before end seat.process.waiting → nexts' ≡ set nexts i next → nexts' ≡ nexts_so_far end floor (i + 1) parts
-nexts_more end floor parts i p nexts nexts' seat next l is so_far seat_is next_is set_is =
-    let known : List (Option Message) = nexts_of end (map (seat_of floor) (take i parts)) in
-    let rest : List (Option Message) = replicate (length parts - (i + 1)) None in
-    let size : i ≡ length known =
-    sym (length-map (map (seat_of floor) (take i parts)) (λ (q : ProcessView). first_before end q.process.waiting) ∙ length-map (take i parts) (seat_of floor) ∙ length-take i parts ∙ min-eq i (length parts) l) in
-    let open_ones : replicate (length parts - i) None ≡ None ∷ rest = ap (λ n. replicate n None) {x = length parts - i} {y = suc (length parts - (i + 1))} (omega arith) in
-    set_is
-    ∙ ap (λ (xs : List (Option Message)). set xs i next) (so_far ∙ ap (λ (xs : List (Option Message)). known ++ xs) open_ones)
-    ∙ ap (λ n. set (known ++ None ∷ rest) n next) size
-    ∙ set-append_seam known None rest next
-    ∙ ap (λ (x : Option Message). known ++ x ∷ rest) (next_is ∙ ap (λ (q : ProcessView). first_before end q.process.waiting) seat_is)
-    ∙ sym (append_assoc known (first_before end (seat_of floor p).process.waiting ∷ []) rest)
-    ∙ ap (λ (xs : List (Option Message)). xs ++ rest)
-    (sym (map-append (λ (q : ProcessView). first_before end q.process.waiting) (map (seat_of floor) (take i parts)) (seat_of floor p ∷ []))
-    ∙ ap (nexts_of end) (sym (map-append (seat_of floor) (take i parts) (p ∷ [])) ∙ sym (ap (map (seat_of floor)) (take_one_more parts i p l is))))
+pub seats_place : {end floor : ℕ} {parts done rest : List Part} {seats : List ProcessView} {nexts : List (Option Message)} (rest' : List Part) (p : Part) → IsSeatedSoFar end floor parts done rest seats nexts → rest ≡ p ∷ rest' → length seats < length nexts
+seats_place {end} {floor} {parts} {done} {rest} {seats} {nexts} rest' p h step =
+    let known : List (Option Message) = nexts_of end (map (seat_of floor) done) in
+    let size = size_of end floor done seats h.seats_are in
+    let more = ap length h.nexts_are ∙ length-append known (replicate (length rest) None) in
+    let last = length-replicate {A = Option Message} (length rest) None in
+    let some = ap length step in
+    omega arith
   where
-    min-eq : (a b : ℕ) → a < b → min a b ≡ a
-    min-eq a b h = omega arith
+    size_of : (end floor : ℕ) (done : List Part) (seats : List ProcessView) → seats ≡ map (seat_of floor) done → length seats ≡ length (nexts_of end (map (seat_of floor) done))
+    size_of end floor done seats is = ap length is ∙ sym (length-map (map (seat_of floor) done) (λ (q : ProcessView). first_before end q.process.waiting))
 
-pub nexts_all : (end floor : ℕ) (parts : List Part) (i : ℕ) (nexts : List (Option Message)) → length parts ≤ i → nexts ≡ nexts_so_far end floor i parts → nexts ≡ nexts_of end (map (seat_of floor) parts)
-nexts_all end floor parts i nexts l is =
-    is
-    ∙ ap (λ n. nexts_of end (map (seat_of floor) (take i parts)) ++ replicate n None) {x = length parts - i} {y = zero} (omega arith)
-    ∙ append-nil (nexts_of end (map (seat_of floor) (take i parts)))
-    ∙ ap (λ (ps : List Part). nexts_of end (map (seat_of floor) ps)) (take_all parts i l)
+pub seats_more : {end floor : ℕ} {parts done rest : List Part} {seats : List ProcessView} {nexts : List (Option Message)} (rest' : List Part) (p : Part) (seat : ProcessView) (seats' : List ProcessView) (next : Option Message) (nexts' : List (Option Message)) →
+    IsSeatedSoFar end floor parts done rest seats nexts → rest ≡ p ∷ rest' → seat ≡ seat_of floor p → seats' ≡ seats ++ seat ∷ [] → next ≡ first_before end seat.process.waiting → nexts' ≡ set nexts (length seats) next →
+    IsSeatedSoFar end floor parts (done ++ p ∷ []) rest' seats' nexts'
+seats_more {end} {floor} {parts} {done} {rest} {seats} {nexts} rest' p seat seats' next nexts' h step seat_is more next_is set_is =
+    let known : List (Option Message) = nexts_of end (map (seat_of floor) done) in
+    let left : List (Option Message) = replicate (length rest') None in
+    let size : length seats ≡ length known = ap length h.seats_are ∙ sym (length-map (map (seat_of floor) done) (λ (q : ProcessView). first_before end q.process.waiting)) in
+    let open_ones : replicate (length rest) None ≡ None ∷ left = ap (λ (r : List Part). replicate (length r) None) step in
+    record {
+      all = append_assoc done (p ∷ []) rest' ∙ ap (λ (r : List Part). done ++ r) (sym step) ∙ h.all;
+      seats_are =
+          more
+          ∙ ap (λ (xs : List ProcessView). xs ++ seat ∷ []) h.seats_are
+          ∙ ap (λ (x : ProcessView). map (seat_of floor) done ++ x ∷ []) seat_is
+          ∙ sym (map-append (seat_of floor) done (p ∷ []));
+      nexts_are =
+          set_is
+          ∙ ap (λ (xs : List (Option Message)). set xs (length seats) next) (h.nexts_are ∙ ap (λ (xs : List (Option Message)). known ++ xs) open_ones)
+          ∙ ap (λ n. set (known ++ None ∷ left) n next) size
+          ∙ set-append_seam known None left next
+          ∙ ap (λ (x : Option Message). known ++ x ∷ left) (next_is ∙ ap (λ (q : ProcessView). first_before end q.process.waiting) seat_is)
+          ∙ sym (append_assoc known (first_before end (seat_of floor p).process.waiting ∷ []) left)
+          ∙ ap (λ (xs : List (Option Message)). xs ++ left)
+          (sym (map-append (λ (q : ProcessView). first_before end q.process.waiting) (map (seat_of floor) done) (seat_of floor p ∷ []))
+          ∙ ap (nexts_of end) (sym (map-append (seat_of floor) done (p ∷ []))));
+    }
+
+nothing_left : (rest : List Part) → length rest ≡ 0 → rest ≡ []
+nothing_left [] e = refl
+nothing_left (p ∷ ps) e = absurd (omega arith)
+
+pub all_seated : {end floor : ℕ} {parts done rest : List Part} {seats : List ProcessView} {nexts : List (Option Message)} → IsSeatedSoFar end floor parts done rest seats nexts → length rest ≡ 0 →
+    (seats ≡ map (seat_of floor) parts) × (nexts ≡ nexts_of end (map (seat_of floor) parts))
+all_seated {end} {floor} {parts} {done} {rest} {seats} {nexts} h none =
+    let empty : rest ≡ [] = nothing_left rest none in
+    let every : done ≡ parts = sym (append-nil done) ∙ ap (λ (r : List Part). done ++ r) (sym empty) ∙ h.all in (
+      h.seats_are ∙ ap (map (seat_of floor)) every,
+      h.nexts_are
+          ∙ ap (λ (r : List Part). nexts_of end (map (seat_of floor) done) ++ replicate (length r) None) empty
+          ∙ append-nil (nexts_of end (map (seat_of floor) done))
+          ∙ ap (λ (ps : List Part). nexts_of end (map (seat_of floor) ps)) every,
+    )
 
 pub seats_staffed : (p : Place) (parts : List Part) → p.node < p.nodes → p.end ≤ 2 ^ 40 → map (λ (q : Part). q.lp) parts ≡ own_lps p.nodes p.node p.lps → Every (λ (q : Part). Every (λ (x : Message). x.to ≡ q.lp) q.pending) parts →
     IsStaffed p (map (seat_of p.floor) parts) (nexts_of p.end (map (seat_of p.floor) parts))

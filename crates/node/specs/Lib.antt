@@ -4,3 +4,4 @@ pub mod Handling
 pub mod Roster
 pub mod Seats
 pub mod Tournament
+pub mod Relay

@@ -1,18 +1,13 @@
 -- A node at work on its own processes: deliveries, turns, collection. Process lp is its number lp / nodes.
 use Rattle.std.specs.Prelude.{ℕ, List, [], ◌∷◌, Option, Some, None, ◌++◌, flat_map, ◌%◌, Bool, nat_eq, if◌then◌else◌, ◌/◌, get_or, ◌+◌, set, map, nat_lt, zero, suc, option_map}
-use Rattle.eventkey.specs.Bag.{least_time}
 use Rattle.eventkey.specs.Message.{Message, is_before}
 use Rattle.eventkey.specs.Signed.{plus}
 use Rattle.eventkey.specs.declared.Signed.{Signed}
 use Rattle.model.specs.Meaning.{Meaning}
 use Rattle.process.specs.Process.{Process, arrive, collect, fossils_of, handle, handling_of, has_room, nobody, release, taken_back}
+pub use Rattle.queues.specs.Queue.{first_time}
 use Rattle.node.specs.declared.Parcel.{Parcel}
 use Rattle.node.specs.declared.Reply.{Reply}
-
--- the least time of these messages, if there are any
-abbrev pub first_time : List Message → Option ℕ
-first_time [] = None
-first_time (x ∷ xs) = Some (least_time x.time xs)
 
 -- the least time of what waits and of the antimessages of these processes
 abbrev pub low_of : List Process → Option ℕ

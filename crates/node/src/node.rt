@@ -10,7 +10,7 @@ use crate::roster::Roster;
 use crate::tournament::Tournament;
 use crate::{Load, NodeFault, Parcel, Part, Reply};
 use eventkey::Message;
-use model::{Model as Simulated, Words};
+use model::Model as Simulated;
 use process::Process;
 use std::alloc::Global;
 
@@ -62,16 +62,23 @@ impl Node {
         if !are_all_from(load.floor, parts) {
             return Err(NodeFault::BelowFloor);
         }
-        let (processes, nexts) = seat_all(alloc, parts, load.end, load.floor)?;
+        let Load {
+            node,
+            nodes,
+            end,
+            floor,
+            parts,
+        } = load;
+        let (processes, nexts) = seat_all(alloc, parts.into_vec(), end, floor)?;
         Ok(Node {
             spent: false,
             roster: Roster {
                 alloc,
-                node: load.node,
-                nodes: load.nodes,
+                node,
+                nodes,
                 lps,
-                end: load.end,
-                floor: load.floor,
+                end,
+                floor,
                 processes,
                 nexts,
             },
@@ -185,38 +192,43 @@ fn are_from(floor: u64, pending: &[Message]) -> bool
 /// The processes of these parts, and their next messages before the end.
 fn seat_all(
     alloc: Global,
-    parts: &[Part],
+    parts: Vec<Part>,
     end: u64,
     floor: u64,
 ) -> Result<(Vec<Process>, Tournament), NodeFault>
-    requires few { length parts.now < 2 ^ 32 }
-    requires range { Every IsInRange parts.now }
-    requires own { Every (λ p. Every (λ x. x.to ≡ p.lp) p.pending) parts.now }
-    requires late { Every (λ p. Every (λ x. floor ≤ x.time) p.pending) parts.now }
-    ensures processes { IfOk result (λ seats. seats.0.items ≡ map (seat_of floor) parts.now) }
-    ensures nexts { IfOk result (λ seats. seats.1 ≡ nexts_of end (map (seat_of floor) parts.now)) }
+    requires few { length parts.items < 2 ^ 32 }
+    requires range { Every IsInRange parts.items }
+    requires own { Every (λ p. Every (λ x. x.to ≡ p.lp) p.pending) parts.items }
+    requires late { Every (λ p. Every (λ x. floor ≤ x.time) p.pending) parts.items }
+    ensures processes { IfOk result (λ seats. seats.0.items ≡ map (seat_of floor) parts.items) }
+    ensures nexts { IfOk result (λ seats. seats.1 ≡ nexts_of end (map (seat_of floor) parts.items)) }
     ensures memory { IfErr result (λ fault. fault ≡ NoMemory) }
 {
     let mut processes = Vec::with_capacity(alloc, parts.len())?;
     let mut nexts = Tournament::new(alloc, parts.len())?;
-    for (place, part) in parts.iter().enumerate() {
+    for part in parts {
         let process = seated(alloc, part, floor)?;
-        nexts.set(place, process.next(end));
+        nexts.set(processes.len(), process.next(end));
         processes.push(process)?;
     }
     Ok((processes, nexts))
 }
 
 /// The process of a part whose messages are for it, and not before the floor.
-fn seated(alloc: Global, part: &Part, floor: u64) -> Result<Process, NodeFault>
-    requires range { IsInRange part.now }
-    requires own { Every (λ x. x.to ≡ part.now.lp) part.now.pending }
-    requires late { Every (λ x. floor ≤ x.time) part.now.pending }
-    ensures process { IfOk result (λ p. p ≡ seat_of floor part.now) }
+fn seated(alloc: Global, part: Part, floor: u64) -> Result<Process, NodeFault>
+    requires range { IsInRange part }
+    requires own { Every (λ x. x.to ≡ part.lp) part.pending }
+    requires late { Every (λ x. floor ≤ x.time) part.pending }
+    ensures process { IfOk result (λ p. p ≡ seat_of floor part) }
     ensures memory { IfErr result (λ fault. fault ≡ NoMemory) }
 {
-    let words = Words::from_slice(alloc, part.words.words().as_slice())?;
-    let pending = part.pending.as_slice().to_vec(alloc)?;
-    let process = Process::load(alloc, part.lp, words, part.number, pending, floor)?;
+    let Part {
+        lp,
+        number,
+        words,
+        pending,
+    } = part;
+    let (words, pending) = (words.into_words(), pending.into_vec());
+    let process = Process::load(alloc, lp, words, number, pending, floor)?;
     Ok(process)
 }

@@ -1,13 +1,50 @@
-use Rattle.node.proofs.Loads.{nexts_all, nexts_more, seats_more}
+use Rattle.std.proofs.Common.{◌≡◌, ◌∷◌, ◌≤◌, ◌∙◌, List, length, map, set, refl, sym, ap, subst, arith}
+use Rattle.std.specs.List.{AllByRecursion as Every}
+use Rattle.std.specs.Vec.Iter.{into_iter_items}
+use Rattle.eventkey.specs.Message.{Message}
+use Rattle.node.proofs.Loads.{all_seated, every_next, seats_more, seats_place}
+use Rattle.node.specs.Handling.{IsInRange}
+use Rattle.node.specs.Seats.{nexts_of, seat_of}
+use Rattle.node.specs.declared.Part.{Part}
 use Rattle.node.proofs.node.seat_all.Goals as goal
 
-pub loop-place-preserved : goal.loop-place-preserved
-loop-place-preserved c = record {
-  processes = seats_more c.args.floor c.args.parts.now c.loop-place.place c.index-parts-place.result c.loop-place.processes.items c.push.new.self.items c.in_ok-process.process c.loop-place-test.true c.index-parts-place.is
-      c.loop-place.invariant.processes c.in_ok-process.ensures.process c.in_ok-push.ensures.items;
-  nexts = nexts_more c.args.end c.args.floor c.args.parts.now c.loop-place.place c.index-parts-place.result c.loop-place.nexts c.set.new.self c.in_ok-process.process c.next.result c.loop-place-test.true c.index-parts-place.is
-      c.loop-place.invariant.nexts c.in_ok-process.ensures.process c.next.ensures c.set.ensures;
-}
+pub seated-requires-clause-range : goal.seated-requires-clause-range
+seated-requires-clause-range c =
+    every_next IsInRange c.args.parts.items c.loop-part.yielded (into_iter_items c.loop-part.part-iterator) (into_iter_items c.next.new.self) c.in-Some.part (c.loop-part.invariant.so_far.all ∙ c.into_iter-part-iterator.ensures.into_iter_gives.0) c.in-Some.ensures.steps.0 c.requires.range
+
+pub seated-requires-clause-own : goal.seated-requires-clause-own
+seated-requires-clause-own c =
+    every_next (λ (p : Part). Every (λ (x : Message). x.to ≡ p.lp) p.pending) c.args.parts.items c.loop-part.yielded (into_iter_items c.loop-part.part-iterator) (into_iter_items c.next.new.self) c.in-Some.part (c.loop-part.invariant.so_far.all ∙ c.into_iter-part-iterator.ensures.into_iter_gives.0) c.in-Some.ensures.steps.0 c.requires.own
+
+pub seated-requires-clause-late : goal.seated-requires-clause-late
+seated-requires-clause-late c =
+    every_next (λ (p : Part). Every (λ (x : Message). c.args.floor ≤ x.time) p.pending) c.args.parts.items c.loop-part.yielded (into_iter_items c.loop-part.part-iterator) (into_iter_items c.next.new.self) c.in-Some.part (c.loop-part.invariant.so_far.all ∙ c.into_iter-part-iterator.ensures.into_iter_gives.0) c.in-Some.ensures.steps.0 c.requires.late
+
+pub set-requires : goal.set-requires
+set-requires c =
+    let place = seats_place (into_iter_items c.next.new.self) c.in-Some.part c.loop-part.invariant.so_far c.in-Some.ensures.steps.0 in
+    let size = c.len-2.ensures in
+    omega arith
+
+pub loop-part-preserved : goal.loop-part-preserved
+loop-part-preserved c =
+    let told = c.len-in-loop-part.ensures in
+    let place : c.len-in-loop-part.result ≡ length c.loop-part.processes.items = omega (arith, c.loop-part.processes.ok) in
+    record {
+      so_far = seats_more (into_iter_items c.next.new.self) c.in-Some.part c.in_ok-process.process c.push.new.self.items c.next-in-loop-part.result c.set.new.self c.loop-part.invariant.so_far c.in-Some.ensures.steps.0 c.in_ok-process.ensures.process c.in_ok-push.ensures.items c.next-in-loop-part.ensures (c.set.ensures ∙ ap (λ n. set c.loop-part.nexts n c.next-in-loop-part.result) place);
+      left =
+          let was = c.loop-part.invariant.left in
+          let gone = c.in-Some.ensures.steps.1 in
+          let short = ap length c.in-Some.ensures.steps.0 in
+          omega arith;
+    }
+
+pub returns-clause-processes : goal.returns-clause-processes
+returns-clause-processes c =
+    let none = sym c.loop-part.invariant.left ∙ c.in-None.ensures.steps.0 in
+    (all_seated c.loop-part.invariant.so_far none).0 ∙ ap (map (seat_of c.args.floor)) c.into_iter-part-iterator.ensures.into_iter_gives.0
 
 pub returns-clause-nexts : goal.returns-clause-nexts
-returns-clause-nexts c = nexts_all c.args.end c.args.floor c.args.parts.now c.loop-place.place c.loop-place.nexts c.loop-place-test.false c.loop-place.invariant.nexts
+returns-clause-nexts c =
+    let none = sym c.loop-part.invariant.left ∙ c.in-None.ensures.steps.0 in
+    (all_seated c.loop-part.invariant.so_far none).1 ∙ ap (λ (ps : List Part). nexts_of c.args.end (map (seat_of c.args.floor) ps)) c.into_iter-part-iterator.ensures.into_iter_gives.0

@@ -1,9 +1,10 @@
-use Rattle.std.proofs.Common.{◌≡◌, ◌++◌, ◌-◌, None, length, map, replicate, take}
-use Rattle.node.specs.Seats.{nexts_of, seat_of}
+use Rattle.std.proofs.Common.{◌≡◌, length}
+use Rattle.std.specs.Vec.Iter.{into_iter_items, into_iter_len}
+use Rattle.node.proofs.Loads.{IsSeatedSoFar}
 use Rattle.node.proofs.node.seat_all.Given as goal
 
-abbrev pub invariant-loop-place : goal.invariant-loop-place
-invariant-loop-place l = record {
-  processes : l.processes.items ≡ map (seat_of l.floor) (take l.place l.parts);
-  nexts : l.nexts ≡ nexts_of l.end (map (seat_of l.floor) (take l.place l.parts)) ++ replicate (length l.parts - l.place) None;
+abbrev pub invariant-loop-part : goal.invariant-loop-part
+invariant-loop-part l = record {
+  so_far : IsSeatedSoFar l.end l.floor (into_iter_items l.initial.part-iterator) l.yielded (into_iter_items l.part-iterator) l.processes.items l.nexts;
+  left : into_iter_len l.part-iterator ≡ length (into_iter_items l.part-iterator);
 }

@@ -1,0 +1,259 @@
+// Small schedules by lot: nodes of a model answer as plain nodes do.
+
+ghost use Rattle.std.specs.Prelude.{◌<◌, ◌≤◌, IfOk};
+ghost use Rattle.std.specs.List.{AllByRecursion as Every};
+ghost use Rattle.node.specs.Handling.{IsInRange};
+
+use super::plain::{PlainFossil, PlainNode, PlainProcess, PlainReply};
+use super::relay::{RELAYS, Relay};
+use super::*;
+
+const END: u64 = 60;
+
+/// Numbers by lot, the same at each run (a linear congruence).
+#[derive(Drop)]
+struct Lottery {
+    state: u64,
+}
+
+impl Lottery {
+    /// A number below another.
+    fn below(&mut self, limit: u64) -> u64 {
+        let state = self.state.wrapping_mul(6_364_136_223_846_793_005);
+        self.state = state.wrapping_add(1_442_695_040_888_963_407);
+        (self.state >> 33).checked_rem(limit).unwrap_or(0)
+    }
+}
+
+/// A node, the plain one, and what they told last.
+#[derive(Drop)]
+struct Pair {
+    node: Tried<Relay>,
+    plain: PlainNode,
+    low: Option<u64>,
+    floor: u64,
+}
+
+#[derive(Drop)]
+struct Schedule {
+    alloc: Global,
+    lottery: Lottery,
+    /// Whether what was delivered may travel once more.
+    repeats: bool,
+    transit: Vec<Signed>,
+    pairs: Vec<Pair>,
+    /// How many antimessages were sent.
+    undone: u64,
+}
+
+fn is_as_plain(fossil: &Done, plain: &PlainFossil) -> bool {
+    fossil.message == plain.message
+        && fossil.sent.as_slice() == plain.sent.as_slice()
+        && fossil.after.words().as_slice() == [plain.after].as_slice()
+        && fossil.number_after == plain.number_after
+}
+
+fn agree(reply: &Reply, plain: &PlainReply) -> bool {
+    let mut agree = reply.out.as_slice() == plain.out.as_slice()
+        && reply.low == plain.low
+        && reply.ran == plain.ran
+        && reply.fossils.as_slice().len() == plain.fossils.len();
+    for (fossil, told) in reply.fossils.as_slice().iter().zip(plain.fossils.iter()) {
+        agree = agree && is_as_plain(fossil, told);
+    }
+    agree
+}
+
+/// What waits for a process at first.
+fn pending(lp: u32) -> Result<[Message; 2], Fail> {
+    let time = u64::from(lp % 3);
+    let soon = Message::new(time.wrapping_add(1), lp, 0, lp, 0, u64::from(lp))?;
+    let later = Message::new(time.wrapping_add(4), lp, 1, lp, 0, 5)?;
+    Ok([later, soon])
+}
+
+fn parts_and_plain(alloc: Global, node: u32, nodes: u32) -> Result<(Listed<Part>, PlainNode), Fail>
+    ensures { IfOk result (λ both. Every IsInRange both.0) }
+{
+    let mut parts = Vec::new(alloc);
+    let mut plain = PlainNode::new(alloc, END);
+    for lp in 0..RELAYS {
+        if lp.checked_rem(nodes) == Some(node) {
+            let pending = pending(lp)?;
+            parts.push(part(alloc, lp, 2, &pending)?)?;
+            plain.seat(PlainProcess::new(alloc, lp, 2, &pending)?)?;
+        }
+    }
+    Ok((Listed::from_vec(parts), plain))
+}
+
+fn paired(alloc: Global, node: u32, nodes: u32) -> Result<Pair, Fail>
+    requires node { node < nodes }
+    requires nodes { nodes ≤ 64 }
+{
+    let (parts, plain) = parts_and_plain(alloc, node, nodes)?;
+    let load = Load {
+        node,
+        nodes,
+        end: END,
+        floor: 0,
+        parts,
+    };
+    let low = plain.low();
+    Ok(Pair {
+        node: Tried::load(alloc, Relay, load)?,
+        plain,
+        low,
+        floor: 0,
+    })
+}
+
+impl Pair {
+    /// Hands both the same parcel. Their reply, if it is the same.
+    fn handle(
+        &mut self,
+        alloc: Global,
+        deliver: &[Signed],
+        budget: u32,
+        floor: u64,
+    ) -> Result<Option<Reply>, Fail> {
+        let reply = self.node.handle(parcel(alloc, deliver, budget, floor)?)?;
+        let plain = self.plain.handle(deliver, budget, floor)?;
+        self.low = reply.low;
+        self.floor = floor;
+        Ok(if agree(&reply, &plain) {
+            Some(reply)
+        } else {
+            None
+        })
+    }
+}
+
+impl Schedule {
+    fn new(alloc: Global, seed: u64, nodes: u32) -> Result<Schedule, Fail>
+        requires { nodes ≤ 64 }
+    {
+        let mut pairs = Vec::new(alloc);
+        for node in 0..nodes {
+            pairs.push(paired(alloc, node, nodes)?)?;
+        }
+        Ok(Schedule {
+            alloc,
+            lottery: Lottery { state: seed },
+            repeats: seed % 2 == 1,
+            transit: Vec::new(alloc),
+            pairs,
+            undone: 0,
+        })
+    }
+
+    /// The time, in ticks, before which nothing comes any more.
+    fn floor(&self) -> u64 {
+        let mut floor = END;
+        for pair in self.pairs.iter() {
+            floor = floor.min(pair.low.unwrap_or(END));
+        }
+        for signed in self.transit.iter() {
+            floor = floor.min(signed.message.time());
+        }
+        floor
+    }
+
+    /// Takes some of what travels to a node out of transit, in this order or against it.
+    fn picked(&mut self, node: u32, nodes: u32) -> Result<Vec<Signed>, Fail> {
+        let (mut deliver, mut left) = (Vec::new(self.alloc), Vec::new(self.alloc));
+        for signed in self.transit.iter() {
+            let here = signed.message.to().checked_rem(nodes) == Some(node);
+            let goes = here && self.lottery.below(3) > 0;
+            if goes {
+                deliver.push(*signed)?;
+            }
+            if !goes || self.repeats && self.lottery.below(40) == 0 {
+                left.push(*signed)?;
+            }
+        }
+        self.transit = left;
+        if self.lottery.below(2) == 0 {
+            deliver.reverse();
+        }
+        Ok(deliver)
+    }
+
+    fn note(&mut self, reply: &Reply) -> Result<(), Fail> {
+        self.transit.extend_from_slice(reply.out.as_slice())?;
+        for signed in reply.out.as_slice() {
+            if signed.sign == Sign::Minus {
+                self.undone = self.undone.wrapping_add(1);
+            }
+        }
+        Ok(())
+    }
+
+    /// One parcel to one node. Whether both nodes answer the same.
+    fn step(&mut self, nodes: u32) -> Result<bool, Fail> {
+        let node = u32::try_from(self.lottery.below(u64::from(nodes)))?;
+        let floor = self.floor();
+        let deliver = self.picked(node, nodes)?;
+        self.post(node, deliver.as_slice(), floor)
+    }
+
+    /// Hands a node these deliveries, and this floor or the one that it has.
+    fn post(&mut self, node: u32, deliver: &[Signed], floor: u64) -> Result<bool, Fail> {
+        let budget = u32::try_from(self.lottery.below(9))?;
+        let keeps = self.lottery.below(3) == 0;
+        let alloc = self.alloc;
+        let Some(pair) = self.pairs.get_mut(node as usize) else {
+            return Ok(false);
+        };
+        let floor = if keeps { pair.floor } else { floor };
+        match pair.handle(alloc, deliver, budget, floor)? {
+            Some(reply) => {
+                self.note(&reply)?;
+                Ok(true)
+            }
+            None => Ok(false),
+        }
+    }
+}
+
+/// So many parcels. How many antimessages were sent, if all replies were the same.
+fn lot(alloc: Global, seed: u64, nodes: u32, parcels: u32) -> Result<Option<u64>, Fail>
+    requires { nodes ≤ 64 }
+{
+    let mut schedule = Schedule::new(alloc, seed, nodes)?;
+    for _ in 0..parcels {
+        if !schedule.step(nodes)? {
+            return Ok(None);
+        }
+    }
+    Ok(Some(schedule.undone))
+}
+
+/// Schedules of so many nodes, by several lots: all replies are the same, and there was much to take back.
+fn agree_by_lot(rt: &impl Abort, alloc: Global, nodes: u32) -> Result<(), Fail>
+    requires { nodes ≤ 64 }
+{
+    let mut undone = 0u64;
+    for seed in 1..7u64 {
+        let answer = lot(alloc, seed, nodes, 80)?;
+        assert!(rt; answer.is_some(), "at seed {seed}");
+        undone = undone.wrapping_add(answer.unwrap_or(0));
+    }
+    assert!(rt; undone > 100);
+    Ok(())
+}
+
+#[test]
+fn one_node_answers_as_a_plain_one(rt: HostRuntime) -> Result<(), Fail> {
+    agree_by_lot(&rt, rt.alloc(), 1)
+}
+
+#[test]
+fn two_nodes_answer_as_plain_ones(rt: HostRuntime) -> Result<(), Fail> {
+    agree_by_lot(&rt, rt.alloc(), 2)
+}
+
+#[test]
+fn four_nodes_answer_as_plain_ones(rt: HostRuntime) -> Result<(), Fail> {
+    agree_by_lot(&rt, rt.alloc(), 4)
+}
