@@ -98,7 +98,8 @@ fn a_node_has_one_parcel_at_a_time(rt: HostRuntime) -> Result<(), Fail> {
     sends(rt.alloc(), &mut ledger, 0, &sent, Some(6))?;
     let _parcel = post(&mut ledger, 1, &[0])?;
     assert_eq!(rt; post(&mut ledger, 1, &[0]).err(), Some(LedgerFault::Busy));
-    assert_eq!(rt; (ledger.transit().len(), ledger.floor()), (1, 4));
+    assert_eq!(rt; ledger.transit(), [sent[1]].as_slice());
+    assert_eq!(rt; (ledger.floor(), ledger.least_answered()), (4, 0));
     assert_eq!(rt;
         take(rt.alloc(), &mut ledger, 0, &[], None),
         Err(LedgerFault::Idle)

@@ -10,20 +10,34 @@ fn made(alloc: Global, lows: [Option<u64>; 2]) -> Result<Ledger, LedgerFault> {
     }
 }
 
+// What a ledger shows: how much travels, the first and the last of it, the floor and the least floor answered.
+type Shown = (usize, Option<Signed>, Option<Signed>, u64, u64);
+
+fn shown(ledger: &Ledger) -> Shown {
+    let transit = ledger.transit();
+    (
+        transit.len(),
+        transit.first().copied(),
+        transit.last().copied(),
+        ledger.floor(),
+        ledger.least_answered(),
+    )
+}
+
 fn posted(ledger: &mut Ledger, node: u32, picks: &[u32]) -> Result<Parcel, LedgerFault> {
-    let (count, floor) = (ledger.transit().len(), ledger.floor());
+    let before = shown(ledger);
     match post(ledger, node, picks) {
-        Err(LedgerFault::NoMemory) if ledger.transit().len() == count && ledger.floor() == floor =>
-            { post(ledger, node, picks) }
+        Err(LedgerFault::NoMemory) if shown(ledger) == before => post(ledger, node, picks),
         other => other,
     }
 }
 
 fn taken(alloc: Global, ledger: &mut Ledger, node: u32, out: &[Signed]) -> Result<(), LedgerFault> {
-    let (count, floor) = (ledger.transit().len(), ledger.floor());
+    let before = shown(ledger);
     match take(alloc, ledger, node, out, None) {
-        Err(LedgerFault::NoMemory) if ledger.transit().len() == count && ledger.floor() == floor =>
-            { take(alloc, ledger, node, out, None) }
+        Err(LedgerFault::NoMemory) if shown(ledger) == before => {
+            take(alloc, ledger, node, out, None)
+        }
         other => other,
     }
 }
