@@ -1,9 +1,9 @@
 pub mod Headers
 pub mod Bodies
-pub mod Steps
 pub mod Replays
 pub mod Prefixes
 pub mod Standing
+pub mod Images
 pub mod Causes
 pub mod Filled
 pub mod Replaying

@@ -1,0 +1,48 @@
+use super::*;
+
+#[test]
+fn a_header_has_the_bytes_of_its_format(rt: HostRuntime) -> Result<(), Fail> {
+    let bytes = header(rt.alloc(), &RING, END);
+    let start = [
+        0x54, 0x49, 0x4d, 0x45, 0x57, 0x41, 0x52, 0x50, 0, 0, 0, 1, 0, 0, 0, 3, 0, 0, 0, 0, 0, 0,
+        0, 10, 0, 0, 0, 3, 0, 0, 0, 0, 0, 0, 0, 1, 0, 0, 0, 0, 0, 0, 0, 2, 0, 0, 0, 0, 0, 0, 0, 1,
+    ];
+    assert!(rt; bytes.starts_with(&start));
+    assert!(rt; bytes.iter().skip(52).all(|byte| *byte == 0));
+    Ok(())
+}
+
+#[test]
+fn records_of_events_have_the_bytes_of_their_format(rt: HostRuntime) -> Result<(), Fail> {
+    let alloc = rt.alloc();
+    let log = log_with(alloc, &[(1, &[]), (7, &EVENTS[..3])], None)?;
+    let mut disk = log.into_disk();
+    let mut sector = [0; 512];
+    disk.read(3, &mut sector)?;
+    let empty = [1, 0, 0, 0, 12, 0, 0, 0, 0, 0, 0, 0, 1, 0, 0, 0, 0];
+    assert!(rt; sector.starts_with(&empty));
+    assert!(rt; sector.iter().skip(17).all(|byte| *byte == 0));
+    disk.read(5, &mut sector)?;
+    let three = [1, 0, 0, 0, 0x84, 0, 0, 0, 0, 0, 0, 0, 7, 0, 0, 0, 3];
+    assert!(rt; sector.starts_with(&three));
+    Ok(())
+}
+
+#[test]
+fn a_commit_of_thirteen_events_takes_a_second_sector(rt: HostRuntime) -> Result<(), Fail> {
+    let alloc = rt.alloc();
+    let twelve = body(alloc, 2, &[EVENTS[0]; 12])?;
+    let thirteen = body(alloc, 2, &[EVENTS[0]; 13])?;
+    assert_eq!(rt; 5 + twelve.len(), 497);
+    assert_eq!(rt; 5 + thirteen.len(), 537);
+    let mut log = log_with(alloc, &[], Some((1, twelve.as_slice())))?;
+    log.append(1, thirteen.as_slice())?;
+    log.append(1, &[])?;
+    let mut disk = log.into_disk();
+    let mut sector = [0; 512];
+    for (gate, byte) in [(2, 1), (4, 1), (7, 1), (9, 0)] {
+        disk.read(gate, &mut sector)?;
+        assert_eq!(rt; sector[0], byte, "gate {gate}");
+    }
+    Ok(())
+}
