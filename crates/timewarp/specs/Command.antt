@@ -5,6 +5,7 @@ use Rattle.model.specs.World.{IsUpto, World}
 use Rattle.timewarp.specs.Any.{any_meaning}
 use Rattle.timewarp.specs.ModelFile.{IsModelFile}
 use Rattle.timewarp.specs.Text.{log_text, world_text}
+use Rattle.timewarp.specs.Writing.{TakesBeginning}
 use Rattle.timewarp.specs.declared.model_file.ModelFault.{ModelFault}
 use Rattle.timewarp.specs.declared.model_file.ModelFault.TheVariants as file
 use Rattle.timewarp.specs.declared.command.Fault.{Fault}
@@ -32,3 +33,16 @@ pub record PrintsRun (text : List ℕ) (old new : Option (List ℕ)) : Type 0 wh
 -- the same, of the text of some file
 abbrev pub PrintsSome : Option (List ℕ) → Option (List ℕ) → Type 0
 PrintsSome old new = (text : List ℕ) × PrintsRun text old new
+
+-- the writer has taken a beginning of that
+pub record PrintsBeginning (text : List ℕ) (old new : Option (List ℕ)) : Type 0 where
+  pub model : AnyModel
+  pub end : ℕ
+  pub world : World
+  pub file : IsModelFile text model end
+  pub upto : IsUpto (any_meaning model) end end world
+  pub part : TakesBeginning old new (run_text world)
+
+-- of the text of some file
+abbrev pub BeginsSome : Option (List ℕ) → Option (List ℕ) → Type 0
+BeginsSome old new = (text : List ℕ) × PrintsBeginning text old new

@@ -1,11 +1,12 @@
 // The commands of the program.
 
-ghost use Rattle.std.specs.Io.KnownBytes.{Appends};
-ghost use Rattle.std.specs.Prelude.{◌≡◌, ◌≤◌, ◌≢◌, ℕ, Err, [], length, map, IfOk, OnOk};
+ghost use Rattle.std.specs.IoError.{error_kind};
+ghost use Rattle.std.specs.Prelude.{◌≡◌, ◌≤◌, ◌≢◌, ◌⊎◌, ℕ, Err, [], length, map, IsOkUnless, OnErr, OnOk};
 ghost use Rattle.clap.specs.Words.{fault_of};
-ghost use Rattle.timewarp.specs.Command.{of_model, run_text, PrintsRun, PrintsSome};
+ghost use Rattle.timewarp.specs.Command.{of_model, run_text, BeginsSome, PrintsBeginning, PrintsRun, PrintsSome};
 ghost use Rattle.timewarp.specs.Line.{program};
 ghost use Rattle.timewarp.specs.ModelFile.{IsModelFile};
+ghost use Rattle.timewarp.specs.Writing.{Writes};
 ghost use Rattle.timewarp.specs.declared.models.AnyModel.{AnyModel};
 ghost use Rattle.timewarp.specs.declared.command.Fault.TheVariants.{BadModel, NoMemory, Output, World as WorldCase};
 
@@ -13,9 +14,8 @@ use crate::line::{Line, read_line};
 use crate::model_file::{ModelFault, read_model};
 use crate::text::{write_log, write_world};
 use clap::error::ErrorKind as LineFault;
-use model::{Words, World, WorldFault};
-use smallvec::SmallVec;
-use std::alloc::{AllocError, AllocFailed, Global};
+use model::{World, WorldFault};
+use std::alloc::Global;
 use std::convert::AsStr;
 use std::fs;
 use std::io::{Error as IoError, ErrorKind, Write};
@@ -56,6 +56,10 @@ where
     ensures status { result ≤ 2 }
     ensures printed { result ≡ 0 → PrintsSome (O.contents out.old) (O.contents out.new) }
     ensures usage { fault_of program (map S.text words.now) ≢ [] → result ≢ 0 }
+    ensures line { result ≡ 2 → fault_of program (map S.text words.now) ≢ [] }
+    ensures failed { result ≡ 1 → (out.new ≡ out.old) ⊎ BeginsSome (O.contents out.old) (O.contents out.new) }
+    ensures silent { result ≡ 2 → out.new ≡ out.old }
+    ensures quiet { result ≡ 0 → err.new ≡ err.old }
 {
     let line = match read_line(rt.alloc(), words) {
         Ok(line) => line,
@@ -71,6 +75,29 @@ where
     }
 }
 
+/// Tells on `err` why the words of the command line could not be read, and answers the exit status.
+///
+/// A word that is no UTF-8 is a mistake in the line, as those that `clap` finds. Else memory ran out.
+pub fn refuse_words<E: Write>(error: IoError, err: &mut E) -> u8
+    ensures usage { error_kind error ≡ ErrorKind.InvalidData → result ≡ 2 }
+    ensures memory { error_kind error ≢ ErrorKind.InvalidData → result ≡ 1 }
+{
+    match error.kind() {
+        ErrorKind::InvalidData => {
+            let _ = err.write_all(NO_UTF8.as_bytes());
+            2
+        }
+        _ => tell(Fault::NoMemory, err),
+    }
+}
+
+/// In the form of `clap`'s texts.
+const NO_UTF8: &str = "\
+error: a word of the command line is not UTF-8
+
+For more information, try '--help'.
+";
+
 /// Tells a fault, and answers the status for it.
 pub fn tell<E: Write>(fault: Fault, err: &mut E) -> u8
     ensures { result ≡ 1 }
@@ -83,7 +110,8 @@ fn run<R, O>(rt: &R, line: Line<'_>, out: &mut O) -> Result<(), Fault>
 where
     R: Files + AllocGlobal,
     O: Write,
-    ensures { OnOk result (PrintsSome (O.contents out.old) (O.contents out.new)) }
+    ensures ok { OnOk result (PrintsSome (O.contents out.old) (O.contents out.new)) }
+    ensures err { OnErr result ((out.new ≡ out.old) ⊎ BeginsSome (O.contents out.old) (O.contents out.new)) }
 {
     match line {
         Line::Seq { model } => {
@@ -96,7 +124,11 @@ where
     }
 }
 
-fn unreadable(error: IoError) -> Fault {
+/// Why a file could not be read.
+fn unreadable(error: IoError) -> Fault
+    ensures memory { error_kind error ≡ ErrorKind.OutOfMemory → result ≡ Fault.NoMemory }
+    ensures file { error_kind error ≢ ErrorKind.OutOfMemory → result ≡ Fault.File }
+{
     match error.kind() {
         ErrorKind::OutOfMemory => Fault::NoMemory,
         _ => Fault::File,
@@ -105,48 +137,38 @@ fn unreadable(error: IoError) -> Fault {
 
 /// Runs the model of a model file to its end by the plain runner, and writes the log and then the world.
 ///
-/// The faults come in this order: `BadModel` where the text is no model file, `World` of the runner, `Output` where
-/// the writer refuses. `NoMemory` comes where memory runs out in reading the file or in writing.
+/// The faults come in this order: `BadModel` where the text is no model file, or `NoMemory` where memory runs out in
+/// reading it; `World` of the runner; `Output` where the writer refuses. Before the last nothing is written.
 pub fn seq<O: Write>(alloc: Global, text: &str, out: &mut O) -> Result<(), Fault>
     ensures ok { OnOk result (PrintsRun text.now (O.contents out.old) (O.contents out.new)) }
     ensures bad { result ≡ Err Fault.BadModel → (model : AnyModel) (end : ℕ) → ¬ IsModelFile text.now model end }
+    ensures world { (fault : WorldFault) → result ≡ Err (Fault.World fault) → (model : AnyModel) × (end : ℕ) × IsModelFile text.now model end }
+    ensures output { result ≡ Err Fault.Output → PrintsBeginning text.now (O.contents out.old) (O.contents out.new) }
+    ensures unwritten { (fault : Fault) → result ≡ Err fault → fault ≢ Output → out.new ≡ out.old }
 {
     let (model, end) = read_model(alloc, text)?;
     let mut world = World::open(alloc, &model, end)?;
     world.run_to(&model, end)?;
-    write_run(alloc, &mut world, out)
+    write_run(world, out)
 }
 
 /// Writes a world's log and then the world, and flushes the writer.
-fn write_run<O: Write>(alloc: Global, world: &mut World, out: &mut O) -> Result<(), Fault>
-    requires { length world.old.world.states ≡ length world.old.world.numbers }
-    ensures ok { OnOk result (Appends (O.contents out.old) (O.contents out.new) (run_text world.old.world)) }
-    ensures fault { result ≢ Err Fault.BadModel }
+fn write_run<O: Write>(world: World, out: &mut O) -> Result<(), Fault>
+    requires { length world.world.states ≡ length world.world.numbers }
+    ensures written { Writes (O.contents out.old) (O.contents out.new) result (run_text world.world) }
+    ensures fault { IsOkUnless result Fault.Output }
 {
-    write_log(world.log(), out)?;
-    let time = world.time();
-    // Copies, since to list the pending messages changes the world. Those can be many, and these are few.
-    let numbers = Vec::from_slice(alloc, world.numbers())?;
-    let states = copied(alloc, world.states())?;
+    let parts = world.into_parts();
+    write_log(parts.log.as_slice(), out)?;
     write_world(
-        time,
-        states.as_slice(),
-        numbers.as_slice(),
-        world.pending(),
+        parts.time,
+        parts.states.as_slice(),
+        parts.numbers.as_slice(),
+        parts.pending.as_slice(),
         out,
     )?;
     out.flush()?;
     Ok(())
-}
-
-fn copied(alloc: Global, states: &[Words]) -> Result<Vec<Words>, AllocError>
-    ensures { IfOk result (λ copies. map (λ s. s.items) copies.items ≡ map (λ s. s.items) states.now) }
-{
-    let mut copies = Vec::new(alloc);
-    for state in states {
-        copies.push(SmallVec::from_slice(alloc, state.as_slice())?)?;
-    }
-    Ok(copies)
 }
 
 impl From<ModelFault> for Fault {
@@ -174,21 +196,5 @@ impl From<WorldFault> for Fault {
 
     fn from(fault: WorldFault) -> Fault {
         Fault::World(fault)
-    }
-}
-
-impl From<AllocError> for Fault {
-    ghost from_gives = { λ _ e. e ≡ NoMemory };
-
-    fn from(_error: AllocError) -> Fault {
-        Fault::NoMemory
-    }
-}
-
-impl<T: Drop> From<AllocFailed<T>> for Fault {
-    ghost from_gives = { λ _ e. e ≡ NoMemory };
-
-    fn from(_error: AllocFailed<T>) -> Fault {
-        Fault::NoMemory
     }
 }

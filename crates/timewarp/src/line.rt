@@ -46,14 +46,27 @@ fn program<'a>(alloc: Global) -> Result<Command<'a>, AllocError>
         .about(
             "Simulates logical processes that send one another messages stamped with virtual times",
         )
-        .after_help(
-            "Virtual times are whole ticks. Models are described by TOML files, as models/ring.toml.",
-        )
+        .after_help(PROGRAM_HELP)
         .subcommand_required(true)
         .arg_required_else_help(true)
         .disable_help_subcommand(true)
         .subcommand(seq(alloc)?)
 }
+
+const PROGRAM_HELP: &str = "\
+Virtual times are whole ticks. Models are described by TOML files, as models/ring.toml.
+
+Exit status:
+  0  done
+  1  a fault, told on standard error after 'timewarp: '
+  2  a mistake in the command line, or help
+
+Faults:
+  BadModel   the file is no model file ('timewarp seq --help' has its keys)
+  File       a file cannot be read
+  World ..   the simulation stops: NoMemory, or NumberLimit past 2^63 messages of one process
+  NoMemory   memory ran out elsewhere
+  Output     standard output refused a write";
 
 /// The command `seq`.
 fn seq<'a>(alloc: Global) -> Result<Command<'a>, AllocError>

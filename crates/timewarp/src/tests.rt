@@ -2,5 +2,7 @@
 
 mod commands;
 mod files;
+mod memory;
 mod rings;
 mod texts;
+mod words;

@@ -2,16 +2,16 @@
 
 use crate::command::{Fault, command, seq, tell};
 use model::WorldFault;
-use std::alloc::AllocError;
+use std::alloc::{AllocError, Global};
 use std::io::{Error, ErrorKind, Result, Write};
 use std::path::PathBuf;
 use std::rt::{Env, Files};
 use std::test::Fail;
 use std::{env, fs};
 
-const RING: &str = "model = \"ring\"\nlps = 3\nend = 10\nhold = 2\ntokens = 1\n";
+pub const RING: &str = "model = \"ring\"\nlps = 3\nend = 10\nhold = 2\ntokens = 1\n";
 
-const RING_TEXT: &str = "\
+pub const RING_TEXT: &str = "\
 1 0 0 0 0 0
 3 0 1 1 0 1
 5 1 0 2 0 2
@@ -36,17 +36,18 @@ pending 1 0 0 0 0 0
 
 /// What a command answers: its status, and what it writes to each stream.
 #[derive(Drop)]
-struct Told {
-    status: u8,
-    out: Vec<u8>,
-    err: Vec<u8>,
+pub struct Told {
+    pub status: u8,
+    pub out: Vec<u8>,
+    pub err: Vec<u8>,
 }
 
-fn run(rt: &(impl Files + AllocGlobal), words: &[&str]) -> Told {
-    let mut out = Vec::new(rt.alloc());
-    let mut err = Vec::new(rt.alloc());
+/// Runs a command with two writers that need no more memory.
+pub fn run(rt: &(impl Files + AllocGlobal), words: &[&str]) -> std::result::Result<Told, Fail> {
+    let mut out = Vec::with_capacity(rt.alloc(), 8192)?;
+    let mut err = Vec::with_capacity(rt.alloc(), 8192)?;
     let status = command(rt, words, &mut out, &mut err);
-    Told { status, out, err }
+    Ok(Told { status, out, err })
 }
 
 /// Runs `seq` on a file of these bytes.
@@ -58,12 +59,12 @@ fn run_seq<R: Files + Env + AllocGlobal>(
     let path = temporary(rt, name)?;
     let path = path.as_path().to_str().ok_or("a path of text")?;
     fs::write(rt, path, bytes)?;
-    let told = run(rt, &["timewarp", "seq", path]);
+    let told = run(rt, &["timewarp", "seq", path])?;
     fs::remove_file(rt, path)?;
     Ok(told)
 }
 
-fn temporary<R: Env + AllocGlobal>(rt: &R, name: &str) -> std::result::Result<PathBuf, Fail> {
+pub fn temporary<R: Env + AllocGlobal>(rt: &R, name: &str) -> std::result::Result<PathBuf, Fail> {
     let mut path = env::temp_dir(rt)?;
     path.push(name)?;
     Ok(path)
@@ -100,48 +101,97 @@ fn a_missing_file_is_told(rt: HostRuntime) -> std::result::Result<(), Fail> {
             "seq",
             path.as_path().to_str().ok_or("a path of text")?,
         ],
-    );
+    )?;
     assert_eq!(rt; told.err.as_slice(), b"timewarp: File\n".as_slice());
     assert_eq!(rt; (told.status, told.out.len()), (1, 0));
     Ok(())
 }
 
 #[test]
-fn usage_and_help_go_to_standard_error(rt: HostRuntime) {
+fn a_folder_is_no_model_file(rt: HostRuntime) -> std::result::Result<(), Fail> {
+    let told = run(&rt, &["timewarp", "seq", "."])?;
+    assert_eq!(rt; told.err.as_slice(), b"timewarp: File\n".as_slice());
+    assert_eq!(rt; (told.status, told.out.len()), (1, 0));
+    Ok(())
+}
+
+/// Whether a command answers status 2, prints nothing, and tells a text with this part.
+fn is_usage(
+    rt: &(impl Files + AllocGlobal),
+    words: &[&str],
+    part: &[u8],
+) -> std::result::Result<bool, Fail> {
+    let told = run(rt, words)?;
+    let has_part = told
+        .err
+        .as_slice()
+        .windows(part.len().max(1))
+        .any(|window| window == part);
+    Ok(has_part && told.status == 2 && told.out.len() == 0)
+}
+
+#[test]
+fn mistakes_in_the_line_are_told(rt: HostRuntime) -> std::result::Result<(), Fail> {
     let lines = [
-        (
-            ["timewarp"].as_slice(),
-            b"Usage: timewarp <COMMAND>".as_slice(),
-        ),
-        (
-            ["timewarp", "--help"].as_slice(),
-            b"Virtual times are whole ticks".as_slice(),
-        ),
-        (
-            ["timewarp", "seq", "--help"].as_slice(),
-            b"tokens  1 to 8 times lps".as_slice(),
-        ),
-        (["timewarp", "seq"].as_slice(), b"<MODEL>".as_slice()),
-        (
-            ["timewarp", "show", "a", "b"].as_slice(),
-            b"show".as_slice(),
-        ),
+        ([].as_slice(), "Usage: timewarp <COMMAND>"),
+        (["timewarp"].as_slice(), "Usage: timewarp <COMMAND>"),
+        (["timewarp", "seq"].as_slice(), "<MODEL>"),
+        (["timewarp", "seq", "a", "b"].as_slice(), "'b'"),
+        (["timewarp", "show", "a", "b"].as_slice(), "'show'"),
+        (["timewarp", "help"].as_slice(), "'help'"),
+        (["timewarp", "--nodes"].as_slice(), "'--nodes'"),
         (
             ["timewarp", "seq", "--batch", "1", "a"].as_slice(),
-            b"--batch".as_slice(),
+            "'--batch'",
         ),
     ];
     for (words, part) in lines {
-        let told = run(&rt, words);
-        assert!(rt;
-            told.err
-                .as_slice()
-                .windows(part.len().max(1))
-                .any(|window| window == part),
-            "{words:?}"
-        );
-        assert_eq!(rt; (told.status, told.out.len()), (2, 0), "{words:?}");
+        assert!(rt; is_usage(&rt, words, part.as_bytes())?, "{words:?}");
     }
+    Ok(())
+}
+
+#[test]
+fn help_tells_what_is_done_in_which_units_and_ranges(
+    rt: HostRuntime,
+) -> std::result::Result<(), Fail> {
+    let program = ["timewarp", "--help"];
+    let seq = ["timewarp", "seq", "--help"];
+    let lines = [
+        (program.as_slice(), "Simulates logical processes"),
+        (program.as_slice(), "Virtual times are whole ticks"),
+        (program.as_slice(), "Usage: timewarp <COMMAND>"),
+        (program.as_slice(), "  seq "),
+        (program.as_slice(), "  BadModel   the file is no model file"),
+        (
+            program.as_slice(),
+            "  2  a mistake in the command line, or help\n",
+        ),
+        (seq.as_slice(), "Runs a model to its end"),
+        (seq.as_slice(), "Usage: timewarp seq <MODEL>"),
+        (seq.as_slice(), "lps     processes, 1 to 1024\n"),
+        (
+            seq.as_slice(),
+            "end     ticks at which the run ends, 1 to 1099511627776\n",
+        ),
+        (
+            seq.as_slice(),
+            "hold    ticks for which a process holds a token, 1 to 4294967295\n",
+        ),
+        (seq.as_slice(), "tokens  1 to 8 times lps\n"),
+        (seq.as_slice(), "virtual time TIME                ticks\n"),
+    ];
+    for (words, part) in lines {
+        assert!(rt; is_usage(&rt, words, part.as_bytes())?, "{part}");
+    }
+    Ok(())
+}
+
+#[test]
+fn the_line_is_looked_at_before_the_file(rt: HostRuntime) -> std::result::Result<(), Fail> {
+    let words = ["timewarp", "seq", "timewarp-missing.toml", "--batch"];
+    assert!(rt; is_usage(&rt, &words, b"'--batch'")?);
+    Ok(())
 }
 
 /// A writer that refuses the call number `fail`, a flush also.
@@ -175,15 +225,21 @@ impl Write for Refusing {
     }
 }
 
-#[test]
-fn each_write_that_is_refused_is_told(rt: HostRuntime) {
-    let mut done = false;
-    for fail in 0..300 {
-        let mut out = Refusing {
-            taken: Vec::new(rt.alloc()),
+impl Refusing {
+    fn at(alloc: Global, fail: usize) -> std::result::Result<Refusing, AllocError> {
+        Ok(Refusing {
+            taken: Vec::with_capacity(alloc, 512)?,
             calls: 0,
             fail,
-        };
+        })
+    }
+}
+
+#[test]
+fn each_write_that_is_refused_is_told(rt: HostRuntime) -> std::result::Result<(), Fail> {
+    let mut done = false;
+    for fail in 0..300 {
+        let mut out = Refusing::at(rt.alloc(), fail)?;
         let result = seq(rt.alloc(), RING, &mut out);
         assert!(rt; RING_TEXT.as_bytes().starts_with(out.taken.as_slice()));
         if out.calls > fail {
@@ -195,28 +251,76 @@ fn each_write_that_is_refused_is_told(rt: HostRuntime) {
         }
     }
     assert!(rt; done);
+    Ok(())
+}
+
+/// Runs `seq` on this file with a writer that refuses the call number `fail`. Answers whether it refused, the status
+/// and what was told.
+fn run_refused(
+    rt: &(impl Files + AllocGlobal),
+    path: &str,
+    fail: usize,
+) -> std::result::Result<(bool, Told), Fail> {
+    let mut out = Refusing::at(rt.alloc(), fail)?;
+    let mut err = Vec::with_capacity(rt.alloc(), 512)?;
+    let words = ["timewarp", "seq", path];
+    let status = command(rt, words.as_slice(), &mut out, &mut err);
+    let told = Told {
+        status,
+        out: out.taken,
+        err,
+    };
+    Ok((out.calls > fail, told))
 }
 
 #[test]
-fn the_status_of_a_refused_write_is_one(rt: HostRuntime) -> std::result::Result<(), Fail> {
+fn the_status_of_each_refused_write_is_one(rt: HostRuntime) -> std::result::Result<(), Fail> {
     let path = temporary(&rt, "timewarp-refused.toml")?;
     let path = path.as_path().to_str().ok_or("a path of text")?;
     fs::write(&rt, path, RING)?;
-    let mut out = Refusing {
-        taken: Vec::new(rt.alloc()),
-        calls: 0,
-        fail: 0,
-    };
-    let mut err = Vec::new(rt.alloc());
-    let status = command(
-        &rt,
-        ["timewarp", "seq", path].as_slice(),
-        &mut out,
-        &mut err,
-    );
+    let mut done = false;
+    for fail in 0..200 {
+        let (refused, told) = run_refused(&rt, path, fail)?;
+        assert!(rt; RING_TEXT.as_bytes().starts_with(told.out.as_slice()));
+        if refused {
+            assert_eq!(rt; told.status, 1);
+            assert_eq!(rt; told.err.as_slice(), b"timewarp: Output\n".as_slice());
+        } else {
+            assert_eq!(rt; (told.status, told.err.len()), (0, 0));
+            assert_eq!(rt; told.out.len(), RING_TEXT.len());
+            done = true;
+        }
+    }
     fs::remove_file(&rt, path)?;
-    assert_eq!(rt; err.as_slice(), b"timewarp: Output\n".as_slice());
-    assert_eq!(rt; status, 1);
+    assert!(rt; done);
+    Ok(())
+}
+
+#[test]
+fn faults_of_the_file_come_before_those_of_the_writer(
+    rt: HostRuntime,
+) -> std::result::Result<(), Fail> {
+    let (refused, told) = run_refused(&rt, "timewarp-missing.toml", 0)?;
+    assert_eq!(rt; told.err.as_slice(), b"timewarp: File\n".as_slice());
+    assert_eq!(rt; (refused, told.status), (false, 1));
+    let mut out = Refusing::at(rt.alloc(), 0)?;
+    assert!(rt; seq(rt.alloc(), "lps = 3\n", &mut out) == Err(Fault::BadModel));
+    assert_eq!(rt; out.calls, 0);
+    Ok(())
+}
+
+#[test]
+fn a_refused_message_changes_no_status(rt: HostRuntime) -> std::result::Result<(), Fail> {
+    let mut out = Vec::new(rt.alloc());
+    let mut err = Refusing::at(rt.alloc(), 0)?;
+    let words = ["timewarp", "seq", "timewarp-missing.toml"];
+    assert_eq!(rt; command(&rt, words.as_slice(), &mut out, &mut err), 1);
+    let mut err = Refusing::at(rt.alloc(), 0)?;
+    assert_eq!(rt;
+        command(&rt, ["timewarp", "run"].as_slice(), &mut out, &mut err),
+        2
+    );
+    assert_eq!(rt; out.len(), 0);
     Ok(())
 }
 
@@ -233,7 +337,7 @@ fn faults_are_told_by_their_names(rt: HostRuntime) {
             Fault::World(WorldFault::NoMemory),
             "timewarp: World NoMemory\n",
         ),
-        (Fault::from(AllocError), "timewarp: NoMemory\n"),
+        (Fault::NoMemory, "timewarp: NoMemory\n"),
         (Fault::Output, "timewarp: Output\n"),
     ];
     for (fault, text) in faults {

@@ -36,6 +36,14 @@ impl Write for Faulty {
 const LOG: &str =
     "1 0 0 0 0 0\n2199023255551 4294967295 18446744073709551615 7 3 18446744073709551614\n";
 
+const WORLD: &str = "\
+virtual time 9
+lp 0 sent 0 state
+lp 1 sent 9223372036854775808 state 5 0 18446744073709551615
+pending 1 0 0 0 0 0
+pending 2199023255551 4294967295 18446744073709551615 7 3 18446744073709551614
+";
+
 fn log() -> Option<[Message; 2]> {
     let first = Message::new(1, 0, 0, 0, 0, 0).ok()?;
     let last = Message::new((1 << 41) - 1, u32::MAX, u64::MAX, 7, 3, u64::MAX - 1).ok()?;
@@ -63,16 +71,14 @@ fn a_world_has_its_processes_and_pending_messages(
     let log = log().ok_or("log")?;
     let mut out = Vec::new(rt.alloc());
     write_world(9, states.as_slice(), &[0, 1 << 63], &log, &mut out)?;
-    let want =
-        "virtual time 9\nlp 0 sent 0 state\nlp 1 sent 9223372036854775808 state 5 0 18446744073709551615\n\
-        pending 1 0 0 0 0 0\npending 2199023255551 4294967295 18446744073709551615 7 3 18446744073709551614\n";
-    assert_eq!(rt; out.as_slice(), want.as_bytes());
+    assert_eq!(rt; out.as_slice(), WORLD.as_bytes());
     Ok(())
 }
 
 #[test]
 fn what_a_failing_writer_has_is_a_beginning(rt: HostRuntime) -> std::result::Result<(), Fail> {
     let log = log().ok_or("log")?;
+    let mut done = false;
     for fail in 0..200 {
         let mut out = Faulty {
             taken: Vec::new(rt.alloc()),
@@ -85,7 +91,36 @@ fn what_a_failing_writer_has_is_a_beginning(rt: HostRuntime) -> std::result::Res
         assert!(rt; LOG.as_bytes().starts_with(out.taken.as_slice()));
         assert_eq!(rt; result.is_ok(), out.calls <= fail);
         assert_eq!(rt; result.is_ok(), out.taken.len() == LOG.len());
+        done = done || result.is_ok();
     }
+    assert!(rt; done);
+    Ok(())
+}
+
+#[test]
+fn what_a_failing_writer_has_of_a_world_is_a_beginning(
+    rt: HostRuntime,
+) -> std::result::Result<(), Fail> {
+    let mut states = Vec::new(rt.alloc());
+    states.push(SmallVec::new(rt.alloc()))?;
+    states.push(SmallVec::from_slice(rt.alloc(), &[5, 0, u64::MAX])?)?;
+    let log = log().ok_or("log")?;
+    let mut done = false;
+    for fail in 0..200 {
+        let mut out = Faulty {
+            taken: Vec::new(rt.alloc()),
+            count: 2,
+            calls: 0,
+            fail,
+            kind: ErrorKind::BrokenPipe,
+        };
+        let result = write_world(9, states.as_slice(), &[0, 1 << 63], &log, &mut out);
+        assert!(rt; WORLD.as_bytes().starts_with(out.taken.as_slice()));
+        assert_eq!(rt; result.is_ok(), out.calls <= fail);
+        assert_eq!(rt; result.is_ok(), out.taken.len() == WORLD.len());
+        done = done || result.is_ok();
+    }
+    assert!(rt; done);
     Ok(())
 }
 

@@ -1,6 +1,7 @@
 use Rattle.std.proofs.Common.{ap, Err}
 use Rattle.timewarp.specs.Any.{any_lawful, any_meaning}
 use Rattle.timewarp.proofs.Runs.{bad_model, on_ok, opening_states, upto_end}
+use Rattle.timewarp.proofs.Written.{began}
 use Rattle.timewarp.proofs.command.seq.Goals as goal
 
 pub run_to-requires : goal.run_to-requires
@@ -17,4 +18,14 @@ returns-clause-ok g c = on_ok c.write_run.result (λ printed. record {
   file = c.in_ok-model.ensures.ok;
   upto = upto_end (any_meaning c.in_ok-model.model) c.in_ok-model.end c.in_ok-world.world c.run_to.new.self.world c.in_ok-world.ensures.ok c.in_ok-run_to.ensures.sequential c.in_ok-world.ensures.sequential;
   printed = printed;
-}) c.write_run.ensures.ok
+}) c.write_run.ensures.written.all
+
+pub returns-clause-output : goal.returns-clause-output
+returns-clause-output g c = λ e. record {
+  model = c.in_ok-model.model;
+  end = c.in_ok-model.end;
+  world = c.run_to.new.self.world;
+  file = c.in_ok-model.ensures.ok;
+  upto = upto_end (any_meaning c.in_ok-model.model) c.in_ok-model.end c.in_ok-world.world c.run_to.new.self.world c.in_ok-world.ensures.ok c.in_ok-run_to.ensures.sequential c.in_ok-world.ensures.sequential;
+  part = began c.write_run.ensures.written e;
+}
