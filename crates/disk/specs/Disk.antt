@@ -1,5 +1,5 @@
 -- What the calls of a disk of sectors do, and what a crash may leave of it.
-use Rattle.std.specs.Prelude.{◌/◌, ◌<◌, ◌≤◌, ◌≡◌, ◌⊎◌, ℕ, Bool, true, false, List, [], length, slice_index, slice_index_or, Result, IsErrOf}
+use Rattle.std.specs.Prelude.{◌/◌, ◌<◌, ◌≤◌, ◌≡◌, ◌⊎◌, ◌^◌, ℕ, Bool, true, false, List, [], ◌∷◌, length, slice_index, slice_index_or, Result, IsErrOf}
 use Rattle.std.specs.Simd.{first_chunks}
 use Rattle.disk.specs.declared.disk.DiskFault.{DiskFault}
 use Rattle.disk.specs.declared.disk.DiskFault.TheVariants.{Device}
@@ -13,6 +13,12 @@ pub record IsSector (sector : List ℕ) : Type 0 where
 abbrev pub image_of : List ℕ → List (List ℕ)
 image_of bytes = first_chunks 512 (length bytes / 512) bytes
 
+-- fewer than 2 ^ 32 sectors of 512 bytes, each of them loose or not
+pub record IsDisk (reads : List (List ℕ)) (loose : List Bool) : Type 0 where
+  pub numbered : length reads < 2 ^ 32
+  pub each : length loose ≡ length reads
+  pub whole : (n : ℕ) → n < length reads → IsSector (slice_index_or reads n [])
+
 -- no sector is loose
 abbrev pub IsFirm : List Bool → Type 0
 IsFirm loose = (n : ℕ) → slice_index_or loose n false ≡ false
@@ -23,17 +29,42 @@ pub record MayLeave (reads : List (List ℕ)) (loose : List Bool) (image : List 
   pub firm : (n : ℕ) → slice_index_or loose n false ≡ false → slice_index_or image n [] ≡ slice_index_or reads n []
   pub torn : (n : ℕ) → slice_index_or loose n false ≡ true → IsSector (slice_index_or image n [])
 
--- Time goes on: a crash since t can have left only what it might have left before, or what it may leave now.
-pub record Elapses (before now : ℕ) (past since : ℕ → List (List ℕ) → Type 0) (may_leave : List (List ℕ) → Type 0) : Type 0 where
-  pub later : before ≤ now
-  pub nothing_else : (t : ℕ) (image : List (List ℕ)) → t ≤ before → since t image → past t image ⊎ may_leave image
+-- how a disk stood at a moment: what a read gave of each sector, and which were loose
+pub record Standing : Type 0 where
+  pub reads : List (List ℕ)
+  pub loose : List Bool
 
--- for a disk that keeps no history: what a crash since a moment may have left is what it may leave now
-abbrev pub since_now : List (List ℕ) → List Bool → ℕ → List (List ℕ) → Type 0
-since_now reads loose moment image = MayLeave reads loose image
+-- What can be said of a disk: what a read gives of each sector, which are loose, how it stood at each moment before now, the latest first, and how often it has failed.
+pub record DiskState : Type 0 where
+  pub reads : List (List ℕ)
+  pub loose : List Bool
+  pub past : List Standing
+  pub failures : ℕ
+
+-- the moment that is now, as a number that doesn't fall; the earliest one is 0
+unfoldable pub moment : DiskState → ℕ
+moment disk = length disk.past
+
+abbrev pub standing_of : List (List ℕ) → List Bool → Standing
+standing_of reads loose = record { reads = reads; loose = loose }
+
+-- A crash at some moment from t on may have left this image, where the disk stood so at the moments up to the latest.
+abbrev pub LeftIn : List Standing → ℕ → List (List ℕ) → Type 0
+LeftIn [] t image = ⊥
+LeftIn (stood ∷ before) t image = ((t ≤ length before) × MayLeave stood.reads stood.loose image) ⊎ LeftIn before t image
+
+-- the same of a disk: the moments go from t up to now
+unfoldable pub left_since : DiskState → ℕ → List (List ℕ) → Type 0
+left_since disk t image = LeftIn (standing_of disk.reads disk.loose ∷ disk.past) t image
+
+-- Time goes on: a crash since t can have left just what it might have left before, or what it may leave now.
+pub record Elapses (old new : DiskState) : Type 0 where
+  pub later : moment old ≤ moment new
+  pub nothing_else : (t : ℕ) (image : List (List ℕ)) → t ≤ moment old → left_since new t image → left_since old t image ⊎ MayLeave new.reads new.loose image
+  pub still : (t : ℕ) (image : List (List ℕ)) → t ≤ moment old → left_since old t image → left_since new t image
 
 -- A crash at any moment since old leaves an image that has P.
-pub record LeavesOnly {D : Type 0} (moment : D → ℕ) (left_since : D → ℕ → List (List ℕ) → Type 0) (old new : D) (P : List (List ℕ) → Type 0) : Type 0 where
+pub record LeavesOnly (old new : DiskState) (P : List (List ℕ) → Type 0) : Type 0 where
   pub later : moment old ≤ moment new
   pub each : (image : List (List ℕ)) → left_since new (moment old) image → P image
   -- for a run that began earlier
@@ -46,8 +77,8 @@ pub record HasCause (before now : ℕ) (result : Result (Unit {0}) DiskFault) : 
   pub only : before < now → IsErrOf result Device
 
 -- What a call that only looks leaves: the same reads, no looser sector, and no crash that one before might not have left.
-pub record OnlyLooks {D : Type 0} (moment : D → ℕ) (left_since : D → ℕ → List (List ℕ) → Type 0) (reads : D → List (List ℕ)) (loose : D → List Bool) (old new : D) : Type 0 where
-  pub same : reads new ≡ reads old
-  pub firm : IsFirm (loose old) → IsFirm (loose new)
-  pub now : (image : List (List ℕ)) → MayLeave (reads new) (loose new) image → MayLeave (reads old) (loose old) image
-  pub since : LeavesOnly moment left_since old new (MayLeave (reads old) (loose old))
+pub record OnlyLooks (old new : DiskState) : Type 0 where
+  pub same : new.reads ≡ old.reads
+  pub firm : IsFirm old.loose → IsFirm new.loose
+  pub now : (image : List (List ℕ)) → MayLeave new.reads new.loose image → MayLeave old.reads old.loose image
+  pub since : LeavesOnly old new (MayLeave old.reads old.loose)

@@ -1,16 +1,22 @@
 -- A disk in memory, and the image that a crash of it leaves. (This project's profile.)
 use Rattle.std.specs.Prelude.{◌≡◌, ◌<◌, ℕ, Bool, false, List, [], length, replicate, slice_index_or, if◌then◌else◌}
+use Rattle.disk.specs.Disk.{IsDisk, Standing, DiskState}
 use Rattle.disk.specs.Plans.{Counts}
 use Rattle.disk.specs.declared.memory.Torn.{Torn}
 use Rattle.disk.specs.declared.memory.Torn.TheVariants.{Old, New, Fill}
 
--- per sector what a read gives, what was there at the last successful sync, what the last write was to put there, failed or not, and whether it is loose
+-- per sector what a read gives, what was there at the last successful sync, what the last write was to put there, failed or not, and whether it is loose; and how the disk stood at the moments before
 pub record MemoryState : Type 0 where
   pub reads : List (List ℕ)
   pub synced : List (List ℕ)
   pub attempted : List (List ℕ)
   pub loose : List Bool
+  pub sound : IsDisk reads loose
+  pub past : List Standing
   pub counts : Counts
+
+abbrev pub disk_of_memory : MemoryState → DiskState
+disk_of_memory disk = record { reads = disk.reads; loose = disk.loose; past = disk.past; failures = disk.counts.failures }
 
 -- what a crash leaves in a loose sector
 abbrev pub torn_content : Torn → MemoryState → ℕ → List ℕ

@@ -5,7 +5,15 @@ use Rattle.disk.specs.Memory.{MemoryState}
 use Rattle.disk.specs.declared.memory.MemDisk.TheInside.{Inside}
 
 abbrev pub state_of : Inside → MemoryState
-state_of m = record { reads = m.image.sectors.items; synced = m.synced.items; attempted = m.attempted.items; loose = m.image.loose.items; counts = m.schedule }
+state_of m = record {
+  reads = m.image.sectors.items;
+  synced = m.synced.items;
+  attempted = m.attempted.items;
+  loose = m.image.loose.items;
+  sound = record { numbered = m.image.numbered; each = m.image.each; whole = m.image.whole };
+  past = m.history.past;
+  counts = m.schedule;
+}
 
 -- so many sectors
 pub record AreSectors (count : ℕ) (sectors : List (List ℕ)) : Type 0 where

@@ -1,6 +1,7 @@
 // The interface of a disk of sectors: what code above it may rely on.
 ghost use Rattle.std.specs.Prelude.{◌≡◌, ◌<◌, ◌≤◌, ◌↔◌, ◌⊎◌, List, ℕ, Bool, true, [], length, slice_set, slice_index_or, OnOk, OnErr, IsErrOf};
-ghost use Rattle.disk.specs.Disk.{IsSector, IsFirm, MayLeave, Elapses, HasCause};
+ghost use Rattle.disk.specs.Disk.{DiskState, IsDisk, IsSector, IsFirm, MayLeave, Elapses, HasCause, moment, left_since};
+ghost use Rattle.disk.specs.Laws.{counts_now as now_counts, only_now as now_only};
 
 use thiserror::Error;
 
@@ -20,72 +21,76 @@ pub enum DiskFault {
 /// A sector that was written since the last successful sync is loose: a crash may leave any 512 bytes in it.
 /// In each other sector a crash leaves what a read gives. (This project's profile of a disk.)
 pub trait SectorDisk {
-    /// What a read of each sector gives.
-    ghost reads: { Self → List (List ℕ) };
-
-    /// Which sectors are loose.
-    ghost loose: { Self → List Bool };
-
-    /// The moment, as a number that doesn't fall.
-    ghost moment: { Self → ℕ };
-
-    /// What a crash at some moment from that one on may have left, during a call or between two.
-    ghost left_since: { Self → ℕ → List (List ℕ) → Type 0 };
-
-    /// How often the device has failed.
-    ghost failures: { Self → ℕ };
+    /// What a read of each sector gives, which sectors are loose, how this was at each moment before now, and how often the
+    /// device has failed.
+    ghost state: { Self → DiskState };
 
     /// The number of sectors.
     fn sectors(&self) -> u32
-        ensures count { result ≡ length (reads self.now) }
-        ensures each { length (loose self.now) ≡ length (reads self.now) }
-        ensures whole { (n : ℕ) → n < length (reads self.now) → IsSector (slice_index_or (reads self.now) n []) };
+        ensures { result ≡ length (state self.now).reads };
 
     /// Reads sector `n`. `NoSuchSector` comes before `Device`.
     fn read(&mut self, n: u32, sector: &mut [u8; 512]) -> Result<(), DiskFault>
-        ensures content { OnOk result (slice_index_or (reads self.old) n [] ≡ sector.new) }
+        ensures content { OnOk result (slice_index_or (state self.old).reads n [] ≡ sector.new) }
 
         // at every exit
-        ensures same_reads { reads self.new ≡ reads self.old }
-        ensures same_loose { loose self.new ≡ loose self.old }
-        ensures time { Elapses (moment self.old) (moment self.new) (left_since self.old) (left_since self.new) (MayLeave (reads self.new) (loose self.new)) }
+        ensures same_reads { (state self.new).reads ≡ (state self.old).reads }
+        ensures same_loose { (state self.new).loose ≡ (state self.old).loose }
+        ensures time { Elapses (state self.old) (state self.new) }
 
-        ensures beyond { IsErrOf result DiskFault.NoSuchSector ↔ (length (reads self.old) ≤ n) }
+        ensures beyond { IsErrOf result DiskFault.NoSuchSector ↔ (length (state self.old).reads ≤ n) }
         ensures unchanged { IsErrOf result DiskFault.NoSuchSector → self.new ≡ self.old }
         ensures untouched { IsErrOf result DiskFault.NoSuchSector → sector.new ≡ sector.old }
-        ensures cause { HasCause (failures self.old) (failures self.new) result };
+        ensures cause { HasCause (state self.old).failures (state self.new).failures result };
 
     /// Writes sector `n`, which is loose from then on until a successful sync. A write that fails makes it loose too, and
     /// a read then gives some 512 bytes, the same until its next write. `NoSuchSector` comes before `Device`.
     fn write(&mut self, n: u32, sector: &[u8; 512]) -> Result<(), DiskFault>
-        ensures written { OnOk result (reads self.new ≡ slice_set (reads self.old) n sector.now) }
+        ensures written { OnOk result ((state self.new).reads ≡ slice_set (state self.old).reads n sector.now) }
 
         // at every exit (to set past the end of a list changes nothing)
-        ensures elsewhere { reads self.new ≡ slice_set (reads self.old) n (slice_index_or (reads self.new) n []) }
-        ensures loosened { loose self.new ≡ slice_set (loose self.old) n true }
-        ensures torn { n < length (reads self.old) → IsSector (slice_index_or (reads self.new) n []) }
-        ensures time { Elapses (moment self.old) (moment self.new) (left_since self.old) (left_since self.new) (MayLeave (reads self.new) (loose self.new)) }
+        ensures elsewhere { (state self.new).reads ≡ slice_set (state self.old).reads n (slice_index_or (state self.new).reads n []) }
+        ensures loosened { (state self.new).loose ≡ slice_set (state self.old).loose n true }
+        ensures time { Elapses (state self.old) (state self.new) }
 
-        ensures beyond { IsErrOf result DiskFault.NoSuchSector ↔ (length (reads self.old) ≤ n) }
+        ensures beyond { IsErrOf result DiskFault.NoSuchSector ↔ (length (state self.old).reads ≤ n) }
         ensures unchanged { IsErrOf result DiskFault.NoSuchSector → self.new ≡ self.old }
-        ensures cause { HasCause (failures self.old) (failures self.new) result };
+        ensures cause { HasCause (state self.old).failures (state self.new).failures result };
 
     /// Waits until all writes have reached the device. Where it fails, what was loose still is.
     fn sync(&mut self) -> Result<(), DiskFault>
-        ensures firm { OnOk result (IsFirm (loose self.new)) }
-        ensures err { OnErr result (loose self.new ≡ loose self.old) }
+        ensures firm { OnOk result (IsFirm (state self.new).loose) }
+        ensures err { OnErr result ((state self.new).loose ≡ (state self.old).loose) }
 
         // at every exit; a crash then leaves nothing that it might not have left before
-        ensures same_reads { reads self.new ≡ reads self.old }
-        ensures crash { (image : List (List ℕ)) → MayLeave (reads self.new) (loose self.new) image → MayLeave (reads self.old) (loose self.old) image }
-        ensures time { Elapses (moment self.old) (moment self.new) (left_since self.old) (left_since self.new) (MayLeave (reads self.new) (loose self.new)) }
+        ensures same_reads { (state self.new).reads ≡ (state self.old).reads }
+        ensures crash { (image : List (List ℕ)) → MayLeave (state self.new).reads (state self.new).loose image → MayLeave (state self.old).reads (state self.old).loose image }
+        ensures time { Elapses (state self.old) (state self.new) }
 
         ensures there { IsErrOf result DiskFault.NoSuchSector → ⊥ }
-        ensures cause { HasCause (failures self.old) (failures self.new) result };
+        ensures cause { HasCause (state self.old).failures (state self.new).failures result };
+
+    /// There are fewer than 2^32 sectors of 512 bytes, each of them loose or not.
+    ghost sound: { (disk : Self) → IsDisk (state disk).reads (state disk).loose };
 
     /// This moment is one of those since an earlier one.
-    ghost counts_now: { (disk : Self) (t : ℕ) (image : List (List ℕ)) → t ≤ moment disk → MayLeave (reads disk) (loose disk) image → left_since disk t image };
+    ghost counts_now: { (disk : Self) (t : ℕ) (image : List (List ℕ)) → t ≤ moment (state disk) → MayLeave (state disk).reads (state disk).loose image → left_since (state disk) t image } = { λ disk t image le left. now_counts (state disk) t image le left };
 
     /// Since this moment there is no other.
-    ghost only_now: { (disk : Self) (image : List (List ℕ)) → left_since disk (moment disk) image → MayLeave (reads disk) (loose disk) image };
+    ghost only_now: { (disk : Self) (image : List (List ℕ)) → left_since (state disk) (moment (state disk)) image → MayLeave (state disk).reads (state disk).loose image } = { λ disk image left. now_only (state disk) image left };
+}
+
+/// Writes sector `n`, and waits until it has reached the device. A crash since before the write may have left any 512 bytes
+/// in it, at every exit: also after a sync that ended well, where a crash now leaves just what was written.
+pub fn write_through<D: SectorDisk>(
+    disk: &mut D,
+    n: u32,
+    sector: &[u8; 512],
+) -> Result<(), DiskFault>
+    ensures written { OnOk result ((D.state disk.new).reads ≡ slice_set (D.state disk.old).reads n sector.now) }
+    ensures firm { OnOk result (IsFirm (D.state disk.new).loose) }
+    ensures torn { (bytes : List ℕ) → n < length (D.state disk.old).reads → IsSector bytes → left_since (D.state disk.new) (moment (D.state disk.old)) (slice_set (D.state disk.old).reads n bytes) }
+{
+    disk.write(n, sector)?;
+    disk.sync()
 }

@@ -3,6 +3,7 @@
 
 mod disk;
 mod file;
+mod history;
 mod image;
 mod memory;
 mod plan;
@@ -10,7 +11,7 @@ mod tally;
 #[cfg(test)]
 mod tests;
 
-pub use disk::{DiskFault, SectorDisk};
+pub use disk::{DiskFault, SectorDisk, write_through};
 pub use file::{FileDisk, FileFault};
 pub use memory::{MemDisk, Torn};
 pub use plan::Plan;

@@ -1,7 +1,8 @@
 // A disk in memory, whose failures and stop are planned, and which can be crashed.
 ghost use Rattle.std.specs.Prelude.{None, ◌≡◌, ◌*◌, ◌/◌, ◌<◌, ◌≤◌, ◌↔◌, ◌^◌, ℕ, Bool, List, [], true, false, length, replicate, slice_set, slice_index_or, OnOk, OnErr, IfOk, IsErrOf};
-ghost use Rattle.disk.specs.Disk.{image_of, IsFirm, IsSector, MayLeave, Elapses, HasCause, since_now};
+ghost use Rattle.disk.specs.Disk.{image_of, IsFirm, IsSector, MayLeave, Elapses, HasCause};
 
+use crate::history::History;
 use crate::image::{Image, copied};
 use crate::plan::Schedule;
 use crate::{DiskFault, Plan, SectorDisk};
@@ -27,6 +28,7 @@ pub struct MemDisk {
     synced: Vec<[u8; 512]>,
     attempted: Vec<[u8; 512]>,
     schedule: Schedule,
+    history: History,
 }
 
 impl Model for MemDisk {
@@ -42,31 +44,23 @@ impl Model for MemDisk {
 }
 
 impl SectorDisk for MemDisk {
+    ghost use Rattle.disk.specs.Memory.{disk_of_memory};
     ghost use Rattle.disk.specs.Plans.{fails, counted, write_fails, write_counted};
 
-    ghost reads = { λ disk. disk.reads };
+    ghost state = { disk_of_memory };
 
-    ghost loose = { λ disk. disk.loose };
-
-    ghost moment = { λ _. 0 };
-
-    ghost left_since = { λ disk. since_now disk.reads disk.loose };
-
-    ghost failures = { λ disk. disk.counts.failures };
-
-    ghost counts_now = { λ disk t image le now. now };
-
-    ghost only_now = { λ disk image left. left };
+    ghost sound = { λ disk. disk.sound };
 
     fn sectors(&self) -> u32 {
         self.image.count()
     }
 
+    #[tactic(auto, unfolding(crate::specs::Disk::left_since, crate::specs::Disk::moment))]
     fn read(&mut self, n: u32, sector: &mut [u8; 512]) -> Result<(), DiskFault>
         ensures content { OnOk result (slice_index_or self.old.reads n [] ≡ sector.new) }
         ensures same_reads { self.new.reads ≡ self.old.reads }
         ensures same_loose { self.new.loose ≡ self.old.loose }
-        ensures time { Elapses 0 0 (since_now self.old.reads self.old.loose) (since_now self.new.reads self.new.loose) (MayLeave self.new.reads self.new.loose) }
+        ensures time { Elapses (disk_of_memory self.old) (disk_of_memory self.new) }
         ensures beyond { IsErrOf result DiskFault.NoSuchSector ↔ (length self.old.reads ≤ n) }
         ensures unchanged { IsErrOf result DiskFault.NoSuchSector → self.new ≡ self.old }
         ensures untouched { IsErrOf result DiskFault.NoSuchSector → sector.new ≡ sector.old }
@@ -90,12 +84,12 @@ impl SectorDisk for MemDisk {
         Ok(())
     }
 
+    #[tactic(auto, unfolding(crate::specs::Disk::left_since, crate::specs::Disk::moment))]
     fn write(&mut self, n: u32, sector: &[u8; 512]) -> Result<(), DiskFault>
         ensures written { OnOk result (self.new.reads ≡ slice_set self.old.reads n sector.now) }
         ensures elsewhere { self.new.reads ≡ slice_set self.old.reads n (slice_index_or self.new.reads n []) }
         ensures loosened { self.new.loose ≡ slice_set self.old.loose n true }
-        ensures torn { n < length self.old.reads → IsSector (slice_index_or self.new.reads n []) }
-        ensures time { Elapses 0 0 (since_now self.old.reads self.old.loose) (since_now self.new.reads self.new.loose) (MayLeave self.new.reads self.new.loose) }
+        ensures time { Elapses (disk_of_memory self.old) (disk_of_memory self.new) }
         ensures beyond { IsErrOf result DiskFault.NoSuchSector ↔ (length self.old.reads ≤ n) }
         ensures unchanged { IsErrOf result DiskFault.NoSuchSector → self.new ≡ self.old }
         ensures cause { HasCause self.old.counts.failures self.new.counts.failures result }
@@ -112,6 +106,7 @@ impl SectorDisk for MemDisk {
         if n >= self.image.count() {
             return Err(DiskFault::NoSuchSector);
         }
+        self.history = self.history.and(&self.image);
         self.attempted[n as usize] = *sector;
         self.image.loosen(n);
         if self.schedule.write_fails() {
@@ -121,12 +116,13 @@ impl SectorDisk for MemDisk {
         Ok(())
     }
 
+    #[tactic(auto, unfolding(crate::specs::Disk::left_since, crate::specs::Disk::moment))]
     fn sync(&mut self) -> Result<(), DiskFault>
         ensures firm { OnOk result (IsFirm self.new.loose) }
         ensures err { OnErr result (self.new.loose ≡ self.old.loose) }
         ensures same_reads { self.new.reads ≡ self.old.reads }
         ensures crash { (image : List (List ℕ)) → MayLeave self.new.reads self.new.loose image → MayLeave self.old.reads self.old.loose image }
-        ensures time { Elapses 0 0 (since_now self.old.reads self.old.loose) (since_now self.new.reads self.new.loose) (MayLeave self.new.reads self.new.loose) }
+        ensures time { Elapses (disk_of_memory self.old) (disk_of_memory self.new) }
         ensures there { IsErrOf result DiskFault.NoSuchSector → ⊥ }
         ensures cause { HasCause self.old.counts.failures self.new.counts.failures result }
 
@@ -142,6 +138,7 @@ impl SectorDisk for MemDisk {
         if self.schedule.fails() {
             return Err(DiskFault::Device);
         }
+        self.history = self.history.and(&self.image);
         copy_loose(&mut self.synced, &self.image);
         self.image.settle();
         Ok(())
@@ -191,6 +188,7 @@ impl MemDisk {
             synced,
             attempted,
             schedule: Schedule::new(plan),
+            history: History::new(),
         })
     }
 

@@ -9,7 +9,7 @@ use Rattle.std.specs.Cmp.{IsTotalOrder}
 use Rattle.std.specs.List.{AllByRecursion as Every}
 use Rattle.std.specs.Ordering.{ordering_then, MatchOrdering, ordering_reverse}
 use Rattle.eventkey.specs.Laws.{MessagesAreOrdered}
-use Rattle.eventkey.specs.Bag.{IsAscending, add, add_all, copies, one_if_same, remove_one}
+use Rattle.eventkey.specs.Bag.{IsAscending, add, add_all, copies, one_if_same, remove_all, remove_one}
 use Rattle.eventkey.specs.Message.{IsAtMost, Message, is_before, is_same, message_cmp}
 
 -- 1. The order
@@ -254,6 +254,18 @@ IsAscending-remove_one m (x ∷ xs) h =
       Every-from_members (IsAtMost x) (remove_one m xs) (λ y n. Every-member (IsAtMost x) xs y h.0 (omega (arith, copies-remove_one-le y m xs))),
       IsAscending-remove_one m xs h.1,
     ))
+
+-- where all of them are in it
+pub copies-remove_all : (y : Message) (ms bag : List Message) → ((x : Message) → copies x ms ≤ copies x bag) → copies y ms + copies y (remove_all ms bag) ≡ copies y bag
+copies-remove_all y [] bag h = omega arith
+copies-remove_all y (m ∷ ms) bag h =
+    let there : 1 ≤ copies m bag = let a = h m in omega (arith, one_if_same_itself m) in
+    let rest = copies-remove_all y ms (remove_one m bag) (λ x. let a = h x in omega (arith, copies-remove_one x m bag there)) in
+    omega (arith, copies-remove_one y m bag there)
+
+pub IsAscending-remove_all : (ms bag : List Message) → IsAscending bag → IsAscending (remove_all ms bag)
+IsAscending-remove_all [] bag h = h
+IsAscending-remove_all (m ∷ ms) bag h = IsAscending-remove_all ms (remove_one m bag) (IsAscending-remove_one m bag h)
 
 -- an ascending list is known by its copies
 pub same_ascending : (xs ys : List Message) → IsAscending xs → IsAscending ys → ((x : Message) → copies x xs ≡ copies x ys) → xs ≡ ys

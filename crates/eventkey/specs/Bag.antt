@@ -27,6 +27,11 @@ abbrev pub remove_one : Message → List Message → List Message
 remove_one m [] = []
 remove_one m (x ∷ xs) = if is_same m x then xs else x ∷ remove_one m xs
 
+-- without one copy of each of these, where there is one
+abbrev pub remove_all : List Message → List Message → List Message
+remove_all [] bag = bag
+remove_all (m ∷ ms) bag = remove_all ms (remove_one m bag)
+
 abbrev pub IsAscending : List Message → Type 0
 IsAscending [] = Unit {0}
 IsAscending (x ∷ xs) = Every (IsAtMost x) xs × IsAscending xs

@@ -7,9 +7,9 @@ use Rattle.model.specs.Meaning.{Meaning}
 use Rattle.process.specs.Process.{Process, release}
 use Rattle.process.specs.declared.Done.{Done}
 use Rattle.node.proofs.Deliveries.{node_at, working}
-use Rattle.node.specs.Handling.{IsAnswered, Node, after}
+use Rattle.node.specs.Handling.{Node, after}
 use Rattle.node.specs.Node.{deliver_here, first_time, low_of, reply_of, run_here}
-use Rattle.node.specs.Roster.{Place}
+use Rattle.node.specs.Roster.{IsWorked, Place}
 use Rattle.node.specs.declared.Parcel.{Parcel}
 use Rattle.node.specs.declared.Reply.{Reply}
 
@@ -25,7 +25,7 @@ pub answered : (m : Meaning) (parcel : Parcel) (p p1 p2 : Place) (qs qs1 qs2 : L
     deliver ≡ parcel.deliver → out0 ≡ [] → p1 ≡ p → working qs1 out1 0 ≡ deliver_here p.nodes deliver (working qs out0 0) →
     p2 ≡ p1 → run_here m p1.end p1.nodes parcel.budget (working qs1 out1 0) ≡ Some (working qs2 out2 ran) →
     new ≡ after parcel.floor (working qs2 [] 0) (node_at p2 qs2) → out ≡ out2 → low ≡ low_of new.processes → fossils ≡ (reply_of parcel.floor (working qs2 [] 0)).fossils →
-    IsAnswered m parcel (node_at p qs) new (record { out = out; low = low; fossils = fossils; ran = ran })
+    IsWorked m parcel (node_at p qs) new (record { out = out; low = low; fossils = fossils; ran = ran })
 answered m parcel p p1 p2 qs qs1 qs2 deliver out0 out1 out2 out ran low fossils new d empty same1 delivered same2 ran_is node_is out_is low_is fossils_is =
     let gone : List Done = (reply_of parcel.floor (working qs2 [] 0)).fossils in
     let start : working qs1 out1 0 ≡ deliver_here p.nodes parcel.deliver (working qs [] 0) =

@@ -9,3 +9,5 @@ pub mod Lows
 pub mod Collects
 pub mod Handled
 pub mod Loads
+pub mod Arrived
+pub mod Works

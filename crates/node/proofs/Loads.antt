@@ -1,21 +1,24 @@
 -- What a load has to be: tests that go through lists one by one, and the processes of a node as a progression.
-use Rattle.std.proofs.Common.{◌≡◌, ℕ, zero, suc, ◌+◌, ◌*◌, ◌<◌, ◌≤◌, List, [], ◌∷◌, ◌++◌, length, get_or, map, drop, take, set, min, ◌-◌, ◌^◌, replicate, Option, None, refl, sym, subst, ◌∙◌, ap, arith, inl, inr}
+use Rattle.std.proofs.Common.{◌≡◌, ℕ, zero, suc, ◌+◌, ◌*◌, ◌<◌, ◌≤◌, List, [], ◌∷◌, ◌++◌, length, get_or, map, drop, set, ◌-◌, ◌^◌, replicate, Option, Some, None, Ok, Err, refl, sym, subst, ◌∙◌, ap, arith, inl, inr}
 use Rattle.std.specs.List.{AllByRecursion as Every, list_any}
 use Rattle.std.proofs.Math.Nat.{mul-le-mul_left}
-use Rattle.std.specs.Prelude.{not, ◌==◌, nat_lt, true, false}
+use Rattle.std.specs.Prelude.{not, ◌==◌, nat_eq, nat_lt, true, false}
+use Rattle.std.specs.Cmp.Lexicographic.{pointwise}
 use Rattle.std.proofs.lemmas.List.Elements.{All-from_recursion}
 use Rattle.std.proofs.lemmas.List.Folds.{list_any_none}
 use Rattle.eventkey.specs.Message.{Message}
-use Rattle.std.proofs.Math.Seq.{set-append_seam, take-suc}
-use Rattle.std.proofs.lemmas.Bool.{both_ways, cases_lt, eq-eqb, le-ltb, not_from_true}
+use Rattle.std.proofs.Math.Seq.{set-append_seam}
+use Rattle.std.proofs.lemmas.Bool.{both_ways, cases_Bool, cases_lt, eq-eqb, eqb-true, le-ltb, ltb-false, not_from_true}
 use Rattle.std.proofs.lemmas.List.{append-nil, append_assoc, get_or-map, length-append, length-map, length-replicate, map-append}
 use Rattle.eventkey.proofs.Lists.{Every-get_or, Every-add_all, Every-right, Every-weaker}
 use Rattle.node.proofs.Deliveries.{rest_of}
 use Rattle.node.proofs.Seats.{own_strided}
-use Rattle.process.specs.View.{ProcessView}
+use Rattle.process.specs.View.{ProcessView, has_early, has_foreign, loaded}
 use Rattle.queues.specs.Queue.{first_before}
-use Rattle.node.proofs.Collects.{take_all}
-use Rattle.node.specs.Handling.{IsOwnLoad, Node, loaded, loaded_process, own_lps}
+use Rattle.node.specs.Handling.{IsLoaded, Node, is_own_load, load_answer, load_refusal, loaded_node, own_lps}
+use Rattle.node.specs.declared.NodeFault.{NodeFault}
+use Rattle.node.specs.declared.NodeFault.TheVariants.{BelowFloor, NoMemory, NotMine}
+use Rattle.std.specs.Cmp.Lexicographic.{same_text}
 use Rattle.node.specs.declared.Load.{Load}
 use Rattle.process.specs.Process.{Process}
 use Rattle.node.specs.Roster.{IsSeated, IsStaffed, Place, lps_of, processes_of}
@@ -209,9 +212,13 @@ seats_staffed p parts node end own pending = record {
     seated-seats [] h = tt
     seated-seats (q ∷ ps) h = (record { floor_is = refl; unspent = refl; own_done = tt; own_waiting = Every-add_all (λ (x : Message). x.to ≡ q.lp) q.pending [] h.0 tt }, seated-seats ps h.1)
 
-pub processes-seats : (floor : ℕ) (parts : List Part) → processes_of (map (seat_of floor) parts) ≡ map loaded_process parts
+-- the process of a part
+abbrev loaded_part : Part → Process
+loaded_part p = loaded p.words p.number p.pending
+
+pub processes-seats : (floor : ℕ) (parts : List Part) → processes_of (map (seat_of floor) parts) ≡ map loaded_part parts
 processes-seats floor [] = refl
-processes-seats floor (q ∷ ps) = ap (λ xs. loaded_process q ∷ xs) (processes-seats floor ps)
+processes-seats floor (q ∷ ps) = ap (λ xs. loaded_part q ∷ xs) (processes-seats floor ps)
 
 pub own_few : (node nodes lps : ℕ) → node < nodes → length (own_lps nodes node lps) ≤ lps
 own_few node nodes lps some =
@@ -223,18 +230,101 @@ own_few node nodes lps some =
     ]
 
 -- the load, as it is found to be
-pub own_load : (lps lps' : ℕ) (load : Load) (parts : List Part) → lps' ≡ lps → parts ≡ load.parts → map (λ (q : Part). q.lp) parts ≡ own_lps load.nodes load.node lps' →
-    Every (λ (q : Part). Every (λ (x : Message). x.to ≡ q.lp) q.pending) parts → IsOwnLoad lps load
-own_load lps lps' load parts l e own pending = record {
-  parts = ap (map (λ (q : Part). q.lp)) (sym e) ∙ own ∙ ap (own_lps load.nodes load.node) l;
-  pending = subst (Every (λ (q : Part). Every (λ (x : Message). x.to ≡ q.lp) q.pending)) e pending;
-}
+
+own_foreign : (lp : ℕ) (xs : List Message) → Every (λ (x : Message). x.to ≡ lp) xs → has_foreign lp xs ≡ false
+own_foreign lp [] h = refl
+own_foreign lp (x ∷ xs) h = rw (eq-eqb x.to lp h.0) (own_foreign lp xs h.1)
+
+late_early : (floor : ℕ) (xs : List Message) → Every (λ (x : Message). floor ≤ x.time) xs → has_early floor xs ≡ false
+late_early floor [] h = refl
+late_early floor (x ∷ xs) h = rw (le-ltb x.time floor h.0) (late_early floor xs h.1)
+
+parts_mine : (parts : List Part) → Every (λ (p : Part). Every (λ (x : Message). x.to ≡ p.lp) p.pending) parts → list_any (λ (p : Part). has_foreign p.lp p.pending) parts ≡ false
+parts_mine [] h = refl
+parts_mine (p ∷ ps) h = rw (own_foreign p.lp p.pending h.0) (parts_mine ps h.1)
+
+parts_late : (floor : ℕ) (parts : List Part) → Every (λ (p : Part). Every (λ (x : Message). floor ≤ x.time) p.pending) parts → list_any (λ (p : Part). has_early floor p.pending) parts ≡ false
+parts_late floor [] h = refl
+parts_late floor (p ∷ ps) h = rw (late_early floor p.pending h.0) (parts_late floor ps h.1)
+
+-- and the other way round
+foreign_own : (lp : ℕ) (xs : List Message) → has_foreign lp xs ≡ false → Every (λ (x : Message). x.to ≡ lp) xs
+foreign_own lp [] e = tt
+foreign_own lp (x ∷ xs) e = elim (cases_Bool (x.to == lp)) [
+  | inl f ↦ (eqb-true x.to lp f, foreign_own lp xs (rw f at e))
+  | inr f ↦ absurd (let now = rw f at e in cc)
+]
+
+early_late : (floor : ℕ) (xs : List Message) → has_early floor xs ≡ false → Every (λ (x : Message). floor ≤ x.time) xs
+early_late floor [] e = tt
+early_late floor (x ∷ xs) e = elim (cases_Bool (nat_lt x.time floor)) [
+  | inl f ↦ absurd (let now = rw f at e in cc)
+  | inr f ↦ (ltb-false x.time floor f, early_late floor xs (rw f at e))
+]
+
+foreign_none : (parts : List Part) → list_any (λ (p : Part). has_foreign p.lp p.pending) parts ≡ false → Every (λ (p : Part). Every (λ (x : Message). x.to ≡ p.lp) p.pending) parts
+foreign_none [] e = tt
+foreign_none (p ∷ ps) e = elim (cases_Bool (has_foreign p.lp p.pending)) [
+  | inl f ↦ absurd (let now = rw f at e in cc)
+  | inr f ↦ (foreign_own p.lp p.pending f, foreign_none ps (rw f at e))
+]
+
+early_none : (floor : ℕ) (parts : List Part) → list_any (λ (p : Part). has_early floor p.pending) parts ≡ false → Every (λ (p : Part). Every (λ (x : Message). floor ≤ x.time) p.pending) parts
+early_none floor [] e = tt
+early_none floor (p ∷ ps) e = elim (cases_Bool (has_early floor p.pending)) [
+  | inl f ↦ absurd (let now = rw f at e in cc)
+  | inr f ↦ (early_late floor p.pending f, early_none floor ps (rw f at e))
+]
+
+same_list : (xs : List ℕ) → pointwise nat_eq xs xs ≡ true
+same_list [] = refl
+same_list (x ∷ xs) = rw (eq-eqb x x refl) (same_list xs)
+
+module _ (lps lps' : ℕ) (load : Load) (parts : List Part) (l : lps' ≡ lps) (e : parts ≡ load.parts) where
+  own_test : map (λ (q : Part). q.lp) parts ≡ own_lps load.nodes load.node lps' → is_own_load lps load ≡ true
+  own_test own =
+      subst (λ (xs : List ℕ). pointwise nat_eq (map (λ (q : Part). q.lp) load.parts) xs ≡ true) (ap (map (λ (q : Part). q.lp)) (sym e) ∙ own ∙ ap (own_lps load.nodes load.node) l) (same_list (map (λ (q : Part). q.lp) load.parts))
+
+  own_then : is_own_load lps load ≡ true → map (λ (q : Part). q.lp) parts ≡ own_lps load.nodes load.node lps'
+  own_then t = ap (map (λ (q : Part). q.lp)) e ∙ (same_text (map (λ (q : Part). q.lp) load.parts) (own_lps load.nodes load.node lps) (sym t) ∙ ap (own_lps load.nodes load.node) (sym l))
+
+  -- what is refused
+  pub not_mine : (map (λ (q : Part). q.lp) parts ≡ own_lps load.nodes load.node lps' → Every (λ (q : Part). Every (λ (x : Message). x.to ≡ q.lp) q.pending) parts → ⊥) → load_refusal lps load ≡ Some NotMine
+  not_mine other = elim (cases_Bool (is_own_load lps load)) [
+    | inl t ↦ elim (cases_Bool (list_any (λ (p : Part). has_foreign p.lp p.pending) load.parts)) [
+      | inl f ↦ rw (t, f) refl
+      | inr f ↦ absurd (other (own_then t) (subst (Every (λ (q : Part). Every (λ (x : Message). x.to ≡ q.lp) q.pending)) (sym e) (foreign_none load.parts f)))
+    ]
+    | inr t ↦ rw t refl
+  ]
+
+  module _ (own : map (λ (q : Part). q.lp) parts ≡ own_lps load.nodes load.node lps') (pending : Every (λ (q : Part). Every (λ (x : Message). x.to ≡ q.lp) q.pending) parts) where
+    mine : list_any (λ (p : Part). has_foreign p.lp p.pending) load.parts ≡ false
+    mine = parts_mine load.parts (subst (Every (λ (q : Part). Every (λ (x : Message). x.to ≡ q.lp) q.pending)) e pending)
+
+    pub below_floor : (Every (λ (q : Part). Every (λ (x : Message). load.floor ≤ x.time) q.pending) parts → ⊥) → load_refusal lps load ≡ Some BelowFloor
+    below_floor early = elim (cases_Bool (list_any (λ (p : Part). has_early load.floor p.pending) load.parts)) [
+      | inl f ↦ rw (own_test own, mine, f) refl
+      | inr f ↦ absurd (early (subst (Every (λ (q : Part). Every (λ (x : Message). load.floor ≤ x.time) q.pending)) (sym e) (early_none load.floor load.parts f)))
+    ]
+
+    pub not_refused : Every (λ (q : Part). Every (λ (x : Message). load.floor ≤ x.time) q.pending) parts → load_refusal lps load ≡ None
+    not_refused late = rw (own_test own, mine, parts_late load.floor load.parts (subst (Every (λ (q : Part). Every (λ (x : Message). load.floor ≤ x.time) q.pending)) e late)) refl
+
+pub load_is_refused : (lps : ℕ) (load : Load) (fault : NodeFault) → load_refusal lps load ≡ Some fault → IsLoaded lps load (Err fault)
+load_is_refused lps load fault e = inl (rw (load_answer, e) refl)
+
+pub load_is_made : (lps : ℕ) (load : Load) (n : Node) → load_refusal lps load ≡ None → n ≡ loaded_node lps load → IsLoaded lps load (Ok n)
+load_is_made lps load n e k = inl (rw (load_answer, e) (ap Ok k))
+
+pub no_memory : (lps : ℕ) (load : Load) (fault : NodeFault) → load_refusal lps load ≡ None → fault ≡ NoMemory → IsLoaded lps load (Err fault)
+no_memory lps load fault e k = inr (e, ap Err k)
 
 abbrev loaded_with : Load → ℕ → List Process → Node
 loaded_with load lps qs = record { node = load.node; nodes = load.nodes; lps = lps; end = load.end; floor = load.floor; spent = false; processes = qs }
 
 pub loaded_is : (lps lps' : ℕ) (load : Load) (parts : List Part) (seats : List ProcessView) → lps' ≡ lps → parts ≡ load.parts → seats ≡ map (seat_of load.floor) parts →
-    loaded_with load lps' (processes_of seats) ≡ loaded lps load
+    loaded_with load lps' (processes_of seats) ≡ loaded_node lps load
 loaded_is lps lps' load parts seats l e s =
     ap (λ k. loaded_with load k (processes_of seats)) l
-    ∙ ap (loaded_with load lps) (ap processes_of s ∙ processes-seats load.floor parts ∙ ap (map loaded_process) e)
+    ∙ ap (loaded_with load lps) (ap processes_of s ∙ processes-seats load.floor parts ∙ ap (map loaded_part) e)

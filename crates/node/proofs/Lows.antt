@@ -1,5 +1,6 @@
 -- The least time of what waits at a node, found process by process.
-use Rattle.std.proofs.Common.{◌≡◌, ℕ, suc, ◌+◌, ◌<◌, List, [], ◌∷◌, ◌++◌, length, get_or, take, min, Option, Some, None, refl, sym, ◌∙◌, ap, arith}
+use Rattle.std.proofs.Common.{◌≡◌, ℕ, suc, ◌+◌, ◌<◌, List, [], ◌∷◌, ◌++◌, length, get_or, take, min, Option, Some, None, IfSome, inl, inr, refl, sym, subst, ◌∙◌, ◌⊎◌, ap, arith}
+use Rattle.std.proofs.lemmas.Bool.{cases_lt}
 use Rattle.std.specs.Prelude.{flat_map}
 use Rattle.std.proofs.Math.Seq.{take-suc}
 use Rattle.std.proofs.lemmas.List.{append-nil, map-append}
@@ -22,6 +23,14 @@ least_time-append t (x ∷ xs) ys = least_time-append (min t x.time) xs ys
 earliest_none : (x : Option ℕ) → earliest x None ≡ x
 earliest_none None = refl
 earliest_none (Some x) = refl
+
+pub earliest_fits : (P : ℕ → Type 0) (x y : Option ℕ) → IfSome x P → IfSome y P → IfSome (earliest x y) P
+earliest_fits P None y h k = k
+earliest_fits P (Some x) None h k = h
+earliest_fits P (Some x) (Some y) h k = elim (min_either x y) [ inl e ↦ subst P (sym e) h | inr e ↦ subst P (sym e) k ]
+  where
+    min_either : (a b : ℕ) → (min a b ≡ a) ⊎ (min a b ≡ b)
+    min_either a b = elim (cases_lt a b) [ inl l ↦ inl (omega arith) | inr l ↦ inr (omega arith) ]
 
 first_time-append : (xs ys : List Message) → first_time (xs ++ ys) ≡ earliest (first_time xs) (first_time ys)
 first_time-append [] ys = refl

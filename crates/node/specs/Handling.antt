@@ -1,12 +1,12 @@
 -- A node between parcels: what it is handed at first, what it refuses, and what it is after a parcel (this project's profile).
-use Rattle.std.specs.List.{AllByRecursion as Every}
-use Rattle.std.specs.Prelude.{ℕ, Bool, List, [], ◌∷◌, Option, Some, None, map, filter, false, nat_lt, ◌&&◌, if◌then◌else◌, ◌≡◌, ◌≤◌, ◌⊎◌, ◌^◌, length}
-use Rattle.eventkey.specs.Bag.{add_all}
-use Rattle.eventkey.specs.Message.{Message}
+use Rattle.std.specs.List.{AllByRecursion as Every, list_any}
+use Rattle.std.specs.Cmp.Lexicographic.{pointwise}
+use Rattle.std.specs.Prelude.{ℕ, Bool, List, [], ◌∷◌, Option, Some, None, Result, Ok, Err, IfSome, map, filter, true, false, not, nat_eq, nat_lt, ◌&&◌, ◌||◌, if◌then◌else◌, ◌≡◌, ◌<◌, ◌≤◌, ◌⊎◌, ◌^◌, length}
 use Rattle.eventkey.specs.declared.Signed.{Signed}
 use Rattle.model.specs.Meaning.{Meaning}
 use Rattle.model.specs.World.{below}
 use Rattle.process.specs.Process.{Process}
+use Rattle.process.specs.View.{IsDoneInRange, has_early, has_foreign, loaded}
 use Rattle.node.specs.Node.{Work, released, reply_of, sits_on, work_here}
 use Rattle.node.specs.declared.Load.{Load}
 use Rattle.node.specs.declared.NodeFault.{NodeFault}
@@ -31,25 +31,40 @@ own_lps nodes node lps = filter (sits_on nodes node) (below lps)
 
 -- Loading
 
--- the parts are those of the node's processes, ascending, each with messages for its own process
-pub record IsOwnLoad (lps : ℕ) (load : Load) : Type 0 where
-  pub parts : map (λ (p : Part). p.lp) load.parts ≡ own_lps load.nodes load.node lps
-  pub pending : Every (λ (p : Part). Every (λ (x : Message). x.to ≡ p.lp) p.pending) load.parts
-
 -- its numbers lie in their ranges
 pub record IsInRange (p : Part) : Type 0 where
   pub words : length p.words ≤ 16
   pub number : p.number ≤ 2 ^ 63
 
--- nothing is pending before the floor
-abbrev pub IsLoadFrom : Load → Type 0
-IsLoadFrom load = Every (λ (p : Part). Every (λ (x : Message). load.floor ≤ x.time) p.pending) load.parts
+-- the parts are those of the node's processes, ascending
+abbrev pub is_own_load : ℕ → Load → Bool
+is_own_load lps load = pointwise nat_eq (map (λ (p : Part). p.lp) load.parts) (own_lps load.nodes load.node lps)
 
-abbrev pub loaded_process : Part → Process
-loaded_process p = record { gathered = []; done = []; waiting = add_all p.pending []; antis = []; state = p.words; number = p.number }
+-- why a load is refused, if it is: for what is not the node's or not for the process of its part, or for what is pending before the floor
+abbrev pub load_refusal : ℕ → Load → Option NodeFault
+load_refusal lps load =
+    if not (is_own_load lps load) || list_any (λ (p : Part). has_foreign p.lp p.pending) load.parts then Some NotMine
+    else if list_any (λ (p : Part). has_early load.floor p.pending) load.parts then Some BelowFloor
+    else None
 
-abbrev pub loaded : ℕ → Load → Node
-loaded lps load = record { node = load.node; nodes = load.nodes; lps = lps; end = load.end; floor = load.floor; spent = false; processes = map loaded_process load.parts }
+abbrev pub loaded_node : ℕ → Load → Node
+loaded_node lps load = record {
+  node = load.node;
+  nodes = load.nodes;
+  lps = lps;
+  end = load.end;
+  floor = load.floor;
+  spent = false;
+  processes = map (λ (p : Part). loaded p.words p.number p.pending) load.parts;
+}
+
+-- what a load makes of a model of so many processes
+abbrev pub load_answer : ℕ → Load → Result Node NodeFault
+load_answer lps load = elim (load_refusal lps load) [ Some fault ↦ Err fault | None ↦ Ok (loaded_node lps load) ]
+
+-- this was made of a load; or there was no memory
+abbrev pub IsLoaded : ℕ → Load → Result Node NodeFault → Type 0
+IsLoaded lps load result = (result ≡ load_answer lps load) ⊎ ((load_refusal lps load ≡ None) × (result ≡ Err NoMemory))
 
 -- Handling a parcel
 
@@ -71,13 +86,33 @@ refusal n parcel = if n.spent then Some Spent else if nat_lt parcel.floor n.floo
 abbrev pub after : ℕ → Work → Node → Node
 after floor w n = record n { floor = floor; processes = released floor w }
 
--- the node answers the parcel by this reply: it and the node afterwards are a function of the node and the parcel
-pub record IsAnswered (m : Meaning) (parcel : Parcel) (old new : Node) (reply : Reply) : Type 0 where
-  pub work : Work
-  pub done : work_here m old.end old.nodes parcel old.processes ≡ Some work
-  pub reply_is : reply ≡ reply_of parcel.floor work
-  pub node_is : new ≡ after parcel.floor work old
+-- a node that has ended
+abbrev pub ended : Node → Node
+ended n = record n { spent = true; processes = [] }
 
--- a parcel that is not refused fails: there is no memory, or a send number would pass its limit
-abbrev pub Fails : Meaning → Parcel → Node → NodeFault → Type 0
-Fails m parcel old fault = (fault ≡ NoMemory) ⊎ ((fault ≡ NumberLimit) × (work_here m old.end old.nodes parcel old.processes ≡ None))
+-- What a node answers to a parcel, and the node then.
+pub record Answer : Type 0 where
+  pub result : Result Reply NodeFault
+  pub node : Node
+
+-- with this work, or none where a send number would pass its limit
+abbrev pub answer_by : ℕ → Node → Option Work → Answer
+answer_by floor n None = record { result = Err NumberLimit; node = ended n }
+answer_by floor n (Some w) = record { result = Ok (reply_of floor w); node = after floor w n }
+
+abbrev pub answer : Meaning → Node → Parcel → Answer
+answer m n parcel = elim (refusal n parcel) [
+  | Some fault ↦ record { result = Err fault; node = n }
+  | None ↦ answer_by parcel.floor n (work_here m n.end n.nodes parcel n.processes)
+]
+
+-- A node that was handed a parcel answered so; or it found no memory, and has ended.
+abbrev pub IsAnswered : Meaning → Parcel → Node → Node → Result Reply NodeFault → Type 0
+IsAnswered m parcel old new result =
+    ((result ≡ (answer m old parcel).result) × (new ≡ (answer m old parcel).node))
+    ⊎ ((refusal old parcel ≡ None) × (result ≡ Err NoMemory) × (new ≡ ended old))
+
+-- a reply whose numbers lie in their ranges
+pub record IsReplyInRange (reply : Reply) : Type 0 where
+  pub low : IfSome reply.low (λ time. time < 2 ^ 41)
+  pub fossils : Every IsDoneInRange reply.fossils

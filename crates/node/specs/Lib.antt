@@ -5,3 +5,4 @@ pub mod Roster
 pub mod Seats
 pub mod Tournament
 pub mod Relay
+pub mod Kept

@@ -1,10 +1,10 @@
 -- A node at work on its own processes: deliveries, turns, collection. Process lp is its number lp / nodes.
-use Rattle.std.specs.Prelude.{ℕ, List, [], ◌∷◌, Option, Some, None, ◌++◌, flat_map, ◌%◌, Bool, nat_eq, if◌then◌else◌, ◌/◌, get_or, ◌+◌, set, map, nat_lt, zero, suc, option_map}
+use Rattle.std.specs.Prelude.{ℕ, List, [], ◌∷◌, Option, Some, None, ◌++◌, flat_map, ◌%◌, Bool, nat_eq, if◌then◌else◌, ◌/◌, get_or, ◌+◌, set, map, nat_lt, zero, suc}
 use Rattle.eventkey.specs.Message.{Message, is_before}
 use Rattle.eventkey.specs.Signed.{plus}
 use Rattle.eventkey.specs.declared.Signed.{Signed}
 use Rattle.model.specs.Meaning.{Meaning}
-use Rattle.process.specs.Process.{Process, arrive, collect, fossils_of, handle, handling_of, has_room, nobody, release, taken_back}
+use Rattle.process.specs.Process.{Process, arrive, fossils_of, handle, handling_of, has_room, nobody, release, taken_back}
 pub use Rattle.queues.specs.Queue.{first_time}
 use Rattle.node.specs.declared.Parcel.{Parcel}
 use Rattle.node.specs.declared.Reply.{Reply}
@@ -71,13 +71,6 @@ turn_here m end nodes rest w (Some x) = if nat_lt x.time end then (if has_room m
 abbrev pub run_here : Meaning → ℕ → ℕ → ℕ → Work → Option Work
 run_here m end nodes zero w = Some w
 run_here m end nodes (suc budget) w = turn_here m end nodes (λ (v : Work). run_here m end nodes budget v) w (least_of w.processes)
-
-abbrev pub collected_here : ℕ → Work → Work
-collected_here floor w = record w { processes = map (λ (q : Process). collect floor q) w.processes }
-
-abbrev pub handle_here : Meaning → ℕ → ℕ → Parcel → List Process → Option Work
-handle_here m end nodes parcel qs =
-    option_map (λ (w : Work). collected_here parcel.floor w) (run_here m end nodes parcel.budget (deliver_here nodes parcel.deliver (start qs)))
 
 -- what the node makes of a parcel before it collects
 abbrev pub work_here : Meaning → ℕ → ℕ → Parcel → List Process → Option Work

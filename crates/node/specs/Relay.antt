@@ -1,5 +1,5 @@
 -- Six processes that send each message on twice, soon and much later, for the tests: to whom and when depends on what they were.
-use Rattle.std.specs.Prelude.{ℕ, ◌+◌, ◌*◌, ◌%◌, ◌^◌, ◌<◌, ◌≤◌, List, [], ◌∷◌, slice_index}
+use Rattle.std.specs.Prelude.{ℕ, ◌+◌, ◌*◌, ◌%◌, ◌^◌, ◌<◌, List, [], ◌∷◌, slice_index}
 use Rattle.std.proofs.Common.{arith, lit<, lit≤}
 use Rattle.std.proofs.Math.Nat.{mod-lt}
 use Rattle.eventkey.specs.Message.{Message}

@@ -1,14 +1,19 @@
 -- How the roster of a node stands: its processes, each at its place, and the tournament of their next messages.
 use Rattle.std.specs.List.{AllByRecursion as Every}
-use Rattle.std.specs.Prelude.{ℕ, Bool, false, List, Option, Some, None, map, flat_map, min, ◌≡◌, ◌≤◌, ◌<◌, ◌^◌}
+use Rattle.std.specs.Prelude.{ℕ, Bool, false, List, [], Option, Some, None, map, flat_map, min, if◌then◌else◌, ◌≡◌, ◌≤◌, ◌<◌, ◌⊎◌, ◌^◌}
 use Rattle.eventkey.specs.Message.{Message}
 use Rattle.eventkey.specs.declared.Signed.{Signed}
 use Rattle.process.specs.Process.{Process, fossils_of, release}
 use Rattle.process.specs.declared.Done.{Done}
 use Rattle.queues.specs.Record.{messages}
-use Rattle.node.specs.Handling.{Node, own_lps}
+use Rattle.model.specs.Meaning.{Meaning}
+use Rattle.node.specs.Handling.{Node, after, own_lps}
+use Rattle.node.specs.declared.NodeFault.{NodeFault}
+use Rattle.node.specs.declared.NodeFault.TheVariants.{NoMemory, NumberLimit}
+use Rattle.node.specs.declared.Parcel.{Parcel}
+use Rattle.node.specs.declared.Reply.{Reply}
 use Rattle.process.specs.View.{ProcessView}
-use Rattle.node.specs.Node.{Work}
+use Rattle.node.specs.Node.{Work, reply_of, work_here}
 use Rattle.node.specs.Seats.{nexts_of}
 use Rattle.node.specs.declared.roster.Roster.{Roster}
 
@@ -51,8 +56,20 @@ IsReady r = IsStaffed (place_of r) r.processes.items r.nexts
 abbrev pub work_of : Roster → List Signed → ℕ → Work
 work_of r out ran = record { processes = processes_of r.processes.items; out = out; ran = ran }
 
+-- nothing is seen of the processes of a node that has ended
 abbrev pub node_of : Bool → Roster → Node
-node_of spent r = record { node = r.node; nodes = r.nodes; lps = r.lps; end = r.end; floor = r.floor; spent = spent; processes = processes_of r.processes.items }
+node_of spent r = record { node = r.node; nodes = r.nodes; lps = r.lps; end = r.end; floor = r.floor; spent = spent; processes = if spent then [] else processes_of r.processes.items }
+
+-- the reply to a parcel that is not refused, and the node then
+pub record IsWorked (m : Meaning) (parcel : Parcel) (old new : Node) (reply : Reply) : Type 0 where
+  pub work : Work
+  pub done : work_here m old.end old.nodes parcel old.processes ≡ Some work
+  pub reply_is : reply ≡ reply_of parcel.floor work
+  pub node_is : new ≡ after parcel.floor work old
+
+-- a parcel that is not refused fails: there is no memory, or a send number would pass its limit
+abbrev pub Fails : Meaning → Parcel → Node → NodeFault → Type 0
+Fails m parcel old fault = (fault ≡ NoMemory) ⊎ ((fault ≡ NumberLimit) × (work_here m old.end old.nodes parcel old.processes ≡ None))
 
 -- the lesser of two times, where each may be missing
 abbrev pub earliest : Option ℕ → Option ℕ → Option ℕ

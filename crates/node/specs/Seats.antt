@@ -1,9 +1,8 @@
 -- The processes of a node as their own crate shows them.
 use Rattle.std.specs.Prelude.{ℕ, false, List, Option, map}
 use Rattle.eventkey.specs.Message.{Message}
-use Rattle.process.specs.View.{ProcessView}
+use Rattle.process.specs.View.{ProcessView, loaded}
 use Rattle.queues.specs.Queue.{first_before}
-use Rattle.node.specs.Handling.{loaded_process}
 use Rattle.node.specs.declared.Part.{Part}
 
 -- the next message of each process
@@ -12,4 +11,4 @@ nexts_of end seats = map (λ (q : ProcessView). first_before end q.process.waiti
 
 -- the process of a part, as it is loaded
 abbrev pub seat_of : ℕ → Part → ProcessView
-seat_of floor p = record { lp = p.lp; floor = floor; spent = false; process = loaded_process p }
+seat_of floor p = record { lp = p.lp; floor = floor; spent = false; process = loaded p.words p.number p.pending }

@@ -3,6 +3,7 @@
 
 ghost use Rattle.std.specs.Prelude.{◌≡◌};
 ghost use Rattle.node.specs.Fault.{fault_of};
+ghost use Rattle.node.specs.Kept.{ReleasingIsKept, WorkIsKept};
 ghost use Rattle.node.specs.declared.NodeFault.TheVariants.{NoMemory};
 
 mod node;
@@ -123,3 +124,10 @@ impl From<ProcessFault> for NodeFault {
         }
     }
 }
+
+/// What a node keeps of its processes: while it handles a parcel whose messages are not before a time, and when it lets
+/// go of what it tells.
+pub fn law_of_work()
+    ensures kept { WorkIsKept }
+    ensures released { ReleasingIsKept }
+{}

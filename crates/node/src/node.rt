@@ -36,9 +36,7 @@ impl std::marker::Model for Node {
 }
 
 impl Node {
-    ghost use Rattle.node.specs.Handling.{Fails, IsAnswered, IsLoadFrom, IsOwnLoad, loaded, refusal};
-    ghost use Rattle.node.specs.declared.NodeFault.{NodeFault};
-    ghost use Rattle.node.specs.declared.NodeFault.TheVariants.{BelowFloor, NoMemory, NotMine};
+    ghost use Rattle.node.specs.Handling.{IsAnswered, IsLoaded, IsReplyInRange, refusal};
 
     /// The node of a model that a load tells of.
     ///
@@ -49,10 +47,7 @@ impl Node {
         requires nodes { load.nodes ≤ 64 }
         requires end { load.end ≤ 2 ^ 40 }
         requires parts { Every IsInRange load.parts }
-        ensures loaded { IfOk result (λ node. node ≡ loaded (M.meaning model.now).lps load) }
-        ensures not_mine { (result ≡ Err NotMine) ↔ (IsOwnLoad (M.meaning model.now).lps load → ⊥) }
-        ensures below_floor { (result ≡ Err BelowFloor) ↔ (IsOwnLoad (M.meaning model.now).lps load × (IsLoadFrom load → ⊥)) }
-        ensures failed { IfErr result (λ fault. (fault ≡ NotMine) ⊎ (fault ≡ BelowFloor) ⊎ (fault ≡ NoMemory)) }
+        ensures { IsLoaded (M.meaning model.now).lps load result }
     {
         let lps = model.lps();
         let parts = load.parts.as_slice();
@@ -93,9 +88,8 @@ impl Node {
     /// was. After want of memory, and after NumberLimit, the node is spent.
     pub fn handle<M: Simulated>(&mut self, model: &M, parcel: Parcel) -> Result<Reply, NodeFault>
         requires { self.old.spent ≡ false → (M.meaning model.now).lps ≡ self.old.lps }
-        ensures handled { IfOk result (λ reply. IsAnswered (M.meaning model.now) parcel self.old self.new reply) }
-        ensures refused { (fault : NodeFault) → refusal self.old parcel ≡ Some fault → (result ≡ Err fault) × (self.new ≡ self.old) }
-        ensures failed { refusal self.old parcel ≡ None → IfErr result (λ fault. Fails (M.meaning model.now) parcel self.old fault × (self.new.spent ≡ true)) }
+        ensures answered { IsAnswered (M.meaning model.now) parcel self.old self.new result }
+        ensures range { IfOk result IsReplyInRange }
     {
         if let Some(fault) = self.refusal(&parcel) {
             return Err(fault);

@@ -1,10 +1,12 @@
 // The processes of a node, and which of them has the least message to handle.
 
-ghost use Rattle.std.specs.Prelude.{◌≡◌, ◌≤◌, ◌<◌, ◌+◌, ◌⊎◌, ℕ, Option, Some, None, [], OnOk, IfOk, IfErr, MatchOption, flat_map, map, true, false};
+ghost use Rattle.std.specs.Prelude.{◌≡◌, ◌≤◌, ◌<◌, ◌+◌, ◌⊎◌, ℕ, Option, Some, None, [], ◌^◌, OnOk, OnErr, IfOk, IfErr, IfSome, MatchOption, flat_map, map, true, false};
+ghost use Rattle.std.specs.List.{AllByRecursion as Every};
 ghost use Rattle.process.specs.Process.{has_room};
-ghost use Rattle.node.specs.Handling.{Fails, IsAnswered, after, first_fault, is_own};
+ghost use Rattle.process.specs.View.{IsDoneInRange};
+ghost use Rattle.node.specs.Handling.{IsReplyInRange, after, first_fault, is_own};
 ghost use Rattle.node.specs.Node.{deliver_here, deliver_one_here, here, low_of, reply_of, run_here, run_one_here};
-ghost use Rattle.node.specs.Roster.{IsReady, earliest, node_of, place_of, processes_of, work_of};
+ghost use Rattle.node.specs.Roster.{Fails, IsReady, IsWorked, earliest, node_of, place_of, processes_of, work_of};
 ghost use Rattle.node.specs.Tournament.{least_among};
 ghost use Rattle.node.specs.declared.NodeFault.TheVariants.{NoMemory, NumberLimit};
 
@@ -59,7 +61,7 @@ impl Roster {
         requires own { is_own (node_of false self.old) delivery.now.message.to ≡ true }
         requires late { self.old.floor ≤ delivery.now.message.time }
         ensures ready { OnOk result (IsReady self.new) }
-        ensures place { OnOk result (place_of self.new ≡ place_of self.old) }
+        ensures place { place_of self.new ≡ place_of self.old }
         ensures work { (ran : ℕ) → OnOk result (work_of self.new out.new.items ran ≡ deliver_one_here self.old.nodes delivery.now (work_of self.old out.old.items ran)) }
         ensures memory { IfErr result (λ fault. fault ≡ NoMemory) }
     {
@@ -80,7 +82,7 @@ impl Roster {
         requires ready { IsReady self.old }
         requires accepted { first_fault (node_of false self.old) deliveries.now ≡ None }
         ensures ready { OnOk result (IsReady self.new) }
-        ensures place { OnOk result (place_of self.new ≡ place_of self.old) }
+        ensures place { place_of self.new ≡ place_of self.old }
         ensures work { (ran : ℕ) → OnOk result (work_of self.new out.new.items ran ≡ deliver_here self.old.nodes deliveries.now (work_of self.old out.old.items ran)) }
         ensures memory { IfErr result (λ fault. fault ≡ NoMemory) }
     {
@@ -101,7 +103,7 @@ impl Roster {
         requires lps { (M.meaning model.now).lps ≡ self.old.lps }
         requires least { least_among self.old.nexts ≡ Some message.now }
         ensures ready { OnOk result (IsReady self.new) }
-        ensures place { OnOk result (place_of self.new ≡ place_of self.old) }
+        ensures place { place_of self.new ≡ place_of self.old }
         ensures work { (ran : ℕ) → OnOk result (work_of self.new out.new.items (ran + 1) ≡ run_one_here (M.meaning model.now) self.old.nodes message.now (work_of self.old out.old.items ran)) }
         ensures room { (ran : ℕ) → OnOk result (has_room (M.meaning model.now) message.now (here self.old.nodes (work_of self.old out.old.items ran) message.now.to) ≡ true) }
         ensures causes { (ran : ℕ) → IfErr result (λ fault. (fault ≡ NoMemory) ⊎ ((fault ≡ NumberLimit) × (has_room (M.meaning model.now) message.now (here self.old.nodes (work_of self.old out.old.items ran) message.now.to) ≡ false))) }
@@ -124,7 +126,7 @@ impl Roster {
         requires ready { IsReady self.old }
         requires lps { (M.meaning model.now).lps ≡ self.old.lps }
         ensures ready { OnOk result (IsReady self.new) }
-        ensures place { OnOk result (place_of self.new ≡ place_of self.old) }
+        ensures place { place_of self.new ≡ place_of self.old }
         ensures work { IfOk result (λ ran. run_here (M.meaning model.now) self.old.end self.old.nodes budget (work_of self.old out.old.items 0) ≡ Some (work_of self.new out.new.items ran)) }
         ensures causes { IfErr result (λ fault. (fault ≡ NoMemory) ⊎ ((fault ≡ NumberLimit) × (run_here (M.meaning model.now) self.old.end self.old.nodes budget (work_of self.old out.old.items 0) ≡ None))) }
     {
@@ -144,6 +146,8 @@ impl Roster {
         ensures ready { OnOk result (IsReady self.new) }
         ensures node { OnOk result (node_of false self.new ≡ after floor (work_of self.old [] 0) (node_of false self.old)) }
         ensures fossils { IfOk result (λ fossils. fossils.items ≡ (reply_of floor (work_of self.old [] 0)).fossils) }
+        ensures range { IfOk result (λ fossils. Every IsDoneInRange fossils.items) }
+        ensures place { OnErr result (place_of self.new ≡ place_of self.old) }
         ensures memory { IfErr result (λ fault. fault ≡ NoMemory) }
     {
         let mut fossils = Vec::new(self.alloc);
@@ -157,7 +161,8 @@ impl Roster {
 
     /// The least time, in ticks, of what waits at the node, antimessages too.
     pub fn low(&self) -> Option<u64>
-        ensures { result ≡ low_of (processes_of self.now.processes.items) }
+        ensures low { result ≡ low_of (processes_of self.now.processes.items) }
+        ensures range { IfSome result (λ time. time < 2 ^ 41) }
     {
         let mut low = None;
         for process in &self.processes {
@@ -174,7 +179,9 @@ impl Roster {
         requires accepted { first_fault (node_of false self.old) parcel.deliver ≡ None }
         requires floor { self.old.floor ≤ parcel.floor }
         ensures ready { OnOk result (IsReady self.new) }
-        ensures handled { IfOk result (λ reply. IsAnswered (M.meaning model.now) parcel (node_of false self.old) (node_of false self.new) reply) }
+        ensures handled { IfOk result (λ reply. IsWorked (M.meaning model.now) parcel (node_of false self.old) (node_of false self.new) reply) }
+        ensures range { IfOk result IsReplyInRange }
+        ensures place { OnErr result (place_of self.new ≡ place_of self.old) }
         ensures failed { IfErr result (λ fault. Fails (M.meaning model.now) parcel (node_of false self.old) fault) }
     {
         let Parcel {

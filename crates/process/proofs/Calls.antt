@@ -9,14 +9,15 @@ use Rattle.model.specs.Meaning.{Meaning}
 use Rattle.queues.proofs.Moves.{same_queue}
 use Rattle.queues.proofs.Queues.{arrivals_tell_back}
 use Rattle.queues.specs.Queue.{Queue, arrival, arrived, back, back_of, but_last, first_before, last_of, released, taken}
-use Rattle.queues.specs.Record.{handled_from, messages, number_before, state_before}
+use Rattle.queues.specs.Record.{handled_before, handled_from, messages, number_before, state_before}
 use Rattle.queues.specs.declared.Arrival.{Arrival}
 use Rattle.queues.specs.declared.Record.{Record}
 use Rattle.process.proofs.Sound.{queue_of_arrive, queue_of_handle, queue_of_release}
-use Rattle.process.specs.Process.{Process, arrive, handle, handling_of, queue_of, release}
+use Rattle.process.specs.Process.{Process, arrive, fossils_of, handle, handling_of, queue_of, release, told}
+use Rattle.process.specs.declared.Done.{Done}
 
-pub same_process : (p q : Process) → p.gathered ≡ q.gathered → p.done ≡ q.done → p.waiting ≡ q.waiting → p.antis ≡ q.antis → p.state ≡ q.state → p.number ≡ q.number → p ≡ q
-same_process p q g d w a s n = λ i. record { gathered = g i; done = d i; waiting = w i; antis = a i; state = s i; number = n i }
+pub same_process : (p q : Process) → p.done ≡ q.done → p.waiting ≡ q.waiting → p.antis ≡ q.antis → p.state ≡ q.state → p.number ≡ q.number → p ≡ q
+same_process p q d w a s n = λ i. record { done = d i; waiting = w i; antis = a i; state = s i; number = n i }
 
 -- the queue and the history of a process that is whole
 module _ (old : Queue) (q : Process) (same : old.done ≡ messages q.done) (waits : old.waiting ≡ q.waiting) (against : old.antis ≡ q.antis) where
@@ -42,7 +43,7 @@ module _ (old : Queue) (q : Process) (same : old.done ≡ messages q.done) (wait
     undone_is undone u = u ∙ ap (λ (k : ℕ). last_of k q.done) back_is
 
     module _ (new : Process) (now : Queue) (now_is : now ≡ arrived s old) (undone : List Record) (u : undone ≡ last_of n q.done)
-        (g : new.gathered ≡ q.gathered) (d : new.done ≡ but_last n q.done) (w : new.waiting ≡ now.waiting) (a : new.antis ≡ now.antis)
+        (d : new.done ≡ but_last n q.done) (w : new.waiting ≡ now.waiting) (a : new.antis ≡ now.antis)
         (t : new.state ≡ state_before undone q.state) (k : new.number ≡ number_before undone q.number) where
       now_arrived : now ≡ arrived s (queue_of q)
       now_arrived = now_is ∙ ap (arrived s) queue_is
@@ -50,7 +51,7 @@ module _ (old : Queue) (q : Process) (same : old.done ≡ messages q.done) (wait
       pub delivered_is : new ≡ arrive s q
       delivered_is =
           let u' = undone_is undone u in
-          same_process new (arrive s q) g (d ∙ ap (λ (i : ℕ). but_last i q.done) back_is) (w ∙ ap (λ (r : Queue). r.waiting) now_arrived) (a ∙ ap (λ (r : Queue). r.antis) now_arrived)
+          same_process new (arrive s q) (d ∙ ap (λ (i : ℕ). but_last i q.done) back_is) (w ∙ ap (λ (r : Queue). r.waiting) now_arrived) (a ∙ ap (λ (r : Queue). r.antis) now_arrived)
           (t ∙ ap (λ (hs : List Record). state_before hs q.state) u') (k ∙ ap (λ (hs : List Record). number_before hs q.number) u')
 
       pub delivered_done : now.done ≡ messages new.done
@@ -59,14 +60,14 @@ module _ (old : Queue) (q : Process) (same : old.done ≡ messages q.done) (wait
   -- 2. A handling
 
   module _ (m : Meaning) (lp end : ℕ) (x : Message) (e : first_before end q.waiting ≡ Some x) (new : Process) (now : Queue) (now_is : now ≡ taken end old) (r : Record) (r_is : r ≡ handling_of m lp x q)
-      (g : new.gathered ≡ q.gathered) (d : new.done ≡ q.done ++ r ∷ []) (w : new.waiting ≡ now.waiting) (a : new.antis ≡ now.antis)
+      (d : new.done ≡ q.done ++ r ∷ []) (w : new.waiting ≡ now.waiting) (a : new.antis ≡ now.antis)
       (t : new.state ≡ m.next_state lp q.state x) (k : new.number ≡ q.number + length (m.sends lp q.state x)) where
     now_taken : now ≡ queue_of (handle m lp x q)
     now_taken = now_is ∙ (ap (taken end) queue_is ∙ sym (queue_of_handle m lp end x q e))
 
     pub handled_is : new ≡ handle m lp x q
     handled_is =
-        same_process new (handle m lp x q) g (d ∙ ap (λ (h : Record). q.done ++ h ∷ []) r_is) (w ∙ ap (λ (c : Queue). c.waiting) now_taken) (a ∙ ap (λ (c : Queue). c.antis) now_taken) t
+        same_process new (handle m lp x q) (d ∙ ap (λ (h : Record). q.done ++ h ∷ []) r_is) (w ∙ ap (λ (c : Queue). c.waiting) now_taken) (a ∙ ap (λ (c : Queue). c.antis) now_taken) t
         (k ∙ ap (λ (i : ℕ). q.number + i) (sym (length-stamp lp x.time q.number (m.sends lp q.state x))))
 
     pub handled_done : now.done ≡ messages new.done
@@ -75,12 +76,21 @@ module _ (old : Queue) (q : Process) (same : old.done ≡ messages q.done) (wait
   -- 3. A collection
 
   module _ (floor : ℕ) (up : IsAscending (messages q.done)) (new : Process) (now : Queue) (now_is : now ≡ released floor old)
-      (g : new.gathered ≡ q.gathered) (d : new.done ≡ handled_from floor q.done) (w : new.waiting ≡ now.waiting) (a : new.antis ≡ now.antis) (t : new.state ≡ q.state) (k : new.number ≡ q.number) where
+      (d : new.done ≡ handled_from floor q.done) (w : new.waiting ≡ now.waiting) (a : new.antis ≡ now.antis) (t : new.state ≡ q.state) (k : new.number ≡ q.number) where
     now_released : now ≡ queue_of (release floor q)
     now_released = now_is ∙ (ap (released floor) queue_is ∙ sym (queue_of_release floor q up))
 
     pub collected_is : new ≡ release floor q
-    collected_is = same_process new (release floor q) g d (w ∙ ap (λ (c : Queue). c.waiting) now_released) (a ∙ ap (λ (c : Queue). c.antis) now_released) t k
+    collected_is = same_process new (release floor q) d (w ∙ ap (λ (c : Queue). c.waiting) now_released) (a ∙ ap (λ (c : Queue). c.antis) now_released) t k
 
     pub collected_done : now.done ≡ messages new.done
     collected_done = ap (λ (c : Queue). c.done) now_released ∙ ap (λ (c : Process). messages c.done) (sym collected_is)
+
+-- 4. What a collection tells
+
+pub fossils_are : (floor : ℕ) (q : Process) (gone left : List Record) (after : List ℕ) (number : ℕ) (fossils : List Done) → gone ≡ handled_before floor q.done → left ≡ handled_from floor q.done →
+    after ≡ state_before left q.state → number ≡ number_before left q.number → fossils ≡ told gone after number → fossils ≡ fossils_of floor q
+fossils_are floor q gone left after number fossils g l a n f =
+    let after_is = a ∙ ap (λ (hs : List Record). state_before hs q.state) l in
+    let number_is = n ∙ ap (λ (hs : List Record). number_before hs q.number) l in
+    f ∙ (λ i. told (g i) (after_is i) (number_is i))

@@ -1,21 +1,23 @@
 -- What a handling and a collection keep of a process.
-use Rattle.std.proofs.Common.{◌≡◌, List, ◌∷◌, refl, ℕ, ◌+◌, ◌^◌, ◌<◌, ◌≤◌, [], ◌++◌, sym, ap, ◌∙◌, arith, length, inl, inr}
+use Rattle.std.proofs.Common.{◌≡◌, List, ◌∷◌, refl, ℕ, ◌+◌, ◌^◌, ◌<◌, ◌≤◌, [], ◌++◌, sym, ap, ◌∙◌, arith, flat_map, length, map, inl, inr, subst}
 use Rattle.std.proofs.lemmas.Bool.{cases_Bool, ltb-true, ltb-false}
 use Rattle.std.proofs.lemmas.List.{append_assoc, map-append}
 use Rattle.std.proofs.lemmas.List.Concat.{flat_map-append}
 use Rattle.std.specs.List.{AllByRecursion as Every}
 use Rattle.std.specs.Prelude.{nat_lt}
 use Rattle.eventkey.proofs.Bags.{at_most_from_before, copies-append, earlier_before, is_same_itself, time_from_at_most}
-use Rattle.eventkey.proofs.Lists.{Every-append, Every-left, Every-right, Every-weaker, IsAllAtMost, IsAscending-append, IsAscending-right}
+use Rattle.eventkey.proofs.Lists.{Every-append, Every-left, Every-map, Every-right, Every-unmap, Every-weaker, IsAllAtMost, IsAscending-append, IsAscending-right}
 use Rattle.eventkey.specs.Bag.{IsAscending, copies, remove_one}
 use Rattle.eventkey.specs.Message.{IsAtMost, Message}
 use Rattle.model.proofs.Worlds.{length-stamp}
 use Rattle.model.specs.Meaning.{Meaning}
-use Rattle.queues.specs.Record.{handled_before, handled_from, messages, sent_in}
+use Rattle.queues.specs.Record.{handled_before, handled_from, messages, number_before, sent_in, state_before}
 use Rattle.queues.specs.declared.Record.{Record}
-use Rattle.process.proofs.Arrivals.{IsFine, fold_push}
-use Rattle.process.specs.Process.{Process, collect, handle, handling_of, handlings, sent_by}
-use Rattle.process.specs.Told.{IsTold, held}
+use Rattle.process.proofs.Arrivals.{IsFine}
+use Rattle.process.proofs.Histories.{fold_end, fold_front, fold_push, fold_told, fold_whole, messages_told, number_after-append, number_before-append, sent_told, state_after-append, state_before-append, told_fold-append}
+use Rattle.process.specs.Process.{Process, fossils_of, handle, handling_of, number_after, release, sent_by, state_after}
+use Rattle.process.specs.Told.{IsFold, IsHistory, IsTold, IsToldFold, held}
+use Rattle.process.specs.declared.Done.{Done}
 
 -- 1. One message handled
 
@@ -23,52 +25,74 @@ remove_first : (x : Message) (rest : List Message) → remove_one x (x ∷ rest)
 remove_first x rest = rw (is_same_itself x) refl
 
 module _ (m : Meaning) (lp : ℕ) (x : Message) (q : Process) where
-  handlings_of_handle : handlings (handle m lp x q) ≡ handlings q ++ handling_of m lp x q ∷ []
-  handlings_of_handle = sym (append_assoc q.gathered q.done (handling_of m lp x q ∷ []))
-
-  messages_of_handle : messages (handlings (handle m lp x q)) ≡ messages (handlings q) ++ x ∷ []
-  messages_of_handle = ap messages handlings_of_handle ∙ map-append (λ (h : Record). h.message) (handlings q) (handling_of m lp x q ∷ [])
+  messages_of_handle : messages (handle m lp x q).done ≡ messages q.done ++ x ∷ []
+  messages_of_handle = map-append (λ (h : Record). h.message) q.done (handling_of m lp x q ∷ [])
 
   pub handle_held : (y : Message) (rest : List Message) → q.waiting ≡ x ∷ rest → held y (handle m lp x q) ≡ held y q
   handle_held y rest w =
       let done = ap (copies y) messages_of_handle in
       let left : copies y (remove_one x q.waiting) ≡ copies y rest = rw (w, remove_first) refl in
       let was = ap (copies y) w in
-      omega (arith, copies-append y (messages (handlings q)) (x ∷ []))
+      omega (arith, copies-append y (messages q.done) (x ∷ []))
 
   pub handle_sent : (y : Message) → copies y (sent_by (handle m lp x q)) ≡ copies y (sent_by q) + copies y (handling_of m lp x q).sent
   handle_sent y =
-      let all = ap (λ (hs : List Record). copies y (sent_in hs)) handlings_of_handle in
-      let two = ap (copies y) (flat_map-append (λ (h : Record). h.sent) (handlings q) (handling_of m lp x q ∷ [])) in
-      omega (arith, copies-append y (sent_in (handlings q)) (sent_in (handling_of m lp x q ∷ [])), copies-append y (handling_of m lp x q).sent [])
+      let two = ap (copies y) (flat_map-append (λ (h : Record). h.sent) q.done (handling_of m lp x q ∷ [])) in
+      omega (arith, copies-append y (sent_in q.done) (sent_in (handling_of m lp x q ∷ [])), copies-append y (handling_of m lp x q).sent [])
 
-  pub told_handle : (time : ℕ) (state : List ℕ) (number floor : ℕ) (rest : List Message) → q.waiting ≡ x ∷ rest → q.number + length (m.sends lp q.state x) ≤ 2 ^ 63 →
-      IsTold m lp time state number floor q → IsTold m lp time state number floor (handle m lp x q)
-  told_handle time state number floor rest w room h =
+  -- what is before the history does not change
+  pub state_of_handle : state_before (handle m lp x q).done (handle m lp x q).state ≡ state_before q.done q.state
+  state_of_handle = state_before-append q.done (handling_of m lp x q ∷ []) (m.next_state lp q.state x)
+
+  pub number_of_handle : number_before (handle m lp x q).done (handle m lp x q).number ≡ number_before q.done q.number
+  number_of_handle = number_before-append q.done (handling_of m lp x q ∷ []) (q.number + length (handling_of m lp x q).sent)
+
+  room_sent : q.number + length (m.sends lp q.state x) ≤ 2 ^ 63 → q.number + length (handling_of m lp x q).sent ≤ 2 ^ 63
+  room_sent room = rw (length-stamp lp x.time q.number (m.sends lp q.state x)) room
+
+  pub fold_handle : (state : List ℕ) (number : ℕ) → q.number + length (m.sends lp q.state x) ≤ 2 ^ 63 → IsFold m lp state number q.done q.state q.number →
+      IsFold m lp state number (handle m lp x q).done (handle m lp x q).state (handle m lp x q).number
+  fold_handle state number room f = fold_push m lp q.done (handling_of m lp x q) state number q.state q.number f refl refl refl (room_sent room)
+
+  pub history_handle : q.number + length (m.sends lp q.state x) ≤ 2 ^ 63 → IsHistory m lp q → IsHistory m lp (handle m lp x q)
+  history_handle room f =
+      let state = state_before q.done q.state in
+      let number = number_before q.done q.number in
+      fold_whole m lp (handle m lp x q).done state number (handle m lp x q).state (handle m lp x q).number (fold_handle state number room f)
+
+  pub told_handle : (time : ℕ) (state : List ℕ) (number floor : ℕ) (told : List Done) (rest : List Message) → q.waiting ≡ x ∷ rest → q.number + length (m.sends lp q.state x) ≤ 2 ^ 63 →
+      IsTold m lp time state number floor told q → IsTold m lp time state number floor told (handle m lp x q)
+  told_handle time state number floor told rest w room h =
+      let gone = map (λ (d : Done). d.message) told in
       let left : remove_one x q.waiting ≡ rest = rw (w, remove_first) refl in
-      let long = length-stamp lp x.time q.number (m.sends lp q.state x) in
       let up : IsAscending (x ∷ rest) = rw w at h.waiting_ascending in
       let own : Every (λ (y : Message). y.to ≡ lp) (x ∷ rest) = rw w at h.own_waiting in
       let from : Every (λ (y : Message). floor ≤ y.time) (x ∷ rest) = rw w at h.waiting_from in
       let behind : IsAllAtMost (messages q.done) (x ∷ rest) = rw w at h.behind in
-      let gathered : Every (λ (d : Message). IsAtMost d x) (messages q.gathered) =
-      Every-weaker (λ (d : Message). d.time < floor) (λ (d : Message). IsAtMost d x)
-      (λ d t. at_most_from_before d x (earlier_before d x (let f : floor ≤ x.time = from.0 in omega arith))) (messages q.gathered) h.gathered_below in
-      let all : Every (λ (d : Message). IsAtMost d x) (messages (handlings q)) = rw map-append (Every-append (λ (d : Message). IsAtMost d x) (messages q.gathered) (messages q.done) gathered behind.0) in
+      let before : Every (λ (d : Message). IsAtMost d x) gone =
+      Every-map (λ (d : Message). IsAtMost d x) (λ (d : Done). d.message) told
+      (Every-weaker (λ (d : Done). d.message.time < floor) (λ (d : Done). IsAtMost d.message x)
+      (λ d t. at_most_from_before d.message x (earlier_before d.message x (let f : floor ≤ x.time = from.0 in omega arith))) told h.told_below) in
+      let all : Every (λ (d : Message). IsAtMost d x) (gone ++ messages q.done) = Every-append (λ (d : Message). IsAtMost d x) gone (messages q.done) before behind.0 in
+      let ends : gone ++ messages (handle m lp x q).done ≡ (gone ++ messages q.done) ++ x ∷ [] =
+      ap (λ (xs : List Message). gone ++ xs) messages_of_handle ∙ sym (append_assoc gone (messages q.done) (x ∷ [])) in
       record {
-        fold = rw handlings_of_handle
-            (fold_push m lp (handlings q) (handling_of m lp x q) state number q.state q.number h.fold refl refl refl (rw long room));
-        ascending = rw messages_of_handle (IsAscending-append (messages (handlings q)) (x ∷ []) h.ascending (tt, tt) (all, tt));
+        told_fold = h.told_fold;
+        history = history_handle room h.history;
+        state_meets = state_of_handle ∙ h.state_meets;
+        number_meets = number_of_handle ∙ h.number_meets;
+        number_limit = room_sent room;
+        ascending = subst IsAscending (sym ends) (IsAscending-append (gone ++ messages q.done) (x ∷ []) h.ascending (tt, tt) (all, tt));
         waiting_ascending = rw left up.1;
         antis_ascending = h.antis_ascending;
-        behind = rw (left, map-append (λ (h : Record). h.message) q.done (handling_of m lp x q ∷ [])) (Every-both-behind rest behind.1 up.0);
-        own_handled = rw messages_of_handle (Every-append (λ (y : Message). y.to ≡ lp) (messages (handlings q)) (x ∷ []) h.own_handled (own.0, tt));
+        behind = rw (left, messages_of_handle) (Every-both-behind rest behind.1 up.0);
+        own_told = h.own_told;
+        own_done = rw messages_of_handle (Every-append (λ (y : Message). y.to ≡ lp) (messages q.done) (x ∷ []) h.own_done (own.0, tt));
         own_waiting = rw left own.1;
         own_antis = h.own_antis;
-        gathered_from = h.gathered_from;
-        gathered_below = h.gathered_below;
-        done_from = rw (map-append (λ (h : Record). h.message) q.done (handling_of m lp x q ∷ []))
-            (Every-append (λ (y : Message). floor ≤ y.time) (messages q.done) (x ∷ []) h.done_from (from.0, tt));
+        told_from = h.told_from;
+        told_below = h.told_below;
+        done_from = rw messages_of_handle (Every-append (λ (y : Message). floor ≤ y.time) (messages q.done) (x ∷ []) h.done_from (from.0, tt));
         waiting_from = rw left from.1;
         antis_from = h.antis_from;
       }
@@ -82,15 +106,15 @@ module _ (P : Message → Type 0) (m : Meaning) (lp : ℕ) (x : Message) (q : Pr
   fine_handle rest w sends =
       let left : remove_one x q.waiting ≡ rest = rw (w, remove_first) refl in
       let waiting : Every P (x ∷ rest) = rw w at h.waiting in
-      let all = flat_map-append (λ (h : Record). h.sent) (handlings q) (handling_of m lp x q ∷ []) in
+      let all = flat_map-append (λ (h : Record). h.sent) q.done (handling_of m lp x q ∷ []) in
       record {
-        handled = rw (messages_of_handle m lp x q) (Every-append P (messages (handlings q)) (x ∷ []) h.handled (waiting.0, tt));
+        handled = rw (messages_of_handle m lp x q) (Every-append P (messages q.done) (x ∷ []) h.handled (waiting.0, tt));
         waiting = rw left waiting.1;
         antis = h.antis;
-        sent = rw (handlings_of_handle m lp x q, all) (Every-append P (sent_in (handlings q)) (sent_in (handling_of m lp x q ∷ [])) h.sent (Every-append P (handling_of m lp x q).sent [] sends tt));
+        sent = rw all (Every-append P (sent_in q.done) (sent_in (handling_of m lp x q ∷ [])) h.sent (Every-append P (handling_of m lp x q).sent [] sends tt));
       }
 
--- 2. Collecting
+-- 2. Telling
 
 pub handled_before-from : (floor : ℕ) (hs : List Record) → handled_before floor hs ++ handled_from floor hs ≡ hs
 handled_before-from floor [] = refl
@@ -115,38 +139,94 @@ from_is_late floor (h ∷ hs) up = elim (cases_Bool (nat_lt h.message.time floor
       rw e (here, Every-weaker (IsAtMost h.message) (λ (x : Message). floor ≤ x.time) (λ x p. let t = time_from_at_most h.message x p in omega arith) (messages hs) up.0)
 ]
 
-pub handlings_of_collect : (floor : ℕ) (q : Process) → handlings (collect floor q) ≡ handlings q
-handlings_of_collect floor q = append_assoc q.gathered (handled_before floor q.done) (handled_from floor q.done) ∙ ap (λ (hs : List Record). q.gathered ++ hs) (handled_before-from floor q.done)
+module _ (m : Meaning) (lp floor : ℕ) (q : Process) (state : List ℕ) (number : ℕ) (f : IsFold m lp state number q.done q.state q.number) where
+  fold_parts : IsFold m lp state number (handled_before floor q.done ++ handled_from floor q.done) q.state q.number
+  fold_parts = subst (λ (hs : List Record). IsFold m lp state number hs q.state q.number) (sym (handled_before-from floor q.done)) f
 
-pub told_collect : (m : Meaning) (lp time : ℕ) (state : List ℕ) (number floor floor' : ℕ) (q : Process) → time ≤ floor → floor ≤ floor' →
+  pub fold_release : IsHistory m lp (release floor q)
+  fold_release = fold_end m lp (handled_before floor q.done) (handled_from floor q.done) state number q.state q.number fold_parts
+
+  -- what is told goes from there to where what is kept begins
+  pub fold_fossils : IsToldFold m lp state number (fossils_of floor q)
+      × (state_after (fossils_of floor q) state ≡ state_before (handled_from floor q.done) q.state)
+      × (number_after (fossils_of floor q) number ≡ number_before (handled_from floor q.done) q.number)
+  fold_fossils = fold_told m lp (handled_before floor q.done) state number (state_before (handled_from floor q.done) q.state) (number_before (handled_from floor q.done) q.number)
+      (fold_front m lp (handled_before floor q.done) (handled_from floor q.done) state number q.state q.number fold_parts)
+
+  pub fold_kept : IsFold m lp (state_after (fossils_of floor q) state) (number_after (fossils_of floor q) number) (handled_from floor q.done) q.state q.number
+  fold_kept =
+      let tells = fold_fossils in
+      subst (λ (s : List ℕ). IsFold m lp s (number_after (fossils_of floor q) number) (handled_from floor q.done) q.state q.number) (sym tells.1)
+      (subst (λ (n : ℕ). IsFold m lp (state_before (handled_from floor q.done) q.state) n (handled_from floor q.done) q.state q.number) (sym tells.2) fold_release)
+
+module _ (m : Meaning) (lp floor : ℕ) (q : Process) (f : IsHistory m lp q) where
+  pub history_release : IsHistory m lp (release floor q)
+  history_release = fold_release m lp floor q (state_before q.done q.state) (number_before q.done q.number) f
+
+  pub telling_is_fold : IsToldFold m lp (state_before q.done q.state) (number_before q.done q.number) (fossils_of floor q)
+      × (state_after (fossils_of floor q) (state_before q.done q.state) ≡ state_before (handled_from floor q.done) q.state)
+      × (number_after (fossils_of floor q) (number_before q.done q.number) ≡ number_before (handled_from floor q.done) q.number)
+  telling_is_fold = fold_fossils m lp floor q (state_before q.done q.state) (number_before q.done q.number) f
+
+pub told_release : (m : Meaning) (lp time : ℕ) (state : List ℕ) (number floor floor' : ℕ) (told : List Done) (q : Process) → time ≤ floor → floor ≤ floor' →
     Every (λ (x : Message). floor' ≤ x.time) q.waiting → Every (λ (x : Message). floor' ≤ x.time) q.antis →
-    IsTold m lp time state number floor q → IsTold m lp time state number floor' (collect floor' q)
-told_collect m lp time state number floor floor' q start less waiting antis h =
-    let same = handlings_of_collect floor' q in
-    let split : messages (handled_before floor' q.done) ++ messages (handled_from floor' q.done) ≡ messages q.done =
-    sym (map-append (λ (h : Record). h.message) (handled_before floor' q.done) (handled_from floor' q.done)) ∙ ap messages (handled_before-from floor' q.done) in
-    let all : IsAscending (messages q.gathered ++ messages q.done) = rw map-append at h.ascending in
-    let from : Every (λ (x : Message). floor ≤ x.time) (messages (handled_before floor' q.done) ++ messages (handled_from floor' q.done)) = rw split h.done_from in
-    let behind : IsAllAtMost (messages (handled_before floor' q.done) ++ messages (handled_from floor' q.done)) q.waiting = rw split h.behind in
-    let two = map-append (λ (h : Record). h.message) q.gathered (handled_before floor' q.done) in
+    IsTold m lp time state number floor told q → IsTold m lp time state number floor' (told ++ fossils_of floor' q) (release floor' q)
+told_release m lp time state number floor floor' told q start less waiting antis h =
+    let before = handled_before floor' q.done in
+    let from = handled_from floor' q.done in
+    let fossils = fossils_of floor' q in
+    let gone = map (λ (d : Done). d.message) told in
+    let split : messages before ++ messages from ≡ messages q.done = sym (map-append (λ (h : Record). h.message) before from) ∙ ap messages (handled_before-from floor' q.done) in
+    let tells = telling_is_fold m lp floor' q h.history in
+    let goes_on : IsToldFold m lp (state_after told state) (number_after told number) fossils =
+    subst (λ (s : List ℕ). IsToldFold m lp s (number_after told number) fossils) h.state_meets (subst (λ (n : ℕ). IsToldFold m lp (state_before q.done q.state) n fossils) h.number_meets tells.0) in
+    let told_is : map (λ (d : Done). d.message) fossils ≡ messages before = messages_told before (state_before from q.state) (number_before from q.number) in
+    let ends : map (λ (d : Done). d.message) (told ++ fossils) ++ messages from ≡ gone ++ messages q.done =
+    ap (λ (xs : List Message). xs ++ messages from) (map-append (λ (d : Done). d.message) told fossils ∙ ap (λ (xs : List Message). gone ++ xs) told_is)
+    ∙ (append_assoc gone (messages before) (messages from) ∙ ap (λ (xs : List Message). gone ++ xs) split) in
+    let late : Every (λ (x : Message). floor ≤ x.time) (messages before ++ messages from) = rw split h.done_from in
+    let own : Every (λ (x : Message). x.to ≡ lp) (messages before ++ messages from) = rw split h.own_done in
+    let behind : IsAllAtMost (messages before ++ messages from) q.waiting = rw split h.behind in
+    let of_told = λ (P : Message → Type 0) (p : Every P (messages before)). Every-unmap P (λ (d : Done). d.message) fossils (subst (Every P) (sym told_is) p) in
     record {
-      fold = rw same h.fold;
-      ascending = rw same h.ascending;
+      told_fold = told_fold-append m lp told fossils state number h.told_fold goes_on;
+      history = history_release m lp floor' q h.history;
+      state_meets = sym tells.1 ∙ (ap (state_after fossils) h.state_meets ∙ sym (state_after-append told fossils state));
+      number_meets = sym tells.2 ∙ (ap (number_after fossils) h.number_meets ∙ sym (number_after-append told fossils number));
+      number_limit = h.number_limit;
+      ascending = subst IsAscending (sym ends) h.ascending;
       waiting_ascending = h.waiting_ascending;
       antis_ascending = h.antis_ascending;
-      behind = Every-weaker (λ (w : Message). Every (λ (d : Message). IsAtMost d w) (messages (handled_before floor' q.done) ++ messages (handled_from floor' q.done)))
-          (λ (w : Message). Every (λ (d : Message). IsAtMost d w) (messages (handled_from floor' q.done)))
-          (λ w p. Every-right (λ (d : Message). IsAtMost d w) (messages (handled_before floor' q.done)) (messages (handled_from floor' q.done)) p) q.waiting behind;
-      own_handled = rw same h.own_handled;
+      behind = Every-weaker (λ (w : Message). Every (λ (d : Message). IsAtMost d w) (messages before ++ messages from)) (λ (w : Message). Every (λ (d : Message). IsAtMost d w) (messages from))
+          (λ w p. Every-right (λ (d : Message). IsAtMost d w) (messages before) (messages from) p) q.waiting behind;
+      own_told = Every-append (λ (d : Done). d.message.to ≡ lp) told fossils h.own_told (of_told (λ (x : Message). x.to ≡ lp) (Every-left (λ (x : Message). x.to ≡ lp) (messages before) (messages from) own));
+      own_done = Every-right (λ (x : Message). x.to ≡ lp) (messages before) (messages from) own;
       own_waiting = h.own_waiting;
       own_antis = h.own_antis;
-      gathered_from = rw two (Every-append (λ (x : Message). time ≤ x.time) (messages q.gathered) (messages (handled_before floor' q.done)) h.gathered_from
-          (Every-weaker (λ (x : Message). floor ≤ x.time) (λ (x : Message). time ≤ x.time) (λ x p. omega arith) (messages (handled_before floor' q.done))
-          (Every-left (λ (x : Message). floor ≤ x.time) (messages (handled_before floor' q.done)) (messages (handled_from floor' q.done)) from)));
-      gathered_below = rw two (Every-append (λ (x : Message). x.time < floor') (messages q.gathered) (messages (handled_before floor' q.done))
-          (Every-weaker (λ (x : Message). x.time < floor) (λ (x : Message). x.time < floor') (λ x p. omega arith) (messages q.gathered) h.gathered_below)
-          (before_is_below floor' q.done));
-      done_from = from_is_late floor' q.done (IsAscending-right (messages q.gathered) (messages q.done) all);
+      told_from = Every-append (λ (d : Done). time ≤ d.message.time) told fossils h.told_from
+          (of_told (λ (x : Message). time ≤ x.time) (Every-weaker (λ (x : Message). floor ≤ x.time) (λ (x : Message). time ≤ x.time) (λ x p. omega arith) (messages before)
+          (Every-left (λ (x : Message). floor ≤ x.time) (messages before) (messages from) late)));
+      told_below = Every-append (λ (d : Done). d.message.time < floor') told fossils
+          (Every-weaker (λ (d : Done). d.message.time < floor) (λ (d : Done). d.message.time < floor') (λ d p. omega arith) told h.told_below)
+          (of_told (λ (x : Message). x.time < floor') (before_is_below floor' q.done));
+      done_from = from_is_late floor' q.done (IsAscending-right gone (messages q.done) h.ascending);
       waiting_from = waiting;
       antis_from = antis;
     }
+
+-- what is told is what the process has no longer, and it sent what the process sent no longer
+pub release_held : (x : Message) (floor : ℕ) (q : Process) → copies x (map (λ (d : Done). d.message) (fossils_of floor q)) + held x (release floor q) ≡ held x q
+release_held x floor q =
+    let before = handled_before floor q.done in
+    let from = handled_from floor q.done in
+    let told_is = ap (copies x) (messages_told before (state_before from q.state) (number_before from q.number)) in
+    let two = ap (copies x) (sym (map-append (λ (h : Record). h.message) before from) ∙ ap messages (handled_before-from floor q.done)) in
+    omega (arith, copies-append x (messages before) (messages from))
+
+pub release_sent : (x : Message) (floor : ℕ) (q : Process) → copies x (flat_map (λ (d : Done). d.sent) (fossils_of floor q)) + copies x (sent_by (release floor q)) ≡ copies x (sent_by q)
+release_sent x floor q =
+    let before = handled_before floor q.done in
+    let from = handled_from floor q.done in
+    let told_is = ap (copies x) (sent_told before (state_before from q.state) (number_before from q.number)) in
+    let two = ap (copies x) (sym (flat_map-append (λ (h : Record). h.sent) before from) ∙ ap sent_in (handled_before-from floor q.done)) in
+    omega (arith, copies-append x (sent_in before) (sent_in from))

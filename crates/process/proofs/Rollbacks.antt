@@ -18,6 +18,7 @@ use Rattle.queues.specs.Queue.{after, back, but_last, last_of, settle}
 use Rattle.queues.specs.Record.{handled_before, handled_from, messages, number_before, sent_in, state_before}
 use Rattle.queues.specs.declared.Record.{Record}
 use Rattle.process.proofs.Handlings.{before_is_below, from_is_late, handled_before-from}
+use Rattle.process.proofs.Histories.{number_before-append, state_before-append}
 use Rattle.process.specs.Process.{handling_of, queue_of, release, told}
 use Rattle.process.specs.Told.{FossilsAreFinal, ReleasesAreUnseen, RollbacksStayAbove}
 
@@ -52,14 +53,6 @@ module _ (floor : ℕ) where
   from-early : (hs ks : List Record) → Every (λ (h : Record). h.message.time < floor) hs → handled_from floor (hs ++ ks) ≡ handled_from floor ks
   from-early [] ks e = refl
   from-early (h ∷ hs) ks e = rw (lt-ltb h.message.time floor e.0) (from-early hs ks e.1)
-
-state_before-append : (hs ks : List Record) (state : List ℕ) → state_before (hs ++ ks) state ≡ state_before hs (state_before ks state)
-state_before-append [] ks state = refl
-state_before-append (h ∷ hs) ks state = refl
-
-number_before-append : (hs ks : List Record) (number : ℕ) → number_before (hs ++ ks) number ≡ number_before hs (number_before ks number)
-number_before-append [] ks number = refl
-number_before-append (h ∷ hs) ks number = refl
 
 told-append : (floor : ℕ) (hs ks : List Record) (state : List ℕ) (number : ℕ) → Every (IsLate floor) ks →
     told (handled_before floor (hs ++ ks)) (state_before (handled_from floor (hs ++ ks)) state) (number_before (handled_from floor (hs ++ ks)) number)
@@ -146,6 +139,6 @@ releases_are_unseen floor s q up late =
     let bags = settle-same s.sign s.message (but_last n (messages q.done)) (but_last k (messages left)) (add_all (last_of n (messages q.done)) q.waiting) q.antis in
     let waiting = ap (λ (xs : List Message). (settle s (record { done = but_last k (messages left); waiting = add_all xs q.waiting; antis = q.antis })).waiting) again ∙ bags.0 in
     let antis = ap (λ (xs : List Message). (settle s (record { done = but_last k (messages left); waiting = add_all xs q.waiting; antis = q.antis })).antis) again ∙ bags.1 in (
-      λ i. record { gathered = q.gathered; done = kept i; waiting = waiting i; antis = antis i; state = state_before (undone i) q.state; number = number_before (undone i) q.number },
+      λ i. record { done = kept i; waiting = waiting i; antis = antis i; state = state_before (undone i) q.state; number = number_before (undone i) q.number },
       ap (λ (hs : List Record). map minus (sent_in hs)) undone,
     )

@@ -17,11 +17,13 @@ use Rattle.queues.proofs.Moves.{remove_first, same_queue}
 use Rattle.queues.proofs.Places.{but_last-last_of}
 use Rattle.queues.proofs.Queues.{queues_stay_in_order}
 use Rattle.queues.specs.Queue.{IsInOrder, arrived, back, but_last, first_before, last_of, released, taken}
-use Rattle.queues.specs.Record.{handled_from, messages, number_before, state_before}
+use Rattle.queues.specs.Record.{handled_before, handled_from, messages, number_before, state_before}
 use Rattle.queues.specs.declared.Record.{Record}
-use Rattle.process.proofs.Arrivals.{done_of_arrive}
-use Rattle.process.specs.Process.{Process, arrive, handle, handling_of, queue_of, release}
-use Rattle.process.specs.View.{IsSound, ProcessView, has_foreign, loaded}
+use Rattle.process.proofs.Arrivals.{done_of_arrive, fold_arrive}
+use Rattle.process.proofs.Handlings.{fold_fossils, fold_handle, fold_kept, handled_before-from}
+use Rattle.process.specs.Process.{Process, arrive, fossils_of, handle, handling_of, number_after, queue_of, release, state_after, told}
+use Rattle.process.specs.Told.{IsToldFold}
+use Rattle.process.specs.View.{HasDone, HasRun, IsDoneInRange, IsSound, ProcessView, has_foreign, loaded}
 
 -- 1. Loading
 
@@ -43,6 +45,7 @@ loaded_sound lp floor number spent state pending few fits own = record {
   few_before = tt;
   number = fits;
   number_before = tt;
+  few_sent = tt;
 }
 
 -- 2. Arrivals
@@ -75,6 +78,7 @@ arrived_sound s spent v own h =
     let split = but_last-last_of n q.done in
     let few : Every (λ (r : Record). length r.before ≤ 16) (but_last n q.done ++ last_of n q.done) = rw split h.few_before in
     let fits : Every (λ (r : Record). r.number_before ≤ 2 ^ 63) (but_last n q.done ++ last_of n q.done) = rw split h.number_before in
+    let sent : Every (λ (r : Record). length r.sent ≤ 8) (but_last n q.done ++ last_of n q.done) = rw split h.few_sent in
     record {
       in_order = subst IsInOrder (sym is) (queues_stay_in_order s (queue_of q) h.in_order);
       own_done = subst (Every (λ (x : Message). x.to ≡ v.lp)) (sym (done_of_arrive s q)) k.done_fits;
@@ -84,6 +88,7 @@ arrived_sound s spent v own h =
       few_before = Every-left (λ (r : Record). length r.before ≤ 16) (but_last n q.done) (last_of n q.done) few;
       number = number_all (λ (u : ℕ). u ≤ 2 ^ 63) (last_of n q.done) q.number (Every-right (λ (r : Record). r.number_before ≤ 2 ^ 63) (but_last n q.done) (last_of n q.done) fits) h.number;
       number_before = Every-left (λ (r : Record). r.number_before ≤ 2 ^ 63) (but_last n q.done) (last_of n q.done) fits;
+      few_sent = Every-left (λ (r : Record). length r.sent ≤ 8) (but_last n q.done) (last_of n q.done) sent;
     }
 
 -- 3. Handlings
@@ -110,6 +115,7 @@ handled_sound m end x spent v law here words ranged e room h =
       few_before = Every-append (λ (g : Record). length g.before ≤ 16) q.done (r ∷ []) h.few_before (h.few, tt);
       number = rw long room;
       number_before = Every-append (λ (g : Record). g.number_before ≤ 2 ^ 63) q.done (r ∷ []) h.number_before (h.number, tt);
+      few_sent = Every-append (λ (g : Record). length g.sent ≤ 8) q.done (r ∷ []) h.few_sent (rw long (law.few v.lp q.state x here words ranged), tt);
     }
 
 -- 4. Collections
@@ -150,4 +156,47 @@ released_sound floor spent v h =
       few_before = Every-from (λ (r : Record). length r.before ≤ 16) floor q.done h.few_before;
       number = h.number;
       number_before = Every-from (λ (r : Record). r.number_before ≤ 2 ^ 63) floor q.done h.number_before;
+      few_sent = Every-from (λ (r : Record). length r.sent ≤ 8) floor q.done h.few_sent;
     }
+
+-- 5. What is told
+
+told_in_range : (hs : List Record) (state : List ℕ) (number : ℕ) → length state ≤ 16 → number ≤ 2 ^ 63 →
+    Every (λ (r : Record). length r.before ≤ 16) hs → Every (λ (r : Record). r.number_before ≤ 2 ^ 63) hs → Every (λ (r : Record). length r.sent ≤ 8) hs → Every IsDoneInRange (told hs state number)
+told_in_range [] state number few fits b n s = tt
+told_in_range (r ∷ rs) state number few fits b n s = (
+  record { after = before_all (λ (u : List ℕ). length u ≤ 16) rs state b.1 few; number_after = number_all (λ (u : ℕ). u ≤ 2 ^ 63) rs number n.1 fits; sent = s.0 },
+  told_in_range rs state number few fits b.1 n.1 s.1,
+)
+
+pub fossils_in_range : (floor : ℕ) (v : ProcessView) → IsSound v → Every IsDoneInRange (fossils_of floor v.process)
+fossils_in_range floor v h =
+    let q = v.process in
+    let before = handled_before floor q.done in
+    let from = handled_from floor q.done in
+    let split : before ++ from ≡ q.done = handled_before-from floor q.done in
+    let words : Every (λ (r : Record). length r.before ≤ 16) (before ++ from) = rw split h.few_before in
+    let numbers : Every (λ (r : Record). r.number_before ≤ 2 ^ 63) (before ++ from) = rw split h.number_before in
+    let sent : Every (λ (r : Record). length r.sent ≤ 8) (before ++ from) = rw split h.few_sent in
+    told_in_range before (state_before from q.state) (number_before from q.number)
+    (before_all (λ (u : List ℕ). length u ≤ 16) from q.state (Every-right (λ (r : Record). length r.before ≤ 16) before from words) h.few)
+    (number_all (λ (u : ℕ). u ≤ 2 ^ 63) from q.number (Every-right (λ (r : Record). r.number_before ≤ 2 ^ 63) before from numbers) h.number)
+    (Every-left (λ (r : Record). length r.before ≤ 16) before from words)
+    (Every-left (λ (r : Record). r.number_before ≤ 2 ^ 63) before from numbers)
+    (Every-left (λ (r : Record). length r.sent ≤ 8) before from sent)
+
+-- 6. What is done is what the model does
+
+pub done_arrived : (m : Meaning) (s : Signed) (v : ProcessView) (state : List ℕ) (number : ℕ) → HasDone m v state number → HasDone m (record v { process = arrive s v.process }) state number
+done_arrived m s v state number f = fold_arrive m v.lp s v.process state number f
+
+pub done_ran : (m : Meaning) (end : ℕ) (old new : ProcessView) (before after : List Signed) (state : List ℕ) (number : ℕ) → HasRun m end old new before after → new.process.number ≤ 2 ^ 63 → HasDone m old state number → HasDone m new state number
+done_ran m end old new before after state number r limit f =
+    let long = length-stamp old.lp r.message.time old.process.number (m.sends old.lp old.process.state r.message) in
+    let up = ap (λ (w : ProcessView). w.process.number) r.process in
+    subst (λ (w : ProcessView). HasDone m w state number) (sym r.process) (fold_handle m old.lp r.message old.process state number (omega arith) f)
+
+pub done_collected : (m : Meaning) (floor : ℕ) (v : ProcessView) (state : List ℕ) (number : ℕ) → HasDone m v state number →
+    IsToldFold m v.lp state number (fossils_of floor v.process)
+    × HasDone m (record v { floor = floor; process = release floor v.process }) (state_after (fossils_of floor v.process) state) (number_after (fossils_of floor v.process) number)
+done_collected m floor v state number f = ((fold_fossils m v.lp floor v.process state number f).0, fold_kept m v.lp floor v.process state number f)

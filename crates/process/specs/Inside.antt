@@ -1,5 +1,5 @@
 -- What a contract sees of a process: its queue and its history are one record of lists.
-use Rattle.std.specs.Prelude.{[], ◌≡◌, false}
+use Rattle.std.specs.Prelude.{◌≡◌, false}
 use Rattle.queues.specs.Record.{messages}
 use Rattle.process.specs.View.{IsSound, ProcessView}
 use Rattle.process.specs.declared.logical.Process.TheInside.{Inside}
@@ -9,7 +9,7 @@ view_of p = record {
   lp = p.lp;
   floor = p.floor;
   spent = p.spent;
-  process = record { gathered = []; done = p.history; waiting = p.queue.waiting; antis = p.queue.antis; state = p.state; number = p.number };
+  process = record { done = p.history; waiting = p.queue.waiting; antis = p.queue.antis; state = p.state; number = p.number };
 }
 
 -- a process that is not spent is sound, and its queue has done what its history tells

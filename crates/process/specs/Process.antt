@@ -1,6 +1,6 @@
 -- One logical process (Jefferson 1985): how it takes an arrival, handles a message, and lets go of what no rollback reaches.
 use Rattle.process.specs.declared.Done.{Done}
-use Rattle.std.specs.Prelude.{ℕ, List, map, ◌+◌, [], ◌∷◌, ◌++◌, length, ◌^◌, Bool, nat_le, flat_map}
+use Rattle.std.specs.Prelude.{ℕ, List, map, ◌+◌, [], ◌∷◌, ◌++◌, length, ◌^◌, Bool, nat_le}
 use Rattle.eventkey.specs.Bag.{remove_one}
 use Rattle.eventkey.specs.Message.{Message}
 use Rattle.eventkey.specs.Signed.{minus}
@@ -10,9 +10,8 @@ use Rattle.queues.specs.Record.{handled_before, handled_from, messages, number_b
 use Rattle.queues.specs.declared.Record.{Record}
 use Rattle.queues.specs.Queue.{Queue, arrived, back, but_last, last_of}
 
--- one logical process: what it told and is not yet committed, what it handled beyond that, its bags, and itself
+-- one logical process: what it handled and has not told yet, its bags, and itself
 pub record Process : Type 0 where
-  pub gathered : List Record
   pub done : List Record
   pub waiting : List Message  -- a bag
   pub antis : List Message  -- a bag
@@ -28,7 +27,6 @@ arrive s q =
     let n = back s (queue_of q) in
     let r = arrived s (queue_of q) in
     record {
-      gathered = q.gathered;
       done = but_last n q.done;
       waiting = r.waiting;
       antis = r.antis;
@@ -45,7 +43,6 @@ handling_of m lp x q = record { message = x; before = q.state; number_before = q
 
 abbrev pub handle : Meaning → ℕ → Message → Process → Process
 handle m lp x q = record {
-  gathered = q.gathered;
   done = q.done ++ handling_of m lp x q ∷ [];
   waiting = remove_one x q.waiting;
   antis = q.antis;
@@ -53,27 +50,16 @@ handle m lp x q = record {
   number = q.number + length (handling_of m lp x q).sent;
 }
 
--- What is below the floor is gathered
-abbrev pub collect : ℕ → Process → Process
-collect floor q = record q { gathered = q.gathered ++ handled_before floor q.done; done = handled_from floor q.done }
-
 -- the send number of the process has room for what it sends
 abbrev pub has_room : Meaning → Message → Process → Bool
 has_room m x q = nat_le (q.number + length (m.sends x.to q.state x)) (2 ^ 63)
 
 abbrev pub nobody : Process
-nobody = record { gathered = []; done = []; waiting = []; antis = []; state = []; number = 0 }
+nobody = record { done = []; waiting = []; antis = []; state = []; number = 0 }
 
-abbrev pub handlings : Process → List Record
-handlings q = q.gathered ++ q.done
-
--- all that the processes sent in handlings that are not committed
+-- all that a process sent in handlings that it has not told yet
 abbrev pub sent_by : Process → List Message
-sent_by q = flat_map (λ (h : Record). h.sent) (handlings q)
-
--- a process as its node has it: what was told is gone
-abbrev pub bare : Process → Process
-bare q = record q { gathered = [] }
+sent_by q = sent_in q.done
 
 -- what was handled before the floor is let go
 abbrev pub release : ℕ → Process → Process
@@ -86,3 +72,12 @@ told (h ∷ hs) state number = record { message = h.message; sent = h.sent; afte
 
 abbrev pub fossils_of : ℕ → Process → List Done
 fossils_of floor q = told (handled_before floor q.done) (state_before (handled_from floor q.done) q.state) (number_before (handled_from floor q.done) q.number)
+
+-- the state after these handlings that were told, or this one where there are none
+abbrev pub state_after : List Done → List ℕ → List ℕ
+state_after [] state = state
+state_after (d ∷ ds) state = state_after ds d.after
+
+abbrev pub number_after : List Done → ℕ → ℕ
+number_after [] number = number
+number_after (d ∷ ds) number = number_after ds d.number_after

@@ -10,6 +10,8 @@ use Rattle.queues.specs.Queue.{IsInOrder, first_before}
 use Rattle.queues.specs.Record.{messages}
 use Rattle.queues.specs.declared.Record.{Record}
 use Rattle.process.specs.Process.{Process, handle, handling_of, has_room, queue_of}
+use Rattle.process.specs.Told.{IsFold, IsHistory}
+use Rattle.process.specs.declared.Done.{Done}
 use Rattle.process.specs.declared.ProcessFault.{ProcessFault}
 use Rattle.process.specs.declared.ProcessFault.TheVariants.{BelowFloor, NoMemory, NotMine, NumberLimit, Spent}
 
@@ -30,10 +32,25 @@ pub record IsSound (v : ProcessView) : Type 0 where
   pub few_before : Every (λ (h : Record). length h.before ≤ 16) v.process.done
   pub number : v.process.number ≤ 2 ^ 63
   pub number_before : Every (λ (h : Record). h.number_before ≤ 2 ^ 63) v.process.done
+  pub few_sent : Every (λ (h : Record). length h.sent ≤ 8) v.process.done
+
+-- What the process has done is what the model does, from this state and send number on to those that it has.
+abbrev pub HasDone : Meaning → ProcessView → List ℕ → ℕ → Type 0
+HasDone m v state number = IsFold m v.lp state number v.process.done v.process.state v.process.number
+
+-- what is told of a handling, in range
+pub record IsDoneInRange (d : Done) : Type 0 where
+  pub after : length d.after ≤ 16
+  pub number_after : d.number_after ≤ 2 ^ 63
+  pub sent : length d.sent ≤ 8
 
 -- the process in this state, with this send number, for which these messages wait
 abbrev pub loaded : List ℕ → ℕ → List Message → Process
-loaded state number pending = record { gathered = []; done = []; waiting = add_all pending []; antis = []; state = state; number = number }
+loaded state number pending = record { done = []; waiting = add_all pending []; antis = []; state = state; number = number }
+
+-- A process that is loaded has nothing handled.
+abbrev pub HistoriesBegin : Type 0
+HistoriesBegin = (m : Meaning) (lp : ℕ) (state : List ℕ) (number : ℕ) (pending : List Message) → IsHistory m lp (loaded state number pending)
 
 -- one of these messages is for another process; the time of one is below the floor
 abbrev pub has_foreign : ℕ → List Message → Bool

@@ -2,7 +2,8 @@
 #![tactic(auto)]
 
 ghost use Rattle.std.specs.Prelude.{◌≡◌};
-ghost use Rattle.process.specs.Told.{ArrivalIsTold, ArrivalIsBalanced, ArrivalTakesBack, ArrivalLooksAhead, HandlingIsTold, HandlingIsBalanced, CollectingIsTold, RollbacksStayAbove, FossilsAreFinal, ReleasesAreUnseen};
+ghost use Rattle.process.specs.Told.{HistoriesAreKept, TellingIsTrue, ArrivalIsTold, ArrivalIsBalanced, ArrivalTakesBack, ArrivalLooksAhead, HandlingIsTold, HandlingIsBalanced, TellingIsTold, TellingIsBalanced, RollbacksStayAbove, FossilsAreFinal, ReleasesAreUnseen};
+ghost use Rattle.process.specs.View.{HistoriesBegin};
 ghost use Rattle.process.specs.declared.ProcessFault.TheVariants.{NoMemory};
 
 mod fossils;
@@ -66,6 +67,13 @@ pub struct Done {
     pub number_after: u64,
 }
 
+/// The history of a process is what its model does: when it is loaded, and whatever happens to it then, in any order.
+pub fn law_of_histories()
+    ensures begin { HistoriesBegin }
+    ensures kept { HistoriesAreKept }
+    ensures told { TellingIsTrue }
+{}
+
 /// One message that arrives at one process.
 pub fn law_of_arrivals()
     ensures told { ArrivalIsTold }
@@ -80,9 +88,10 @@ pub fn law_of_handlings()
     ensures balanced { HandlingIsBalanced }
 {}
 
-/// What a process gives up to the floor.
-pub fn law_of_collecting()
-    ensures { CollectingIsTold }
+/// What a process tells of what is below a floor.
+pub fn law_of_telling()
+    ensures told { TellingIsTold }
+    ensures balanced { TellingIsBalanced }
 {}
 
 /// What no rollback reaches: the handlings before a floor, where nothing arrives before it any more.

@@ -1,10 +1,12 @@
 // A logical process.
 
-ghost use Rattle.std.specs.Prelude.{◌≡◌, ◌≢◌, ◌↔◌, ◌<◌, ◌≤◌, ◌+◌, ◌++◌, ◌^◌, ◌==◌, ◌&&◌, ◌⊎◌, [], List, ℕ, length, map, not, nat_lt, true, false, Ok, Err, None, IfOk, IfErr, OnOk, OnErr, IsTrue};
+ghost use Rattle.std.specs.Prelude.{◌≡◌, ◌≢◌, ◌↔◌, ◌<◌, ◌≤◌, ◌+◌, ◌++◌, ◌^◌, ◌==◌, ◌&&◌, ◌⊎◌, [], List, ℕ, length, map, not, nat_lt, true, false, Ok, Err, None, IfOk, IfErr, IfSome, OnOk, OnErr, IsTrue};
+ghost use Rattle.std.specs.List.{AllByRecursion as Every};
 ghost use Rattle.model.specs.Meaning.{Meaning};
 ghost use Rattle.queues.specs.Queue.{first_before, first_time};
-ghost use Rattle.process.specs.Process.{arrive, fossils_of, release, taken_back};
-ghost use Rattle.process.specs.View.{HasRun, IsRefused, LacksRoom, has_early, has_foreign, loaded};
+ghost use Rattle.process.specs.Process.{arrive, fossils_of, number_after, release, state_after, taken_back};
+ghost use Rattle.process.specs.Told.{IsToldFold};
+ghost use Rattle.process.specs.View.{HasDone, HasRun, IsDoneInRange, IsRefused, IsSound, LacksRoom, has_early, has_foreign, loaded};
 ghost use Rattle.process.specs.declared.ProcessFault.TheVariants.{BelowFloor, NoMemory, NotMine, NumberLimit, Spent};
 
 use crate::fossils::{before_first, restore, told};
@@ -65,6 +67,7 @@ impl Process {
         ensures below_floor { (result ≡ Err BelowFloor) ↔ ((has_foreign lp pending.items ≡ false) × (has_early floor pending.items ≡ true)) }
         ensures unlimited { result ≢ Err NumberLimit }
         ensures unspent { result ≢ Err Spent }
+        ensures done { (m : Meaning) → IfOk result (λ p. HasDone m p words.items number) }
     {
         if is_foreign(lp, pending.as_slice()) {
             return Err(ProcessFault::NotMine);
@@ -82,6 +85,14 @@ impl Process {
             state: State::from_words(words),
             number,
         })
+    }
+
+    /// Answers nothing: the contract says that a process that is not spent has its lists in order, its messages its
+    /// own, and its numbers in their ranges.
+    pub fn sound(&self)
+        ensures { self.now.spent ≡ false → IsSound self.now }
+    {
+        let _ = &self.queue;
     }
 
     /// The number of the process.
@@ -153,6 +164,8 @@ impl Process {
         ensures below_floor { (result ≡ Err BelowFloor) ↔ ((self.old.spent ≡ false) × (signed.message.to ≡ self.old.lp) × (signed.message.time < self.old.floor)) }
         ensures unlimited { result ≢ Err NumberLimit }
         ensures lp { self.new.lp ≡ self.old.lp }
+        ensures floor { self.new.floor ≡ self.old.floor }
+        ensures done { (m : Meaning) (state : List ℕ) (number : ℕ) → HasDone m self.old state number → OnOk result (HasDone m self.new state number) }
         ensures refused { IfErr result (λ fault. IsRefused fault self.old self.new out.old.items out.new.items) }
     {
         if self.spent {
@@ -183,7 +196,8 @@ impl Process {
 
     /// The least time, in ticks, of what waits, antimessages too; none where nothing does. It takes no memory.
     pub fn low(&self) -> Option<u64>
-        ensures { result ≡ first_time (self.now.process.waiting ++ self.now.process.antis) }
+        ensures low { result ≡ first_time (self.now.process.waiting ++ self.now.process.antis) }
+        ensures range { IfSome result (λ time. time < 2 ^ 41) }
     {
         self.queue.low()
     }
@@ -209,6 +223,8 @@ impl Process {
         ensures mine { result ≢ Err NotMine }
         ensures from_floor { result ≢ Err BelowFloor }
         ensures lp { self.new.lp ≡ self.old.lp }
+        ensures floor { self.new.floor ≡ self.old.floor }
+        ensures done { (state : List ℕ) (number : ℕ) → HasDone (M.meaning model.now) self.old state number → OnOk result (HasDone (M.meaning model.now) self.new state number) }
         ensures refused { IfErr result (λ fault. IsRefused fault self.old self.new out.old.items out.new.items) }
     {
         if self.spent {
@@ -259,6 +275,9 @@ impl Process {
         ensures spent { (result ≡ Err Spent) ↔ (self.old.spent ≡ true) }
         ensures causes { IfErr result (λ fault. (fault ≡ Spent) ⊎ (fault ≡ NoMemory)) }
         ensures lp { self.new.lp ≡ self.old.lp }
+        ensures floor { OnErr result (self.new.floor ≡ self.old.floor) }
+        ensures range { IfOk result (λ fossils. Every IsDoneInRange fossils.items) }
+        ensures done { (m : Meaning) (state : List ℕ) (number : ℕ) → HasDone m self.old state number → IfOk result (λ fossils. IsToldFold m self.old.lp state number fossils.items × HasDone m self.new (state_after fossils.items state) (number_after fossils.items number)) }
         ensures refused { IfErr result (λ fault. IsRefused fault self.old self.new [] []) }
     {
         if self.spent {

@@ -167,6 +167,7 @@ fn antimessage_comes_first(rt: HostRuntime) -> Result<(), Fail> {
     deliver(&rt, rt.alloc(), &mut process, plus(a), None)?;
     assert_eq!(rt; look(&process), (0, 0, 0, 0, 0));
     assert_eq!(rt; process.low(), None);
+    process.sound();
     Ok(())
 }
 

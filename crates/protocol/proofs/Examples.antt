@@ -10,7 +10,7 @@ use Rattle.process.specs.Process.{Process, arrive, fossils_of, handle, queue_of,
 use Rattle.protocol.specs.Picture.{Picture, gvt, opened}
 use Rattle.protocol.specs.Moves.{Busy, Commit, Idle, Move, NoSuchPick, Post, Take, after_moves, refusal}
 
-abbrev ring : Meaning
+abbrev pub ring : Meaning
 ring = record {
   lps = 3;
   identity = 1 ∷ 2 ∷ 1 ∷ [];
@@ -20,7 +20,7 @@ ring = record {
   sends = λ lp state x. record { to = (lp + 1) % 3; delay = 2; a = x.a; b = x.b + 1 } ∷ [];
 }
 
-abbrev msg : ℕ → ℕ → ℕ → ℕ → ℕ → ℕ → Message
+abbrev pub msg : ℕ → ℕ → ℕ → ℕ → ℕ → ℕ → Message
 msg time from number to a b = record { time = time; from = from; number = number; to = to; a = a; b = b }
 
 abbrev a : Message
@@ -33,7 +33,7 @@ abbrev twin : Message
 twin = msg 5 0 1 1 9 1
 
 abbrev idle : Process
-idle = record { gathered = []; done = []; waiting = []; antis = []; state = 0 ∷ []; number = 0 }
+idle = record { done = []; waiting = []; antis = []; state = 0 ∷ []; number = 0 }
 
 -- a straggler undoes what was handled
 abbrev once : Process
@@ -47,7 +47,7 @@ straggler-out : taken_back (plus early) once ≡ minus (msg 7 1 0 2 0 2) ∷ []
 unfolding message_cmp
 straggler-out = refl
 
-straggler-state : arrive (plus early) once ≡ record { gathered = []; done = []; waiting = early ∷ a ∷ []; antis = []; state = 0 ∷ []; number = 0 }
+straggler-state : arrive (plus early) once ≡ record { done = []; waiting = early ∷ a ∷ []; antis = []; state = 0 ∷ []; number = 0 }
 unfolding message_cmp
 straggler-state = refl
 
@@ -67,7 +67,7 @@ unfolding message_cmp
 straggler-again_number = refl
 
 -- an antimessage that comes first waits, and meets its message
-antimessage_first : arrive (minus a) idle ≡ record { gathered = []; done = []; waiting = []; antis = a ∷ []; state = 0 ∷ []; number = 0 }
+antimessage_first : arrive (minus a) idle ≡ record { done = []; waiting = []; antis = a ∷ []; state = 0 ∷ []; number = 0 }
 unfolding message_cmp
 antimessage_first = refl
 
@@ -89,7 +89,7 @@ twin-back : back (plus twin) (queue_of once) ≡ 0
 unfolding message_cmp
 twin-back = refl
 
-twin-antimessage : arrive (minus a) (arrive (plus twin) once) ≡ record { gathered = []; done = []; waiting = twin ∷ []; antis = []; state = 0 ∷ []; number = 0 }
+twin-antimessage : arrive (minus a) (arrive (plus twin) once) ≡ record { done = []; waiting = twin ∷ []; antis = []; state = 0 ∷ []; number = 0 }
 unfolding message_cmp
 twin-antimessage = refl
 

@@ -2,17 +2,17 @@
 use Rattle.std.proofs.Common.{ℕ, ◌≤◌, ◌+◌, List, ◌++◌, map, flat_map, ◌<◌, length, ◌≡◌, zero, suc, [], ◌∷◌, arith, get_or, Option, Some, None, set}
 use Rattle.std.proofs.lemmas.Option.{none-some}
 use Rattle.std.specs.List.{AllByRecursion as Every}
-use Rattle.eventkey.proofs.Lists.{Every-append, Every-flat_map, Every-get_or, Every-left, Every-map, Every-right, Every-set, Every-unflat_map, Every-unmap, copies-append_signed}
-use Rattle.eventkey.proofs.Times.{Every-from_get_or, IsFrom, least_time-above, least_time-each, least_time-le}
+use Rattle.eventkey.proofs.Lists.{Every-append, Every-flat_map, Every-get_or, Every-get_or-default, Every-left, Every-map, Every-right, Every-set, Every-unflat_map, Every-unmap, copies-append_signed}
+use Rattle.eventkey.proofs.Times.{IsFrom, least_time-above, least_time-each, least_time-le}
 use Rattle.eventkey.specs.Bag.{copies}
 use Rattle.eventkey.specs.Message.{Message}
 use Rattle.eventkey.specs.Signed.{of_sign}
 use Rattle.eventkey.specs.declared.Sign.{Sign}
 use Rattle.eventkey.specs.declared.Signed.{Signed}
-use Rattle.process.specs.Process.{Process, nobody}
+use Rattle.process.specs.Process.{Process}
 use Rattle.node.specs.declared.Parcel.{Parcel}
 use Rattle.gvt.specs.Ledger.{delivered_by}
-use Rattle.protocol.specs.Picture.{Picture, gvt, process_at, travelling}
+use Rattle.protocol.specs.Picture.{Picture, gvt, node_of, processes_of, travelling}
 
 abbrev pub SignedFrom : ℕ → Signed → Type 0
 SignedFrom g s = g ≤ s.message.time
@@ -20,36 +20,35 @@ SignedFrom g s = g ≤ s.message.time
 abbrev pub kept_by : Process → List Message
 kept_by q = q.waiting ++ q.antis
 
+-- what waits at the process is not before g
+abbrev pub KeptFrom : ℕ → Process → Type 0
+KeptFrom g q = Every (IsFrom g) (kept_by q)
+
 abbrev message_of : Signed → Message
 message_of s = s.message
 
 pub gvt-le : (end : ℕ) (p : Picture) → gvt end p ≤ end
-gvt-le end p = least_time-le end (flat_map kept_by p.processes ++ map message_of (travelling p))
+gvt-le end p = least_time-le end (flat_map kept_by (processes_of p) ++ map message_of (travelling p))
 
-gvt_each : (end : ℕ) (p : Picture) → Every (IsFrom (gvt end p)) (flat_map kept_by p.processes ++ map message_of (travelling p))
-gvt_each end p = least_time-each end (flat_map kept_by p.processes ++ map message_of (travelling p))
+gvt_each : (end : ℕ) (p : Picture) → Every (IsFrom (gvt end p)) (flat_map kept_by (processes_of p) ++ map message_of (travelling p))
+gvt_each end p = least_time-each end (flat_map kept_by (processes_of p) ++ map message_of (travelling p))
 
-gvt_kept : (end : ℕ) (p : Picture) (lp : ℕ) → lp < length p.processes → Every (IsFrom (gvt end p)) (kept_by (process_at p lp))
-gvt_kept end p lp l =
-    Every-get_or (λ (q : Process). Every (IsFrom (gvt end p)) (kept_by q)) p.processes lp nobody l
-    (Every-unflat_map (IsFrom (gvt end p)) kept_by p.processes (Every-left (IsFrom (gvt end p)) (flat_map kept_by p.processes) (map message_of (travelling p)) (gvt_each end p)))
+pub gvt_nodes : (end : ℕ) (p : Picture) → Every (λ (qs : List Process). Every (KeptFrom (gvt end p)) qs) p.nodes
+gvt_nodes end p =
+    Every-unflat_map (KeptFrom (gvt end p)) (λ (qs : List Process). qs) p.nodes
+    (Every-unflat_map (IsFrom (gvt end p)) kept_by (processes_of p) (Every-left (IsFrom (gvt end p)) (flat_map kept_by (processes_of p)) (map message_of (travelling p)) (gvt_each end p)))
 
-pub gvt_waiting : (end : ℕ) (p : Picture) (lp : ℕ) → lp < length p.processes → Every (IsFrom (gvt end p)) (process_at p lp).waiting
-gvt_waiting end p lp l = Every-left (IsFrom (gvt end p)) (process_at p lp).waiting (process_at p lp).antis (gvt_kept end p lp l)
-
-pub gvt_antis : (end : ℕ) (p : Picture) (lp : ℕ) → lp < length p.processes → Every (IsFrom (gvt end p)) (process_at p lp).antis
-gvt_antis end p lp l = Every-right (IsFrom (gvt end p)) (process_at p lp).waiting (process_at p lp).antis (gvt_kept end p lp l)
+pub gvt_node : (end : ℕ) (p : Picture) (node : ℕ) → Every (KeptFrom (gvt end p)) (node_of p node)
+gvt_node end p node = Every-get_or-default (λ (qs : List Process). Every (KeptFrom (gvt end p)) qs) p.nodes node [] (gvt_nodes end p) tt
 
 pub gvt_travelling : (end : ℕ) (p : Picture) → Every (SignedFrom (gvt end p)) (travelling p)
-gvt_travelling end p = Every-unmap (IsFrom (gvt end p)) message_of (travelling p) (Every-right (IsFrom (gvt end p)) (flat_map kept_by p.processes) (map message_of (travelling p)) (gvt_each end p))
+gvt_travelling end p = Every-unmap (IsFrom (gvt end p)) message_of (travelling p) (Every-right (IsFrom (gvt end p)) (flat_map kept_by (processes_of p)) (map message_of (travelling p)) (gvt_each end p))
 
-pub gvt_above : (end g : ℕ) (p : Picture) → g ≤ end → ((lp : ℕ) → lp < length p.processes → Every (IsFrom g) (process_at p lp).waiting) → ((lp : ℕ) → lp < length p.processes → Every (IsFrom g) (process_at p lp).antis) →
-    Every (SignedFrom g) (travelling p) → g ≤ gvt end p
-gvt_above end g p h waiting antis moving =
-    least_time-above g end (flat_map kept_by p.processes ++ map message_of (travelling p)) h
-    (Every-append (IsFrom g) (flat_map kept_by p.processes) (map message_of (travelling p))
-    (Every-flat_map (IsFrom g) kept_by p.processes (Every-from_get_or (λ (q : Process). Every (IsFrom g) (kept_by q)) p.processes nobody
-    (λ lp l. Every-append (IsFrom g) (process_at p lp).waiting (process_at p lp).antis (waiting lp l) (antis lp l))))
+pub gvt_above : (end g : ℕ) (p : Picture) → g ≤ end → Every (λ (qs : List Process). Every (KeptFrom g) qs) p.nodes → Every (SignedFrom g) (travelling p) → g ≤ gvt end p
+gvt_above end g p h kept moving =
+    least_time-above g end (flat_map kept_by (processes_of p) ++ map message_of (travelling p)) h
+    (Every-append (IsFrom g) (flat_map kept_by (processes_of p)) (map message_of (travelling p))
+    (Every-flat_map (IsFrom g) kept_by (processes_of p) (Every-flat_map (KeptFrom g) (λ (qs : List Process). qs) p.nodes kept))
     (Every-map (IsFrom g) message_of (travelling p) moving))
 
 -- the parcels

@@ -1,15 +1,15 @@
-pub mod Arrivals
+pub mod Gathered
+pub mod Places
 pub mod Commit
 pub mod Commits
 pub mod Gvt
-pub mod Ledger
-pub mod Nodes
-pub mod Opened
-pub mod Openings
 pub mod Posts
-pub mod Replies
-pub mod Runs
-pub mod Steps
+pub mod Fossils
 pub mod Takes
+pub mod Opened
+pub mod Runs
 pub mod Refusals
+pub mod Ledgers
+pub mod Answers
 mod Examples
+mod CommitExamples

@@ -1,22 +1,40 @@
--- The picture with which a session begins.
-use Rattle.std.proofs.Common.{◌^◌, ◌≡◌, ℕ, zero, suc, ◌<◌, [], ◌∷◌, ◌++◌, sym, ◌∙◌, subst, inl, inr, arith, get_or, flat_map, replicate, refl, None, List, map, ◌%◌, ◌≤◌, filter, ◌==◌, ap, length, mod-lt, eq-eqb}
+-- The picture with which a session begins is sound, and its nodes are what they are loaded with.
+use Rattle.std.proofs.Common.{◌^◌, ◌≡◌, ℕ, zero, suc, ◌<◌, ◌/◌, ◌%◌, ◌≤◌, [], ◌∷◌, ◌++◌, false, sym, ◌∙◌, subst, inl, inr, arith, get_or, flat_map, replicate, refl, Ok, Some, None, List, map, filter, ◌==◌, ap, length, mod-lt, eq-eqb}
 use Rattle.std.proofs.lemmas.Bool.{cases_lt}
-use Rattle.std.proofs.lemmas.List.{get_or_append_left, get_or_at, length-replicate, get_or-replicate, length-map}
+use Rattle.std.proofs.lemmas.List.{append-nil, get_or_append_left, get_or_at, length-replicate, get_or-replicate, length-map}
+use Rattle.std.proofs.lemmas.Option.{none-some}
 use Rattle.std.specs.List.{AllByRecursion as Every}
-use Rattle.eventkey.proofs.Lists.{Every-filter, Every-map, Every-passes, Every-weaker, IsAscending-filter, copies-filter, get_or-map}
-use Rattle.eventkey.specs.Bag.{copies}
+use Rattle.eventkey.proofs.Lists.{Every-all, Every-append, Every-filter, Every-get_or-default, Every-map, Every-passes, Every-replicate, Every-weaker, IsAscending-filter, copies-filter, get_or-map}
+use Rattle.eventkey.proofs.Times.{IsFrom}
+use Rattle.eventkey.specs.Bag.{add_all, copies}
 use Rattle.eventkey.specs.Message.{IsAtMost, IsRanged, Message}
 use Rattle.eventkey.specs.Signed.{of_sign}
 use Rattle.eventkey.specs.declared.Sign.TheVariants.{Minus, Plus}
 use Rattle.eventkey.specs.declared.Signed.{Signed}
-use Rattle.model.proofs.Worlds.{IsUpto_IsWorld, length-below}
-use Rattle.model.specs.Meaning.{IsAddressed, IsLawful, Meaning}
-use Rattle.model.specs.World.{IsUpto, IsWorld, World, below, number_of, state_of}
+use Rattle.model.proofs.Steps.{IsUpto_IsReached}
+use Rattle.model.proofs.Worlds.{length-below, words_at}
+use Rattle.model.specs.Meaning.{IsAddressed, Meaning}
+use Rattle.model.specs.Runner.{IsReached}
+use Rattle.model.specs.World.{World, below, number_of, state_of}
+use Rattle.queues.proofs.Moves.{add_all-ascending}
 use Rattle.queues.specs.Record.{messages}
-use Rattle.process.specs.Process.{Process, handlings, nobody, sent_by}
+use Rattle.process.specs.Process.{Process, nobody, sent_by}
 use Rattle.process.specs.Told.{IsTold}
+use Rattle.process.specs.View.{loaded}
+use Rattle.node.proofs.Loads.{not_refused}
+use Rattle.node.proofs.Seats.{own_place}
+use Rattle.node.specs.Handling.{IsInRange as IsPartInRange, Node, load_answer, load_refusal, loaded_node, own_lps}
+use Rattle.node.specs.declared.Load.{Load}
+use Rattle.node.specs.declared.Parcel.{Parcel}
+use Rattle.node.specs.declared.Part.{Part}
 use Rattle.gvt.specs.Ledger.{delivered_by}
-use Rattle.protocol.specs.Picture.{IsToldTruly, IsBalanced, IsInRange, IsProcessInRange, floor_of, opened, opened_process, process_at}
+use Rattle.protocol.proofs.Gvt.{KeptFrom, SignedFrom, gvt_above}
+use Rattle.protocol.specs.Picture.{IsBalanced, IsInRange, IsProcessInRange, IsSeatedBy, Picture, floor_of, gvt, node_of, nodes_of, opened, opened_process, process_at}
+use Rattle.protocol.specs.Sound.{IsOpening, IsSound}
+use Rattle.protocol.specs.Laws.{IsLoadedWith, OpenedNodes, OpeningIsSound}
+use Rattle.protocol.specs.Views.{load_of, node_view, part_of}
+
+-- 1. Lists
 
 pub get_or-below : (n lp : ℕ) → lp < n → get_or (below n) lp 0 ≡ lp
 get_or-below zero lp h = absurd (omega arith)
@@ -25,77 +43,194 @@ get_or-below (suc n) lp h = elim (cases_lt lp n) [
   | inr l ↦ (let e : lp ≡ n = omega arith in subst (λ k. get_or (below n ++ n ∷ []) k 0 ≡ k) (sym e) (get_or_at (below n) n [] 0 n (length-below n)))
 ]
 
-pub nothing_delivered : (n : ℕ) → flat_map delivered_by (replicate n None) ≡ []
+nothing_delivered : (n : ℕ) → flat_map delivered_by (replicate n None) ≡ []
 nothing_delivered zero = refl
 nothing_delivered (suc n) = nothing_delivered n
 
-nothing_sent : (w : World) (lps : List ℕ) → flat_map sent_by (map (opened_process w) lps) ≡ []
-nothing_sent w [] = refl
-nothing_sent w (lp ∷ lps) = nothing_sent w lps
+no_parcel : (n i : ℕ) (parcel : Parcel) → get_or (replicate n None) i None ≡ Some parcel → ⊥
+no_parcel zero i parcel e = none-some parcel e
+no_parcel (suc n) zero parcel e = none-some parcel e
+no_parcel (suc n) (suc i) parcel e = no_parcel n i parcel e
 
-module _ (m : Meaning) (end nodes : ℕ) (w : World) (law : IsLawful m) (is : IsWorld m.lps w) (upto : IsUpto m end w.time w) (some : 1 ≤ nodes) where
-  pub process_is : (lp : ℕ) → lp < m.lps → process_at (opened m.lps nodes w) lp ≡ opened_process w lp
+-- 2. The processes
+
+-- the processes of a node
+abbrev node_opened : ℕ → ℕ → World → ℕ → List Process
+node_opened lps nodes w node = map (opened_process w) (own_lps nodes node lps)
+
+nothing_sent_at : (w : World) (lps : List ℕ) (rest : List Process) → flat_map sent_by rest ≡ [] → flat_map sent_by (map (opened_process w) lps ++ rest) ≡ []
+nothing_sent_at w [] rest e = e
+nothing_sent_at w (lp ∷ lps) rest e = nothing_sent_at w lps rest e
+
+nothing_sent : (lps nodes : ℕ) (w : World) (ks : List ℕ) → flat_map sent_by (flat_map (λ (qs : List Process). qs) (map (node_opened lps nodes w) ks)) ≡ []
+nothing_sent lps nodes w [] = refl
+nothing_sent lps nodes w (k ∷ ks) = nothing_sent_at w (own_lps nodes k lps) (flat_map (λ (qs : List Process). qs) (map (node_opened lps nodes w) ks)) (nothing_sent lps nodes w ks)
+
+module _ (m : Meaning) (end nodes : ℕ) (w : World) (begins : IsOpening m end nodes w) where
+  abbrev first : Picture
+  first = opened m.lps nodes w
+
+  pub many : nodes_of first ≡ nodes
+  many = length-map (below nodes) (node_opened m.lps nodes w) ∙ length-below nodes
+
+  world : IsReached m.lps w
+  world = IsUpto_IsReached m end w.time w begins.lawful begins.short begins.front
+
+  pub node_is : (node : ℕ) → node < nodes → node_of first node ≡ node_opened m.lps nodes w node
+  node_is node l =
+      get_or-map (node_opened m.lps nodes w) (below nodes) node 0 [] (let e = length-below nodes in omega arith)
+      ∙ ap (node_opened m.lps nodes w) (get_or-below nodes node l)
+
+  process_is : (lp : ℕ) → lp < m.lps → process_at first lp ≡ opened_process w lp
   process_is lp l =
-      get_or-map (opened_process w) (below m.lps) lp 0 nobody (let e = length-below m.lps in omega arith)
-      ∙ ap (opened_process w) (get_or-below m.lps lp l)
+      let node : ℕ = lp % nodes in
+      let small : node < nodes = mod-lt lp begins.some in
+      let place = own_place nodes node small m.lps lp refl l in
+      ap (λ (n : ℕ). get_or (node_of first (lp % n)) (lp / n) nobody) many
+      ∙ ap (λ (qs : List Process). get_or qs (lp / nodes) nobody) (node_is node small)
+      ∙ get_or-map (opened_process w) (own_lps nodes node m.lps) (lp / nodes) 0 nobody place.0
+      ∙ ap (opened_process w) place.1
 
-  floor_is : (lp : ℕ) → floor_of (opened m.lps nodes w) lp ≡ w.time
-  floor_is lp =
-      let n : length (replicate nodes w.time) ≡ nodes = length-replicate nodes w.time in
-      rw n (get_or-replicate nodes (lp % nodes) w.time 0 (mod-lt lp some))
+  floor_is : (lp : ℕ) → floor_of first lp ≡ w.time
+  floor_is lp = ap (λ (n : ℕ). get_or (replicate nodes w.time) (lp % n) 0) many ∙ get_or-replicate nodes (lp % nodes) w.time 0 (mod-lt lp begins.some)
 
-  pub process_told : (lp : ℕ) → IsTold m lp w.time (state_of w lp) (number_of w lp) w.time (opened_process w lp)
+  process_told : (lp : ℕ) → IsTold m lp w.time (state_of w lp) (number_of w lp) w.time [] (opened_process w lp)
   process_told lp = record {
-    fold = (refl, refl);
+    told_fold = tt;
+    history = (refl, refl);
+    state_meets = refl;
+    number_meets = refl;
+    number_limit = Every-get_or-default (λ (n : ℕ). n ≤ 2 ^ 63) w.numbers lp 0 world.numbers (omega arith);
     ascending = tt;
-    waiting_ascending = IsAscending-filter (λ (x : Message). x.to == lp) w.pending is.ascending;
+    waiting_ascending = IsAscending-filter (λ (x : Message). x.to == lp) w.pending world.world.ascending;
     antis_ascending = tt;
-    behind = Every-from_all (λ (y : Message). Every (λ (d : Message). IsAtMost d y) []) (filter (λ (x : Message). x.to == lp) w.pending) (λ _. tt);
-    own_handled = tt;
+    behind = Every-all (λ (y : Message). Every (λ (d : Message). IsAtMost d y) []) (λ _. tt) (filter (λ (x : Message). x.to == lp) w.pending);
+    own_told = tt;
+    own_done = tt;
     own_waiting = Every-passes lp w.pending;
     own_antis = tt;
-    gathered_from = tt;
-    gathered_below = tt;
+    told_from = tt;
+    told_below = tt;
     done_from = tt;
-    waiting_from = Every-filter (λ (x : Message). w.time ≤ x.time) (λ (x : Message). x.to == lp) w.pending upto.left;
+    waiting_from = Every-filter (λ (x : Message). w.time ≤ x.time) (λ (x : Message). x.to == lp) w.pending begins.front.left;
     antis_from = tt;
   }
-    where
-      Every-from_all : {X : Type 0} (P : X → Type 0) (xs : List X) → ((x : X) → P x) → Every P xs
-      Every-from_all P [] h = tt
-      Every-from_all P (x ∷ xs) h = (h x, Every-from_all P xs h)
 
-  opened_balanced : IsBalanced m (opened m.lps nodes w)
+  opened_balanced : IsBalanced m first
   opened_balanced x l =
       let q = process_is x.to l in
-      let handled = ap (λ (q : Process). copies x (messages (handlings q))) q in
+      let handled = ap (λ (q : Process). copies x (messages q.done)) q in
       let waiting = ap (λ (q : Process). copies x q.waiting) q ∙ copies-filter x (λ (y : Message). y.to == x.to) w.pending (eq-eqb x.to x.to refl) in
       let antis = ap (λ (q : Process). copies x q.antis) q in
       let plus = ap (λ ss. copies x (of_sign Plus ss)) (nothing_delivered nodes) in
       let minus = ap (λ ss. copies x (of_sign Minus ss)) (nothing_delivered nodes) in
-      let sent = ap (copies x) (nothing_sent w (below m.lps)) in
+      let sent = ap (copies x) (nothing_sent m.lps nodes w (below nodes)) in
       omega arith
 
-pub opened_is_sound : (m : Meaning) (end nodes : ℕ) (w : World) → IsLawful m → end ≤ 2 ^ 40 → IsUpto m end w.time w → 1 ≤ nodes →
-    IsToldTruly m (opened m.lps nodes w) × IsBalanced m (opened m.lps nodes w) × IsInRange (opened m.lps nodes w)
-opened_is_sound m end nodes w law short upto some =
-    let is = IsUpto_IsWorld m end w.time w law short upto in (
-      (
-        length-map (below m.lps) (opened_process w) ∙ length-below m.lps,
-        λ lp l.
-            subst (λ q. IsTold m lp w.time (state_of w lp) (number_of w lp) (floor_of (opened m.lps nodes w) lp) q) (sym (process_is m end nodes w law is upto some lp l))
-            (subst (λ f. IsTold m lp w.time (state_of w lp) (number_of w lp) f (opened_process w lp)) (sym (floor_is m end nodes w law is upto some lp)) (process_told m end nodes w law is upto some lp)),
-      ),
-      opened_balanced m end nodes w law is upto some,
-      (
-        Every-map IsProcessInRange (opened_process w) (below m.lps) (all_in_range (below m.lps) is),
-        subst (Every (λ (s : Signed). IsRanged s.message)) (sym (nothing_delivered nodes)) tt,
-      ),
-    )
-  where
-    all_in_range : (lps : List ℕ) → IsWorld m.lps w → Every (λ lp. IsProcessInRange (opened_process w lp)) lps
-    all_in_range [] is = tt
-    all_in_range (lp ∷ lps) is = (
-      (tt, Every-weaker (IsAddressed m.lps) IsRanged (λ x h. h.ranged) (filter (λ (x : Message). x.to == lp) w.pending) (Every-filter (IsAddressed m.lps) (λ (x : Message). x.to == lp) w.pending is.addressed), tt),
-      all_in_range lps is,
-    )
+  opened_in_range : IsInRange first
+  opened_in_range = (
+    tt,
+    Every-map (λ (qs : List Process). Every IsProcessInRange qs) (node_opened m.lps nodes w) (below nodes)
+        (Every-all (λ (node : ℕ). Every IsProcessInRange (node_opened m.lps nodes w node))
+        (λ node. Every-map IsProcessInRange (opened_process w) (own_lps nodes node m.lps)
+        (Every-all (λ (lp : ℕ). IsProcessInRange (opened_process w lp)) (λ lp. (
+          tt,
+          Every-weaker (IsAddressed m.lps) IsRanged (λ x h. h.ranged) (filter (λ (x : Message). x.to == lp) w.pending) (Every-filter (IsAddressed m.lps) (λ (x : Message). x.to == lp) w.pending world.world.addressed),
+          tt,
+        )) (own_lps nodes node m.lps))) (below nodes)),
+    subst (Every (λ (s : Signed). IsRanged s.message)) (sym (nothing_delivered nodes)) tt,
+  )
+
+  opened_seated : IsSeatedBy m.lps first
+  opened_seated = record {
+    seats = λ node l.
+        ap length (node_is node (let e = many in omega arith))
+        ∙ length-map (own_lps nodes node m.lps) (opened_process w)
+        ∙ ap (λ (n : ℕ). length (own_lps n node m.lps)) (sym many);
+    parcels = length-replicate nodes None ∙ sym many;
+    floors = length-replicate nodes w.time ∙ sym many;
+    told = tt;
+  }
+
+  gvt_from : w.time ≤ gvt end first
+  gvt_from =
+      gvt_above end w.time first begins.soon
+      (Every-map (λ (qs : List Process). Every (KeptFrom w.time) qs) (node_opened m.lps nodes w) (below nodes)
+      (Every-all (λ (node : ℕ). Every (KeptFrom w.time) (node_opened m.lps nodes w node))
+      (λ node. Every-map (KeptFrom w.time) (opened_process w) (own_lps nodes node m.lps)
+      (Every-all (λ (lp : ℕ). KeptFrom w.time (opened_process w lp))
+      (λ lp. Every-append (IsFrom w.time) (filter (λ (x : Message). x.to == lp) w.pending) []
+      (Every-filter (λ (x : Message). w.time ≤ x.time) (λ (x : Message). x.to == lp) w.pending begins.front.left) tt) (own_lps nodes node m.lps))) (below nodes)))
+      (subst (Every (SignedFrom w.time)) (sym (nothing_delivered nodes)) tt)
+
+  opened_sound : IsSound m end first
+  opened_sound = record {
+    front = begins.front;
+    some = (let a = begins.some in let b = many in omega arith);
+    seated = opened_seated;
+    in_range = opened_in_range;
+    told = λ lp l.
+        subst (λ (q : Process). IsTold m lp w.time (state_of w lp) (number_of w lp) (floor_of first lp) [] q) (sym (process_is lp l))
+        (subst (λ (f : ℕ). IsTold m lp w.time (state_of w lp) (number_of w lp) f [] (opened_process w lp)) (sym (floor_is lp)) (process_told lp));
+    balanced = opened_balanced;
+    front_low = Every-replicate (λ (f : ℕ). w.time ≤ f) nodes w.time (omega arith);
+    floors_low = Every-replicate (λ (f : ℕ). f ≤ gvt end first) nodes w.time gvt_from;
+    there = tt;
+    parcels = λ node parcel e. absurd (no_parcel nodes node parcel e);
+  }
+
+  -- 3. What a node is loaded with
+
+  abbrev loaded_part : Part → Process
+  loaded_part p = loaded p.words p.number p.pending
+
+  loaded_is : (lp : ℕ) → loaded_part (part_of w lp) ≡ opened_process w lp
+  loaded_is lp =
+      let mine : List Message = filter (λ (x : Message). x.to == lp) w.pending in
+      let up = IsAscending-filter (λ (x : Message). x.to == lp) w.pending world.world.ascending in
+      let same : add_all mine [] ≡ mine = add_all-ascending mine [] (rw append-nil up) ∙ append-nil mine in
+      ap (λ (xs : List Message). record { done = []; waiting = xs; antis = []; state = state_of w lp; number = number_of w lp }) same
+
+  all_loaded : (lps : List ℕ) → map loaded_part (map (part_of w) lps) ≡ map (opened_process w) lps
+  all_loaded [] = refl
+  all_loaded (lp ∷ lps) = ap (λ (q : Process). q ∷ map loaded_part (map (part_of w) lps)) (loaded_is lp) ∙ ap (λ (qs : List Process). opened_process w lp ∷ qs) (all_loaded lps)
+
+  parts_named : (lps : List ℕ) → map (λ (p : Part). p.lp) (map (part_of w) lps) ≡ lps
+  parts_named [] = refl
+  parts_named (lp ∷ lps) = ap (λ (ks : List ℕ). lp ∷ ks) (parts_named lps)
+
+  abbrev node_with : ℕ → ℕ → ℕ → List Process → Node
+  node_with node n floor qs = record { node = node; nodes = n; lps = m.lps; end = end; floor = floor; spent = false; processes = qs }
+
+  load_accepted : (node : ℕ) → load_refusal m.lps (load_of m.lps end nodes node w) ≡ None
+  load_accepted node =
+      let lps : List ℕ = own_lps nodes node m.lps in
+      let load : Load = load_of m.lps end nodes node w in
+      not_refused m.lps m.lps load load.parts refl refl (parts_named lps)
+      (Every-map (λ (p : Part). Every (λ (x : Message). x.to ≡ p.lp) p.pending) (part_of w) lps (Every-all (λ (lp : ℕ). Every (λ (x : Message). x.to ≡ lp) (part_of w lp).pending) (λ lp. Every-passes lp w.pending) lps))
+      (Every-map (λ (p : Part). Every (λ (x : Message). w.time ≤ x.time) p.pending) (part_of w) lps
+      (Every-all (λ (lp : ℕ). Every (λ (x : Message). w.time ≤ x.time) (part_of w lp).pending) (λ lp. Every-filter (λ (x : Message). w.time ≤ x.time) (λ (x : Message). x.to == lp) w.pending begins.front.left) lps))
+
+  load_is : (node : ℕ) → node < nodes → loaded_node m.lps (load_of m.lps end nodes node w) ≡ node_view m end first node
+  load_is node l =
+      let qs : List Process = map loaded_part (map (part_of w) (own_lps nodes node m.lps)) in
+      ap (λ (n : ℕ). node_with node n w.time qs) (sym many)
+      ∙ ap (λ (f : ℕ). node_with node (nodes_of first) f qs) (sym (get_or-replicate nodes node w.time 0 l))
+      ∙ ap (node_with node (nodes_of first) (get_or (replicate nodes w.time) node 0)) (all_loaded (own_lps nodes node m.lps) ∙ sym (node_is node l))
+
+  node_loaded : (node : ℕ) → node < nodes → IsLoadedWith m end nodes node w
+  node_loaded node l =
+      let lps : List ℕ = own_lps nodes node m.lps in
+      let none = load_accepted node in
+      record {
+        in_range = Every-map IsPartInRange (part_of w) lps
+            (Every-all (λ (lp : ℕ). IsPartInRange (part_of w lp))
+            (λ lp. record { words = (words_at w lp world.world.words).0; number = Every-get_or-default (λ (n : ℕ). n ≤ 2 ^ 63) w.numbers lp 0 world.numbers (omega arith) }) lps);
+        answer = rw (load_answer, none) (ap Ok (load_is node l));
+      }
+
+pub opening_is_sound : OpeningIsSound
+opening_is_sound m end nodes w begins = record { lawful = begins.lawful; short = begins.short; sound = opened_sound m end nodes w begins }
+
+pub opened_nodes : OpenedNodes
+opened_nodes m end nodes node w begins l = node_loaded m end nodes w begins node l

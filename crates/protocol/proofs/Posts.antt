@@ -16,7 +16,7 @@ use Rattle.node.specs.Node.{sits_on}
 use Rattle.node.specs.declared.Parcel.{Parcel}
 use Rattle.gvt.specs.Ledger.{delivered_by}
 use Rattle.gvt.specs.Picks.{are_distinct, can_pick, has, not_picked, nothing, picked}
-use Rattle.protocol.proofs.Gvt.{Every-parcels-set, SignedFrom, copies-parcels-set, gvt-le, gvt_above, gvt_antis, gvt_travelling, gvt_waiting}
+use Rattle.protocol.proofs.Gvt.{Every-parcels-set, SignedFrom, copies-parcels-set, gvt-le, gvt_above, gvt_nodes, gvt_travelling}
 use Rattle.protocol.specs.Picture.{IsInRange, Picture, gvt, nodes_of}
 use Rattle.protocol.specs.Moves.{Post, can_post, is_busy, move, posted}
 use Rattle.protocol.specs.Sound.{IsParcel, IsSound}
@@ -94,7 +94,7 @@ not_busy None e = refl
 not_busy (Some parcel) e = absurd (cc)
 
 module _ (m : Meaning) (end node : ℕ) (picks : List ℕ) (budget : ℕ) (p : Picture) (h : IsSound m end p) (can : can_post p node picks ≡ true) where
-  checks : (node < length p.floors) × (get_or p.parcels node None ≡ None) × Every (IsPick (nodes_of p) node p.transit) picks × (are_distinct picks ≡ true)
+  checks : (node < nodes_of p) × (get_or p.parcels node None ≡ None) × Every (IsPick (nodes_of p) node p.transit) picks × (are_distinct picks ≡ true)
   checks =
       let a = and_parts (nat_lt node (nodes_of p) && not (is_busy p node)) (can_pick (nodes_of p) node p.transit picks && are_distinct picks) can in
       let b = and_parts (nat_lt node (nodes_of p)) (not (is_busy p node)) a.0 in
@@ -102,7 +102,7 @@ module _ (m : Meaning) (end node : ℕ) (picks : List ℕ) (budget : ℕ) (p : P
       (ltb-true node (nodes_of p) b.0, not_busy (get_or p.parcels node None) (not-true (is_busy p node) b.1), all_picks (nodes_of p) node p.transit picks c.0, c.1)
 
   within : node < length p.parcels
-  within = let a = checks.0 in let b = h.sizes in omega arith
+  within = let a = checks.0 in let b = h.seated.parcels in omega arith
 
   new : Picture
   new = posted end node picks budget p
@@ -112,7 +112,7 @@ module _ (m : Meaning) (end node : ℕ) (picks : List ℕ) (budget : ℕ) (p : P
 
   gvt_kept : gvt end p ≤ gvt end new
   unfolding new
-  gvt_kept = gvt_above end (gvt end p) new (gvt-le end p) (gvt_waiting end p) (gvt_antis end p)
+  gvt_kept = gvt_above end (gvt end p) new (gvt-le end p) (gvt_nodes end p)
       (Every-append (SignedFrom (gvt end p)) (not_picked picks 0 p.transit) (flat_map delivered_by new.parcels)
       (Every-not_picked (SignedFrom (gvt end p)) picks 0 p.transit moving)
       (Every-parcels-set (SignedFrom (gvt end p)) p.parcels node (Some (record { deliver = picked p.transit picks; budget = budget; floor = gvt end p }))
@@ -123,25 +123,26 @@ module _ (m : Meaning) (end node : ℕ) (picks : List ℕ) (budget : ℕ) (p : P
   unfolding new
   new_in_range = (
     h.in_range.0,
+    h.in_range.1,
     Every-append (λ (s : Signed). IsRanged s.message) (not_picked picks 0 p.transit) (flat_map delivered_by new.parcels)
         (Every-not_picked (λ (s : Signed). IsRanged s.message) picks 0 p.transit transit_ranged)
         (Every-parcels-set (λ (s : Signed). IsRanged s.message) p.parcels node (Some (record { deliver = picked p.transit picks; budget = budget; floor = gvt end p }))
         (Every-picked (λ (s : Signed). IsRanged s.message) (nodes_of p) node p.transit picks checks.2 transit_ranged)
-        (Every-right (λ (s : Signed). IsRanged s.message) p.transit (flat_map delivered_by p.parcels) h.in_range.1)),
+        (Every-right (λ (s : Signed). IsRanged s.message) p.transit (flat_map delivered_by p.parcels) h.in_range.2)),
   )
     where
       transit_ranged : Every (λ (s : Signed). IsRanged s.message) p.transit
-      transit_ranged = Every-left (λ (s : Signed). IsRanged s.message) p.transit (flat_map delivered_by p.parcels) h.in_range.1
+      transit_ranged = Every-left (λ (s : Signed). IsRanged s.message) p.transit (flat_map delivered_by p.parcels) h.in_range.2
 
-  new_parcels : (node' : ℕ) (parcel : Parcel) → get_or new.parcels node' None ≡ Some parcel → IsParcel m (length p.floors) node' (get_or p.floors node' 0) (gvt end new) parcel
+  new_parcels : (node' : ℕ) (parcel : Parcel) → get_or new.parcels node' None ≡ Some parcel → IsParcel m (nodes_of p) node' (get_or p.floors node' 0) (gvt end new) parcel
   unfolding new
   new_parcels node' parcel e = elim (cases_eq node' node) [
     | inl same ↦
         let this : Parcel = record { deliver = picked p.transit picks; budget = budget; floor = gvt end p } in
         let was : get_or new.parcels node' None ≡ Some this = ap (λ (i : ℕ). get_or new.parcels i None) same ∙ get_or-set_same p.parcels node (Some this) None within in
         let is : this ≡ parcel = same_Some this parcel (sym was ∙ e) in
-        subst (IsParcel m (length p.floors) node' (get_or p.floors node' 0) (gvt end new)) is (record {
-          from = Every-get_or (λ (f : ℕ). f ≤ gvt end p) p.floors node' 0 (let a = checks.0 in omega arith) h.floors_low;
+        subst (IsParcel m (nodes_of p) node' (get_or p.floors node' 0) (gvt end new)) is (record {
+          from = Every-get_or (λ (f : ℕ). f ≤ gvt end p) p.floors node' 0 (let a = checks.0 in let b = h.seated.floors in omega arith) h.floors_low;
           upto = gvt_kept;
           there = Every-picked (λ (s : Signed). s.message.to < m.lps) (nodes_of p) node p.transit picks checks.2 h.there;
           on_node = rw same (on_node-picked (nodes_of p) node p.transit picks checks.2);
@@ -159,6 +160,8 @@ module _ (m : Meaning) (end node : ℕ) (picks : List ℕ) (budget : ℕ) (p : P
       let more = gvt_kept in
       record {
         front = h.front;
+        some = h.some;
+        seated = record { seats = h.seated.seats; parcels = length-set p.parcels node _ ∙ h.seated.parcels; floors = h.seated.floors; told = h.seated.told };
         in_range = new_in_range;
         told = h.told;
         balanced = λ x l.
@@ -178,8 +181,6 @@ module _ (m : Meaning) (end node : ℕ) (picks : List ℕ) (budget : ℕ) (p : P
               copies-append_signed x Plus (not_picked picks 0 p.transit) (flat_map delivered_by new.parcels),
               copies-append_signed x Minus (not_picked picks 0 p.transit) (flat_map delivered_by new.parcels),
             );
-        some = h.some;
-        sizes = length-set p.parcels node _ ∙ h.sizes;
         front_low = h.front_low;
         floors_low = Every-weaker (λ (f : ℕ). f ≤ gvt end p) (λ (f : ℕ). f ≤ gvt end new) (λ f a. omega arith) p.floors h.floors_low;
         there = Every-not_picked (λ (s : Signed). s.message.to < m.lps) picks 0 p.transit h.there;

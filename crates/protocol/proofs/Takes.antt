@@ -1,11 +1,12 @@
 -- Taking a node's answer keeps a picture sound, and global virtual time does not fall.
-use Rattle.std.proofs.Common.{◌≡◌, ℕ, zero, suc, ◌+◌, ◌<◌, cond, List, [], ◌∷◌, ◌++◌, flat_map, refl, ap, ap₂, arith, length, get_or, Some, None, ◌∙◌, Option, ◌≤◌, ◌^◌, inl, inr, ◌%◌, sym, set, length-set, get_or-set_same, get_or-set_other, subst}
-use Rattle.std.proofs.lemmas.Bool.{cond_both, cases_lt, cases_eq, eqb-true, eqb-false}
+use Rattle.std.proofs.Common.{◌≡◌, ℕ, zero, suc, ◌+◌, ◌/◌, ◌%◌, ◌<◌, ◌≤◌, ◌++◌, ◌∙◌, List, [], ◌∷◌, flat_map, length, get_or, set, Some, None, Option, refl, ap, sym, subst, arith, inl, inr, length-set, get_or-set_same, get_or-set_other}
+use Rattle.std.proofs.lemmas.Bool.{cases_lt, cases_eq}
+use Rattle.std.proofs.lemmas.List.{append-nil}
 use Rattle.std.proofs.lemmas.Option.{none-some}
 use Rattle.std.specs.List.{AllByRecursion as Every}
-use Rattle.eventkey.proofs.Bags.{Every-from_members, Every-member, copies-flat_map-set}
-use Rattle.eventkey.proofs.Lists.{Every-append, Every-both, Every-flat_map, Every-get_or, Every-left, Every-right, Every-set, Every-weaker, copies-append_signed, option_map_some}
-use Rattle.eventkey.proofs.Times.{Every-from_get_or, IsFrom}
+use Rattle.eventkey.proofs.Bags.{Every-from_members, Every-member, copies-append, copies-flat_map-set}
+use Rattle.eventkey.proofs.Lists.{Every-append, Every-both, Every-filter, Every-flat_map, Every-get_or, Every-get_or-default, Every-left, Every-map, Every-right, Every-set, Every-unmap, Every-weaker, copies-append_signed, copies-cons, option_map_some}
+use Rattle.eventkey.proofs.Times.{Every-from_get_or}
 use Rattle.eventkey.specs.Bag.{copies}
 use Rattle.eventkey.specs.Message.{IsRanged, Message}
 use Rattle.eventkey.specs.Signed.{of_sign}
@@ -13,60 +14,48 @@ use Rattle.eventkey.specs.declared.Sign.{Sign}
 use Rattle.eventkey.specs.declared.Sign.TheVariants.{Minus, Plus}
 use Rattle.eventkey.specs.declared.Signed.{Signed}
 use Rattle.model.proofs.Worlds.{IsUpto_IsWorld, words_at}
-use Rattle.model.specs.Meaning.{IsLawful, IsWords, Meaning}
+use Rattle.model.specs.Meaning.{IsWords, Meaning}
 use Rattle.model.specs.World.{number_of, state_of}
-use Rattle.queues.specs.Record.{messages, sent_in}
+use Rattle.queues.proofs.Releases.{copies-handled_before-le}
+use Rattle.queues.specs.Record.{handled_before, handled_from, messages, number_before, state_before}
 use Rattle.queues.specs.declared.Record.{Record}
-use Rattle.process.proofs.Arrivals.{IsFine, IsLater, fold_later}
-use Rattle.process.proofs.Handlings.{handlings_of_collect, told_collect}
-use Rattle.process.specs.Process.{Process, collect, handlings, nobody, sent_by}
-use Rattle.node.specs.Node.{Work, sits_on, start}
+use Rattle.process.proofs.Arrivals.{IsLater, fold_later}
+use Rattle.process.proofs.Histories.{messages_told as messages_of_told}
+use Rattle.process.proofs.Laws.{telling_is_balanced}
+use Rattle.process.specs.Process.{Process, fossils_of, nobody, sent_by}
+use Rattle.process.specs.Told.{IsTold}
+use Rattle.process.specs.declared.Done.{Done}
+use Rattle.node.proofs.Seats.{own_at}
+use Rattle.node.proofs.Works.{not_for, own_released, place, releasing_is_kept, told_words, work_is_kept}
+use Rattle.node.specs.Handling.{own_lps}
+use Rattle.node.specs.Kept.{HasRanged, IsKept, IsPast, IsUnderWay, IsWorkKept, Past, own, told_too}
+use Rattle.node.specs.Node.{Work, released, work_here}
 use Rattle.node.specs.declared.Parcel.{Parcel}
 use Rattle.gvt.specs.Ledger.{delivered_by}
-use Rattle.protocol.proofs.Gvt.{Every-parcels, Every-parcels-set, SignedFrom, copies-parcels-set, gvt-le, gvt_above, gvt_antis, gvt_travelling, gvt_waiting, some_within}
-use Rattle.protocol.proofs.Steps.{IsGoing, IsGoodOut, ToldAt, deliver_kept, run_kept}
-use Rattle.protocol.specs.Picture.{IsInRange, IsProcessInRange, Picture, all_sent, floor_of, gvt, nodes_of, process_at, travelling}
-use Rattle.protocol.specs.Moves.{Take, answered, at, collected, deliver, handle_parcel, move, on_node, on_node_from, run, take_from}
-use Rattle.protocol.specs.Sound.{IsParcel, IsSound}
-use Rattle.protocol.specs.Laws.{ParcelsFit}
+use Rattle.protocol.proofs.Fossils.{copies-messages_told, copies-sent_nodes, copies-sent_told, sent-released, told_by-all, told_by-flat_none, told_by-flat_one, told_by-none}
+use Rattle.protocol.proofs.Gathered.{copies-told_by, told_by-apart}
+use Rattle.protocol.proofs.Gvt.{Every-parcels, Every-parcels-set, KeptFrom, SignedFrom, copies-parcels-set, gvt-le, gvt_above, gvt_node, gvt_nodes, gvt_travelling, some_within}
+use Rattle.protocol.proofs.Places.{at_place}
+use Rattle.protocol.specs.Picture.{IsBalanced, IsInRange, IsProcessInRange, IsSeatedBy, Picture, all_sent, floor_of, gvt, messages_told, node_of, nodes_of, process_at, processes_of, sent_told, told_by, travelling}
+use Rattle.protocol.specs.Moves.{Take, answered, move, take_from}
+use Rattle.protocol.specs.Sound.{IsParcel, IsSound, IsSystem}
 
--- 1. What is done at the processes of a node
-
-module _ (nodes node : ℕ) (f : Process → Process) where
-  length-on_node_from : (lp : ℕ) (qs : List Process) → length (on_node_from nodes node f lp qs) ≡ length qs
-  length-on_node_from lp [] = refl
-  length-on_node_from lp (q ∷ qs) = ap suc (length-on_node_from (lp + 1) qs)
-
-  get_or-on_node_from : (lp k j : ℕ) (qs : List Process) → k < length qs → j ≡ lp + k →
-      get_or (on_node_from nodes node f lp qs) k nobody ≡ cond (sits_on nodes node j) (f (get_or qs k nobody)) (get_or qs k nobody)
-  get_or-on_node_from lp k j [] l e = absurd (omega arith)
-  get_or-on_node_from lp zero j (q ∷ qs) l e = let same : j ≡ lp = omega arith in rw same refl
-  get_or-on_node_from lp (suc k) j (q ∷ qs) l e = get_or-on_node_from (lp + 1) k j qs (omega arith) (omega arith)
-
-  sent-on_node_from : ((q : Process) → sent_by (f q) ≡ sent_by q) → (lp : ℕ) (qs : List Process) → flat_map sent_by (on_node_from nodes node f lp qs) ≡ flat_map sent_by qs
-  sent-on_node_from same lp [] = refl
-  sent-on_node_from same lp (q ∷ qs) = cond_both (sits_on nodes node lp) (f q) q (λ (r : Process). sent_by r ++ flat_map sent_by (on_node_from nodes node f (lp + 1) qs) ≡ sent_by q ++ flat_map sent_by qs)
-      (λ _. ap₂ (λ (xs ys : List Message). xs ++ ys) (same q) (sent-on_node_from same (lp + 1) qs))
-      (λ _. ap (λ (ys : List Message). sent_by q ++ ys) (sent-on_node_from same (lp + 1) qs))
-
-  get_or-on_node : (lp : ℕ) (qs : List Process) → lp < length qs → get_or (on_node nodes node f qs) lp nobody ≡ cond (sits_on nodes node lp) (f (get_or qs lp nobody)) (get_or qs lp nobody)
-  get_or-on_node lp qs l = get_or-on_node_from 0 lp lp qs l (omega arith)
+-- 1. The parts of a take
 
 pub record IsTaken (m : Meaning) (end node : ℕ) (p p' : Picture) : Type 0 where
   pub parcel : Parcel
   pub posted : get_or p.parcels node None ≡ Some parcel
   pub work : Work
-  pub ran : run m end (nodes_of p) node parcel.budget (deliver parcel.deliver (start p.processes)) ≡ Some work
-  pub is : answered node parcel p (collected (nodes_of p) node parcel.floor work) ≡ p'
+  pub done : work_here m end (nodes_of p) parcel (node_of p node) ≡ Some work
+  pub is : answered node parcel p work ≡ p'
 
 pub taken_from : (m : Meaning) (end node : ℕ) (p p' : Picture) (o : Option Parcel) → get_or p.parcels node None ≡ o → take_from m end node p o ≡ Some p' → IsTaken m end node p p'
 taken_from m end node p p' None was e = absurd (none-some p' e)
 taken_from m end node p p' (Some parcel) was e =
-    let a = option_map_some (λ (w : Work). answered node parcel p w) (handle_parcel m end (nodes_of p) node parcel p.processes) p' e in
-    let b = option_map_some (λ (w : Work). collected (nodes_of p) node parcel.floor w) (run m end (nodes_of p) node parcel.budget (deliver parcel.deliver (start p.processes))) a.0 a.1 in
-    record { parcel = parcel; posted = was; work = b.0; ran = b.1; is = ap (λ (w : Work). answered node parcel p w) b.2 ∙ a.2 }
+    let a = option_map_some (answered node parcel p) (work_here m end (nodes_of p) parcel (node_of p node)) p' e in
+    record { parcel = parcel; posted = was; work = a.0; done = a.1; is = a.2 }
 
--- 3. All sends are in range: each is balanced by a message that is
+-- 2. All sends are in range: each is balanced by a message that is
 
 plus_ranged : (x : Message) (ss : List Signed) → Every (λ (s : Signed). IsRanged s.message) ss → 1 ≤ copies x (of_sign Plus ss) → IsRanged x
 plus_ranged x ss h n = Every-member IsRanged (of_sign Plus ss) x (all ss h) n
@@ -79,244 +68,396 @@ plus_ranged x ss h n = Every-member IsRanged (of_sign Plus ss) x (all ss h) n
     all [] h = tt
     all (s ∷ ss) h = one s.sign s.message (of_sign Plus ss) h.0 (all ss h.1)
 
-module _ (m : Meaning) (law : IsLawful m) (end : ℕ) (short : end ≤ 2 ^ 40) (p : Picture) (h : IsSound m end p) where
-  pub front_words : (lp : ℕ) → lp < m.lps → IsWords (state_of p.front lp)
-  front_words lp l = words_at p.front lp (IsUpto_IsWorld m end p.front.time p.front law short h.front).words
+sent_within : (x : Message) (qs : List Process) (i : ℕ) → copies x (sent_by (get_or qs i nobody)) ≤ copies x (flat_map sent_by qs)
+sent_within x [] i = omega arith
+sent_within x (q ∷ qs) zero = omega (arith, copies-append x (sent_by q) (flat_map sent_by qs))
+sent_within x (q ∷ qs) (suc i) = omega (arith, copies-append x (sent_by q) (flat_map sent_by qs), sent_within x qs i)
 
-  process_in_range : (lp : ℕ) → lp < m.lps → IsProcessInRange (process_at p lp)
-  process_in_range lp l = Every-get_or IsProcessInRange p.processes lp nobody (let e = h.told.0 in omega arith) h.in_range.0
+sent_within_nodes : (x : Message) (nodes : List (List Process)) (k i : ℕ) → copies x (sent_by (get_or (get_or nodes k []) i nobody)) ≤ copies x (flat_map sent_by (flat_map (λ (qs : List Process). qs) nodes))
+sent_within_nodes x nodes k i = omega (arith, go nodes k, copies-sent_nodes x nodes)
+  where
+    go : (nodes : List (List Process)) (k : ℕ) → copies x (sent_by (get_or (get_or nodes k []) i nobody)) ≤ copies x (flat_map (λ (qs : List Process). flat_map sent_by qs) nodes)
+    go [] k = omega arith
+    go (qs ∷ nodes) zero = omega (arith, sent_within x qs i, copies-append x (flat_map sent_by qs) (flat_map (λ (qs : List Process). flat_map sent_by qs) nodes))
+    go (qs ∷ nodes) (suc k) = omega (arith, go nodes k, copies-append x (flat_map sent_by qs) (flat_map (λ (qs : List Process). flat_map sent_by qs) nodes))
+
+-- what is known of the processes from before
+abbrev pub past_of : Picture → Past
+past_of p = record { time = p.front.time; state = λ (lp : ℕ). state_of p.front lp; number = λ (lp : ℕ). number_of p.front lp; told = λ (lp : ℕ). told_by lp p.gathered }
+
+module _ (m : Meaning) (end : ℕ) (p : Picture) (system : IsSystem m end p) where
+  pub past_known : IsPast m (past_of p)
+  past_known =
+      let h = system.sound in
+      let world = IsUpto_IsWorld m end p.front.time p.front system.lawful system.short h.front in
+      record {
+        words = λ lp l. words_at p.front lp world.words;
+        told = λ lp l. Every-filter (λ (d : Done). IsRanged d.message) (λ (d : Done). _) p.gathered (Every-unmap IsRanged (λ (d : Done). d.message) p.gathered h.in_range.0);
+      }
+
+  process_in_range : (lp : ℕ) → IsProcessInRange (process_at p lp)
+  process_in_range lp =
+      Every-get_or-default IsProcessInRange (node_of p (lp % nodes_of p)) (lp / nodes_of p) nobody
+      (Every-get_or-default (λ (qs : List Process). Every IsProcessInRange qs) p.nodes (lp % nodes_of p) [] system.sound.in_range.1 tt) (tt, tt, tt)
 
   sent_in_range : (lp : ℕ) → lp < m.lps → Every IsRanged (sent_by (process_at p lp))
   sent_in_range lp l =
+      let h = system.sound in
+      let law = system.lawful in
       let q = process_at p lp in
-      let told = h.told.1 lp l in
-      let later = fold_later m lp law l (handlings q) (state_of p.front lp) (number_of p.front lp) q.state q.number (front_words lp l) (process_in_range lp l).0 told.fold in
+      let told = h.told lp l in
+      let words : IsWords (state_before q.done q.state) =
+      rw told.state_meets (told_words m lp law l (told_by lp p.gathered) (state_of p.front lp) (number_of p.front lp) (past_known.words lp l) (past_known.told lp l) told.told_fold) in
+      let later = fold_later m lp law l q.done (state_before q.done q.state) (number_before q.done q.number) q.state q.number words (process_in_range lp).0 told.history in
       let there : Every (λ (x : Message). x.to < m.lps) (sent_by q) =
-      Every-flat_map (λ (x : Message). x.to < m.lps) (λ (h : Record). h.sent) (handlings q)
+      Every-flat_map (λ (x : Message). x.to < m.lps) (λ (h : Record). h.sent) q.done
       (Every-weaker (λ (h : Record). Every (IsLater m.lps h.message.time) h.sent) (λ (h : Record). Every (λ (x : Message). x.to < m.lps) h.sent)
-      (λ h a. Every-weaker (IsLater m.lps h.message.time) (λ (x : Message). x.to < m.lps) (λ x b. b.1) h.sent a) (handlings q) later) in
+      (λ h a. Every-weaker (IsLater m.lps h.message.time) (λ (x : Message). x.to < m.lps) (λ x b. b.1) h.sent a) q.done later) in
       Every-from_members IsRanged (sent_by q) (λ x n.
       let l' : x.to < m.lps = Every-member (λ (y : Message). y.to < m.lps) (sent_by q) x there n in
       let same = h.balanced x l' in
-      let all = copies-flat_map-set sent_by x p.processes lp nobody nobody (let e = h.told.0 in omega arith) in
-      let r = process_in_range x.to l' in
-      elim (cases_lt 0 (copies x (messages (handlings (process_at p x.to))))) [
-        | inl a ↦ Every-member IsRanged (messages (handlings (process_at p x.to))) x r.0 a
-        | inr a ↦ elim (cases_lt 0 (copies x (process_at p x.to).waiting)) [
-          | inl b ↦ Every-member IsRanged (process_at p x.to).waiting x r.1 b
-          | inr b ↦ plus_ranged x (travelling p) h.in_range.1 (omega arith)
+      let r = process_in_range x.to in
+      let all = sent_within_nodes x p.nodes (lp % nodes_of p) (lp / nodes_of p) in
+      let sums = copies-append x (sent_told p.gathered) (flat_map sent_by (processes_of p)) in
+      elim (cases_lt 0 (copies x (messages_told p.gathered))) [
+        | inl a ↦ Every-member IsRanged (messages_told p.gathered) x h.in_range.0 a
+        | inr a ↦ elim (cases_lt 0 (copies x (messages (process_at p x.to).done))) [
+          | inl b ↦ Every-member IsRanged (messages (process_at p x.to).done) x r.0 b
+          | inr b ↦ elim (cases_lt 0 (copies x (process_at p x.to).waiting)) [
+            | inl c ↦ Every-member IsRanged (process_at p x.to).waiting x r.1 c
+            | inr c ↦ plus_ranged x (travelling p) h.in_range.2 (omega arith)
+          ]
         ]
       ])
 
-  pub fine : (lp : ℕ) → lp < m.lps → IsFine IsRanged (process_at p lp)
-  fine lp l = let r = process_in_range lp l in record { handled = r.0; waiting = r.1; antis = r.2; sent = sent_in_range lp l }
+  -- 3. The processes of a node
+
+  at_ranged : (node i : ℕ) → node < nodes_of p → i < length (node_of p node) → HasRanged (get_or (node_of p node) i nobody)
+  at_ranged = at_place m.lps p system.sound.seated HasRanged (λ lp l. let r = process_in_range lp in record { done = r.0; waiting = r.1; antis = r.2; sent = sent_in_range lp l })
+
+  pub node_kept : (node : ℕ) → node < nodes_of p → IsKept m (nodes_of p) node (get_or p.floors node 0) (gvt end p) (past_of p) (node_of p node)
+  node_kept node here =
+      let h = system.sound in
+      let n : ℕ = nodes_of p in
+      record {
+        size = h.seated.seats node here;
+        told = λ lp l on.
+            subst (λ (k : ℕ). IsTold m lp p.front.time (state_of p.front lp) (number_of p.front lp) (get_or p.floors k 0) (told_by lp p.gathered) (get_or (node_of p k) (lp / n) nobody)) on (h.told lp l);
+        ranged = Every-from_get_or HasRanged (node_of p node) nobody (λ i l. at_ranged node i here l);
+        late = gvt_node end p node;
+      }
+
+-- nothing for another node is in a parcel
+not_delivered : (x : Message) (sign : Sign) (nodes node : ℕ) (ss : List Signed) → (x.to % nodes ≡ node → ⊥) → Every (λ (s : Signed). s.message.to % nodes ≡ node) ss → copies x (of_sign sign ss) ≡ 0
+not_delivered x Plus nodes node [] other h = refl
+not_delivered x Minus nodes node [] other h = refl
+not_delivered x sign nodes node (s ∷ ss) other h =
+    let apart : x.to ≡ s.message.to → ⊥ = λ e. other (ap (λ (k : ℕ). k % nodes) e ∙ h.0) in
+    omega (arith, not_for x sign s apart, not_delivered x sign nodes node ss other h.1, copies-cons x sign s ss)
 
 -- 4. The picture after it
 
-module _ (m : Meaning) (law : IsLawful m) (end : ℕ) (short : end ≤ 2 ^ 40) (node : ℕ) (p : Picture) (h : IsSound m end p) (parcel : Parcel) (posted : get_or p.parcels node None ≡ Some parcel) where
-  pub others : Sign → Message → ℕ
-  others sign x = copies x (of_sign sign p.transit) + copies x (of_sign sign (flat_map delivered_by (set p.parcels node None)))
+module _ (m : Meaning) (end node : ℕ) (p : Picture) (system : IsSystem m end p) (parcel : Parcel) (posted : get_or p.parcels node None ≡ Some parcel) where
+  pub here : node < nodes_of p
+  here = let a = some_within p.parcels node parcel posted in let b = system.sound.seated.parcels in omega arith
 
-  here : node < length p.floors
-  here = let a = some_within p.parcels node parcel posted in let b = h.sizes in omega arith
+  pub floor_under : get_or p.floors node 0 ≤ gvt end p
+  floor_under = Every-get_or (λ (f : ℕ). f ≤ gvt end p) p.floors node 0 (let a = here in let b = system.sound.seated.floors in omega arith) system.sound.floors_low
 
-  floor_there : (lp : ℕ) → lp % length p.floors < length p.floors
-  floor_there lp = let a = h.some in omega arith
+  front_under : p.front.time ≤ get_or p.floors node 0
+  front_under = Every-get_or (λ (f : ℕ). p.front.time ≤ f) p.floors node 0 (let a = here in let b = system.sound.seated.floors in omega arith) system.sound.front_low
 
-  pub floors_under : (lp : ℕ) → lp < m.lps → floor_of p lp ≤ gvt end p
-  floors_under lp l = Every-get_or (λ (f : ℕ). f ≤ gvt end p) p.floors (lp % length p.floors) 0 (floor_there lp) h.floors_low
+  pub fits : IsParcel m (nodes_of p) node (get_or p.floors node 0) (gvt end p) parcel
+  fits = system.sound.parcels node parcel posted
 
-  travelling_parcels : Every (SignedFrom (gvt end p)) (flat_map delivered_by p.parcels)
-  travelling_parcels = Every-right (SignedFrom (gvt end p)) p.transit (flat_map delivered_by p.parcels) (gvt_travelling end p)
+  parcels_late : Every (SignedFrom (gvt end p)) (flat_map delivered_by p.parcels)
+  parcels_late = Every-right (SignedFrom (gvt end p)) p.transit (flat_map delivered_by p.parcels) (gvt_travelling end p)
 
   parcels_ranged : Every (λ (s : Signed). IsRanged s.message) (flat_map delivered_by p.parcels)
-  parcels_ranged = Every-right (λ (s : Signed). IsRanged s.message) p.transit (flat_map delivered_by p.parcels) h.in_range.1
+  parcels_ranged = Every-right (λ (s : Signed). IsRanged s.message) p.transit (flat_map delivered_by p.parcels) system.sound.in_range.2
 
-  started : IsGoing m p.front (floor_of p) (gvt end p) (others Plus) (others Minus) parcel.deliver (start p.processes)
-  unfolding others
-  started = record {
-    size = h.told.0;
-    told = h.told.1;
-    fine = fine m law end short p h;
-    waiting_low = λ lp l. gvt_waiting end p lp (let e = h.told.0 in omega arith);
-    antis_low = λ lp l. gvt_antis end p lp (let e = h.told.0 in omega arith);
-    out = tt;
-    balanced = λ x l.
-        let old = h.balanced x l in
-        let within = some_within p.parcels node parcel posted in
-        let a = copies-parcels-set x Plus p.parcels node None within in
-        let b = copies-parcels-set x Minus p.parcels node None within in
-        let a' = ap (λ (o : Option Parcel). copies x (of_sign Plus (delivered_by o))) posted in
-        let b' = ap (λ (o : Option Parcel). copies x (of_sign Minus (delivered_by o))) posted in
-        omega (arith, copies-append_signed x Plus p.transit (flat_map delivered_by p.parcels), copies-append_signed x Minus p.transit (flat_map delivered_by p.parcels));
-  }
+  pub under_way : Every (IsUnderWay m.lps (gvt end p)) parcel.deliver
+  under_way =
+      Every-both (λ (s : Signed). (gvt end p ≤ s.message.time) × (s.message.to < m.lps)) (λ (s : Signed). IsRanged s.message) (IsUnderWay m.lps (gvt end p)) (λ s a b. record { late = a.0; there = a.1; ranged = b }) parcel.deliver
+      (Every-both (SignedFrom (gvt end p)) (λ (s : Signed). s.message.to < m.lps) (λ (s : Signed). (gvt end p ≤ s.message.time) × (s.message.to < m.lps)) (λ s a b. (a, b)) parcel.deliver
+      (Every-parcels (SignedFrom (gvt end p)) p.parcels node parcel posted parcels_late) fits.there)
+      (Every-parcels (λ (s : Signed). IsRanged s.message) p.parcels node parcel posted parcels_ranged)
 
-  pub delivered : IsGoing m p.front (floor_of p) (gvt end p) (others Plus) (others Minus) [] (deliver parcel.deliver (start p.processes))
-  delivered =
-      let timely = Every-both (SignedFrom (gvt end p)) (λ (s : Signed). IsRanged s.message) (λ (s : Signed). (gvt end p ≤ s.message.time) × IsRanged s.message) (λ s a b. (a, b)) parcel.deliver
-      (Every-parcels (SignedFrom (gvt end p)) p.parcels node parcel posted travelling_parcels)
-      (Every-parcels (λ (s : Signed). IsRanged s.message) p.parcels node parcel posted parcels_ranged) in
-      let good = Every-both (λ (s : Signed). (gvt end p ≤ s.message.time) × IsRanged s.message) (λ (s : Signed). s.message.to < m.lps) (IsGoodOut m.lps (gvt end p)) (λ s a b. (a.0, b, a.1)) parcel.deliver
-      timely (h.parcels node parcel posted).there in
-      deliver_kept m law end short p.front (front_words m law end short p h) (floor_of p) (gvt end p) floors_under (others Plus) (others Minus) parcel.deliver (start p.processes) good started
+  module _ (w : Work) (done : work_here m end (nodes_of p) parcel (node_of p node) ≡ Some w) where
+    worked : IsWorkKept m (nodes_of p) node (get_or p.floors node 0) (gvt end p) (past_of p) parcel.deliver (node_of p node) w
+    worked = work_is_kept m end (nodes_of p) node (get_or p.floors node 0) (gvt end p) (past_of p) parcel (node_of p node) w system.lawful system.short here floor_under (past_known m end p system) under_way fits.on_node (node_kept m end p system node here) done
 
-  pub worked : (w : Work) → run m end (nodes_of p) node parcel.budget (deliver parcel.deliver (start p.processes)) ≡ Some w →
-      IsGoing m p.front (floor_of p) (gvt end p) (others Plus) (others Minus) [] w
-  worked w e =
-      run_kept m law end short p.front (front_words m law end short p h) (floor_of p) (gvt end p) floors_under (others Plus) (others Minus) (nodes_of p) node parcel.budget (deliver parcel.deliver (start p.processes)) w delivered e
+    let_go : IsKept m (nodes_of p) node parcel.floor (gvt end p) (told_too (nodes_of p) parcel.floor w.processes (past_of p)) (released parcel.floor w)
+    let_go = releasing_is_kept m (nodes_of p) node (get_or p.floors node 0) parcel.floor (gvt end p) (past_of p) w.processes here front_under fits.from fits.upto worked.kept
 
-  module _ (w : Work) (k : IsGoing m p.front (floor_of p) (gvt end p) (others Plus) (others Minus) [] w) where
-    unfoldable pub new : Picture
-    new = answered node parcel p (collected (nodes_of p) node parcel.floor w)
+    fossils : List Done
+    fossils = flat_map (λ (q : Process). fossils_of parcel.floor q) w.processes
 
-    pub at_new : (lp : ℕ) → lp < m.lps → process_at new lp ≡ cond (sits_on (nodes_of p) node lp) (collect parcel.floor (at w lp)) (at w lp)
+    new : Picture
+    new = answered node parcel p w
+
+    same_nodes : nodes_of new ≡ nodes_of p
     unfolding new
-    at_new lp l = get_or-on_node (nodes_of p) node (λ (q : Process). collect parcel.floor q) lp w.processes (let e = k.size in omega arith)
+    same_nodes = length-set p.nodes node (released parcel.floor w)
 
-    -- what collecting does not change is as it was
-    at_kept : {Y : Type 0} (f : Process → Y) → ((q : Process) → f (collect parcel.floor q) ≡ f q) → (lp : ℕ) → lp < m.lps → f (process_at new lp) ≡ f (at w lp)
-    at_kept f same lp l = ap f (at_new lp l) ∙ cond_both (sits_on (nodes_of p) node lp) (collect parcel.floor (at w lp)) (at w lp) (λ (q : Process). f q ≡ f (at w lp)) (λ _. same (at w lp)) (λ _. refl)
+    -- where the processes of the node are
+    own_fossils : (lp : ℕ) → lp < m.lps → lp % nodes_of p ≡ node → Every (λ (d : Done). d.message.to ≡ lp) (fossils_of parcel.floor (own (nodes_of p) w.processes lp))
+    own_fossils lp l on = Every-right (λ (d : Done). d.message.to ≡ lp) (told_by lp p.gathered) (fossils_of parcel.floor (own (nodes_of p) w.processes lp)) (let_go.told lp l on).own_told
 
-    pub new_size : length new.processes ≡ m.lps
+    -- the processes of the node, by their places
+    own_fossils_at : (i : ℕ) → i < length w.processes → (lp : ℕ) × (lp < m.lps) × (lp % nodes_of p ≡ node) × (lp / nodes_of p ≡ i) × Every (λ (d : Done). d.message.to ≡ lp) (fossils_of parcel.floor (get_or w.processes i nobody))
+    own_fossils_at i l =
+        let at = own_at (nodes_of p) node here m.lps i (let e = worked.kept.size in omega arith) in
+        let lp : ℕ = get_or (own_lps (nodes_of p) node m.lps) i 0 in
+        (lp, at.there, at.sits, at.place, subst (λ (j : ℕ). Every (λ (d : Done). d.message.to ≡ lp) (fossils_of parcel.floor (get_or w.processes j nobody))) at.place (own_fossils lp at.there at.sits))
+
+    none_there : (lp i : ℕ) (l : i < length w.processes) → ((own_fossils_at i l).0 ≡ lp → ⊥) → told_by lp (fossils_of parcel.floor (get_or w.processes i nobody)) ≡ []
+    none_there lp i l apart =
+        let at = own_fossils_at i l in
+        told_by-none lp (fossils_of parcel.floor (get_or w.processes i nobody))
+        (Every-weaker (λ (d : Done). d.message.to ≡ at.0) (λ (d : Done). d.message.to ≡ lp → ⊥) (λ d e f. apart (sym e ∙ f)) (fossils_of parcel.floor (get_or w.processes i nobody)) at.4)
+
+    told_here : (lp : ℕ) → lp < m.lps → lp % nodes_of p ≡ node → told_by lp fossils ≡ fossils_of parcel.floor (own (nodes_of p) w.processes lp)
+    unfolding fossils
+    told_here lp l on =
+        told_by-flat_one lp (λ (q : Process). fossils_of parcel.floor q) nobody w.processes (lp / nodes_of p)
+        (place m (nodes_of p) node (get_or p.floors node 0) (gvt end p) here (past_of p) w.processes worked.kept lp l on)
+        (λ i j apart. none_there lp i j (λ e. apart (sym (own_fossils_at i j).3 ∙ ap (λ (k : ℕ). k / nodes_of p) e)))
+        ∙ told_by-all lp (fossils_of parcel.floor (own (nodes_of p) w.processes lp)) (own_fossils lp l on)
+
+    told_other : (lp : ℕ) → (lp % nodes_of p ≡ node → ⊥) → told_by lp fossils ≡ []
+    unfolding fossils
+    told_other lp other =
+        told_by-flat_none lp (λ (q : Process). fossils_of parcel.floor q) nobody w.processes
+        (λ i j. none_there lp i j (λ e. other (ap (λ (k : ℕ). k % nodes_of p) (sym e) ∙ (own_fossils_at i j).2)))
+
+    -- where the processes are afterwards
+    process_here : (lp : ℕ) → lp % nodes_of p ≡ node → process_at new lp ≡ own (nodes_of p) (released parcel.floor w) lp
     unfolding new
-    new_size = length-on_node_from (nodes_of p) node (λ (q : Process). collect parcel.floor q) 0 w.processes ∙ k.size
+    process_here lp on =
+        let qs = released parcel.floor w in
+        ap (λ (k : ℕ). get_or (get_or (set p.nodes node qs) (lp % k) []) (lp / k) nobody) (length-set p.nodes node qs)
+        ∙ ap (λ (k : ℕ). get_or (get_or (set p.nodes node qs) k []) (lp / nodes_of p) nobody) on
+        ∙ ap (λ (ps : List Process). get_or ps (lp / nodes_of p) nobody) (get_or-set_same p.nodes node qs [] here)
 
-    new_floors : length new.floors ≡ length p.floors
+    process_other : (lp : ℕ) → (lp % nodes_of p ≡ node → ⊥) → process_at new lp ≡ process_at p lp
     unfolding new
-    new_floors = length-set p.floors node parcel.floor
+    process_other lp other =
+        let qs = released parcel.floor w in
+        ap (λ (k : ℕ). get_or (get_or (set p.nodes node qs) (lp % k) []) (lp / k) nobody) (length-set p.nodes node qs)
+        ∙ ap (λ (ps : List Process). get_or ps (lp / nodes_of p) nobody) (get_or-set_other p.nodes node (lp % nodes_of p) qs [] other)
 
-    floor_same : (lp : ℕ) → lp % length p.floors ≡ node → floor_of new lp ≡ parcel.floor
+    floor_here : (lp : ℕ) → lp % nodes_of p ≡ node → floor_of new lp ≡ parcel.floor
     unfolding new
-    floor_same lp e = rw (length-set p.floors node parcel.floor, e, get_or-set_same p.floors node parcel.floor 0 here) refl
+    floor_here lp on =
+        ap (λ (k : ℕ). get_or (set p.floors node parcel.floor) (lp % k) 0) (length-set p.nodes node (released parcel.floor w))
+        ∙ ap (λ (k : ℕ). get_or (set p.floors node parcel.floor) k 0) on
+        ∙ get_or-set_same p.floors node parcel.floor 0 (let a = here in let b = system.sound.seated.floors in omega arith)
 
-    floor_other : (lp : ℕ) → (lp % length p.floors ≡ node → ⊥) → floor_of new lp ≡ floor_of p lp
+    floor_other : (lp : ℕ) → (lp % nodes_of p ≡ node → ⊥) → floor_of new lp ≡ floor_of p lp
     unfolding new
-    floor_other lp e = rw (length-set p.floors node parcel.floor) (get_or-set_other p.floors node (lp % length p.floors) parcel.floor 0 e)
+    floor_other lp other =
+        ap (λ (k : ℕ). get_or (set p.floors node parcel.floor) (lp % k) 0) (length-set p.nodes node (released parcel.floor w))
+        ∙ get_or-set_other p.floors node (lp % nodes_of p) parcel.floor 0 other
 
-    new_told : (lp : ℕ) → lp < m.lps → ToldAt m p.front (floor_of new lp) lp (process_at new lp)
-    new_told lp l =
-        rw (at_new lp l) (cond_both (sits_on (nodes_of p) node lp) (collect parcel.floor (at w lp)) (at w lp) (λ (q : Process). ToldAt m p.front (floor_of new lp) lp q)
-        (λ e.
-        let same : lp % length p.floors ≡ node = eqb-true (lp % length p.floors) node e in
-        let was : floor_of p lp ≡ get_or p.floors node 0 = ap (λ (i : ℕ). get_or p.floors i 0) same in
-        let start : p.front.time ≤ floor_of p lp = Every-get_or (λ (f : ℕ). p.front.time ≤ f) p.floors (lp % length p.floors) 0 (floor_there lp) h.front_low in
-        let good = h.parcels node parcel posted in
-        let from = good.from in
-        let upto = good.upto in
-        let lower = λ (x : Message) (a : gvt end p ≤ x.time). le_trans' parcel.floor (gvt end p) x.time upto a in
-        rw (floor_same lp same) (told_collect m lp p.front.time (state_of p.front lp) (number_of p.front lp) (floor_of p lp) parcel.floor (at w lp) start (omega arith)
-        (Every-weaker (IsFrom (gvt end p)) (IsFrom parcel.floor) lower (at w lp).waiting (k.waiting_low lp l))
-        (Every-weaker (IsFrom (gvt end p)) (IsFrom parcel.floor) lower (at w lp).antis (k.antis_low lp l))
-        (k.told lp l)))
-        (λ e. rw (floor_other lp (eqb-false (lp % length p.floors) node e)) (k.told lp l)))
-      where
-        le_trans' : (a b c : ℕ) → a ≤ b → b ≤ c → a ≤ c
-        le_trans' a b c u v = omega arith
+    -- what is told of each process
+    abbrev ToldAs : ℕ → ℕ → List Done → Process → Type 0
+    ToldAs lp floor ds q = IsTold m lp p.front.time (state_of p.front lp) (number_of p.front lp) floor ds q
 
-    parcels_travelling : Every (SignedFrom (gvt end p)) (flat_map delivered_by (set p.parcels node None))
-    parcels_travelling = Every-parcels-set (SignedFrom (gvt end p)) p.parcels node None tt travelling_parcels
+    as_told : (lp : ℕ) {f f' : ℕ} {ds ds' : List Done} {q q' : Process} → f' ≡ f → ds' ≡ ds → q' ≡ q → ToldAs lp f ds q → ToldAs lp f' ds' q'
+    as_told lp {f} {f'} {ds} {ds'} {q} {q'} a b c h = subst (λ (g : ℕ). ToldAs lp g ds' q') (sym a) (subst (λ (es : List Done). ToldAs lp f es q') (sym b) (subst (ToldAs lp f ds) (sym c) h))
 
-    new_travelling : Every (SignedFrom (gvt end p)) (travelling new)
+    new_told : (lp : ℕ) → lp < m.lps → ToldAs lp (floor_of new lp) (told_by lp (p.gathered ++ fossils)) (process_at new lp)
+    new_told lp l = elim (cases_eq (lp % nodes_of p) node) [
+      | inl on ↦ as_told lp (floor_here lp on) (told_by-apart lp p.gathered fossils ∙ ap (λ (ds : List Done). told_by lp p.gathered ++ ds) (told_here lp l on)) (process_here lp on) (let_go.told lp l on)
+      | inr other ↦ as_told lp (floor_other lp other)
+          (told_by-apart lp p.gathered fossils ∙ (ap (λ (ds : List Done). told_by lp p.gathered ++ ds) (told_other lp other) ∙ append-nil (told_by lp p.gathered))) (process_other lp other) (system.sound.told lp l)
+    ]
+
+    -- what travels
+    rest : List Signed
+    rest = flat_map delivered_by (set p.parcels node None)
+
+    new_travelling : (P : Signed → Type 0) → Every P (travelling p) → Every P w.out → Every P (travelling new)
     unfolding new
-    new_travelling =
-        Every-append (SignedFrom (gvt end p)) (p.transit ++ w.out) (flat_map delivered_by (set p.parcels node None))
-        (Every-append (SignedFrom (gvt end p)) p.transit w.out (Every-left (SignedFrom (gvt end p)) p.transit (flat_map delivered_by p.parcels) (gvt_travelling end p))
-        (Every-weaker (IsGoodOut m.lps (gvt end p)) (SignedFrom (gvt end p)) (λ s a. a.0) w.out k.out))
-        parcels_travelling
+    new_travelling P old out =
+        Every-append P (p.transit ++ w.out) (flat_map delivered_by (set p.parcels node None))
+        (Every-append P p.transit w.out (Every-left P p.transit (flat_map delivered_by p.parcels) old) out)
+        (Every-parcels-set P p.parcels node None tt (Every-right P p.transit (flat_map delivered_by p.parcels) old))
 
     gvt_kept : gvt end p ≤ gvt end new
-    gvt_kept = gvt_above end (gvt end p) new (gvt-le end p)
-        (λ lp l. let l' : lp < m.lps = let e = new_size in omega arith in rw (at_kept (λ (q : Process). q.waiting) (λ _. refl) lp l') (k.waiting_low lp l'))
-        (λ lp l. let l' : lp < m.lps = let e = new_size in omega arith in rw (at_kept (λ (q : Process). q.antis) (λ _. refl) lp l') (k.antis_low lp l'))
-        new_travelling
+    unfolding new
+    gvt_kept =
+        gvt_above end (gvt end p) new (gvt-le end p)
+        (Every-set (λ (qs : List Process). Every (KeptFrom (gvt end p)) qs) p.nodes node (released parcel.floor w) let_go.late (gvt_nodes end p))
+        (new_travelling (SignedFrom (gvt end p)) (gvt_travelling end p) (Every-weaker (IsUnderWay m.lps (gvt end p)) (SignedFrom (gvt end p)) (λ s a. a.late) w.out worked.out))
 
-    new_balanced : (x : Message) → x.to < m.lps →
-        copies x (messages (handlings (process_at new x.to))) + copies x (process_at new x.to).waiting + copies x (of_sign Plus (travelling new))
-        ≡ copies x p.front.pending + copies x (all_sent new) + copies x (process_at new x.to).antis + copies x (of_sign Minus (travelling new))
-    unfolding new others
+    travels : (x : Message) (sign : Sign) → copies x (of_sign sign (travelling new)) + copies x (of_sign sign parcel.deliver) ≡ copies x (of_sign sign (travelling p)) + copies x (of_sign sign w.out)
+    unfolding new
+    travels x sign =
+        let within = some_within p.parcels node parcel posted in
+        let a = copies-parcels-set x sign p.parcels node None within in
+        let b = ap (λ (o : Option Parcel). copies x (of_sign sign (delivered_by o))) posted in
+        let none : copies x (of_sign sign []) ≡ 0 = nothing sign in
+        omega (
+          arith,
+          copies-append_signed x sign (p.transit ++ w.out) (flat_map delivered_by (set p.parcels node None)),
+          copies-append_signed x sign p.transit w.out,
+          copies-append_signed x sign p.transit (flat_map delivered_by p.parcels),
+        )
+      where
+        nothing : (sign : Sign) → copies x (of_sign sign []) ≡ 0
+        nothing Plus = refl
+        nothing Minus = refl
+
+    sends : (x : Message) → copies x (all_sent new) + copies x (flat_map sent_by (node_of p node)) ≡ copies x (all_sent p) + copies x (flat_map sent_by w.processes)
+    unfolding new
+    sends x =
+        let qs = released parcel.floor w in
+        let f = λ (qs : List Process). flat_map sent_by qs in
+        omega (
+          arith,
+          copies-append x (sent_told new.gathered) (flat_map sent_by (processes_of new)),
+          copies-append x (sent_told p.gathered) (flat_map sent_by (processes_of p)),
+          copies-sent_told x p.gathered (flat_map (λ (q : Process). fossils_of parcel.floor q) w.processes),
+          sent-released x parcel.floor w.processes,
+          copies-sent_nodes x (set p.nodes node qs),
+          copies-sent_nodes x p.nodes,
+          copies-flat_map-set (λ (qs : List Process). flat_map sent_by qs) x p.nodes node qs [] here,
+        )
+
+    -- of a message: what was told, is done and waits, and the antimessages that wait
+    held_now : (x : Message) → x.to < m.lps →
+        copies x (messages_told new.gathered) + copies x (messages (process_at new x.to).done) + copies x (process_at new x.to).waiting + copies x (process_at p x.to).antis + copies x (of_sign Minus parcel.deliver)
+        ≡ copies x (messages_told p.gathered) + copies x (messages (process_at p x.to).done) + copies x (process_at p x.to).waiting + copies x (process_at new x.to).antis + copies x (of_sign Plus parcel.deliver)
+    unfolding new fossils
+    held_now x l =
+        let more = copies-messages_told x p.gathered (flat_map (λ (q : Process). fossils_of parcel.floor q) w.processes) in
+        let only = copies-told_by x x.to (flat_map (λ (q : Process). fossils_of parcel.floor q) w.processes) refl in
+        elim (cases_eq (x.to % nodes_of p) node) [
+          | inl on ↦
+              let q : Process = own (nodes_of p) w.processes x.to in
+              let now = process_here x.to on ∙ own_released m (nodes_of p) node (get_or p.floors node 0) (gvt end p) (past_of p) w.processes parcel.floor x.to here worked.kept l on in
+              let was : process_at p x.to ≡ own (nodes_of p) (node_of p node) x.to = ap (λ (k : ℕ). get_or (node_of p k) (x.to / nodes_of p) nobody) on in
+              let a1 = ap (λ (r : Process). copies x (messages r.done)) now in
+              let a2 = ap (λ (r : Process). copies x r.waiting) now in
+              let a3 = ap (λ (r : Process). copies x r.antis) now in
+              let b1 = ap (λ (r : Process). copies x (messages r.done)) was in
+              let b2 = ap (λ (r : Process). copies x r.waiting) was in
+              let b3 = ap (λ (r : Process). copies x r.antis) was in
+              let told = ap (λ (ds : List Done). copies x (messages_told ds)) (told_here x.to l on) in
+              let split = (telling_is_balanced x parcel.floor q).0 in
+              let held = worked.held_is x l on in
+              omega arith
+          | inr other ↦
+              let now = process_other x.to other in
+              let a1 = ap (λ (r : Process). copies x (messages r.done)) now in
+              let a2 = ap (λ (r : Process). copies x r.waiting) now in
+              let a3 = ap (λ (r : Process). copies x r.antis) now in
+              let told = ap (λ (ds : List Done). copies x (messages_told ds)) (told_other x.to other) in
+              let plus = not_delivered x Plus (nodes_of p) node parcel.deliver other fits.on_node in
+              let minus = not_delivered x Minus (nodes_of p) node parcel.deliver other fits.on_node in
+              omega arith
+        ]
+
+    new_balanced : IsBalanced m new
+    unfolding new
     new_balanced x l =
-        let old = k.balanced x l in
-        let done = at_kept (λ (q : Process). copies x (messages (handlings q))) (λ q. ap (λ hs. copies x (messages hs)) (handlings_of_collect parcel.floor q)) x.to l in
-        let waiting = at_kept (λ (q : Process). copies x q.waiting) (λ _. refl) x.to l in
-        let antis = at_kept (λ (q : Process). copies x q.antis) (λ _. refl) x.to l in
-        let sent = ap (copies x) (sent-on_node_from (nodes_of p) node (λ (q : Process). collect parcel.floor q) (λ q. ap sent_in (handlings_of_collect parcel.floor q)) 0 w.processes) in
-        let rest = flat_map delivered_by (set p.parcels node None) in
-        omega (arith, copies-append_signed x Plus (p.transit ++ w.out) rest, copies-append_signed x Minus (p.transit ++ w.out) rest, copies-append_signed x Plus p.transit w.out, copies-append_signed x Minus p.transit w.out)
+        let old = system.sound.balanced x l in
+        omega (arith, held_now x l, sends x, worked.sent_is x, travels x Plus, travels x Minus)
 
-    collect_in_range : (q : Process) → IsFine IsRanged q → IsProcessInRange (collect parcel.floor q)
-    collect_in_range q f = (rw (handlings_of_collect parcel.floor q) f.handled, f.waiting, f.antis)
+    fossils_ranged : Every (λ (d : Done). IsRanged d.message) fossils
+    unfolding fossils
+    fossils_ranged =
+        Every-flat_map (λ (d : Done). IsRanged d.message) (λ (q : Process). fossils_of parcel.floor q) w.processes
+        (Every-weaker HasRanged (λ (q : Process). Every (λ (d : Done). IsRanged d.message) (fossils_of parcel.floor q))
+        (λ q a. Every-unmap IsRanged (λ (d : Done). d.message) (fossils_of parcel.floor q)
+        (Every-from_members IsRanged (messages_told (fossils_of parcel.floor q)) (λ x n. Every-member IsRanged (messages q.done) x a.done
+        (let same = ap (copies x) (messages_of_told (handled_before parcel.floor q.done) (state_before (handled_from parcel.floor q.done) q.state) (number_before (handled_from parcel.floor q.done) q.number)) in omega (arith, copies-handled_before-le parcel.floor x q.done)))))
+        w.processes worked.kept.ranged)
 
     new_in_range : IsInRange new
-    unfolding new
+    unfolding new fossils
     new_in_range = (
-      Every-from_get_or IsProcessInRange new.processes nobody (λ lp l.
-          let l' : lp < m.lps = let e = new_size in omega arith in
-          rw (at_new lp l') (cond_both (sits_on (nodes_of p) node lp) (collect parcel.floor (at w lp)) (at w lp) IsProcessInRange
-          (λ _. collect_in_range (at w lp) (k.fine lp l'))
-          (λ _. let f = k.fine lp l' in (f.handled, f.waiting, f.antis)))),
-      Every-append (λ (s : Signed). IsRanged s.message) (p.transit ++ w.out) (flat_map delivered_by (set p.parcels node None))
-          (Every-append (λ (s : Signed). IsRanged s.message) p.transit w.out (Every-left (λ (s : Signed). IsRanged s.message) p.transit (flat_map delivered_by p.parcels) h.in_range.1)
-          (Every-weaker (IsGoodOut m.lps (gvt end p)) (λ (s : Signed). IsRanged s.message) (λ s a. a.2) w.out k.out))
-          (Every-parcels-set (λ (s : Signed). IsRanged s.message) p.parcels node None tt parcels_ranged),
+      Every-map IsRanged (λ (d : Done). d.message) new.gathered
+          (Every-append (λ (d : Done). IsRanged d.message) p.gathered (flat_map (λ (q : Process). fossils_of parcel.floor q) w.processes)
+          (Every-unmap IsRanged (λ (d : Done). d.message) p.gathered system.sound.in_range.0) fossils_ranged),
+      Every-set (λ (qs : List Process). Every IsProcessInRange qs) p.nodes node (released parcel.floor w)
+          (Every-weaker HasRanged IsProcessInRange (λ q a. (a.done, a.waiting, a.antis)) (released parcel.floor w) let_go.ranged) system.sound.in_range.1,
+      new_travelling (λ (s : Signed). IsRanged s.message) system.sound.in_range.2 (Every-weaker (IsUnderWay m.lps (gvt end p)) (λ (s : Signed). IsRanged s.message) (λ s a. a.ranged) w.out worked.out),
     )
 
-    new_parcels : (node' : ℕ) (parcel' : Parcel) → get_or new.parcels node' None ≡ Some parcel' → IsParcel m (length new.floors) node' (get_or new.floors node' 0) (gvt end new) parcel'
+    new_seated : IsSeatedBy m.lps new
+    unfolding new fossils
+    new_seated =
+        let h = system.sound.seated in
+        let qs = released parcel.floor w in
+        record {
+          seats = λ k l. elim (cases_eq k node) [
+            | inl e ↦
+                ap length (ap (λ (j : ℕ). get_or (set p.nodes node qs) j []) e ∙ get_or-set_same p.nodes node qs [] here)
+                ∙ let_go.size
+                ∙ ap (λ (j : ℕ). length (own_lps (nodes_of p) j m.lps)) (sym e)
+                ∙ ap (λ (n : ℕ). length (own_lps n k m.lps)) (sym (length-set p.nodes node qs))
+            | inr e ↦
+                ap length (get_or-set_other p.nodes node k qs [] e)
+                ∙ h.seats k (let s = length-set p.nodes node qs in omega arith)
+                ∙ ap (λ (n : ℕ). length (own_lps n k m.lps)) (sym (length-set p.nodes node qs))
+          ];
+          parcels = length-set p.parcels node None ∙ h.parcels ∙ sym (length-set p.nodes node qs);
+          floors = length-set p.floors node parcel.floor ∙ h.floors ∙ sym (length-set p.nodes node qs);
+          told = Every-append (λ (d : Done). d.message.to < m.lps) p.gathered (flat_map (λ (q : Process). fossils_of parcel.floor q) w.processes) h.told
+              (Every-flat_map (λ (d : Done). d.message.to < m.lps) (λ (q : Process). fossils_of parcel.floor q) w.processes
+              (Every-from_get_or (λ (q : Process). Every (λ (d : Done). d.message.to < m.lps) (fossils_of parcel.floor q)) w.processes nobody (λ i l.
+              let at = own_fossils_at i l in
+              let there : at.0 < m.lps = at.1 in
+              Every-weaker (λ (d : Done). d.message.to ≡ at.0) (λ (d : Done). d.message.to < m.lps) (λ d e. omega arith) (fossils_of parcel.floor (get_or w.processes i nobody)) at.4)));
+        }
+
+    new_parcels : (k : ℕ) (other : Parcel) → get_or new.parcels k None ≡ Some other → IsParcel m (nodes_of new) k (get_or new.floors k 0) (gvt end new) other
     unfolding new
-    new_parcels node' parcel' e = elim (cases_eq node' node) [
+    new_parcels k other e = elim (cases_eq k node) [
       | inl same ↦
-          let none : get_or (set p.parcels node None) node' None ≡ None = ap (λ (i : ℕ). get_or (set p.parcels node None) i None) same ∙ get_or-set_same p.parcels node None None (some_within p.parcels node parcel posted) in
-          absurd (none-some parcel' (sym none ∙ e))
+          let none : get_or (set p.parcels node None) k None ≡ None = ap (λ (i : ℕ). get_or (set p.parcels node None) i None) same ∙ get_or-set_same p.parcels node None None (some_within p.parcels node parcel posted) in
+          absurd (none-some other (sym none ∙ e))
       | inr apart ↦
-          let good = h.parcels node' parcel' (sym (get_or-set_other p.parcels node node' None None apart) ∙ e) in
+          let good = system.sound.parcels k other (sym (get_or-set_other p.parcels node k None None apart) ∙ e) in
           let from = good.from in
           let upto = good.upto in
           let more = gvt_kept in
+          let was = get_or-set_other p.floors node k parcel.floor 0 apart in
           record {
-            from = rw (get_or-set_other p.floors node node' parcel.floor 0 apart) from;
+            from = omega arith;
             upto = omega arith;
             there = good.there;
-            on_node = rw (length-set p.floors node parcel.floor) good.on_node;
+            on_node = subst (λ (n : ℕ). Every (λ (s : Signed). s.message.to % n ≡ k) other.deliver) (sym (length-set p.nodes node (released parcel.floor w))) good.on_node;
           }
     ]
 
     new_sound : IsSound m end new
-    unfolding new
+    unfolding new fossils
     new_sound =
+        let h = system.sound in
         let more = gvt_kept in
-        let good = h.parcels node parcel posted in
-        let from = good.from in
-        let upto = good.upto in
-        let start : p.front.time ≤ get_or p.floors node 0 = Every-get_or (λ (f : ℕ). p.front.time ≤ f) p.floors node 0 here h.front_low in
+        let from = fits.from in
+        let upto = fits.upto in
+        let start = front_under in
         record {
           front = h.front;
+          some = (let a = h.some in let b = length-set p.nodes node (released parcel.floor w) in omega arith);
+          seated = new_seated;
           in_range = new_in_range;
-          told = (new_size, new_told);
+          told = new_told;
           balanced = new_balanced;
-          some = rw (length-set p.floors node parcel.floor) h.some;
-          sizes = length-set p.parcels node None ∙ (h.sizes ∙ sym (length-set p.floors node parcel.floor));
           front_low = Every-set (λ (f : ℕ). p.front.time ≤ f) p.floors node parcel.floor (omega arith) h.front_low;
           floors_low = Every-set (λ (f : ℕ). f ≤ gvt end new) p.floors node parcel.floor (omega arith) (Every-weaker (λ (f : ℕ). f ≤ gvt end p) (λ (f : ℕ). f ≤ gvt end new) (λ f a. omega arith) p.floors h.floors_low);
-          there = Every-append (λ (s : Signed). s.message.to < m.lps) p.transit w.out h.there (Every-weaker (IsGoodOut m.lps (gvt end p)) (λ (s : Signed). s.message.to < m.lps) (λ s a. a.1) w.out k.out);
+          there = Every-append (λ (s : Signed). s.message.to < m.lps) p.transit w.out h.there (Every-weaker (IsUnderWay m.lps (gvt end p)) (λ (s : Signed). s.message.to < m.lps) (λ s a. a.there) w.out worked.out);
           parcels = new_parcels;
         }
 
-pub sound_take : (m : Meaning) (end : ℕ) → IsLawful m → end ≤ 2 ^ 40 → (node : ℕ) (p p' : Picture) → IsSound m end p → move m end (Take node) p ≡ Some p' → IsSound m end p' × (gvt end p ≤ gvt end p')
+pub sound_take : (m : Meaning) (end node : ℕ) (p p' : Picture) → IsSystem m end p → move m end (Take node) p ≡ Some p' → IsSound m end p' × (gvt end p ≤ gvt end p')
 unfolding new
-sound_take m end law short node p p' h e =
+sound_take m end node p p' system e =
     let t = taken_from m end node p p' (get_or p.parcels node None) refl e in
-    let k = worked m law end short node p h t.parcel t.posted t.work t.ran in
     subst (λ (q : Picture). IsSound m end q × (gvt end p ≤ gvt end q)) t.is
-    (new_sound m law end short node p h t.parcel t.posted t.work k, gvt_kept m law end short node p h t.parcel t.posted t.work k)
-
-pub parcels_fit : ParcelsFit
-parcels_fit m end node p parcel h posted =
-    let good = h.parcels node parcel posted in
-    let from = good.from in
-    let node_there : node < length p.floors = let a = some_within p.parcels node parcel posted in let b = h.sizes in omega arith in
-    let under : get_or p.floors node 0 ≤ gvt end p = Every-get_or (λ (f : ℕ). f ≤ gvt end p) p.floors node 0 node_there h.floors_low in
-    let moving = Every-parcels (SignedFrom (gvt end p)) p.parcels node parcel posted (Every-right (SignedFrom (gvt end p)) p.transit (flat_map delivered_by p.parcels) (gvt_travelling end p)) in
-    let at_home = Every-both (λ (s : Signed). s.message.to < m.lps) (λ (s : Signed). s.message.to % nodes_of p ≡ node) (λ (s : Signed). (s.message.to < m.lps) × (s.message.to % nodes_of p ≡ node)) (λ s a b. (a, b)) parcel.deliver good.there good.on_node in (
-      from,
-      Every-both (λ (s : Signed). (s.message.to < m.lps) × (s.message.to % nodes_of p ≡ node)) (SignedFrom (gvt end p))
-          (λ (s : Signed). (s.message.to < m.lps) × (s.message.to % nodes_of p ≡ node) × (get_or p.floors node 0 ≤ s.message.time)) (λ s a b. (a.0, a.1, omega arith)) parcel.deliver at_home moving,
-    )
+    (new_sound m end node p system t.parcel t.posted t.work t.done, gvt_kept m end node p system t.parcel t.posted t.work t.done)

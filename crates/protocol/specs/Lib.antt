@@ -1,4 +1,5 @@
 pub mod Picture
 pub mod Moves
 pub mod Sound
+pub mod Views
 pub mod Laws

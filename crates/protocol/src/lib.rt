@@ -4,7 +4,7 @@
 //! that the contracts of the crates `queues`, `process`, `node` and `gvt` cite, so a law here is a law of the code.
 #![tactic(auto)]
 
-ghost use Rattle.protocol.specs.Laws.{OpeningIsSound, MovesAreSound, RunsAreSound, MovesAreMadeOrRefused, CommitIsSequential, CommitsTellTheNextEvents, ParcelsFit, RollbacksStayAbove, NodesAreLocal, TakesAreReplies, MovesLeaveNodes, LedgersTellGvt};
+ghost use Rattle.protocol.specs.Laws.{OpeningIsSound, MovesAreSound, RunsAreSound, MovesAreMadeOrRefused, CommitIsSequential, CommitsTellTheNextEvents, CommitIsByWhatWasTold, ParcelsAreAccepted, RollbacksStayAbove, OpenedNodes, TakesAreAnswers, MovesLeaveNodes, LedgersTellGvt, LedgersFollowPictures};
 
 /// A system that opens with a front that is the sequential simulation up to its time has a sound picture.
 pub fn law_of_openings()
@@ -24,30 +24,29 @@ pub fn law_of_runs()
 
 /// A commit at a time that is not above global virtual time, nor above any node's floor, makes the front of a picture
 /// that is told truly and balanced the sequential simulation up to that time. It is told truly and balanced again. The log
-/// grows by exactly what was gathered below that time, in message order.
+/// grows by exactly what was told below that time, in message order, and the front is known by what was told.
 pub fn law_of_commits()
     ensures sequential { CommitIsSequential }
     ensures told { CommitsTellTheNextEvents }
+    ensures by_told { CommitIsByWhatWasTold }
 {}
 
-/// What a node is posted fits it, and no rollback reaches below its floor.
+/// A node accepts what it is posted, and no rollback reaches below its floor.
 pub fn law_of_parcels()
-    ensures fit { ParcelsFit }
+    ensures accepted { ParcelsAreAccepted }
     ensures above { RollbacksStayAbove }
 {}
 
-/// A node needs its own processes alone, and no other move changes them.
+/// What each node is loaded with at the opening is accepted, and makes it that node of the opened picture. What it answers
+/// to a parcel is the reply of which the picture after its take is made, and no other move changes it.
 pub fn law_of_nodes()
-    ensures local { NodesAreLocal }
+    ensures opened { OpenedNodes }
+    ensures answers { TakesAreAnswers }
     ensures left { MovesLeaveNodes }
 {}
 
-/// The picture after a take is made of the node's reply.
-pub fn law_of_takes()
-    ensures { TakesAreReplies }
-{}
-
-/// Global virtual time, as the ledger has it.
+/// Global virtual time, as the ledger has it, and the ledger of a picture, move by move.
 pub fn law_of_ledgers()
-    ensures { LedgersTellGvt }
+    ensures gvt { LedgersTellGvt }
+    ensures follow { LedgersFollowPictures }
 {}

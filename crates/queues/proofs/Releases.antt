@@ -1,12 +1,16 @@
 -- What was handled before a time, and the rest.
-use Rattle.std.proofs.Common.{◌≡◌, ℕ, ◌+◌, ◌<◌, List, [], ◌∷◌, sym, refl, ap, arith, nat_lt, ltb-false, ◌≤◌, inl, inr, ltb-true, ◌++◌, ◌∙◌, length, take, drop, get_or, true, false}
-use Rattle.std.proofs.lemmas.Bool.{cond_both, le-ltb, lt-ltb}
-use Rattle.std.proofs.lemmas.List.{append-nil, append_assoc, drop_all, drop_more, map-append, take_more}
+use Rattle.std.proofs.Common.{◌≡◌, ℕ, zero, suc, Option, None, Some, ◌+◌, ◌-◌, ◌<◌, List, [], ◌∷◌, sym, refl, ap, arith, nat_lt, ltb-false, ◌≤◌, inl, inr, ltb-true, ◌++◌, ◌∙◌, length, take, drop, get_or, true, false}
+use Rattle.std.proofs.lemmas.Bool.{cases_Bool, cond_both, le-leb, le-ltb, lt-leb, lt-ltb}
+use Rattle.std.specs.List.{filter}
+use Rattle.eventkey.proofs.Lists.{Every-unmap, Every-weaker}
+use Rattle.std.proofs.lemmas.List.{append-nil, append_assoc, drop_all, drop_more, length-append, map-append, take_at, take_more}
+use Rattle.std.specs.Option.{option_to_list}
+use Rattle.std.specs.Prelude.{MatchOption, nat_le}
 use Rattle.std.specs.List.{AllByRecursion as Every}
 use Rattle.eventkey.proofs.Bags.{at_most_itself, copies-append, none_from_Every, one_if_same_cases, time_from_at_most}
 use Rattle.eventkey.specs.Bag.{IsAscending, copies, one_if_same}
 use Rattle.eventkey.specs.Message.{IsAtMost, Message}
-use Rattle.queues.specs.Record.{handled_before, handled_from, messages}
+use Rattle.queues.specs.Record.{RecordsPart, handled_before, handled_from, messages}
 use Rattle.queues.specs.declared.Record.{Record}
 
 -- 1. Records before a time, and those from it on
@@ -41,7 +45,7 @@ copies-handled_before-le c x (r ∷ rs) =
     (λ _. omega (arith, copies-handled_before-le c x rs))
     (λ _. omega arith)
 
--- 3. What a process has gathered
+-- 3. Records after records
 
 pub copies-messages-append : (x : Message) (gs hs : List Record) → copies x (messages (gs ++ hs)) ≡ copies x (messages gs) + copies x (messages hs)
 copies-messages-append x gs hs = ap (copies x) (map-append (λ (h : Record). h.message) gs hs) ∙ copies-append x (messages gs) (messages hs)
@@ -87,3 +91,59 @@ pub counted_end : (c : ℕ) (hs : List Record) (n : ℕ) → length hs ≤ n →
 counted_end c hs n l h =
     let e : drop n hs ≡ [] = drop_all n hs l in
     all_counted c hs n h (ap (handled_before c) e) (ap (handled_from c) e ∙ sym e)
+
+-- 11. The first of a list, taken off one by one
+
+module _ {X : Type 0} where
+  drop_suc : (xs ys : List X) (x : X) (n : ℕ) → x ∷ ys ≡ drop n xs → ys ≡ drop (suc n) xs
+  drop_suc [] ys x zero e = absurd (cc)
+  drop_suc [] ys x (suc n) e = absurd (cc)
+  drop_suc (z ∷ zs) ys x zero e = cc
+  drop_suc (z ∷ zs) ys x (suc n) e = drop_suc zs ys x n e
+
+  take_suc : (xs ys : List X) (x : X) (n : ℕ) → x ∷ ys ≡ drop n xs → take (suc n) xs ≡ take n xs ++ x ∷ []
+  take_suc [] ys x zero e = absurd (cc)
+  take_suc [] ys x (suc n) e = absurd (cc)
+  take_suc (z ∷ zs) ys x zero e = ap (λ (y : X). y ∷ []) (let same : z ≡ x = cc in same)
+  take_suc (z ∷ zs) ys x (suc n) e = ap (λ (us : List X). z ∷ us) (take_suc zs ys x n e)
+
+  pub drop_next : (xs ys : List X) (x : X) (n : ℕ) → x ∷ ys ≡ drop n xs → ys ≡ drop (n + 1) xs
+  drop_next xs ys x n e = drop_suc xs ys x n e ∙ ap (λ (k : ℕ). drop k xs) {x = suc n} {y = n + 1} (omega arith)
+
+  pub take_next : (xs ys : List X) (x : X) (n : ℕ) → x ∷ ys ≡ drop n xs → take (n + 1) xs ≡ take n xs ++ x ∷ []
+  take_next xs ys x n e = ap (λ (k : ℕ). take k xs) {x = n + 1} {y = suc n} (omega arith) ∙ take_suc xs ys x n e
+
+  -- the last one taken off, where there was one
+  pub popped_is : (kept left : List X) (last : Option X) (long : ℕ) (None' : Type 0) (Some' : X → Type 0) → long ≡ length kept → kept ≡ left ++ option_to_list last → MatchOption last ((long ≡ 0) × None') Some' →
+      left ≡ take (length kept - 1) kept
+  popped_is [] left None long N S l e m = sym (append-nil left) ∙ sym e
+  popped_is (k ∷ ks) left None long N S l e m = absurd (let zero_long = m.0 in omega arith)
+  popped_is kept left (Some x) long N S l e m =
+      sym (ap (λ (ks : List X). take (length ks - 1) ks) e ∙ take_at left (x ∷ []) (length (left ++ x ∷ []) - 1) (omega (arith, length-append left (x ∷ []))))
+
+-- 12. In an ascending list
+
+none_early : (c : ℕ) (hs : List Record) → Every (λ (h : Record). c ≤ h.message.time) hs → filter (λ (h : Record). nat_lt h.message.time c) hs ≡ []
+none_early c [] l = refl
+none_early c (h ∷ hs) l = rw (le-ltb h.message.time c l.0) (none_early c hs l.1)
+
+all_late : (c : ℕ) (hs : List Record) → Every (λ (h : Record). c ≤ h.message.time) hs → filter (λ (h : Record). nat_le c h.message.time) hs ≡ hs
+all_late c [] l = refl
+all_late c (h ∷ hs) l = rw (le-leb c h.message.time l.0) (ap (λ (rs : List Record). h ∷ rs) (all_late c hs l.1))
+
+pub records_part : RecordsPart
+records_part c [] up = (refl, refl)
+records_part c (h ∷ hs) up = elim (cases_Bool (nat_lt h.message.time c)) [
+  | inl e ↦
+      let early = ltb-true h.message.time c e in
+      let fails : nat_le c h.message.time ≡ false = lt-leb c h.message.time early in
+      let rest = records_part c hs up.1 in
+      rw (e, fails) (ap (λ (rs : List Record). h ∷ rs) rest.0, rest.1)
+  | inr e ↦
+      let late = ltb-false h.message.time c e in
+      let passes : nat_le c h.message.time ≡ true = le-leb c h.message.time late in
+      let all : Every (λ (r : Record). c ≤ r.message.time) hs =
+      Every-unmap (λ (x : Message). c ≤ x.time) (λ (r : Record). r.message) hs
+      (Every-weaker (IsAtMost h.message) (λ (x : Message). c ≤ x.time) (λ x p. let t = time_from_at_most h.message x p in omega arith) (messages hs) up.0) in
+      rw (e, passes) (sym (none_early c hs all), ap (λ (rs : List Record). h ∷ rs) (sym (all_late c hs all)))
+]

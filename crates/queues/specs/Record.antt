@@ -1,6 +1,8 @@
 -- A message handled, and lists of such (the state queue and the output queue of a process, in one: Jefferson 1985).
 use Rattle.queues.specs.declared.Record.{Record}
-use Rattle.std.specs.Prelude.{ℕ, List, [], ◌∷◌, if◌then◌else◌, nat_lt, flat_map, map}
+use Rattle.std.specs.List.{filter}
+use Rattle.std.specs.Prelude.{ℕ, List, [], ◌∷◌, if◌then◌else◌, nat_le, nat_lt, flat_map, map, ◌≡◌}
+use Rattle.eventkey.specs.Bag.{IsAscending}
 use Rattle.eventkey.specs.Message.{Message}
 
 -- the first of them, as long as they are before the time
@@ -27,3 +29,8 @@ sent_in hs = flat_map (λ (h : Record). h.sent) hs
 
 abbrev pub messages : List Record → List Message
 messages hs = map (λ (h : Record). h.message) hs
+
+-- Where the messages ascend, those first records are all records before the time, and the others all records from it on.
+abbrev pub RecordsPart : Type 0
+RecordsPart = (c : ℕ) (hs : List Record) → IsAscending (messages hs) →
+    (handled_before c hs ≡ filter (λ (h : Record). nat_lt h.message.time c) hs) × (handled_from c hs ≡ filter (λ (h : Record). nat_le c h.message.time) hs)

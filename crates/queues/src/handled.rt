@@ -3,18 +3,20 @@
 ghost use Rattle.std.specs.Prelude.{◌≡◌, ◌<◌, ◌≤◌, ◌++◌, ◌∷◌, [], length, IfOk, OnOk, OnErr, take, drop};
 ghost use Rattle.std.specs.Option.{option_copied};
 ghost use Rattle.std.specs.List.{slice_get};
+ghost use Rattle.std.specs.VecDeque.{deque_len};
 ghost use Rattle.queues.specs.Queue.{but_last, last_of};
 ghost use Rattle.queues.specs.Record.{handled_before, handled_from};
 
 use crate::Record;
 use std::alloc::{AllocError, AllocFailed, Global};
-use std::mem;
+use std::collections::VecDeque;
 
 /// What a logical process handled, in the order of handling: its state queue and its output queue in one (Jefferson
 /// 1985), seen as the list of records.
 #[derive(Drop)]
 pub struct History {
-    records: Vec<Record>,
+    alloc: Global,
+    records: VecDeque<Record>,
 }
 
 impl std::marker::Model for History {
@@ -32,7 +34,8 @@ impl History {
         ensures { result ≡ [] }
     {
         History {
-            records: Vec::new(alloc),
+            alloc,
+            records: VecDeque::new(alloc),
         }
     }
 
@@ -47,7 +50,7 @@ impl History {
     pub fn first(&self) -> Option<&Record>
         ensures { option_copied result ≡ slice_get self.now 0 }
     {
-        self.records.first()
+        self.records.front()
     }
 
     /// One more record, at the end. It is refused only for want of memory, and then the history is unchanged.
@@ -55,7 +58,7 @@ impl History {
         ensures pushed { OnOk result (self.new ≡ self.old ++ last ∷ []) }
         ensures unchanged { OnErr result (self.new ≡ self.old) }
     {
-        self.records.push(last)?;
+        self.records.push_back(last)?;
         Ok(())
     }
 
@@ -68,7 +71,8 @@ impl History {
         ensures unchanged { OnErr result (self.new ≡ self.old) }
     {
         let kept = self.len() - count;
-        self.records.split_off(kept)
+        let undone = self.records.split_off(kept)?;
+        Ok(undone.into_vec())
     }
 
     /// Takes out the first records, as long as their messages are below the floor, in ticks, and answers them in their
@@ -78,26 +82,41 @@ impl History {
         ensures left { OnOk result (self.new ≡ handled_from floor self.old) }
         ensures unchanged { OnErr result (self.new ≡ self.old) }
     {
-        let count = count_before(self.records.as_slice(), floor);
-        if count == 0 {
-            // The others would be moved for nothing.
-            return self.take_back(0);
-        }
-        let kept = self.records.split_off(count)?;
-        Ok(mem::replace(&mut self.records, kept))
+        let count = count_before(&self.records, floor);
+        take_first(self.alloc, &mut self.records, count)
     }
 }
 
 /// How many of the first records have messages below the floor.
-fn count_before(records: &[Record], floor: u64) -> usize
-    ensures within { result ≤ length records.now }
-    ensures before { take result records.now ≡ handled_before floor records.now }
-    ensures from { drop result records.now ≡ handled_from floor records.now }
+fn count_before(records: &VecDeque<Record>, floor: u64) -> usize
+    ensures within { result ≤ deque_len records.now }
+    ensures before { take result records.now.items ≡ handled_before floor records.now.items }
+    ensures from { drop result records.now.items ≡ handled_from floor records.now.items }
 {
-    for (count, record) in records.iter().enumerate() {
-        if record.message.time() >= floor {
+    for count in 0..records.len() {
+        if records[count].message.time() >= floor {
             return count;
         }
     }
     records.len()
+}
+
+/// Takes the first `count` records out.
+fn take_first(
+    alloc: Global,
+    records: &mut VecDeque<Record>,
+    count: usize,
+) -> Result<Vec<Record>, AllocError>
+    requires { count ≤ deque_len records.old }
+    ensures taken { IfOk result (λ taken. taken.items ≡ take count records.old.items) }
+    ensures left { OnOk result (records.new.items ≡ drop count records.old.items) }
+    ensures unchanged { OnErr result (records.new.items ≡ records.old.items) }
+{
+    // What can fail comes first.
+    let mut taken = Vec::with_capacity(alloc, count)?;
+    for _ in 0..count {
+        let first = records.pop_front().unwrap();
+        taken.push(first).unwrap();
+    }
+    Ok(taken)
 }

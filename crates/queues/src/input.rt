@@ -1,6 +1,6 @@
 // The input queue of a logical process.
 
-ghost use Rattle.std.specs.Prelude.{◌≡◌, ◌<◌, ◌≤◌, ◌+◌, ◌++◌, [], length, nat_lt, Ok, None, IfOk, OnOk, OnErr};
+ghost use Rattle.std.specs.Prelude.{◌≡◌, ◌<◌, ◌≤◌, ◌+◌, ◌++◌, [], length, nat_lt, ◌^◌, Ok, None, IfOk, IfSome, OnOk, OnErr};
 ghost use Rattle.eventkey.specs.Bag.{add_all};
 ghost use Rattle.eventkey.specs.Signed.{minus, plus};
 ghost use Rattle.queues.specs.Queue.{IsInOrder, arrival, arrived, first_before, first_time, released, taken};
@@ -8,13 +8,15 @@ ghost use Rattle.queues.specs.Queue.{IsInOrder, arrival, arrived, first_before, 
 use crate::{Arrival, bag};
 use eventkey::{Message, Sign, Signed};
 use std::alloc::{AllocError, Global};
+use std::collections::VecDeque;
 
 /// The input queue of a logical process (Jefferson 1985), seen as three ascending lists: the messages done, those
 /// that wait to be handled, none less than the last one done, and the antimessages that wait for their message. No
 /// antimessage stands with its message.
 #[derive(Drop)]
 pub struct InputQueue {
-    done: Vec<Message>,
+    // Let go of at the beginning, put back at the end.
+    done: VecDeque<Message>,
     // The bags have their least message last, so that it is taken, and what is undone put back, at the end.
     waiting: Vec<Message>,
     antis: Vec<Message>,
@@ -37,7 +39,7 @@ impl InputQueue {
         ensures { result ≡ record { done = []; waiting = []; antis = [] } }
     {
         InputQueue {
-            done: Vec::new(alloc),
+            done: VecDeque::new(alloc),
             waiting: Vec::new(alloc),
             antis: Vec::new(alloc),
         }
@@ -50,7 +52,7 @@ impl InputQueue {
         let mut waiting = messages;
         bag::sort(&mut waiting);
         InputQueue {
-            done: Vec::new(alloc),
+            done: VecDeque::new(alloc),
             waiting,
             antis: Vec::new(alloc),
         }
@@ -107,7 +109,7 @@ impl InputQueue {
             self.antis.remove(place);
             return Ok(Arrival::Annihilated { back: 0 });
         }
-        let back = bag::count_after(self.done.as_slice(), &message);
+        let back = bag::count_after(&self.done, &message);
         // What can fail comes first.
         self.waiting.reserve(back + 1)?;
         bag::wait_again(&mut self.done, &mut self.waiting, back);
@@ -125,12 +127,12 @@ impl InputQueue {
             self.waiting.remove(place);
             return Ok(Arrival::Annihilated { back: 0 });
         }
-        if bag::holds(self.done.as_slice(), &message) {
-            let later = bag::count_after(self.done.as_slice(), &message);
+        if bag::holds(&self.done, &message) {
+            let later = bag::count_after(&self.done, &message);
             self.waiting.reserve(later)?;
             bag::wait_again(&mut self.done, &mut self.waiting, later);
             // The last one done is now the message itself.
-            self.done.pop();
+            self.done.pop_back();
             return Ok(Arrival::Annihilated { back: later + 1 });
         }
         self.antis.reserve(1)?;
@@ -159,7 +161,7 @@ impl InputQueue {
         let Some(message) = self.next(end) else {
             return Ok(None);
         };
-        self.done.push(message)?;
+        self.done.push_back(message)?;
         self.waiting.pop();
         Ok(Some(message))
     }
@@ -168,17 +170,18 @@ impl InputQueue {
     pub fn release(&mut self, floor: u64)
         ensures { self.new ≡ released floor self.old }
     {
-        let count = self.done.as_slice().partition_point(
+        let count = self.done.partition_point(
             |message: &Message| -> bool
                 ensures { result ≡ nat_lt message.now.time floor }
             { message.time() < floor },
         );
-        self.done.drain(..count);
+        bag::let_go(&mut self.done, count);
     }
 
     /// The least time, in ticks, of what waits, antimessages too; none where nothing does. It takes no memory.
     pub fn low(&self) -> Option<u64>
-        ensures { result ≡ first_time (self.now.waiting ++ self.now.antis) }
+        ensures low { result ≡ first_time (self.now.waiting ++ self.now.antis) }
+        ensures range { IfSome result (λ time. time < 2 ^ 41) }
     {
         let waiting = bag::least_time(self.waiting.as_slice());
         let antis = bag::least_time(self.antis.as_slice());

@@ -2,6 +2,7 @@
 #![tactic(auto)]
 
 ghost use Rattle.queues.specs.Queue.{QueuesArriveByCases, QueuesStayApart, QueuesStayInOrder, QueuesCount, ArrivalsTellBack, back_of};
+ghost use Rattle.queues.specs.Record.{RecordsPart};
 ghost use Rattle.std.specs.Prelude.{◌≡◌};
 
 mod bag;
@@ -52,11 +53,12 @@ impl Arrival {
 }
 
 /// The laws of arrivals at an input queue: the five cases, that no antimessage comes to stand with its message, that
-/// the lists stay in order, and the count of each message before and after.
+/// the lists stay in order, and the count of each message before and after; and what a time parts.
 pub fn law_of_queues()
     ensures cases { QueuesArriveByCases }
     ensures apart { QueuesStayApart }
     ensures in_order { QueuesStayInOrder }
     ensures count { QueuesCount }
     ensures back { ArrivalsTellBack }
+    ensures parts { RecordsPart }
 {}

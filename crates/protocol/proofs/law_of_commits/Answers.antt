@@ -1,5 +1,4 @@
-use Rattle.protocol.proofs.Commit.{commit_is_sequential}
-use Rattle.protocol.proofs.Commits.{commits_tell}
+use Rattle.protocol.proofs.Commits.{commit_is_by_told, commit_is_sequential, commits_tell}
 use Rattle.protocol.proofs.law_of_commits.Goals as goal
 
 pub returns-clause-sequential : goal.returns-clause-sequential
@@ -7,3 +6,6 @@ returns-clause-sequential c = commit_is_sequential
 
 pub returns-clause-told : goal.returns-clause-told
 returns-clause-told c = commits_tell
+
+pub returns-clause-by_told : goal.returns-clause-by_told
+returns-clause-by_told c = commit_is_by_told

@@ -1,5 +1,5 @@
-use Rattle.protocol.proofs.Runs.{moves_are_sound}
 use Rattle.protocol.proofs.Refusals.{made_or_refused}
+use Rattle.protocol.proofs.Runs.{moves_are_sound}
 use Rattle.protocol.proofs.law_of_moves.Goals as goal
 
 pub returns-clause-sound : goal.returns-clause-sound

@@ -1,9 +1,12 @@
-use Rattle.protocol.proofs.Nodes.{nodes_are_local}
-use Rattle.protocol.proofs.Refusals.{moves_leave_nodes}
+use Rattle.protocol.proofs.Answers.{moves_leave_nodes, takes_are_answers}
+use Rattle.protocol.proofs.Opened.{opened_nodes}
 use Rattle.protocol.proofs.law_of_nodes.Goals as goal
 
-pub returns-clause-local : goal.returns-clause-local
-returns-clause-local c = nodes_are_local
+pub returns-clause-opened : goal.returns-clause-opened
+returns-clause-opened c = opened_nodes
+
+pub returns-clause-answers : goal.returns-clause-answers
+returns-clause-answers c = takes_are_answers
 
 pub returns-clause-left : goal.returns-clause-left
 returns-clause-left c = moves_leave_nodes

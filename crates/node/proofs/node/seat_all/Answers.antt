@@ -1,4 +1,4 @@
-use Rattle.std.proofs.Common.{◌≡◌, ◌∷◌, ◌≤◌, ◌∙◌, List, length, map, set, refl, sym, ap, subst, arith}
+use Rattle.std.proofs.Common.{◌≡◌, ◌≤◌, ◌∙◌, List, length, map, set, sym, ap, arith}
 use Rattle.std.specs.List.{AllByRecursion as Every}
 use Rattle.std.specs.Vec.Iter.{into_iter_items}
 use Rattle.eventkey.specs.Message.{Message}

@@ -1,4 +1,4 @@
-use Rattle.std.proofs.Common.{rules, of_calls, arith, not}
+use Rattle.std.proofs.Common.{◌≡◌, length, rules, of_calls, arith, not}
 use Rattle.std.proofs.lemmas.Fn.{always_returns_same}
 use Rattle.eventkey.specs.Message.{Message, is_before}
 use Rattle.queues.proofs.Halves.{after_is, kept_parted}
@@ -7,6 +7,8 @@ use Rattle.queues.proofs.bag.count_after.Goals as goal
 pub returns : goal.returns
 returns c =
     let m = c.args.message.now in
-    let xs = c.args.ascending.now in
+    let xs = c.args.ascending.now.items in
+    let long : c.args.ascending.now.len ≡ length xs = search rules in
+    let bound = c.partition_point-kept.ensures.bound in
     let point = c.partition_point-kept.ensures.partitioned (λ (y : Message). not (is_before m y)) (always_returns_same _ _ _ (λ a r f k. search (rules, of_calls))) (kept_parted m xs c.requires) in
-    omega (arith, after_is m xs c.partition_point-kept.result c.partition_point-kept.ensures.bound point.0 point.1)
+    omega (arith, after_is m xs c.partition_point-kept.result (omega arith) point.0 point.1)

@@ -5,10 +5,10 @@ use Rattle.queues.proofs.bag.wait_again.Goals as goal
 
 pub loop-preserved : goal.loop-preserved
 loop-preserved c =
-    let popped = rw c.unwrap-message.ensures at c.pop.ensures.items in
+    let popped = rw c.unwrap-message.ensures at c.pop_back.ensures.items in
     let pushed = rw c.unwrap.ensures at c.push.ensures.items in
-    let more = one_more_undone c.args.done.now.items c.args.waiting.now.items c.loop.done.items c.loop.waiting.items c.pop.new.self.items c.unwrap-message.result c.loop.counter popped c.loop.invariant.undone in
-    let left = rw c.unwrap-message.ensures at c.pop.ensures.len in
+    let more = one_more_undone c.args.done.now.items c.args.waiting.now.items c.loop.done.items c.loop.waiting.items c.pop_back.new.self.items c.unwrap-message.result c.loop.counter popped c.loop.invariant.undone in
+    let left = rw c.unwrap-message.ensures at c.pop_back.ensures.cases in
     let long = rw c.unwrap.ensures at c.push.ensures.len in
     record { undone = rw pushed more; left = omega arith; long = omega arith; capacity = omega arith }
 

@@ -1,16 +1,18 @@
 use Rattle.std.proofs.Common.{◌<◌, ◌≤◌, ◌∙◌, Err, ℕ, false, inl, inr, length, List, drop, ap, sym, subst, arith}
 use Rattle.std.proofs.lemmas.Bool.{both_ways}
 use Rattle.std.proofs.lemmas.Result.{err_from_is_err_and}
+use Rattle.std.specs.List.{AllByRecursion as Every}
+use Rattle.eventkey.proofs.Lists.{Every-append}
 use Rattle.node.proofs.Collects.{fossils_after, fossils_more, processes_after, released_after, seat_read, so_far-more, staffed_collected}
 use Rattle.node.specs.Fault.{fault_of}
 use Rattle.node.specs.Handling.{Node}
-use Rattle.process.specs.View.{ProcessView}
+use Rattle.process.specs.View.{IsDoneInRange, ProcessView}
 use Rattle.node.specs.Roster.{collected, place_of}
 use Rattle.process.specs.Process.{Process, fossils_of}
 use Rattle.node.proofs.roster.Roster.collect.Goals as goal
 
 pub loop-process-init : goal.loop-process-init
-loop-process-init c = record { items = c.deref_mut-process-items.ensures.value; fossils = c.new-fossils.ensures.items }
+loop-process-init c = record { items = c.deref_mut-process-items.ensures.value; fossils = c.new-fossils.ensures.items; range = rw c.new-fossils.ensures.items tt }
 
 pub collect-requires : goal.collect-requires
 collect-requires c =
@@ -41,6 +43,7 @@ loop-process-preserved c =
     record {
       items = so_far-more (collected c.args.floor) start c.loop-process.process-items i c.process-item.result c.collect.new.self inside c.process-item.is (c.in_ok-gone.ensures.collected ∙ ap (collected c.args.floor) (sym c.process-item.is)) c.loop-process.invariant.items;
       fossils = fossils_more c.args.floor start i c.process-item.result c.loop-process.fossils.items c.in_ok-gone.gone.items c.append.new.self.items inside seat.0 c.loop-process.invariant.fossils (c.in_ok-gone.ensures.fossils ∙ ap (λ (q : ProcessView). fossils_of c.args.floor q.process) (sym c.process-item.is)) c.in_ok-append.ensures.items;
+      range = subst (Every IsDoneInRange) (sym c.in_ok-append.ensures.items) (Every-append IsDoneInRange c.loop-process.fossils.items c.in_ok-gone.gone.items c.loop-process.invariant.range c.in_ok-gone.ensures.range);
     }
 
 pub returns-clause-ready : goal.returns-clause-ready

@@ -4,7 +4,7 @@ use Rattle.eventkey.specs.Message.{Message}
 use Rattle.eventkey.specs.Signed.{plus}
 use Rattle.model.specs.Meaning.{IsWords, stamp}
 use Rattle.process.proofs.Calls.{handled_done, handled_is}
-use Rattle.process.proofs.Sound.{handled_sound}
+use Rattle.process.proofs.Sound.{done_ran, handled_sound}
 use Rattle.process.specs.Inside.{view_of}
 use Rattle.process.specs.Process.{Process, handle, handling_of}
 use Rattle.process.specs.View.{HasRun, IsSound, ProcessView}
@@ -14,8 +14,11 @@ use Rattle.process.proofs.logical.Process.run_one.Given as given
 use Rattle.process.proofs.logical.Process.run_one.Goals as goal
 
 -- the process as the code leaves it, and the record that it adds
+abbrev left_of : (g : given.Over) → goal.Joined-sends-6 g → ProcessView
+left_of g c = view_of (record { alloc = c.self.inside.alloc; lp = c.self.inside.lp; floor = c.self.inside.floor; spent = false; queue = c.take_next.new.self; history = c.push.new.self; state = c.replace-before.new.dest; number = c.self.inside.number + c.len-count.result })
+
 abbrev new_of : (g : given.Over) → goal.Joined-sends-6 g → Process
-new_of g c = (view_of (record { alloc = c.self.inside.alloc; lp = c.self.inside.lp; floor = c.self.inside.floor; spent = false; queue = c.take_next.new.self; history = c.push.new.self; state = c.replace-before.new.dest; number = c.self.inside.number + c.len-count.result })).process
+new_of g c = (left_of g c).process
 
 abbrev record_of : (g : given.Over) → goal.Joined-sends-6 g → Record
 record_of g c = record { message = c.in-Some.message; before = c.replace-before.result; number_before = c.self.inside.number; sent = c.from_vec.result }
@@ -49,7 +52,7 @@ new_is : (g : given.Over) (c : goal.Joined-sends-6 g) → new_of g c ≡ handle 
 new_is g c =
     let whole = c.self.invariant c.if-self.false in
     handled_is c.self.inside.queue (view_of c.self.inside).process whole.0 refl refl (g.M.Model.meaning c.args.model.now) c.self.inside.lp c.args.end c.in-Some.message (first_is g c) (new_of g c) c.take_next.new.self
-    c.in_ok-take_next.ensures.taken (record_of g c) (record_is g c) refl c.in_ok-push.ensures.pushed refl refl (state_is g c) (ap (λ (n : ℕ). c.self.inside.number + n) (count_is g c))
+    c.in_ok-take_next.ensures.taken (record_of g c) (record_is g c) c.in_ok-push.ensures.pushed refl refl (state_is g c) (ap (λ (n : ℕ). c.self.inside.number + n) (count_is g c))
 
 pub invariant_of-self-2 : goal.invariant_of-self-2
 invariant_of-self-2 g c = λ _.
@@ -62,7 +65,7 @@ invariant_of-self-2 g c = λ _.
     let few = count_is g c in
     let room : v.process.number + length (m.sends v.lp v.process.state c.in-Some.message) ≤ 2 ^ 63 = omega arith in (
       handled_done c.self.inside.queue v.process whole.0 refl refl m v.lp c.args.end c.in-Some.message (first_is g c) (new_of g c) c.take_next.new.self
-          c.in_ok-take_next.ensures.taken (record_of g c) (record_is g c) refl c.in_ok-push.ensures.pushed refl refl (state_is g c) (ap (λ (n : ℕ). c.self.inside.number + n) (count_is g c)),
+          c.in_ok-take_next.ensures.taken (record_of g c) (record_is g c) c.in_ok-push.ensures.pushed refl refl (state_is g c) (ap (λ (n : ℕ). c.self.inside.number + n) (count_is g c)),
       subst (λ (q : Process). IsSound (record { lp = v.lp; floor = v.floor; spent = false; process = q })) (sym (new_is g c))
           (handled_sound m c.args.end c.in-Some.message false v (g.met.M.Model.lawful c.args.model.now) here words c.ranged.ensures (first_is g c) room whole.1),
     )
@@ -73,10 +76,14 @@ returns-clause-ran g c = λ _.
     let v = view_of c.self.inside in
     let spent = sym c.if-self.false in
     let is = new_is g c in
-    let now : view_of (record { alloc = c.self.inside.alloc; lp = c.self.inside.lp; floor = c.self.inside.floor; spent = false; queue = c.take_next.new.self; history = c.push.new.self; state = c.replace-before.new.dest; number = c.self.inside.number + c.len-count.result }) ≡ record v { process = handle m v.lp c.in-Some.message v.process } =
+    let now : left_of g c ≡ record v { process = handle m v.lp c.in-Some.message v.process } =
     λ i. record { lp = v.lp; floor = v.floor; spent = spent i; process = is i } in
     let out : c.append.new.out.items ≡ c.args.out.now.items ++ map plus (handling_of m v.lp c.in-Some.message v.process).sent =
     c.in_ok-append.ensures.out ∙ ap (λ (xs : List Message). c.args.out.now.items ++ map plus xs) (c.as_slice-2.ensures.value ∙ sent_is g c) in
-    let ran : HasRun m c.args.end v (view_of (record { alloc = c.self.inside.alloc; lp = c.self.inside.lp; floor = c.self.inside.floor; spent = false; queue = c.take_next.new.self; history = c.push.new.self; state = c.replace-before.new.dest; number = c.self.inside.number + c.len-count.result })) c.args.out.now.items c.append.new.out.items =
+    let ran : HasRun m c.args.end v (left_of g c) c.args.out.now.items c.append.new.out.items =
     record { message = c.in-Some.message; next = first_is g c; process = now; out = out } in
-    subst (λ (w : ProcessView). HasRun m c.args.end w (view_of (record { alloc = c.self.inside.alloc; lp = c.self.inside.lp; floor = c.self.inside.floor; spent = false; queue = c.take_next.new.self; history = c.push.new.self; state = c.replace-before.new.dest; number = c.self.inside.number + c.len-count.result })) c.args.out.now.items c.append.new.out.items) c.self.view_is ran
+    subst (λ (w : ProcessView). HasRun m c.args.end w (left_of g c) c.args.out.now.items c.append.new.out.items) c.self.view_is ran
+
+pub returns-clause-done : goal.returns-clause-done
+returns-clause-done g c state number h =
+    done_ran (g.M.Model.meaning c.args.model.now) c.args.end c.args.self.now (left_of g c) c.args.out.now.items c.append.new.out.items state number (returns-clause-ran g c refl) (invariant_of-self-2 g c refl).1.number h

@@ -26,10 +26,10 @@ pub returns-in-Some-clause-arrived : goal.returns-in-Some-clause-arrived
 returns-in-Some-clause-arrived c = met_is c ∙ ap (arrived (plus c.args.message)) c.self.view_is
 
 pub overflow_add-back : goal.overflow_add-back
-overflow_add-back c = omega (arith, after-le c.args.message c.as_slice-2.result.now)
+overflow_add-back c = omega (arith, after-le c.args.message c.self.inside.done.items)
 
 pub wait_again-requires-clause-there : goal.wait_again-requires-clause-there
-wait_again-requires-clause-there c = omega (arith, after-le c.args.message c.as_slice-2.result.now)
+wait_again-requires-clause-there c = omega (arith, after-le c.args.message c.self.inside.done.items)
 
 -- what waits, with what was undone before it
 undone_is : (c : goal.After-put-arg-1) → reverse c.wait_again.new.waiting.items ≡ last_of c.count_after-back.result c.self.inside.done.items ++ reverse c.self.inside.waiting.items
@@ -41,7 +41,7 @@ put-requires-clause-ascending c = subst IsAscending (sym (undone_is c)) (undone_
 stayed_is : (c : goal.After-put) → queue_of (record { done = c.wait_again.new.done; waiting = c.put.new.bag; antis = c.self.inside.antis }) ≡ arrived (plus c.args.message) (queue_of c.self.inside)
 stayed_is c =
     let alone : is_among c.args.message (reverse c.self.inside.antis.items) ≡ false = rw c.as_slice.ensures.value at c.in_default.ensures in
-    let many : c.count_after-back.result ≡ after c.args.message c.self.inside.done.items = c.count_after-back.ensures ∙ ap (after c.args.message) c.as_slice-2.ensures.value in
+    let many : c.count_after-back.result ≡ after c.args.message c.self.inside.done.items = c.count_after-back.ensures in
     plus_stayed c.args.message (queue_of c.self.inside) (queue_of (record { done = c.wait_again.new.done; waiting = c.put.new.bag; antis = c.self.inside.antis })) c.self.invariant
     c.count_after-back.result (reverse c.wait_again.new.waiting.items) alone many c.wait_again.ensures.done (undone_is c.before) c.put.ensures refl
 

@@ -1,4 +1,4 @@
--- One message that arrives at one process: what it does to the bags, and that the process still tells the truth.
+-- One message that arrives at one process: what holds of all messages there, and of those that go out.
 use Rattle.std.proofs.Common.{◌++◌}
 use Rattle.std.proofs.lemmas.Bool.{cond_both}
 use Rattle.std.proofs.lemmas.List.{map-append}
@@ -12,11 +12,11 @@ use Rattle.eventkey.specs.declared.Sign.{Sign}
 use Rattle.eventkey.specs.declared.Sign.TheVariants.{Minus, Plus}
 use Rattle.eventkey.specs.declared.Signed.{Signed}
 use Rattle.queues.proofs.Arrivals.{undone_from}
-use Rattle.queues.proofs.Places.{map-last_of}
+use Rattle.queues.proofs.Places.{but_last-last_of, map-last_of}
 use Rattle.queues.specs.Record.{messages, sent_in}
 use Rattle.queues.specs.declared.Record.{Record}
 use Rattle.queues.specs.Queue.{Queue, arrived, back, but_last, last_of, settle, wait_again}
-use Rattle.process.proofs.Arrivals.{IsFine, handlings_split}
+use Rattle.process.proofs.Arrivals.{IsFine}
 use Rattle.process.specs.Process.{Process, arrive, queue_of, taken_back}
 
 settle_parts : (sign : Sign) (m : Message) (k : Queue) (P : Message → Type 0) → P m → Every P k.waiting → Every P k.antis →
@@ -37,22 +37,22 @@ arrived_parts s k P up later p w a =
     a
 
 module _ (P : Message → Type 0) (s : Signed) (q : Process) (h : IsFine P q) where
-  sent_split : Every P (sent_in (q.gathered ++ but_last (back s (queue_of q)) q.done) ++ sent_in (last_of (back s (queue_of q)) q.done))
-  sent_split = rw (← flat_map-append (λ (h : Record). h.sent) (q.gathered ++ but_last (back s (queue_of q)) q.done) (last_of (back s (queue_of q)) q.done), handlings_split (back s (queue_of q)) q) h.sent
+  sent_split : Every P (sent_in (but_last (back s (queue_of q)) q.done) ++ sent_in (last_of (back s (queue_of q)) q.done))
+  sent_split = rw (← flat_map-append (λ (h : Record). h.sent) (but_last (back s (queue_of q)) q.done) (last_of (back s (queue_of q)) q.done), but_last-last_of (back s (queue_of q)) q.done) h.sent
 
   pub fine_arrive : P s.message → IsFine P (arrive s q)
   fine_arrive p =
       let n = back s (queue_of q) in
-      let handled : Every P (messages (q.gathered ++ but_last n q.done) ++ messages (last_of n q.done)) = rw (← map-append (λ (h : Record). h.message) (q.gathered ++ but_last n q.done) (last_of n q.done), handlings_split n q) h.handled in
-      let undone : Every P (last_of n (messages q.done)) = rw map-last_of at (Every-right P (messages (q.gathered ++ but_last n q.done)) (messages (last_of n q.done)) handled) in
+      let handled : Every P (messages (but_last n q.done) ++ messages (last_of n q.done)) = rw (← map-append (λ (h : Record). h.message) (but_last n q.done) (last_of n q.done), but_last-last_of n q.done) h.handled in
+      let undone : Every P (last_of n (messages q.done)) = rw map-last_of at (Every-right P (messages (but_last n q.done)) (messages (last_of n q.done)) handled) in
       let parts = settle_parts s.sign s.message (wait_again n (queue_of q)) P p (Every-add_all P (last_of n (messages q.done)) q.waiting undone h.waiting) h.antis in
       record {
-        handled = Every-left P (messages (q.gathered ++ but_last n q.done)) (messages (last_of n q.done)) handled;
+        handled = Every-left P (messages (but_last n q.done)) (messages (last_of n q.done)) handled;
         waiting = parts.0;
         antis = parts.1;
-        sent = Every-left P (sent_in (q.gathered ++ but_last n q.done)) (sent_in (last_of n q.done)) sent_split;
+        sent = Every-left P (sent_in (but_last n q.done)) (sent_in (last_of n q.done)) sent_split;
       }
 
   pub fine_taken_back : Every (λ (t : Signed). P t.message) (taken_back s q)
   fine_taken_back = Every-map (λ (t : Signed). P t.message) minus (sent_in (last_of (back s (queue_of q)) q.done))
-      (Every-right P (sent_in (q.gathered ++ but_last (back s (queue_of q)) q.done)) (sent_in (last_of (back s (queue_of q)) q.done)) sent_split)
+      (Every-right P (sent_in (but_last (back s (queue_of q)) q.done)) (sent_in (last_of (back s (queue_of q)) q.done)) sent_split)
