@@ -15,3 +15,4 @@ pub mod Replies
 pub mod Numbers
 mod Examples
 mod CommitExamples
+mod ThreeNodes
