@@ -18,7 +18,7 @@ use Rattle.protocol.proofs.Takes.{sound_take, taken_from}
 use Rattle.protocol.specs.Picture.{Picture, gvt, opened}
 use Rattle.protocol.specs.Moves.{Checkpoint, Commit, Move, Post, Run, Take, after_moves, after_runs, can_post, commit, committed, move, moves_made, posted}
 use Rattle.protocol.specs.Sound.{GoesOn, IsOpening, IsSoundPicture, IsSystem}
-use Rattle.protocol.specs.Laws.{AreMade, AreMadeInParts, FirstOpens, FrontsOpen, IsOneSimulation, MovesAreSound, MovesMadeAreSound, MovesMadeJoin, MovesMadePart, RunsAreOneSimulation, RunsAreSound}
+use Rattle.protocol.specs.Laws.{AreMade, AreMadeInParts, FirstOpens, FrontsOpen, MovesAreSound, MovesMadeAreSound, MovesMadeJoin, MovesMadePart, RunsAreOneSimulation, RunsAreSound}
 use Rattle.protocol.specs.Readers.{OptimisticIsSequential}
 
 -- floors that are each at least what they were

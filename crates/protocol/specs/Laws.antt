@@ -1,6 +1,6 @@
 -- The laws of a running system, over every list of moves. Each holds for every meaning that keeps its laws.
 use Rattle.std.specs.List.{AllByRecursion as Every}
-use Rattle.std.specs.Prelude.{◌≡◌, ℕ, ◌^◌, ◌<◌, ◌≤◌, ◌+◌, ◌++◌, ◌&&◌, List, Bool, not, get_or, length, map, nat_lt, option_and_then, if◌then◌else◌, Err, Ok, Some, None, is_some, true}
+use Rattle.std.specs.Prelude.{◌≡◌, ℕ, ◌^◌, ◌<◌, ◌≤◌, ◌+◌, ◌++◌, ◌&&◌, List, not, get_or, length, map, nat_lt, option_and_then, if◌then◌else◌, Err, Ok, Some, None, is_some, true}
 use Rattle.eventkey.specs.Bag.{IsAscending}
 use Rattle.eventkey.specs.Message.{Message}
 use Rattle.gvt.specs.Ledger.{after_post, after_take, is_busy as is_ledger_busy, ledger_floor, least_floor, may_pick, nodes_of as ledger_nodes, started}
