@@ -16,7 +16,9 @@ ghost use Rattle.protocol.specs.Readers.{OptimisticIsSequential};
 #[derive(Clone, Copy, Debug, PartialEq, Eq)]
 pub enum Answer {
     /// A parcel with this floor, in ticks, was posted.
-    Posted { floor: u64 },
+    Posted {
+        floor: u64,
+    },
     /// The node handled `ran` messages, sent `out` messages and antimessages, and told of `fossils` handlings.
     Taken {
         ran: u32,
@@ -24,11 +26,18 @@ pub enum Answer {
         fossils: usize,
     },
     /// The front moved to the virtual time `g`, in ticks, by so many events.
-    Committed { g: u64, events: usize },
+    Committed {
+        g: u64,
+        events: usize,
+    },
     /// There is nothing to commit: the front stays at the virtual time `g`, in ticks.
-    AlreadyAt { g: u64 },
+    AlreadyAt {
+        g: u64,
+    },
     /// The front, at the virtual time `g`, in ticks, is written whole.
-    Checkpointed { g: u64 },
+    Checkpointed {
+        g: u64,
+    },
 }
 
 /// Optimistic equals sequential, over every schedule: for every lawful model, every number of nodes and every list of
