@@ -128,7 +128,7 @@ module _ (m : Meaning) (end : ℕ) where
   after-append (k ∷ ks) ls p = after-append ks ls (unwrap_or (move m end k p) p)
 
 pub runs_are_sound : RunsAreSound
-runs_are_sound m end nodes w begins ks ls =
+runs_are_sound m end nodes w ks ls begins =
     let first = all_moves m end ks (opened m.lps nodes w) (opening_is_sound m end nodes w begins) in
     rw (after-append m end ks ls (opened m.lps nodes w)) (all_moves m end ls (after_moves m end ks (opened m.lps nodes w)) first.0)
 
@@ -240,5 +240,5 @@ runs_are_one_simulation m end rs ss law short some =
 
 pub optimistic_is_sequential : OptimisticIsSequential
 optimistic_is_sequential m end nodes w ks ls law short some soon front =
-    let all = runs_are_sound m end nodes w (record { lawful = law; short = short; some = some; soon = soon; front = front }) ks ls in
+    let all = runs_are_sound m end nodes w ks ls (record { lawful = law; short = short; some = some; soon = soon; front = front }) in
     record { front = all.0.sound.front; log_grows = all.1.log_grows; gvt_rises = all.1.gvt_rises }
