@@ -15,6 +15,42 @@ use Rattle.protocol.specs.declared.Answer.{Answer}
 use Rattle.protocol.specs.declared.Answer.TheVariants.{AlreadyAt, Checkpointed, Committed, Posted, Taken}
 use Rattle.protocol.specs.Picture.{Picture, gvt, messages_told, node_of, nodes_of, opened, sent_told}
 
+-- 1. Post
+
+abbrev pub is_busy : Picture → ℕ → Bool  -- the node has a parcel that is not answered
+is_busy p node = is_some (get_or p.parcels node None)
+
+-- the node is there and idle, and each pick names, once, a message in transit for its processes
+abbrev pub can_post : Picture → ℕ → List ℕ → Bool
+can_post p node picks =
+    (nat_lt node (nodes_of p) && not (is_busy p node))
+    && (can_pick (nodes_of p) node p.transit picks && are_distinct picks)
+
+abbrev pub posted : ℕ → ℕ → List ℕ → ℕ → Picture → Picture  -- the picks leave transit as a parcel
+posted end node picks budget p =
+    let ss = picked p.transit picks in
+    let new : Parcel = record { deliver = ss; budget = budget; floor = gvt end p } in
+    record p { transit = not_picked picks 0 p.transit; parcels = set p.parcels node (Some new) }
+
+-- 2. Take
+
+abbrev pub answered : ℕ → Parcel → Picture → Work → Picture  -- the node did this work for a parcel
+answered node parcel p w = record p {
+  gathered = p.gathered ++ flat_map (λ (q : Process). fossils_of parcel.floor q) w.processes;
+  nodes = set p.nodes node (released parcel.floor w);
+  transit = p.transit ++ w.out;
+  parcels = set p.parcels node None;
+  floors = set p.floors node parcel.floor;
+}
+
+-- by the parcel of the node, if it has one; none where a send number has no room
+abbrev pub take_from : Meaning → ℕ → ℕ → Picture → Option Parcel → Option Picture
+take_from m end node p None = None
+take_from m end node p (Some parcel) =
+    option_map (answered node parcel p) (work_here m end (nodes_of p) parcel (node_of p node))
+
+-- 3. Commit
+
 abbrev pub told_before : ℕ → List Done → List Done  -- of handlings before a time, and of the others
 told_before c ds = filter (λ (d : Done). nat_lt d.message.time c) ds
 
@@ -33,6 +69,10 @@ commit m c p = record p {
   front = at_time c (after_messages m p.front (merged c p.gathered));
   gathered = told_from c p.gathered;
 }
+
+abbrev pub committed : Meaning → ℕ → Picture → Picture  -- to the least floor of the nodes
+committed m end p =
+    let c = least_floor end p.floors in if nat_lt p.front.time c then commit m c p else p
 
 -- each process as it was left by the last of what it told
 abbrev pub states_told : List Done → List (List ℕ) → List (List ℕ)
@@ -53,38 +93,7 @@ told_front c ds w = record {
   log = w.log ++ merged c ds;
 }
 
-abbrev pub is_busy : Picture → ℕ → Bool  -- the node has a parcel that is not answered
-is_busy p node = is_some (get_or p.parcels node None)
-
--- the node is there and idle, and each pick names, once, a message in transit for its processes
-abbrev pub can_post : Picture → ℕ → List ℕ → Bool
-can_post p node picks =
-    (nat_lt node (nodes_of p) && not (is_busy p node))
-    && (can_pick (nodes_of p) node p.transit picks && are_distinct picks)
-
-abbrev pub posted : ℕ → ℕ → List ℕ → ℕ → Picture → Picture  -- the picks leave transit as a parcel
-posted end node picks budget p =
-    let ss = picked p.transit picks in
-    let new : Parcel = record { deliver = ss; budget = budget; floor = gvt end p } in
-    record p { transit = not_picked picks 0 p.transit; parcels = set p.parcels node (Some new) }
-
-abbrev pub answered : ℕ → Parcel → Picture → Work → Picture  -- the node did this work for a parcel
-answered node parcel p w = record p {
-  gathered = p.gathered ++ flat_map (λ (q : Process). fossils_of parcel.floor q) w.processes;
-  nodes = set p.nodes node (released parcel.floor w);
-  transit = p.transit ++ w.out;
-  parcels = set p.parcels node None;
-  floors = set p.floors node parcel.floor;
-}
-
-abbrev pub take_from : Meaning → ℕ → ℕ → Picture → Option Parcel → Option Picture
-take_from m end node p None = None  -- the node has no parcel; or a send number has no room
-take_from m end node p (Some parcel) =
-    option_map (answered node parcel p) (work_here m end (nodes_of p) parcel (node_of p node))
-
-abbrev pub committed : Meaning → ℕ → Picture → Picture  -- to the least floor of the nodes
-committed m end p =
-    let c = least_floor end p.floors in if nat_lt p.front.time c then commit m c p else p
+-- 4. Moves
 
 pub data Move : Type 0 where  -- a step of a session (this project's profile)
   Post : ℕ → List ℕ → ℕ → Move  -- node, picks, budget
@@ -114,8 +123,7 @@ take_refusal m end node p (Some parcel) =
     if is_some (work_here m end (nodes_of p) parcel (node_of p node)) then None
     else Some NumberLimit
 
--- the first of them that holds, in the order in which they are looked for; none where the move is
--- made
+-- the first that holds, in the order in which they are looked for; none where the move is made
 abbrev pub refusal : Meaning → ℕ → Move → Picture → Option Refusal
 refusal m end (Post node picks budget) p =
     if not (nat_lt node (nodes_of p)) then Some NoSuchNode
@@ -128,7 +136,7 @@ refusal m end (Take node) p =
 refusal m end Commit p = None
 refusal m end Checkpoint p = None
 
--- The numbers of a move: what it answers, and none where it is refused.
+-- the numbers of a take, by the parcel of the node
 abbrev pub take_answer : Meaning → ℕ → ℕ → Picture → Option Parcel → Option Answer
 take_answer m end node p None = None
 take_answer m end node p (Some parcel) =
@@ -142,12 +150,15 @@ commit_answer end p =
     if nat_lt p.front.time c then Committed c (length (told_before c p.gathered))
     else AlreadyAt p.front.time
 
+-- what a move answers; none where it is refused
 abbrev pub answer_of : Meaning → ℕ → Move → Picture → Option Answer
 answer_of m end (Post node picks budget) p =
     if can_post p node picks then Some (Posted (gvt end p)) else None
 answer_of m end (Take node) p = take_answer m end node p (get_or p.parcels node None)
 answer_of m end Commit p = Some (commit_answer end p)
 answer_of m end Checkpoint p = Some (Checkpointed p.front.time)
+
+-- 5. Lists of moves
 
 -- after these moves, one after another; none where one of them is refused
 abbrev pub moves_made : Meaning → ℕ → List Move → Picture → Option Picture
