@@ -17,7 +17,7 @@ use Rattle.protocol.proofs.Posts.{sound_post}
 use Rattle.protocol.proofs.Takes.{sound_take, taken_from}
 use Rattle.protocol.specs.Picture.{Picture, gvt, opened}
 use Rattle.protocol.specs.Moves.{Checkpoint, Commit, Move, Post, Run, Take, after_moves, after_runs, can_post, commit, committed, move, moves_made, posted}
-use Rattle.protocol.specs.Sound.{GoesOn, IsOpening, IsSoundPicture, IsSystem}
+use Rattle.protocol.specs.Sound.{GoesOnFrom, IsOpening, IsSoundPicture, IsSystem}
 use Rattle.protocol.specs.Laws.{AreMade, AreMadeInParts, FirstOpens, FrontsOpen, MovesAreSound, MovesMadeAreSound, MovesMadeJoin, MovesMadePart, RunsAreOneSimulation, RunsAreSound}
 use Rattle.protocol.specs.Readers.{OptimisticIsSequential}
 
@@ -76,7 +76,7 @@ floors_kept m end Commit p p' h e =
     subst (λ (q : Picture). HaveRisen p.floors q.floors) (same_Some (committed m end p) p' e) here
 floors_kept m end Checkpoint p p' h e = subst (λ (q : Picture). HaveRisen p.floors q.floors) (same_Some p p' e) (risen_none p.floors)
 
-goes_on : (m : Meaning) (end : ℕ) (p p' : Picture) → IsSoundPicture m end p → IsSoundPicture m end p' → gvt end p ≤ gvt end p' → HaveRisen p.floors p'.floors → p.front.time ≤ p'.front.time → GoesOn end p p'
+goes_on : (m : Meaning) (end : ℕ) (p p' : Picture) → IsSoundPicture m end p → IsSoundPicture m end p' → gvt end p ≤ gvt end p' → HaveRisen p.floors p'.floors → p.front.time ≤ p'.front.time → GoesOnFrom end p p'
 goes_on m end p p' h h' rises risen later = record {
   gvt_rises = rises;
   same_nodes = sym h'.seated.floors ∙ risen.size ∙ h.seated.floors;
@@ -91,7 +91,7 @@ moves_are_sound m end k p p' h e =
     (record { lawful = h.lawful; short = h.short; sound = new.0 }, goes_on m end p p' h.sound new.0 new.1 (floors_kept m end k p p' h.sound e) (later_front m end k p p' e))
 
 module _ (m : Meaning) (end : ℕ) where
-  goes_on_from : (p q r : Picture) → IsSystem m end p → IsSystem m end r → GoesOn end p q → GoesOn end q r → GoesOn end p r
+  goes_on_from : (p q r : Picture) → IsSystem m end p → IsSystem m end r → GoesOnFrom end p q → GoesOnFrom end q r → GoesOnFrom end p r
   goes_on_from p q r h h' a b =
       let a1 = a.gvt_rises in
       let b1 = b.gvt_rises in
@@ -106,16 +106,16 @@ module _ (m : Meaning) (end : ℕ) where
         log_grows = upto_goes_on m end p.front.time r.front.time p.front r.front later h.sound.front h'.sound.front;
       }
 
-  goes_nowhere : (p : Picture) → IsSystem m end p → GoesOn end p p
+  goes_nowhere : (p : Picture) → IsSystem m end p → GoesOnFrom end p p
   goes_nowhere p h = goes_on m end p p h.sound h.sound (omega arith) (risen_none p.floors) (omega arith)
 
   -- a refused move changes nothing
-  one_move : (p : Picture) (o : Option Picture) → IsSystem m end p → ((p' : Picture) → o ≡ Some p' → IsSystem m end p' × GoesOn end p p') →
-      IsSystem m end (unwrap_or o p) × GoesOn end p (unwrap_or o p)
+  one_move : (p : Picture) (o : Option Picture) → IsSystem m end p → ((p' : Picture) → o ≡ Some p' → IsSystem m end p' × GoesOnFrom end p p') →
+      IsSystem m end (unwrap_or o p) × GoesOnFrom end p (unwrap_or o p)
   one_move p None h f = (h, goes_nowhere p h)
   one_move p (Some p') h f = f p' refl
 
-  all_moves : (ks : List Move) (p : Picture) → IsSystem m end p → IsSystem m end (after_moves m end ks p) × GoesOn end p (after_moves m end ks p)
+  all_moves : (ks : List Move) (p : Picture) → IsSystem m end p → IsSystem m end (after_moves m end ks p) × GoesOnFrom end p (after_moves m end ks p)
   all_moves [] p h = (h, goes_nowhere p h)
   all_moves (k ∷ ks) p h =
       let next : Picture = unwrap_or (move m end k p) p in

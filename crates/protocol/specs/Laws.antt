@@ -16,9 +16,9 @@ use Rattle.process.specs.Process.{number_after, state_after}
 use Rattle.protocol.specs.declared.Answer.{Answer}
 use Rattle.protocol.specs.declared.Answer.TheVariants.{AlreadyAt, Checkpointed, Committed, Posted, Taken}
 use Rattle.protocol.specs.Moves.{Busy, Move, NoSuchNode, NoSuchPick, Post, Run, Take, after_moves, after_runs, answer_of, answered, commit, committed, is_busy, merged, move, moves_made, posted, refusal, told_before, told_front}
-use Rattle.protocol.specs.Picture.{IsBalanced, IsInRange, IsSeatedBy, IsToldTruly, Picture, gvt, lows_of, node_of, nodes_of, opened, told_by}
+use Rattle.protocol.specs.Picture.{IsBalanced, IsPictureInRange, IsSeatedBy, IsToldTruly, Picture, gvt, lows_of, node_of, nodes_of, opened, told_by}
 use Rattle.protocol.specs.Replies.{names_there}
-use Rattle.protocol.specs.Sound.{GoesOn, IsOpening, IsSystem}
+use Rattle.protocol.specs.Sound.{GoesOnFrom, IsOpening, IsSystem}
 use Rattle.protocol.specs.Views.{ledger_of, load_of, node_view}
 
 -- 1. Openings
@@ -45,7 +45,7 @@ FrontsOpen = (m : Meaning) (end nodes : ℕ) (p : Picture) → IsSystem m end p 
 -- time never fall.
 abbrev pub MovesAreSound : Type 0
 MovesAreSound = (m : Meaning) (end : ℕ) (k : Move) (p p' : Picture) → IsSystem m end p →
-    move m end k p ≡ Some p' → IsSystem m end p' × GoesOn end p p'
+    move m end k p ≡ Some p' → IsSystem m end p' × GoesOnFrom end p p'
 
 -- A move is made exactly where it is not refused.
 abbrev pub MovesAreMadeOrRefused : Type 0
@@ -79,7 +79,7 @@ MovesAnswer = (m : Meaning) (end : ℕ) (k : Move) (p : Picture) → IsAnswering
 abbrev pub RunsAreSound : Type 0
 RunsAreSound = (m : Meaning) (end nodes : ℕ) (w : World) (ks ls : List Move) →
     IsOpening m end nodes w → IsSystem m end (after_moves m end (ks ++ ls) (opened m.lps nodes w))
-    × GoesOn end (after_moves m end ks (opened m.lps nodes w))
+    × GoesOnFrom end (after_moves m end ks (opened m.lps nodes w))
     (after_moves m end (ks ++ ls) (opened m.lps nodes w))
 
 -- Moves that are all made are made in parts: the first of them, and then the others.
@@ -100,7 +100,7 @@ MovesMadePart = (m : Meaning) (end : ℕ) (ks ls : List Move) (p r : Picture) �
 -- They take a system to a system that goes on from it, as where refused moves change nothing.
 pub record AreMade (m : Meaning) (end : ℕ) (ks : List Move) (p q : Picture) : Type 0 where
   pub system : IsSystem m end q
-  pub goes_on : GoesOn end p q
+  pub goes_on : GoesOnFrom end p q
   pub same : after_moves m end ks p ≡ q
 
 abbrev pub MovesMadeAreSound : Type 0
@@ -126,7 +126,7 @@ RunsAreOneSimulation = (m : Meaning) (end : ℕ) (rs ss : List Run) → IsLawful
 -- A picture of which a commit may take what was told before c
 pub record MayCommit (m : Meaning) (end c : ℕ) (p : Picture) : Type 0 where
   pub seated : IsSeatedBy m.lps p
-  pub in_range : IsInRange p
+  pub in_range : IsPictureInRange p
   pub told : IsToldTruly m p
   pub balanced : IsBalanced m p
   pub front : IsUpto m end p.front.time p.front
@@ -142,7 +142,7 @@ pub record IsCommitted (m : Meaning) (end c : ℕ) (p : Picture) : Type 0 where
   pub log : (commit m c p).front.log ≡ p.front.log ++ merged c p.gathered
   pub told : IsToldTruly m (commit m c p)
   pub balanced : IsBalanced m (commit m c p)
-  pub in_range : IsInRange (commit m c p)
+  pub in_range : IsPictureInRange (commit m c p)
   pub seated : IsSeatedBy m.lps (commit m c p)
   pub same_gvt : gvt end (commit m c p) ≡ gvt end p
 

@@ -92,8 +92,8 @@ abbrev pub IsProcessInRange : Process → Type 0
 IsProcessInRange q =
     Every IsRanged (messages q.done) × Every IsRanged q.waiting × Every IsRanged q.antis
 
-abbrev pub IsInRange : Picture → Type 0
-IsInRange p =
+abbrev pub IsPictureInRange : Picture → Type 0
+IsPictureInRange p =
     Every IsRanged (messages_told p.gathered)
     × Every (λ (qs : List Process). Every IsProcessInRange qs) p.nodes
     × Every (λ (s : Signed). IsRanged s.message) (travelling p)

@@ -6,7 +6,7 @@ use Rattle.eventkey.specs.declared.Signed.{Signed}
 use Rattle.model.specs.Meaning.{IsLawful, Meaning}
 use Rattle.model.specs.World.{IsUpto, World}
 use Rattle.node.specs.declared.Parcel.{Parcel}
-use Rattle.protocol.specs.Picture.{IsBalanced, IsInRange, IsSeatedBy, IsToldTruly, Picture, gvt, nodes_of}
+use Rattle.protocol.specs.Picture.{IsBalanced, IsPictureInRange, IsSeatedBy, IsToldTruly, Picture, gvt, nodes_of}
 
 -- What holds of the parcel of a node: its messages are for processes of that node, and its floor
 -- lies between the node's and global virtual time.
@@ -24,7 +24,7 @@ pub record IsSoundPicture (m : Meaning) (end : ℕ) (p : Picture) : Type 0 where
   pub front : IsUpto m end p.front.time p.front
   pub some : 1 ≤ nodes_of p
   pub seated : IsSeatedBy m.lps p
-  pub in_range : IsInRange p
+  pub in_range : IsPictureInRange p
   pub told : IsToldTruly m p
   pub balanced : IsBalanced m p
   pub front_low : Every (λ (f : ℕ). p.front.time ≤ f) p.floors
@@ -50,7 +50,7 @@ pub record IsOpening (m : Meaning) (end nodes : ℕ) (w : World) : Type 0 where
   pub front : IsUpto m end w.time w
 
 -- What a later picture of a system is to an earlier one.
-pub record GoesOn (end : ℕ) (p p' : Picture) : Type 0 where
+pub record GoesOnFrom (end : ℕ) (p p' : Picture) : Type 0 where
   pub gvt_rises : gvt end p ≤ gvt end p'
   pub same_nodes : nodes_of p' ≡ nodes_of p
   pub floors_rise : (node : ℕ) → get_or p.floors node 0 ≤ get_or p'.floors node 0
