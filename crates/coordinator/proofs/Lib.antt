@@ -1,0 +1,7 @@
+mod Awaited
+mod Batches
+mod Committing
+mod PortStates
+mod Posting
+mod Taking
+mod Refusals

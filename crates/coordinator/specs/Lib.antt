@@ -1,0 +1,5 @@
+pub mod Replies
+pub mod Session
+pub mod Steps
+pub mod Crashes
+pub mod Drives
