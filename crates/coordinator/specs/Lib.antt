@@ -1,5 +1,8 @@
-pub mod Replies
+-- For callers.
 pub mod Session
 pub mod Steps
 pub mod Crashes
 pub mod Drives
+pub mod Opening
+-- Inside.
+pub mod Replies

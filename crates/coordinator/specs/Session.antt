@@ -88,10 +88,3 @@ pub record IsTold (r : Running) : Type 0 where
   pub ports : (k : ℕ) → k < length r.ports → IsPortOf r k (port_at r.ports k)
   pub lows : r.ledger.lows ≡ lows_of (picture_of r)
   pub system : IsSystem r.meaning r.end (picture_of r)
-
--- every one of these ports tells its node, which runs this model
-abbrev pub AllTell : Meaning → List PortState → Type 0
-AllTell m ports = (k : ℕ) → k < length ports → ((port_at ports k).tells ≡ true) × ((port_at ports k).meaning ≡ m)
-
-abbrev pub AllFresh : List PortState → Type 0
-AllFresh ports = (k : ℕ) → k < length ports → (port_at ports k).stage ≡ Fresh

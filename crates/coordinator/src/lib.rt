@@ -2,12 +2,13 @@
 #![tactic(auto)]
 
 mod batch;
+mod opening;
 mod ports;
 mod session;
 
 use eventkey::Listed;
 use recovery::RecoveryFault;
-pub use session::Session;
+pub use session::{FrontView, Session};
 use thiserror::Error;
 use wire::PortFault;
 
