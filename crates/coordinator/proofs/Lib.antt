@@ -1,4 +1,3 @@
-mod Awaited
 mod Batches
 mod Committing
 mod PortStates

@@ -14,12 +14,11 @@ moves_made m end [] p = Some p
 moves_made m end (k ∷ ks) p = option_and_then (λ (q : Picture). moves_made m end ks q) (move m end k p)
 
 -- So many steps were made, from told to told, and the next was refused with this fault.
-pub record IsStopped (steps : List Step) (old new : Running) (stop : DriveFault) : Type 0 where
+pub record IsStopped (steps : List Step) (old new : Running) (spent : Bool) (stop : DriveFault) : Type 0 where
   pub made : Running
-  pub told : IsTold made
-  pub moves : moves_made old.meaning old.end (map move_of (take stop.done steps)) (picture_of old) ≡ Some (picture_of made)
   pub next : Step
   pub more : List Step
   pub next_is : drop stop.done steps ≡ next ∷ more
-  pub spent : Bool
+  pub moves : IsTold old →
+      (moves_made old.meaning old.end (map move_of (take stop.done steps)) (picture_of old) ≡ Some (picture_of made)) × IsTold made
   pub refused : IsStepped (move_of next) made new spent (Err stop.fault)
