@@ -3,4 +3,5 @@ mod Committing
 mod PortStates
 mod Posting
 mod Taking
+mod Driving
 mod Refusals
