@@ -6,8 +6,8 @@ use Rattle.std.specs.Prelude.{Result, Ok, Err, OnOk, IsErrAnd}
 use Rattle.timewarp.specs.Command.{of_model}
 use Rattle.timewarp.specs.declared.command.Fault.{Fault}
 use Rattle.timewarp.specs.declared.command.Fault.TheVariants as fault
-use Rattle.timewarp.specs.declared.model_file.ModelFault.{ModelFault}
-use Rattle.timewarp.specs.declared.model_file.ModelFault.TheVariants as file
+use Rattle.texts.specs.declared.model_file.ModelFault.{ModelFault}
+use Rattle.texts.specs.declared.model_file.ModelFault.TheVariants as file
 use Rattle.model.proofs.Worlds.{IsUpto_IsWorld, opening_IsWorld}
 use Rattle.model.specs.Meaning.{IsLawful, Meaning}
 use Rattle.model.specs.Runner.{Simulation}

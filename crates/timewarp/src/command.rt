@@ -5,14 +5,12 @@ ghost use Rattle.std.specs.Prelude.{◌≡◌, ◌≤◌, ◌≢◌, ◌⊎◌, 
 ghost use Rattle.clap.specs.Words.{fault_of};
 ghost use Rattle.timewarp.specs.Command.{of_model, run_text, BeginsSome, PrintsBeginning, PrintsRun, PrintsSome};
 ghost use Rattle.timewarp.specs.Line.{program};
-ghost use Rattle.timewarp.specs.ModelFile.{IsModelFile};
-ghost use Rattle.timewarp.specs.Writing.{Writes};
-ghost use Rattle.timewarp.specs.declared.models.AnyModel.{AnyModel};
+ghost use Rattle.texts.specs.ModelFile.{IsModelFile};
+ghost use Rattle.texts.specs.Writing.{Writes};
+ghost use Rattle.models.specs.declared.any_model.AnyModel.{AnyModel};
 ghost use Rattle.timewarp.specs.declared.command.Fault.TheVariants.{BadModel, NoMemory, Output, World as WorldCase};
 
 use crate::line::{Line, read_line};
-use crate::model_file::{ModelFault, read_model};
-use crate::text::{write_log, write_world};
 use clap::error::ErrorKind as LineFault;
 use model::{World, WorldFault};
 use std::alloc::Global;
@@ -20,6 +18,7 @@ use std::convert::AsStr;
 use std::fs;
 use std::io::{Error as IoError, ErrorKind, Write};
 use std::rt::Files;
+use texts::{ModelFault, read_model, write_log, write_world};
 use thiserror::Error;
 
 /// Why a command failed. Its text is its name, and after a blank that of the fault that it carries.

@@ -54,7 +54,7 @@ fn program<'a>(alloc: Global) -> Result<Command<'a>, AllocError>
 }
 
 const PROGRAM_HELP: &str = "\
-Virtual times are whole ticks. Models are described by TOML files, as models/ring.toml.
+Virtual times are whole ticks. Models are described by TOML files, as examples/ring.toml.
 
 Exit status:
   0  done

@@ -3,12 +3,8 @@
 
 mod command;
 mod line;
-mod model_file;
-mod models;
-mod ring;
 #[cfg(test)]
 mod tests;
-mod text;
 
 use command::{Fault, command, refuse_words, tell};
 use std::env;

@@ -1,0 +1,3 @@
+// The models, one handling at a time and run whole.
+
+mod rings;
