@@ -1,3 +1,4 @@
 pub mod Blank
 pub mod Sectors
 pub mod Crashes
+mod Spans
