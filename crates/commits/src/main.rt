@@ -41,7 +41,7 @@ struct Asked {
 }
 
 /// Reads the words behind the program's name.
-fn asked(rt: &HostRuntime) -> Result<Asked, Failure> {
+fn read_words(rt: &HostRuntime) -> Result<Asked, Failure> {
     let mut words = env::args(rt).map_err(|_| Failure::Usage)?;
     let _program = words.next();
     let (Some(path), Some(sectors), Some(bytes), Some(count)) =
@@ -84,7 +84,7 @@ fn append(rt: &HostRuntime, log: &mut Log<FileDisk>, bytes: u32) -> Result<(), F
 }
 
 fn main(rt: HostRuntime) -> Result<(), Failure> {
-    let asked = asked(&rt)?;
+    let asked = read_words(&rt)?;
     let mut log = open(&rt, &asked)?;
     for _ in 0..asked.count {
         append(&rt, &mut log, asked.bytes)?;

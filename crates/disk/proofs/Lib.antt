@@ -2,3 +2,4 @@ pub mod Blank
 pub mod Sectors
 pub mod Crashes
 mod Spans
+mod Examples
