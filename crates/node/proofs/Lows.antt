@@ -16,7 +16,7 @@ least_time-min : (a b : ℕ) (xs : List Message) → least_time (min a b) xs ≡
 least_time-min a b [] = refl
 least_time-min a b (x ∷ xs) = ap (λ t. least_time t xs) {x = min (min a b) x.time} {y = min a (min b x.time)} (omega arith) ∙ least_time-min a (min b x.time) xs
 
-least_time-append : (t : ℕ) (xs ys : List Message) → least_time t (xs ++ ys) ≡ least_time (least_time t xs) ys
+pub least_time-append : (t : ℕ) (xs ys : List Message) → least_time t (xs ++ ys) ≡ least_time (least_time t xs) ys
 least_time-append t [] ys = refl
 least_time-append t (x ∷ xs) ys = least_time-append (min t x.time) xs ys
 
