@@ -14,7 +14,8 @@ use Rattle.process.specs.View.{ProcessView}
 use Rattle.queues.specs.Queue.{first_before}
 use Rattle.node.specs.Node.{Work, first, here, least_of, lesser, run_here, run_one_here, turn_here}
 use Rattle.node.specs.Roster.{IsStaffed, Place, processes_of}
-use Rattle.node.specs.Seats.{nexts_of}
+use Rattle.node.specs.Seats.{standings_of}
+use Rattle.node.specs.declared.standing.Standing.{Standing}
 use Rattle.node.specs.Tournament.{least_among}
 
 -- 1. The least message before the end
@@ -53,16 +54,16 @@ before_first : (end : ℕ) (xs : List Message) → first_before end xs ≡ befor
 before_first end [] = refl
 before_first end (x ∷ xs) = refl
 
-least_nexts : (end : ℕ) (seats : List ProcessView) → least_among (nexts_of end seats) ≡ before end (least_of (processes_of seats))
+least_nexts : (end : ℕ) (seats : List ProcessView) → (least_among (standings_of end seats)).next ≡ before end (least_of (processes_of seats))
 least_nexts end [] = refl
 least_nexts end (q ∷ seats) =
-    ap (λ (o : Option Message). lesser o (least_among (nexts_of end seats))) (before_first end q.process.waiting)
+    ap (λ (o : Option Message). lesser o (least_among (standings_of end seats)).next) (before_first end q.process.waiting)
     ∙ ap (lesser (before end (first q.process.waiting))) (least_nexts end seats)
     ∙ sym (before_lesser end (first q.process.waiting) (least_of (processes_of seats)))
 
 -- what the tournament tells is what the node handles next
-pub least_is : (p : Place) (seats : List ProcessView) (nexts : List (Option Message)) → IsStaffed p seats nexts → before p.end (least_of (processes_of seats)) ≡ least_among nexts
-least_is p seats nexts h = sym (ap least_among h.known ∙ least_nexts p.end seats)
+pub least_is : (p : Place) (seats : List ProcessView) (standings : List Standing) → IsStaffed p seats standings → before p.end (least_of (processes_of seats)) ≡ (least_among standings).next
+least_is p seats standings h = sym (ap (λ (xs : List Standing). (least_among xs).next) h.known ∙ least_nexts p.end seats)
 
 -- 2. Turns
 
@@ -118,20 +119,20 @@ module _ (m : Meaning) (end nodes : ℕ) where
 
 -- 3. The loop of turns, at a place that stays what it was
 
-module _ (m : Meaning) (p p' : Place) (seats : List ProcessView) (nexts : List (Option Message)) (same : p ≡ p') (staffed : IsStaffed p seats nexts) (budget ran : ℕ) (out : List Signed) (total : Option Work) where
-  pub run_goes_on : (x : Message) (w : Work) → ran < budget → least_among nexts ≡ Some x → has_room m x (here p.nodes (working (processes_of seats) out ran) x.to) ≡ true → w ≡ run_one_here m p.nodes x (working (processes_of seats) out ran) →
+module _ (m : Meaning) (p p' : Place) (seats : List ProcessView) (standings : List Standing) (same : p ≡ p') (staffed : IsStaffed p seats standings) (budget ran : ℕ) (out : List Signed) (total : Option Work) where
+  pub run_goes_on : (x : Message) (w : Work) → ran < budget → (least_among standings).next ≡ Some x → has_room m x (here p.nodes (working (processes_of seats) out ran) x.to) ≡ true → w ≡ run_one_here m p.nodes x (working (processes_of seats) out ran) →
       run_here m p'.end p'.nodes (budget - ran) (working (processes_of seats) out ran) ≡ total → run_here m p'.end p'.nodes (budget - (ran + 1)) w ≡ total
   run_goes_on x w l e room one =
       subst (λ (k : Place). run_here m k.end k.nodes (budget - ran) (working (processes_of seats) out ran) ≡ total → run_here m k.end k.nodes (budget - (ran + 1)) w ≡ total) same
-      (turns_go_on m p.end p.nodes budget ran (working (processes_of seats) out ran) w x total l (least_is p seats nexts staffed ∙ e) room one)
+      (turns_go_on m p.end p.nodes budget ran (working (processes_of seats) out ran) w x total l (least_is p seats standings staffed ∙ e) room one)
 
-  pub run_fails : (x : Message) → ran < budget → least_among nexts ≡ Some x → has_room m x (here p.nodes (working (processes_of seats) out ran) x.to) ≡ false →
+  pub run_fails : (x : Message) → ran < budget → (least_among standings).next ≡ Some x → has_room m x (here p.nodes (working (processes_of seats) out ran) x.to) ≡ false →
       run_here m p'.end p'.nodes (budget - ran) (working (processes_of seats) out ran) ≡ total → total ≡ None
   run_fails x l e room =
       subst (λ (k : Place). run_here m k.end k.nodes (budget - ran) (working (processes_of seats) out ran) ≡ total → total ≡ None) same
-      (turns_fail m p.end p.nodes budget ran (working (processes_of seats) out ran) x total l (least_is p seats nexts staffed ∙ e) room)
+      (turns_fail m p.end p.nodes budget ran (working (processes_of seats) out ran) x total l (least_is p seats standings staffed ∙ e) room)
 
-  pub run_stops : least_among nexts ≡ None → run_here m p'.end p'.nodes (budget - ran) (working (processes_of seats) out ran) ≡ total → total ≡ Some (working (processes_of seats) out ran)
+  pub run_stops : (least_among standings).next ≡ None → run_here m p'.end p'.nodes (budget - ran) (working (processes_of seats) out ran) ≡ total → total ≡ Some (working (processes_of seats) out ran)
   run_stops e =
       subst (λ (k : Place). run_here m k.end k.nodes (budget - ran) (working (processes_of seats) out ran) ≡ total → total ≡ Some (working (processes_of seats) out ran)) same
-      (turns_stop m p.end p.nodes budget ran (working (processes_of seats) out ran) total (least_is p seats nexts staffed ∙ e))
+      (turns_stop m p.end p.nodes budget ran (working (processes_of seats) out ran) total (least_is p seats standings staffed ∙ e))

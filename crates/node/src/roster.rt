@@ -1,15 +1,16 @@
-// The processes of a node, and which of them has the least message to handle.
+// The processes of a node, and what is known of them without a visit.
 
-ghost use Rattle.std.specs.Prelude.{◌≡◌, ◌≤◌, ◌<◌, ◌+◌, ◌⊎◌, ℕ, Option, Some, None, [], ◌^◌, OnOk, OnErr, IfOk, IfErr, IfSome, MatchOption, flat_map, map, true, false};
+ghost use Rattle.std.specs.Prelude.{◌≡◌, ◌≤◌, ◌<◌, ◌+◌, ◌++◌, ◌⊎◌, ℕ, Option, Some, None, [], OnOk, OnErr, IfOk, IfErr, MatchOption, get_or, length, set, true, false};
 ghost use Rattle.std.specs.List.{AllByRecursion as Every};
-ghost use Rattle.process.specs.Process.{has_room};
+ghost use Rattle.process.specs.Process.{fossils_of, has_room, nobody, release};
 ghost use Rattle.process.specs.View.{IsDoneInRange};
 ghost use Rattle.node.specs.Handling.{IsReplyInRange, after, first_fault, is_own};
-ghost use Rattle.node.specs.Node.{deliver_here, deliver_one_here, here, low_of, reply_of, run_here, run_one_here};
-ghost use Rattle.node.specs.Roster.{Fails, IsReady, IsWorked, earliest, node_of, place_of, processes_of, work_of};
+ghost use Rattle.node.specs.Node.{deliver_here, deliver_one_here, here, reply_of, run_here, run_one_here};
+ghost use Rattle.node.specs.Roster.{Fails, IsReady, IsStaffed, IsWorked, at_floor, node_of, place_of, processes_of, work_of};
 ghost use Rattle.node.specs.Tournament.{least_among};
 ghost use Rattle.node.specs.declared.NodeFault.TheVariants.{NoMemory, NumberLimit};
 
+use crate::standing::Standing;
 use crate::tournament::Tournament;
 use crate::{NodeFault, Parcel, Reply};
 use eventkey::{Listed, Message, Signed};
@@ -17,7 +18,7 @@ use model::Model as Simulated;
 use process::{Done, Process};
 use std::alloc::Global;
 
-/// The processes of one node, process lp at place lp / nodes, and the tournament of their next messages before the end.
+/// The processes of one node, process lp at place lp / nodes, and the tournament of what stands of them.
 #[derive(Drop)]
 pub struct Roster {
     pub alloc: Global,
@@ -27,7 +28,7 @@ pub struct Roster {
     pub end: u64,
     pub floor: u64,
     pub processes: Vec<Process>,
-    pub nexts: Tournament,
+    pub standings: Tournament,
 }
 
 impl Roster {
@@ -68,8 +69,8 @@ impl Roster {
         let place = (delivery.message.to() / self.nodes) as usize;
         let process = &mut self.processes[place];
         process.deliver(*delivery, out)?;
-        let next = process.next(self.end);
-        self.nexts.set(place, next);
+        let standing = Standing::of(process, self.end);
+        self.standings.set(place, standing);
         Ok(())
     }
 
@@ -101,7 +102,7 @@ impl Roster {
     ) -> Result<(), NodeFault>
         requires ready { IsReady self.old }
         requires lps { (M.meaning model.now).lps ≡ self.old.lps }
-        requires least { least_among self.old.nexts ≡ Some message.now }
+        requires least { (least_among self.old.standings).next ≡ Some message.now }
         ensures ready { OnOk result (IsReady self.new) }
         ensures place { place_of self.new ≡ place_of self.old }
         ensures work { (ran : ℕ) → OnOk result (work_of self.new out.new.items (ran + 1) ≡ run_one_here (M.meaning model.now) self.old.nodes message.now (work_of self.old out.old.items ran)) }
@@ -111,8 +112,8 @@ impl Roster {
         let place = (message.to() / self.nodes) as usize;
         let process = &mut self.processes[place];
         process.run_one(model, self.end, out)?;
-        let next = process.next(self.end);
-        self.nexts.set(place, next);
+        let standing = Standing::of(process, self.end);
+        self.standings.set(place, standing);
         Ok(())
     }
 
@@ -131,7 +132,7 @@ impl Roster {
         ensures causes { IfErr result (λ fault. (fault ≡ NoMemory) ⊎ ((fault ≡ NumberLimit) × (run_here (M.meaning model.now) self.old.end self.old.nodes budget (work_of self.old out.old.items 0) ≡ None))) }
     {
         for ran in 0..budget {
-            let Some(message) = self.nexts.least() else {
+            let Some(message) = self.standings.least().next else {
                 return Ok(ran);
             };
             self.run_one(model, &message, out)?;
@@ -139,8 +140,33 @@ impl Roster {
         Ok(budget)
     }
 
-    /// Takes what is below the floor, in ticks, out of all processes.
-    pub fn collect(&mut self, floor: u64) -> Result<Vec<Done>, NodeFault>
+    /// Takes what is below the floor, in ticks, out of the process at this place, to the end of `fossils`.
+    fn collect_at(
+        &mut self,
+        place: usize,
+        floor: u64,
+        fossils: &mut Vec<Done>,
+    ) -> Result<(), NodeFault>
+        requires staffed { IsStaffed (at_floor floor (place_of self.old)) self.old.processes.items self.old.standings }
+        requires there { place < length self.old.processes.items }
+        ensures staffed { OnOk result (IsStaffed (at_floor floor (place_of self.old)) self.new.processes.items self.new.standings) }
+        ensures place { place_of self.new ≡ place_of self.old }
+        ensures processes { OnOk result (processes_of self.new.processes.items ≡ set (processes_of self.old.processes.items) place (release floor (get_or (processes_of self.old.processes.items) place nobody))) }
+        ensures fossils { OnOk result (fossils.new.items ≡ fossils.old.items ++ fossils_of floor (get_or (processes_of self.old.processes.items) place nobody)) }
+        ensures range { Every IsDoneInRange fossils.old.items → OnOk result (Every IsDoneInRange fossils.new.items) }
+        ensures memory { IfErr result (λ fault. fault ≡ NoMemory) }
+    {
+        let process = &mut self.processes[place];
+        let mut gone = process.collect(floor)?;
+        let standing = Standing::of(process, self.end);
+        self.standings.set(place, standing);
+        fossils.append(&mut gone)?;
+        Ok(())
+    }
+
+    /// Takes what is below the floor, in ticks, out of all processes. It visits those that have something there, and costs
+    /// that and the logarithm of the processes for each.
+    fn collect(&mut self, floor: u64) -> Result<Vec<Done>, NodeFault>
         requires ready { IsReady self.old }
         requires floor { self.old.floor ≤ floor }
         ensures ready { OnOk result (IsReady self.new) }
@@ -151,24 +177,13 @@ impl Roster {
         ensures memory { IfErr result (λ fault. fault ≡ NoMemory) }
     {
         let mut fossils = Vec::new(self.alloc);
-        for process in self.processes.iter_mut() {
-            let mut gone = process.collect(floor)?;
-            fossils.append(&mut gone)?;
+        let mut place = 0;
+        while let Some(due) = self.standings.first_due(place, floor) {
+            self.collect_at(due, floor, &mut fossils)?;
+            place = due + 1;
         }
         self.floor = floor;
         Ok(fossils)
-    }
-
-    /// The least time, in ticks, of what waits at the node, antimessages too.
-    pub fn low(&self) -> Option<u64>
-        ensures low { result ≡ low_of (processes_of self.now.processes.items) }
-        ensures range { IfSome result (λ time. time < 2 ^ 41) }
-    {
-        let mut low = None;
-        for process in &self.processes {
-            low = earliest(low, process.low());
-        }
-        low
     }
 
     /// Handles a parcel: all deliveries in their order, then up to its budget of messages, then it collects what is below
@@ -195,20 +210,9 @@ impl Roster {
         let fossils = self.collect(floor)?;
         Ok(Reply {
             out: Listed::from_vec(out),
-            low: self.low(),
+            low: self.standings.least().low,
             fossils: Listed::from_vec(fossils),
             ran,
         })
-    }
-}
-
-/// The lesser of two times, where each may be missing.
-fn earliest(one: Option<u64>, other: Option<u64>) -> Option<u64>
-    ensures { result ≡ earliest one other }
-{
-    match (one, other) {
-        (Some(x), Some(y)) => Some(x.min(y)),
-        (Some(x), None) => Some(x),
-        (None, rest) => rest,
     }
 }
