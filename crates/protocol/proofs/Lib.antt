@@ -11,5 +11,6 @@ pub mod Runs
 pub mod Refusals
 pub mod Ledgers
 pub mod Answers
+pub mod Replies
 mod Examples
 mod CommitExamples

@@ -184,10 +184,10 @@ module _ (m : Meaning) (end node : ℕ) (p : Picture) (system : IsSystem m end p
       (Every-parcels (λ (s : Signed). IsRanged s.message) p.parcels node parcel posted parcels_ranged)
 
   module _ (w : Work) (done : work_here m end (nodes_of p) parcel (node_of p node) ≡ Some w) where
-    worked : IsWorkKept m (nodes_of p) node (get_or p.floors node 0) (gvt end p) (past_of p) parcel.deliver (node_of p node) w
+    pub worked : IsWorkKept m (nodes_of p) node (get_or p.floors node 0) (gvt end p) (past_of p) parcel.deliver (node_of p node) w
     worked = work_is_kept m end (nodes_of p) node (get_or p.floors node 0) (gvt end p) (past_of p) parcel (node_of p node) w system.lawful system.short here floor_under (past_known m end p system) under_way fits.on_node (node_kept m end p system node here) done
 
-    let_go : IsKept m (nodes_of p) node parcel.floor (gvt end p) (told_too (nodes_of p) parcel.floor w.processes (past_of p)) (released parcel.floor w)
+    pub let_go : IsKept m (nodes_of p) node parcel.floor (gvt end p) (told_too (nodes_of p) parcel.floor w.processes (past_of p)) (released parcel.floor w)
     let_go = releasing_is_kept m (nodes_of p) node (get_or p.floors node 0) parcel.floor (gvt end p) (past_of p) w.processes here front_under fits.from fits.upto worked.kept
 
     fossils : List Done
@@ -205,7 +205,7 @@ module _ (m : Meaning) (end node : ℕ) (p : Picture) (system : IsSystem m end p
     own_fossils lp l on = Every-right (λ (d : Done). d.message.to ≡ lp) (told_by lp p.gathered) (fossils_of parcel.floor (own (nodes_of p) w.processes lp)) (let_go.told lp l on).own_told
 
     -- the processes of the node, by their places
-    own_fossils_at : (i : ℕ) → i < length w.processes → (lp : ℕ) × (lp < m.lps) × (lp % nodes_of p ≡ node) × (lp / nodes_of p ≡ i) × Every (λ (d : Done). d.message.to ≡ lp) (fossils_of parcel.floor (get_or w.processes i nobody))
+    pub own_fossils_at : (i : ℕ) → i < length w.processes → (lp : ℕ) × (lp < m.lps) × (lp % nodes_of p ≡ node) × (lp / nodes_of p ≡ i) × Every (λ (d : Done). d.message.to ≡ lp) (fossils_of parcel.floor (get_or w.processes i nobody))
     own_fossils_at i l =
         let at = own_at (nodes_of p) node here m.lps i (let e = worked.kept.size in omega arith) in
         let lp : ℕ = get_or (own_lps (nodes_of p) node m.lps) i 0 in

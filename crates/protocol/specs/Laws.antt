@@ -1,20 +1,18 @@
 -- The laws of a running system, over every list of moves. Each holds for every meaning that keeps its laws.
 use Rattle.std.specs.List.{AllByRecursion as Every}
-use Rattle.std.specs.Prelude.{◌≡◌, ℕ, ◌^◌, ◌<◌, ◌≤◌, ◌++◌, List, not, get_or, map, Err, Ok, Some, None, is_some}
+use Rattle.std.specs.Prelude.{◌≡◌, ℕ, ◌^◌, ◌<◌, ◌≤◌, ◌++◌, List, not, get_or, map, Err, Ok, Some, None, is_some, true}
 use Rattle.eventkey.specs.Bag.{IsAscending}
-use Rattle.eventkey.specs.declared.Signed.{Signed}
 use Rattle.gvt.specs.Ledger.{after_post, after_take, ledger_floor, least_floor, started}
 use Rattle.model.specs.Meaning.{IsLawful, Meaning}
 use Rattle.model.specs.World.{IsUpto, World, below, number_of, state_of}
 use Rattle.node.specs.Handling.{IsInRange as IsPartInRange, answer, ended, load_answer, refusal as refused_by}
-use Rattle.node.specs.Node.{Work, low_of, reply_of}
+use Rattle.node.specs.Node.{Work, low_of, reply_of, work_here}
 use Rattle.node.specs.declared.NodeFault.TheVariants.{NumberLimit}
 use Rattle.node.specs.declared.Parcel.{Parcel}
-use Rattle.process.specs.Process.{number_after, queue_of, state_after}
-use Rattle.queues.specs.Queue.{back, last_of}
-use Rattle.queues.specs.declared.Record.{Record}
+use Rattle.process.specs.Process.{number_after, state_after}
 use Rattle.protocol.specs.Moves.{Move, Take, after_moves, answered, commit, committed, merged, move, posted, refusal, told_before, told_front}
-use Rattle.protocol.specs.Picture.{IsBalanced, IsInRange, IsSeatedBy, IsToldTruly, Picture, floor_of, gvt, lows_of, nodes_of, opened, process_at, told_by}
+use Rattle.protocol.specs.Picture.{IsBalanced, IsInRange, IsSeatedBy, IsToldTruly, Picture, gvt, lows_of, node_of, nodes_of, opened, told_by}
+use Rattle.protocol.specs.Replies.{names_there}
 use Rattle.protocol.specs.Sound.{GoesOn, IsOpening, IsSystem}
 use Rattle.protocol.specs.Views.{ledger_of, load_of, node_view}
 
@@ -91,10 +89,12 @@ CommitsTellTheNextEvents = (m : Meaning) (end : ℕ) (p : Picture) → IsSystem 
 abbrev pub ParcelsAreAccepted : Type 0
 ParcelsAreAccepted = (m : Meaning) (end node : ℕ) (p : Picture) (parcel : Parcel) → IsSystem m end p → get_or p.parcels node None ≡ Some parcel → refused_by (node_view m end p node) parcel ≡ None
 
--- Whatever arrives at a process of a sound picture, no rollback takes back a record below the floor of its node.
-abbrev pub RollbacksStayAbove : Type 0
-RollbacksStayAbove = (m : Meaning) (end lp : ℕ) (p : Picture) (s : Signed) → IsSystem m end p → lp < m.lps →
-    Every (λ (h : Record). floor_of p lp ≤ h.message.time) (last_of (back s (queue_of (process_at p lp))) (process_at p lp).done)
+-- What the node replies to it names only processes that are there, and tells only what its own have handled.
+abbrev pub RepliesNameWhatIsThere : Type 0
+RepliesNameWhatIsThere = (m : Meaning) (end node : ℕ) (p : Picture) (parcel : Parcel) (w : Work) →
+    IsSystem m end p → get_or p.parcels node None ≡ Some parcel →
+    work_here m end (nodes_of p) parcel (node_of p node) ≡ Some w →
+    names_there m.lps (nodes_of p) node (reply_of parcel.floor w) ≡ true
 
 -- What a node is loaded with at the opening is in range, and what it answers is that node of the opened picture.
 pub record IsLoadedWith (m : Meaning) (end nodes node : ℕ) (w : World) : Type 0 where

@@ -4,7 +4,7 @@
 //! that the contracts of the crates `queues`, `process`, `node` and `gvt` cite, so a law here is a law of the code.
 #![tactic(auto)]
 
-ghost use Rattle.protocol.specs.Laws.{OpeningIsSound, MovesAreSound, RunsAreSound, MovesAreMadeOrRefused, CommitIsSequential, CommitsTellTheNextEvents, CommitIsByWhatWasTold, ParcelsAreAccepted, RollbacksStayAbove, OpenedNodes, TakesAreAnswers, MovesLeaveNodes, LedgersTellGvt, LedgersFollowPictures};
+ghost use Rattle.protocol.specs.Laws.{OpeningIsSound, MovesAreSound, RunsAreSound, MovesAreMadeOrRefused, CommitIsSequential, CommitsTellTheNextEvents, CommitIsByWhatWasTold, ParcelsAreAccepted, RepliesNameWhatIsThere, OpenedNodes, TakesAreAnswers, MovesLeaveNodes, LedgersTellGvt, LedgersFollowPictures};
 
 /// A system that opens with a front that is the sequential simulation up to its time has a sound picture.
 pub fn law_of_openings()
@@ -31,10 +31,10 @@ pub fn law_of_commits()
     ensures by_told { CommitIsByWhatWasTold }
 {}
 
-/// A node accepts what it is posted, and no rollback reaches below its floor.
+/// A node accepts what it is posted, and its reply names only processes that are there, as handled by it only its own.
 pub fn law_of_parcels()
     ensures accepted { ParcelsAreAccepted }
-    ensures above { RollbacksStayAbove }
+    ensures there { RepliesNameWhatIsThere }
 {}
 
 /// What each node is loaded with at the opening is accepted, and makes it that node of the opened picture. What it answers
