@@ -5,3 +5,4 @@ mod PortStates
 mod Posting
 mod Taking
 mod Refusals
+mod Loading
