@@ -6,3 +6,4 @@ mod Posting
 mod Taking
 mod Refusals
 mod Loading
+mod Begun
