@@ -1,9 +1,9 @@
-mod Awaited
 mod Batches
 mod Committing
 mod PortStates
 mod Posting
 mod Taking
+mod Driving
 mod Refusals
 mod Loading
 mod Begun

@@ -4,5 +4,3 @@ pub mod Steps
 pub mod Crashes
 pub mod Drives
 pub mod Opening
--- Inside.
-pub mod Replies

@@ -8,6 +8,7 @@ mod session;
 
 use eventkey::Listed;
 use recovery::RecoveryFault;
+pub use protocol::Answer;
 pub use session::{FrontView, Session};
 use thiserror::Error;
 use wire::PortFault;
@@ -25,23 +26,6 @@ pub enum Step {
     Take { node: u32 },
     /// What no rollback reaches any more is committed.
     Commit,
-}
-
-/// What a step answers.
-#[derive(Clone, Copy, Debug, PartialEq, Eq)]
-pub enum Answer {
-    /// A parcel of this floor, in ticks, was posted.
-    Posted { floor: u64 },
-    /// The node handled so many messages, sent so many, and told of so many handlings.
-    Taken {
-        ran: u32,
-        out: usize,
-        fossils: usize,
-    },
-    /// So many events are committed, and with them all before the virtual time `g`, in ticks.
-    Committed { g: u64, events: usize },
-    /// There is nothing to commit: the front is at this virtual time, in ticks, already.
-    AlreadyAt { g: u64 },
 }
 
 /// Why a session refuses a call.

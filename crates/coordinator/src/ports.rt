@@ -5,7 +5,7 @@ ghost use Rattle.std.specs.List.{list_all};
 ghost use Rattle.node.specs.declared.Parcel.{Parcel};
 ghost use Rattle.wire.specs.Port.{IsForWant, IsSamePort, IsTakeFault, IsTaken};
 ghost use Rattle.wire.specs.Port.Stage.{Idle, Posted};
-ghost use Rattle.coordinator.specs.Replies.{is_told_there, names_there};
+ghost use Rattle.protocol.specs.Replies.{is_told_there, names_there};
 ghost use Rattle.eventkey.specs.Message.{Message};
 ghost use Rattle.eventkey.specs.declared.Signed.{Signed};
 ghost use Rattle.coordinator.specs.Session.{port_at};

@@ -12,5 +12,7 @@ pub mod Refusals
 pub mod Ledgers
 pub mod Answers
 pub mod Replies
+pub mod Numbers
 mod Examples
 mod CommitExamples
+mod ThreeNodes
