@@ -7,3 +7,4 @@ mod Driving
 mod Refusals
 mod Loading
 mod Begun
+mod Histories
