@@ -14,7 +14,7 @@ ghost use Rattle.protocol.specs.Laws.{MovesLeaveNodes, MovesMadeAreSound, MovesM
 ghost use Rattle.protocol.specs.Laws.{MovesMadePart, OpenedNodes, OpeningIsSound};
 ghost use Rattle.protocol.specs.Laws.{ParcelsAreAccepted, RepliesNameWhatIsThere};
 ghost use Rattle.protocol.specs.Laws.{RunsAreOneSimulation, RunsAreSound, TakesAreAnswers};
-ghost use Rattle.protocol.specs.Readers.{OptimisticIsSequential};
+ghost use Rattle.protocol.specs.Readers.{OptimisticIsSequential, SchedulesAgree};
 
 /// What a move answers.
 #[derive(Clone, Copy, Debug, PartialEq, Eq)]
@@ -48,9 +48,10 @@ pub enum Answer {
 /// Optimistic equals sequential, over every schedule: for every lawful model, every number of nodes
 /// and every list of moves of a system that opens with the sequential simulation up to some time,
 /// the front is the sequential simulation up to its own time, its log only grows, and global
-/// virtual time never falls.
+/// virtual time never falls. Whatever the numbers of nodes and the moves, there is one history.
 pub fn optimistic_equals_sequential()
-    ensures { OptimisticIsSequential }
+    ensures sequential { OptimisticIsSequential }
+    ensures agree { SchedulesAgree }
 {}
 
 /// A system that opens with a front that is the sequential simulation up to its time has a sound
