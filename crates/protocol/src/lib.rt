@@ -13,7 +13,8 @@ ghost use Rattle.protocol.specs.Laws.{MovesAnswer, MovesAreMadeOrRefused, MovesA
 ghost use Rattle.protocol.specs.Laws.{MovesLeaveNodes, MovesMadeAreSound, MovesMadeJoin};
 ghost use Rattle.protocol.specs.Laws.{MovesMadePart, OpenedNodes, OpeningIsSound};
 ghost use Rattle.protocol.specs.Laws.{ParcelsAreAccepted, RepliesNameWhatIsThere};
-ghost use Rattle.protocol.specs.Laws.{RunsAreOneSimulation, RunsAreSound, TakesAreAnswers};
+ghost use Rattle.protocol.specs.Laws.{RunsAreOneSimulation, RunsAreSound};
+ghost use Rattle.protocol.specs.Laws.{SystemsMayCommit, TakesAreAnswers};
 ghost use Rattle.protocol.specs.Readers.{OptimisticIsSequential, SchedulesAgree};
 
 /// What a move answers.
@@ -82,10 +83,11 @@ pub fn law_of_runs()
 {}
 
 /// A commit at a time that is not above global virtual time, nor above any node's floor, makes the
-/// front of a picture that is told truly and balanced the sequential simulation up to that time. It
-/// is told truly and balanced again. The log grows by exactly what was told below that time, in
-/// message order, and the front is known by what was told.
+/// front of a picture that is told truly and balanced the sequential simulation up to that time, and
+/// leaves it told truly and balanced; every picture of a system may commit so. The log grows by
+/// exactly what was told below that time, in message order, and the front is known by what was told.
 pub fn law_of_commits()
+    ensures may { SystemsMayCommit }
     ensures sequential { CommitIsSequential }
     ensures told { CommitsTellTheNextEvents }
     ensures by_told { CommitIsByWhatWasTold }
