@@ -137,7 +137,7 @@ pub record MayCommit (m : Meaning) (end c : ℕ) (p : Picture) : Type 0 where
   pub safe : c ≤ gvt end p
   pub answered : c ≤ least_floor end p.floors
 
--- such is every picture of a system, at any time from its front's on that all its nodes have answered
+-- such is every picture of a system, at any time from its front's on that all nodes have answered
 abbrev pub SystemsMayCommit : Type 0
 SystemsMayCommit = (m : Meaning) (end c : ℕ) (p : Picture) → IsSystem m end p →
     p.front.time ≤ c → c ≤ least_floor end p.floors → MayCommit m end c p

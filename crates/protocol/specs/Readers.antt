@@ -19,8 +19,8 @@ OptimisticIsSequential = (m : Meaning) (end nodes : ℕ) (w : World) (ks ls : Li
     IsSequential m end (after_moves m end ks (opened m.lps nodes w))
     (after_moves m end (ks ++ ls) (opened m.lps nodes w))
 
--- There is one committed history, whatever the numbers of nodes and the moves: the log of an earlier
--- front begins that of a later one, and at the same time they are the same world.
+-- There is one committed history, whatever the numbers of nodes and the moves: the log of an
+-- earlier front begins that of a later one, and at the same time they are the same world.
 pub record IsOneHistory (v w : World) : Type 0 where
   pub begins : v.time ≤ w.time → (more : List Message) × (w.log ≡ v.log ++ more)
   pub same : v.time ≡ w.time → v ≡ w

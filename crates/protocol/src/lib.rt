@@ -83,9 +83,10 @@ pub fn law_of_runs()
 {}
 
 /// A commit at a time that is not above global virtual time, nor above any node's floor, makes the
-/// front of a picture that is told truly and balanced the sequential simulation up to that time, and
-/// leaves it told truly and balanced; every picture of a system may commit so. The log grows by
-/// exactly what was told below that time, in message order, and the front is known by what was told.
+/// front of a picture that is told truly and balanced the sequential simulation up to that time,
+/// and leaves it told truly and balanced. Every picture of a system may commit so. The log grows
+/// by exactly what was told below that time, in message order, and the front is known by what was
+/// told.
 pub fn law_of_commits()
     ensures may { SystemsMayCommit }
     ensures sequential { CommitIsSequential }
