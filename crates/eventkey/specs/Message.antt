@@ -1,4 +1,5 @@
--- Messages and their order (a message stamped with a receive time: Jefferson 1985; the order is this project's profile).
+-- Messages and their order (a message stamped with a receive time: Jefferson 1985; the order is
+-- this project's profile).
 use Rattle.std.specs.Ordering.{nat_cmp, ordering_then, is_lt, is_eq}
 use Rattle.std.specs.Prelude.{ℕ, ◌^◌, ◌<◌, Bool, ◌≡◌, false}
 use Rattle.std.specs.declared.cmp.Ordering.{Ordering}
