@@ -6,7 +6,7 @@ use Rattle.std.specs.List.{AllByRecursion as Every}
 use Rattle.std.specs.Prelude.{nat_lt, get_or, option_and_then, unwrap_or, ◌<◌, ◌^◌}
 use Rattle.eventkey.proofs.Lists.{Every-all, Every-get_or, Every-left, Every-right}
 use Rattle.eventkey.specs.Message.{Message}
-use Rattle.model.proofs.Worlds.{upto_goes_on}
+use Rattle.model.proofs.Worlds.{upto_goes_on, upto_is_one}
 use Rattle.model.specs.Meaning.{IsLawful, Meaning}
 use Rattle.model.specs.World.{IsUpto, World, opening}
 use Rattle.gvt.specs.Ledger.{least_floor}
@@ -19,7 +19,7 @@ use Rattle.protocol.specs.Picture.{Picture, gvt, opened}
 use Rattle.protocol.specs.Moves.{Checkpoint, Commit, Move, Post, Run, Take, after_moves, after_runs, can_post, commit, committed, move, moves_made, posted}
 use Rattle.protocol.specs.Sound.{GoesOnFrom, IsOpening, IsSoundPicture, IsSystem}
 use Rattle.protocol.specs.Laws.{AreMade, AreMadeInParts, FirstOpens, FrontsOpen, MovesAreSound, MovesMadeAreSound, MovesMadeJoin, MovesMadePart, RunsAreOneSimulation, RunsAreSound}
-use Rattle.protocol.specs.Readers.{OptimisticIsSequential}
+use Rattle.protocol.specs.Readers.{OptimisticIsSequential, SchedulesAgree}
 
 -- floors that are each at least what they were
 record HaveRisen (old new : List ℕ) : Type 0 where
@@ -242,3 +242,14 @@ pub optimistic_is_sequential : OptimisticIsSequential
 optimistic_is_sequential m end nodes w ks ls law short some soon front =
     let all = runs_are_sound m end nodes w ks ls (record { lawful = law; short = short; some = some; soon = soon; front = front }) in
     record { front = all.0.sound.front; log_grows = all.1.log_grows; gvt_rises = all.1.gvt_rises }
+
+pub schedules_agree : SchedulesAgree
+schedules_agree m end nodes nodes' u ks ls law short some some' soon front =
+    let v : World = (after_moves m end ks (opened m.lps nodes u)).front in
+    let w : World = (after_moves m end ls (opened m.lps nodes' u)).front in
+    let a : IsUpto m end v.time v = (optimistic_is_sequential m end nodes u [] ks law short some soon front).front in
+    let b : IsUpto m end w.time w = (optimistic_is_sequential m end nodes' u [] ls law short some' soon front).front in
+    record {
+      begins = λ up. upto_goes_on m end v.time w.time v w up a b;
+      same = λ e. upto_is_one m end w.time v w (subst (λ (g : ℕ). IsUpto m end g v) e a) b;
+    }

@@ -125,6 +125,8 @@ RunsAreOneSimulation = (m : Meaning) (end : ℕ) (rs ss : List Run) → IsLawful
 
 -- A picture of which a commit may take what was told before c
 pub record MayCommit (m : Meaning) (end c : ℕ) (p : Picture) : Type 0 where
+  pub lawful : IsLawful m
+  pub short : end ≤ 2 ^ 40
   pub seated : IsSeatedBy m.lps p
   pub in_range : IsPictureInRange p
   pub told : IsToldTruly m p
@@ -134,6 +136,11 @@ pub record MayCommit (m : Meaning) (end c : ℕ) (p : Picture) : Type 0 where
   pub later : p.front.time ≤ c
   pub safe : c ≤ gvt end p
   pub answered : c ≤ least_floor end p.floors
+
+-- such is every picture of a system, at any time from its front's on that all nodes have answered
+abbrev pub SystemsMayCommit : Type 0
+SystemsMayCommit = (m : Meaning) (end c : ℕ) (p : Picture) → IsSystem m end p →
+    p.front.time ≤ c → c ≤ least_floor end p.floors → MayCommit m end c p
 
 -- A commit at a time that is not above global virtual time, nor above any node's floor, makes the
 -- front the sequential simulation up to that time.
@@ -147,8 +154,8 @@ pub record IsCommitted (m : Meaning) (end c : ℕ) (p : Picture) : Type 0 where
   pub same_gvt : gvt end (commit m c p) ≡ gvt end p
 
 abbrev pub CommitIsSequential : Type 0
-CommitIsSequential = (m : Meaning) (end c : ℕ) (p : Picture) → IsLawful m → end ≤ 2 ^ 40 →
-    MayCommit m end c p → IsCommitted m end c p
+CommitIsSequential = (m : Meaning) (end c : ℕ) (p : Picture) → MayCommit m end c p →
+    IsCommitted m end c p
 
 -- The front that a commit makes is known by what was told, without a call of the model: each
 -- process is as the last that it told before c left it, and what is pending is what was, with all
@@ -161,8 +168,8 @@ pub record IsByWhatWasTold (lps c : ℕ) (p : Picture) (w : World) : Type 0 wher
       number_of w lp ≡ number_after (told_before c (told_by lp p.gathered)) (number_of p.front lp)
 
 abbrev pub CommitIsByWhatWasTold : Type 0
-CommitIsByWhatWasTold = (m : Meaning) (end c : ℕ) (p : Picture) → IsLawful m → end ≤ 2 ^ 40 →
-    MayCommit m end c p → IsByWhatWasTold m.lps c p (commit m c p).front
+CommitIsByWhatWasTold = (m : Meaning) (end c : ℕ) (p : Picture) → MayCommit m end c p →
+    IsByWhatWasTold m.lps c p (commit m c p).front
 
 -- The move `Commit` of a sound picture whose nodes have all answered a floor c above the front's
 -- time: the front becomes the sequential simulation up to c, its log grows by exactly what was told

@@ -18,3 +18,15 @@ OptimisticIsSequential = (m : Meaning) (end nodes : ℕ) (w : World) (ks ls : Li
     IsLawful m → end ≤ 2 ^ 40 → 1 ≤ nodes → w.time ≤ end → IsUpto m end w.time w →
     IsSequential m end (after_moves m end ks (opened m.lps nodes w))
     (after_moves m end (ks ++ ls) (opened m.lps nodes w))
+
+-- There is one committed history, whatever the numbers of nodes and the moves: the log of an
+-- earlier front begins that of a later one, and at the same time they are the same world.
+pub record IsOneHistory (v w : World) : Type 0 where
+  pub begins : v.time ≤ w.time → (more : List Message) × (w.log ≡ v.log ++ more)
+  pub same : v.time ≡ w.time → v ≡ w
+
+abbrev pub SchedulesAgree : Type 0
+SchedulesAgree = (m : Meaning) (end nodes nodes' : ℕ) (u : World) (ks ls : List Move) →
+    IsLawful m → end ≤ 2 ^ 40 → 1 ≤ nodes → 1 ≤ nodes' → u.time ≤ end → IsUpto m end u.time u →
+    IsOneHistory (after_moves m end ks (opened m.lps nodes u)).front
+    (after_moves m end ls (opened m.lps nodes' u)).front

@@ -13,8 +13,9 @@ ghost use Rattle.protocol.specs.Laws.{MovesAnswer, MovesAreMadeOrRefused, MovesA
 ghost use Rattle.protocol.specs.Laws.{MovesLeaveNodes, MovesMadeAreSound, MovesMadeJoin};
 ghost use Rattle.protocol.specs.Laws.{MovesMadePart, OpenedNodes, OpeningIsSound};
 ghost use Rattle.protocol.specs.Laws.{ParcelsAreAccepted, RepliesNameWhatIsThere};
-ghost use Rattle.protocol.specs.Laws.{RunsAreOneSimulation, RunsAreSound, TakesAreAnswers};
-ghost use Rattle.protocol.specs.Readers.{OptimisticIsSequential};
+ghost use Rattle.protocol.specs.Laws.{RunsAreOneSimulation, RunsAreSound};
+ghost use Rattle.protocol.specs.Laws.{SystemsMayCommit, TakesAreAnswers};
+ghost use Rattle.protocol.specs.Readers.{OptimisticIsSequential, SchedulesAgree};
 
 /// What a move answers.
 #[derive(Clone, Copy, Debug, PartialEq, Eq)]
@@ -48,9 +49,10 @@ pub enum Answer {
 /// Optimistic equals sequential, over every schedule: for every lawful model, every number of nodes
 /// and every list of moves of a system that opens with the sequential simulation up to some time,
 /// the front is the sequential simulation up to its own time, its log only grows, and global
-/// virtual time never falls.
+/// virtual time never falls. Whatever the numbers of nodes and the moves, there is one history.
 pub fn optimistic_equals_sequential()
-    ensures { OptimisticIsSequential }
+    ensures sequential { OptimisticIsSequential }
+    ensures agree { SchedulesAgree }
 {}
 
 /// A system that opens with a front that is the sequential simulation up to its time has a sound
@@ -81,10 +83,12 @@ pub fn law_of_runs()
 {}
 
 /// A commit at a time that is not above global virtual time, nor above any node's floor, makes the
-/// front of a picture that is told truly and balanced the sequential simulation up to that time. It
-/// is told truly and balanced again. The log grows by exactly what was told below that time, in
-/// message order, and the front is known by what was told.
+/// front of a picture that is told truly and balanced the sequential simulation up to that time,
+/// and leaves it told truly and balanced. Every picture of a system may commit so. The log grows
+/// by exactly what was told below that time, in message order, and the front is known by what was
+/// told.
 pub fn law_of_commits()
+    ensures may { SystemsMayCommit }
     ensures sequential { CommitIsSequential }
     ensures told { CommitsTellTheNextEvents }
     ensures by_told { CommitIsByWhatWasTold }
