@@ -1,7 +1,7 @@
 -- All turns of a node, one after the other: those that are done, and those that are left.
-use Rattle.std.proofs.Common.{◌≡◌, ℕ, zero, suc, ◌+◌, ◌-◌, ◌<◌, ◌≤◌, true, false, List, [], ◌∷◌, Option, Some, None, refl, sym, subst, ◌∙◌, ap, arith, cond, inl, inr}
+use Rattle.std.proofs.Common.{◌≡◌, ℕ, zero, suc, ◌+◌, ◌-◌, ◌<◌, ◌≤◌, true, false, List, [], ◌∷◌, Option, Some, None, Result, Err, refl, sym, subst, ◌∙◌, ap, arith, cond, inl, inr}
 use Rattle.std.specs.Prelude.{nat_lt}
-use Rattle.std.proofs.lemmas.Bool.{cases_Bool, cases_lt, cond-true, cond-false, lt-ltb, le-ltb}
+use Rattle.std.proofs.lemmas.Bool.{both_ways, cases_Bool, cases_lt, cond-true, cond-false, lt-ltb, le-ltb}
 use Rattle.std.proofs.lemmas.Option.{none-some, same_Some}
 use Rattle.eventkey.proofs.Bags.{at_most_total, time_from_at_most}
 use Rattle.eventkey.specs.Message.{IsAtMost, Message}
@@ -136,3 +136,49 @@ module _ (m : Meaning) (p p' : Place) (seats : List ProcessView) (standings : Li
   run_stops e =
       subst (λ (k : Place). run_here m k.end k.nodes (budget - ran) (working (processes_of seats) out ran) ≡ total → total ≡ Some (working (processes_of seats) out ran)) same
       (turns_stop m p.end p.nodes budget ran (working (processes_of seats) out ran) total (least_is p seats standings staffed ∙ e))
+
+-- 4. A first turn that has no room
+
+none-is_some : (w : Work) → Some w ≡ None → ⊥
+none-is_some w e = cc
+
+-- after so many turns the work is what it was at first, or the first turn had room
+pub record HasBegun (m : Meaning) (end nodes ran : ℕ) (first now : Work) : Type 0 where
+  pub same : ran ≡ 0 → now ≡ first
+  pub room : 0 < ran → run_here m end nodes 1 first ≡ None → ⊥
+
+pub begun : (m : Meaning) (end nodes : ℕ) (w : Work) → HasBegun m end nodes 0 w w
+begun m end nodes w = record { same = λ e. refl; room = λ l e. absurd (omega arith) }
+
+module _ (m : Meaning) (p p' : Place) (seats : List ProcessView) (standings : List Standing) (same : p ≡ p') (staffed : IsStaffed p seats standings) (ran : ℕ) (out : List Signed) (first : Work) (h : HasBegun m p'.end p'.nodes ran first (working (processes_of seats) out ran)) where
+  at_first : (none : run_here m p'.end p'.nodes 1 first ≡ None) → (ran ≡ 0) × (run_here m p'.end p'.nodes (1 - 0) (working (processes_of seats) out 0) ≡ None)
+  at_first none = elim (cases_lt 0 ran) [
+    | inl l ↦ absurd (h.room l none)
+    | inr l ↦ (let zero_is : ran ≡ 0 = omega arith in
+        (zero_is, ap (run_here m p'.end p'.nodes 1) (ap (working (processes_of seats) out) (sym zero_is) ∙ h.same zero_is) ∙ none))
+  ]
+
+  -- it has no least message then: so it is not limited
+  pub not_idle : (least_among standings).next ≡ None → run_here m p'.end p'.nodes 1 first ≡ None → ⊥
+  not_idle e none =
+      let now = at_first none in
+      none-is_some (working (processes_of seats) out 0) (sym (run_stops m p p' seats standings same staffed 1 0 out None e now.1))
+
+  -- its least message has no room then
+  pub lacks_at_first : (x : Message) → (least_among standings).next ≡ Some x → run_here m p'.end p'.nodes 1 first ≡ None → has_room m x (here p.nodes (working (processes_of seats) out ran) x.to) ≡ false
+  lacks_at_first x e none =
+      let now = at_first none in
+      elim (cases_Bool (has_room m x (here p.nodes (working (processes_of seats) out 0) x.to))) [
+        | inl room ↦ absurd (none-is_some (run_one_here m p.nodes x (working (processes_of seats) out 0))
+            (run_goes_on m p p' seats standings same staffed 1 0 out None x (run_one_here m p.nodes x (working (processes_of seats) out 0)) (omega arith) e room refl now.1))
+        | inr room ↦ ap (λ n. has_room m x (here p.nodes (working (processes_of seats) out n) x.to)) now.0 ∙ room
+      ]
+
+  pub begun_more : (x : Message) (w : Work) → (least_among standings).next ≡ Some x → has_room m x (here p.nodes (working (processes_of seats) out ran) x.to) ≡ true → HasBegun m p'.end p'.nodes (ran + 1) first w
+  begun_more x w e room = record {
+    same = λ z. absurd (omega arith);
+    room = λ l none. both_ways (has_room m x (here p.nodes (working (processes_of seats) out ran) x.to)) (lacks_at_first x e none) room;
+  }
+
+pub same_err : {A E : Type 0} {x y : E} → ◌≡◌ {A = Result A E} (Err x) (Err y) → x ≡ y
+same_err e = cc

@@ -4,7 +4,7 @@ ghost use Rattle.std.specs.Prelude.{◌≡◌, ◌<◌, ◌≤◌, ◌^◌, ◌�
 ghost use Rattle.std.specs.List.{AllByRecursion as Every};
 ghost use Rattle.node.specs.Handling.{IsInRange, own_lps};
 ghost use Rattle.node.specs.Seats.{seat_of, standings_of};
-ghost use Rattle.node.specs.declared.NodeFault.TheVariants.{NoMemory};
+ghost use Rattle.node.specs.declared.NodeFault.TheVariants.{NoMemory, NumberLimit};
 
 use crate::roster::Roster;
 use crate::standing::Standing;
@@ -37,7 +37,7 @@ impl std::marker::Model for Node {
 }
 
 impl Node {
-    ghost use Rattle.node.specs.Handling.{IsAnswered, IsLoaded, IsReplyInRange, refusal};
+    ghost use Rattle.node.specs.Handling.{IsAnswered, IsLimitedAtOnce, IsLoaded, IsReplyInRange, refusal};
 
     /// The node of a model that a load tells of.
     ///
@@ -86,11 +86,15 @@ impl Node {
     ///
     /// Spent where the node is; FloorFell where the parcel's floor is before the node's; else the fault of the first
     /// delivery that has one: NotMine, or BelowFloor by the floor that the node had before. These leave the node as it
-    /// was. After want of memory, and after NumberLimit, the node is spent.
+    /// was. After want of memory, and after NumberLimit, the node is spent. The number limit may be met after memory is
+    /// wanted, but not where the parcel delivers nothing and the first message has no room.
+    ///
+    /// It costs the deliveries, the handlings and the handlings let go, each with the logarithm of the node's processes.
     pub fn handle<M: Simulated>(&mut self, model: &M, parcel: Parcel) -> Result<Reply, NodeFault>
         requires { self.old.spent ≡ false → (M.meaning model.now).lps ≡ self.old.lps }
         ensures answered { IsAnswered (M.meaning model.now) parcel self.old self.new result }
         ensures range { IfOk result IsReplyInRange }
+        ensures limit { IsLimitedAtOnce (M.meaning model.now) parcel self.old → result ≡ Err NumberLimit }
         ensures lps { self.new.lps ≡ self.old.lps }
     {
         if let Some(fault) = self.refusal(&parcel) {

@@ -1,11 +1,11 @@
 // The processes of a node, and what is known of them without a visit.
 
-ghost use Rattle.std.specs.Prelude.{◌≡◌, ◌≤◌, ◌<◌, ◌+◌, ◌++◌, ◌⊎◌, ℕ, Option, Some, None, [], OnOk, OnErr, IfOk, IfErr, MatchOption, get_or, length, set, true, false};
+ghost use Rattle.std.specs.Prelude.{◌≡◌, ◌≤◌, ◌<◌, ◌+◌, ◌++◌, ◌⊎◌, ℕ, Option, Some, None, Err, [], IsOk, OnOk, OnErr, IfOk, IfErr, MatchOption, get_or, length, set, true, false};
 ghost use Rattle.std.specs.List.{AllByRecursion as Every};
 ghost use Rattle.process.specs.Process.{fossils_of, has_room, nobody, release};
 ghost use Rattle.process.specs.View.{IsDoneInRange};
 ghost use Rattle.node.specs.Handling.{IsReplyInRange, after, first_fault, is_own};
-ghost use Rattle.node.specs.Node.{deliver_here, deliver_one_here, here, reply_of, run_here, run_one_here};
+ghost use Rattle.node.specs.Node.{deliver_here, deliver_one_here, here, reply_of, run_here, run_one_here, start};
 ghost use Rattle.node.specs.Roster.{Fails, IsReady, IsStaffed, IsWorked, at_floor, node_of, place_of, processes_of, work_of};
 ghost use Rattle.node.specs.Tournament.{least_among};
 ghost use Rattle.node.specs.declared.NodeFault.TheVariants.{NoMemory, NumberLimit};
@@ -86,6 +86,7 @@ impl Roster {
         ensures place { place_of self.new ≡ place_of self.old }
         ensures work { (ran : ℕ) → OnOk result (work_of self.new out.new.items ran ≡ deliver_here self.old.nodes deliveries.now (work_of self.old out.old.items ran)) }
         ensures memory { IfErr result (λ fault. fault ≡ NoMemory) }
+        ensures none { deliveries.now ≡ [] → IsOk result }
     {
         for delivery in deliveries {
             self.deliver(delivery, out)?;
@@ -108,6 +109,7 @@ impl Roster {
         ensures work { (ran : ℕ) → OnOk result (work_of self.new out.new.items (ran + 1) ≡ run_one_here (M.meaning model.now) self.old.nodes message.now (work_of self.old out.old.items ran)) }
         ensures room { (ran : ℕ) → OnOk result (has_room (M.meaning model.now) message.now (here self.old.nodes (work_of self.old out.old.items ran) message.now.to) ≡ true) }
         ensures causes { (ran : ℕ) → IfErr result (λ fault. (fault ≡ NoMemory) ⊎ ((fault ≡ NumberLimit) × (has_room (M.meaning model.now) message.now (here self.old.nodes (work_of self.old out.old.items ran) message.now.to) ≡ false))) }
+        ensures limit { (ran : ℕ) → has_room (M.meaning model.now) message.now (here self.old.nodes (work_of self.old out.old.items ran) message.now.to) ≡ false → result ≡ Err NumberLimit }
     {
         let place = (message.to() / self.nodes) as usize;
         let process = &mut self.processes[place];
@@ -130,6 +132,7 @@ impl Roster {
         ensures place { place_of self.new ≡ place_of self.old }
         ensures work { IfOk result (λ ran. run_here (M.meaning model.now) self.old.end self.old.nodes budget (work_of self.old out.old.items 0) ≡ Some (work_of self.new out.new.items ran)) }
         ensures causes { IfErr result (λ fault. (fault ≡ NoMemory) ⊎ ((fault ≡ NumberLimit) × (run_here (M.meaning model.now) self.old.end self.old.nodes budget (work_of self.old out.old.items 0) ≡ None))) }
+        ensures limit { 0 < budget → run_here (M.meaning model.now) self.old.end self.old.nodes 1 (work_of self.old out.old.items 0) ≡ None → result ≡ Err NumberLimit }
     {
         for ran in 0..budget {
             let Some(message) = self.standings.least().next else {
@@ -198,6 +201,7 @@ impl Roster {
         ensures range { IfOk result IsReplyInRange }
         ensures place { OnErr result (place_of self.new ≡ place_of self.old) }
         ensures failed { IfErr result (λ fault. Fails (M.meaning model.now) parcel (node_of false self.old) fault) }
+        ensures limit { parcel.deliver ≡ [] → 0 < parcel.budget → run_here (M.meaning model.now) self.old.end self.old.nodes 1 (start (processes_of self.old.processes.items)) ≡ None → result ≡ Err NumberLimit }
     {
         let Parcel {
             deliver,
