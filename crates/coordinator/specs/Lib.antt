@@ -4,3 +4,5 @@ pub mod Steps
 pub mod Crashes
 pub mod Drives
 pub mod Opening
+-- For tests.
+pub mod Ring

@@ -75,3 +75,4 @@ pub struct DriveFault {
     pub done: u64,
     pub fault: SessionFault,
 }
+
