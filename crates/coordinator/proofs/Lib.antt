@@ -5,3 +5,6 @@ mod Posting
 mod Taking
 mod Driving
 mod Refusals
+mod Loading
+mod Begun
+mod Histories

@@ -4,5 +4,6 @@ pub mod Steps
 pub mod Crashes
 pub mod Drives
 pub mod Opening
+pub mod Headline
 -- For tests.
 pub mod Ring
