@@ -15,14 +15,8 @@ pub record Meaning : Type 0 where
 
 -- the message that a handling at this time makes of one send
 abbrev pub stamped : ℕ → ℕ → ℕ → Outgoing → Message
-stamped lp time number o = record {
-  time = time + o.delay;
-  from = lp;
-  number = number;
-  to = o.to;
-  a = o.a;
-  b = o.b;
-}
+stamped lp time number o =
+    record { time = time + o.delay; from = lp; number = number; to = o.to; a = o.a; b = o.b }
 
 -- those that it makes of all its sends, numbered from number on
 abbrev pub stamp : ℕ → ℕ → ℕ → List Outgoing → List Message

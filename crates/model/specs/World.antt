@@ -58,9 +58,8 @@ step m end w = step_from m end w w.pending
 
 -- after n steps
 abbrev pub Reaches : Meaning → ℕ → ℕ → World → World → Type 0
-Reaches m end zero old new = new ≡ old
-Reaches m end (suc n) old new =
-    (mid : World) × (step m end old ≡ Some mid) × Reaches m end n mid new
+Reaches m end zero v w = w ≡ v
+Reaches m end (suc n) v w = (u : World) × (step m end v ≡ Some u) × Reaches m end n u w
 
 -- what holds of every world that is reached
 pub record IsWorld (lps : ℕ) (w : World) : Type 0 where
@@ -71,13 +70,7 @@ pub record IsWorld (lps : ℕ) (w : World) : Type 0 where
   pub words : Every IsWords w.states
 
 abbrev pub at_time : ℕ → World → World
-at_time g w = record {
-  time = g;
-  states = w.states;
-  numbers = w.numbers;
-  pending = w.pending;
-  log = w.log;
-}
+at_time g w = record w { time = g }
 
 -- The sequential simulation up to g: all before g is in the log, and nothing before g is left. It is
 -- meant for g at most the end: past the end there is one only where nothing is left before g.

@@ -1,6 +1,6 @@
 -- The moves of a running system: post, take, commit and checkpoint (Jefferson 1985, with commits
 -- and a coordinator by this project's profile).
-use Rattle.std.specs.Prelude.{Bool, List, None, Option, Some, [], filter, get_or, flat_map, if◌then◌else◌, is_some, length, nat_lt, not, option_and_then, option_map, set, unwrap_or, ℕ, ◌&&◌, ◌++◌, ◌∷◌}
+use Rattle.std.specs.Prelude.{Bool, List, None, Option, Some, [], filter, get_or, flat_map, if◌then◌else◌, is_some, length, map, nat_lt, not, option_and_then, option_map, set, unwrap_or, ℕ, ◌&&◌, ◌++◌, ◌∷◌}
 use Rattle.eventkey.specs.Bag.{add_all, remove_all, remove_one}
 use Rattle.eventkey.specs.Message.{Message}
 use Rattle.gvt.specs.Ledger.{least_floor}
@@ -13,15 +13,14 @@ use Rattle.process.specs.Process.{Process, fossils_of}
 use Rattle.process.specs.declared.Done.{Done}
 use Rattle.protocol.specs.declared.Answer.{Answer}
 use Rattle.protocol.specs.declared.Answer.TheVariants.{AlreadyAt, Checkpointed, Committed, Posted, Taken}
-use Rattle.protocol.specs.Picture.{Picture, gvt, messages_told, node_of, nodes_of, opened, sent_told}
+use Rattle.protocol.specs.Picture.{Picture, gvt, node_of, nodes_of, opened, sent_told}
 
 -- 1. Post
 
 abbrev pub is_busy : Picture → ℕ → Bool  -- the node has a parcel that is not answered
 is_busy p node = is_some (get_or p.parcels node None)
 
--- the node is there and idle, and each pick names, once, a message in transit for its processes
-abbrev pub can_post : Picture → ℕ → List ℕ → Bool
+abbrev pub can_post : Picture → ℕ → List ℕ → Bool  -- picks: each once, in transit, for the node
 can_post p node picks =
     (nat_lt node (nodes_of p) && not (is_busy p node))
     && (can_pick (nodes_of p) node p.transit picks && are_distinct picks)
@@ -43,8 +42,7 @@ answered node parcel p w = record p {
   floors = set p.floors node parcel.floor;
 }
 
--- by the parcel of the node, if it has one; none where a send number has no room
-abbrev pub take_from : Meaning → ℕ → ℕ → Picture → Option Parcel → Option Picture
+abbrev pub take_from : Meaning → ℕ → ℕ → Picture → Option Parcel → Option Picture  -- by its parcel
 take_from m end node p None = None
 take_from m end node p (Some parcel) =
     option_map (answered node parcel p) (work_here m end (nodes_of p) parcel (node_of p node))
@@ -58,7 +56,7 @@ abbrev pub told_from : ℕ → List Done → List Done
 told_from c ds = filter (λ (d : Done). not (nat_lt d.message.time c)) ds
 
 abbrev pub merged : ℕ → List Done → List Message  -- those of what was told before a time, in order
-merged c ds = add_all (messages_told (told_before c ds)) []
+merged c ds = add_all (map (λ (d : Done). d.message) (told_before c ds)) []
 
 abbrev pub after_messages : Meaning → World → List Message → World  -- each is taken from pending
 after_messages m w [] = w

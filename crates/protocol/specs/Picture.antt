@@ -18,8 +18,7 @@ use Rattle.process.specs.Told.{IsTold}
 use Rattle.process.specs.declared.Done.{Done}
 use Rattle.queues.specs.Record.{messages}
 
--- a system between two moves; a node with an unanswered parcel is as it was before that parcel
-pub record Picture : Type 0 where
+pub record Picture : Type 0 where  -- a node with an unanswered parcel is as it was before it
   pub front : World
   pub gathered : List Done  -- told by nodes and taken by no commit yet, in that order
   pub nodes : List (List Process)  -- for each node its processes, ascending
@@ -99,8 +98,7 @@ IsPictureInRange p =
     × Every (λ (s : Signed). IsRanged s.message) (travelling p)
 
 abbrev pub gvt : ℕ → Picture → ℕ  -- the least time under way, at most the end (Jefferson 1985)
-gvt end p =
-    least_time end
+gvt end p = least_time end
     (flat_map (λ (q : Process). q.waiting ++ q.antis) (processes_of p)
     ++ map (λ (s : Signed). s.message) (travelling p))
 
