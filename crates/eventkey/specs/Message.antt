@@ -12,6 +12,9 @@ pub record Message : Type 0 where
   pub a : ℕ
   pub b : ℕ
 
+abbrev pub zero_message : Message  -- all its numbers are 0
+zero_message = record { time = 0; from = 0; number = 0; to = 0; a = 0; b = 0 }
+
 -- its numbers lie in their ranges
 pub record IsRanged (x : Message) : Type 0 where
   pub time : x.time < 2 ^ 41

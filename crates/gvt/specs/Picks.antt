@@ -1,7 +1,7 @@
 -- Picks: places in transit whose messages a node is posted.
 use Rattle.std.specs.Prelude.{ℕ, Bool, false, List, [], ◌∷◌, nat_eq, ◌||◌, true, ◌&&◌, not, map, get_or, ◌+◌, if◌then◌else◌, length, nat_lt}
+use Rattle.eventkey.specs.Message.{zero_message}
 use Rattle.eventkey.specs.Signed.{plus}
-use Rattle.eventkey.specs.Spelling.{message_in}
 use Rattle.eventkey.specs.declared.Signed.{Signed}
 use Rattle.node.specs.Node.{sits_on}
 
@@ -14,9 +14,8 @@ abbrev pub are_distinct : List ℕ → Bool
 are_distinct [] = true
 are_distinct (i ∷ is) = not (has i is) && are_distinct is
 
--- what a pick that is no place of transit would name: some message, here the one of no bytes
-abbrev pub nothing : Signed
-nothing = plus (message_in [])
+abbrev pub nothing : Signed  -- what a pick that is no place of transit would name
+nothing = plus zero_message
 
 abbrev pub picked : List Signed → List ℕ → List Signed
 picked transit picks = map (λ (i : ℕ). get_or transit i nothing) picks
