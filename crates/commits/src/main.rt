@@ -44,9 +44,12 @@ struct Asked {
 fn read_words(rt: &HostRuntime) -> Result<Asked, Failure> {
     let mut words = env::args(rt).map_err(|_| Failure::Usage)?;
     let _program = words.next();
-    let (Some(path), Some(sectors), Some(bytes), Some(count)) =
-        (words.next(), words.next(), words.next(), words.next())
-    else {
+    let (Some(path), Some(sectors), Some(bytes), Some(count)) = (
+        words.next(),
+        words.next(),
+        words.next(),
+        words.next(),
+    ) else {
         return Err(Failure::Usage);
     };
     Ok(Asked {
@@ -63,8 +66,9 @@ fn number(word: &str) -> Result<u32, Failure> {
 
 /// The log of the file, which is made where there is none.
 fn open(rt: &HostRuntime, asked: &Asked) -> Result<Log<FileDisk>, Failure> {
-    let mut disk = FileDisk::open(rt, rt.alloc(), asked.path.as_str(), Some(asked.sectors))
-        .map_err(Failure::File)?;
+    let mut disk = FileDisk::open(rt, rt.alloc(), asked.path.as_str(), Some(asked.sectors)).map_err(
+        Failure::File,
+    )?;
     match format(&mut disk, &[7; 512]) {
         Ok(()) | Err(LogFault::NotBlank) => {}
         Err(fault) => return Err(Failure::Log(fault)),

@@ -1,5 +1,5 @@
 use Rattle.std.proofs.Common.{arith}
-use Rattle.disk.proofs.Spans.{one_firm, all_firm}
+use Rattle.disk.proofs.Spans.{all_firm}
 use Rattle.disk.proofs.image.clear.Goals as goal
 
 pub returns-clause-firm : goal.returns-clause-firm

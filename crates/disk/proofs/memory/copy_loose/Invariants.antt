@@ -1,4 +1,4 @@
-use Rattle.std.proofs.Common.{◌≡◌, ◌<◌, ◌≤◌, ℕ, [], false, get_or, length}
+use Rattle.std.proofs.Common.{◌≡◌, ◌<◌, ℕ, [], false, get_or, length}
 use Rattle.disk.proofs.memory.copy_loose.Given as goal
 
 abbrev pub invariant-loop-n : goal.invariant-loop-n
