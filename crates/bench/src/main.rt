@@ -60,8 +60,11 @@ fn main(rt: HostRuntime) -> Result<(), Failure> {
         spread: 1000,
     };
     if by_node {
-        let whole_node::Outcome { committed, ran } =
-            whole_node::run(rt.alloc(), &model, end).map_err(Failure::Node)?;
+        let whole_node::Outcome { committed, ran } = whole_node::run(
+            rt.alloc(),
+            &model,
+            end,
+        ).map_err(Failure::Node)?;
         println!(rt; "committed {committed} ran {ran}").map_err(Failure::Output)?;
         return Ok(());
     }

@@ -89,7 +89,8 @@ impl Node {
     /// was. After want of memory, and after NumberLimit, the node is spent. The number limit may be met after memory is
     /// wanted, but not where the parcel delivers nothing and the first message has no room.
     ///
-    /// It costs the deliveries, the handlings and the handlings let go, each with the logarithm of the node's processes.
+    /// It costs the deliveries, the handlings and the handlings let go, each with the logarithm of the node's processes, and
+    /// a look at what stands of each process to find what is to be let go.
     pub fn handle<M: Simulated>(&mut self, model: &M, parcel: Parcel) -> Result<Reply, NodeFault>
         requires { self.old.spent ≡ false → (M.meaning model.now).lps ≡ self.old.lps }
         ensures answered { IsAnswered (M.meaning model.now) parcel self.old self.new result }

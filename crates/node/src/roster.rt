@@ -20,7 +20,7 @@ use std::alloc::Global;
 
 /// The processes of one node, process lp at place lp / nodes, and the tournament of what stands of them.
 #[derive(Drop)]
-pub struct Roster {
+pub(crate) struct Roster {
     pub alloc: Global,
     pub node: u32,
     pub nodes: u32,
@@ -33,7 +33,7 @@ pub struct Roster {
 
 impl Roster {
     /// Whether process `lp` is one of the node's.
-    pub fn is_own(&self, lp: u32) -> bool
+    pub(crate) fn is_own(&self, lp: u32) -> bool
         requires { self.now.node < self.now.nodes }
         ensures { result ≡ is_own (node_of false self.now) lp }
     {
@@ -41,7 +41,7 @@ impl Roster {
     }
 
     /// Why the first delivery at fault is refused, if there is one.
-    pub fn first_fault(&self, deliveries: &[Signed]) -> Option<NodeFault>
+    pub(crate) fn first_fault(&self, deliveries: &[Signed]) -> Option<NodeFault>
         requires { self.now.node < self.now.nodes }
         ensures { result ≡ first_fault (node_of false self.now) deliveries.now }
     {
@@ -57,7 +57,11 @@ impl Roster {
     }
 
     /// Hands a delivery to its process.
-    pub fn deliver(&mut self, delivery: &Signed, out: &mut Vec<Signed>) -> Result<(), NodeFault>
+    pub(crate) fn deliver(
+        &mut self,
+        delivery: &Signed,
+        out: &mut Vec<Signed>,
+    ) -> Result<(), NodeFault>
         requires ready { IsReady self.old }
         requires own { is_own (node_of false self.old) delivery.now.message.to ≡ true }
         requires late { self.old.floor ≤ delivery.now.message.time }
@@ -75,7 +79,7 @@ impl Roster {
     }
 
     /// Hands all deliveries over, in their order.
-    pub fn deliver_all(
+    pub(crate) fn deliver_all(
         &mut self,
         deliveries: &[Signed],
         out: &mut Vec<Signed>,
@@ -95,7 +99,7 @@ impl Roster {
     }
 
     /// Handles the least message of the node.
-    pub fn run_one<M: Simulated>(
+    pub(crate) fn run_one<M: Simulated>(
         &mut self,
         model: &M,
         message: &Message,
@@ -120,7 +124,7 @@ impl Roster {
     }
 
     /// Handles up to so many times the least message of the node, and answers how often it did.
-    pub fn run<M: Simulated>(
+    pub(crate) fn run<M: Simulated>(
         &mut self,
         model: &M,
         budget: u32,
@@ -167,8 +171,8 @@ impl Roster {
         Ok(())
     }
 
-    /// Takes what is below the floor, in ticks, out of all processes. It visits those that have something there, and costs
-    /// that and the logarithm of the processes for each.
+    /// Takes what is below the floor, in ticks, out of all processes. It visits those that have something there, and looks at
+    /// what stands of the others.
     fn collect(&mut self, floor: u64) -> Result<Vec<Done>, NodeFault>
         requires ready { IsReady self.old }
         requires floor { self.old.floor ≤ floor }
@@ -191,7 +195,11 @@ impl Roster {
 
     /// Handles a parcel: all deliveries in their order, then up to its budget of messages, then it collects what is below
     /// the parcel's floor.
-    pub fn handle<M: Simulated>(&mut self, model: &M, parcel: Parcel) -> Result<Reply, NodeFault>
+    pub(crate) fn handle<M: Simulated>(
+        &mut self,
+        model: &M,
+        parcel: Parcel,
+    ) -> Result<Reply, NodeFault>
         requires ready { IsReady self.old }
         requires lps { (M.meaning model.now).lps ≡ self.old.lps }
         requires accepted { first_fault (node_of false self.old) parcel.deliver ≡ None }

@@ -9,7 +9,7 @@ use std::alloc::{AllocError, Global};
 /// A tree of matches: its leaves are the standings of processes, and each cell above them has the lesser of the two below
 /// it, part by part, so that a change of one leaf plays one match a level again.
 #[derive(Drop)]
-pub struct Tournament {
+pub(crate) struct Tournament {
     leaves: usize,
     cells: Vec<Standing>,
 }
@@ -67,7 +67,8 @@ impl Tournament {
         }
     }
 
-    /// The first leaf from this one on whose oldest time is below the floor, in ticks, if there is one. It takes no memory.
+    /// The first leaf from this one on whose oldest time is below the floor, in ticks, if there is one. It takes no memory, and
+    /// looks at the leaves up to that one.
     pub(crate) fn first_due(&self, from: usize, floor: u64) -> Option<usize>
         ensures { MatchOption result (IsQuiet floor self.now from (length self.now)) (λ due. IsFirstDue floor self.now from due) }
     {
