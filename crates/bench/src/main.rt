@@ -76,6 +76,8 @@ fn main(rt: HostRuntime) -> Result<(), Failure> {
     let mut world = simulated(rt.alloc(), &model, end).map_err(Failure::World)?;
     let digest = digest_of(&mut world);
     let last = world.log().last().map_or(0, |m| m.to());
-    println!(rt; "events {} last {last} world {digest}", world.log().len()).map_err(Failure::Output)?;
+    println!(rt; "events {} last {last} world {digest}", world.log().len()).map_err(
+        Failure::Output,
+    )?;
     Ok(())
 }

@@ -182,10 +182,7 @@ fn ring_of(table: &Table) -> Result<(TokenRing, u64), Mistake>
     if table.len() != 5 {
         return Err(Mistake::Unknown);
     }
-    Ok((
-        TokenRing::new(lps as u32, hold as u32, tokens as u32),
-        end,
-    ))
+    Ok((TokenRing::new(lps as u32, hold as u32, tokens as u32), end))
 }
 
 /// PHOLD and its end.

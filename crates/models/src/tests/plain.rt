@@ -215,9 +215,7 @@ fn is_plain(
     world.run_to(model, end)?;
     let states = world.states().iter().zip(plain.states.as_slice());
     let same = world.states().len() == plain.states.len()
-        && states
-            .into_iter()
-            .all(|(state, want)| Some(state.as_slice()) == want.get(..words))
+        && states.into_iter().all(|(state, want)| Some(state.as_slice()) == want.get(..words))
         && world.numbers() == plain.numbers.as_slice()
         && are_rows(world.log(), plain.log.as_slice());
     Ok(same && are_rows(world.pending(), plain.pending.as_slice()))

@@ -31,7 +31,10 @@ fn one_message_of_phold_comes_each_tick(rt: HostRuntime) -> Result<(), Fail> {
         let log = [[1, 0, 0, 0, 0, 0], [2, 0, 1, 0, 0, 1], [3, 0, 2, 0, 0, 2]];
         assert!(rt; are(world.log(), &log));
         assert!(rt; are(world.pending(), &[[4, 0, 3, 0, 0, 3]]));
-        assert_eq!(rt; model.identity(rt.alloc()).as_slice(), [2, 1, 1, seed].as_slice());
+        assert_eq!(rt;
+            model.identity(rt.alloc()).as_slice(),
+            [2, 1, 1, seed].as_slice()
+        );
     }
     Ok(())
 }
@@ -48,7 +51,10 @@ fn one_machine_serves_a_job_a_tick(rt: HostRuntime) -> Result<(), Fail> {
         let state = world.states().first().ok_or("a machine")?.as_slice();
         assert_eq!(rt; state.len(), 5);
         assert!(rt; state.starts_with(&[4, 3, 1, 0]));
-        assert_eq!(rt; model.identity(rt.alloc()).as_slice(), [3, 2, 1, seed].as_slice());
+        assert_eq!(rt;
+            model.identity(rt.alloc()).as_slice(),
+            [3, 2, 1, seed].as_slice()
+        );
     }
     Ok(())
 }
@@ -59,7 +65,11 @@ fn a_job_past_every_delay_is_turned_away(rt: HostRuntime) -> Result<(), Fail> {
     let message = Message::new(5, 1, 0, 0, 9, u64::MAX)?;
     let state = SmallVec::from_slice(rt.alloc(), &[4294967299])?;
     let (words, sends) = shop.handle(rt.alloc(), 0, &state, &message);
-    assert!(rt; words.as_slice().starts_with(&[4294967300, 1, 4294967294, 0]));
+    assert!(rt;
+        words
+            .as_slice()
+            .starts_with(&[4294967300, 1, 4294967294, 0])
+    );
     let sent = Outgoing {
         to: 1,
         delay: 4294967295,
@@ -84,8 +94,7 @@ fn a_job_past_every_delay_is_turned_away(rt: HostRuntime) -> Result<(), Fail> {
 fn missing_words_count_as_zero_and_counts_stay(rt: HostRuntime) -> Result<(), Fail> {
     let hold = Phold::new(3, 2, 5, 7);
     let message = Message::new(5, 1, 0, 0, 9, 1)?;
-    let (none, sent_none) =
-        hold.handle(rt.alloc(), 2, &SmallVec::new(rt.alloc()), &message);
+    let (none, sent_none) = hold.handle(rt.alloc(), 2, &SmallVec::new(rt.alloc()), &message);
     let zeros = SmallVec::from_slice(rt.alloc(), &[0, 0, 4])?;
     let (words, sends) = hold.handle(rt.alloc(), 2, &zeros, &message);
     assert_eq!(rt; none.as_slice(), words.as_slice());

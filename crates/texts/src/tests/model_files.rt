@@ -45,7 +45,10 @@ fn phold_and_the_job_shop_are_read_at_both_ends(rt: HostRuntime) -> Result<(), F
         ),
         (
             "seed = 9223372036854775807\nspread = 4294967295\npopulation = 8\nend = 1099511627776\nlps = 1024\nmodel = 'phold'\n",
-            (AnyModel::Phold(Phold::new(1024, 8, most, seed)), 1099511627776),
+            (
+                AnyModel::Phold(Phold::new(1024, 8, most, seed)),
+                1099511627776,
+            ),
         ),
         (
             "model = 'jobshop'\nlps = 1\nend = 1\njobs = 1\nservice = 1\nseed = 0\n",
@@ -53,7 +56,10 @@ fn phold_and_the_job_shop_are_read_at_both_ends(rt: HostRuntime) -> Result<(), F
         ),
         (
             "seed = 9223372036854775807\nservice = 4294967295\njobs = 8\nend = 1099511627776\nlps = 1024\nmodel = 'jobshop'\n",
-            (AnyModel::JobShop(JobShop::new(1024, 8, most, seed)), 1099511627776),
+            (
+                AnyModel::JobShop(JobShop::new(1024, 8, most, seed)),
+                1099511627776,
+            ),
         ),
     ];
     for (text, file) in files {
@@ -70,9 +76,18 @@ fn a_mistake_is_told_in_plain_words(rt: HostRuntime) -> Result<(), Fail> {
         ("lps = 3\n", "model: not \"ring\", \"phold\" or \"jobshop\""),
         ("model = 'ring'\n", "lps: missing"),
         ("model = 'ring'\nlps = '3'\n", "lps: not a whole number"),
-        ("model = 'ring'\nlps = 2000\n", "lps: 2000 is not within 1 to 1024"),
-        ("model = 'ring'\nlps = -1\n", "lps: -1 is not within 1 to 1024"),
-        ("model = 'ring'\nlps = 3\nseed = 1\n", "a key that the model does not have"),
+        (
+            "model = 'ring'\nlps = 2000\n",
+            "lps: 2000 is not within 1 to 1024",
+        ),
+        (
+            "model = 'ring'\nlps = -1\n",
+            "lps: -1 is not within 1 to 1024",
+        ),
+        (
+            "model = 'ring'\nlps = 3\nseed = 1\n",
+            "a key that the model does not have",
+        ),
     ];
     for (start, want) in texts {
         let text = format!(in rt.alloc(); "{start}{rest}")?;
