@@ -1,4 +1,4 @@
-use Rattle.std.proofs.Common.{◌≡◌, ◌∙◌, Some, ap, length, map, refl, take}
+use Rattle.std.proofs.Common.{ap, length, map, refl, take}
 use Rattle.coordinator.proofs.Resuming.{driven-on, made-all, not_resumed, resumed, stopped-front}
 use Rattle.coordinator.specs.Session.{running}
 use Rattle.coordinator.specs.Steps.{move_of}
