@@ -45,7 +45,7 @@ module _ (m : Meaning) (end nodes : ℕ) (v first : World) (disk mid : DiskState
   moved made steps =
       subst (λ (p : Picture). moves_made m end moves p ≡ Some (picture_of made)) picture_is
       (subst (λ (e : ℕ). moves_made m e moves (picture_of begun) ≡ Some (picture_of made)) end_is
-        (subst (λ (n : Meaning). moves_made n begun.end moves (picture_of begun) ≡ Some (picture_of made)) model_is steps.moves_are))
+      (subst (λ (n : Meaning). moves_made n begun.end moves (picture_of begun) ≡ Some (picture_of made)) model_is steps.moves_are))
 
   system : IsSystem m end (opened m.lps nodes first)
   system =
