@@ -1,5 +1,5 @@
 -- A whole session: what is opened, what is driven, what is left.
-use Rattle.std.proofs.Common.{Bool, List, None, Some, ap, arith, false, length, map, take, inl, inr, refl, subst, sym, true, ℕ, ◌^◌, ◌≡◌, ◌≤◌, ◌∙◌}
+use Rattle.std.proofs.Common.{Bool, List, None, Some, ap, arith, length, map, take, inl, inr, refl, subst, sym, ℕ, ◌≡◌, ◌∙◌}
 use Rattle.std.proofs.lemmas.Bool.{cases_Bool}
 use Rattle.std.proofs.lemmas.List.{take_all}
 use Rattle.disk.specs.Disk.{DiskState}
@@ -14,7 +14,7 @@ use Rattle.coordinator.proofs.Driving.{followed_by}
 use Rattle.commitlog.specs.Log.{Opened}
 use Rattle.coordinator.specs.Crashes.{IsWritten, KeepsRecovery, Recovers}
 use Rattle.coordinator.specs.Drives.{IsStopped, StepsAreMade}
-use Rattle.coordinator.specs.Headline.{IsDriven, IsResumed}
+use Rattle.coordinator.specs.Headline.{IsResumed}
 use Rattle.coordinator.specs.Session.{IsTold, Running, picture_of}
 use Rattle.coordinator.specs.Steps.{leaves_all, move_of}
 use Rattle.coordinator.specs.declared.DriveFault.{DriveFault}
@@ -45,7 +45,7 @@ module _ (m : Meaning) (end nodes : ℕ) (v first : World) (disk mid : DiskState
   moved made steps =
       subst (λ (p : Picture). moves_made m end moves p ≡ Some (picture_of made)) picture_is
       (subst (λ (e : ℕ). moves_made m e moves (picture_of begun) ≡ Some (picture_of made)) end_is
-        (subst (λ (n : Meaning). moves_made n begun.end moves (picture_of begun) ≡ Some (picture_of made)) model_is steps.moves_are))
+      (subst (λ (n : Meaning). moves_made n begun.end moves (picture_of begun) ≡ Some (picture_of made)) model_is steps.moves_are))
 
   system : IsSystem m end (opened m.lps nodes first)
   system =

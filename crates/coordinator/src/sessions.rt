@@ -45,23 +45,17 @@ pub fn resume<M: Simulated, P: Port + Drop, D: SectorDisk>(
     requires short { end ≤ 2 ^ 40 }
 
     // The headline for one session, whatever front was told last on the disk.
-    ensures kept {
-        let made = map move_of (take result.done steps.now) in
+    ensures kept { let made = map move_of (take result.done steps.now) in
         AllTell (M.meaning model.now) (map P.state ports.items) → (v : World) →
-        IsResumed (M.meaning model.now) end (length ports.items) made v (D.state disk) (D.state result.disk) result.time
-    }
+        IsResumed (M.meaning model.now) end (length ports.items) made v (D.state disk) (D.state result.disk) result.time }
 
     ensures all { result.fault ≡ None → (result.done ≡ length steps.now) × IsSome result.time }
-    ensures refused {
-        result.time ≡ None → (result.done ≡ 0) × IfSome result.fault (λ fault.
+    ensures refused { result.time ≡ None → (result.done ≡ 0) × IfSome result.fault (λ fault.
         OpeningIsRefused (M.meaning model.now) end (D.state disk).reads (map P.state ports.items)
-            ((D.state disk).failures < (D.state result.disk).failures) fault)
-    }
-    ensures want {
-        (a : ℕ) → Recovers (M.meaning model.now) end a (D.state disk) →
+        ((D.state disk).failures < (D.state result.disk).failures) fault) }
+    ensures want { (a : ℕ) → Recovers (M.meaning model.now) end a (D.state disk) →
         AllTell (M.meaning model.now) (map P.state ports.items) → result.time ≡ None →
-        IfSome result.fault (λ fault. IsForWantAtOpening fault ((D.state disk).failures < (D.state result.disk).failures))
-    }
+        IfSome result.fault (λ fault. IsForWantAtOpening fault ((D.state disk).failures < (D.state result.disk).failures)) }
 {
     let mut session = match Session::open(alloc, model, ports, disk, end) {
         Ok(session) => session,

@@ -29,7 +29,13 @@ fn an_empty_log_opens_at_time_zero(rt: HostRuntime) -> Result<(), Fail> {
     let front = session.front();
     assert_eq!(rt; front.time, 0);
     assert!(rt; front.log.is_empty() && front.numbers == [1, 1, 0].as_slice());
-    assert!(rt; front.pending.iter().map(fields).eq([[1, 0, 0, 0, 0, 0], [1, 1, 0, 1, 1, 0]]));
+    assert!(rt;
+        front
+            .pending
+            .iter()
+            .map(fields)
+            .eq([[1, 0, 0, 0, 0, 0], [1, 1, 0, 1, 1, 0]])
+    );
     assert!(rt; session.transit().is_empty());
     assert_eq!(rt; session.floor(), 1);
     Ok(())
@@ -77,7 +83,14 @@ fn whole_sessions(rt: HostRuntime) -> Result<(), Fail> {
     let ring = Ring;
     let disk = formatted(alloc, &ring)?;
     let steps = steps(alloc, 13)?;
-    let left = resume(alloc, &ring, ports(alloc, &ring)?, disk, END, steps.as_slice());
+    let left = resume(
+        alloc,
+        &ring,
+        ports(alloc, &ring)?,
+        disk,
+        END,
+        steps.as_slice(),
+    );
     let Resumed {
         disk,
         time,
@@ -86,7 +99,14 @@ fn whole_sessions(rt: HostRuntime) -> Result<(), Fail> {
     } = left;
     assert!(rt; time == Some(3) && done == 13 && fault.is_none());
     // A second one goes on from there, and its fourth step picks what no longer travels.
-    let left = resume(alloc, &ring, ports(alloc, &ring)?, disk, END, steps.as_slice());
+    let left = resume(
+        alloc,
+        &ring,
+        ports(alloc, &ring)?,
+        disk,
+        END,
+        steps.as_slice(),
+    );
     let Resumed {
         disk,
         time,
