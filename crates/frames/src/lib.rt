@@ -3,14 +3,16 @@
 
 ghost use Rattle.std.specs.Prelude.{◌≡◌};
 
+mod laws;
 mod reading;
 mod stream;
 mod writing;
 
+pub use laws::{law_of_bodies, law_of_frames};
 use node::{Load, NodeFault, Parcel, Reply};
 pub use reading::{read_load, read_parcel};
 pub use stream::{MOST_BYTES, Raw, read_frame, read_raw};
-pub use writing::{encode_fault, encode_reply};
+pub use writing::{encode_fault, encode_load, encode_parcel, encode_reply};
 
 /// What stands between a session and a node.
 #[derive(Drop)]
