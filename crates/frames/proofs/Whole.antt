@@ -1,6 +1,6 @@
 -- Whole bodies: each has one spelling, no other bytes are read, and no byte is left over.
 use Rattle.std.proofs.Common.{◌≡◌, ℕ, zero, suc, ◌+◌, ◌^◌, ◌<◌, ◌≤◌, Bool, true, false, cond, List, [], ◌∷◌, ◌++◌, length, Option, Some, None, refl, sym, ap, subst, ◌∙◌, arith, inl, inr, eqb-true}
-use Rattle.std.specs.Prelude.{nat_le, nat_lt, nat_eq, ◌&&◌}
+use Rattle.std.specs.Prelude.{nat_le, nat_lt, nat_eq, ◌&&◌, IfOk, IfSome, Result, Ok, Err}
 use Rattle.std.proofs.lemmas.Bool.{and_from, and_parts, leb-true, le-leb, ltb-true, lt-ltb}
 use Rattle.std.proofs.lemmas.List.{nil_from_length}
 use Rattle.std.proofs.lemmas.Option.{cond_some, none-some}
@@ -104,6 +104,12 @@ load_again l rest is =
     ∙ again_step format8 l.floor parts rest (load_after_floor l.node l.nodes l.end) (omega arith)
     ∙ counted_last part_format l.parts rest (load_told l.node l.nodes l.end l.floor) is.count is.parts
     ∙ ap (λ (b : Bool). cond (b && nat_eq (length rest) 0) (Some l) None) (place_is l is)
+
+-- a load that was read
+pub load_in_range : {E : Type 0} (bytes : List ℕ) (result : Result (Option Load) E) → IsBytes bytes → IfOk result (λ load. load ≡ load_in bytes) → IfOk result (λ load. IfSome load IsLoad)
+load_in_range bytes (Ok (Some l)) fits e = (load_takes bytes l fits (sym e)).1
+load_in_range bytes (Ok None) fits e = tt
+load_in_range bytes (Err fault) fits e = tt
 
 -- 2. A parcel
 
