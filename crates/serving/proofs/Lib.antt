@@ -1,0 +1,5 @@
+pub mod Begun
+pub mod Places
+pub mod Reacting
+pub mod Turns
+pub mod Written

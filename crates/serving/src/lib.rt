@@ -1,0 +1,8 @@
+//! A node behind a stream of bytes (this project's profile): the loop that serves it.
+#![tactic(auto)]
+
+mod node_loop;
+mod output;
+mod reaction;
+
+pub use node_loop::serve;
