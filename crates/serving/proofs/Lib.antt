@@ -1,4 +1,5 @@
 pub mod Begun
+mod Examples
 pub mod Places
 pub mod Reacting
 pub mod Turns
