@@ -6,6 +6,8 @@ ghost use Rattle.std.specs.Prelude.{◌≡◌};
 mod laws;
 mod reading;
 mod stream;
+#[cfg(test)]
+mod tests;
 mod writing;
 
 pub use laws::{law_of_bodies, law_of_frames};

@@ -126,6 +126,8 @@ pub fn read_raw<R: Read>(alloc: Global, reader: &mut R) -> Result<Option<Raw>, W
 ///
 /// TooLong for a body of more than 2^24 bytes, before the kind is read; else BadKind for a kind that is none, before the
 /// body is read; else Truncated where the input ends within the frame; else BadBody where the body is not of its kind.
+/// Io where the reader fails, and NoMemory where memory is refused: some bytes of the frame are taken then. The memory for a
+/// body grows with the bytes that come, not with the length that is stated.
 pub fn read_frame<R: Read>(alloc: Global, reader: &mut R) -> Result<Option<Frame>, WireFault>
     ensures { OnBytes (R.remaining reader.old) (R.remaining reader.new) (IsCutBy frame_cut result) }
 {
