@@ -1,5 +1,5 @@
 -- The loop's first frame, at each exit of the loop.
-use Rattle.std.proofs.Common.{◌≡◌, ℕ, Bool, true, false, List, [], ◌++◌, Option, Some, None, Result, Ok, Err, inl, inr, refl, sym, ap, subst, ◌∙◌}
+use Rattle.std.proofs.Common.{◌≡◌, ℕ, Bool, false, List, [], Option, Some, None, Result, Ok, Err, inl, inr, refl, sym, ap, subst, ◌∙◌}
 use Rattle.std.specs.Io.KnownBytes.{Appends}
 use Rattle.std.proofs.KnownBytes.{Appends-nil}
 use Rattle.std.specs.Result.{IsErrAnd}
@@ -9,8 +9,8 @@ use Rattle.frames.specs.Cutting.{Cut, cut}
 use Rattle.frames.specs.Streams.{Finds, IsCutBy, IsFront, OnBytes}
 use Rattle.frames.specs.declared.stream.Raw.{Raw}
 use Rattle.frames.proofs.Cuts.{IsFront-trans, front_of}
-use Rattle.serving.specs.Reactions.{Begins, begun}
-use Rattle.serving.specs.Serving.{Lacks, Served, Turn, after_turn, begun_to, ends, first_turn, goes_on, later, load_turn, on_found, served, served_from, stops}
+use Rattle.serving.specs.Reactions.{Begins}
+use Rattle.serving.specs.Serving.{Lacks, Served, Turn, after_turn, begun_to, ends, first_turn, goes_on, load_turn, on_found, served, served_from, stops}
 use Rattle.serving.specs.Told.{IsServed, IsServedFrom, Tells}
 use Rattle.serving.specs.Written.{TakesBeginning}
 use Rattle.serving.specs.declared.reaction.Begun.{Begun}

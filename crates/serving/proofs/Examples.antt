@@ -1,5 +1,5 @@
 -- The definitions, computed: what node zero of a ring of three processes serves.
-use Rattle.std.specs.Prelude.{Result, Ok, Err, Some, None, false}
+use Rattle.std.specs.Prelude.{Ok, Err, false}
 use Rattle.std.proofs.Common.{◌≡◌, ℕ, List, [], ◌∷◌, ◌++◌, refl, replicate}
 use Rattle.byteorder.specs.Endian.{big_bytes}
 use Rattle.eventkey.specs.Message.{Message, message_cmp}

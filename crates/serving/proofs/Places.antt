@@ -1,12 +1,12 @@
 -- One turn of the loop, at each exit.
-use Rattle.std.proofs.Common.{◌≡◌, ℕ, Bool, true, false, cond, List, [], ◌++◌, Option, Some, None, Result, Ok, Err, inl, inr, refl, sym, ap, subst, ◌∙◌}
+use Rattle.std.proofs.Common.{◌≡◌, ℕ, Bool, true, false, cond, List, [], Option, Some, None, Result, Ok, Err, inl, inr, refl, sym, ap, subst, ◌∙◌}
 use Rattle.std.specs.Io.KnownBytes.{Appends}
 use Rattle.std.proofs.KnownBytes.{Appends-nil}
 use Rattle.std.specs.Result.{IsErrAnd}
 use Rattle.model.specs.Meaning.{Meaning}
 use Rattle.node.specs.Handling.{Node}
 use Rattle.frames.specs.Cutting.{Cut, cut}
-use Rattle.frames.specs.Streams.{Finds, IsCutBy, IsFront, OnBytes}
+use Rattle.frames.specs.Streams.{Finds, IsCutBy, OnBytes}
 use Rattle.frames.specs.declared.stream.Raw.{Raw}
 use Rattle.frames.proofs.Cuts.{front_of}
 use Rattle.serving.specs.Reactions.{Reacts, reaction}

@@ -1,26 +1,23 @@
 -- What the loop does with one frame, at each exit.
-use Rattle.std.proofs.Common.{◌≡◌, ℕ, ◌^◌, ◌<◌, ◌≤◌, ◌⊎◌, Bool, true, false, List, length, Option, Some, None, Result, Ok, Err, inl, inr, refl, sym, ap, subst, ◌∙◌, arith}
+use Rattle.std.proofs.Common.{◌≡◌, ℕ, ◌^◌, ◌<◌, ◌⊎◌, Bool, true, false, List, length, Option, Some, None, Result, Ok, Err, inl, inr, refl, sym, ap, subst, ◌∙◌, arith}
 use Rattle.std.specs.Prelude.{IfSome}
 use Rattle.std.specs.Result.{IsErrAnd}
 use Rattle.std.specs.List.{AllByRecursion as Every}
 use Rattle.eventkey.proofs.Lists.{Every-weaker}
 use Rattle.model.specs.Meaning.{Meaning}
-use Rattle.node.specs.Handling.{Answer, IsAnswered, IsInRange, IsLoaded, Node, answer, load_answer, load_refusal, loaded_node}
+use Rattle.node.specs.Handling.{IsAnswered, IsInRange, IsLoaded, Node, load_refusal, loaded_node}
 use Rattle.node.specs.declared.Load.{Load}
 use Rattle.node.specs.declared.NodeFault.{NodeFault}
-use Rattle.node.specs.declared.NodeFault.TheVariants as node
 use Rattle.node.specs.declared.Parcel.{Parcel}
 use Rattle.node.specs.declared.Part.{Part}
 use Rattle.node.specs.declared.Reply.{Reply}
-use Rattle.frames.specs.Bodies.{fault_bytes, frame_bytes, load_in, parcel_in}
+use Rattle.frames.specs.Bodies.{fault_bytes, load_in, parcel_in}
 use Rattle.frames.specs.Ranges.{IsLoad, IsPart}
-use Rattle.frames.specs.declared.Frame.TheVariants as frame
 use Rattle.frames.specs.declared.Kind.{Kind}
 use Rattle.frames.specs.declared.Kind.TheVariants as kind
 use Rattle.frames.specs.declared.stream.Raw.{Raw}
-use Rattle.serving.specs.Reactions.{Begins, HasProcesses, IsReaction, Reaction, Reacts, answer_at, answer_lacking, begun, begun_by, begun_with, lacking, load_at, on_load, on_parcel, reaction, reaction_to, response_to}
+use Rattle.serving.specs.Reactions.{Begins, Reaction, Reacts, answer_at, answer_lacking, begun, begun_by, begun_with, lacking, load_at, on_load, on_parcel, reaction, reaction_to, response_to}
 use Rattle.serving.specs.declared.reaction.Begun.{Begun}
-use Rattle.serving.specs.declared.reaction.Begun.TheVariants.{Loaded, Refused}
 use Rattle.serving.specs.declared.reaction.Response.{Response}
 use Rattle.wire.specs.declared.port.WireFault.{WireFault}
 use Rattle.wire.specs.declared.port.WireFault.TheVariants.{BadBody, BadKind, NoMemory, TooLong}

@@ -1,13 +1,13 @@
 -- Turn after turn.
-use Rattle.std.proofs.Common.{◌≡◌, ℕ, zero, suc, ◌+◌, ◌-◌, ◌<◌, ◌≤◌, Bool, true, false, List, [], ◌∷◌, ◌++◌, Option, Some, None, Result, Ok, Err, refl, sym, ap, subst, ◌∙◌, arith, append-nil, append_assoc}
+use Rattle.std.proofs.Common.{◌≡◌, ℕ, zero, suc, ◌+◌, ◌-◌, ◌<◌, ◌≤◌, Bool, true, false, List, [], ◌++◌, Option, Some, None, Result, Ok, Err, refl, sym, ap, subst, ◌∙◌, arith, append-nil, append_assoc}
 use Rattle.std.specs.Io.KnownBytes.{Appends}
 use Rattle.std.proofs.KnownBytes.{Appends-nil, Appends-trans}
 use Rattle.std.specs.Result.{IsErrAnd}
 use Rattle.model.specs.Meaning.{Meaning}
 use Rattle.node.specs.Handling.{Node}
 use Rattle.frames.specs.Streams.{IsFront, OnBytes}
-use Rattle.serving.specs.Serving.{Lacks, Served, Turn, behind, next_turn, plus, served_from, then_on}
-use Rattle.serving.specs.Told.{IsServedFrom, IsTurn, Tells, TurnTells}
+use Rattle.serving.specs.Serving.{Lacks, Served, behind, next_turn, plus, served_from, then_on}
+use Rattle.serving.specs.Told.{IsServedFrom, IsTurn}
 use Rattle.serving.specs.Written.{TakesBeginning}
 use Rattle.wire.specs.declared.port.WireFault.{WireFault}
 use Rattle.wire.specs.declared.port.WireFault.TheVariants as wire

@@ -6,7 +6,7 @@ use Rattle.model.specs.Meaning.{Meaning}
 use Rattle.node.specs.Handling.{Node}
 use Rattle.frames.specs.Cutting.{cut}
 use Rattle.frames.specs.declared.stream.Raw.{Raw}
-use Rattle.serving.specs.Reactions.{Reaction, begun, reaction}
+use Rattle.serving.specs.Reactions.{begun, reaction}
 use Rattle.serving.specs.declared.reaction.Begun.{Begun}
 use Rattle.serving.specs.declared.reaction.Begun.TheVariants.{Loaded, Refused}
 use Rattle.serving.specs.declared.reaction.Response.{Response}

@@ -4,5 +4,7 @@
 mod node_loop;
 mod output;
 mod reaction;
+#[cfg(test)]
+mod tests;
 
 pub use node_loop::serve;

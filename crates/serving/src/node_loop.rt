@@ -23,7 +23,8 @@ fn turn<M: Simulated, R: Read, W: Write>(
 ) -> Result<bool, WireFault>
     requires lps { node.old.spent ≡ false → (M.meaning model.now).lps ≡ node.old.lps }
     ensures told { OnBytes (R.remaining reader.old) (R.remaining reader.new)
-        (IsTurn (M.meaning model.now) node.old node.new (W.contents writer.old) (W.contents writer.new) result) }
+        (IsTurn (M.meaning model.now) node.old node.new
+        (W.contents writer.old) (W.contents writer.new) result) }
     ensures lps { node.new.spent ≡ false → (M.meaning model.now).lps ≡ node.new.lps }
 {
     let Some(raw) = read_raw(alloc, reader)? else {
@@ -45,7 +46,8 @@ fn serve_parcels<M: Simulated, R: Read, W: Write>(
 ) -> Result<u64, WireFault>
     requires lps { node.spent ≡ false → (M.meaning model.now).lps ≡ node.lps }
     ensures { OnBytes (R.remaining reader.old) (R.remaining reader.new)
-        (IsServedFrom (M.meaning model.now) limit node (W.contents writer.old) (W.contents writer.new) result) }
+        (IsServedFrom (M.meaning model.now) limit node
+        (W.contents writer.old) (W.contents writer.new) result) }
 {
     let mut node = node;
     for count in 0..limit {
@@ -71,7 +73,8 @@ pub fn serve<M: Simulated, R: Read, W: Write>(
     limit: u64,
 ) -> Result<u64, WireFault>
     ensures { OnBytes (R.remaining reader.old) (R.remaining reader.new)
-        (IsServed (M.meaning model.now) limit (W.contents writer.old) (W.contents writer.new) result) }
+        (IsServed (M.meaning model.now) limit
+        (W.contents writer.old) (W.contents writer.new) result) }
 {
     let Some(raw) = read_raw(alloc, reader)? else {
         return Ok(0);

@@ -1,5 +1,3 @@
-use Rattle.std.proofs.Common.{subst}
-use Rattle.serving.specs.Written.{TakesBeginning}
 use Rattle.serving.proofs.Places.{found_as, turn_answered, turn_cut_short, turn_ended, turn_not_read, turn_refused}
 use Rattle.serving.proofs.Written.{appended_as, begun_as}
 use Rattle.serving.proofs.node_loop.turn.Goals as goal
