@@ -1,14 +1,14 @@
 -- What stands in the place of a frame, by the bytes that come one after the other.
-use Rattle.std.proofs.Common.{◌≡◌, ℕ, zero, suc, ◌+◌, ◌<◌, ◌≤◌, ◌^◌, true, false, List, [], ◌∷◌, ◌++◌, length, take, drop, Option, Some, None, Result, Ok, Err, inl, inr, refl, sym, ap, subst, ◌∙◌, arith, append-nil, append_assoc, take-append-drop}
+use Rattle.std.proofs.Common.{◌≡◌, ℕ, ◌<◌, ◌≤◌, ◌^◌, List, [], ◌∷◌, ◌++◌, length, take, drop, Option, Some, None, Result, Ok, inl, inr, refl, sym, ap, subst, ◌∙◌, arith, append-nil, append_assoc, take-append-drop}
 use Rattle.std.proofs.lemmas.Bool.{cases_lt, lt-ltb, le-ltb}
 use Rattle.std.proofs.lemmas.List.{drop_at, take_at, length-append}
-use Rattle.std.specs.Io.KnownBytes.{Consumes, IsAtEnd, Keeps}
+use Rattle.std.specs.Io.KnownBytes.{Consumes, IsAtEnd}
 use Rattle.byteorder.specs.Endian.{big_number}
 use Rattle.byteorder.specs.Numbers.{big_from-take}
 use Rattle.eventkey.specs.Reading.{number_at}
 use Rattle.frames.specs.Bodies.{kind_of}
 use Rattle.frames.specs.Cutting.{Cut, cut, cut_body, cut_kind, cut_length, fails}
-use Rattle.frames.specs.Streams.{GivesFewer, GivesSome, IsCutBy, IsFront, OnBytes}
+use Rattle.frames.specs.Streams.{GivesSome, IsCutBy, IsFront, OnBytes}
 use Rattle.frames.specs.declared.Kind.{Kind}
 use Rattle.frames.specs.declared.stream.Raw.{Raw}
 use Rattle.wire.specs.declared.port.WireFault.{WireFault}

@@ -1,20 +1,16 @@
 -- Whole frames: each has one spelling, and no other bytes are read.
-use Rattle.std.proofs.Common.{◌≡◌, ℕ, zero, suc, ◌+◌, ◌*◌, ◌^◌, ◌<◌, ◌≤◌, Bool, true, false, cond, List, [], ◌∷◌, ◌++◌, length, take, drop, Option, Some, None, Result, Ok, Err, refl, sym, ap, subst, ◌∙◌, arith, inl, inr, append_assoc, append-nil, take-append-drop}
-use Rattle.std.specs.Prelude.{nat_lt, nat_eq}
+use Rattle.std.proofs.Common.{◌≡◌, ℕ, ◌^◌, ◌≤◌, Bool, true, false, cond, List, [], ◌∷◌, ◌++◌, length, take, drop, Option, Some, None, Result, Ok, Err, refl, sym, ap, subst, ◌∙◌, arith, inl, inr, append_assoc, append-nil, take-append-drop}
+use Rattle.std.specs.Prelude.{nat_eq}
 use Rattle.std.proofs.lemmas.Bool.{cases_lt, lt-ltb, le-ltb, ne_eqb}
-use Rattle.std.proofs.lemmas.List.{length-append, length-take}
+use Rattle.std.proofs.lemmas.List.{length-take}
 use Rattle.std.proofs.lemmas.Option.{none-some, same_Some}
 use Rattle.byteorder.specs.Endian.{big_bytes, big_number}
 use Rattle.byteorder.specs.Numbers.{big_number-reads_back, length-bytes_high_first}
 use Rattle.eventkey.specs.Reading.{IsBytes, number_at}
-use Rattle.eventkey.proofs.Fields.{IsBytes-drop, IsBytes-take, Takes, format4}
-use Rattle.node.specs.declared.Load.{Load}
-use Rattle.node.specs.declared.NodeFault.{NodeFault}
-use Rattle.node.specs.declared.Parcel.{Parcel}
-use Rattle.node.specs.declared.Reply.{Reply}
+use Rattle.eventkey.proofs.Fields.{IsBytes-drop, IsBytes-take, format4}
 use Rattle.frames.specs.Bodies.{body_bytes, fault_in, frame_bytes, frame_in, framed, kind_in, kind_number, kind_of, load_in, parcel_in, reply_in, seen_as}
-use Rattle.frames.specs.Cutting.{Cut, cut, cut_body, cut_kind, cut_length, fails, frame_cut, opened, opened_cut}
-use Rattle.frames.specs.Laws.{BodiesAreSpelled, FramesAreReadBack, FramesAreSpelled, IsBodyOf, IsSpelled, NoByteIsLeftOver}
+use Rattle.frames.specs.Cutting.{Cut, cut, cut_body, cut_kind, cut_length, fails, opened_cut}
+use Rattle.frames.specs.Laws.{BodiesAreSpelled, FramesAreReadBack, FramesAreSpelled, IsBodyOf, NoByteIsLeftOver}
 use Rattle.frames.specs.Ranges.{IsInRange}
 use Rattle.frames.specs.Streams.{Finds}
 use Rattle.frames.specs.declared.Frame.{Frame}

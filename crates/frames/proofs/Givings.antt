@@ -1,5 +1,5 @@
 -- What was read, where memory may have been wanted.
-use Rattle.std.proofs.Common.{◌≡◌, Option, Some, None, Result, Ok, Err, subst}
+use Rattle.std.proofs.Common.{◌≡◌, Option, Some, None, Ok, subst}
 use Rattle.eventkey.specs.Reading.{Gives}
 
 module _ {X Y : Type 0} (E : Type 0) (seen : X → Y) (read : Option Y) (found : Option X) where

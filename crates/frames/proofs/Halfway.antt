@@ -1,10 +1,10 @@
 -- Calls that came only halfway.
-use Rattle.std.proofs.Common.{◌≡◌, ℕ, ◌<◌, ◌≤◌, min, ◌+◌, List, ◌++◌, length, Option, Some, None, Result, Ok, Err, inl, inr, refl, sym, subst, arith, length-append}
-use Rattle.std.specs.Result.{IsErr, IsErrAnd}
+use Rattle.std.proofs.Common.{◌≡◌, ℕ, ◌<◌, ◌≤◌, min, ◌+◌, List, ◌++◌, length, Option, Result, Ok, Err, inl, inr, sym, subst, arith, length-append}
+use Rattle.std.specs.Result.{IsErrAnd}
 use Rattle.std.specs.Io.KnownBytes.{Consumes, IsAtEnd}
 use Rattle.std.proofs.KnownBytes.{Consumes-trans}
 use Rattle.frames.specs.Cutting.{Cut}
-use Rattle.frames.specs.Streams.{Comes, GivesFewer, GivesSome, IsCutBy, IsHalfway, OnBytes}
+use Rattle.frames.specs.Streams.{Comes, GivesFewer, GivesSome, IsCutBy, OnBytes}
 use Rattle.wire.specs.declared.port.WireFault.{WireFault}
 use Rattle.wire.specs.declared.port.WireFault.TheVariants.{Io, NoMemory}
 use Rattle.frames.proofs.Cuts.{on_some}

@@ -1,5 +1,5 @@
 -- The exits of reading one frame: what came of the head and of the kind, and what stands there.
-use Rattle.std.proofs.Common.{◌≡◌, ℕ, zero, suc, ◌+◌, ◌<◌, ◌≤◌, ◌^◌, List, [], ◌∷◌, ◌++◌, length, take, Option, Some, None, Result, Ok, Err, inl, inr, refl, sym, ap, subst, ◌∙◌, arith, append-nil, append_assoc, slice_index}
+use Rattle.std.proofs.Common.{◌≡◌, ℕ, ◌<◌, ◌≤◌, ◌^◌, List, [], ◌∷◌, ◌++◌, length, take, Option, Some, None, Result, Ok, Err, inl, inr, sym, ap, subst, ◌∙◌, arith, append-nil, append_assoc, slice_index}
 use Rattle.std.proofs.lemmas.List.{take_all, length-take}
 use Rattle.std.specs.Io.KnownBytes.{Consumes, IsAtEnd}
 use Rattle.std.specs.Result.{IsErrAnd}
@@ -9,9 +9,8 @@ use Rattle.frames.specs.Bodies.{kind_of}
 use Rattle.frames.specs.Cutting.{Cut, cut}
 use Rattle.frames.specs.Streams.{Comes, GivesFewer, GivesSome, IsCutBy, IsHalfway, OnBytes}
 use Rattle.frames.specs.declared.Kind.{Kind}
-use Rattle.frames.specs.declared.stream.Raw.{Raw}
 use Rattle.wire.specs.declared.port.WireFault.{WireFault}
-use Rattle.wire.specs.declared.port.WireFault.TheVariants.{BadKind, Io, NoMemory, TooLong, Truncated}
+use Rattle.wire.specs.declared.port.WireFault.TheVariants.{BadKind, TooLong, Truncated}
 use Rattle.frames.proofs.Cuts.{cut_bad_kind, cut_long, cut_no_body, cut_no_kind, cut_none, cut_short, cut_whole, on_bytes, on_end, on_some}
 
 -- what filling a buffer says

@@ -1,14 +1,13 @@
 -- Whole bodies: each has one spelling, no other bytes are read, and no byte is left over.
-use Rattle.std.proofs.Common.{◌≡◌, ℕ, zero, suc, ◌+◌, ◌^◌, ◌<◌, ◌≤◌, Bool, true, false, cond, List, [], ◌∷◌, ◌++◌, length, Option, Some, None, refl, sym, ap, subst, ◌∙◌, arith, inl, inr, eqb-true}
+use Rattle.std.proofs.Common.{◌≡◌, ℕ, ◌^◌, ◌<◌, ◌≤◌, Bool, true, cond, List, [], ◌∷◌, ◌++◌, length, Option, Some, None, refl, sym, ap, subst, ◌∙◌, arith, inl, inr, eqb-true}
 use Rattle.std.specs.Prelude.{nat_le, nat_lt, nat_eq, ◌&&◌, IfOk, IfSome, Result, Ok, Err}
 use Rattle.std.proofs.lemmas.Bool.{and_from, and_parts, leb-true, le-leb, ltb-true, lt-ltb}
 use Rattle.std.proofs.lemmas.List.{nil_from_length}
 use Rattle.std.proofs.lemmas.Option.{cond_some, none-some}
 use Rattle.byteorder.specs.Endian.{big_bytes}
 use Rattle.eventkey.specs.Reading.{IsBytes, ◌>>=◌, number_at, items_at}
-use Rattle.eventkey.specs.Spelling.{signed_at, signed_bytes}
 use Rattle.eventkey.specs.declared.Signed.{Signed}
-use Rattle.eventkey.proofs.Fields.{Takes-then, bind_some, format4, format8, step_of}
+use Rattle.eventkey.proofs.Fields.{Takes-then, format4, format8, step_of}
 use Rattle.eventkey.proofs.Readings.{signed_format}
 use Rattle.node.specs.declared.Load.{Load}
 use Rattle.node.specs.declared.NodeFault.{NodeFault}

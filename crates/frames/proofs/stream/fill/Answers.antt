@@ -1,6 +1,4 @@
-use Rattle.std.proofs.Common.{rules, ◌≡◌, ◌≤◌, ◌+◌, ◌-◌, length, take, arith, subst, sym}
-use Rattle.std.specs.Io.KnownBytes.{Consumes}
-use borrow.Rule.Slice.PartMut.{put_mid}
+use Rattle.std.proofs.Common.{rules}
 use Rattle.frames.proofs.Filling.{fill_kept, fill_more}
 use Rattle.frames.proofs.stream.fill.Goals as goal
 use Rattle.frames.proofs.stream.fill.Goals.{in-Ok, in-Err+else-ne}

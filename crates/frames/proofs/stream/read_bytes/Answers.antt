@@ -1,4 +1,4 @@
-use Rattle.std.proofs.Common.{rules, ◌≡◌, ◌≤◌, ◌+◌, ◌-◌, length, take, arith, subst, sym, length-take}
+use Rattle.std.proofs.Common.{rules, ◌≡◌, ◌-◌, length, arith, length-take}
 use Rattle.std.proofs.KnownBytes.{Consumes-trans}
 use Rattle.frames.proofs.Halfway.{min_second, comes_io, comes_memory, fewer_given, more_given}
 use Rattle.frames.proofs.stream.read_bytes.Goals as goal

@@ -1,10 +1,9 @@
-use Rattle.std.proofs.Common.{rules, ◌≡◌, ◌<◌, ◌≤◌, ◌^◌, length, arith, sym, ap, subst, ◌∙◌}
+use Rattle.std.proofs.Common.{rules, ◌<◌, ◌≤◌, ◌^◌, sym, subst, ◌∙◌}
 use Rattle.byteorder.specs.Endian.{big_number}
-use Rattle.std.specs.Io.KnownBytes.{Consumes}
 use Rattle.frames.specs.Cutting.{cut}
-use Rattle.frames.specs.Streams.{GivesFewer, IsCutBy, OnBytes}
+use Rattle.frames.specs.Streams.{GivesFewer}
 use Rattle.frames.proofs.Halfway.{cut_io, more_given}
-use Rattle.frames.proofs.Raws.{Came, HasHead, HasKind, body_missing, body_there, came_all, cut_halfway, has_kind, raw_bad_kind, raw_long, raw_no_body, raw_no_kind, raw_none, raw_short, raw_whole}
+use Rattle.frames.proofs.Raws.{Came, HasHead, body_missing, body_there, came_all, cut_halfway, has_kind, raw_bad_kind, raw_long, raw_no_body, raw_no_kind, raw_none, raw_short, raw_whole}
 use Rattle.frames.proofs.stream.read_raw.Goals as goal
 
 pub returns-then-came-eq0 : goal.returns-then-came-eq0

@@ -1,6 +1,5 @@
 use Rattle.std.proofs.Common.{◌≡◌, ◌++◌, take}
 use Rattle.std.specs.List.{flat_map}
-use Rattle.byteorder.specs.Endian.{big_bytes}
 use Rattle.frames.specs.Bodies.{part_bytes}
 use Rattle.frames.proofs.writing.append_parts.Given as goal
 
