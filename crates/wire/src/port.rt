@@ -6,6 +6,7 @@ ghost use Rattle.wire.specs.Port.{IsLoadFault, IsLoadInRange, IsLoaded, IsForWan
 ghost use Rattle.wire.specs.Port.Stage.{Ended, Fresh, Idle, Posted};
 
 use node::{Load, NodeFault, Parcel, Reply};
+use std::alloc::{AllocError, AllocFailed};
 use thiserror::Error;
 
 /// Why bytes are no frame, or are not sent.
@@ -29,6 +30,36 @@ pub enum WireFault {
     /// Memory was refused.
     #[error("NoMemory")]
     NoMemory,
+}
+
+impl From<AllocError> for WireFault {
+    ghost use Rattle.wire.specs.declared.port.WireFault.TheVariants.{NoMemory};
+
+    ghost from_gives = { λ _ e. e ≡ NoMemory };
+
+    fn from(_refused: AllocError) -> WireFault {
+        WireFault::NoMemory
+    }
+}
+
+impl<T: Drop> From<AllocFailed<T>> for WireFault {
+    ghost use Rattle.wire.specs.declared.port.WireFault.TheVariants.{NoMemory};
+
+    ghost from_gives = { λ _ e. e ≡ NoMemory };
+
+    fn from(_refused: AllocFailed<T>) -> WireFault {
+        WireFault::NoMemory
+    }
+}
+
+impl From<std::io::Error> for WireFault {
+    ghost use Rattle.wire.specs.declared.port.WireFault.TheVariants.{Io};
+
+    ghost from_gives = { λ _ e. e ≡ Io };
+
+    fn from(_error: std::io::Error) -> WireFault {
+        WireFault::Io
+    }
 }
 
 /// Why a port refuses a call.
