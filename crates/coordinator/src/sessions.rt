@@ -47,7 +47,8 @@ pub fn resume<M: Simulated, P: Port + Drop, D: SectorDisk>(
     // The headline for one session, whatever front was told last on the disk.
     ensures kept { let made = map move_of (take result.done steps.now) in
         AllTell (M.meaning model.now) (map P.state ports.items) → (v : World) →
-        IsResumed (M.meaning model.now) end (length ports.items) made v (D.state disk) (D.state result.disk) result.time }
+        IsResumed (M.meaning model.now) end (length ports.items) made v
+        (D.state disk) (D.state result.disk) result.time }
 
     ensures all { result.fault ≡ None → (result.done ≡ length steps.now) × IsSome result.time }
     ensures refused { result.time ≡ None → (result.done ≡ 0) × IfSome result.fault (λ fault.
@@ -55,7 +56,8 @@ pub fn resume<M: Simulated, P: Port + Drop, D: SectorDisk>(
         ((D.state disk).failures < (D.state result.disk).failures) fault) }
     ensures want { (a : ℕ) → Recovers (M.meaning model.now) end a (D.state disk) →
         AllTell (M.meaning model.now) (map P.state ports.items) → result.time ≡ None →
-        IfSome result.fault (λ fault. IsForWantAtOpening fault ((D.state disk).failures < (D.state result.disk).failures)) }
+        IfSome result.fault (λ fault. IsForWantAtOpening fault
+        ((D.state disk).failures < (D.state result.disk).failures)) }
 {
     let mut session = match Session::open(alloc, model, ports, disk, end) {
         Ok(session) => session,
@@ -80,7 +82,12 @@ fn left<M: Simulated, P: Port + Drop, D: SectorDisk>(
     done: u64,
     fault: Option<SessionFault>,
 ) -> Resumed<D>
-    ensures { result ≡ record { disk = session.entry.log.disk; time = Some session.entry.front.time; done = done; fault = fault } }
+    ensures { result ≡ record {
+      disk = session.entry.log.disk;
+      time = Some session.entry.front.time;
+      done = done;
+      fault = fault;
+    } }
 {
     let time = session.front().time;
     Resumed {
