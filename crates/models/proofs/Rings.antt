@@ -1,6 +1,6 @@
 -- A loop over the tokens that start at a process.
 use Rattle.std.specs.Prelude.{ℕ, zero, suc, ◌+◌, ◌-◌, ◌*◌, ◌%◌, ◌<◌, ◌≤◌, ◌≡◌, ◌==◌, ◌++◌, List, [], ◌∷◌, filter, map, length}
-use Rattle.std.proofs.Common.{arith, refl, ap, ◌∙◌, sym, inl, inr, length-append}
+use Rattle.std.proofs.Common.{arith, ap, ◌∙◌, sym, inl, inr, length-append}
 use Rattle.std.proofs.Math.Nat.{mul-le-mul_right}
 use Rattle.std.proofs.lemmas.Bool.{cases_lt}
 use Rattle.std.proofs.lemmas.List.{map-append}

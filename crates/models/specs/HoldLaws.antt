@@ -1,6 +1,5 @@
 -- PHOLD keeps the laws of a model.
-use Rattle.std.specs.List.{AllByRecursion as Every}
-use Rattle.std.specs.Prelude.{ℕ, ◌+◌, ◌*◌, ◌%◌, ◌^◌, ◌<◌, ◌≤◌, List, [], ◌∷◌, length, map}
+use Rattle.std.specs.Prelude.{ℕ, ◌+◌, ◌*◌, ◌^◌, ◌<◌, ◌≤◌}
 use Rattle.std.proofs.Common.{arith, lit<, lit≤}
 use Rattle.std.proofs.Math.Nat.{mod-lt, mul-le-mul_left}
 use Rattle.std.proofs.lemmas.List.{length-map}
@@ -8,8 +7,8 @@ use Rattle.eventkey.proofs.Lists.{Every-map, Every-weaker}
 use Rattle.model.proofs.Worlds.{Every-below, length-below}
 use Rattle.model.specs.Meaning.{IsLawful, IsSend}
 use Rattle.model.specs.World.{below}
-use Rattle.models.specs.Phold.{GoodHold, Hold, IsHold, delay_by, first_hold, held_on, hold_key, hold_meaning}
-use Rattle.models.specs.WordLaws.{key_lt, word_lt}
+use Rattle.models.specs.Phold.{GoodHold, Hold, IsHold, delay_by, first_hold, hold_key, hold_meaning}
+use Rattle.models.specs.WordLaws.{key_lt}
 use Rattle.models.specs.Words.{word}
 
 delay_lt : (spread word : ℕ) → 1 ≤ spread → spread < 2 ^ 32 → delay_by spread word < 2 ^ 32

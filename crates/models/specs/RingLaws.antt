@@ -1,16 +1,16 @@
 -- Every ring of tokens keeps the laws of a model.
 use Rattle.std.specs.List.{AllByRecursion as Every}
-use Rattle.std.specs.Prelude.{ℕ, zero, suc, ◌+◌, ◌-◌, ◌*◌, ◌%◌, ◌^◌, ◌<◌, ◌≤◌, ◌≡◌, ◌==◌, ◌++◌, List, [], ◌∷◌, Bool, true, false, filter, map, length, cond}
-use Rattle.std.proofs.Common.{arith, lit<, lit≤, refl, ap, ◌∙◌, sym, inl, inr, add-suc, add-zero, zero-add, add-one, eq-eqb, length-append}
+use Rattle.std.specs.Prelude.{ℕ, zero, suc, ◌+◌, ◌-◌, ◌*◌, ◌%◌, ◌<◌, ◌≤◌, ◌≡◌, ◌==◌, ◌++◌, [], ◌∷◌, Bool, true, false, filter, length, cond}
+use Rattle.std.proofs.Common.{arith, lit<, lit≤, ap, ◌∙◌, inl, inr, add-suc, add-zero, zero-add, add-one, eq-eqb, length-append}
 use Rattle.std.proofs.Math.Nat.{mod-lt}
-use Rattle.std.proofs.lemmas.Bool.{cases_Bool, ne_eqb, cases_lt}
+use Rattle.std.proofs.lemmas.Bool.{ne_eqb, cases_lt}
 use Rattle.std.proofs.lemmas.List.{append-nil, length-map}
 use Rattle.std.proofs.lemmas.List.Elements.{filter-append}
 use Rattle.std.proofs.lemmas.Nat.{mod-mul-add}
 use Rattle.eventkey.proofs.Lists.{Every-append, Every-map}
 use Rattle.model.specs.Meaning.{IsLawful, IsSend}
 use Rattle.model.specs.World.{below}
-use Rattle.models.specs.Ring.{GoodRing, IsRing, Ring, first_send, counted, handed_on, ring_meaning, tokens_at}
+use Rattle.models.specs.Ring.{GoodRing, IsRing, Ring, first_send, ring_meaning, tokens_at}
 
 -- what holds of each number below n holds of those that a test keeps
 pub Every-kept : (P : ℕ → Type 0) (p : ℕ → Bool) (n : ℕ) → ((j : ℕ) → j < n → P j) → Every P (filter p (below n))

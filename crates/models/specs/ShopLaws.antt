@@ -1,6 +1,6 @@
 -- A job shop keeps the laws of a model.
 use Rattle.std.specs.List.{AllByRecursion as Every}
-use Rattle.std.specs.Prelude.{◌≡◌, ℕ, ◌+◌, ◌-◌, ◌*◌, ◌%◌, ◌^◌, ◌<◌, ◌≤◌, List, [], ◌∷◌, Bool, true, false, length, map, if◌then◌else◌, slice_index}
+use Rattle.std.specs.Prelude.{◌≡◌, ℕ, ◌+◌, ◌-◌, ◌*◌, ◌^◌, ◌<◌, ◌≤◌, List, [], ◌∷◌, false, length, if◌then◌else◌, slice_index}
 use Rattle.std.proofs.Common.{arith, lit<, lit≤, inl, inr}
 use Rattle.std.proofs.Math.Nat.{mod-lt, mul-le-mul_left}
 use Rattle.std.proofs.lemmas.Bool.{cases_Bool, ltb-false}
@@ -10,10 +10,8 @@ use Rattle.eventkey.specs.Message.{IsRanged, Message}
 use Rattle.model.proofs.Worlds.{Every-below, length-below}
 use Rattle.model.specs.Meaning.{IsLawful, IsSend, IsWords}
 use Rattle.model.specs.World.{below}
-use Rattle.model.specs.declared.Outgoing.{Outgoing}
-use Rattle.models.specs.JobShop.{GoodShop, IsShop, Shop, after_refusal, after_service, begun, ended, first_job, is_turned_away, passed_on, shop_key, shop_meaning}
+use Rattle.models.specs.JobShop.{GoodShop, IsShop, Shop, after_refusal, after_service, ended, first_job, is_turned_away, passed_on, shop_key, shop_meaning}
 use Rattle.models.specs.WordLaws.{key_lt}
-use Rattle.models.specs.Words.{word}
 
 first_lawful : (s : Shop) → IsShop s → (lp : ℕ) → lp < s.lps → (k : ℕ) → k < s.jobs → IsSend s.lps (first_job s lp k)
 first_lawful s good lp l k b =

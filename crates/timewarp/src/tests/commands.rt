@@ -97,7 +97,10 @@ fn seq_runs_each_kind_of_model(rt: HostRuntime) -> std::result::Result<(), Fail>
     ];
     for (file, start, end) in files {
         let told = run_seq(&rt, "timewarp-kinds.toml", file.as_bytes())?;
-        assert!(rt; told.out.as_slice().starts_with(start.as_bytes()), "{start}");
+        assert!(rt;
+            told.out.as_slice().starts_with(start.as_bytes()),
+            "{start}"
+        );
         assert!(rt; told.out.as_slice().ends_with(end.as_bytes()), "{end}");
         assert_eq!(rt; (told.status, told.err.len()), (0, 0));
     }
