@@ -53,16 +53,16 @@ module _ {M P D : Type 0} (meaning : M → Meaning) (state : P → PortState) (d
   -- a step more, made or not
   pub crashed : (ks : List Move) (old mid new : Session M P D) → Goes meaning state disk ks old mid
       → (IsTold (running meaning state mid) → IsWritten (meaning mid.model) mid.end mid.front mid.log → Recovers (meaning mid.model) mid.end mid.front.time (disk mid.log.disk)
-        → KeepsRecovery (meaning mid.model) mid.end mid.front.time new.front.time (disk mid.log.disk) (disk new.log.disk))
+      → KeepsRecovery (meaning mid.model) mid.end mid.front.time new.front.time (disk mid.log.disk) (disk new.log.disk))
       → IsTold (running meaning state old) → IsWritten (meaning old.model) old.end old.front old.log → Recovers (meaning old.model) old.end old.front.time (disk old.log.disk)
       → KeepsRecovery (meaning old.model) old.end old.front.time new.front.time (disk old.log.disk) (disk new.log.disk)
   crashed ks old mid new first second told is recovers =
       let before = first.crashes told is recovers in
       followed_by (meaning old.model) old.end old.front.time mid.front.time new.front.time (disk old.log.disk) (disk mid.log.disk) (disk new.log.disk) before
       (carry (λ (x : M) (e : ℕ). KeepsRecovery (meaning x) e mid.front.time new.front.time (disk mid.log.disk) (disk new.log.disk)) old.model mid.model old.end mid.end first.model_is first.end_is
-        (second (first.made told).told
-          (carry (λ (x : M) (e : ℕ). IsWritten (meaning x) e mid.front mid.log) mid.model old.model mid.end old.end (sym first.model_is) (sym first.end_is) (first.written told is))
-          (carry (λ (x : M) (e : ℕ). Recovers (meaning x) e mid.front.time (disk mid.log.disk)) mid.model old.model mid.end old.end (sym first.model_is) (sym first.end_is) before.now_on)))
+      (second (first.made told).told
+      (carry (λ (x : M) (e : ℕ). IsWritten (meaning x) e mid.front mid.log) mid.model old.model mid.end old.end (sym first.model_is) (sym first.end_is) (first.written told is))
+      (carry (λ (x : M) (e : ℕ). Recovers (meaning x) e mid.front.time (disk mid.log.disk)) mid.model old.model mid.end old.end (sym first.model_is) (sym first.end_is) before.now_on)))
 
   pub joined : (ks ls : List Move) (old mid new : Session M P D) → Goes meaning state disk ks old mid → Goes meaning state disk ls mid new → Goes meaning state disk (ks ++ ls) old new
   joined ks ls old mid new first second = record {
@@ -80,7 +80,7 @@ module _ {M P D : Type 0} (meaning : M → Meaning) (state : P → PortState) (d
     written = λ told is.
         carry (λ (x : M) (e : ℕ). IsWritten (meaning x) e new.front new.log) old.model mid.model old.end mid.end first.model_is first.end_is
         (second.written (first.made told).told
-          (carry (λ (x : M) (e : ℕ). IsWritten (meaning x) e mid.front mid.log) mid.model old.model mid.end old.end (sym first.model_is) (sym first.end_is) (first.written told is)));
+        (carry (λ (x : M) (e : ℕ). IsWritten (meaning x) e mid.front mid.log) mid.model old.model mid.end old.end (sym first.model_is) (sym first.end_is) (first.written told is)));
     crashes = crashed ks old mid new first second.crashes;
   }
 
@@ -89,7 +89,7 @@ module _ {M P D : Type 0} (meaning : M → Meaning) (state : P → PortState) (d
       → (IsTold (running meaning state old) → IsMade k (running meaning state old) (running meaning state new) answer)
       → (IsTold (running meaning state old) → IsWritten (meaning old.model) old.end old.front old.log → IsWritten (meaning old.model) old.end new.front new.log)
       → (IsTold (running meaning state old) → IsWritten (meaning old.model) old.end old.front old.log → Recovers (meaning old.model) old.end old.front.time (disk old.log.disk)
-        → KeepsRecovery (meaning old.model) old.end old.front.time new.front.time (disk old.log.disk) (disk new.log.disk))
+      → KeepsRecovery (meaning old.model) old.end old.front.time new.front.time (disk old.log.disk) (disk new.log.disk))
       → Goes meaning state disk (k ∷ []) old new
   one_made k answer old new same made written crashes = record {
     model_is = same.0;

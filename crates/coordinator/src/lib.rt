@@ -9,8 +9,8 @@ mod sessions;
 
 use eventkey::Listed;
 pub use opening::NotOpened;
-use recovery::RecoveryFault;
 pub use protocol::Answer;
+use recovery::RecoveryFault;
 pub use session::{FrontView, Session};
 pub use sessions::{Resumed, headline, resume};
 use thiserror::Error;
@@ -26,7 +26,9 @@ pub enum Step {
         budget: u32,
     },
     /// The reply of a node is taken.
-    Take { node: u32 },
+    Take {
+        node: u32,
+    },
     /// What no rollback reaches any more is committed.
     Commit,
 }

@@ -16,7 +16,11 @@ use process::Done;
 use wire::{Port, PortFault};
 
 /// Hands the node at this place a parcel.
-pub(crate) fn post<P: Port>(ports: &mut Vec<P>, node: usize, parcel: Parcel) -> Result<(), PortFault>
+pub(crate) fn post<P: Port>(
+    ports: &mut Vec<P>,
+    node: usize,
+    parcel: Parcel,
+) -> Result<(), PortFault>
     requires there { node < length ports.old.items }
     requires idle { (port_at (map P.state ports.old.items) node).stage ≡ Idle }
     requires range { parcel.floor ≤ 2 ^ 40 }

@@ -76,10 +76,8 @@ type Local<'m> = Session<'m, Ring, LocalPort<'m, Ring>, MemDisk>;
 
 /// Fresh ports, one for each of three nodes.
 fn ports(alloc: Global, ring: &Ring) -> Result<Vec<LocalPort<'_, Ring>>, AllocError>
-    ensures {
-        IfOk result (λ ports. (length ports.items ≡ 3)
-            × AllFresh (map (λ p. state_of ring_meaning p.held) ports.items))
-    }
+    ensures { IfOk result (λ ports. (length ports.items ≡ 3)
+        × AllFresh (map (λ p. state_of ring_meaning p.held) ports.items)) }
 {
     let mut ports = Vec::new(alloc);
     ports.push(LocalPort::new(alloc, ring))?;
@@ -114,17 +112,59 @@ enum Row {
 /// Each step, and what it answers.
 const STEPS: [(Row, Answer); 13] = [
     (Row::Post(0, &[], 1), Answer::Posted { floor: 1 }),
-    (Row::Take(0), Answer::Taken { ran: 1, out: 1, fossils: 0 }),
+    (
+        Row::Take(0),
+        Answer::Taken {
+            ran: 1,
+            out: 1,
+            fossils: 0,
+        },
+    ),
     (Row::Post(1, &[], 1), Answer::Posted { floor: 1 }),
-    (Row::Take(1), Answer::Taken { ran: 1, out: 1, fossils: 0 }),
+    (
+        Row::Take(1),
+        Answer::Taken {
+            ran: 1,
+            out: 1,
+            fossils: 0,
+        },
+    ),
     (Row::Post(1, &[0], 1), Answer::Posted { floor: 3 }),
-    (Row::Take(1), Answer::Taken { ran: 1, out: 1, fossils: 1 }),
+    (
+        Row::Take(1),
+        Answer::Taken {
+            ran: 1,
+            out: 1,
+            fossils: 1,
+        },
+    ),
     (Row::Post(2, &[1], 1), Answer::Posted { floor: 3 }),
-    (Row::Take(2), Answer::Taken { ran: 1, out: 1, fossils: 0 }),
+    (
+        Row::Take(2),
+        Answer::Taken {
+            ran: 1,
+            out: 1,
+            fossils: 0,
+        },
+    ),
     (Row::Post(2, &[0], 2), Answer::Posted { floor: 3 }),
-    (Row::Take(2), Answer::Taken { ran: 2, out: 3, fossils: 0 }),
+    (
+        Row::Take(2),
+        Answer::Taken {
+            ran: 2,
+            out: 3,
+            fossils: 0,
+        },
+    ),
     (Row::Post(0, &[1, 0], 0), Answer::Posted { floor: 5 }),
-    (Row::Take(0), Answer::Taken { ran: 0, out: 0, fossils: 1 }),
+    (
+        Row::Take(0),
+        Answer::Taken {
+            ran: 0,
+            out: 0,
+            fossils: 1,
+        },
+    ),
     (Row::Commit, Answer::Committed { g: 3, events: 2 }),
 ];
 
@@ -165,7 +205,15 @@ fn is_at_three(session: &Local<'_>) -> bool {
     let front = session.front();
     front.time == 3
         && front.log.len() == 2
-        && front.log.iter().map(fields).eq([[1, 0, 0, 0, 0, 0], [1, 1, 0, 1, 1, 0]])
+        && front
+            .log
+            .iter()
+            .map(fields)
+            .eq([[1, 0, 0, 0, 0, 0], [1, 1, 0, 1, 1, 0]])
         && front.numbers == [2, 2, 0].as_slice()
-        && front.pending.iter().map(fields).eq([[3, 0, 1, 1, 0, 1], [3, 1, 1, 2, 1, 1]])
+        && front
+            .pending
+            .iter()
+            .map(fields)
+            .eq([[3, 0, 1, 1, 0, 1], [3, 1, 1, 2, 1, 1]])
 }

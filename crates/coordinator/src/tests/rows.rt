@@ -5,11 +5,17 @@ use super::*;
 type Seen = (Sign, [u64; 6]);
 
 const A: Seen = (Sign::Plus, [3, 0, 1, 1, 0, 1]);
+
 const B: Seen = (Sign::Plus, [3, 1, 1, 2, 1, 1]);
+
 const C: Seen = (Sign::Plus, [5, 1, 2, 2, 0, 2]);
+
 const D: Seen = (Sign::Plus, [7, 2, 0, 0, 0, 3]);
+
 const UNDONE: Seen = (Sign::Minus, [7, 2, 0, 0, 0, 3]);
+
 const E: Seen = (Sign::Plus, [5, 2, 0, 0, 1, 2]);
+
 const F: Seen = (Sign::Plus, [7, 2, 1, 0, 0, 3]);
 
 /// What travels after each step.

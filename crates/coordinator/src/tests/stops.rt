@@ -27,7 +27,12 @@ fn spent_by(alloc: Global, ring: &Ring, fail: u64) -> Result<Option<MemDisk>, Fa
         Ok(_done) => return Ok(None),
         Err(stop) => {
             let disk = SessionFault::Disk;
-            if stop != (DriveFault { done: 12, fault: disk }) {
+            if stop
+                != (DriveFault {
+                    done: 12,
+                    fault: disk,
+                })
+            {
                 return Ok(None);
             }
         }
