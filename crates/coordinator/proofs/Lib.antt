@@ -1,7 +1,11 @@
-mod Awaited
 mod Batches
 mod Committing
 mod PortStates
 mod Posting
 mod Taking
+mod Driving
 mod Refusals
+mod Loading
+mod Begun
+mod Histories
+mod Resuming

@@ -1,5 +1,9 @@
-pub mod Replies
+-- For callers.
 pub mod Session
 pub mod Steps
 pub mod Crashes
 pub mod Drives
+pub mod Opening
+pub mod Headline
+-- For tests.
+pub mod Ring

@@ -1,6 +1,6 @@
 -- A session: what can be said of it between two steps.
 use Rattle.std.specs.List.{AllByRecursion as Every}
-use Rattle.std.specs.Prelude.{Bool, List, None, Option, Some, [], false, get_or, length, map, true, ℕ, ◌<◌, ◌≡◌, ◌≤◌}
+use Rattle.std.specs.Prelude.{Bool, List, None, Option, Some, [], false, get_or, length, map, true, ℕ, ◌<◌, ◌^◌, ◌≡◌, ◌≤◌}
 use Rattle.commitlog.specs.Log.{Opened}
 use Rattle.eventkey.specs.Bag.{IsAscending}
 use Rattle.gvt.specs.Ledger.{Ledger}
@@ -68,6 +68,7 @@ stage_by (Some parcel) = Posted parcel
 -- What holds of every session that is not spent, over whatever ports and on whatever disk.
 pub record IsFit (r : Running) : Type 0 where
   pub end_is : r.ledger.end ≡ r.end
+  pub short : r.end ≤ 2 ^ 40
   pub parcels : length r.ledger.parcels ≡ length r.ports
   pub floors : length r.ledger.floors ≡ length r.ports
   pub few : length r.ports ≤ 64
@@ -88,10 +89,3 @@ pub record IsTold (r : Running) : Type 0 where
   pub ports : (k : ℕ) → k < length r.ports → IsPortOf r k (port_at r.ports k)
   pub lows : r.ledger.lows ≡ lows_of (picture_of r)
   pub system : IsSystem r.meaning r.end (picture_of r)
-
--- every one of these ports tells its node, which runs this model
-abbrev pub AllTell : Meaning → List PortState → Type 0
-AllTell m ports = (k : ℕ) → k < length ports → ((port_at ports k).tells ≡ true) × ((port_at ports k).meaning ≡ m)
-
-abbrev pub AllFresh : List PortState → Type 0
-AllFresh ports = (k : ℕ) → k < length ports → (port_at ports k).stage ≡ Fresh

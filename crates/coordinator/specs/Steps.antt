@@ -6,7 +6,7 @@ use Rattle.model.specs.Meaning.{Meaning}
 use Rattle.node.specs.Node.{Work, reply_of, work_here}
 use Rattle.node.specs.declared.NodeFault.TheVariants as node
 use Rattle.node.specs.declared.Parcel.{Parcel}
-use Rattle.protocol.specs.Moves.{Move, Refusal, is_busy, move, refusal, told_before}
+use Rattle.protocol.specs.Moves.{Move, Refusal, answer_of, is_busy, move, refusal, told_before}
 use Rattle.protocol.specs.Moves.Move.{Checkpoint as CheckpointMove, Commit as CommitMove, Post as PostMove, Take as TakeMove}
 use Rattle.protocol.specs.Moves.Refusal.{NumberLimit as NumberLimitRefusal}
 use Rattle.protocol.specs.Picture.{Picture, gvt, node_of, nodes_of}
@@ -14,8 +14,7 @@ use Rattle.wire.specs.Port.{IsForWant}
 use Rattle.wire.specs.declared.port.PortFault.{PortFault}
 use Rattle.wire.specs.declared.port.PortFault.TheVariants.{Peer}
 use Rattle.coordinator.specs.Session.{IsTold, Running, picture_of}
-use Rattle.coordinator.specs.declared.Answer.{Answer}
-use Rattle.coordinator.specs.declared.Answer.TheVariants.{AlreadyAt, Committed, Posted, Taken}
+use Rattle.protocol.specs.declared.Answer.{Answer}
 use Rattle.coordinator.specs.declared.SessionFault.{SessionFault}
 use Rattle.coordinator.specs.declared.SessionFault.TheVariants.{Busy, Disk, Full, Idle, NoMemory, NoSuchNode, NoSuchPick, NumberLimit, Port, Recovery, Spent, TooLong}
 use Rattle.coordinator.specs.declared.Step.{Step}
@@ -33,19 +32,6 @@ next_time end p = least_floor end p.floors
 
 abbrev pub next_events : ℕ → Picture → ℕ
 next_events end p = length (told_before (next_time end p) p.gathered)
-
--- a take, by the parcel of the node
-abbrev pub taken_answer : Meaning → ℕ → ℕ → Picture → Option Parcel → Option Answer
-taken_answer m end node p None = None
-taken_answer m end node p (Some parcel) =
-    option_map (λ (w : Work). Taken w.ran (length w.out) (length (reply_of parcel.floor w).fossils)) (work_here m end (nodes_of p) parcel (node_of p node))
-
--- What a move answers, by its own numbers; none where it is refused.
-abbrev pub answer_of : Meaning → ℕ → Move → Picture → Option Answer
-answer_of m end (PostMove node picks budget) p = Some (Posted (gvt end p))
-answer_of m end (TakeMove node) p = taken_answer m end node p (get_or p.parcels node None)
-answer_of m end CommitMove p = Some (if nat_lt p.front.time (next_time end p) then Committed (next_time end p) (next_events end p) else AlreadyAt p.front.time)
-answer_of m end CheckpointMove p = None
 
 -- The step is the move of the picture, from told to told, and answers its numbers.
 pub record IsMade (k : Move) (old new : Running) (answer : Answer) : Type 0 where

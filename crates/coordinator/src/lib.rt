@@ -2,12 +2,17 @@
 #![tactic(auto)]
 
 mod batch;
+mod opening;
 mod ports;
 mod session;
+mod sessions;
 
 use eventkey::Listed;
+pub use opening::NotOpened;
 use recovery::RecoveryFault;
-pub use session::Session;
+pub use protocol::Answer;
+pub use session::{FrontView, Session};
+pub use sessions::{Resumed, headline, resume};
 use thiserror::Error;
 use wire::PortFault;
 
@@ -24,23 +29,6 @@ pub enum Step {
     Take { node: u32 },
     /// What no rollback reaches any more is committed.
     Commit,
-}
-
-/// What a step answers.
-#[derive(Clone, Copy, Debug, PartialEq, Eq)]
-pub enum Answer {
-    /// A parcel of this floor, in ticks, was posted.
-    Posted { floor: u64 },
-    /// The node handled so many messages, sent so many, and told of so many handlings.
-    Taken {
-        ran: u32,
-        out: usize,
-        fossils: usize,
-    },
-    /// So many events are committed, and with them all before the virtual time `g`, in ticks.
-    Committed { g: u64, events: usize },
-    /// There is nothing to commit: the front is at this virtual time, in ticks, already.
-    AlreadyAt { g: u64 },
 }
 
 /// Why a session refuses a call.
@@ -90,3 +78,6 @@ pub struct DriveFault {
     pub done: u64,
     pub fault: SessionFault,
 }
+
+#[cfg(test)]
+mod tests;

@@ -1,5 +1,2 @@
-pub mod Rings
-pub mod Written
-pub mod Tables
 pub mod Lines
 pub mod Runs

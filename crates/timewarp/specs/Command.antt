@@ -2,15 +2,15 @@
 use Rattle.std.specs.Io.KnownBytes.{Appends}
 use Rattle.std.specs.Prelude.{ℕ, List, ◌++◌, Option}
 use Rattle.model.specs.World.{IsUpto, World}
-use Rattle.timewarp.specs.Any.{any_meaning}
-use Rattle.timewarp.specs.ModelFile.{IsModelFile}
-use Rattle.timewarp.specs.Text.{log_text, world_text}
-use Rattle.timewarp.specs.Writing.{TakesBeginning}
-use Rattle.timewarp.specs.declared.model_file.ModelFault.{ModelFault}
-use Rattle.timewarp.specs.declared.model_file.ModelFault.TheVariants as file
+use Rattle.models.specs.Any.{any_meaning}
+use Rattle.texts.specs.ModelFile.{IsModelFile}
+use Rattle.texts.specs.Text.{log_text, world_text}
+use Rattle.texts.specs.Writing.{TakesBeginning}
+use Rattle.texts.specs.declared.model_file.ModelFault.{ModelFault}
+use Rattle.texts.specs.declared.model_file.ModelFault.TheVariants as file
 use Rattle.timewarp.specs.declared.command.Fault.{Fault}
 use Rattle.timewarp.specs.declared.command.Fault.TheVariants.{BadModel, NoMemory}
-use Rattle.timewarp.specs.declared.models.AnyModel.{AnyModel}
+use Rattle.models.specs.declared.any_model.AnyModel.{AnyModel}
 
 -- the log, then the world
 abbrev pub run_text : World → List ℕ
@@ -18,7 +18,7 @@ run_text w = log_text w.log ++ world_text w
 
 -- the program's own name for a refusal of a model file
 abbrev pub of_model : ModelFault → Fault
-of_model file.BadModel = BadModel
+of_model (file.BadModel mistake) = BadModel
 of_model file.NoMemory = NoMemory
 
 -- the writer has taken the run of a model: its sequential simulation up to its end, and nothing else

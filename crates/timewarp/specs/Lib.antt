@@ -1,8 +1,3 @@
-pub mod Ring
-pub mod RingLaws
-pub mod Any
-pub mod ModelFile
-pub mod Writing
-pub mod Text
-pub mod Line
-pub mod Command
+-- For callers
+pub mod Line  -- the command line
+pub mod Command  -- what the commands print

@@ -1,6 +1,6 @@
 // The interface of a port: what code above it may rely on.
 
-ghost use Rattle.std.specs.Prelude.{◌≡◌, true, IfErr, IfOk, OnErr, OnOk};
+ghost use Rattle.std.specs.Prelude.{◌≡◌, ◌≤◌, ◌^◌, true, IfErr, IfOk, OnErr, OnOk};
 ghost use Rattle.node.specs.declared.Parcel.{Parcel};
 ghost use Rattle.wire.specs.Port.{IsLoadFault, IsLoadInRange, IsLoaded, IsForWant, IsSamePort, IsTakeFault, IsTaken, PortState};
 ghost use Rattle.wire.specs.Port.Stage.{Ended, Fresh, Idle, Posted};
@@ -97,6 +97,7 @@ pub trait Port {
     /// Hands the node a parcel.
     fn post(&mut self, parcel: Parcel) -> Result<(), PortFault>
         requires idle { (state self.old).stage ≡ Idle }
+        requires range { parcel.floor ≤ 2 ^ 40 }
         ensures posted { OnOk result ((state self.new).stage ≡ Posted parcel) }
         ensures ended { OnErr result ((state self.new).stage ≡ Ended) }
         ensures same { IsSamePort (state self.old) (state self.new) }

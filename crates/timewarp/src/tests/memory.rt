@@ -3,9 +3,6 @@
 
 use crate::command::{Fault, seq};
 use crate::line::{Line, read_line};
-use crate::model_file::{ModelFault, read_model};
-use crate::models::AnyModel;
-use crate::ring::TokenRing;
 use crate::tests::commands::{RING, RING_TEXT, Told, run, temporary};
 use clap::error::ErrorKind;
 use model::WorldFault;
@@ -13,25 +10,6 @@ use std::alloc::Global;
 use std::fs;
 use std::rt::Files;
 use std::test::Fail;
-
-#[test]
-fn a_model_is_read_at_a_second_try(rt: HostRuntime) {
-    let mut read = read_model(rt.alloc(), RING);
-    if read == Err(ModelFault::NoMemory) {
-        read = read_model(rt.alloc(), RING);
-    }
-    assert!(rt; read == Ok((AnyModel::TokenRing(TokenRing::new(3, 2, 1)), 10)));
-}
-
-#[test]
-fn a_bad_model_is_refused_at_a_second_try(rt: HostRuntime) {
-    let text = "model = \"ring\"\nlps = 0\nend = 10\nhold = 2\ntokens = 1\n";
-    let mut read = read_model(rt.alloc(), text);
-    if read == Err(ModelFault::NoMemory) {
-        read = read_model(rt.alloc(), text);
-    }
-    assert!(rt; read == Err(ModelFault::BadModel));
-}
 
 /// Whether the line runs `ring.toml`, or its error's kind.
 fn runs_ring(alloc: Global, words: &[&str]) -> Result<bool, ErrorKind> {

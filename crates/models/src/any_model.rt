@@ -1,0 +1,60 @@
+// The models that a model file can name.
+
+use crate::job_shop::JobShop;
+use crate::parallel_hold::Phold;
+use crate::ring::TokenRing;
+use eventkey::Message;
+use model::{Model as Simulated, Sends, Words};
+use smallvec::SmallVec;
+use std::alloc::Global;
+
+/// One of the models that a model file can name.
+#[derive(Clone, Copy, Debug, PartialEq, Eq)]
+pub enum AnyModel {
+    /// Processes that hand tokens round.
+    TokenRing(TokenRing),
+    /// Processes that send messages on to drawn processes.
+    Phold(Phold),
+    /// Machines that serve jobs and hand them on.
+    JobShop(JobShop),
+}
+
+impl Simulated for AnyModel {
+    ghost use Rattle.models.specs.Any.{any_lawful, any_meaning};
+
+    ghost meaning = { any_meaning };
+
+    ghost lawful = { any_lawful };
+
+    fn lps(&self) -> u32 {
+        match self {
+            AnyModel::TokenRing(ring) => ring.lps(),
+            AnyModel::Phold(hold) => hold.lps(),
+            AnyModel::JobShop(shop) => shop.lps(),
+        }
+    }
+
+    fn identity(&self, alloc: Global) -> SmallVec<u64, 8> {
+        match self {
+            AnyModel::TokenRing(ring) => ring.identity(alloc),
+            AnyModel::Phold(hold) => hold.identity(alloc),
+            AnyModel::JobShop(shop) => shop.identity(alloc),
+        }
+    }
+
+    fn start(&self, alloc: Global, lp: u32) -> (Words, Sends) {
+        match self {
+            AnyModel::TokenRing(ring) => ring.start(alloc, lp),
+            AnyModel::Phold(hold) => hold.start(alloc, lp),
+            AnyModel::JobShop(shop) => shop.start(alloc, lp),
+        }
+    }
+
+    fn handle(&self, alloc: Global, lp: u32, state: &Words, message: &Message) -> (Words, Sends) {
+        match self {
+            AnyModel::TokenRing(ring) => ring.handle(alloc, lp, state, message),
+            AnyModel::Phold(hold) => hold.handle(alloc, lp, state, message),
+            AnyModel::JobShop(shop) => shop.handle(alloc, lp, state, message),
+        }
+    }
+}

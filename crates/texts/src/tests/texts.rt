@@ -1,0 +1,154 @@
+// The texts of logs and worlds, and writers that fail.
+
+use crate::{write_log, write_world};
+use eventkey::Message;
+use smallvec::SmallVec;
+use std::io::{Error, ErrorKind, Result, Write};
+use std::test::Fail;
+
+/// A writer that takes at most `count` bytes a call, and refuses the call number `fail`.
+#[derive(Drop)]
+struct Faulty {
+    taken: Vec<u8>,
+    count: usize,
+    calls: usize,
+    fail: usize,
+    kind: ErrorKind,
+}
+
+impl Write for Faulty {
+    fn write(&mut self, buf: &[u8]) -> Result<usize> {
+        let call = self.calls;
+        self.calls = self.calls.saturating_add(1);
+        if call == self.fail {
+            return Err(Error::from(self.kind));
+        }
+        let count = buf.len().min(self.count);
+        self.taken.extend_from_slice(&buf[..count])?;
+        Ok(count)
+    }
+
+    fn flush(&mut self) -> Result<()> {
+        Ok(())
+    }
+}
+
+const LOG: &str =
+    "1 0 0 0 0 0\n2199023255551 4294967295 18446744073709551615 7 3 18446744073709551614\n";
+
+const WORLD: &str = "\
+virtual time 9
+lp 0 sent 0 state
+lp 1 sent 9223372036854775808 state 5 0 18446744073709551615
+pending 1 0 0 0 0 0
+pending 2199023255551 4294967295 18446744073709551615 7 3 18446744073709551614
+";
+
+fn log() -> Option<[Message; 2]> {
+    let first = Message::new(1, 0, 0, 0, 0, 0).ok()?;
+    let last = Message::new((1 << 41) - 1, u32::MAX, u64::MAX, 7, 3, u64::MAX - 1).ok()?;
+    Some([first, last])
+}
+
+#[test]
+fn a_log_has_a_line_for_each_event(rt: HostRuntime) -> std::result::Result<(), Fail> {
+    let mut out = Vec::new(rt.alloc());
+    write_log(&[], &mut out)?;
+    assert_eq!(rt; out.len(), 0);
+    let log = log().ok_or("log")?;
+    write_log(&log, &mut out)?;
+    assert_eq!(rt; out.as_slice(), LOG.as_bytes());
+    Ok(())
+}
+
+#[test]
+fn a_world_has_its_processes_and_pending_messages(
+    rt: HostRuntime,
+) -> std::result::Result<(), Fail> {
+    let mut states = Vec::new(rt.alloc());
+    states.push(SmallVec::new(rt.alloc()))?;
+    states.push(SmallVec::from_slice(rt.alloc(), &[5, 0, u64::MAX])?)?;
+    let log = log().ok_or("log")?;
+    let mut out = Vec::new(rt.alloc());
+    write_world(9, states.as_slice(), &[0, 1 << 63], &log, &mut out)?;
+    assert_eq!(rt; out.as_slice(), WORLD.as_bytes());
+    Ok(())
+}
+
+#[test]
+fn what_a_failing_writer_has_is_a_beginning(rt: HostRuntime) -> std::result::Result<(), Fail> {
+    let log = log().ok_or("log")?;
+    let mut done = false;
+    for fail in 0..200 {
+        let mut out = Faulty {
+            taken: Vec::new(rt.alloc()),
+            count: 3,
+            calls: 0,
+            fail,
+            kind: ErrorKind::BrokenPipe,
+        };
+        let result = write_log(&log, &mut out);
+        assert!(rt; LOG.as_bytes().starts_with(out.taken.as_slice()));
+        assert_eq!(rt; result.is_ok(), out.calls <= fail);
+        assert_eq!(rt; result.is_ok(), out.taken.len() == LOG.len());
+        done = done || result.is_ok();
+    }
+    assert!(rt; done);
+    Ok(())
+}
+
+#[test]
+fn what_a_failing_writer_has_of_a_world_is_a_beginning(
+    rt: HostRuntime,
+) -> std::result::Result<(), Fail> {
+    let mut states = Vec::new(rt.alloc());
+    states.push(SmallVec::new(rt.alloc()))?;
+    states.push(SmallVec::from_slice(rt.alloc(), &[5, 0, u64::MAX])?)?;
+    let log = log().ok_or("log")?;
+    let mut done = false;
+    for fail in 0..200 {
+        let mut out = Faulty {
+            taken: Vec::new(rt.alloc()),
+            count: 2,
+            calls: 0,
+            fail,
+            kind: ErrorKind::BrokenPipe,
+        };
+        let result = write_world(9, states.as_slice(), &[0, 1 << 63], &log, &mut out);
+        assert!(rt; WORLD.as_bytes().starts_with(out.taken.as_slice()));
+        assert_eq!(rt; result.is_ok(), out.calls <= fail);
+        assert_eq!(rt; result.is_ok(), out.taken.len() == WORLD.len());
+        done = done || result.is_ok();
+    }
+    assert!(rt; done);
+    Ok(())
+}
+
+#[test]
+fn an_interrupted_write_is_made_again(rt: HostRuntime) -> std::result::Result<(), Fail> {
+    let log = log().ok_or("log")?;
+    let mut out = Faulty {
+        taken: Vec::new(rt.alloc()),
+        count: 1,
+        calls: 0,
+        fail: 2,
+        kind: ErrorKind::Interrupted,
+    };
+    write_log(&log, &mut out)?;
+    assert_eq!(rt; out.taken.as_slice(), LOG.as_bytes());
+    Ok(())
+}
+
+#[test]
+fn a_writer_that_takes_nothing_is_an_error(rt: HostRuntime) -> std::result::Result<(), Fail> {
+    let log = log().ok_or("log")?;
+    let mut out = Faulty {
+        taken: Vec::new(rt.alloc()),
+        count: 0,
+        calls: 0,
+        fail: 9,
+        kind: ErrorKind::Other,
+    };
+    assert!(rt; write_log(&log, &mut out).is_err_and(|error| error.kind() == ErrorKind::WriteZero));
+    Ok(())
+}
