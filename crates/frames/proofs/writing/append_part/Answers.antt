@@ -17,4 +17,4 @@ returns c =
     part_joined c.args.out.now.items c.append_u32.new.out.items c.append_u64.new.out.items c.append_words.new.out.items c.append_count.new.out.items c.append_messages.new.out.items c.args.part.now
     c.in_ok-append_u32.ensures c.in_ok-append_u64.ensures words count
     (subst (λ (l : List Message). c.append_messages.new.out.items ≡ c.append_count.new.out.items ++ flat_map message_bytes l) c.as_slice-3.ensures pending))
-    c.append_messages.ensures
+    c.append_messages.ensures.ok
