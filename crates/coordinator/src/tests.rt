@@ -1,6 +1,6 @@
 // Sessions over a token ring of three processes that hold each of two tokens two ticks, up to time 10.
 
-ghost use Rattle.std.specs.Prelude.{◌≡◌, ◌≤◌, ◌×◌, length, map, IfOk};
+ghost use Rattle.std.specs.Prelude.{◌≡◌, length, map, IfOk};
 ghost use Rattle.coordinator.specs.Opening.{AllFresh};
 ghost use Rattle.coordinator.specs.Ring.{ring_lawful, ring_meaning};
 ghost use Rattle.wire.specs.Local.{state_of};
