@@ -19,7 +19,7 @@ use Rattle.process.specs.Process.{number_after, sent_by, state_after}
 use Rattle.process.specs.Told.{IsFold, IsTold, IsToldFold}
 use Rattle.protocol.proofs.Gathered.{Every-without, copies-before_without, copies-sent_without, copies-told_before, copies-told_by, copies-told_without, from_same, none_before, none_told, sent_before_without, split_first, told_before-cons, told_by-apart, told_by-without, filter_swap}
 use Rattle.protocol.proofs.Places.{sent_by_none}
-use Rattle.protocol.specs.Picture.{IsBalanced, IsSeatedBy, IsToldTruly, Picture, all_sent, floor_of, messages_told, nodes_of, process_at, processes_of, sent_told, told_by, travelling}
+use Rattle.protocol.specs.Picture.{IsBalanced, IsSeatedBy, IsToldTruly, Picture, all_sent, floor_at, messages_told, nodes_of, process_at, processes_of, sent_told, told_by, travelling}
 use Rattle.protocol.specs.Moves.{after_messages, told_before, told_from}
 
 -- 1. Sends
@@ -60,7 +60,7 @@ pub record IsReady (m : Meaning) (c : ℕ) (p : Picture) (xs : List Message) : T
   pub world : IsWorld m.lps p.front
   pub ranged_told : Every (λ (d : Done). IsRanged d.message) p.gathered
   pub ranged_done : (lp : ℕ) → Every IsRanged (messages (process_at p lp).done)
-  pub floors : (lp : ℕ) → c ≤ floor_of p lp
+  pub floors : (lp : ℕ) → c ≤ floor_at p lp
   pub clear : (x : Message) → x.time < c → (copies x (of_sign Plus (travelling p)) ≡ 0) × (copies x (of_sign Minus (travelling p)) ≡ 0)
   pub ascending : IsAscending xs
   pub below : Every (λ (x : Message). (x.to < m.lps) × (x.time < c)) xs
@@ -74,9 +74,9 @@ module _ (m : Meaning) (end c : ℕ) (law : IsLawful m) (short : end ≤ 2 ^ 40)
         let q = process_at p x.to in
         let t = is.told x.to l in
         let f = is.floors x.to in
-        let done : copies x (messages q.done) ≡ 0 = none_from_Every (λ (y : Message). floor_of p x.to ≤ y.time) (messages q.done) x t.done_from (λ k. omega arith) in
-        let waiting : copies x q.waiting ≡ 0 = none_from_Every (λ (y : Message). floor_of p x.to ≤ y.time) q.waiting x t.waiting_from (λ k. omega arith) in
-        let antis : copies x q.antis ≡ 0 = none_from_Every (λ (y : Message). floor_of p x.to ≤ y.time) q.antis x t.antis_from (λ k. omega arith) in
+        let done : copies x (messages q.done) ≡ 0 = none_from_Every (λ (y : Message). floor_at p x.to ≤ y.time) (messages q.done) x t.done_from (λ k. omega arith) in
+        let waiting : copies x q.waiting ≡ 0 = none_from_Every (λ (y : Message). floor_at p x.to ≤ y.time) q.waiting x t.waiting_from (λ k. omega arith) in
+        let antis : copies x q.antis ≡ 0 = none_from_Every (λ (y : Message). floor_at p x.to ≤ y.time) q.antis x t.antis_from (λ k. omega arith) in
         let cl = is.clear x h in
         let plus = cl.0 in
         let minus = cl.1 in
@@ -128,7 +128,7 @@ module _ (m : Meaning) (end c : ℕ) (law : IsLawful m) (short : end ≤ 2 ^ 40)
         let q = process_at p lp in
         let t = is.told lp l in
         sends_none m lp (state_before q.done q.state) (number_before q.done q.number) q.done q.state q.number x law l (subst IsWords (sym t.state_meets) (told_by_none lp l).1) (is.ranged_done lp) t.history
-        (Every-weaker (λ (y : Message). floor_of p lp ≤ y.time) (λ (y : Message). x.time ≤ y.time) (λ y k. let f = is.floors lp in let u = x_time in omega arith) (messages q.done) t.done_from)
+        (Every-weaker (λ (y : Message). floor_at p lp ≤ y.time) (λ (y : Message). x.time ≤ y.time) (λ y k. let f = is.floors lp in let u = x_time in omega arith) (messages q.done) t.done_from)
 
     not_sent : copies x (all_sent p) ≡ 0
     not_sent =
@@ -186,8 +186,8 @@ module _ (m : Meaning) (end c : ℕ) (law : IsLawful m) (short : end ≤ 2 ^ 40)
     abbrev after : Picture
     after = with_front p front_after (ls ++ rs)
 
-    own_told : IsTold m x.to p.front.time state_old number_old (floor_of p x.to) (d ∷ rest) (process_at p x.to)
-    own_told = subst (λ zs. IsTold m x.to p.front.time state_old number_old (floor_of p x.to) zs (process_at p x.to)) e (is.told x.to is.below.0.0)
+    own_told : IsTold m x.to p.front.time state_old number_old (floor_at p x.to) (d ∷ rest) (process_at p x.to)
+    own_told = subst (λ zs. IsTold m x.to p.front.time state_old number_old (floor_at p x.to) zs (process_at p x.to)) e (is.told x.to is.below.0.0)
 
     early : d.message.time < c
     early = subst (λ (y : Message). y.time < c) (sym dm) is.below.0.1
@@ -236,7 +236,7 @@ module _ (m : Meaning) (end c : ℕ) (law : IsLawful m) (short : end ≤ 2 ^ 40)
     number_at_other : (lp : ℕ) → (lp ≡ x.to → ⊥) → number_of front_after lp ≡ number_of p.front lp
     number_at_other lp ne = get_or-set_other p.front.numbers x.to lp (number_old + length sent_now) 0 ne
 
-    own_told_after : IsTold m x.to p.front.time d.after d.number_after (floor_of p x.to) rest (process_at p x.to)
+    own_told_after : IsTold m x.to p.front.time d.after d.number_after (floor_at p x.to) rest (process_at p x.to)
     own_told_after = record {
       told_fold = own_told.told_fold.4;
       history = own_told.history;
@@ -258,21 +258,21 @@ module _ (m : Meaning) (end c : ℕ) (law : IsLawful m) (short : end ≤ 2 ^ 40)
       antis_from = own_told.antis_from;
     }
 
-    told_at_own : IsTold m x.to p.front.time (state_of front_after x.to) (number_of front_after x.to) (floor_of p x.to) (told_by x.to (ls ++ rs)) (process_at p x.to)
+    told_at_own : IsTold m x.to p.front.time (state_of front_after x.to) (number_of front_after x.to) (floor_at p x.to) (told_by x.to (ls ++ rs)) (process_at p x.to)
     told_at_own =
-        subst (λ zs. IsTold m x.to p.front.time (state_of front_after x.to) (number_of front_after x.to) (floor_of p x.to) zs (process_at p x.to)) (sym told_by_own)
-        (subst (λ k. IsTold m x.to p.front.time (state_of front_after x.to) k (floor_of p x.to) rest (process_at p x.to)) (sym number_at_own)
-        (subst (λ t. IsTold m x.to p.front.time t d.number_after (floor_of p x.to) rest (process_at p x.to)) (sym state_at_own) own_told_after))
+        subst (λ zs. IsTold m x.to p.front.time (state_of front_after x.to) (number_of front_after x.to) (floor_at p x.to) zs (process_at p x.to)) (sym told_by_own)
+        (subst (λ k. IsTold m x.to p.front.time (state_of front_after x.to) k (floor_at p x.to) rest (process_at p x.to)) (sym number_at_own)
+        (subst (λ t. IsTold m x.to p.front.time t d.number_after (floor_at p x.to) rest (process_at p x.to)) (sym state_at_own) own_told_after))
 
-    told_at_other : (lp : ℕ) → (lp ≡ x.to → ⊥) → lp < m.lps → IsTold m lp p.front.time (state_of front_after lp) (number_of front_after lp) (floor_of p lp) (told_by lp (ls ++ rs)) (process_at p lp)
+    told_at_other : (lp : ℕ) → (lp ≡ x.to → ⊥) → lp < m.lps → IsTold m lp p.front.time (state_of front_after lp) (number_of front_after lp) (floor_at p lp) (told_by lp (ls ++ rs)) (process_at p lp)
     told_at_other lp ne l =
-        subst (λ zs. IsTold m lp p.front.time (state_of front_after lp) (number_of front_after lp) (floor_of p lp) zs (process_at p lp)) (sym (told_by_others lp ne))
-        (subst (λ k. IsTold m lp p.front.time (state_of front_after lp) k (floor_of p lp) (told_by lp p.gathered) (process_at p lp)) (sym (number_at_other lp ne))
-        (subst (λ t. IsTold m lp p.front.time t (number_of p.front lp) (floor_of p lp) (told_by lp p.gathered) (process_at p lp)) (sym (state_at_other lp ne)) (is.told lp l)))
+        subst (λ zs. IsTold m lp p.front.time (state_of front_after lp) (number_of front_after lp) (floor_at p lp) zs (process_at p lp)) (sym (told_by_others lp ne))
+        (subst (λ k. IsTold m lp p.front.time (state_of front_after lp) k (floor_at p lp) (told_by lp p.gathered) (process_at p lp)) (sym (number_at_other lp ne))
+        (subst (λ t. IsTold m lp p.front.time t (number_of p.front lp) (floor_at p lp) (told_by lp p.gathered) (process_at p lp)) (sym (state_at_other lp ne)) (is.told lp l)))
 
     told_after : IsToldTruly m after
     told_after lp l = elim (cases_eq lp x.to) [
-      | inl f ↦ subst (λ k. IsTold m k p.front.time (state_of front_after k) (number_of front_after k) (floor_of p k) (told_by k (ls ++ rs)) (process_at p k)) (sym f) told_at_own
+      | inl f ↦ subst (λ k. IsTold m k p.front.time (state_of front_after k) (number_of front_after k) (floor_at p k) (told_by k (ls ++ rs)) (process_at p k)) (sym f) told_at_own
       | inr ne ↦ told_at_other lp ne l
     ]
 
@@ -377,7 +377,7 @@ module _ (m : Meaning) (end c : ℕ) (law : IsLawful m) (short : end ≤ 2 ^ 40)
     nothing_by : (lp : ℕ) → told_before c (told_by lp p.gathered) ≡ []
     nothing_by lp = filter_swap (λ (d : Done). nat_lt d.message.time c) (λ (d : Done). d.message.to == lp) p.gathered ∙ ap (told_by lp) nothing.0
 
-    told_here : (lp : ℕ) → lp < m.lps → IsTold m lp c (state_of p.front lp) (number_of p.front lp) (floor_of p lp) (told_by lp p.gathered) (process_at p lp)
+    told_here : (lp : ℕ) → lp < m.lps → IsTold m lp c (state_of p.front lp) (number_of p.front lp) (floor_at p lp) (told_by lp p.gathered) (process_at p lp)
     told_here lp l =
         let t = is.told lp l in
         record {

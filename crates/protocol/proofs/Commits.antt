@@ -21,9 +21,9 @@ use Rattle.process.specs.Process.{Process, nobody, number_after, state_after}
 use Rattle.gvt.specs.Ledger.{least_floor}
 use Rattle.protocol.proofs.Commit.{IsDone, IsReady, finish}
 use Rattle.protocol.proofs.Gathered.{before_is_early, filter_swap, length-numbers_told, length-states_told, numbers_told-at, states_told-at}
-use Rattle.protocol.specs.Picture.{IsProcessInRange, Picture, floor_of, gvt, messages_told, node_of, nodes_of, process_at, processes_of, sent_told, told_by, travelling}
+use Rattle.protocol.specs.Picture.{IsProcessInRange, Picture, floor_at, gvt, messages_told, node_of, nodes_of, process_at, processes_of, sent_told, told_by, travelling}
 use Rattle.protocol.specs.Moves.{Commit, after_messages, commit, committed, merged, move, numbers_told, states_told, told_before, told_from}
-use Rattle.protocol.specs.Sound.{IsSound, IsSystem}
+use Rattle.protocol.specs.Sound.{IsSoundPicture, IsSystem}
 use Rattle.protocol.specs.Laws.{CommitIsByWhatWasTold, CommitIsSequential, CommitsTellTheNextEvents, IsByWhatWasTold, MayCommit}
 
 below_least_time : (c t : ℕ) (xs : List Message) → c ≤ least_time t xs → (c ≤ t) × Every (λ (x : Message). c ≤ x.time) xs
@@ -44,7 +44,7 @@ below_least_floor c t (f ∷ fs) h =
 -- 1. A picture of which a commit may be made is ready for it
 
 module _ (m : Meaning) (end c : ℕ) (p : Picture) (law : IsLawful m) (short : end ≤ 2 ^ 40) (may : MayCommit m end c p) where
-  floors_above : (lp : ℕ) → c ≤ floor_of p lp
+  floors_above : (lp : ℕ) → c ≤ floor_at p lp
   floors_above lp = (below_least_floor c end p.floors may.answered).1 (lp % nodes_of p) (subst (λ n. lp % nodes_of p < n) (sym may.seated.floors) (mod-lt lp may.some))
 
   copies_merged : (x : Message) → copies x (merged c p.gathered) ≡ copies x (messages_told (told_before c p.gathered))
@@ -99,7 +99,7 @@ module _ (m : Meaning) (end c : ℕ) (p : Picture) (law : IsLawful m) (short : e
 
 -- 2. The sequential simulation
 
-log_after : (m : Meaning) (w : World) (xs : List Message) → (after_messages m w xs).log ≡ w.log ++ xs
+pub log_after : (m : Meaning) (w : World) (xs : List Message) → (after_messages m w xs).log ≡ w.log ++ xs
 log_after m w [] = sym (append-nil w.log)
 log_after m w (x ∷ xs) = log_after m (handled m w x (remove_one x w.pending)) xs ∙ append_assoc w.log (x ∷ []) xs
 
@@ -179,7 +179,7 @@ least_floor-under t g [] some h = absurd (omega arith)
 least_floor-under t g (f ∷ fs) some h = let a = h.0 in omega (arith, least_floor-le (min t f) fs)
 
 -- at any time from the front's on that every node has answered
-pub may_commit : (m : Meaning) (end c : ℕ) (p : Picture) → IsSound m end p → p.front.time ≤ c → c ≤ least_floor end p.floors → MayCommit m end c p
+pub may_commit : (m : Meaning) (end c : ℕ) (p : Picture) → IsSoundPicture m end p → p.front.time ≤ c → c ≤ least_floor end p.floors → MayCommit m end c p
 may_commit m end c p h later answered = record {
   seated = h.seated;
   in_range = h.in_range;
@@ -198,7 +198,7 @@ least_floor-each t (f ∷ fs) = (omega (arith, least_floor-le (min t f) fs), lea
 
 -- a commit keeps a picture sound, and global virtual time as it is
 module _ (m : Meaning) (end : ℕ) (p : Picture) (system : IsSystem m end p) where
-  sound_at : (c : ℕ) → p.front.time ≤ c → c ≤ least_floor end p.floors → IsSound m end (commit m c p)
+  sound_at : (c : ℕ) → p.front.time ≤ c → c ≤ least_floor end p.floors → IsSoundPicture m end (commit m c p)
   sound_at c later answered =
       let h = system.sound in
       let is = commit_is_sequential m end c p system.lawful system.short (may_commit m end c p h later answered) in
@@ -215,15 +215,15 @@ module _ (m : Meaning) (end : ℕ) (p : Picture) (system : IsSystem m end p) whe
         parcels = h.parcels;
       }
 
-  sound_committed : IsSound m end (committed m end p) × (gvt end p ≤ gvt end (committed m end p))
+  sound_committed : IsSoundPicture m end (committed m end p) × (gvt end p ≤ gvt end (committed m end p))
   sound_committed =
-      cond_both (nat_lt p.front.time (least_floor end p.floors)) (commit m (least_floor end p.floors) p) p (λ (q : Picture). IsSound m end q × (gvt end p ≤ gvt end q))
+      cond_both (nat_lt p.front.time (least_floor end p.floors)) (commit m (least_floor end p.floors) p) p (λ (q : Picture). IsSoundPicture m end q × (gvt end p ≤ gvt end q))
       (λ e. let less = ltb-true p.front.time (least_floor end p.floors) e in (sound_at (least_floor end p.floors) (omega arith) (omega arith), omega arith))
       (λ _. (system.sound, omega arith))
 
-pub sound_commit : (m : Meaning) (end : ℕ) (p p' : Picture) → IsSystem m end p → move m end Commit p ≡ Some p' → IsSound m end p' × (gvt end p ≤ gvt end p')
+pub sound_commit : (m : Meaning) (end : ℕ) (p p' : Picture) → IsSystem m end p → move m end Commit p ≡ Some p' → IsSoundPicture m end p' × (gvt end p ≤ gvt end p')
 sound_commit m end p p' system e =
-    subst (λ (q : Picture). IsSound m end q × (gvt end p ≤ gvt end q)) (same_Some (committed m end p) p' e) (sound_committed m end p system)
+    subst (λ (q : Picture). IsSoundPicture m end q × (gvt end p ≤ gvt end q)) (same_Some (committed m end p) p' e) (sound_committed m end p system)
 
 -- a commit writes the next events of the sequential simulation: what was told below the new time, in message order
 pub commits_tell : CommitsTellTheNextEvents

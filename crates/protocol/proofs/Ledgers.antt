@@ -3,7 +3,7 @@ use Rattle.std.proofs.Common.{ℕ, ◌≤◌, ◌<◌, ◌++◌, Option, Some, N
 use Rattle.std.proofs.lemmas.Bool.{cond_both}
 use Rattle.std.proofs.lemmas.List.{ext_get_or, length-map, map-set}
 use Rattle.std.specs.List.{AllByRecursion as Every}
-use Rattle.std.specs.Prelude.{nat_lt}
+use Rattle.std.specs.Prelude.{if◌then◌else◌, nat_lt, not, ◌&&◌}
 use Rattle.eventkey.proofs.Lists.{get_or-map, Every-flat_map, Every-map, Every-unflat_map, Every-unmap, Every-weaker}
 use Rattle.eventkey.proofs.Times.{IsFrom, least_time-above, least_time-each, least_time-le}
 use Rattle.eventkey.specs.Bag.{least_time}
@@ -14,11 +14,11 @@ use Rattle.model.specs.World.{below}
 use Rattle.process.specs.Process.{Process, release}
 use Rattle.node.specs.Node.{Work, first_time, low_of, released}
 use Rattle.gvt.specs.Ledger.{ledger_floor, least_floor, least_low}
-use Rattle.gvt.specs.Picks.{not_picked, picked}
+use Rattle.gvt.specs.Picks.{are_distinct, can_pick, not_picked, picked}
 use Rattle.protocol.proofs.Gvt.{KeptFrom, gvt-le, gvt_above, gvt_nodes, gvt_travelling, kept_by}
 use Rattle.protocol.proofs.Opened.{get_or-below}
-use Rattle.protocol.specs.Laws.{LedgersFollowPictures, LedgersTellGvt}
-use Rattle.protocol.specs.Moves.{commit}
+use Rattle.protocol.specs.Laws.{LedgersAllowPosts, LedgersFollowPictures, LedgersTellGvt}
+use Rattle.protocol.specs.Moves.{Busy, NoSuchNode, NoSuchPick, commit, is_busy}
 use Rattle.protocol.specs.Picture.{Picture, gvt, lows_of, node_of, nodes_of, travelling}
 use Rattle.protocol.specs.Views.{ledger_of}
 
@@ -112,3 +112,19 @@ ledgers_follow m end = record {
   commits = λ p.
       cond_both (nat_lt p.front.time (least_floor end p.floors)) (commit m (least_floor end p.floors) p) p (λ (q : Picture). ledger_of end q ≡ ledger_of end p) (λ _. refl) (λ _. refl);
 }
+
+-- 3. What it allows
+
+pub ledgers_allow : LedgersAllowPosts
+ledgers_allow m end p system =
+    let same = system.sound.seated.floors in
+    record {
+      nodes = same;
+      busy = λ node. refl;
+      picks = λ node picks. ap (λ (n : ℕ). can_pick n node p.transit picks && are_distinct picks) same;
+      refused = λ node picks budget. sym (ap (λ (n : ℕ).
+          if not (nat_lt node n) then Some NoSuchNode
+          else if is_busy p node then Some Busy
+          else if can_pick n node p.transit picks && are_distinct picks then None
+          else Some NoSuchPick) same);
+    }

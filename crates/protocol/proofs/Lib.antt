@@ -11,5 +11,8 @@ pub mod Runs
 pub mod Refusals
 pub mod Ledgers
 pub mod Answers
+pub mod Replies
+pub mod Numbers
 mod Examples
 mod CommitExamples
+mod ThreeNodes

@@ -29,8 +29,8 @@ use Rattle.node.specs.declared.Parcel.{Parcel}
 use Rattle.node.specs.declared.Part.{Part}
 use Rattle.gvt.specs.Ledger.{delivered_by}
 use Rattle.protocol.proofs.Gvt.{KeptFrom, SignedFrom, gvt_above}
-use Rattle.protocol.specs.Picture.{IsBalanced, IsInRange, IsProcessInRange, IsSeatedBy, Picture, floor_of, gvt, node_of, nodes_of, opened, opened_process, process_at}
-use Rattle.protocol.specs.Sound.{IsOpening, IsSound}
+use Rattle.protocol.specs.Picture.{IsBalanced, IsInRange, IsProcessInRange, IsSeatedBy, Picture, floor_at, gvt, node_of, nodes_of, opened, opened_process, process_at}
+use Rattle.protocol.specs.Sound.{IsOpening, IsSoundPicture}
 use Rattle.protocol.specs.Laws.{IsLoadedWith, OpenedNodes, OpeningIsSound}
 use Rattle.protocol.specs.Views.{load_of, node_view, part_of}
 
@@ -91,7 +91,7 @@ module _ (m : Meaning) (end nodes : ℕ) (w : World) (begins : IsOpening m end n
       ∙ get_or-map (opened_process w) (own_lps nodes node m.lps) (lp / nodes) 0 nobody place.0
       ∙ ap (opened_process w) place.1
 
-  floor_is : (lp : ℕ) → floor_of first lp ≡ w.time
+  floor_is : (lp : ℕ) → floor_at first lp ≡ w.time
   floor_is lp = ap (λ (n : ℕ). get_or (replicate nodes w.time) (lp % n) 0) many ∙ get_or-replicate nodes (lp % nodes) w.time 0 (mod-lt lp begins.some)
 
   process_told : (lp : ℕ) → IsTold m lp w.time (state_of w lp) (number_of w lp) w.time [] (opened_process w lp)
@@ -163,14 +163,14 @@ module _ (m : Meaning) (end nodes : ℕ) (w : World) (begins : IsOpening m end n
       (Every-filter (λ (x : Message). w.time ≤ x.time) (λ (x : Message). x.to == lp) w.pending begins.front.left) tt) (own_lps nodes node m.lps))) (below nodes)))
       (subst (Every (SignedFrom w.time)) (sym (nothing_delivered nodes)) tt)
 
-  opened_sound : IsSound m end first
+  opened_sound : IsSoundPicture m end first
   opened_sound = record {
     front = begins.front;
     some = (let a = begins.some in let b = many in omega arith);
     seated = opened_seated;
     in_range = opened_in_range;
     told = λ lp l.
-        subst (λ (q : Process). IsTold m lp w.time (state_of w lp) (number_of w lp) (floor_of first lp) [] q) (sym (process_is lp l))
+        subst (λ (q : Process). IsTold m lp w.time (state_of w lp) (number_of w lp) (floor_at first lp) [] q) (sym (process_is lp l))
         (subst (λ (f : ℕ). IsTold m lp w.time (state_of w lp) (number_of w lp) f [] (opened_process w lp)) (sym (floor_is lp)) (process_told lp));
     balanced = opened_balanced;
     front_low = Every-replicate (λ (f : ℕ). w.time ≤ f) nodes w.time (omega arith);

@@ -19,7 +19,7 @@ use Rattle.gvt.specs.Picks.{are_distinct, can_pick, has, not_picked, nothing, pi
 use Rattle.protocol.proofs.Gvt.{Every-parcels-set, SignedFrom, copies-parcels-set, gvt-le, gvt_above, gvt_nodes, gvt_travelling}
 use Rattle.protocol.specs.Picture.{IsInRange, Picture, gvt, nodes_of}
 use Rattle.protocol.specs.Moves.{Post, can_post, is_busy, move, posted}
-use Rattle.protocol.specs.Sound.{IsParcel, IsSound}
+use Rattle.protocol.specs.Sound.{IsParcel, IsSoundPicture}
 
 -- 1. Picks
 
@@ -93,7 +93,7 @@ not_busy : (o : Option Parcel) → is_some o ≡ false → o ≡ None
 not_busy None e = refl
 not_busy (Some parcel) e = absurd (cc)
 
-module _ (m : Meaning) (end node : ℕ) (picks : List ℕ) (budget : ℕ) (p : Picture) (h : IsSound m end p) (can : can_post p node picks ≡ true) where
+module _ (m : Meaning) (end node : ℕ) (picks : List ℕ) (budget : ℕ) (p : Picture) (h : IsSoundPicture m end p) (can : can_post p node picks ≡ true) where
   checks : (node < nodes_of p) × (get_or p.parcels node None ≡ None) × Every (IsPick (nodes_of p) node p.transit) picks × (are_distinct picks ≡ true)
   checks =
       let a = and_parts (nat_lt node (nodes_of p) && not (is_busy p node)) (can_pick (nodes_of p) node p.transit picks && are_distinct picks) can in
@@ -154,7 +154,7 @@ module _ (m : Meaning) (end node : ℕ) (picks : List ℕ) (budget : ℕ) (p : P
         record { from = good.from; upto = omega arith; there = good.there; on_node = good.on_node }
   ]
 
-  new_sound : IsSound m end new
+  new_sound : IsSoundPicture m end new
   unfolding new
   new_sound =
       let more = gvt_kept in
@@ -187,9 +187,9 @@ module _ (m : Meaning) (end node : ℕ) (picks : List ℕ) (budget : ℕ) (p : P
         parcels = new_parcels;
       }
 
-pub sound_post : (m : Meaning) (end node : ℕ) (picks : List ℕ) (budget : ℕ) (p p' : Picture) → IsSound m end p → move m end (Post node picks budget) p ≡ Some p' → IsSound m end p' × (gvt end p ≤ gvt end p')
+pub sound_post : (m : Meaning) (end node : ℕ) (picks : List ℕ) (budget : ℕ) (p p' : Picture) → IsSoundPicture m end p → move m end (Post node picks budget) p ≡ Some p' → IsSoundPicture m end p' × (gvt end p ≤ gvt end p')
 unfolding new
 sound_post m end node picks budget p p' h =
-    cond_both (can_post p node picks) (Some (posted end node picks budget p)) None (λ (r : Option Picture). r ≡ Some p' → IsSound m end p' × (gvt end p ≤ gvt end p'))
-    (λ can e. subst (λ (q : Picture). IsSound m end q × (gvt end p ≤ gvt end q)) (same_Some (posted end node picks budget p) p' e) (new_sound m end node picks budget p h can, gvt_kept m end node picks budget p h can))
+    cond_both (can_post p node picks) (Some (posted end node picks budget p)) None (λ (r : Option Picture). r ≡ Some p' → IsSoundPicture m end p' × (gvt end p ≤ gvt end p'))
+    (λ can e. subst (λ (q : Picture). IsSoundPicture m end q × (gvt end p ≤ gvt end q)) (same_Some (posted end node picks budget p) p' e) (new_sound m end node picks budget p h can, gvt_kept m end node picks budget p h can))
     (λ _ e. absurd (none-some p' e))

@@ -1,24 +1,20 @@
--- A move is made exactly where it is not refused; what no rollback reaches; and a node accepts what it is posted.
+-- A move is made exactly where it is not refused; and a node accepts what it is posted.
 use Rattle.std.specs.Prelude.{is_some, not, ◌&&◌}
 use Rattle.std.proofs.Common.{◌≡◌, ℕ, zero, suc, ◌≤◌, ◌<◌, ◌%◌, Bool, true, false, cond, List, [], ◌∷◌, get_or, length, Option, None, Some, option_map, nat_lt, inl, inr, refl, sym, subst, arith, eq-eqb}
 use Rattle.std.specs.List.{AllByRecursion as Every}
 use Rattle.std.proofs.lemmas.Bool.{cases_lt, lt-ltb, le-ltb}
 use Rattle.eventkey.specs.Message.{Message}
 use Rattle.eventkey.specs.declared.Signed.{Signed}
-use Rattle.eventkey.proofs.Lists.{Every-both, Every-right, Every-unmap}
+use Rattle.eventkey.proofs.Lists.{Every-both}
 use Rattle.model.specs.Meaning.{Meaning}
-use Rattle.queues.specs.declared.Record.{Record}
-use Rattle.queues.specs.Queue.{back, but_last, last_of}
-use Rattle.queues.proofs.Places.{but_last-last_of}
-use Rattle.process.specs.Process.{queue_of}
 use Rattle.node.specs.Handling.{Node, first_fault}
 use Rattle.node.specs.Kept.{IsUnderWay}
 use Rattle.node.specs.Node.{Work, work_here}
 use Rattle.node.specs.declared.Parcel.{Parcel}
 use Rattle.gvt.specs.Picks.{are_distinct, can_pick}
-use Rattle.protocol.specs.Picture.{Picture, floor_of, gvt, node_of, nodes_of, process_at}
+use Rattle.protocol.specs.Picture.{Picture, gvt, node_of, nodes_of}
 use Rattle.protocol.specs.Moves.{Busy, Checkpoint, Commit, NoSuchNode, NoSuchPick, NumberLimit, Post, Take, answered, is_busy, take_from, take_refusal}
-use Rattle.protocol.specs.Laws.{MovesAreMadeOrRefused, ParcelsAreAccepted, RollbacksStayAbove}
+use Rattle.protocol.specs.Laws.{MovesAreMadeOrRefused, ParcelsAreAccepted}
 use Rattle.protocol.specs.Views.{node_view}
 use Rattle.protocol.proofs.Takes.{fits, floor_under, under_way}
 
@@ -57,17 +53,7 @@ made_or_refused m end (Take node) p h = elim (cases_lt node (nodes_of p)) [
 made_or_refused m end Commit p h = refl
 made_or_refused m end Checkpoint p h = refl
 
--- 2. What no rollback reaches
-
-pub rollbacks_stay_above : RollbacksStayAbove
-rollbacks_stay_above m end lp p s h there =
-    let q = process_at p lp in
-    let n = back s (queue_of q) in
-    let late : Every (λ (r : Record). floor_of p lp ≤ r.message.time) q.done = Every-unmap (λ (x : Message). floor_of p lp ≤ x.time) (λ (r : Record). r.message) q.done (h.sound.told lp there).done_from in
-    Every-right (λ (r : Record). floor_of p lp ≤ r.message.time) (but_last n q.done) (last_of n q.done)
-    (subst (λ (hs : List Record). Every (λ (r : Record). floor_of p lp ≤ r.message.time) hs) (sym (but_last-last_of n q.done)) late)
-
--- 3. What a node accepts
+-- 2. What a node accepts
 
 -- a message that the node may be handed
 record IsHandy (n : Node) (s : Signed) : Type 0 where

@@ -2,18 +2,24 @@
 use Rattle.std.proofs.Common.{zero, suc, set, length, sym, length-set, ◌∙◌, ◌≡◌, ℕ, ◌≤◌, subst, arith, Some, refl, ap, Option, None, List, [], ◌∷◌, ◌++◌}
 use Rattle.std.proofs.lemmas.Bool.{cond_both, ltb-true}
 use Rattle.std.proofs.lemmas.Option.{same_Some, none-some}
-use Rattle.std.specs.Prelude.{nat_lt, get_or, unwrap_or}
+use Rattle.std.specs.List.{AllByRecursion as Every}
+use Rattle.std.specs.Prelude.{nat_lt, get_or, option_and_then, unwrap_or, ◌<◌, ◌^◌}
+use Rattle.eventkey.proofs.Lists.{Every-all, Every-get_or, Every-left, Every-right}
+use Rattle.eventkey.specs.Message.{Message}
 use Rattle.model.proofs.Worlds.{upto_goes_on}
-use Rattle.model.specs.Meaning.{Meaning}
+use Rattle.model.specs.Meaning.{IsLawful, Meaning}
+use Rattle.model.specs.World.{IsUpto, World, opening}
 use Rattle.gvt.specs.Ledger.{least_floor}
 use Rattle.protocol.proofs.Commits.{sound_commit}
+use Rattle.protocol.proofs.Gvt.{gvt-le}
 use Rattle.protocol.proofs.Opened.{opening_is_sound}
 use Rattle.protocol.proofs.Posts.{sound_post}
 use Rattle.protocol.proofs.Takes.{sound_take, taken_from}
 use Rattle.protocol.specs.Picture.{Picture, gvt, opened}
-use Rattle.protocol.specs.Moves.{Checkpoint, Commit, Move, Post, Take, after_moves, can_post, commit, committed, move, posted}
-use Rattle.protocol.specs.Sound.{GoesOn, IsSound, IsSystem}
-use Rattle.protocol.specs.Laws.{MovesAreSound, RunsAreSound}
+use Rattle.protocol.specs.Moves.{Checkpoint, Commit, Move, Post, Run, Take, after_moves, after_runs, can_post, commit, committed, move, moves_made, posted}
+use Rattle.protocol.specs.Sound.{GoesOn, IsOpening, IsSoundPicture, IsSystem}
+use Rattle.protocol.specs.Laws.{AreMade, AreMadeInParts, FirstOpens, FrontsOpen, IsOneSimulation, MovesAreSound, MovesMadeAreSound, MovesMadeJoin, MovesMadePart, RunsAreOneSimulation, RunsAreSound}
+use Rattle.protocol.specs.Readers.{OptimisticIsSequential}
 
 -- floors that are each at least what they were
 record HaveRisen (old new : List ℕ) : Type 0 where
@@ -33,11 +39,11 @@ risen_set fs node floor up = record { size = length-set fs node floor; each = λ
     go (f ∷ fs) (suc node) zero l = omega arith
     go (f ∷ fs) (suc node) (suc i) l = go fs node i l
 
-kept_sound : (m : Meaning) (end : ℕ) (k : Move) (p p' : Picture) → IsSystem m end p → move m end k p ≡ Some p' → IsSound m end p' × (gvt end p ≤ gvt end p')
+kept_sound : (m : Meaning) (end : ℕ) (k : Move) (p p' : Picture) → IsSystem m end p → move m end k p ≡ Some p' → IsSoundPicture m end p' × (gvt end p ≤ gvt end p')
 kept_sound m end (Post node picks budget) p p' h e = sound_post m end node picks budget p p' h.sound e
 kept_sound m end (Take node) p p' h e = sound_take m end node p p' h e
 kept_sound m end Commit p p' h e = sound_commit m end p p' h e
-kept_sound m end Checkpoint p p' h e = subst (λ (q : Picture). IsSound m end q × (gvt end p ≤ gvt end q)) (same_Some p p' e) (h.sound, omega arith)
+kept_sound m end Checkpoint p p' h e = subst (λ (q : Picture). IsSoundPicture m end q × (gvt end p ≤ gvt end q)) (same_Some p p' e) (h.sound, omega arith)
 
 later_front : (m : Meaning) (end : ℕ) (k : Move) (p p' : Picture) → move m end k p ≡ Some p' → p.front.time ≤ p'.front.time
 later_front m end (Post node picks budget) p p' e =
@@ -56,7 +62,7 @@ later_front m end Commit p p' e =
     omega arith
 later_front m end Checkpoint p p' e = let g = ap (λ (q : Picture). q.front.time) (same_Some p p' e) in omega arith
 
-floors_kept : (m : Meaning) (end : ℕ) (k : Move) (p p' : Picture) → IsSound m end p → move m end k p ≡ Some p' → HaveRisen p.floors p'.floors
+floors_kept : (m : Meaning) (end : ℕ) (k : Move) (p p' : Picture) → IsSoundPicture m end p → move m end k p ≡ Some p' → HaveRisen p.floors p'.floors
 floors_kept m end (Post node picks budget) p p' h e =
     cond_both (can_post p node picks) (Some (posted end node picks budget p)) None (λ (r : Option Picture). r ≡ Some p' → HaveRisen p.floors p'.floors)
     (λ _ f. subst (λ (q : Picture). HaveRisen p.floors q.floors) (same_Some (posted end node picks budget p) p' f) (risen_none p.floors))
@@ -70,7 +76,7 @@ floors_kept m end Commit p p' h e =
     subst (λ (q : Picture). HaveRisen p.floors q.floors) (same_Some (committed m end p) p' e) here
 floors_kept m end Checkpoint p p' h e = subst (λ (q : Picture). HaveRisen p.floors q.floors) (same_Some p p' e) (risen_none p.floors)
 
-goes_on : (m : Meaning) (end : ℕ) (p p' : Picture) → IsSound m end p → IsSound m end p' → gvt end p ≤ gvt end p' → HaveRisen p.floors p'.floors → p.front.time ≤ p'.front.time → GoesOn end p p'
+goes_on : (m : Meaning) (end : ℕ) (p p' : Picture) → IsSoundPicture m end p → IsSoundPicture m end p' → gvt end p ≤ gvt end p' → HaveRisen p.floors p'.floors → p.front.time ≤ p'.front.time → GoesOn end p p'
 goes_on m end p p' h h' rises risen later = record {
   gvt_rises = rises;
   same_nodes = sym h'.seated.floors ∙ risen.size ∙ h.seated.floors;
@@ -125,3 +131,114 @@ pub runs_are_sound : RunsAreSound
 runs_are_sound m end nodes w begins ks ls =
     let first = all_moves m end ks (opened m.lps nodes w) (opening_is_sound m end nodes w begins) in
     rw (after-append m end ks ls (opened m.lps nodes w)) (all_moves m end ls (after_moves m end ks (opened m.lps nodes w)) first.0)
+
+-- Moves that are all made
+
+abbrev made_then : Meaning → ℕ → List Move → Option Picture → Option Picture
+made_then m end ls o = option_and_then (λ (q : Picture). moves_made m end ls q) o
+
+join_from : (m : Meaning) (end : ℕ) (ks ls : List Move) (o : Option Picture) → ((q : Picture) → moves_made m end (ks ++ ls) q ≡ made_then m end ls (moves_made m end ks q)) →
+    made_then m end (ks ++ ls) o ≡ made_then m end ls (made_then m end ks o)
+join_from m end ks ls None rest = refl
+join_from m end ks ls (Some q) rest = rest q
+
+pub moves_made_join : MovesMadeJoin
+moves_made_join m end [] ls p = refl
+moves_made_join m end (k ∷ ks) ls p = join_from m end ks ls (move m end k p) (λ q. moves_made_join m end ks ls q)
+
+parts_of : (m : Meaning) (end : ℕ) (ks ls : List Move) (p r : Picture) (o : Option Picture) → moves_made m end ks p ≡ o → made_then m end ls o ≡ Some r → AreMadeInParts m end ks ls p r
+parts_of m end ks ls p r None first e = absurd (none-some r e)
+parts_of m end ks ls p r (Some q) first e = record { middle = q; first = first; others = e }
+
+pub moves_made_part : MovesMadePart
+moves_made_part m end ks ls p r e = parts_of m end ks ls p r (moves_made m end ks p) refl (sym (moves_made_join m end ks ls p) ∙ e)
+
+one_more : (m : Meaning) (end : ℕ) (k : Move) (ks : List Move) (p q : Picture) (o : Option Picture) → ((r : Picture) → IsSystem m end r → moves_made m end ks r ≡ Some q → AreMade m end ks r q) →
+    IsSystem m end p → move m end k p ≡ o → made_then m end ks o ≡ Some q → AreMade m end (k ∷ ks) p q
+one_more m end k ks p q None rest h was e = absurd (none-some q e)
+one_more m end k ks p q (Some r) rest h was e =
+    let one = moves_are_sound m end k p r h was in
+    let all = rest r one.0 e in
+    record {
+      system = all.system;
+      goes_on = goes_on_from m end p r q h all.system one.1 all.goes_on;
+      same = ap (λ (o : Option Picture). after_moves m end ks (unwrap_or o p)) was ∙ all.same;
+    }
+
+pub moves_made_are_sound : MovesMadeAreSound
+moves_made_are_sound m end [] p q h e =
+    let same : p ≡ q = same_Some p q e in
+    subst (AreMade m end [] p) same (record { system = h; goes_on = goes_nowhere m end p h; same = refl })
+moves_made_are_sound m end (k ∷ ks) p q h e = one_more m end k ks p q (move m end k p) (λ r. moves_made_are_sound m end ks r q) h refl e
+
+-- Openings one after another
+
+pub first_opens : FirstOpens
+first_opens m end nodes law short some = record {
+  lawful = law;
+  short = short;
+  some = some;
+  soon = omega arith;
+  front = record { steps = 0; reached = refl; time = refl; logged = tt; left = Every-all (λ (x : Message). 0 ≤ x.time) (λ x. omega arith) (opening m).pending };
+}
+
+pub fronts_open : FrontsOpen
+fronts_open m end nodes p h some =
+    let s = h.sound in
+    let here : 0 < length p.floors = let a = s.some in let b = s.seated.floors in omega arith in
+    let low = Every-get_or (λ (f : ℕ). p.front.time ≤ f) p.floors 0 0 here s.front_low in
+    let high = Every-get_or (λ (f : ℕ). f ≤ gvt end p) p.floors 0 0 here s.floors_low in
+    let end_is = gvt-le end p in
+    record { lawful = h.lawful; short = h.short; some = some; soon = omega arith; front = s.front }
+
+-- a front, as it is between two runs
+record IsBetween (m : Meaning) (end : ℕ) (w : World) : Type 0 where
+  front : IsUpto m end w.time w
+  soon : w.time ≤ end
+
+module _ (m : Meaning) (end : ℕ) (law : IsLawful m) (short : end ≤ 2 ^ 40) where
+  opens : (nodes : ℕ) (w : World) → 1 ≤ nodes → IsBetween m end w → IsOpening m end nodes w
+  opens nodes w some b = record { lawful = law; short = short; some = some; soon = b.soon; front = b.front }
+
+  after_one : (r : Run) (w : World) → 1 ≤ r.nodes → IsBetween m end w → IsBetween m end (after_moves m end r.moves (opened m.lps r.nodes w)).front
+  after_one r w some b =
+      let all = all_moves m end r.moves (opened m.lps r.nodes w) (opening_is_sound m end r.nodes w (opens r.nodes w some b)) in
+      let next = fronts_open m end r.nodes (after_moves m end r.moves (opened m.lps r.nodes w)) all.0 some in
+      record { front = next.front; soon = next.soon }
+
+  later_than : (r : Run) (w : World) → 1 ≤ r.nodes → IsBetween m end w → w.time ≤ (after_moves m end r.moves (opened m.lps r.nodes w)).front.time
+  later_than r w some b = (all_moves m end r.moves (opened m.lps r.nodes w) (opening_is_sound m end r.nodes w (opens r.nodes w some b))).1.time_rises
+
+  all_runs : (rs : List Run) (w : World) → Every (λ (r : Run). 1 ≤ r.nodes) rs → IsBetween m end w → IsBetween m end (after_runs m end rs w) × (w.time ≤ (after_runs m end rs w).time)
+  all_runs [] w some b = (b, omega arith)
+  all_runs (r ∷ rs) w some b =
+      let next : World = (after_moves m end r.moves (opened m.lps r.nodes w)).front in
+      let rest = all_runs rs next some.1 (after_one r w some.0 b) in
+      let up = later_than r w some.0 b in
+      let more = rest.1 in
+      (rest.0, omega arith)
+
+  runs-append : (rs ss : List Run) (w : World) → after_runs m end (rs ++ ss) w ≡ after_runs m end ss (after_runs m end rs w)
+  runs-append [] ss w = refl
+  runs-append (r ∷ rs) ss w = runs-append rs ss (after_moves m end r.moves (opened m.lps r.nodes w)).front
+
+pub runs_are_one_simulation : RunsAreOneSimulation
+runs_are_one_simulation m end rs ss law short some =
+    let o = first_opens m end 1 law short (omega arith) in
+    let start : IsBetween m end (opening m) = record { front = o.front; soon = o.soon } in
+    let first = all_runs m end law short rs (opening m) (Every-left (λ (r : Run). 1 ≤ r.nodes) rs ss some) start in
+    let v : World = after_runs m end rs (opening m) in
+    let then' = all_runs m end law short ss v (Every-right (λ (r : Run). 1 ≤ r.nodes) rs ss some) first.0 in
+    rw (runs-append m end law short rs ss (opening m)) (record {
+      front = then'.0.front;
+      soon = then'.0.soon;
+      time_rises = then'.1;
+      log_grows = upto_goes_on m end v.time (after_runs m end ss v).time v (after_runs m end ss v) then'.1 first.0.front then'.0.front;
+    })
+
+-- For readers
+
+pub optimistic_is_sequential : OptimisticIsSequential
+optimistic_is_sequential m end nodes w ks ls law short some soon front =
+    let all = runs_are_sound m end nodes w (record { lawful = law; short = short; some = some; soon = soon; front = front }) ks ls in
+    record { front = all.0.sound.front; log_grows = all.1.log_grows; gvt_rises = all.1.gvt_rises }

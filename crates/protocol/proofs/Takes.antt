@@ -36,9 +36,9 @@ use Rattle.protocol.proofs.Fossils.{copies-messages_told, copies-sent_nodes, cop
 use Rattle.protocol.proofs.Gathered.{copies-told_by, told_by-apart}
 use Rattle.protocol.proofs.Gvt.{Every-parcels, Every-parcels-set, KeptFrom, SignedFrom, copies-parcels-set, gvt-le, gvt_above, gvt_node, gvt_nodes, gvt_travelling, some_within}
 use Rattle.protocol.proofs.Places.{at_place}
-use Rattle.protocol.specs.Picture.{IsBalanced, IsInRange, IsProcessInRange, IsSeatedBy, Picture, all_sent, floor_of, gvt, messages_told, node_of, nodes_of, process_at, processes_of, sent_told, told_by, travelling}
+use Rattle.protocol.specs.Picture.{IsBalanced, IsInRange, IsProcessInRange, IsSeatedBy, Picture, all_sent, floor_at, gvt, messages_told, node_of, nodes_of, process_at, processes_of, sent_told, told_by, travelling}
 use Rattle.protocol.specs.Moves.{Take, answered, move, take_from}
-use Rattle.protocol.specs.Sound.{IsParcel, IsSound, IsSystem}
+use Rattle.protocol.specs.Sound.{IsParcel, IsSoundPicture, IsSystem}
 
 -- 1. The parts of a take
 
@@ -184,10 +184,10 @@ module _ (m : Meaning) (end node : ℕ) (p : Picture) (system : IsSystem m end p
       (Every-parcels (λ (s : Signed). IsRanged s.message) p.parcels node parcel posted parcels_ranged)
 
   module _ (w : Work) (done : work_here m end (nodes_of p) parcel (node_of p node) ≡ Some w) where
-    worked : IsWorkKept m (nodes_of p) node (get_or p.floors node 0) (gvt end p) (past_of p) parcel.deliver (node_of p node) w
+    pub worked : IsWorkKept m (nodes_of p) node (get_or p.floors node 0) (gvt end p) (past_of p) parcel.deliver (node_of p node) w
     worked = work_is_kept m end (nodes_of p) node (get_or p.floors node 0) (gvt end p) (past_of p) parcel (node_of p node) w system.lawful system.short here floor_under (past_known m end p system) under_way fits.on_node (node_kept m end p system node here) done
 
-    let_go : IsKept m (nodes_of p) node parcel.floor (gvt end p) (told_too (nodes_of p) parcel.floor w.processes (past_of p)) (released parcel.floor w)
+    pub let_go : IsKept m (nodes_of p) node parcel.floor (gvt end p) (told_too (nodes_of p) parcel.floor w.processes (past_of p)) (released parcel.floor w)
     let_go = releasing_is_kept m (nodes_of p) node (get_or p.floors node 0) parcel.floor (gvt end p) (past_of p) w.processes here front_under fits.from fits.upto worked.kept
 
     fossils : List Done
@@ -205,7 +205,7 @@ module _ (m : Meaning) (end node : ℕ) (p : Picture) (system : IsSystem m end p
     own_fossils lp l on = Every-right (λ (d : Done). d.message.to ≡ lp) (told_by lp p.gathered) (fossils_of parcel.floor (own (nodes_of p) w.processes lp)) (let_go.told lp l on).own_told
 
     -- the processes of the node, by their places
-    own_fossils_at : (i : ℕ) → i < length w.processes → (lp : ℕ) × (lp < m.lps) × (lp % nodes_of p ≡ node) × (lp / nodes_of p ≡ i) × Every (λ (d : Done). d.message.to ≡ lp) (fossils_of parcel.floor (get_or w.processes i nobody))
+    pub own_fossils_at : (i : ℕ) → i < length w.processes → (lp : ℕ) × (lp < m.lps) × (lp % nodes_of p ≡ node) × (lp / nodes_of p ≡ i) × Every (λ (d : Done). d.message.to ≡ lp) (fossils_of parcel.floor (get_or w.processes i nobody))
     own_fossils_at i l =
         let at = own_at (nodes_of p) node here m.lps i (let e = worked.kept.size in omega arith) in
         let lp : ℕ = get_or (own_lps (nodes_of p) node m.lps) i 0 in
@@ -247,14 +247,14 @@ module _ (m : Meaning) (end node : ℕ) (p : Picture) (system : IsSystem m end p
         ap (λ (k : ℕ). get_or (get_or (set p.nodes node qs) (lp % k) []) (lp / k) nobody) (length-set p.nodes node qs)
         ∙ ap (λ (ps : List Process). get_or ps (lp / nodes_of p) nobody) (get_or-set_other p.nodes node (lp % nodes_of p) qs [] other)
 
-    floor_here : (lp : ℕ) → lp % nodes_of p ≡ node → floor_of new lp ≡ parcel.floor
+    floor_here : (lp : ℕ) → lp % nodes_of p ≡ node → floor_at new lp ≡ parcel.floor
     unfolding new
     floor_here lp on =
         ap (λ (k : ℕ). get_or (set p.floors node parcel.floor) (lp % k) 0) (length-set p.nodes node (released parcel.floor w))
         ∙ ap (λ (k : ℕ). get_or (set p.floors node parcel.floor) k 0) on
         ∙ get_or-set_same p.floors node parcel.floor 0 (let a = here in let b = system.sound.seated.floors in omega arith)
 
-    floor_other : (lp : ℕ) → (lp % nodes_of p ≡ node → ⊥) → floor_of new lp ≡ floor_of p lp
+    floor_other : (lp : ℕ) → (lp % nodes_of p ≡ node → ⊥) → floor_at new lp ≡ floor_at p lp
     unfolding new
     floor_other lp other =
         ap (λ (k : ℕ). get_or (set p.floors node parcel.floor) (lp % k) 0) (length-set p.nodes node (released parcel.floor w))
@@ -267,7 +267,7 @@ module _ (m : Meaning) (end node : ℕ) (p : Picture) (system : IsSystem m end p
     as_told : (lp : ℕ) {f f' : ℕ} {ds ds' : List Done} {q q' : Process} → f' ≡ f → ds' ≡ ds → q' ≡ q → ToldAs lp f ds q → ToldAs lp f' ds' q'
     as_told lp {f} {f'} {ds} {ds'} {q} {q'} a b c h = subst (λ (g : ℕ). ToldAs lp g ds' q') (sym a) (subst (λ (es : List Done). ToldAs lp f es q') (sym b) (subst (ToldAs lp f ds) (sym c) h))
 
-    new_told : (lp : ℕ) → lp < m.lps → ToldAs lp (floor_of new lp) (told_by lp (p.gathered ++ fossils)) (process_at new lp)
+    new_told : (lp : ℕ) → lp < m.lps → ToldAs lp (floor_at new lp) (told_by lp (p.gathered ++ fossils)) (process_at new lp)
     new_told lp l = elim (cases_eq (lp % nodes_of p) node) [
       | inl on ↦ as_told lp (floor_here lp on) (told_by-apart lp p.gathered fossils ∙ ap (λ (ds : List Done). told_by lp p.gathered ++ ds) (told_here lp l on)) (process_here lp on) (let_go.told lp l on)
       | inr other ↦ as_told lp (floor_other lp other)
@@ -434,7 +434,7 @@ module _ (m : Meaning) (end node : ℕ) (p : Picture) (system : IsSystem m end p
           }
     ]
 
-    new_sound : IsSound m end new
+    new_sound : IsSoundPicture m end new
     unfolding new fossils
     new_sound =
         let h = system.sound in
@@ -455,9 +455,9 @@ module _ (m : Meaning) (end node : ℕ) (p : Picture) (system : IsSystem m end p
           parcels = new_parcels;
         }
 
-pub sound_take : (m : Meaning) (end node : ℕ) (p p' : Picture) → IsSystem m end p → move m end (Take node) p ≡ Some p' → IsSound m end p' × (gvt end p ≤ gvt end p')
+pub sound_take : (m : Meaning) (end node : ℕ) (p p' : Picture) → IsSystem m end p → move m end (Take node) p ≡ Some p' → IsSoundPicture m end p' × (gvt end p ≤ gvt end p')
 unfolding new
 sound_take m end node p p' system e =
     let t = taken_from m end node p p' (get_or p.parcels node None) refl e in
-    subst (λ (q : Picture). IsSound m end q × (gvt end p ≤ gvt end q)) t.is
+    subst (λ (q : Picture). IsSoundPicture m end q × (gvt end p ≤ gvt end q)) t.is
     (new_sound m end node p system t.parcel t.posted t.work t.done, gvt_kept m end node p system t.parcel t.posted t.work t.done)

@@ -1,5 +1,9 @@
-pub mod Picture
-pub mod Moves
-pub mod Sound
-pub mod Views
-pub mod Laws
+-- For callers: a running system and its moves, what its users have of it, and the laws
+pub mod Picture  -- pictures, what is told truly and balanced, global virtual time, the opened picture
+pub mod Moves  -- post, take, commit, checkpoint: what each does, why it is refused, what it answers; lists of them
+pub mod Readers  -- optimistic equals sequential, without the invariants
+pub mod Laws  -- all laws: openings, moves, runs, commits, nodes, the ledger
+-- For the crates above: what the laws speak of
+pub mod Sound  -- the invariant of a running system, and what goes on
+pub mod Views  -- the nodes, the ledger and the loads of a picture
+pub mod Replies  -- what a reply may name

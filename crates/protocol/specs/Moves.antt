@@ -1,5 +1,6 @@
--- The moves of a running system: post, take, commit and checkpoint (Jefferson 1985, with commits and a coordinator by this project's profile).
-use Rattle.std.specs.Prelude.{Bool, List, None, Option, Some, [], filter, get_or, if◌then◌else◌, is_some, nat_lt, not, option_map, set, unwrap_or, ℕ, ◌&&◌, ◌++◌, ◌∷◌}
+-- The moves of a running system: post, take, commit and checkpoint (Jefferson 1985, with commits and a
+-- coordinator by this project's profile).
+use Rattle.std.specs.Prelude.{Bool, List, None, Option, Some, [], filter, get_or, flat_map, if◌then◌else◌, is_some, length, nat_lt, not, option_and_then, option_map, set, unwrap_or, ℕ, ◌&&◌, ◌++◌, ◌∷◌}
 use Rattle.eventkey.specs.Bag.{add_all, remove_all, remove_one}
 use Rattle.eventkey.specs.Message.{Message}
 use Rattle.gvt.specs.Ledger.{least_floor}
@@ -8,27 +9,26 @@ use Rattle.model.specs.Meaning.{Meaning}
 use Rattle.model.specs.World.{World, at_time, handled}
 use Rattle.node.specs.Node.{Work, released, reply_of, work_here}
 use Rattle.node.specs.declared.Parcel.{Parcel}
+use Rattle.process.specs.Process.{Process, fossils_of}
 use Rattle.process.specs.declared.Done.{Done}
-use Rattle.protocol.specs.Picture.{Picture, gvt, messages_told, node_of, nodes_of, sent_told}
+use Rattle.protocol.specs.declared.Answer.{Answer}
+use Rattle.protocol.specs.declared.Answer.TheVariants.{AlreadyAt, Checkpointed, Committed, Posted, Taken}
+use Rattle.protocol.specs.Picture.{Picture, gvt, messages_told, node_of, nodes_of, opened, sent_told}
 
--- what was told of handlings before the time, and of the others
-abbrev pub told_before : ℕ → List Done → List Done
+abbrev pub told_before : ℕ → List Done → List Done  -- of handlings before a time, and of the others
 told_before c ds = filter (λ (d : Done). nat_lt d.message.time c) ds
 
 abbrev pub told_from : ℕ → List Done → List Done
 told_from c ds = filter (λ (d : Done). not (nat_lt d.message.time c)) ds
 
--- the messages of what was told before the time, in order
-abbrev pub merged : ℕ → List Done → List Message
+abbrev pub merged : ℕ → List Done → List Message  -- those of what was told before a time, in order
 merged c ds = add_all (messages_told (told_before c ds)) []
 
--- the world after these messages, each of which is taken from pending
-abbrev pub after_messages : Meaning → World → List Message → World
+abbrev pub after_messages : Meaning → World → List Message → World  -- each is taken from pending
 after_messages m w [] = w
 after_messages m w (x ∷ xs) = after_messages m (handled m w x (remove_one x w.pending)) xs
 
--- the front moves to c, by what was told below it
-abbrev pub commit : Meaning → ℕ → Picture → Picture
+abbrev pub commit : Meaning → ℕ → Picture → Picture  -- the front moves to c, by what was told below it
 commit m c p = record p {
   front = at_time c (after_messages m p.front (merged c p.gathered));
   gathered = told_from c p.gathered;
@@ -53,51 +53,47 @@ told_front c ds w = record {
   log = w.log ++ merged c ds;
 }
 
--- the node has a parcel that is not answered
-abbrev pub is_busy : Picture → ℕ → Bool
+abbrev pub is_busy : Picture → ℕ → Bool  -- the node has a parcel that is not answered
 is_busy p node = is_some (get_or p.parcels node None)
 
--- the node is there and has no parcel, and each pick names, once, a message in transit for one of its processes
+-- the node is there and idle, and each pick names, once, a message in transit for one of its processes
 abbrev pub can_post : Picture → ℕ → List ℕ → Bool
-can_post p node picks = (nat_lt node (nodes_of p) && not (is_busy p node)) && (can_pick (nodes_of p) node p.transit picks && are_distinct picks)
+can_post p node picks =
+    (nat_lt node (nodes_of p) && not (is_busy p node))
+    && (can_pick (nodes_of p) node p.transit picks && are_distinct picks)
 
--- Post: the picked messages leave transit and form the node's parcel, with the floor that held before
-abbrev pub posted : ℕ → ℕ → List ℕ → ℕ → Picture → Picture
-posted end node picks budget p = record p {
-  transit = not_picked picks 0 p.transit;
-  parcels = set p.parcels node (Some (record { deliver = picked p.transit picks; budget = budget; floor = gvt end p }));
-}
+abbrev pub posted : ℕ → ℕ → List ℕ → ℕ → Picture → Picture  -- the picks leave transit as a parcel
+posted end node picks budget p =
+    let new : Parcel = record { deliver = picked p.transit picks; budget = budget; floor = gvt end p } in
+    record p { transit = not_picked picks 0 p.transit; parcels = set p.parcels node (Some new) }
 
--- Take: the node of this parcel did this work; what it replies is noted
-abbrev pub answered : ℕ → Parcel → Picture → Work → Picture
-answered node parcel p w = record {
-  front = p.front;
-  gathered = p.gathered ++ (reply_of parcel.floor w).fossils;
+abbrev pub answered : ℕ → Parcel → Picture → Work → Picture  -- the node of this parcel did this work
+answered node parcel p w = record p {
+  gathered = p.gathered ++ flat_map (λ (q : Process). fossils_of parcel.floor q) w.processes;
   nodes = set p.nodes node (released parcel.floor w);
   transit = p.transit ++ w.out;
   parcels = set p.parcels node None;
   floors = set p.floors node parcel.floor;
 }
 
--- from the parcel of the node, if it has one; none where a send number has no room
 abbrev pub take_from : Meaning → ℕ → ℕ → Picture → Option Parcel → Option Picture
-take_from m end node p None = None
-take_from m end node p (Some parcel) = option_map (answered node parcel p) (work_here m end (nodes_of p) parcel (node_of p node))
+take_from m end node p None = None  -- the node has no parcel; or a send number has no room
+take_from m end node p (Some parcel) =
+    option_map (answered node parcel p) (work_here m end (nodes_of p) parcel (node_of p node))
 
--- Commit: the front moves to the least floor of the nodes, where that is above its time
-abbrev pub committed : Meaning → ℕ → Picture → Picture
-committed m end p = if nat_lt p.front.time (least_floor end p.floors) then commit m (least_floor end p.floors) p else p
+abbrev pub committed : Meaning → ℕ → Picture → Picture  -- to the least floor that all nodes answered
+committed m end p =
+    if nat_lt p.front.time (least_floor end p.floors) then commit m (least_floor end p.floors) p else p
 
--- one step of a session, as it moves the picture (this project's profile)
-pub data Move : Type 0 where
+pub data Move : Type 0 where  -- a step of a session (this project's profile)
   Post : ℕ → List ℕ → ℕ → Move  -- node, picks, budget
   Take : ℕ → Move
   Commit : Move
   Checkpoint : Move
 
--- None where the move is refused
-abbrev pub move : Meaning → ℕ → Move → Picture → Option Picture
-move m end (Post node picks budget) p = if can_post p node picks then Some (posted end node picks budget p) else None
+abbrev pub move : Meaning → ℕ → Move → Picture → Option Picture  -- None where it is refused
+move m end (Post node picks budget) p =
+    if can_post p node picks then Some (posted end node picks budget p) else None
 move m end (Take node) p = take_from m end node p (get_or p.parcels node None)
 move m end Commit p = Some (committed m end p)
 move m end Checkpoint p = Some p
@@ -113,7 +109,8 @@ pub data Refusal : Type 0 where
 -- why a take is refused, by the parcel of the node
 abbrev pub take_refusal : Meaning → ℕ → ℕ → Picture → Option Parcel → Option Refusal
 take_refusal m end node p None = Some Idle
-take_refusal m end node p (Some parcel) = if is_some (work_here m end (nodes_of p) parcel (node_of p node)) then None else Some NumberLimit
+take_refusal m end node p (Some parcel) =
+    if is_some (work_here m end (nodes_of p) parcel (node_of p node)) then None else Some NumberLimit
 
 -- the first of them that holds, in the order in which they are looked for; none where the move is made
 abbrev pub refusal : Meaning → ℕ → Move → Picture → Option Refusal
@@ -122,11 +119,49 @@ refusal m end (Post node picks budget) p =
     else if is_busy p node then Some Busy
     else if can_pick (nodes_of p) node p.transit picks && are_distinct picks then None
     else Some NoSuchPick
-refusal m end (Take node) p = if not (nat_lt node (nodes_of p)) then Some NoSuchNode else take_refusal m end node p (get_or p.parcels node None)
+refusal m end (Take node) p =
+    if not (nat_lt node (nodes_of p)) then Some NoSuchNode
+    else take_refusal m end node p (get_or p.parcels node None)
 refusal m end Commit p = None
 refusal m end Checkpoint p = None
 
--- after these moves, of which the refused ones change nothing
-abbrev pub after_moves : Meaning → ℕ → List Move → Picture → Picture
+-- The numbers of a move: what it answers, and none where it is refused.
+abbrev pub take_answer : Meaning → ℕ → ℕ → Picture → Option Parcel → Option Answer
+take_answer m end node p None = None
+take_answer m end node p (Some parcel) =
+    option_map
+    (λ (w : Work). Taken w.ran (length w.out) (length (reply_of parcel.floor w).fossils))
+    (work_here m end (nodes_of p) parcel (node_of p node))
+
+abbrev pub commit_answer : ℕ → Picture → Answer
+commit_answer end p =
+    let c = least_floor end p.floors in
+    if nat_lt p.front.time c then Committed c (length (told_before c p.gathered)) else AlreadyAt p.front.time
+
+abbrev pub answer_of : Meaning → ℕ → Move → Picture → Option Answer
+answer_of m end (Post node picks budget) p =
+    if can_post p node picks then Some (Posted (gvt end p)) else None
+answer_of m end (Take node) p = take_answer m end node p (get_or p.parcels node None)
+answer_of m end Commit p = Some (commit_answer end p)
+answer_of m end Checkpoint p = Some (Checkpointed p.front.time)
+
+-- after these moves, one after another; none where one of them is refused
+abbrev pub moves_made : Meaning → ℕ → List Move → Picture → Option Picture
+moves_made m end [] p = Some p
+moves_made m end (k ∷ ks) p =
+    option_and_then (λ (q : Picture). moves_made m end ks q) (move m end k p)
+
+abbrev pub after_moves : Meaning → ℕ → List Move → Picture → Picture  -- refused ones change nothing
 after_moves m end [] p = p
 after_moves m end (k ∷ ks) p = after_moves m end ks (unwrap_or (move m end k p) p)
+
+-- a run of a system: by how many nodes it opens, and its moves
+pub record Run : Type 0 where
+  pub nodes : ℕ
+  pub moves : List Move
+
+-- the front after these runs, each of which opens with the front that the one before it left
+abbrev pub after_runs : Meaning → ℕ → List Run → World → World
+after_runs m end [] w = w
+after_runs m end (r ∷ rs) w =
+    after_runs m end rs (after_moves m end r.moves (opened m.lps r.nodes w)).front

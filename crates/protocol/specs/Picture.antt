@@ -17,21 +17,19 @@ use Rattle.process.specs.Told.{IsTold}
 use Rattle.process.specs.declared.Done.{Done}
 use Rattle.queues.specs.Record.{messages}
 
--- the whole of a system between two of its moves; a node with an unanswered parcel is pictured as it was before that parcel
+-- a system between two of its moves; a node with an unanswered parcel is as it was before that parcel
 pub record Picture : Type 0 where
   pub front : World
-  pub gathered : List Done  -- what nodes told and no commit has taken yet, in the order in which they told it
+  pub gathered : List Done  -- told by nodes and taken by no commit yet, in the order in which it was told
   pub nodes : List (List Process)  -- for each node its processes, ascending
   pub transit : List Signed
   pub parcels : List (Option Parcel)  -- for each node what it was posted and has not answered
   pub floors : List ℕ  -- for each node the floor that it answered last
 
--- how many nodes there are
-abbrev pub nodes_of : Picture → ℕ
+abbrev pub nodes_of : Picture → ℕ  -- how many there are
 nodes_of p = length p.nodes
 
--- the processes of a node
-abbrev pub node_of : Picture → ℕ → List Process
+abbrev pub node_of : Picture → ℕ → List Process  -- the processes of a node
 node_of p node = get_or p.nodes node []
 
 -- process lp sits on node lp mod the number of nodes, at place lp div that number
@@ -39,30 +37,31 @@ abbrev pub process_at : Picture → ℕ → Process
 process_at p lp = get_or (node_of p (lp % nodes_of p)) (lp / nodes_of p) nobody
 
 -- the floor that its node answered last
-abbrev pub floor_of : Picture → ℕ → ℕ
-floor_of p lp = get_or p.floors (lp % nodes_of p) 0
+abbrev pub floor_at : Picture → ℕ → ℕ
+floor_at p lp = get_or p.floors (lp % nodes_of p) 0
 
 -- what a process told and no commit has taken yet
 abbrev pub told_by : ℕ → List Done → List Done
 told_by lp gathered = filter (λ (d : Done). d.message.to == lp) gathered
 
--- all processes, node by node
-abbrev pub processes_of : Picture → List Process
+abbrev pub processes_of : Picture → List Process  -- all of them, node by node
 processes_of p = flat_map (λ (qs : List Process). qs) p.nodes
 
--- each node has its processes, for each there is a place for a parcel and a floor, and what was told is of one of the processes
+-- each node has its processes, for each there is a place for a parcel and a floor, and what was told is of one of them
 pub record IsSeatedBy (lps : ℕ) (p : Picture) : Type 0 where
-  pub seats : (node : ℕ) → node < nodes_of p → length (node_of p node) ≡ length (own_lps (nodes_of p) node lps)
+  pub seats : (node : ℕ) → node < nodes_of p →
+      length (node_of p node) ≡ length (own_lps (nodes_of p) node lps)
   pub parcels : length p.parcels ≡ nodes_of p
   pub floors : length p.floors ≡ nodes_of p
   pub told : Every (λ (d : Done). d.message.to < lps) p.gathered
 
--- Told truly: along each process, from the front's state on, what it told and what it has done is what the model does, in the order of messages (this project's profile).
+-- Told truly: along each process, from the front's state on, what it told and what it has done is what the model
+-- does, in the order of messages (this project's profile).
 abbrev pub IsToldTruly : Meaning → Picture → Type 0
-IsToldTruly m p = (lp : ℕ) → lp < m.lps → IsTold m lp p.front.time (state_of p.front lp) (number_of p.front lp) (floor_of p lp) (told_by lp p.gathered) (process_at p lp)
+IsToldTruly m p = (lp : ℕ) → lp < m.lps →
+    IsTold m lp p.front.time (state_of p.front lp) (number_of p.front lp) (floor_at p lp) (told_by lp p.gathered) (process_at p lp)
 
--- all that is under way: in transit and in parcels that are not answered
-abbrev pub travelling : Picture → List Signed
+abbrev pub travelling : Picture → List Signed  -- in transit and in parcels that are not answered
 travelling p = p.transit ++ flat_map delivered_by p.parcels
 
 abbrev pub messages_told : List Done → List Message
@@ -76,37 +75,39 @@ sent_told ds = flat_map (λ (d : Done). d.sent) ds
 abbrev pub all_sent : Picture → List Message
 all_sent p = sent_told p.gathered ++ flat_map sent_by (processes_of p)
 
--- Balance (this project's profile). For each message: where its copies are, less the antimessages that wait or travel for it, is where they came from.
+-- Balance (this project's profile). For each message: where its copies are, less the antimessages that wait or
+-- travel for it, is where they came from.
 abbrev pub IsBalanced : Meaning → Picture → Type 0
 IsBalanced m p = (x : Message) → x.to < m.lps →
-    copies x (messages_told p.gathered) + copies x (messages (process_at p x.to).done) + copies x (process_at p x.to).waiting + copies x (of_sign Plus (travelling p))
-    ≡ copies x p.front.pending + copies x (all_sent p) + copies x (process_at p x.to).antis + copies x (of_sign Minus (travelling p))
+    copies x (messages_told p.gathered) + copies x (messages (process_at p x.to).done)
+    + copies x (process_at p x.to).waiting + copies x (of_sign Plus (travelling p))
+    ≡ copies x p.front.pending + copies x (all_sent p)
+    + copies x (process_at p x.to).antis + copies x (of_sign Minus (travelling p))
 
 -- The numbers of all messages lie in their ranges.
 abbrev pub IsProcessInRange : Process → Type 0
 IsProcessInRange q = Every IsRanged (messages q.done) × Every IsRanged q.waiting × Every IsRanged q.antis
 
 abbrev pub IsInRange : Picture → Type 0
-IsInRange p = Every IsRanged (messages_told p.gathered) × Every (λ (qs : List Process). Every IsProcessInRange qs) p.nodes × Every (λ (s : Signed). IsRanged s.message) (travelling p)
+IsInRange p =
+    Every IsRanged (messages_told p.gathered)
+    × Every (λ (qs : List Process). Every IsProcessInRange qs) p.nodes
+    × Every (λ (s : Signed). IsRanged s.message) (travelling p)
 
--- Global virtual time (Jefferson 1985): the least time of what waits, of the antimessages that wait, and of what travels, and at most the end
-abbrev pub gvt : ℕ → Picture → ℕ
+abbrev pub gvt : ℕ → Picture → ℕ  -- the least time that waits or travels, or the end (Jefferson 1985)
 gvt end p =
     least_time end
-    (flat_map (λ (q : Process). q.waiting ++ q.antis) (processes_of p) ++ map (λ (s : Signed). s.message) (travelling p))
+    (flat_map (λ (q : Process). q.waiting ++ q.antis) (processes_of p)
+    ++ map (λ (s : Signed). s.message) (travelling p))
 
--- a process of a system that opens with this front: what is pending for it waits
-abbrev pub opened_process : World → ℕ → Process
-opened_process w lp = record {
-  done = [];
+abbrev pub opened_process : World → ℕ → Process  -- what is pending for it waits
+opened_process w lp = record nobody {
   waiting = filter (λ (x : Message). x.to == lp) w.pending;
-  antis = [];
   state = state_of w lp;
   number = number_of w lp;
 }
 
--- the picture with which a session begins: a front, its pending messages waiting at their processes, and nothing else
-abbrev pub opened : ℕ → ℕ → World → Picture
+abbrev pub opened : ℕ → ℕ → World → Picture  -- a system begins: there is its front, and what is pending waits
 opened lps nodes w = record {
   front = w;
   gathered = [];

@@ -8,16 +8,18 @@ use Rattle.model.specs.World.{IsUpto, World}
 use Rattle.node.specs.declared.Parcel.{Parcel}
 use Rattle.protocol.specs.Picture.{IsBalanced, IsInRange, IsSeatedBy, IsToldTruly, Picture, gvt, nodes_of}
 
--- What holds of the parcel of a node: its messages are for processes of that node, and its floor lies between the node's and gvt.
+-- What holds of the parcel of a node: its messages are for processes of that node, and its floor lies between
+-- the node's and global virtual time.
 pub record IsParcel (m : Meaning) (nodes node low high : ℕ) (parcel : Parcel) : Type 0 where
   pub from : low ≤ parcel.floor
   pub upto : parcel.floor ≤ high
   pub there : Every (λ (s : Signed). s.message.to < m.lps) parcel.deliver
   pub on_node : Every (λ (s : Signed). s.message.to % nodes ≡ node) parcel.deliver
 
--- The invariant of a running system: its front is the sequential simulation up to the front's time, its processes sit on its nodes, it is told truly and balanced,
--- and no floor, of a node or of a parcel under way, is above global virtual time.
-pub record IsSound (m : Meaning) (end : ℕ) (p : Picture) : Type 0 where
+-- The invariant of a running system: its front is the sequential simulation up to the front's time, its processes
+-- sit on its nodes, it is told truly and balanced, and no floor, of a node or of a parcel under way, is above
+-- global virtual time. The front's time is at most those floors, and so not past the end.
+pub record IsSoundPicture (m : Meaning) (end : ℕ) (p : Picture) : Type 0 where
   pub front : IsUpto m end p.front.time p.front
   pub some : 1 ≤ nodes_of p
   pub seated : IsSeatedBy m.lps p
@@ -27,15 +29,17 @@ pub record IsSound (m : Meaning) (end : ℕ) (p : Picture) : Type 0 where
   pub front_low : Every (λ (f : ℕ). p.front.time ≤ f) p.floors
   pub floors_low : Every (λ (f : ℕ). f ≤ gvt end p) p.floors
   pub there : Every (λ (s : Signed). s.message.to < m.lps) p.transit
-  pub parcels : (node : ℕ) (parcel : Parcel) → get_or p.parcels node None ≡ Some parcel → IsParcel m (nodes_of p) node (get_or p.floors node 0) (gvt end p) parcel
+  pub parcels : (node : ℕ) (parcel : Parcel) → get_or p.parcels node None ≡ Some parcel →
+      IsParcel m (nodes_of p) node (get_or p.floors node 0) (gvt end p) parcel
 
 -- a picture of a system that runs a model to an end
 pub record IsSystem (m : Meaning) (end : ℕ) (p : Picture) : Type 0 where
   pub lawful : IsLawful m
   pub short : end ≤ 2 ^ 40
-  pub sound : IsSound m end p
+  pub sound : IsSoundPicture m end p
 
--- with what a session begins: some nodes, and a front that is the sequential simulation up to its time
+-- With what a session begins: some nodes, and a front that is the sequential simulation up to its time, which is
+-- not past the end (the simulation up to g alone does not say so: past the end no step is made).
 pub record IsOpening (m : Meaning) (end nodes : ℕ) (w : World) : Type 0 where
   pub lawful : IsLawful m
   pub short : end ≤ 2 ^ 40

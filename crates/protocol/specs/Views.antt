@@ -23,12 +23,29 @@ node_view m end p node = record {
 
 -- the ledger of the picture
 abbrev pub ledger_of : ℕ → Picture → Ledger
-ledger_of end p = record { end = end; transit = p.transit; parcels = p.parcels; lows = lows_of p; floors = p.floors }
+ledger_of end p = record {
+  end = end;
+  transit = p.transit;
+  parcels = p.parcels;
+  lows = lows_of p;
+  floors = p.floors;
+}
 
 -- what a front has of process lp
 abbrev pub part_of : World → ℕ → Part
-part_of w lp = record { lp = lp; number = number_of w lp; words = state_of w lp; pending = filter (λ (x : Message). x.to == lp) w.pending }
+part_of w lp = record {
+  lp = lp;
+  number = number_of w lp;
+  words = state_of w lp;
+  pending = filter (λ (x : Message). x.to == lp) w.pending;
+}
 
 -- what a front has of the processes of a node
 abbrev pub load_of : ℕ → ℕ → ℕ → ℕ → World → Load
-load_of lps end nodes node w = record { node = node; nodes = nodes; end = end; floor = w.time; parts = map (part_of w) (own_lps nodes node lps) }
+load_of lps end nodes node w = record {
+  node = node;
+  nodes = nodes;
+  end = end;
+  floor = w.time;
+  parts = map (part_of w) (own_lps nodes node lps);
+}

@@ -4,22 +4,63 @@
 //! that the contracts of the crates `queues`, `process`, `node` and `gvt` cite, so a law here is a law of the code.
 #![tactic(auto)]
 
-ghost use Rattle.protocol.specs.Laws.{OpeningIsSound, MovesAreSound, RunsAreSound, MovesAreMadeOrRefused, CommitIsSequential, CommitsTellTheNextEvents, CommitIsByWhatWasTold, ParcelsAreAccepted, RollbacksStayAbove, OpenedNodes, TakesAreAnswers, MovesLeaveNodes, LedgersTellGvt, LedgersFollowPictures};
+ghost use Rattle.protocol.specs.Laws.{CommitIsByWhatWasTold, CommitIsSequential, CommitsTellTheNextEvents};
+ghost use Rattle.protocol.specs.Laws.{FirstOpens, FrontsOpen, OpeningIsSound};
+ghost use Rattle.protocol.specs.Laws.{LedgersAllowPosts, LedgersFollowPictures, LedgersTellGvt};
+ghost use Rattle.protocol.specs.Laws.{MovesAnswer, MovesAreMadeOrRefused, MovesAreSound, MovesLeaveNodes};
+ghost use Rattle.protocol.specs.Laws.{MovesMadeAreSound, MovesMadeJoin, MovesMadePart, RunsAreOneSimulation, RunsAreSound};
+ghost use Rattle.protocol.specs.Laws.{OpenedNodes, ParcelsAreAccepted, RepliesNameWhatIsThere, TakesAreAnswers};
+ghost use Rattle.protocol.specs.Readers.{OptimisticIsSequential};
 
-/// A system that opens with a front that is the sequential simulation up to its time has a sound picture.
-pub fn law_of_openings()
-    ensures { OpeningIsSound }
+/// What a move answers.
+#[derive(Clone, Copy, Debug, PartialEq, Eq)]
+pub enum Answer {
+    /// A parcel with this floor, in ticks, was posted.
+    Posted { floor: u64 },
+    /// The node handled `ran` messages, sent `out` messages and antimessages, and told of `fossils` handlings.
+    Taken {
+        ran: u32,
+        out: usize,
+        fossils: usize,
+    },
+    /// The front moved to the virtual time `g`, in ticks, by so many events.
+    Committed { g: u64, events: usize },
+    /// There is nothing to commit: the front stays at the virtual time `g`, in ticks.
+    AlreadyAt { g: u64 },
+    /// The front, at the virtual time `g`, in ticks, is written whole.
+    Checkpointed { g: u64 },
+}
+
+/// Optimistic equals sequential, over every schedule: for every lawful model, every number of nodes and every list of
+/// moves of a system that opens with the sequential simulation up to some time, the front is the sequential simulation
+/// up to its own time, its log only grows, and global virtual time never falls.
+pub fn optimistic_equals_sequential()
+    ensures { OptimisticIsSequential }
 {}
 
-/// One move of a running system keeps its picture sound, and is made exactly where it is not refused.
+/// A system that opens with a front that is the sequential simulation up to its time has a sound picture. The world before
+/// any step opens one, and so does the front of any system, with any number of nodes.
+pub fn law_of_openings()
+    ensures sound { OpeningIsSound }
+    ensures first { FirstOpens }
+    ensures later { FrontsOpen }
+{}
+
+/// One move of a running system keeps its picture sound, is made exactly where it is not refused, and answers what it did.
 pub fn law_of_moves()
     ensures sound { MovesAreSound }
     ensures made { MovesAreMadeOrRefused }
+    ensures answers { MovesAnswer }
 {}
 
-/// Any list of moves of an opened system: optimistic equals sequential, over every schedule.
+/// Any list of moves of an opened system keeps its picture sound, where refused moves change nothing and where none is
+/// refused, and any runs one after another are one sequential simulation.
 pub fn law_of_runs()
-    ensures { RunsAreSound }
+    ensures sound { RunsAreSound }
+    ensures join { MovesMadeJoin }
+    ensures part { MovesMadePart }
+    ensures made { MovesMadeAreSound }
+    ensures one { RunsAreOneSimulation }
 {}
 
 /// A commit at a time that is not above global virtual time, nor above any node's floor, makes the front of a picture
@@ -31,10 +72,10 @@ pub fn law_of_commits()
     ensures by_told { CommitIsByWhatWasTold }
 {}
 
-/// A node accepts what it is posted, and no rollback reaches below its floor.
+/// A node accepts what it is posted, and its reply names only processes that are there, as handled by it only its own.
 pub fn law_of_parcels()
     ensures accepted { ParcelsAreAccepted }
-    ensures above { RollbacksStayAbove }
+    ensures there { RepliesNameWhatIsThere }
 {}
 
 /// What each node is loaded with at the opening is accepted, and makes it that node of the opened picture. What it answers
@@ -45,8 +86,9 @@ pub fn law_of_nodes()
     ensures left { MovesLeaveNodes }
 {}
 
-/// Global virtual time, as the ledger has it, and the ledger of a picture, move by move.
+/// Global virtual time, as the ledger has it, the ledger of a picture, move by move, and the posts that it allows.
 pub fn law_of_ledgers()
     ensures gvt { LedgersTellGvt }
     ensures follow { LedgersFollowPictures }
+    ensures allow { LedgersAllowPosts }
 {}

@@ -1,3 +1,4 @@
+use Rattle.protocol.proofs.Numbers.{moves_answer}
 use Rattle.protocol.proofs.Refusals.{made_or_refused}
 use Rattle.protocol.proofs.Runs.{moves_are_sound}
 use Rattle.protocol.proofs.law_of_moves.Goals as goal
@@ -7,3 +8,6 @@ returns-clause-sound c = moves_are_sound
 
 pub returns-clause-made : goal.returns-clause-made
 returns-clause-made c = made_or_refused
+
+pub returns-clause-answers : goal.returns-clause-answers
+returns-clause-answers c = moves_answer

@@ -1,0 +1,7 @@
+mod Batches
+mod Committing
+mod PortStates
+mod Posting
+mod Taking
+mod Driving
+mod Refusals

@@ -1,0 +1,90 @@
+-- A session: what can be said of it between two steps.
+use Rattle.std.specs.List.{AllByRecursion as Every}
+use Rattle.std.specs.Prelude.{Bool, List, None, Option, Some, [], false, get_or, length, map, true, ℕ, ◌<◌, ◌≡◌, ◌≤◌}
+use Rattle.commitlog.specs.Log.{Opened}
+use Rattle.eventkey.specs.Bag.{IsAscending}
+use Rattle.gvt.specs.Ledger.{Ledger}
+use Rattle.model.specs.Meaning.{Meaning}
+use Rattle.model.specs.World.{World}
+use Rattle.node.specs.declared.Parcel.{Parcel}
+use Rattle.process.specs.declared.Done.{Done}
+use Rattle.protocol.specs.Picture.{Picture, lows_of}
+use Rattle.wire.specs.Port.{PortState, Stage, nobody}
+use Rattle.wire.specs.Port.Stage.{Fresh, Idle, Posted}
+use Rattle.protocol.specs.Sound.{IsSystem}
+use Rattle.protocol.specs.Views.{node_view}
+
+-- What callers see of a session. What its model means, what its ports have of their nodes and what a crash may leave of its disk are ghosts of those values.
+pub record Session (M P D : Type 0) : Type 0 where
+  pub model : M
+  pub end : ℕ
+  pub front : World
+  pub gathered : List Done  -- what nodes told and no commit has taken yet
+  pub ledger : Ledger
+  pub ports : List P
+  pub log : Opened D
+  pub spent : Bool
+
+-- the same but for the log, as its model and its ports tell of themselves
+pub record Running : Type 0 where
+  pub meaning : Meaning
+  pub end : ℕ
+  pub front : World
+  pub gathered : List Done
+  pub ledger : Ledger
+  pub ports : List PortState
+
+abbrev pub running : {M P D : Type 0} → (M → Meaning) → (P → PortState) → Session M P D → Running
+running meaning state s = record { meaning = meaning s.model; end = s.end; front = s.front; gathered = s.gathered; ledger = s.ledger; ports = map state s.ports }
+
+-- The picture of a session is nothing that it keeps: it is told by its front, its ledger, what it gathered, and the nodes behind its ports.
+abbrev pub picture_of : Running → Picture
+picture_of r = record {
+  front = r.front;
+  gathered = r.gathered;
+  nodes = map (λ (p : PortState). p.node.processes) r.ports;
+  transit = r.ledger.transit;
+  parcels = r.ledger.parcels;
+  floors = r.ledger.floors;
+}
+
+-- what is told of a port that is not there
+abbrev pub no_port : PortState
+no_port = record {
+  stage = Fresh;
+  tells = false;
+  meaning = record { lps = 0; identity = []; start_state = λ lp. []; start_sends = λ lp. []; next_state = λ lp state x. []; sends = λ lp state x. [] };
+  node = nobody;
+}
+
+abbrev pub port_at : List PortState → ℕ → PortState
+port_at ports k = get_or ports k no_port
+
+-- where a port stands whose node has this parcel, or none
+abbrev pub stage_by : Option Parcel → Stage
+stage_by None = Idle
+stage_by (Some parcel) = Posted parcel
+
+-- What holds of every session that is not spent, over whatever ports and on whatever disk.
+pub record IsFit (r : Running) : Type 0 where
+  pub end_is : r.ledger.end ≡ r.end
+  pub parcels : length r.ledger.parcels ≡ length r.ports
+  pub floors : length r.ledger.floors ≡ length r.ports
+  pub few : length r.ports ≤ 64
+  pub stages : (k : ℕ) → k < length r.ports → (port_at r.ports k).stage ≡ stage_by (get_or r.ledger.parcels k None)
+  pub states : length r.front.states ≡ r.meaning.lps
+  pub numbers : length r.front.numbers ≡ r.meaning.lps
+  pub ascending : IsAscending r.front.pending
+  pub there : Every (λ (d : Done). d.message.to < r.meaning.lps) r.gathered
+
+-- this port tells its node, which is that of the picture
+pub record IsPortOf (r : Running) (k : ℕ) (p : PortState) : Type 0 where
+  pub tells : p.tells ≡ true
+  pub meaning : p.meaning ≡ r.meaning
+  pub node_is : p.node ≡ node_view r.meaning r.end (picture_of r) k
+
+-- A session whose ports tell their nodes, which run its model, and whose picture is sound.
+pub record IsTold (r : Running) : Type 0 where
+  pub ports : (k : ℕ) → k < length r.ports → IsPortOf r k (port_at r.ports k)
+  pub lows : r.ledger.lows ≡ lows_of (picture_of r)
+  pub system : IsSystem r.meaning r.end (picture_of r)

@@ -1,0 +1,77 @@
+//! Sessions: the coordinator of a running simulation, which commits what no rollback reaches to a log on a disk.
+#![tactic(auto)]
+
+mod batch;
+mod opening;
+mod ports;
+mod session;
+
+use eventkey::Listed;
+use recovery::RecoveryFault;
+pub use protocol::Answer;
+pub use session::{FrontView, Session};
+use thiserror::Error;
+use wire::PortFault;
+
+/// One step of a session.
+#[derive(Drop)]
+pub enum Step {
+    /// The messages at these places of transit are posted to a node, which may handle so many messages.
+    Post {
+        node: u32,
+        picks: Listed<u32>,
+        budget: u32,
+    },
+    /// The reply of a node is taken.
+    Take { node: u32 },
+    /// What no rollback reaches any more is committed.
+    Commit,
+}
+
+/// Why a session refuses a call.
+#[derive(Clone, Copy, Debug, PartialEq, Eq, Error)]
+pub enum SessionFault {
+    /// A parcel is outstanding at the node.
+    #[error("Busy")]
+    Busy,
+    /// No parcel is outstanding at the node.
+    #[error("Idle")]
+    Idle,
+    /// No node has this number.
+    #[error("NoSuchNode")]
+    NoSuchNode,
+    /// A pick is no place of transit, or has a message for another node, or names the same place as another pick.
+    #[error("NoSuchPick")]
+    NoSuchPick,
+    /// The record does not fit on the disk.
+    #[error("Full")]
+    Full,
+    /// The port of a node failed.
+    #[error("Port {0}")]
+    Port(PortFault),
+    /// The disk failed.
+    #[error("Disk")]
+    Disk,
+    /// Memory was refused.
+    #[error("NoMemory")]
+    NoMemory,
+    /// A send number would have passed 2^63.
+    #[error("NumberLimit")]
+    NumberLimit,
+    /// The record would have more than 2^24 bytes.
+    #[error("TooLong")]
+    TooLong,
+    /// The log of the disk is not recovered.
+    #[error("Recovery {0}")]
+    Recovery(RecoveryFault),
+    /// An earlier call ended the session.
+    #[error("Spent")]
+    Spent,
+}
+
+/// Why a list of steps is not made to its end: so many were made, and the next was refused.
+#[derive(Clone, Copy, Debug, PartialEq, Eq)]
+pub struct DriveFault {
+    pub done: u64,
+    pub fault: SessionFault,
+}

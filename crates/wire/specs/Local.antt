@@ -1,0 +1,34 @@
+-- A port to a node in this program.
+use Rattle.std.specs.Prelude.{false, true, ◌≡◌}
+use Rattle.model.specs.Meaning.{Meaning}
+use Rattle.node.specs.Handling.{Node}
+use Rattle.wire.specs.Port.{PortState, Stage, nobody}
+use Rattle.wire.specs.Port.Stage.{Ended as AtEnd, Fresh as AtFirst, Idle as AtRest, Posted as AtWork}
+use Rattle.wire.specs.declared.local.Held.{Held}
+use Rattle.wire.specs.declared.local.Held.TheVariants.{Ended, Fresh, Idle, Posted}
+
+-- the model of a port, and its node
+pub record Local (M : Type 0) : Type 0 where
+  pub model : M
+  pub held : Held
+
+abbrev pub stage_of : Held → Stage
+stage_of Fresh = AtFirst
+stage_of (Idle node) = AtRest
+stage_of (Posted node parcel) = AtWork parcel
+stage_of Ended = AtEnd
+
+abbrev pub node_of : Held → Node
+node_of Fresh = nobody
+node_of (Idle node) = node
+node_of (Posted node parcel) = node
+node_of Ended = nobody
+
+abbrev pub state_of : Meaning → Held → PortState
+state_of m held = record { stage = stage_of held; tells = true; meaning = m; node = node_of held }
+
+-- its node is one of this model
+abbrev pub IsOfModel : Meaning → Held → Type 0
+IsOfModel m (Idle node) = (node.spent ≡ false) × (node.lps ≡ m.lps)
+IsOfModel m (Posted node parcel) = (node.spent ≡ false) × (node.lps ≡ m.lps)
+IsOfModel m held = Unit {0}

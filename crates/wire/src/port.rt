@@ -1,0 +1,83 @@
+// The interface of a port: what code above it may rely on.
+
+ghost use Rattle.std.specs.Prelude.{◌≡◌, true, IfErr, IfOk, OnErr, OnOk};
+ghost use Rattle.node.specs.declared.Parcel.{Parcel};
+ghost use Rattle.wire.specs.Port.{IsLoadFault, IsLoadInRange, IsLoaded, IsForWant, IsSamePort, IsTakeFault, IsTaken, PortState};
+ghost use Rattle.wire.specs.Port.Stage.{Ended, Fresh, Idle, Posted};
+
+use node::{Load, NodeFault, Parcel, Reply};
+use thiserror::Error;
+
+/// Why bytes are no frame, or are not sent.
+#[derive(Clone, Copy, Debug, PartialEq, Eq, Error)]
+pub enum WireFault {
+    /// The input ended within a frame.
+    #[error("Truncated")]
+    Truncated,
+    /// A body has more than 2^24 bytes.
+    #[error("TooLong")]
+    TooLong,
+    /// The kind of a frame is none of the four, or not allowed at its place.
+    #[error("BadKind")]
+    BadKind,
+    /// The body is not of its kind.
+    #[error("BadBody")]
+    BadBody,
+    /// The reader or the writer failed.
+    #[error("Io")]
+    Io,
+    /// Memory was refused.
+    #[error("NoMemory")]
+    NoMemory,
+}
+
+/// Why a port refuses a call.
+#[derive(Clone, Copy, Debug, PartialEq, Eq, Error)]
+pub enum PortFault {
+    /// The bytes were refused.
+    #[error("Wire {0}")]
+    Wire(WireFault),
+    /// The node refused.
+    #[error("Peer {0}")]
+    Peer(NodeFault),
+    /// The way to the node has ended.
+    #[error("Closed")]
+    Closed,
+    /// The reply names a process that is not there, or tells of another node's process.
+    #[error("BadReply")]
+    BadReply,
+}
+
+/// The way to one node. It is loaded once and first, and then posted a parcel and asked for the reply, in turn.
+pub trait Port {
+    /// Where it stands, whether what it answers is what its node does, by which model, and that node.
+    ghost state: { Self → PortState };
+
+    /// Makes the node of a load.
+    fn load(&mut self, load: Load) -> Result<(), PortFault>
+        requires fresh { (state self.old).stage ≡ Fresh }
+        requires range { IsLoadInRange load }
+        ensures idle { OnOk result ((state self.new).stage ≡ Idle) }
+        ensures ended { OnErr result ((state self.new).stage ≡ Ended) }
+        ensures same { IsSamePort (state self.old) (state self.new) }
+        ensures ok { (state self.old).tells ≡ true → OnOk result (IsLoaded load (state self.old) (state self.new)) }
+        ensures err { (state self.old).tells ≡ true → IfErr result (λ fault. IsLoadFault load (state self.old) fault) };
+
+    /// Hands the node a parcel.
+    fn post(&mut self, parcel: Parcel) -> Result<(), PortFault>
+        requires idle { (state self.old).stage ≡ Idle }
+        ensures posted { OnOk result ((state self.new).stage ≡ Posted parcel) }
+        ensures ended { OnErr result ((state self.new).stage ≡ Ended) }
+        ensures same { IsSamePort (state self.old) (state self.new) }
+        ensures ok { (state self.old).tells ≡ true → OnOk result ((state self.new).node ≡ (state self.old).node) }
+        ensures err { (state self.old).tells ≡ true → IfErr result (λ fault. IsForWant fault) };
+
+    /// Asks for the reply to the parcel. A port that tells answers what its node does with it.
+    fn take(&mut self) -> Result<Reply, PortFault>
+        requires posted { (parcel : Parcel) × ((state self.old).stage ≡ Posted parcel) }
+        ensures idle { OnOk result ((state self.new).stage ≡ Idle) }
+        ensures ended { OnErr result ((state self.new).stage ≡ Ended) }
+        ensures same { IsSamePort (state self.old) (state self.new) }
+        ensures ok { (parcel : Parcel) → (state self.old).stage ≡ Posted parcel → (state self.old).tells ≡ true → IfOk result (λ reply. IsTaken parcel (state self.old) (state self.new) reply) }
+        ensures err { (parcel : Parcel) → (state self.old).stage ≡ Posted parcel → (state self.old).tells ≡ true → IfErr result (λ fault. IsTakeFault parcel (state self.old) fault) };
+}
