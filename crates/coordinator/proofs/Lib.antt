@@ -3,5 +3,5 @@ mod Committing
 mod PortStates
 mod Posting
 mod Taking
-mod Driving
+pub mod Driving
 mod Refusals
