@@ -1,0 +1,9 @@
+//! The driver of a run: rounds of steps of a session, until all is committed up to the end.
+#![tactic(auto)]
+
+mod picks;
+mod rounds;
+#[cfg(test)]
+mod tests;
+
+pub use rounds::{Plan, RunFault, Watch, run};

@@ -1,0 +1,1 @@
+// Runs of sessions over nodes in this program.
