@@ -5,3 +5,6 @@ mod Posting
 mod Taking
 pub mod Driving
 mod Refusals
+mod Loading
+mod Begun
+mod Histories

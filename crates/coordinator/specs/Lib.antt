@@ -4,3 +4,4 @@ pub mod Steps
 pub mod Crashes
 pub mod Drives
 pub mod Opening
+pub mod Headline

@@ -5,11 +5,14 @@ mod batch;
 mod opening;
 mod ports;
 mod session;
+mod sessions;
 
 use eventkey::Listed;
+pub use opening::NotOpened;
 use recovery::RecoveryFault;
 pub use protocol::Answer;
 pub use session::{FrontView, Session};
+pub use sessions::{Resumed, headline, resume};
 use thiserror::Error;
 use wire::PortFault;
 

@@ -1,0 +1,84 @@
+// Whole sessions, and the headline over any number of them.
+
+ghost use Rattle.std.specs.Prelude.{◌≡◌, ◌≤◌, ◌^◌, length, map};
+ghost use Rattle.coordinator.specs.Headline.{Headline, IsResumed};
+ghost use Rattle.coordinator.specs.Opening.{AllFresh, AllTell};
+ghost use Rattle.model.specs.World.{World};
+
+use crate::{DriveFault, NotOpened, Session, SessionFault, Step};
+use disk::SectorDisk;
+use model::Model as Simulated;
+use std::alloc::Global;
+use wire::Port;
+
+/// What a whole session leaves.
+#[derive(Drop)]
+pub struct Resumed<D: SectorDisk> {
+    /// The disk, which can be opened again.
+    pub disk: D,
+    /// The virtual time before which all is committed, in ticks; none where no session was opened.
+    pub time: Option<u64>,
+    /// How many steps were made.
+    pub done: u64,
+    /// Why the next one was not, or why no session was opened; none where all were made.
+    pub fault: Option<SessionFault>,
+}
+
+/// Opens a session on a disk, makes these steps, up to the first that is refused, and hands the disk back.
+///
+/// The disk was formatted for this model and this end, in ticks; there are 1 to 64 ports, through which nothing was loaded
+/// yet: there may be as many as one likes each time. It costs what [`Session::open`] and the steps cost.
+pub fn resume<M: Simulated, P: Port + Drop, D: SectorDisk>(
+    alloc: Global,
+    model: &M,
+    ports: Vec<P>,
+    disk: D,
+    end: u64,
+    steps: &[Step],
+) -> Resumed<D>
+    requires some { 1 ≤ length ports.items }
+    requires few { length ports.items ≤ 64 }
+    requires fresh { AllFresh (map P.state ports.items) }
+    requires begun { 1 ≤ end }
+    requires short { end ≤ 2 ^ 40 }
+
+    // The headline for one session: whatever front was told last on the disk.
+    ensures kept {
+        AllTell (M.meaning model.now) (map P.state ports.items) → (v : World) →
+        IsResumed (M.meaning model.now) end v (D.state disk) (D.state result.disk) result.time
+    }
+{
+    let mut session = match Session::open(alloc, model, ports, disk, end) {
+        Ok(session) => session,
+        Err(NotOpened { fault, disk }) => {
+            return Resumed {
+                disk,
+                time: None,
+                done: 0,
+                fault: Some(fault),
+            };
+        }
+    };
+    let (done, fault) = match session.drive(steps) {
+        Ok(done) => (done, None),
+        Err(DriveFault { done, fault }) => (done, Some(fault)),
+    };
+    let time = session.front().time;
+    Resumed {
+        disk: session.into_disk(),
+        time: Some(time),
+        done,
+        fault,
+    }
+}
+
+/// For every model that keeps its laws, every number of nodes, every list of session steps and every stop before or within
+/// any sector write, opening the disk again gives the states, pending messages and event log of the sequential simulation
+/// up to a virtual time no lower than the last one acknowledged, and whatever is committed from there on is what that same
+/// sequential simulation does next.
+///
+/// It does nothing: it is the law that joins what [`resume`], [`Session::open`], [`Session::step`] and [`Session::drive`]
+/// say of one call, over any history of calls and stops.
+pub fn headline()
+    ensures { Headline }
+{}
