@@ -5,3 +5,5 @@ pub mod Crashes
 pub mod Drives
 pub mod Opening
 pub mod Headline
+-- For tests.
+pub mod Ring

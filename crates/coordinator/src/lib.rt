@@ -78,3 +78,6 @@ pub struct DriveFault {
     pub done: u64,
     pub fault: SessionFault,
 }
+
+#[cfg(test)]
+mod tests;
