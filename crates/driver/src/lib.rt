@@ -3,7 +3,5 @@
 
 mod picks;
 mod rounds;
-#[cfg(test)]
-mod tests;
 
 pub use rounds::{Plan, RunFault, Watch, run};

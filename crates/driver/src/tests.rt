@@ -1,1 +1,0 @@
-// Runs of sessions over nodes in this program.
