@@ -8,3 +8,4 @@ mod Refusals
 mod Loading
 mod Begun
 mod Histories
+mod Resuming

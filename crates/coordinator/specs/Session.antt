@@ -1,6 +1,6 @@
 -- A session: what can be said of it between two steps.
 use Rattle.std.specs.List.{AllByRecursion as Every}
-use Rattle.std.specs.Prelude.{Bool, List, None, Option, Some, [], false, get_or, length, map, true, ℕ, ◌<◌, ◌≡◌, ◌≤◌}
+use Rattle.std.specs.Prelude.{Bool, List, None, Option, Some, [], false, get_or, length, map, true, ℕ, ◌<◌, ◌^◌, ◌≡◌, ◌≤◌}
 use Rattle.commitlog.specs.Log.{Opened}
 use Rattle.eventkey.specs.Bag.{IsAscending}
 use Rattle.gvt.specs.Ledger.{Ledger}
@@ -68,6 +68,7 @@ stage_by (Some parcel) = Posted parcel
 -- What holds of every session that is not spent, over whatever ports and on whatever disk.
 pub record IsFit (r : Running) : Type 0 where
   pub end_is : r.ledger.end ≡ r.end
+  pub short : r.end ≤ 2 ^ 40
   pub parcels : length r.ledger.parcels ≡ length r.ports
   pub floors : length r.ledger.floors ≡ length r.ports
   pub few : length r.ports ≤ 64

@@ -1,6 +1,6 @@
 // The ports of a session, one for each node.
 
-ghost use Rattle.std.specs.Prelude.{◌≡◌, ◌<◌, ◌&&◌, true, map, set, length, nat_lt, OnOk, OnErr, IfOk, IfErr};
+ghost use Rattle.std.specs.Prelude.{◌≡◌, ◌<◌, ◌≤◌, ◌^◌, ◌&&◌, true, map, set, length, nat_lt, OnOk, OnErr, IfOk, IfErr};
 ghost use Rattle.std.specs.List.{list_all};
 ghost use Rattle.node.specs.declared.Parcel.{Parcel};
 ghost use Rattle.wire.specs.Port.{IsForWant, IsSamePort, IsTakeFault, IsTaken};
@@ -19,6 +19,7 @@ use wire::{Port, PortFault};
 pub(crate) fn post<P: Port>(ports: &mut Vec<P>, node: usize, parcel: Parcel) -> Result<(), PortFault>
     requires there { node < length ports.old.items }
     requires idle { (port_at (map P.state ports.old.items) node).stage ≡ Idle }
+    requires range { parcel.floor ≤ 2 ^ 40 }
     ensures others { map P.state ports.new.items ≡ set (map P.state ports.old.items) node (port_at (map P.state ports.new.items) node) }
     ensures posted { OnOk result ((port_at (map P.state ports.new.items) node).stage ≡ Posted parcel) }
     ensures same { IsSamePort (port_at (map P.state ports.old.items) node) (port_at (map P.state ports.new.items) node) }

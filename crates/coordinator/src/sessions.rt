@@ -1,8 +1,10 @@
 // Whole sessions, and the headline over any number of them.
 
-ghost use Rattle.std.specs.Prelude.{◌≡◌, ◌≤◌, ◌^◌, length, map};
+ghost use Rattle.std.specs.Prelude.{◌≡◌, ◌<◌, ◌≤◌, ◌^◌, ℕ, IfSome, IsSome, None, Some, length, map, take};
 ghost use Rattle.coordinator.specs.Headline.{Headline, IsResumed};
-ghost use Rattle.coordinator.specs.Opening.{AllFresh, AllTell};
+ghost use Rattle.coordinator.specs.Crashes.{Recovers};
+ghost use Rattle.coordinator.specs.Opening.{AllFresh, AllTell, IsForWantAtOpening, OpeningIsRefused};
+ghost use Rattle.coordinator.specs.Steps.{move_of};
 ghost use Rattle.model.specs.World.{World};
 
 use crate::{DriveFault, NotOpened, Session, SessionFault, Step};
@@ -42,11 +44,18 @@ pub fn resume<M: Simulated, P: Port + Drop, D: SectorDisk>(
     requires begun { 1 ≤ end }
     requires short { end ≤ 2 ^ 40 }
 
-    // The headline for one session: whatever front was told last on the disk.
-    ensures kept {
+    // The headline for one session, whatever front was told last on the disk.
+    ensures kept { let made = map move_of (take result.done steps.now) in
         AllTell (M.meaning model.now) (map P.state ports.items) → (v : World) →
-        IsResumed (M.meaning model.now) end v (D.state disk) (D.state result.disk) result.time
-    }
+        IsResumed (M.meaning model.now) end (length ports.items) made v (D.state disk) (D.state result.disk) result.time }
+
+    ensures all { result.fault ≡ None → (result.done ≡ length steps.now) × IsSome result.time }
+    ensures refused { result.time ≡ None → (result.done ≡ 0) × IfSome result.fault (λ fault.
+        OpeningIsRefused (M.meaning model.now) end (D.state disk).reads (map P.state ports.items)
+        ((D.state disk).failures < (D.state result.disk).failures) fault) }
+    ensures want { (a : ℕ) → Recovers (M.meaning model.now) end a (D.state disk) →
+        AllTell (M.meaning model.now) (map P.state ports.items) → result.time ≡ None →
+        IfSome result.fault (λ fault. IsForWantAtOpening fault ((D.state disk).failures < (D.state result.disk).failures)) }
 {
     let mut session = match Session::open(alloc, model, ports, disk, end) {
         Ok(session) => session,
@@ -59,10 +68,20 @@ pub fn resume<M: Simulated, P: Port + Drop, D: SectorDisk>(
             };
         }
     };
-    let (done, fault) = match session.drive(steps) {
-        Ok(done) => (done, None),
-        Err(DriveFault { done, fault }) => (done, Some(fault)),
-    };
+    match session.drive(steps) {
+        Ok(done) => left(session, done, None),
+        Err(DriveFault { done, fault }) => left(session, done, Some(fault)),
+    }
+}
+
+/// What a session leaves of which so many steps were made, and then this fault was met.
+fn left<M: Simulated, P: Port + Drop, D: SectorDisk>(
+    session: Session<'_, M, P, D>,
+    done: u64,
+    fault: Option<SessionFault>,
+) -> Resumed<D>
+    ensures { result ≡ record { disk = session.entry.log.disk; time = Some session.entry.front.time; done = done; fault = fault } }
+{
     let time = session.front().time;
     Resumed {
         disk: session.into_disk(),

@@ -16,6 +16,7 @@ use std::alloc::{AllocError, Global};
 use std::test::Fail;
 use wire::LocalPort;
 
+mod opening;
 mod rows;
 mod stops;
 

@@ -1,3 +1,5 @@
 pub mod Blank
 pub mod Sectors
 pub mod Crashes
+mod Spans
+mod Examples

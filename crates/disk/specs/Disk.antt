@@ -23,6 +23,11 @@ pub record IsDisk (reads : List (List ℕ)) (loose : List Bool) : Type 0 where
 abbrev pub IsFirm : List Bool → Type 0
 IsFirm loose = (n : ℕ) → slice_index_or loose n false ≡ false
 
+-- each loose sector lies from the first on and before the end
+pub record IsSpan (first end : ℕ) (loose : List Bool) : Type 0 where
+  pub within : end ≤ length loose
+  pub spans : (n : ℕ) → slice_index_or loose n false ≡ true → (first ≤ n) × (n < end)
+
 -- A crash may leave this image: any 512 bytes in each loose sector, and what a read gives in each other one.
 pub record MayLeave (reads : List (List ℕ)) (loose : List Bool) (image : List (List ℕ)) : Type 0 where
   pub sectors : length image ≡ length reads

@@ -1,16 +1,20 @@
 // The sectors of a disk that is kept in memory, and which of them are loose.
 ghost use Rattle.std.specs.Prelude.{◌≡◌, ◌/◌, ◌<◌, ◌^◌, ℕ, List, [], true, false, length, replicate, slice_set, slice_index_or, IfOk};
-ghost use Rattle.disk.specs.Disk.{image_of, IsFirm, IsSector};
+ghost use Rattle.disk.specs.Disk.{image_of, IsFirm, IsSector, IsSpan};
 
 use std::alloc::{AllocError, Global};
 
+/// The sectors, whether each is loose, and a span in which all loose ones lie: a sync looks at those of the span alone.
 #[derive(Drop)]
 pub struct Image {
     pub sectors: Vec<[u8; 512]>,
     pub loose: Vec<bool>,
+    pub first: usize,
+    pub end: usize,
     ghost each: { length loose.items ≡ length sectors.items },
     ghost numbered: { length sectors.items < 2 ^ 32 },
     ghost whole: { (n : ℕ) → n < length sectors.items → IsSector (slice_index_or sectors.items n []) },
+    ghost span: { IsSpan first end loose.items },
 }
 
 /// So many sectors of zeros.
@@ -25,6 +29,17 @@ pub fn copied(alloc: Global, sectors: &[[u8; 512]]) -> Result<Vec<[u8; 512]>, Al
     ensures { IfOk result (λ copy. copy.items ≡ sectors.now) }
 {
     sectors.to_vec(alloc)
+}
+
+/// Makes the sectors of a span firm.
+fn clear(loose: &mut [bool], first: usize, end: usize)
+    requires { IsSpan first end loose.old }
+    ensures size { length loose.new ≡ length loose.old }
+    ensures firm { IsFirm loose.new }
+{
+    for n in first..end {
+        loose[n] = false;
+    }
 }
 
 impl Image {
@@ -61,7 +76,12 @@ impl Image {
         ensures firm { IfOk result (λ image. IsFirm image.loose.items) }
     {
         let loose = vec![in alloc; false; sectors.len()]?;
-        Ok(Image { sectors, loose })
+        Ok(Image {
+            sectors,
+            loose,
+            first: 0,
+            end: 0,
+        })
     }
 
     pub fn count(&self) -> u32
@@ -91,14 +111,24 @@ impl Image {
         ensures sectors { self.new.sectors.items ≡ self.old.sectors.items }
         ensures loose { self.new.loose.items ≡ slice_set self.old.loose.items n true }
     {
-        self.loose[n as usize] = true;
+        let place = n as usize;
+        if self.first == self.end {
+            self.first = place;
+            self.end = place + 1;
+        } else {
+            self.first = self.first.min(place);
+            self.end = self.end.max(place + 1);
+        }
+        self.loose[place] = true;
     }
 
-    /// No sector is loose any more.
+    /// No sector is loose any more. It costs the span.
     pub fn settle(&mut self)
         ensures sectors { self.new.sectors.items ≡ self.old.sectors.items }
         ensures firm { IsFirm self.new.loose.items }
     {
-        self.loose.fill(false);
+        clear(&mut self.loose, self.first, self.end);
+        self.first = 0;
+        self.end = 0;
     }
 }

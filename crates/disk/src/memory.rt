@@ -171,7 +171,9 @@ impl MemDisk {
         ensures firm { IfOk result (λ disk. IsFirm disk.loose) }
         ensures counts { IfOk result (λ disk. disk.counts ≡ started plan) }
     {
-        MemDisk::on(alloc, Image::of(alloc, &image)?, plan)
+        let sectors = Image::of(alloc, &image)?;
+        drop(image);
+        MemDisk::on(alloc, sectors, plan)
     }
 
     fn on(alloc: Global, image: Image, plan: Plan) -> Result<MemDisk, AllocError>
@@ -228,7 +230,7 @@ fn copy_loose(synced: &mut [[u8; 512]], image: &Image)
     requires firm { (n : ℕ) → slice_index_or image.now.loose.items n false ≡ false → slice_index_or synced.old n [] ≡ slice_index_or image.now.sectors.items n [] }
     ensures { synced.new ≡ image.now.sectors.items }
 {
-    for n in 0..image.sectors.len() {
+    for n in image.first..image.end {
         if image.loose[n] {
             synced[n] = image.sectors[n];
         }

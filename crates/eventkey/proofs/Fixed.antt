@@ -46,7 +46,7 @@ message_size bytes x e =
     let s6 = number_size 8 a.0.1 b.0 b.1 in
     omega arith
 
-none_from : {X : Type 0} (o : Option X) → ((x : X) → o ≡ Some x → ⊥) → o ≡ None
+pub none_from : {X : Type 0} (o : Option X) → ((x : X) → o ≡ Some x → ⊥) → o ≡ None
 none_from None f = refl
 none_from (Some x) f = absurd (f x refl)
 

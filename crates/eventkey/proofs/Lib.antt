@@ -7,3 +7,4 @@ pub mod Spellings
 pub mod Fixed
 pub mod Written
 pub mod Readings
+pub mod Missing

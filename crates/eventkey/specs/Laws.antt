@@ -8,7 +8,8 @@ use Rattle.eventkey.specs.Reading.{IsBytes, with_rest}
 use Rattle.eventkey.specs.Spelling.{message_bytes, message_at, message_in, signed_bytes, signed_at, signed_read}
 use Rattle.eventkey.specs.declared.Signed.{Signed}
 
--- the order of messages is total, messages that are equal in it are the same, and earlier times come first
+-- the order of messages is total, messages that are equal in it are the same, and earlier times
+-- come first
 pub record MessagesAreOrdered : Type 0 where
   pub total : IsTotalOrder message_cmp
   pub exact : (x y : Message) → (message_cmp x y ≡ Equal) ↔ (x ≡ y)
@@ -16,32 +17,45 @@ pub record MessagesAreOrdered : Type 0 where
 
 -- a bag is known by how many copies of each message it has
 pub record BagsCountCopies : Type 0 where
-  pub added : (x m : Message) (bag : List Message) → copies x (add m bag) ≡ one_if_same x m + copies x bag
-  pub removed : (x m : Message) (bag : List Message) → 1 ≤ copies m bag → one_if_same x m + copies x (remove_one m bag) ≡ copies x bag
+  pub added : (x m : Message) (bag : List Message) →
+      copies x (add m bag) ≡ one_if_same x m + copies x bag
+  pub removed : (x m : Message) (bag : List Message) → 1 ≤ copies m bag →
+      one_if_same x m + copies x (remove_one m bag) ≡ copies x bag
   pub add_ascends : (m : Message) (bag : List Message) → IsAscending bag → IsAscending (add m bag)
-  pub remove_ascends : (m : Message) (bag : List Message) → IsAscending bag → IsAscending (remove_one m bag)
-  pub same : (bag other : List Message) → IsAscending bag → IsAscending other → ((x : Message) → copies x bag ≡ copies x other) → bag ≡ other
+  pub remove_ascends : (m : Message) (bag : List Message) → IsAscending bag →
+      IsAscending (remove_one m bag)
+  pub same : (bag other : List Message) → IsAscending bag → IsAscending other →
+      ((x : Message) → copies x bag ≡ copies x other) → bag ≡ other
 
 -- what is written is read back, whatever follows; what is read is spelled so
 abbrev pub MessagesAreSpelled : Type 0
 MessagesAreSpelled =
-    ((x : Message) (rest : List ℕ) → IsRanged x → message_at (message_bytes x ++ rest) ≡ Some (x, rest))
-    × ((bytes : List ℕ) (x : Message) (rest : List ℕ) → IsBytes bytes → message_at bytes ≡ Some (x, rest) → (bytes ≡ message_bytes x ++ rest) × IsRanged x)
+    ((x : Message) (rest : List ℕ) → IsRanged x →
+    message_at (message_bytes x ++ rest) ≡ Some (x, rest))
+    × ((bytes : List ℕ) (x : Message) (rest : List ℕ) → IsBytes bytes →
+    message_at bytes ≡ Some (x, rest) → (bytes ≡ message_bytes x ++ rest) × IsRanged x)
 
 -- all fields of a message at once
 abbrev pub MessagesAreRead : Type 0
 MessagesAreRead = (bytes : List ℕ) →
-    message_at bytes ≡ (if nat_lt (length bytes) 40 then None else if nat_lt (message_in bytes).time (2 ^ 41) then Some (message_in bytes, drop 40 bytes) else None)
+    message_at bytes ≡ (
+    if nat_lt (length bytes) 40 then None
+    else if nat_lt (message_in bytes).time (2 ^ 41) then Some (message_in bytes, drop 40 bytes)
+    else None)
 
 -- the same of signed messages
 abbrev pub SignedAreSpelled : Type 0
 SignedAreSpelled =
-    ((s : Signed) (rest : List ℕ) → IsRanged s.message → signed_at (signed_bytes s ++ rest) ≡ Some (s, rest))
-    × ((bytes : List ℕ) (s : Signed) (rest : List ℕ) → IsBytes bytes → signed_at bytes ≡ Some (s, rest) → (bytes ≡ signed_bytes s ++ rest) × IsRanged s.message)
+    ((s : Signed) (rest : List ℕ) → IsRanged s.message →
+    signed_at (signed_bytes s ++ rest) ≡ Some (s, rest))
+    × ((bytes : List ℕ) (s : Signed) (rest : List ℕ) → IsBytes bytes →
+    signed_at bytes ≡ Some (s, rest) → (bytes ≡ signed_bytes s ++ rest) × IsRanged s.message)
 
 abbrev pub SignedAreRead : Type 0
 SignedAreRead = (bytes : List ℕ) → signed_at bytes ≡ with_rest 41 bytes (signed_read bytes)
 
 -- how many bytes they have
 abbrev pub SpellingsAreAsLong : Type 0
-SpellingsAreAsLong = ((x : Message) → length (message_bytes x) ≡ 40) × ((s : Signed) → length (signed_bytes s) ≡ 41)
+SpellingsAreAsLong =
+    ((x : Message) → length (message_bytes x) ≡ 40)
+    × ((s : Signed) → length (signed_bytes s) ≡ 41)

@@ -1,6 +1,9 @@
+-- For callers: messages and antimessages, their order, and bags of them
 pub mod Message
-pub mod Bag
 pub mod Signed
+pub mod Bag
+-- For callers: bytes, and reading them from left to right
 pub mod Reading
 pub mod Spelling
+-- For callers: the laws, each a clause of a call that does nothing
 pub mod Laws

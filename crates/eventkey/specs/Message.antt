@@ -1,4 +1,5 @@
--- Messages and their order (a message stamped with a receive time: Jefferson 1985; the order is this project's profile).
+-- Messages and their order (a message stamped with a receive time: Jefferson 1985; the order is
+-- this project's profile).
 use Rattle.std.specs.Ordering.{nat_cmp, ordering_then, is_lt, is_eq}
 use Rattle.std.specs.Prelude.{ℕ, ◌^◌, ◌<◌, Bool, ◌≡◌, false}
 use Rattle.std.specs.declared.cmp.Ordering.{Ordering}
@@ -10,6 +11,9 @@ pub record Message : Type 0 where
   pub to : ℕ
   pub a : ℕ
   pub b : ℕ
+
+abbrev pub zero_message : Message  -- all its numbers are 0
+zero_message = record { time = 0; from = 0; number = 0; to = 0; a = 0; b = 0 }
 
 -- its numbers lie in their ranges
 pub record IsRanged (x : Message) : Type 0 where

@@ -1,4 +1,5 @@
--- Reading bytes from left to right (numbers have their highest byte first). A reader answers a value and the bytes behind it, or nothing.
+-- Reading bytes from left to right (numbers have their highest byte first). A reader answers a
+-- value and the bytes behind it, or nothing.
 use Rattle.std.specs.Prelude.{ℕ, zero, suc, List, [], ◌∷◌, length, drop, get_or, ◌<◌, Option, Some, None, Result, Ok, Err, if◌then◌else◌, nat_lt, ◌≡◌}
 use Rattle.byteorder.specs.Endian.{big_number}
 
@@ -15,7 +16,8 @@ Reader X = List ℕ → Option (X × List ℕ)
 
 -- a number of n bytes, the highest first
 unfoldable pub number_at : ℕ → Reader ℕ
-number_at n bytes = if nat_lt (length bytes) n then None else Some (big_number n bytes, drop n bytes)
+number_at n bytes =
+    if nat_lt (length bytes) n then None else Some (big_number n bytes, drop n bytes)
 
 -- n values, one after the other
 unfoldable pub items_at : {X : Type 0} → Reader X → ℕ → Reader (List X)

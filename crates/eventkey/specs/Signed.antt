@@ -14,6 +14,8 @@ minus x = record { sign = Minus; message = x }
 -- the messages of this sign
 abbrev pub of_sign : Sign → List Signed → List Message
 of_sign Plus [] = []
-of_sign Plus (s ∷ ss) = elim s.sign [ Plus ↦ s.message ∷ of_sign Plus ss | Minus ↦ of_sign Plus ss ]
+of_sign Plus (s ∷ ss) =
+    elim s.sign [ Plus ↦ s.message ∷ of_sign Plus ss | Minus ↦ of_sign Plus ss ]
 of_sign Minus [] = []
-of_sign Minus (s ∷ ss) = elim s.sign [ Plus ↦ of_sign Minus ss | Minus ↦ s.message ∷ of_sign Minus ss ]
+of_sign Minus (s ∷ ss) =
+    elim s.sign [ Plus ↦ of_sign Minus ss | Minus ↦ s.message ∷ of_sign Minus ss ]

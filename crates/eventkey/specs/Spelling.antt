@@ -1,4 +1,5 @@
--- The bytes of messages (this project's profile): how they are spelled, and how they are read. Each message has one spelling.
+-- The bytes of messages (this project's profile): how they are spelled, and how they are read. Each
+-- message has one spelling.
 use Rattle.std.specs.Prelude.{ℕ, ◌^◌, nat_lt, nat_eq, if◌then◌else◌, List, ◌∷◌, ◌++◌, length, drop, slice_index, Option, Some, None, Result, Ok, Err}
 use Rattle.byteorder.specs.Endian.{big_number, big_bytes}
 use Rattle.eventkey.specs.Message.{Message}
@@ -15,7 +16,9 @@ made m = if nat_lt m.time (2 ^ 41) then Ok m else Err TimeTooLarge
 
 -- 40 bytes: the fields in their order
 unfoldable pub message_bytes : Message → List ℕ
-message_bytes x = big_bytes 8 x.time ++ (big_bytes 4 x.from ++ (big_bytes 8 x.number ++ (big_bytes 4 x.to ++ (big_bytes 8 x.a ++ big_bytes 8 x.b))))
+message_bytes x =
+    big_bytes 8 x.time ++ (big_bytes 4 x.from ++ (big_bytes 8 x.number
+    ++ (big_bytes 4 x.to ++ (big_bytes 8 x.a ++ big_bytes 8 x.b))))
 
 -- a message, of a time below 2^41
 unfoldable pub message_at : Reader Message
@@ -26,7 +29,17 @@ message_at bytes = do
   to ← number_at 4 number.1
   a ← number_at 8 to.1
   b ← number_at 8 a.1
-  if nat_lt time.0 (2 ^ 41) then Some (record { time = time.0; from = from.0; number = number.0; to = to.0; a = a.0; b = b.0 }, b.1) else None
+  if nat_lt time.0 (2 ^ 41) then Some (
+    record {
+      time = time.0;
+      from = from.0;
+      number = number.0;
+      to = to.0;
+      a = a.0;
+      b = b.0;
+    },
+    b.1,
+  ) else None
 
 -- the message in the first 40 bytes, whatever its time
 unfoldable pub message_in : List ℕ → Message
@@ -72,4 +85,6 @@ signed_of (Some sign) (Err fault) = Err fault
 
 -- the answer of a read of the first 41 bytes
 abbrev pub signed_read : List ℕ → Result Signed KeyFault
-signed_read bytes = if nat_lt (length bytes) 41 then Err Short else signed_of (sign_of (slice_index bytes 0)) (made (message_in (drop 1 bytes)))
+signed_read bytes =
+    if nat_lt (length bytes) 41 then Err Short
+    else signed_of (sign_of (slice_index bytes 0)) (made (message_in (drop 1 bytes)))

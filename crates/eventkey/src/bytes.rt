@@ -31,11 +31,13 @@ pub fn put_message(message: &Message, out: &mut [u8; 40])
 pub fn get_message(bytes: &[u8]) -> Result<Message, KeyFault>
     ensures exact { result ≡ message_read bytes.now }
     ensures short { (result ≡ Err KeyFault.Short) ↔ (length bytes.now < 40) }
-    ensures late { (result ≡ Err KeyFault.TimeTooLarge) ↔ ((40 ≤ length bytes.now) × (2 ^ 41 ≤ (message_in bytes.now).time)) }
+    ensures late { (result ≡ Err KeyFault.TimeTooLarge)
+        ↔ ((40 ≤ length bytes.now) × (2 ^ 41 ≤ (message_in bytes.now).time)) }
 
     // What is read is spelled so, and what is spelled so is read, whatever follows.
     ensures spelled { IfOk result (λ x. take 40 bytes.now ≡ message_bytes x) }
-    ensures again { (x : Message) (rest : List ℕ) → IsRanged x → bytes.now ≡ message_bytes x ++ rest → result ≡ Ok x }
+    ensures again { (x : Message) (rest : List ℕ) → IsRanged x →
+        bytes.now ≡ message_bytes x ++ rest → result ≡ Ok x }
 {
     if bytes.len() < MESSAGE_BYTES {
         return Err(KeyFault::Short);
@@ -75,12 +77,16 @@ pub fn put_signed(signed: &Signed, out: &mut [u8; 41])
 pub fn get_signed(bytes: &[u8]) -> Result<Signed, KeyFault>
     ensures exact { result ≡ signed_read bytes.now }
     ensures short { (result ≡ Err KeyFault.Short) ↔ (length bytes.now < 41) }
-    ensures sign { (result ≡ Err KeyFault.BadSign) ↔ ((41 ≤ length bytes.now) × (2 ≤ slice_index bytes.now 0)) }
-    ensures late { (result ≡ Err KeyFault.TimeTooLarge) ↔ ((41 ≤ length bytes.now) × (slice_index bytes.now 0 < 2) × (2 ^ 41 ≤ (message_in (drop 1 bytes.now)).time)) }
+    ensures sign { (result ≡ Err KeyFault.BadSign)
+        ↔ ((41 ≤ length bytes.now) × (2 ≤ slice_index bytes.now 0)) }
+    ensures late { (result ≡ Err KeyFault.TimeTooLarge)
+        ↔ ((41 ≤ length bytes.now) × (slice_index bytes.now 0 < 2)
+        × (2 ^ 41 ≤ (message_in (drop 1 bytes.now)).time)) }
 
     // What is read is spelled so, and what is spelled so is read, whatever follows.
     ensures spelled { IfOk result (λ s. take 41 bytes.now ≡ signed_bytes s) }
-    ensures again { (s : Signed) (rest : List ℕ) → IsRanged s.message → bytes.now ≡ signed_bytes s ++ rest → result ≡ Ok s }
+    ensures again { (s : Signed) (rest : List ℕ) → IsRanged s.message →
+        bytes.now ≡ signed_bytes s ++ rest → result ≡ Ok s }
 {
     sign_and_message(bytes)
 }

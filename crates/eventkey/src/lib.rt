@@ -25,9 +25,10 @@ use std::cmp::Ordering;
 use std::marker::Model;
 use thiserror::Error;
 
-/// A message of a simulation, stamped with its receive time (Jefferson 1985): the time in ticks, the
-/// number of its sender, the sender's count of messages before it, the number of its receiver, and
-/// two words of content. Messages are ordered by these, in this order (this project's profile).
+/// A message of a simulation, stamped with its receive time (Jefferson 1985): the time in ticks,
+/// below 2^41, the number of its sender, the sender's count of messages before it, the number of
+/// its receiver, and two words of content. Messages are ordered by these, in this order (this
+/// project's profile).
 #[derive(Clone, Copy, Debug, PartialEq, Eq, PartialOrd, Ord)]
 pub struct Message {
     time: u64,
@@ -43,12 +44,36 @@ impl Model for Message {
 
     ghost Value = { Message };
 
-    ghost view = { λ m. record { time = m.time; from = m.from; number = m.number; to = m.to; a = m.a; b = m.b } };
+    ghost view = { λ m. record {
+      time = m.time;
+      from = m.from;
+      number = m.number;
+      to = m.to;
+      a = m.a;
+      b = m.b;
+    } };
 
-    ghost invariant = { λ m. IsRanged (record { time = m.time; from = m.from; number = m.number; to = m.to; a = m.a; b = m.b }) };
+    ghost invariant = { λ m. IsRanged (record {
+      time = m.time;
+      from = m.from;
+      number = m.number;
+      to = m.to;
+      a = m.a;
+      b = m.b;
+    }) };
 
-    ghost inverse = { λ v. record { time = v.time; from = v.from; number = v.number; to = v.to; a = v.a; b = v.b } };
+    ghost inverse = { λ v. record {
+      time = v.time;
+      from = v.from;
+      number = v.number;
+      to = v.to;
+      a = v.a;
+      b = v.b;
+    } };
 }
+
+/// The least time in ticks that no message has.
+const TIME_LIMIT: u64 = 1 << 41;
 
 /// Why bytes or numbers are no message.
 #[derive(Clone, Copy, Debug, PartialEq, Eq, Error)]
@@ -65,9 +90,6 @@ pub enum KeyFault {
 }
 
 impl Message {
-    /// The least time in ticks that no message has.
-    pub const TIME_LIMIT: u64 = 1 << 41;
-
     /// The message of these numbers. `TimeTooLarge` comes for a time of 2^41 ticks or more.
     pub fn new(
         time: u64,
@@ -77,9 +99,16 @@ impl Message {
         a: u64,
         b: u64,
     ) -> Result<Message, KeyFault>
-        ensures { result ≡ made (record { time = time; from = from; number = number; to = to; a = a; b = b }) }
+        ensures { result ≡ made (record {
+          time = time;
+          from = from;
+          number = number;
+          to = to;
+          a = a;
+          b = b;
+        }) }
     {
-        if time < Message::TIME_LIMIT {
+        if time < TIME_LIMIT {
             Ok(Message {
                 time,
                 from,

@@ -4,7 +4,8 @@ ghost use Rattle.std.specs.Prelude.{◌≡◌, ◌++◌, ◌∷◌, [], length, 
 
 use std::alloc::{AllocError, AllocFailed, Global};
 
-/// A vector that contracts see as the list of its items, so that a struct with such a field is seen as plain data.
+/// A vector that contracts see as the list of its items, so that a struct with such a field is
+/// seen as plain data.
 #[derive(Drop)]
 pub struct Listed<T: Drop> {
     items: Vec<T>,

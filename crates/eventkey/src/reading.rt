@@ -1,6 +1,6 @@
 // Reading and writing from left to right, for bodies of several fields.
 
-ghost use Rattle.std.specs.Prelude.{◌≡◌, ◌++◌, option_map, OnOk, OnErr, vec_len, ℕ};
+ghost use Rattle.std.specs.Prelude.{◌≡◌, ◌<◌, ◌*◌, ◌++◌, length, option_map, List, Ok, None, OnOk, OnErr, vec_len, ℕ};
 ghost use Rattle.std.specs.List.{flat_map};
 ghost use Rattle.eventkey.specs.Message.{Message};
 ghost use Rattle.eventkey.specs.Reading.{Gives, items_at, number_at};
@@ -12,7 +12,7 @@ use crate::{
 use byteorder::{BigEndian, ByteOrder};
 use std::alloc::{AllocError, Global};
 
-/// A byte and the bytes behind it, or `None` where there is none.
+/// A byte and the bytes behind it. `None`: there is none.
 #[tactic(auto, unfolding(crate::specs::Reading::number_at))]
 pub fn read_u8(bytes: &[u8]) -> Option<(u8, &[u8])>
     ensures { option_map (λ x. (x.0, x.1.now)) result ≡ number_at 1 bytes.now }
@@ -23,7 +23,7 @@ pub fn read_u8(bytes: &[u8]) -> Option<(u8, &[u8])>
     Some((bytes[0], &bytes[1..]))
 }
 
-/// A number of 4 bytes, the highest first, and the bytes behind it, or `None` where there are fewer.
+/// A number of 4 bytes, the highest first, and the bytes behind it. `None`: there are fewer.
 #[tactic(auto, unfolding(crate::specs::Reading::number_at))]
 pub fn read_u32(bytes: &[u8]) -> Option<(u32, &[u8])>
     ensures { option_map (λ x. (x.0, x.1.now)) result ≡ number_at 4 bytes.now }
@@ -34,7 +34,7 @@ pub fn read_u32(bytes: &[u8]) -> Option<(u32, &[u8])>
     Some((BigEndian::read_u32(bytes), &bytes[4..]))
 }
 
-/// A number of 8 bytes, the highest first, and the bytes behind it, or `None` where there are fewer.
+/// A number of 8 bytes, the highest first, and the bytes behind it. `None`: there are fewer.
 #[tactic(auto, unfolding(crate::specs::Reading::number_at))]
 pub fn read_u64(bytes: &[u8]) -> Option<(u64, &[u8])>
     ensures { option_map (λ x. (x.0, x.1.now)) result ≡ number_at 8 bytes.now }
@@ -66,15 +66,21 @@ pub fn read_signed(bytes: &[u8]) -> Option<(Signed, &[u8])>
 }
 
 /// So many messages and the bytes behind them, or `None` where one of them can't be read.
-/// `AllocError` comes where the list can't grow.
+/// `AllocError` comes where memory is refused, never for bytes that are not there.
 pub fn read_messages(
     alloc: Global,
     count: u32,
     bytes: &[u8],
 ) -> Result<Option<(Vec<Message>, &[u8])>, AllocError>
-    ensures { Gives (λ x. (x.0.items, x.1.now)) result (items_at message_at count bytes.now) }
+    ensures read { Gives (λ x. (x.0.items, x.1.now)) result (items_at message_at count bytes.now) }
+    ensures short { length bytes.now < 40 * count → result ≡ Ok None }
 {
+    // Memory is asked for only once the bytes are there.
+    if bytes.len() < MESSAGE_BYTES * count as usize {
+        return Ok(None);
+    }
     let mut messages = Vec::new(alloc);
+    messages.reserve(count as usize)?;
     let mut rest = bytes;
     for _ in 0..count {
         match read_message(rest) {
@@ -89,15 +95,21 @@ pub fn read_messages(
 }
 
 /// So many signed messages and the bytes behind them, or `None` where one of them can't be read.
-/// `AllocError` comes where the list can't grow.
+/// `AllocError` comes where memory is refused, never for bytes that are not there.
 pub fn read_signed_list(
     alloc: Global,
     count: u32,
     bytes: &[u8],
 ) -> Result<Option<(Vec<Signed>, &[u8])>, AllocError>
-    ensures { Gives (λ x. (x.0.items, x.1.now)) result (items_at signed_at count bytes.now) }
+    ensures read { Gives (λ x. (x.0.items, x.1.now)) result (items_at signed_at count bytes.now) }
+    ensures short { length bytes.now < 41 * count → result ≡ Ok None }
 {
+    // Memory is asked for only once the bytes are there.
+    if bytes.len() < SIGNED_BYTES * count as usize {
+        return Ok(None);
+    }
     let mut list = Vec::new(alloc);
+    list.reserve(count as usize)?;
     let mut rest = bytes;
     for _ in 0..count {
         match read_signed(rest) {
@@ -134,7 +146,9 @@ pub fn append_signed(out: &mut Vec<u8>, signed: &Signed) -> Result<(), AllocErro
 /// Appends the bytes of these messages, one after the other. After an `AllocError` some of the
 /// first may stand there.
 pub fn append_messages(out: &mut Vec<u8>, messages: &[Message]) -> Result<(), AllocError>
-    ensures { OnOk result (out.new.items ≡ out.old.items ++ flat_map message_bytes messages.now) }
+    ensures ok { OnOk result (out.new.items
+        ≡ out.old.items ++ flat_map message_bytes messages.now) }
+    ensures begins { (more : List ℕ) × (out.new.items ≡ out.old.items ++ more) }
 {
     for message in messages {
         append_message(out, message)?;
@@ -145,7 +159,8 @@ pub fn append_messages(out: &mut Vec<u8>, messages: &[Message]) -> Result<(), Al
 /// Appends the bytes of these signed messages, one after the other. After an `AllocError` some of
 /// the first may stand there.
 pub fn append_signed_list(out: &mut Vec<u8>, list: &[Signed]) -> Result<(), AllocError>
-    ensures { OnOk result (out.new.items ≡ out.old.items ++ flat_map signed_bytes list.now) }
+    ensures ok { OnOk result (out.new.items ≡ out.old.items ++ flat_map signed_bytes list.now) }
+    ensures begins { (more : List ℕ) × (out.new.items ≡ out.old.items ++ more) }
 {
     for signed in list {
         append_signed(out, signed)?;

@@ -221,6 +221,13 @@ fn reads_a_list_again_after_want_of_memory(rt: HostRuntime) -> Result<(), Fail> 
 }
 
 #[test]
+fn a_claimed_count_takes_no_memory(rt: HostRuntime) -> Result<(), Fail> {
+    assert!(rt; read_messages(rt.alloc(), u32::MAX, &SPELLED)?.is_none());
+    assert!(rt; read_signed_list(rt.alloc(), u32::MAX, &SPELLED)?.is_none());
+    Ok(())
+}
+
+#[test]
 fn tells_its_faults(rt: HostRuntime) -> Result<(), Fail> {
     let text = format!(in rt.alloc(); "{}", KeyFault::Short)?;
     assert_eq!(rt; text.as_str(), "Short");

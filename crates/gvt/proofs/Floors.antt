@@ -9,16 +9,14 @@ use Rattle.eventkey.specs.Message.{Message}
 use Rattle.eventkey.specs.declared.Signed.{Signed}
 use Rattle.gvt.specs.Accounts.{low_posted, lows_in, parcel_at, parcels_in, with_node, floors_in}
 use Rattle.gvt.specs.Ledger.{delivered_by, ledger_floor, least_floor, least_low}
-use Rattle.gvt.specs.Times.{lesser_low, low_in}
+use Rattle.node.proofs.Lows.{first_time-append, least_time-append}
+use Rattle.node.specs.Node.{earliest, first_time}
+use Rattle.gvt.specs.Times.{low_in}
 use Rattle.gvt.specs.declared.account.Account.{Account}
 use Rattle.gvt.specs.declared.account.Posted.{Posted}
 
 abbrev messages : List Signed → List Message
 messages ss = map (λ (s : Signed). s.message) ss
-
-least_time-append : (t : ℕ) (xs ys : List Message) → least_time t (xs ++ ys) ≡ least_time (least_time t xs) ys
-least_time-append t [] ys = refl
-least_time-append t (x ∷ xs) ys = least_time-append (min t x.time) xs ys
 
 least_time-min : (t a : ℕ) (xs : List Message) → least_time (min t a) xs ≡ min (least_time t xs) a
 least_time-min t a [] = refl
@@ -33,17 +31,8 @@ least_time_by_low t (s ∷ ss) =
     let swap : min t s.message.time ≡ min s.message.time t = omega arith in
     ap (λ n. least_time n (messages ss)) swap ∙ (least_time-min s.message.time t (messages ss) ∙ omega arith)
 
-lesser_low-some : (a : ℕ) (b : Option ℕ) → lesser_low (Some a) b ≡ Some (least_low a (b ∷ []))
-lesser_low-some a None = refl
-lesser_low-some a (Some b) = refl
-
-pub low_in-append : (ss ts : List Signed) → low_in (ss ++ ts) ≡ lesser_low (low_in ss) (low_in ts)
-low_in-append [] ts = refl
-low_in-append (s ∷ ss) ts =
-    let all = least_time-append s.message.time (messages ss) (messages ts) in
-    ap Some (ap (least_time s.message.time) (map-append (λ (s : Signed). s.message) ss ts)
-    ∙ (all ∙ least_time_by_low (least_time s.message.time (messages ss)) ts))
-    ∙ sym (lesser_low-some (least_time s.message.time (messages ss)) (low_in ts))
+pub low_in-append : (ss ts : List Signed) → low_in (ss ++ ts) ≡ earliest (low_in ss) (low_in ts)
+low_in-append ss ts = ap first_time (map-append (λ (s : Signed). s.message) ss ts) ∙ first_time-append (messages ss) (messages ts)
 
 low_posted_is : (t : ℕ) (account : Account) → least_low t (low_posted account.posted ∷ []) ≡ least_time t (messages (delivered_by (parcel_at account)))
 low_posted_is t account = elim account.posted as (λ p. least_low t (low_posted p ∷ []) ≡ least_time t (messages (delivered_by (option_map (λ (posted : Posted). posted.parcel.value) p)))) [

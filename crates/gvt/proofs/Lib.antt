@@ -2,3 +2,4 @@ pub mod Floors
 pub mod Marks
 pub mod Openings
 pub mod Picking
+pub mod Sweeps

@@ -1,5 +1,7 @@
+-- For callers: the ledger, and picks of what travels
 pub mod Ledger
 pub mod Picks
-pub mod Times
-pub mod Marks
+-- Inside: what is kept of each node, marks of places, least times
 pub mod Accounts
+pub mod Marks
+pub mod Times

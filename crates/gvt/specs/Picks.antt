@@ -1,5 +1,6 @@
 -- Picks: places in transit whose messages a node is posted.
 use Rattle.std.specs.Prelude.{ℕ, Bool, false, List, [], ◌∷◌, nat_eq, ◌||◌, true, ◌&&◌, not, map, get_or, ◌+◌, if◌then◌else◌, length, nat_lt}
+use Rattle.eventkey.specs.Message.{zero_message}
 use Rattle.eventkey.specs.Signed.{plus}
 use Rattle.eventkey.specs.declared.Signed.{Signed}
 use Rattle.node.specs.Node.{sits_on}
@@ -13,9 +14,8 @@ abbrev pub are_distinct : List ℕ → Bool
 are_distinct [] = true
 are_distinct (i ∷ is) = not (has i is) && are_distinct is
 
--- the message that a pick not in transit would name
-abbrev pub nothing : Signed
-nothing = plus (record { time = 0; from = 0; number = 0; to = 0; a = 0; b = 0 })
+abbrev pub nothing : Signed  -- what a pick that is no place of transit would name
+nothing = plus zero_message
 
 abbrev pub picked : List Signed → List ℕ → List Signed
 picked transit picks = map (λ (i : ℕ). get_or transit i nothing) picks

@@ -152,7 +152,7 @@ impl Ledger {
     /// The parcel has them in the order of the picks, and the others keep their order. It is refused, in this order,
     /// where no node has this number, where a parcel is outstanding there, where a pick is no place of transit, has a
     /// message for another node or comes twice, and where memory is refused; then nothing changes. Its cost is that of
-    /// one pass over the picks, one over transit and one over the nodes.
+    /// the picks and of the nodes, and where there are picks, of one pass over transit.
     pub fn post(&mut self, node: u32, picks: &[u32], budget: u32) -> Result<Parcel, LedgerFault>
         ensures parcel { IfOk result (λ parcel. parcel ≡ parcel_of self.old picks.now budget) }
         ensures posted { OnOk result (self.new ≡ after_post self.old node picks.now budget) }

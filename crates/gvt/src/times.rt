@@ -2,13 +2,14 @@
 
 ghost use Rattle.std.specs.Prelude.{◌≡◌, ◌∷◌, []};
 ghost use Rattle.gvt.specs.Ledger.{least_low};
-ghost use Rattle.gvt.specs.Times.{lesser_low, low_in};
+ghost use Rattle.node.specs.Node.{earliest};
+ghost use Rattle.gvt.specs.Times.{low_in};
 
 use eventkey::Signed;
 
 /// The lesser of two times; an absent one is no bound.
 pub(crate) fn lesser(first: Option<u64>, second: Option<u64>) -> Option<u64>
-    ensures { result ≡ lesser_low first second }
+    ensures { result ≡ earliest first second }
 {
     match (first, second) {
         (None, _) => second,

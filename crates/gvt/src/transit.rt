@@ -74,7 +74,7 @@ impl Transit {
 
     /// Takes out the messages at these places, in the order of the picks; the others keep their order.
     ///
-    /// Its cost is that of one pass over the picks and one over what is in transit.
+    /// Its cost is that of the picks, and where there are any, of one pass over what is in transit.
     pub(crate) fn pick(
         &mut self,
         nodes: u32,
@@ -88,6 +88,9 @@ impl Transit {
         ensures faults { IfErr result (λ fault. (fault ≡ LedgerFault.NoSuchPick) ⊎ (fault ≡ LedgerFault.NoMemory)) }
         ensures err { OnErr result (self.new ≡ self.old) }
     {
+        if picks.is_empty() {
+            return Ok(Vec::new(*self.messages.allocator()));
+        }
         let picked = chosen(
             *self.messages.allocator(),
             self.messages.as_slice(),
@@ -97,10 +100,10 @@ impl Transit {
             picks,
         );
         if picked.is_ok() {
-            drop_marked(&mut self.messages, &mut self.marks);
-            self.least = least_of(self.messages.as_slice());
+            self.least = drop_marked(&mut self.messages, &mut self.marks);
+        } else {
+            self.marks.as_mut_slice().fill(false);
         }
-        self.marks.as_mut_slice().fill(false);
         picked
     }
 }
@@ -157,29 +160,40 @@ fn copied(alloc: Global, messages: &[Signed], picks: &[u32]) -> Result<Vec<Signe
     Ok(picked)
 }
 
-/// Moves the messages with no mark to the front, in their order. Their number.
-fn keep_unmarked(messages: &mut [Signed], marks: &[bool]) -> usize
-    requires { length marks.now ≡ length messages.old }
-    ensures within { result ≤ length messages.old }
-    ensures kept { take result messages.new ≡ unmarked marks.now messages.old }
+/// Moves the messages with no mark to the front, in their order, and clears the marks. Their number, and their least time in
+/// ticks, if there are any.
+fn sweep(messages: &mut [Signed], marks: &mut [bool]) -> (usize, Option<u64>)
+    requires { length marks.old ≡ length messages.old }
+    ensures within { result.0 ≤ length messages.old }
+    ensures kept { take result.0 messages.new ≡ unmarked marks.old messages.old }
+    ensures clear { marks.new ≡ replicate (length messages.old) false }
+    ensures least { result.1 ≡ low_in (unmarked marks.old messages.old) }
 {
     let mut kept = 0;
-    for (place, marked) in marks.iter().enumerate() {
-        if !*marked {
-            messages[kept] = messages[place];
+    let mut least = None;
+    for place in 0..marks.len() {
+        if marks[place] {
+            marks[place] = false;
+        } else {
+            let unmarked = messages[place];
+            messages[kept] = unmarked;
+            least = lesser(least, Some(unmarked.message.time()));
             kept += 1;
         }
     }
-    kept
+    (kept, least)
 }
 
-/// Takes out the messages with a mark; the others keep their order, and as many marks are left.
-fn drop_marked(messages: &mut Vec<Signed>, marks: &mut Vec<bool>)
+/// Takes out the messages with a mark; the others keep their order, and have clear marks. Their least time, in ticks, if there
+/// are any.
+fn drop_marked(messages: &mut Vec<Signed>, marks: &mut Vec<bool>) -> Option<u64>
     requires { length marks.old.items ≡ length messages.old.items }
     ensures left { messages.new.items ≡ unmarked marks.old.items messages.old.items }
-    ensures as_many { length marks.new.items ≡ length messages.new.items }
+    ensures clear { marks.new.items ≡ replicate (length messages.new.items) false }
+    ensures least { result ≡ low_in messages.new.items }
 {
-    let kept = keep_unmarked(messages.as_mut_slice(), marks.as_slice());
+    let (kept, least) = sweep(messages.as_mut_slice(), marks.as_mut_slice());
     messages.truncate(kept);
     marks.truncate(kept);
+    least
 }

@@ -1,7 +1,10 @@
+-- For callers: what a model means, its laws, and the sequential simulation
 pub mod Meaning
-pub mod Sequential
 pub mod World
+pub mod Sequential
 pub mod Runner
-pub mod Pending
+-- Inside: what contracts see of a world, and how the runner keeps what is pending
 pub mod Inside
+pub mod Pending
+-- For tests: a token ring
 pub mod Ring

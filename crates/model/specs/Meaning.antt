@@ -1,4 +1,5 @@
--- What a model means: functions of the arguments alone, and the laws that they keep (this project's profile).
+-- What a model means: functions of the arguments alone, and the laws that they keep (this project's
+-- profile).
 use Rattle.std.specs.List.{AllByRecursion as Every}
 use Rattle.std.specs.Prelude.{ℕ, List, ◌+◌, [], ◌∷◌, ◌≤◌, ◌<◌, ◌^◌, length}
 use Rattle.eventkey.specs.Message.{IsRanged, Message}
@@ -14,7 +15,8 @@ pub record Meaning : Type 0 where
 
 -- the message that a handling at this time makes of one send
 abbrev pub stamped : ℕ → ℕ → ℕ → Outgoing → Message
-stamped lp time number o = record { time = time + o.delay; from = lp; number = number; to = o.to; a = o.a; b = o.b }
+stamped lp time number o =
+    record { time = time + o.delay; from = lp; number = number; to = o.to; a = o.a; b = o.b }
 
 -- those that it makes of all its sends, numbered from number on
 abbrev pub stamp : ℕ → ℕ → ℕ → List Outgoing → List Message
@@ -47,6 +49,9 @@ pub record IsLawful (m : Meaning) : Type 0 where
   pub start_words : (lp : ℕ) → lp < m.lps → IsWords (m.start_state lp)
   pub start_few : (lp : ℕ) → lp < m.lps → length (m.start_sends lp) ≤ 8
   pub start : (lp : ℕ) → lp < m.lps → Every (IsSend m.lps) (m.start_sends lp)
-  pub words : (lp : ℕ) (state : List ℕ) (x : Message) → lp < m.lps → IsWords state → IsRanged x → IsWords (m.next_state lp state x)
-  pub few : (lp : ℕ) (state : List ℕ) (x : Message) → lp < m.lps → IsWords state → IsRanged x → length (m.sends lp state x) ≤ 8
-  pub each : (lp : ℕ) (state : List ℕ) (x : Message) → lp < m.lps → IsWords state → IsRanged x → Every (IsSend m.lps) (m.sends lp state x)
+  pub words : (lp : ℕ) (state : List ℕ) (x : Message) →
+      lp < m.lps → IsWords state → IsRanged x → IsWords (m.next_state lp state x)
+  pub few : (lp : ℕ) (state : List ℕ) (x : Message) →
+      lp < m.lps → IsWords state → IsRanged x → length (m.sends lp state x) ≤ 8
+  pub each : (lp : ℕ) (state : List ℕ) (x : Message) →
+      lp < m.lps → IsWords state → IsRanged x → Every (IsSend m.lps) (m.sends lp state x)

@@ -20,7 +20,8 @@ abbrev pub is_due : ℕ → List Message → Bool
 is_due bound [] = false
 is_due bound (x ∷ rest) = nat_lt x.time bound
 
--- x is pending before the end, nothing pending is less, and the send number of its receiver would pass the limit
+-- x is pending before the end, nothing pending is less, and the send number of its receiver would
+-- pass the limit
 pub record IsLimited (m : Meaning) (end : ℕ) (w : World) : Type 0 where
   pub least : Message
   pub rest : List Message

@@ -11,11 +11,15 @@ UptoIsOne = (m : Meaning) (end g : ℕ) (v w : World) → IsUpto m end g v → I
 
 -- its log is the beginning of that of any later one
 abbrev pub UptoGoesOn : Type 0
-UptoGoesOn = (m : Meaning) (end g1 g2 : ℕ) (v w : World) → g1 ≤ g2 → IsUpto m end g1 v → IsUpto m end g2 w → (more : List Message) × (w.log ≡ v.log ++ more)
+UptoGoesOn = (m : Meaning) (end g1 g2 : ℕ) (v w : World) →
+    g1 ≤ g2 → IsUpto m end g1 v → IsUpto m end g2 w →
+    (more : List Message) × (w.log ≡ v.log ++ more)
 
 -- steps lead from it to any later one
 abbrev pub UptoIsReachedFrom : Type 0
-UptoIsReachedFrom = (m : Meaning) (end g1 g2 : ℕ) (v w : World) → g1 ≤ g2 → IsUpto m end g1 v → IsUpto m end g2 w → (steps : ℕ) × Reaches m end steps (at_time 0 v) (at_time 0 w)
+UptoIsReachedFrom = (m : Meaning) (end g1 g2 : ℕ) (v w : World) →
+    g1 ≤ g2 → IsUpto m end g1 v → IsUpto m end g2 w →
+    (steps : ℕ) × Reaches m end steps (at_time 0 v) (at_time 0 w)
 
 -- the opening world is the simulation up to 0
 abbrev pub OpeningIsUpto : Type 0
@@ -23,8 +27,11 @@ OpeningIsUpto = (m : Meaning) (end : ℕ) → IsUpto m end 0 (opening m)
 
 -- from the simulation up to g a run leads to that up to its bound, unless g is later
 abbrev pub RunsAreUpto : Type 0
-RunsAreUpto = (m : Meaning) (end bound g : ℕ) (old new : World) → IsLawful m → end ≤ 2 ^ 40 → bound ≤ end → IsUpto m end g old → RunsTo m bound old new → IsUpto m end (max g bound) new
+RunsAreUpto = (m : Meaning) (end bound g : ℕ) (old new : World) →
+    IsLawful m → end ≤ 2 ^ 40 → bound ≤ end → IsUpto m end g old → RunsTo m bound old new →
+    IsUpto m end (max g bound) new
 
 -- what steps reach from the opening world is in order
 abbrev pub EachWorldIsReached : Type 0
-EachWorldIsReached = (m : Meaning) (end steps : ℕ) (w : World) → IsLawful m → end ≤ 2 ^ 40 → Reaches m end steps (opening m) w → IsReached m.lps w
+EachWorldIsReached = (m : Meaning) (end steps : ℕ) (w : World) →
+    IsLawful m → end ≤ 2 ^ 40 → Reaches m end steps (opening m) w → IsReached m.lps w

@@ -46,7 +46,8 @@ handled m w x rest =
 
 -- the least pending message can be handled before this end
 abbrev pub can_handle : Meaning → ℕ → World → Message → Bool
-can_handle m end w x = nat_lt x.time end && nat_le (number_of w x.to + length (m.sends x.to (state_of w x.to) x)) (2 ^ 63)
+can_handle m end w x =
+    nat_lt x.time end && nat_le (number_of w x.to + length (m.sends x.to (state_of w x.to) x)) (2 ^ 63)
 
 abbrev pub step_from : Meaning → ℕ → World → List Message → Option World
 step_from m end w [] = None
@@ -57,8 +58,8 @@ step m end w = step_from m end w w.pending
 
 -- after n steps
 abbrev pub Reaches : Meaning → ℕ → ℕ → World → World → Type 0
-Reaches m end zero old new = new ≡ old
-Reaches m end (suc n) old new = (mid : World) × (step m end old ≡ Some mid) × Reaches m end n mid new
+Reaches m end zero v w = w ≡ v
+Reaches m end (suc n) v w = (u : World) × (step m end v ≡ Some u) × Reaches m end n u w
 
 -- what holds of every world that is reached
 pub record IsWorld (lps : ℕ) (w : World) : Type 0 where
@@ -69,9 +70,10 @@ pub record IsWorld (lps : ℕ) (w : World) : Type 0 where
   pub words : Every IsWords w.states
 
 abbrev pub at_time : ℕ → World → World
-at_time g w = record { time = g; states = w.states; numbers = w.numbers; pending = w.pending; log = w.log }
+at_time g w = record w { time = g }
 
--- the sequential simulation up to g: all before g is in the log, and nothing before g is left
+-- The sequential simulation up to g: all before g is in the log, and nothing before g is left. It is
+-- meant for g at most the end: past the end there is one only where nothing is left before g.
 pub record IsUpto (m : Meaning) (end g : ℕ) (w : World) : Type 0 where
   pub steps : ℕ
   pub reached : Reaches m end steps (opening m) (at_time 0 w)

@@ -42,7 +42,7 @@ pub type Sends = SmallVec<Outgoing, 8>;
 /// Why a world can't go on.
 #[derive(Clone, Copy, Debug, PartialEq, Eq, Error)]
 pub enum WorldFault {
-    /// A list can't grow.
+    /// Memory is refused.
     #[error("NoMemory")]
     NoMemory,
     /// The send number of a process would pass 2^63.
@@ -63,24 +63,27 @@ pub trait Model {
     fn identity(&self, alloc: Global) -> SmallVec<u64, 8>
         ensures { result.items ≡ (meaning self.now).identity };
 
-    /// The state in which a process starts, and what it sends then.
+    /// The state in which a process that is there starts, and what it sends then.
     fn start(&self, alloc: Global, lp: u32) -> (Words, Sends)
         requires { lp < (meaning self.now).lps }
         ensures state { result.0.items ≡ (meaning self.now).start_state lp }
         ensures sends { result.1.items ≡ (meaning self.now).start_sends lp };
 
-    /// The state of a process after a message, and what it sends then. It is defined for every list of
-    /// at most 16 words and every message, also for those that never come in a sequential simulation.
+    /// The state of a process after a message, and what it sends then. It is defined for every
+    /// process that is there, every list of at most 16 words and every message, also for those that
+    /// never come in a sequential simulation.
     fn handle(&self, alloc: Global, lp: u32, state: &Words, message: &Message) -> (Words, Sends)
         requires in_range { lp < (meaning self.now).lps }
         requires few { length state.now.items ≤ 16 }
-        ensures state { result.0.items ≡ (meaning self.now).next_state lp state.now.items message.now }
+        ensures state { result.0.items
+            ≡ (meaning self.now).next_state lp state.now.items message.now }
         ensures sends { result.1.items ≡ (meaning self.now).sends lp state.now.items message.now };
 
     ghost lawful: { (m : Self) → IsLawful (meaning m) };
 }
 
-/// The message that a handling at this time, in ticks, makes of a send. It takes no memory.
+/// The message that a handling at this time makes of a send: the time in ticks, below 2^40, and the
+/// send number below 2^63. It takes no memory.
 pub fn stamp(lp: u32, time: u64, number: u64, outgoing: &Outgoing) -> Message
     requires time { time < 2 ^ 40 }
     requires number { number < 2 ^ 63 }

@@ -1,4 +1,4 @@
-// A token ring, run by the plain runner.
+// Token rings, run by the plain runner.
 
 ghost use Rattle.std.specs.Prelude.{◌≡◌, ◌≤◌, ◌<◌, ◌^◌, ℕ, length, IfOk};
 ghost use Rattle.model.specs.Ring.{ring_meaning, ring_lawful};
@@ -13,16 +13,18 @@ use std::test::Fail;
 struct Ring {
     lps: u32,
     hold: u32,
+    tokens: u32,
     ghost some: { 1 ≤ lps },
     ghost few: { lps ≤ 1024 },
     ghost held: { 1 ≤ hold },
     ghost fits: { hold < 2 ^ 32 },
+    ghost short: { tokens < 2 ^ 32 },
 }
 
 impl Simulated for Ring {
-    ghost meaning = { λ r. ring_meaning r.lps r.hold };
+    ghost meaning = { λ r. ring_meaning r.lps r.hold r.tokens };
 
-    ghost lawful = { λ r. ring_lawful r.lps r.hold r.some r.few r.held r.fits };
+    ghost lawful = { λ r. ring_lawful r.lps r.hold r.tokens r.some r.few r.held r.fits r.short };
 
     fn lps(&self) -> u32 {
         self.lps
@@ -32,6 +34,7 @@ impl Simulated for Ring {
         let mut words = SmallVec::new(alloc);
         words.push_reserved(1);
         words.push_reserved(u64::from(self.hold));
+        words.push_reserved(u64::from(self.tokens));
         words
     }
 
@@ -39,11 +42,11 @@ impl Simulated for Ring {
         let mut words = SmallVec::new(alloc);
         words.push_reserved(0);
         let mut sends = SmallVec::new(alloc);
-        if lp == 0 {
+        if lp < self.tokens {
             sends.push_reserved(Outgoing {
-                to: 0,
+                to: lp,
                 delay: 1,
-                a: 0,
+                a: u64::from(lp),
                 b: 0,
             });
         }
@@ -62,6 +65,17 @@ impl Simulated for Ring {
             b: message.b().wrapping_add(1),
         });
         (words, sends)
+    }
+}
+
+// A ring of three processes that hold the token two ticks.
+fn one_token() -> Ring
+    ensures { result.lps ≡ 3 }
+{
+    Ring {
+        lps: 3,
+        hold: 2,
+        tokens: 1,
     }
 }
 
@@ -87,7 +101,7 @@ fn fields(x: &Message) -> [u64; 6] {
 
 #[test]
 fn goes_round(rt: HostRuntime) -> Result<(), Fail> {
-    let ring = Ring { lps: 3, hold: 2 };
+    let ring = one_token();
     let mut world = World::open(rt.alloc(), &ring, 10)?;
     assert_eq!(rt; world.end(), 10);
     world.run_to(&ring, 1)?;
@@ -123,7 +137,7 @@ fn stepped(world: &mut World, ring: &Ring) -> Result<[u64; 6], Fail>
 
 #[test]
 fn steps_one_by_one(rt: HostRuntime) -> Result<(), Fail> {
-    let ring = Ring { lps: 3, hold: 2 };
+    let ring = one_token();
     let mut world = World::open(rt.alloc(), &ring, 10)?;
     assert_eq!(rt; stepped(&mut world, &ring)?, LOGGED[0]);
     assert_eq!(rt; stepped(&mut world, &ring)?, LOGGED[1]);
@@ -135,8 +149,43 @@ fn steps_one_by_one(rt: HostRuntime) -> Result<(), Fail> {
     Ok(())
 }
 
-// All there is of a ring of three processes with one token: the time, how many messages were handled,
-// the send numbers, the counts, and the time and the receiver of the token.
+// The messages of two tokens, the least first: those that wait at the opening, then those that the
+// steps send.
+fn two_tokens() -> Result<[Message; 6], Fail> {
+    Ok([
+        Message::new(1, 0, 0, 0, 0, 0)?,
+        Message::new(1, 1, 0, 1, 1, 0)?,
+        Message::new(3, 0, 1, 1, 0, 1)?,
+        Message::new(3, 1, 1, 2, 1, 1)?,
+        Message::new(5, 1, 2, 2, 0, 2)?,
+        Message::new(5, 2, 0, 0, 1, 2)?,
+    ])
+}
+
+#[test]
+fn handles_the_least_of_two(rt: HostRuntime) -> Result<(), Fail> {
+    let ring = Ring {
+        lps: 3,
+        hold: 2,
+        tokens: 2,
+    };
+    let [first, second, third, fourth, fifth, sixth] = two_tokens()?;
+    let mut world = World::open(rt.alloc(), &ring, 5)?;
+    assert_eq!(rt; world.pending(), [first, second].as_slice());
+    assert_eq!(rt; world.step(&ring)?, Some(first));
+    assert_eq!(rt; world.pending(), [second, third].as_slice());
+    assert_eq!(rt; world.step(&ring)?, Some(second));
+    assert_eq!(rt; world.least(), Some(third));
+    world.run_to(&ring, 9)?;
+    assert_eq!(rt; world.time(), 5);
+    assert_eq!(rt; world.log(), [first, second, third, fourth].as_slice());
+    assert_eq!(rt; world.pending(), [fifth, sixth].as_slice());
+    assert_eq!(rt; world.numbers(), [2, 3, 1].as_slice());
+    Ok(())
+}
+
+// All there is of a ring of three processes with one token: the time, how many messages were
+// handled, the send numbers, the counts, and the time and the receiver of the token.
 fn told(world: &World) -> [u64; 10] {
     let (time, receiver) = token(world);
     [
@@ -186,7 +235,7 @@ const TOLD: [[u64; 10]; 6] = [
 fn opened(alloc: Global) -> Result<World, Fail>
     ensures { IfOk result (λ w. length w.world.states ≡ 3) }
 {
-    let ring = Ring { lps: 3, hold: 2 };
+    let ring = one_token();
     if let Ok(world) = World::open(alloc, &ring, 10) {
         return Ok(world);
     }
@@ -194,7 +243,8 @@ fn opened(alloc: Global) -> Result<World, Fail>
     Ok(world)
 }
 
-// The message that one step handles, asked for again where memory is refused, and what is told then.
+// The message that one step handles, asked for again where memory is refused, and what is told
+// then.
 fn stepped_at_last(world: &mut World, ring: &Ring) -> Result<([u64; 6], [u64; 10]), Fail>
     requires { length world.old.world.states ≡ ring.now.lps }
     ensures { length world.new.world.states ≡ length world.old.world.states }
@@ -215,7 +265,7 @@ fn stepped_at_last(world: &mut World, ring: &Ring) -> Result<([u64; 6], [u64; 10
 
 #[test]
 fn a_refused_step_changes_nothing(rt: HostRuntime) -> Result<(), Fail> {
-    let ring = Ring { lps: 3, hold: 2 };
+    let ring = one_token();
     let mut world = opened(rt.alloc())?;
     assert_eq!(rt; told(&world), TOLD[0]);
     assert_eq!(rt; stepped_at_last(&mut world, &ring)?, (LOGGED[0], TOLD[1]));
@@ -228,7 +278,7 @@ fn a_refused_step_changes_nothing(rt: HostRuntime) -> Result<(), Fail> {
 
 #[test]
 fn a_refused_run_keeps_whole_steps(rt: HostRuntime) -> Result<(), Fail> {
-    let ring = Ring { lps: 3, hold: 2 };
+    let ring = one_token();
     let mut world = opened(rt.alloc())?;
     if let Err(fault) = world.run_to(&ring, 10) {
         assert_eq!(rt; fault, WorldFault::NoMemory);
@@ -243,7 +293,7 @@ fn a_refused_run_keeps_whole_steps(rt: HostRuntime) -> Result<(), Fail> {
 
 #[test]
 fn is_taken_apart(rt: HostRuntime) -> Result<(), Fail> {
-    let ring = Ring { lps: 3, hold: 2 };
+    let ring = one_token();
     let mut world = World::open(rt.alloc(), &ring, 10)?;
     world.run_to(&ring, 4)?;
     let parts = world.into_parts();
@@ -258,7 +308,7 @@ fn is_taken_apart(rt: HostRuntime) -> Result<(), Fail> {
 
 #[test]
 fn keeps_a_later_time(rt: HostRuntime) -> Result<(), Fail> {
-    let ring = Ring { lps: 3, hold: 2 };
+    let ring = one_token();
     let mut world = World::open(rt.alloc(), &ring, 10)?;
     world.run_to(&ring, 6)?;
     world.run_to(&ring, 2)?;

@@ -30,10 +30,13 @@ word_of_state : (state : List ℕ) (i : ℕ) → IsWords state → slice_index s
 word_of_state state i is = Every-get_or-default (λ word. word < 2 ^ 64) state i 0 is.1 (lit< tt)
 
 refused_words : (lp : ℕ) (state : List ℕ) → IsWords state → IsWords (after_refusal lp state)
-refused_words lp state is = (lit≤ tt, (
-  word_of_state state 0 is,
-  (word_of_state state 1 is, (word_of_state state 2 is, (omega arith, (key_lt (shop_key state) lp 1, tt)))),
-))
+refused_words lp state is = (
+  lit≤ tt,
+  (
+    word_of_state state 0 is,
+    (word_of_state state 1 is, (word_of_state state 2 is, (omega arith, (key_lt (shop_key state) lp 1, tt)))),
+  ),
+)
 
 served_words : (s : Shop) (lp : ℕ) (state : List ℕ) (t : ℕ) → t < 2 ^ 41 → is_turned_away s lp state t ≡ false → IsWords state
     → IsWords (after_service s lp state t)

@@ -12,7 +12,8 @@ use Rattle.node.proofs.Seats.{IsAt, picked, staffed_again}
 use Rattle.node.specs.Fault.{fault_of}
 use Rattle.node.specs.Handling.{Node, first_fault, is_own}
 use Rattle.process.specs.View.{ProcessView}
-use Rattle.queues.specs.Queue.{first_before}
+use Rattle.node.specs.Seats.{standing_of}
+use Rattle.node.specs.declared.standing.Standing.{Standing}
 use Rattle.node.specs.Node.{Work, deliver_here, deliver_one_here, sits_on}
 use Rattle.node.specs.Roster.{IsSeated, IsStaffed, Place, processes_of}
 use Rattle.node.specs.declared.NodeFault.{NodeFault}
@@ -39,16 +40,16 @@ delivered_to s q = record { lp = q.lp; floor = q.floor; spent = q.spent; process
 
 seated_delivered : (floor : ℕ) (s : Signed) (q : ProcessView) → s.message.to ≡ q.lp → IsSeated floor q → IsSeated floor (delivered_to s q)
 seated_delivered floor s q own h = record {
-  floor_is = h.floor_is;
+  from_floor = h.from_floor;
   unspent = h.unspent;
   own_done = arrive_done (λ (x : Message). x.to ≡ q.lp) s q.process h.own_done;
   own_waiting = arrive_waiting (λ (x : Message). x.to ≡ q.lp) s q.process own h.own_done h.own_waiting;
 }
 
-pub delivered_ready : (p : Place) (seats : List ProcessView) (nexts : List (Option Message)) (s : Signed) (q r : ProcessView) (next : Option Message) → IsStaffed p seats nexts → IsAt p seats s.message.to q →
-    q ≡ get_or seats (s.message.to / p.nodes) q → r ≡ delivered_to s q → next ≡ first_before p.end r.process.waiting → IsStaffed p (set seats (s.message.to / p.nodes) r) (set nexts (s.message.to / p.nodes) next)
-delivered_ready p seats nexts s q r next h at read is known =
-    staffed_again p seats nexts s.message.to q r next h read (ap (λ (v : ProcessView). v.lp) is) (subst (IsSeated p.floor) (sym is) (seated_delivered p.floor s q (sym at.lp_is) at.seated)) known
+pub delivered_ready : (p : Place) (seats : List ProcessView) (standings : List Standing) (s : Signed) (q r : ProcessView) (standing : Standing) → IsStaffed p seats standings → IsAt p seats s.message.to q →
+    q ≡ get_or seats (s.message.to / p.nodes) q → r ≡ delivered_to s q → standing ≡ standing_of p.end r → IsStaffed p (set seats (s.message.to / p.nodes) r) (set standings (s.message.to / p.nodes) standing)
+delivered_ready p seats standings s q r standing h at read is known =
+    staffed_again p seats standings (s.message.to / p.nodes) q r standing h read (ap (λ (v : ProcessView). v.lp) is) (subst (IsSeated p.floor) (sym is) (seated_delivered p.floor s q (sym at.lp_is) at.seated)) known
 
 abbrev pub working : List Process → List Signed → ℕ → Work
 working processes out ran = record { processes = processes; out = out; ran = ran }
@@ -90,30 +91,30 @@ accepted n s rest e =
     ]
 
 -- What is read before a delivery: the process at the place of the receiver, for which it is
-pub record IsPicked (p : Place) (seats : List ProcessView) (nexts : List (Option Message)) (s : Signed) (lp : ℕ) (q : ProcessView) : Type 0 where
+pub record IsPicked (p : Place) (seats : List ProcessView) (standings : List Standing) (s : Signed) (lp : ℕ) (q : ProcessView) : Type 0 where
   pub lp_is : lp ≡ s.message.to
-  pub staffed : IsStaffed p seats nexts
+  pub staffed : IsStaffed p seats standings
   pub node : s.message.to % p.nodes ≡ p.node
   pub there : s.message.to < p.lps
   pub read : q ≡ get_or seats (lp / p.nodes) q
 
-picked_at : (p : Place) (seats : List ProcessView) (nexts : List (Option Message)) (s : Signed) (lp : ℕ) (q : ProcessView) → IsPicked p seats nexts s lp q → q ≡ get_or seats (s.message.to / p.nodes) q
-picked_at p seats nexts s lp q h = subst (λ k. q ≡ get_or seats (k / p.nodes) q) h.lp_is h.read
+picked_at : (p : Place) (seats : List ProcessView) (standings : List Standing) (s : Signed) (lp : ℕ) (q : ProcessView) → IsPicked p seats standings s lp q → q ≡ get_or seats (s.message.to / p.nodes) q
+picked_at p seats standings s lp q h = subst (λ k. q ≡ get_or seats (k / p.nodes) q) h.lp_is h.read
 
-pub at_of : (p : Place) (seats : List ProcessView) (nexts : List (Option Message)) (s : Signed) (lp : ℕ) (q : ProcessView) → IsPicked p seats nexts s lp q → IsAt p seats s.message.to q
-at_of p seats nexts s lp q h = picked p seats nexts s.message.to q h.staffed h.node h.there (picked_at p seats nexts s lp q h)
+pub at_of : (p : Place) (seats : List ProcessView) (standings : List Standing) (s : Signed) (lp : ℕ) (q : ProcessView) → IsPicked p seats standings s lp q → IsAt p seats s.message.to q
+at_of p seats standings s lp q h = picked p seats standings s.message.to q h.staffed h.node h.there (picked_at p seats standings s lp q h)
 
-pub deliver_ready : (p : Place) (seats : List ProcessView) (nexts : List (Option Message)) (s : Signed) (lp : ℕ) (q r : ProcessView) (next : Option Message) → IsPicked p seats nexts s lp q →
-    r ≡ delivered_to s q → next ≡ first_before p.end r.process.waiting → IsStaffed p (set seats (lp / p.nodes) r) (set nexts (lp / p.nodes) next)
-deliver_ready p seats nexts s lp q r next h is known =
-    subst (λ k. IsStaffed p (set seats (k / p.nodes) r) (set nexts (k / p.nodes) next)) (sym h.lp_is)
-    (delivered_ready p seats nexts s q r next h.staffed (at_of p seats nexts s lp q h) (picked_at p seats nexts s lp q h) is known)
+pub deliver_ready : (p : Place) (seats : List ProcessView) (standings : List Standing) (s : Signed) (lp : ℕ) (q r : ProcessView) (standing : Standing) → IsPicked p seats standings s lp q →
+    r ≡ delivered_to s q → standing ≡ standing_of p.end r → IsStaffed p (set seats (lp / p.nodes) r) (set standings (lp / p.nodes) standing)
+deliver_ready p seats standings s lp q r standing h is known =
+    subst (λ k. IsStaffed p (set seats (k / p.nodes) r) (set standings (k / p.nodes) standing)) (sym h.lp_is)
+    (delivered_ready p seats standings s q r standing h.staffed (at_of p seats standings s lp q h) (picked_at p seats standings s lp q h) is known)
 
-pub deliver_work : (p : Place) (seats : List ProcessView) (nexts : List (Option Message)) (s : Signed) (lp : ℕ) (q r : ProcessView) (out out' : List Signed) (ran : ℕ) → IsPicked p seats nexts s lp q →
+pub deliver_work : (p : Place) (seats : List ProcessView) (standings : List Standing) (s : Signed) (lp : ℕ) (q r : ProcessView) (out out' : List Signed) (ran : ℕ) → IsPicked p seats standings s lp q →
     r ≡ delivered_to s q → out' ≡ out ++ taken_back s q.process → working (processes_of (set seats (lp / p.nodes) r)) out' ran ≡ deliver_one_here p.nodes s (working (processes_of seats) out ran)
-deliver_work p seats nexts s lp q r out out' ran h is sent =
+deliver_work p seats standings s lp q r out out' ran h is sent =
     ap (λ k. working (processes_of (set seats (k / p.nodes) r)) out' ran) h.lp_is
-    ∙ delivered_work p seats s q r out out' ran (at_of p seats nexts s lp q h) is sent
+    ∙ delivered_work p seats s q r out out' ran (at_of p seats standings s lp q h) is sent
 
 -- All deliveries: those that are done, and those that are left
 

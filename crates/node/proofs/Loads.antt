@@ -14,7 +14,6 @@ use Rattle.eventkey.proofs.Lists.{Every-get_or, Every-add_all, Every-right, Ever
 use Rattle.node.proofs.Deliveries.{rest_of}
 use Rattle.node.proofs.Seats.{own_strided}
 use Rattle.process.specs.View.{ProcessView, has_early, has_foreign, loaded}
-use Rattle.queues.specs.Queue.{first_before}
 use Rattle.node.specs.Handling.{IsLoaded, Node, is_own_load, load_answer, load_refusal, loaded_node, own_lps}
 use Rattle.node.specs.declared.NodeFault.{NodeFault}
 use Rattle.node.specs.declared.NodeFault.TheVariants.{BelowFloor, NoMemory, NotMine}
@@ -22,7 +21,9 @@ use Rattle.std.specs.Cmp.Lexicographic.{same_text}
 use Rattle.node.specs.declared.Load.{Load}
 use Rattle.process.specs.Process.{Process}
 use Rattle.node.specs.Roster.{IsSeated, IsStaffed, Place, lps_of, processes_of}
-use Rattle.node.specs.Seats.{nexts_of, seat_of}
+use Rattle.node.specs.Seats.{seat_of, standing_of, standings_of}
+use Rattle.node.specs.Tournament.{absent}
+use Rattle.node.specs.declared.standing.Standing.{Standing}
 use Rattle.node.specs.declared.Part.{Part}
 
 -- 1. Each element passes
@@ -131,34 +132,34 @@ none_early floor xs h e =
 -- 4. The processes of the parts
 
 -- of these parts some are seated, and the rest is to come
-pub record IsSeatedSoFar (end floor : ℕ) (parts done rest : List Part) (seats : List ProcessView) (nexts : List (Option Message)) : Type 0 where
+pub record IsSeatedSoFar (end floor : ℕ) (parts done rest : List Part) (seats : List ProcessView) (standings : List Standing) : Type 0 where
   pub all : done ++ rest ≡ parts
   pub seats_are : seats ≡ map (seat_of floor) done
-  pub nexts_are : nexts ≡ nexts_of end (map (seat_of floor) done) ++ replicate (length rest) None
+  pub standings_are : standings ≡ standings_of end (map (seat_of floor) done) ++ replicate (length rest) absent
 
 pub every_next : (P : Part → Type 0) (parts done rest rest' : List Part) (p : Part) → done ++ rest ≡ parts → rest ≡ p ∷ rest' → Every P parts → P p
 every_next P parts done rest rest' p all step h = (Every-right P done (p ∷ rest') (subst (Every P) (sym all ∙ ap (λ (r : List Part). done ++ r) step) h)).0
 
-pub seats_place : {end floor : ℕ} {parts done rest : List Part} {seats : List ProcessView} {nexts : List (Option Message)} (rest' : List Part) (p : Part) → IsSeatedSoFar end floor parts done rest seats nexts → rest ≡ p ∷ rest' → length seats < length nexts
-seats_place {end} {floor} {parts} {done} {rest} {seats} {nexts} rest' p h step =
-    let known : List (Option Message) = nexts_of end (map (seat_of floor) done) in
+pub seats_place : {end floor : ℕ} {parts done rest : List Part} {seats : List ProcessView} {standings : List Standing} (rest' : List Part) (p : Part) → IsSeatedSoFar end floor parts done rest seats standings → rest ≡ p ∷ rest' → length seats < length standings
+seats_place {end} {floor} {parts} {done} {rest} {seats} {standings} rest' p h step =
+    let known : List Standing = standings_of end (map (seat_of floor) done) in
     let size = size_of end floor done seats h.seats_are in
-    let more = ap length h.nexts_are ∙ length-append known (replicate (length rest) None) in
-    let last = length-replicate {A = Option Message} (length rest) None in
+    let more = ap length h.standings_are ∙ length-append known (replicate (length rest) absent) in
+    let last = length-replicate {A = Standing} (length rest) absent in
     let some = ap length step in
     omega arith
   where
-    size_of : (end floor : ℕ) (done : List Part) (seats : List ProcessView) → seats ≡ map (seat_of floor) done → length seats ≡ length (nexts_of end (map (seat_of floor) done))
-    size_of end floor done seats is = ap length is ∙ sym (length-map (map (seat_of floor) done) (λ (q : ProcessView). first_before end q.process.waiting))
+    size_of : (end floor : ℕ) (done : List Part) (seats : List ProcessView) → seats ≡ map (seat_of floor) done → length seats ≡ length (standings_of end (map (seat_of floor) done))
+    size_of end floor done seats is = ap length is ∙ sym (length-map (map (seat_of floor) done) (λ (q : ProcessView). standing_of end q))
 
-pub seats_more : {end floor : ℕ} {parts done rest : List Part} {seats : List ProcessView} {nexts : List (Option Message)} (rest' : List Part) (p : Part) (seat : ProcessView) (seats' : List ProcessView) (next : Option Message) (nexts' : List (Option Message)) →
-    IsSeatedSoFar end floor parts done rest seats nexts → rest ≡ p ∷ rest' → seat ≡ seat_of floor p → seats' ≡ seats ++ seat ∷ [] → next ≡ first_before end seat.process.waiting → nexts' ≡ set nexts (length seats) next →
-    IsSeatedSoFar end floor parts (done ++ p ∷ []) rest' seats' nexts'
-seats_more {end} {floor} {parts} {done} {rest} {seats} {nexts} rest' p seat seats' next nexts' h step seat_is more next_is set_is =
-    let known : List (Option Message) = nexts_of end (map (seat_of floor) done) in
-    let left : List (Option Message) = replicate (length rest') None in
-    let size : length seats ≡ length known = ap length h.seats_are ∙ sym (length-map (map (seat_of floor) done) (λ (q : ProcessView). first_before end q.process.waiting)) in
-    let open_ones : replicate (length rest) None ≡ None ∷ left = ap (λ (r : List Part). replicate (length r) None) step in
+pub seats_more : {end floor : ℕ} {parts done rest : List Part} {seats : List ProcessView} {standings : List Standing} (rest' : List Part) (p : Part) (seat : ProcessView) (seats' : List ProcessView) (standing : Standing) (standings' : List Standing) →
+    IsSeatedSoFar end floor parts done rest seats standings → rest ≡ p ∷ rest' → seat ≡ seat_of floor p → seats' ≡ seats ++ seat ∷ [] → standing ≡ standing_of end seat → standings' ≡ set standings (length seats) standing →
+    IsSeatedSoFar end floor parts (done ++ p ∷ []) rest' seats' standings'
+seats_more {end} {floor} {parts} {done} {rest} {seats} {standings} rest' p seat seats' standing standings' h step seat_is more standing_is set_is =
+    let known : List Standing = standings_of end (map (seat_of floor) done) in
+    let left : List Standing = replicate (length rest') absent in
+    let size : length seats ≡ length known = ap length h.seats_are ∙ sym (length-map (map (seat_of floor) done) (λ (q : ProcessView). standing_of end q)) in
+    let open_ones : replicate (length rest) absent ≡ absent ∷ left = ap (λ (r : List Part). replicate (length r) absent) step in
     record {
       all = append_assoc done (p ∷ []) rest' ∙ ap (λ (r : List Part). done ++ r) (sym step) ∙ h.all;
       seats_are =
@@ -166,36 +167,36 @@ seats_more {end} {floor} {parts} {done} {rest} {seats} {nexts} rest' p seat seat
           ∙ ap (λ (xs : List ProcessView). xs ++ seat ∷ []) h.seats_are
           ∙ ap (λ (x : ProcessView). map (seat_of floor) done ++ x ∷ []) seat_is
           ∙ sym (map-append (seat_of floor) done (p ∷ []));
-      nexts_are =
+      standings_are =
           set_is
-          ∙ ap (λ (xs : List (Option Message)). set xs (length seats) next) (h.nexts_are ∙ ap (λ (xs : List (Option Message)). known ++ xs) open_ones)
-          ∙ ap (λ n. set (known ++ None ∷ left) n next) size
-          ∙ set-append_seam known None left next
-          ∙ ap (λ (x : Option Message). known ++ x ∷ left) (next_is ∙ ap (λ (q : ProcessView). first_before end q.process.waiting) seat_is)
-          ∙ sym (append_assoc known (first_before end (seat_of floor p).process.waiting ∷ []) left)
-          ∙ ap (λ (xs : List (Option Message)). xs ++ left)
-          (sym (map-append (λ (q : ProcessView). first_before end q.process.waiting) (map (seat_of floor) done) (seat_of floor p ∷ []))
-          ∙ ap (nexts_of end) (sym (map-append (seat_of floor) done (p ∷ []))));
+          ∙ ap (λ (xs : List Standing). set xs (length seats) standing) (h.standings_are ∙ ap (λ (xs : List Standing). known ++ xs) open_ones)
+          ∙ ap (λ n. set (known ++ absent ∷ left) n standing) size
+          ∙ set-append_seam known absent left standing
+          ∙ ap (λ (x : Standing). known ++ x ∷ left) (standing_is ∙ ap (λ (q : ProcessView). standing_of end q) seat_is)
+          ∙ sym (append_assoc known (standing_of end (seat_of floor p) ∷ []) left)
+          ∙ ap (λ (xs : List Standing). xs ++ left)
+          (sym (map-append (λ (q : ProcessView). standing_of end q) (map (seat_of floor) done) (seat_of floor p ∷ []))
+          ∙ ap (standings_of end) (sym (map-append (seat_of floor) done (p ∷ []))));
     }
 
 nothing_left : (rest : List Part) → length rest ≡ 0 → rest ≡ []
 nothing_left [] e = refl
 nothing_left (p ∷ ps) e = absurd (omega arith)
 
-pub all_seated : {end floor : ℕ} {parts done rest : List Part} {seats : List ProcessView} {nexts : List (Option Message)} → IsSeatedSoFar end floor parts done rest seats nexts → length rest ≡ 0 →
-    (seats ≡ map (seat_of floor) parts) × (nexts ≡ nexts_of end (map (seat_of floor) parts))
-all_seated {end} {floor} {parts} {done} {rest} {seats} {nexts} h none =
+pub all_seated : {end floor : ℕ} {parts done rest : List Part} {seats : List ProcessView} {standings : List Standing} → IsSeatedSoFar end floor parts done rest seats standings → length rest ≡ 0 →
+    (seats ≡ map (seat_of floor) parts) × (standings ≡ standings_of end (map (seat_of floor) parts))
+all_seated {end} {floor} {parts} {done} {rest} {seats} {standings} h none =
     let empty : rest ≡ [] = nothing_left rest none in
     let every : done ≡ parts = sym (append-nil done) ∙ ap (λ (r : List Part). done ++ r) (sym empty) ∙ h.all in (
       h.seats_are ∙ ap (map (seat_of floor)) every,
-      h.nexts_are
-          ∙ ap (λ (r : List Part). nexts_of end (map (seat_of floor) done) ++ replicate (length r) None) empty
-          ∙ append-nil (nexts_of end (map (seat_of floor) done))
-          ∙ ap (λ (ps : List Part). nexts_of end (map (seat_of floor) ps)) every,
+      h.standings_are
+          ∙ ap (λ (r : List Part). standings_of end (map (seat_of floor) done) ++ replicate (length r) absent) empty
+          ∙ append-nil (standings_of end (map (seat_of floor) done))
+          ∙ ap (λ (ps : List Part). standings_of end (map (seat_of floor) ps)) every,
     )
 
 pub seats_staffed : (p : Place) (parts : List Part) → p.node < p.nodes → p.end ≤ 2 ^ 40 → map (λ (q : Part). q.lp) parts ≡ own_lps p.nodes p.node p.lps → Every (λ (q : Part). Every (λ (x : Message). x.to ≡ q.lp) q.pending) parts →
-    IsStaffed p (map (seat_of p.floor) parts) (nexts_of p.end (map (seat_of p.floor) parts))
+    IsStaffed p (map (seat_of p.floor) parts) (standings_of p.end (map (seat_of p.floor) parts))
 seats_staffed p parts node end own pending = record {
   node = node;
   end = end;
@@ -210,7 +211,7 @@ seats_staffed p parts node end own pending = record {
 
     seated-seats : (ps : List Part) → Every (λ (q : Part). Every (λ (x : Message). x.to ≡ q.lp) q.pending) ps → Every (IsSeated p.floor) (map (seat_of p.floor) ps)
     seated-seats [] h = tt
-    seated-seats (q ∷ ps) h = (record { floor_is = refl; unspent = refl; own_done = tt; own_waiting = Every-add_all (λ (x : Message). x.to ≡ q.lp) q.pending [] h.0 tt }, seated-seats ps h.1)
+    seated-seats (q ∷ ps) h = (record { from_floor = omega arith; unspent = refl; own_done = tt; own_waiting = Every-add_all (λ (x : Message). x.to ≡ q.lp) q.pending [] h.0 tt }, seated-seats ps h.1)
 
 -- the process of a part
 abbrev loaded_part : Part → Process

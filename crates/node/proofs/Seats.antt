@@ -13,10 +13,10 @@ use Rattle.model.specs.World.{below}
 use Rattle.process.specs.Process.{nobody}
 use Rattle.node.specs.Handling.{own_lps}
 use Rattle.process.specs.View.{ProcessView}
-use Rattle.queues.specs.Queue.{first_before}
 use Rattle.node.specs.Node.{sits_on}
 use Rattle.node.specs.Roster.{IsSeated, IsStaffed, Place, lps_of, processes_of}
-use Rattle.node.specs.Seats.{nexts_of}
+use Rattle.node.specs.Seats.{standing_of, standings_of}
+use Rattle.node.specs.declared.standing.Standing.{Standing}
 
 -- 1. The processes of a node are node, node + nodes, node + 2 nodes and so on.
 
@@ -116,18 +116,18 @@ pub record IsAt (p : Place) (seats : List ProcessView) (lp : ℕ) (q : ProcessVi
 pub length-lps : (p : Place) (seats : List ProcessView) → lps_of seats ≡ own_lps p.nodes p.node p.lps → length seats ≡ length (own_lps p.nodes p.node p.lps)
 length-lps p seats h = sym (length-map seats (λ (q : ProcessView). q.lp)) ∙ ap length h
 
-pub length-nexts : (p : Place) (seats : List ProcessView) (nexts : List (Option Message)) → IsStaffed p seats nexts → length nexts ≡ length seats
-length-nexts p seats nexts h = ap length h.known ∙ length-map seats (λ (q : ProcessView). first_before p.end q.process.waiting)
+pub length-standings : (p : Place) (seats : List ProcessView) (standings : List Standing) → IsStaffed p seats standings → length standings ≡ length seats
+length-standings p seats standings h = ap length h.known ∙ length-map seats (λ (q : ProcessView). standing_of p.end q)
 
-pub place_inside : (p : Place) (seats : List ProcessView) (nexts : List (Option Message)) (lp : ℕ) → IsStaffed p seats nexts → lp % p.nodes ≡ p.node → lp < p.lps → lp / p.nodes < length seats
-place_inside p seats nexts lp h e l = let o = own_place p.nodes p.node h.node p.lps lp e l in rw (length-lps p seats h.lps) o.0
+pub place_inside : (p : Place) (seats : List ProcessView) (standings : List Standing) (lp : ℕ) → IsStaffed p seats standings → lp % p.nodes ≡ p.node → lp < p.lps → lp / p.nodes < length seats
+place_inside p seats standings lp h e l = let o = own_place p.nodes p.node h.node p.lps lp e l in rw (length-lps p seats h.lps) o.0
 
 -- the process that is read at the place of lp is lp
-pub picked : (p : Place) (seats : List ProcessView) (nexts : List (Option Message)) (lp : ℕ) (q : ProcessView) → IsStaffed p seats nexts → lp % p.nodes ≡ p.node → lp < p.lps →
+pub picked : (p : Place) (seats : List ProcessView) (standings : List Standing) (lp : ℕ) (q : ProcessView) → IsStaffed p seats standings → lp % p.nodes ≡ p.node → lp < p.lps →
     q ≡ get_or seats (lp / p.nodes) q → IsAt p seats lp q
-picked p seats nexts lp q h e l read =
+picked p seats standings lp q h e l read =
     let o = own_place p.nodes p.node h.node p.lps lp e l in
-    let inside = place_inside p seats nexts lp h e l in
+    let inside = place_inside p seats standings lp h e l in
     record {
       place = inside;
       seated = subst (IsSeated p.floor) (sym read) (Every-get_or (IsSeated p.floor) seats (lp / p.nodes) q inside h.seated);
@@ -140,16 +140,16 @@ Every-set P [] i x p h = tt
 Every-set P (y ∷ ys) zero x p h = (p, h.1)
 Every-set P (y ∷ ys) (suc i) x p h = (h.0, Every-set P ys i x p h.1)
 
--- one process has changed, and its next message is known
-pub staffed_again : (p : Place) (seats : List ProcessView) (nexts : List (Option Message)) (lp : ℕ) (q r : ProcessView) (next : Option Message) → IsStaffed p seats nexts → q ≡ get_or seats (lp / p.nodes) q →
-    r.lp ≡ q.lp → IsSeated p.floor r → next ≡ first_before p.end r.process.waiting → IsStaffed p (set seats (lp / p.nodes) r) (set nexts (lp / p.nodes) next)
-staffed_again p seats nexts lp q r next h read same seated known = record {
+-- one process has changed, and what stands of it is known
+pub staffed_again : (p : Place) (seats : List ProcessView) (standings : List Standing) (i : ℕ) (q r : ProcessView) (standing : Standing) → IsStaffed p seats standings → q ≡ get_or seats i q →
+    r.lp ≡ q.lp → IsSeated p.floor r → standing ≡ standing_of p.end r → IsStaffed p (set seats i r) (set standings i standing)
+staffed_again p seats standings i q r standing h read same seated known = record {
   node = h.node;
   end = h.end;
-  lps = map-set_same (λ (v : ProcessView). v.lp) seats (lp / p.nodes) r q (same ∙ ap (λ (v : ProcessView). v.lp) read) ∙ h.lps;
-  seated = Every-set (IsSeated p.floor) seats (lp / p.nodes) r seated h.seated;
+  lps = map-set_same (λ (v : ProcessView). v.lp) seats i r q (same ∙ ap (λ (v : ProcessView). v.lp) read) ∙ h.lps;
+  seated = Every-set (IsSeated p.floor) seats i r seated h.seated;
   known =
-      ap (λ (xs : List (Option Message)). set xs (lp / p.nodes) next) h.known
-      ∙ ap (set (nexts_of p.end seats) (lp / p.nodes)) known
-      ∙ sym (map-set (λ (v : ProcessView). first_before p.end v.process.waiting) seats (lp / p.nodes) r);
+      ap (λ (xs : List Standing). set xs i standing) h.known
+      ∙ ap (set (standings_of p.end seats) i) known
+      ∙ sym (map-set (λ (v : ProcessView). standing_of p.end v) seats i r);
 }

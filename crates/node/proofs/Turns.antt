@@ -22,7 +22,9 @@ use Rattle.process.specs.View.{HasRun, LacksRoom, ProcessView}
 use Rattle.queues.specs.Queue.{first_before}
 use Rattle.node.specs.Node.{here, lesser, run_one_here}
 use Rattle.node.specs.Roster.{IsSeated, IsStaffed, Place, processes_of}
-use Rattle.node.specs.Tournament.{least_among}
+use Rattle.node.specs.Seats.{standing_of}
+use Rattle.node.specs.Tournament.{absent, least_among}
+use Rattle.node.specs.declared.standing.Standing.{Standing}
 use Rattle.node.specs.declared.NodeFault.TheVariants as node
 use Rattle.process.specs.declared.ProcessFault.{ProcessFault}
 use Rattle.process.specs.declared.ProcessFault.TheVariants.{BelowFloor, NoMemory, NotMine, NumberLimit, Spent}
@@ -35,17 +37,17 @@ lesser_either (Some x) None = inl refl
 lesser_either (Some x) (Some y) = elim (at_most_total x y) [ inl h ↦ inl (lesser_first x y h) | inr h ↦ inr (lesser_second x y h) ]
 
 -- the least is one of them
-pub record IsOneOf (xs : List (Option Message)) (x : Message) : Type 0 where
+pub record IsOneOf (xs : List Standing) (x : Message) : Type 0 where
   pub at : ℕ
   pub inside : at < length xs
-  pub is : get_or xs at None ≡ Some x
+  pub is : (get_or xs at absent).next ≡ Some x
 
-one_later : (y : Option Message) (xs : List (Option Message)) (x : Message) → IsOneOf xs x → IsOneOf (y ∷ xs) x
+one_later : (y : Standing) (xs : List Standing) (x : Message) → IsOneOf xs x → IsOneOf (y ∷ xs) x
 one_later y xs x h = let l = h.inside in record { at = suc h.at; inside = omega arith; is = h.is }
 
-least_is_one : (xs : List (Option Message)) (x : Message) → least_among xs ≡ Some x → IsOneOf xs x
+least_is_one : (xs : List Standing) (x : Message) → (least_among xs).next ≡ Some x → IsOneOf xs x
 least_is_one [] x e = absurd (none-some x e)
-least_is_one (y ∷ xs) x e = elim (lesser_either y (least_among xs)) [
+least_is_one (y ∷ xs) x e = elim (lesser_either y.next (least_among xs).next) [
   | inl h ↦ record { at = 0; inside = omega arith; is = sym h ∙ e }
   | inr h ↦ one_later y xs x (least_is_one xs x (sym h ∙ e))
 ]
@@ -63,14 +65,14 @@ pub record IsNext (p : Place) (seats : List ProcessView) (x : Message) (q : Proc
   pub there : x.to < p.lps
   pub next : first_before p.end (get_or seats (x.to / p.nodes) q).process.waiting ≡ Some x
 
-next_at : (p : Place) (seats : List ProcessView) (nexts : List (Option Message)) (x : Message) (q : ProcessView) → IsStaffed p seats nexts → IsOneOf nexts x → IsNext p seats x q
-next_at p seats nexts x q h one =
+next_at : (p : Place) (seats : List ProcessView) (standings : List Standing) (x : Message) (q : ProcessView) → IsStaffed p seats standings → IsOneOf standings x → IsNext p seats x q
+next_at p seats standings x q h one =
     let i : ℕ = one.at in
     let inside = one.inside in
-    let len : length nexts ≡ length seats = ap length h.known ∙ length-map seats (λ (v : ProcessView). first_before p.end v.process.waiting) in
+    let len : length standings ≡ length seats = ap length h.known ∙ length-map seats (λ (v : ProcessView). standing_of p.end v) in
     let inside' : i < length seats = omega arith in
     let next : first_before p.end (get_or seats i q).process.waiting ≡ Some x =
-    sym (get_or-map (λ (v : ProcessView). first_before p.end v.process.waiting) seats i q None inside') ∙ ap (λ (xs : List (Option Message)). get_or xs i None) (sym h.known) ∙ one.is in
+    ap (λ (s : Standing). s.next) (sym (get_or-map (λ (v : ProcessView). standing_of p.end v) seats i q absent inside') ∙ ap (λ (xs : List Standing). get_or xs i absent) (sym h.known)) ∙ one.is in
     let seated = Every-get_or (IsSeated p.floor) seats i q inside' h.seated in
     let own : x.to ≡ (get_or seats i q).lp = first_fits (λ (y : Message). y.to ≡ (get_or seats i q).lp) p.end (get_or seats i q).process.waiting x seated.own_waiting next in
     let lp : x.to ≡ get_or (own_lps p.nodes p.node p.lps) i 0 = own ∙ sym (get_or-map (λ (v : ProcessView). v.lp) seats i q 0 inside') ∙ ap (λ xs. get_or xs i 0) h.lps in
@@ -84,10 +86,10 @@ next_at p seats nexts x q h one =
 -- 2. One turn
 
 -- What is read before a turn
-pub record IsTurn (p : Place) (seats : List ProcessView) (nexts : List (Option Message)) (x : Message) (lp : ℕ) (q : ProcessView) : Type 0 where
+pub record IsTurn (p : Place) (seats : List ProcessView) (standings : List Standing) (x : Message) (lp : ℕ) (q : ProcessView) : Type 0 where
   pub lp_is : lp ≡ x.to
-  pub staffed : IsStaffed p seats nexts
-  pub least : least_among nexts ≡ Some x
+  pub staffed : IsStaffed p seats standings
+  pub least : (least_among standings).next ≡ Some x
   pub read : q ≡ get_or seats (lp / p.nodes) q
 
 pub record IsOnTurn (p : Place) (seats : List ProcessView) (x : Message) (q : ProcessView) : Type 0 where
@@ -97,21 +99,21 @@ pub record IsOnTurn (p : Place) (seats : List ProcessView) (x : Message) (q : Pr
   pub read : q ≡ get_or seats (x.to / p.nodes) q
   pub next : first_before p.end q.process.waiting ≡ Some x
 
-pub on_turn : (p : Place) (seats : List ProcessView) (nexts : List (Option Message)) (x : Message) (lp : ℕ) (q : ProcessView) → IsTurn p seats nexts x lp q → IsOnTurn p seats x q
-on_turn p seats nexts x lp q h =
-    let n = next_at p seats nexts x q h.staffed (least_is_one nexts x h.least) in
+pub on_turn : (p : Place) (seats : List ProcessView) (standings : List Standing) (x : Message) (lp : ℕ) (q : ProcessView) → IsTurn p seats standings x lp q → IsOnTurn p seats x q
+on_turn p seats standings x lp q h =
+    let n = next_at p seats standings x q h.staffed (least_is_one standings x h.least) in
     let read : q ≡ get_or seats (x.to / p.nodes) q = subst (λ k. q ≡ get_or seats (k / p.nodes) q) h.lp_is h.read in
     record {
       sits = n.sits;
       there = n.there;
-      at = picked p seats nexts x.to q h.staffed n.sits n.there read;
+      at = picked p seats standings x.to q h.staffed n.sits n.there read;
       read = read;
       next = ap (λ (v : ProcessView). first_before p.end v.process.waiting) read ∙ n.next;
     }
 
 -- the place that a turn reads, before its message is known to have a process there
-pub turn_place : (p : Place) (seats : List ProcessView) (nexts : List (Option Message)) (x : Message) → IsStaffed p seats nexts → least_among nexts ≡ Some x → (x.to % p.nodes ≡ p.node) × (x.to < p.lps)
-turn_place p seats nexts x h e = let n = next_at p seats nexts x nothing h (least_is_one nexts x e) in (n.sits, n.there)
+pub turn_place : (p : Place) (seats : List ProcessView) (standings : List Standing) (x : Message) → IsStaffed p seats standings → (least_among standings).next ≡ Some x → (x.to % p.nodes ≡ p.node) × (x.to < p.lps)
+turn_place p seats standings x h e = let n = next_at p seats standings x nothing h (least_is_one standings x e) in (n.sits, n.there)
   where
     nothing : ProcessView
     nothing = record { lp = 0; floor = 0; spent = false; process = nobody }
@@ -142,23 +144,23 @@ has_run m end x q r out out' did next ran idle = elim (cases_Bool did) [
 
 handled_seated : (m : Meaning) (floor : ℕ) (x : Message) (q r : ProcessView) (out out' : List Signed) → x.to ≡ q.lp → IsSeated floor q → IsHandled m x q r out out' → IsSeated floor r
 handled_seated m floor x q r out out' own h is = subst (IsSeated floor) (sym is.process) (record {
-  floor_is = h.floor_is;
+  from_floor = h.from_floor;
   unspent = h.unspent;
   own_done = handle_done (λ (y : Message). y.to ≡ q.lp) m q.lp x q.process own h.own_done;
   own_waiting = handle_waiting (λ (y : Message). y.to ≡ q.lp) m q.lp x q.process h.own_waiting;
 })
 
-pub turn_ready : (m : Meaning) (p : Place) (seats : List ProcessView) (nexts : List (Option Message)) (x : Message) (lp : ℕ) (q r : ProcessView) (out out' : List Signed) (next : Option Message) → IsTurn p seats nexts x lp q →
-    IsHandled m x q r out out' → next ≡ first_before p.end r.process.waiting → IsStaffed p (set seats (lp / p.nodes) r) (set nexts (lp / p.nodes) next)
-turn_ready m p seats nexts x lp q r out out' next h is known =
-    let t = on_turn p seats nexts x lp q h in
-    subst (λ k. IsStaffed p (set seats (k / p.nodes) r) (set nexts (k / p.nodes) next)) (sym h.lp_is)
-    (staffed_again p seats nexts x.to q r next h.staffed t.read (ap (λ (v : ProcessView). v.lp) is.process) (handled_seated m p.floor x q r out out' (sym t.at.lp_is) t.at.seated is) known)
+pub turn_ready : (m : Meaning) (p : Place) (seats : List ProcessView) (standings : List Standing) (x : Message) (lp : ℕ) (q r : ProcessView) (out out' : List Signed) (standing : Standing) → IsTurn p seats standings x lp q →
+    IsHandled m x q r out out' → standing ≡ standing_of p.end r → IsStaffed p (set seats (lp / p.nodes) r) (set standings (lp / p.nodes) standing)
+turn_ready m p seats standings x lp q r out out' standing h is known =
+    let t = on_turn p seats standings x lp q h in
+    subst (λ k. IsStaffed p (set seats (k / p.nodes) r) (set standings (k / p.nodes) standing)) (sym h.lp_is)
+    (staffed_again p seats standings (x.to / p.nodes) q r standing h.staffed t.read (ap (λ (v : ProcessView). v.lp) is.process) (handled_seated m p.floor x q r out out' (sym t.at.lp_is) t.at.seated is) known)
 
-pub turn_work : (m : Meaning) (p : Place) (seats : List ProcessView) (nexts : List (Option Message)) (x : Message) (lp : ℕ) (q r : ProcessView) (out out' : List Signed) (ran : ℕ) → IsTurn p seats nexts x lp q →
+pub turn_work : (m : Meaning) (p : Place) (seats : List ProcessView) (standings : List Standing) (x : Message) (lp : ℕ) (q r : ProcessView) (out out' : List Signed) (ran : ℕ) → IsTurn p seats standings x lp q →
     IsHandled m x q r out out' → working (processes_of (set seats (lp / p.nodes) r)) out' (ran + 1) ≡ run_one_here m p.nodes x (working (processes_of seats) out ran)
-turn_work m p seats nexts x lp q r out out' ran h is =
-    let t = on_turn p seats nexts x lp q h in
+turn_work m p seats standings x lp q r out out' ran h is =
+    let t = on_turn p seats standings x lp q h in
     let i : ℕ = x.to / p.nodes in
     let qs : List Process = processes_of seats in
     ap (λ k. working (processes_of (set seats (k / p.nodes) r)) out' (ran + 1)) h.lp_is
@@ -171,9 +173,9 @@ turn_work m p seats nexts x lp q r out out' ran h is =
     (is.sent ∙ ap (λ k. out ++ map plus (handling_of m k x q.process).sent) t.at.lp_is ∙ ap (λ (v : Process). out ++ map plus (handling_of m x.to x v).sent) (sym t.at.here))
 
 -- whether the send number has room, told of the process or of the node
-pub room_here : (m : Meaning) (p : Place) (seats : List ProcessView) (nexts : List (Option Message)) (x : Message) (lp : ℕ) (q : ProcessView) (out : List Signed) (ran : ℕ) → IsTurn p seats nexts x lp q →
+pub room_here : (m : Meaning) (p : Place) (seats : List ProcessView) (standings : List Standing) (x : Message) (lp : ℕ) (q : ProcessView) (out : List Signed) (ran : ℕ) → IsTurn p seats standings x lp q →
     has_room m x (here p.nodes (working (processes_of seats) out ran) x.to) ≡ has_room m x q.process
-room_here m p seats nexts x lp q out ran h = ap (has_room m x) (on_turn p seats nexts x lp q h).at.here
+room_here m p seats standings x lp q out ran h = ap (has_room m x) (on_turn p seats standings x lp q h).at.here
 
 pub lacks_room : (m : Meaning) (end : ℕ) (x : Message) (q : Process) → first_before end q.waiting ≡ Some x → LacksRoom m end q → has_room m x q ≡ false
 lacks_room m end x q next h = ap (λ (y : Message). has_room m y q) (sym (same_Some h.message x (sym h.next ∙ next))) ∙ h.room

@@ -7,7 +7,7 @@ use Rattle.model.specs.Meaning.{Meaning}
 use Rattle.model.specs.World.{below}
 use Rattle.process.specs.Process.{Process}
 use Rattle.process.specs.View.{IsDoneInRange, has_early, has_foreign, loaded}
-use Rattle.node.specs.Node.{Work, released, reply_of, sits_on, work_here}
+use Rattle.node.specs.Node.{Work, released, reply_of, run_here, sits_on, start, work_here}
 use Rattle.node.specs.declared.Load.{Load}
 use Rattle.node.specs.declared.NodeFault.{NodeFault}
 use Rattle.node.specs.declared.NodeFault.TheVariants.{BelowFloor, FloorFell, NoMemory, NotMine, NumberLimit, Spent}
@@ -111,6 +111,14 @@ abbrev pub IsAnswered : Meaning → Parcel → Node → Node → Result Reply No
 IsAnswered m parcel old new result =
     ((result ≡ (answer m old parcel).result) × (new ≡ (answer m old parcel).node))
     ⊎ ((refusal old parcel ≡ None) × (result ≡ Err NoMemory) × (new ≡ ended old))
+
+-- A parcel delivers nothing, and the first message that the node would handle has no room for its send numbers: to see
+-- this takes no memory.
+pub record IsLimitedAtOnce (m : Meaning) (parcel : Parcel) (n : Node) : Type 0 where
+  pub accepted : refusal n parcel ≡ None
+  pub empty : parcel.deliver ≡ []
+  pub some : 0 < parcel.budget
+  pub limited : run_here m n.end n.nodes 1 (start n.processes) ≡ None
 
 -- a reply whose numbers lie in their ranges
 pub record IsReplyInRange (reply : Reply) : Type 0 where

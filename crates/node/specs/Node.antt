@@ -1,5 +1,5 @@
 -- A node at work on its own processes: deliveries, turns, collection. Process lp is its number lp / nodes.
-use Rattle.std.specs.Prelude.{ℕ, List, [], ◌∷◌, Option, Some, None, ◌++◌, flat_map, ◌%◌, Bool, nat_eq, if◌then◌else◌, ◌/◌, get_or, ◌+◌, set, map, nat_lt, zero, suc}
+use Rattle.std.specs.Prelude.{ℕ, List, [], ◌∷◌, Option, Some, None, ◌++◌, flat_map, ◌%◌, Bool, nat_eq, if◌then◌else◌, ◌/◌, get_or, ◌+◌, set, map, nat_lt, zero, suc, min}
 use Rattle.eventkey.specs.Message.{Message, is_before}
 use Rattle.eventkey.specs.Signed.{plus}
 use Rattle.eventkey.specs.declared.Signed.{Signed}
@@ -12,6 +12,12 @@ use Rattle.node.specs.declared.Reply.{Reply}
 -- the least time of what waits and of the antimessages of these processes
 abbrev pub low_of : List Process → Option ℕ
 low_of qs = first_time (flat_map (λ (q : Process). q.waiting ++ q.antis) qs)
+
+-- the lesser of two times, where each may be missing
+abbrev pub earliest : Option ℕ → Option ℕ → Option ℕ
+earliest None y = y
+earliest (Some x) None = Some x
+earliest (Some x) (Some y) = Some (min x y)
 
 -- A node at work: all processes (it changes its own), what it sent so far, and how many messages it handled
 pub record Work : Type 0 where

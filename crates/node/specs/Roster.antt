@@ -1,10 +1,9 @@
--- How the roster of a node stands: its processes, each at its place, and the tournament of their next messages.
+-- How the roster of a node stands: its processes, each at its place, and the tournament of what is known of them.
 use Rattle.std.specs.List.{AllByRecursion as Every}
-use Rattle.std.specs.Prelude.{ℕ, Bool, false, List, [], Option, Some, None, map, flat_map, min, if◌then◌else◌, ◌≡◌, ◌≤◌, ◌<◌, ◌⊎◌, ◌^◌}
+use Rattle.std.specs.Prelude.{ℕ, Bool, false, List, [], Some, None, map, if◌then◌else◌, ◌≡◌, ◌≤◌, ◌<◌, ◌⊎◌, ◌^◌}
 use Rattle.eventkey.specs.Message.{Message}
 use Rattle.eventkey.specs.declared.Signed.{Signed}
-use Rattle.process.specs.Process.{Process, fossils_of, release}
-use Rattle.process.specs.declared.Done.{Done}
+use Rattle.process.specs.Process.{Process}
 use Rattle.queues.specs.Record.{messages}
 use Rattle.model.specs.Meaning.{Meaning}
 use Rattle.node.specs.Handling.{Node, after, own_lps}
@@ -14,7 +13,8 @@ use Rattle.node.specs.declared.Parcel.{Parcel}
 use Rattle.node.specs.declared.Reply.{Reply}
 use Rattle.process.specs.View.{ProcessView}
 use Rattle.node.specs.Node.{Work, reply_of, work_here}
-use Rattle.node.specs.Seats.{nexts_of}
+use Rattle.node.specs.Seats.{standings_of}
+use Rattle.node.specs.declared.standing.Standing.{Standing}
 use Rattle.node.specs.declared.roster.Roster.{Roster}
 
 -- what stays while a node works
@@ -28,29 +28,33 @@ pub record Place : Type 0 where
 abbrev pub place_of : Roster → Place
 place_of r = record { node = r.node; nodes = r.nodes; lps = r.lps; end = r.end; floor = r.floor }
 
+-- the same with another floor
+abbrev pub at_floor : ℕ → Place → Place
+at_floor floor p = record { node = p.node; nodes = p.nodes; lps = p.lps; end = p.end; floor = floor }
+
 abbrev pub processes_of : List ProcessView → List Process
 processes_of seats = map (λ (q : ProcessView). q.process) seats
 
 abbrev pub lps_of : List ProcessView → List ℕ
 lps_of seats = map (λ (q : ProcessView). q.lp) seats
 
--- a process of a node that is not spent
+-- a process of a node that is not spent: its floor is the node's when it last let something go
 pub record IsSeated (floor : ℕ) (q : ProcessView) : Type 0 where
-  pub floor_is : q.floor ≡ floor
+  pub from_floor : q.floor ≤ floor
   pub unspent : q.spent ≡ false
   pub own_done : Every (λ (x : Message). x.to ≡ q.lp) (messages q.process.done)
   pub own_waiting : Every (λ (x : Message). x.to ≡ q.lp) q.process.waiting
 
--- the processes of a node that is not spent, and their next messages
-pub record IsStaffed (p : Place) (seats : List ProcessView) (nexts : List (Option Message)) : Type 0 where
+-- the processes of a node that is not spent, and what stands of them in its tournament
+pub record IsStaffed (p : Place) (seats : List ProcessView) (standings : List Standing) : Type 0 where
   pub node : p.node < p.nodes
   pub end : p.end ≤ 2 ^ 40
   pub lps : lps_of seats ≡ own_lps p.nodes p.node p.lps
   pub seated : Every (IsSeated p.floor) seats
-  pub known : nexts ≡ nexts_of p.end seats
+  pub known : standings ≡ standings_of p.end seats
 
 abbrev pub IsReady : Roster → Type 0
-IsReady r = IsStaffed (place_of r) r.processes.items r.nexts
+IsReady r = IsStaffed (place_of r) r.processes.items r.standings
 
 -- a node at work
 abbrev pub work_of : Roster → List Signed → ℕ → Work
@@ -70,16 +74,3 @@ pub record IsWorked (m : Meaning) (parcel : Parcel) (old new : Node) (reply : Re
 -- a parcel that is not refused fails: there is no memory, or a send number would pass its limit
 abbrev pub Fails : Meaning → Parcel → Node → NodeFault → Type 0
 Fails m parcel old fault = (fault ≡ NoMemory) ⊎ ((fault ≡ NumberLimit) × (work_here m old.end old.nodes parcel old.processes ≡ None))
-
--- the lesser of two times, where each may be missing
-abbrev pub earliest : Option ℕ → Option ℕ → Option ℕ
-earliest None y = y
-earliest (Some x) None = Some x
-earliest (Some x) (Some y) = Some (min x y)
-
--- a process when it has let go of what is below the floor
-abbrev pub collected : ℕ → ProcessView → ProcessView
-collected floor q = record { lp = q.lp; floor = floor; spent = q.spent; process = release floor q.process }
-
-abbrev pub fossils_among : ℕ → List ProcessView → List Done
-fossils_among floor seats = flat_map (λ (q : ProcessView). fossils_of floor q.process) seats

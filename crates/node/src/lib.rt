@@ -8,6 +8,7 @@ ghost use Rattle.node.specs.declared.NodeFault.TheVariants.{NoMemory};
 
 mod node;
 mod roster;
+mod standing;
 #[cfg(test)]
 mod tests;
 mod tournament;

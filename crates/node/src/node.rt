@@ -3,10 +3,11 @@
 ghost use Rattle.std.specs.Prelude.{◌≡◌, ◌<◌, ◌≤◌, ◌^◌, ◌↔◌, ◌⊎◌, ◌==◌, Some, None, Err, IfOk, IfErr, IsTrue, length, map, nat_lt, not, true, false};
 ghost use Rattle.std.specs.List.{AllByRecursion as Every};
 ghost use Rattle.node.specs.Handling.{IsInRange, own_lps};
-ghost use Rattle.node.specs.Seats.{nexts_of, seat_of};
-ghost use Rattle.node.specs.declared.NodeFault.TheVariants.{NoMemory};
+ghost use Rattle.node.specs.Seats.{seat_of, standings_of};
+ghost use Rattle.node.specs.declared.NodeFault.TheVariants.{NoMemory, NumberLimit};
 
 use crate::roster::Roster;
+use crate::standing::Standing;
 use crate::tournament::Tournament;
 use crate::{Load, NodeFault, Parcel, Part, Reply};
 use eventkey::Message;
@@ -36,7 +37,7 @@ impl std::marker::Model for Node {
 }
 
 impl Node {
-    ghost use Rattle.node.specs.Handling.{IsAnswered, IsLoaded, IsReplyInRange, refusal};
+    ghost use Rattle.node.specs.Handling.{IsAnswered, IsLimitedAtOnce, IsLoaded, IsReplyInRange, refusal};
 
     /// The node of a model that a load tells of.
     ///
@@ -64,7 +65,7 @@ impl Node {
             floor,
             parts,
         } = load;
-        let (processes, nexts) = seat_all(alloc, parts.into_vec(), end, floor)?;
+        let (processes, standings) = seat_all(alloc, parts.into_vec(), end, floor)?;
         Ok(Node {
             spent: false,
             roster: Roster {
@@ -75,7 +76,7 @@ impl Node {
                 end,
                 floor,
                 processes,
-                nexts,
+                standings,
             },
         })
     }
@@ -85,11 +86,17 @@ impl Node {
     ///
     /// Spent where the node is; FloorFell where the parcel's floor is before the node's; else the fault of the first
     /// delivery that has one: NotMine, or BelowFloor by the floor that the node had before. These leave the node as it
-    /// was. After want of memory, and after NumberLimit, the node is spent.
+    /// was. After want of memory, and after NumberLimit, the node is spent. The number limit may be met after memory is
+    /// wanted, but not where the parcel delivers nothing and the first message has no room.
+    ///
+    /// It costs the deliveries, the handlings and the handlings let go, each with the logarithm of the node's processes, and
+    /// a look at what stands of each process to find what is to be let go.
     pub fn handle<M: Simulated>(&mut self, model: &M, parcel: Parcel) -> Result<Reply, NodeFault>
         requires { self.old.spent ≡ false → (M.meaning model.now).lps ≡ self.old.lps }
         ensures answered { IsAnswered (M.meaning model.now) parcel self.old self.new result }
         ensures range { IfOk result IsReplyInRange }
+        ensures limit { IsLimitedAtOnce (M.meaning model.now) parcel self.old → result ≡ Err NumberLimit }
+        ensures lps { self.new.lps ≡ self.old.lps }
     {
         if let Some(fault) = self.refusal(&parcel) {
             return Err(fault);
@@ -183,7 +190,7 @@ fn are_from(floor: u64, pending: &[Message]) -> bool
     true
 }
 
-/// The processes of these parts, and their next messages before the end.
+/// The processes of these parts, and what stands of them.
 fn seat_all(
     alloc: Global,
     parts: Vec<Part>,
@@ -195,17 +202,17 @@ fn seat_all(
     requires own { Every (λ p. Every (λ x. x.to ≡ p.lp) p.pending) parts.items }
     requires late { Every (λ p. Every (λ x. floor ≤ x.time) p.pending) parts.items }
     ensures processes { IfOk result (λ seats. seats.0.items ≡ map (seat_of floor) parts.items) }
-    ensures nexts { IfOk result (λ seats. seats.1 ≡ nexts_of end (map (seat_of floor) parts.items)) }
+    ensures standings { IfOk result (λ seats. seats.1 ≡ standings_of end (map (seat_of floor) parts.items)) }
     ensures memory { IfErr result (λ fault. fault ≡ NoMemory) }
 {
     let mut processes = Vec::with_capacity(alloc, parts.len())?;
-    let mut nexts = Tournament::new(alloc, parts.len())?;
+    let mut standings = Tournament::new(alloc, parts.len())?;
     for part in parts {
         let process = seated(alloc, part, floor)?;
-        nexts.set(processes.len(), process.next(end));
+        standings.set(processes.len(), Standing::of(&process, end));
         processes.push(process)?;
     }
-    Ok((processes, nexts))
+    Ok((processes, standings))
 }
 
 /// The process of a part whose messages are for it, and not before the floor.

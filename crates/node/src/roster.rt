@@ -1,15 +1,16 @@
-// The processes of a node, and which of them has the least message to handle.
+// The processes of a node, and what is known of them without a visit.
 
-ghost use Rattle.std.specs.Prelude.{◌≡◌, ◌≤◌, ◌<◌, ◌+◌, ◌⊎◌, ℕ, Option, Some, None, [], ◌^◌, OnOk, OnErr, IfOk, IfErr, IfSome, MatchOption, flat_map, map, true, false};
+ghost use Rattle.std.specs.Prelude.{◌≡◌, ◌≤◌, ◌<◌, ◌+◌, ◌++◌, ◌⊎◌, ℕ, Option, Some, None, Err, [], IsOk, OnOk, OnErr, IfOk, IfErr, MatchOption, get_or, length, set, true, false};
 ghost use Rattle.std.specs.List.{AllByRecursion as Every};
-ghost use Rattle.process.specs.Process.{has_room};
+ghost use Rattle.process.specs.Process.{fossils_of, has_room, nobody, release};
 ghost use Rattle.process.specs.View.{IsDoneInRange};
 ghost use Rattle.node.specs.Handling.{IsReplyInRange, after, first_fault, is_own};
-ghost use Rattle.node.specs.Node.{deliver_here, deliver_one_here, here, low_of, reply_of, run_here, run_one_here};
-ghost use Rattle.node.specs.Roster.{Fails, IsReady, IsWorked, earliest, node_of, place_of, processes_of, work_of};
+ghost use Rattle.node.specs.Node.{deliver_here, deliver_one_here, here, reply_of, run_here, run_one_here, start};
+ghost use Rattle.node.specs.Roster.{Fails, IsReady, IsStaffed, IsWorked, at_floor, node_of, place_of, processes_of, work_of};
 ghost use Rattle.node.specs.Tournament.{least_among};
 ghost use Rattle.node.specs.declared.NodeFault.TheVariants.{NoMemory, NumberLimit};
 
+use crate::standing::Standing;
 use crate::tournament::Tournament;
 use crate::{NodeFault, Parcel, Reply};
 use eventkey::{Listed, Message, Signed};
@@ -17,9 +18,9 @@ use model::Model as Simulated;
 use process::{Done, Process};
 use std::alloc::Global;
 
-/// The processes of one node, process lp at place lp / nodes, and the tournament of their next messages before the end.
+/// The processes of one node, process lp at place lp / nodes, and the tournament of what stands of them.
 #[derive(Drop)]
-pub struct Roster {
+pub(crate) struct Roster {
     pub alloc: Global,
     pub node: u32,
     pub nodes: u32,
@@ -27,12 +28,12 @@ pub struct Roster {
     pub end: u64,
     pub floor: u64,
     pub processes: Vec<Process>,
-    pub nexts: Tournament,
+    pub standings: Tournament,
 }
 
 impl Roster {
     /// Whether process `lp` is one of the node's.
-    pub fn is_own(&self, lp: u32) -> bool
+    pub(crate) fn is_own(&self, lp: u32) -> bool
         requires { self.now.node < self.now.nodes }
         ensures { result ≡ is_own (node_of false self.now) lp }
     {
@@ -40,7 +41,7 @@ impl Roster {
     }
 
     /// Why the first delivery at fault is refused, if there is one.
-    pub fn first_fault(&self, deliveries: &[Signed]) -> Option<NodeFault>
+    pub(crate) fn first_fault(&self, deliveries: &[Signed]) -> Option<NodeFault>
         requires { self.now.node < self.now.nodes }
         ensures { result ≡ first_fault (node_of false self.now) deliveries.now }
     {
@@ -56,7 +57,11 @@ impl Roster {
     }
 
     /// Hands a delivery to its process.
-    pub fn deliver(&mut self, delivery: &Signed, out: &mut Vec<Signed>) -> Result<(), NodeFault>
+    pub(crate) fn deliver(
+        &mut self,
+        delivery: &Signed,
+        out: &mut Vec<Signed>,
+    ) -> Result<(), NodeFault>
         requires ready { IsReady self.old }
         requires own { is_own (node_of false self.old) delivery.now.message.to ≡ true }
         requires late { self.old.floor ≤ delivery.now.message.time }
@@ -68,13 +73,13 @@ impl Roster {
         let place = (delivery.message.to() / self.nodes) as usize;
         let process = &mut self.processes[place];
         process.deliver(*delivery, out)?;
-        let next = process.next(self.end);
-        self.nexts.set(place, next);
+        let standing = Standing::of(process, self.end);
+        self.standings.set(place, standing);
         Ok(())
     }
 
     /// Hands all deliveries over, in their order.
-    pub fn deliver_all(
+    pub(crate) fn deliver_all(
         &mut self,
         deliveries: &[Signed],
         out: &mut Vec<Signed>,
@@ -85,6 +90,7 @@ impl Roster {
         ensures place { place_of self.new ≡ place_of self.old }
         ensures work { (ran : ℕ) → OnOk result (work_of self.new out.new.items ran ≡ deliver_here self.old.nodes deliveries.now (work_of self.old out.old.items ran)) }
         ensures memory { IfErr result (λ fault. fault ≡ NoMemory) }
+        ensures none { deliveries.now ≡ [] → IsOk result }
     {
         for delivery in deliveries {
             self.deliver(delivery, out)?;
@@ -93,7 +99,7 @@ impl Roster {
     }
 
     /// Handles the least message of the node.
-    pub fn run_one<M: Simulated>(
+    pub(crate) fn run_one<M: Simulated>(
         &mut self,
         model: &M,
         message: &Message,
@@ -101,23 +107,24 @@ impl Roster {
     ) -> Result<(), NodeFault>
         requires ready { IsReady self.old }
         requires lps { (M.meaning model.now).lps ≡ self.old.lps }
-        requires least { least_among self.old.nexts ≡ Some message.now }
+        requires least { (least_among self.old.standings).next ≡ Some message.now }
         ensures ready { OnOk result (IsReady self.new) }
         ensures place { place_of self.new ≡ place_of self.old }
         ensures work { (ran : ℕ) → OnOk result (work_of self.new out.new.items (ran + 1) ≡ run_one_here (M.meaning model.now) self.old.nodes message.now (work_of self.old out.old.items ran)) }
         ensures room { (ran : ℕ) → OnOk result (has_room (M.meaning model.now) message.now (here self.old.nodes (work_of self.old out.old.items ran) message.now.to) ≡ true) }
         ensures causes { (ran : ℕ) → IfErr result (λ fault. (fault ≡ NoMemory) ⊎ ((fault ≡ NumberLimit) × (has_room (M.meaning model.now) message.now (here self.old.nodes (work_of self.old out.old.items ran) message.now.to) ≡ false))) }
+        ensures limit { (ran : ℕ) → has_room (M.meaning model.now) message.now (here self.old.nodes (work_of self.old out.old.items ran) message.now.to) ≡ false → result ≡ Err NumberLimit }
     {
         let place = (message.to() / self.nodes) as usize;
         let process = &mut self.processes[place];
         process.run_one(model, self.end, out)?;
-        let next = process.next(self.end);
-        self.nexts.set(place, next);
+        let standing = Standing::of(process, self.end);
+        self.standings.set(place, standing);
         Ok(())
     }
 
     /// Handles up to so many times the least message of the node, and answers how often it did.
-    pub fn run<M: Simulated>(
+    pub(crate) fn run<M: Simulated>(
         &mut self,
         model: &M,
         budget: u32,
@@ -129,9 +136,10 @@ impl Roster {
         ensures place { place_of self.new ≡ place_of self.old }
         ensures work { IfOk result (λ ran. run_here (M.meaning model.now) self.old.end self.old.nodes budget (work_of self.old out.old.items 0) ≡ Some (work_of self.new out.new.items ran)) }
         ensures causes { IfErr result (λ fault. (fault ≡ NoMemory) ⊎ ((fault ≡ NumberLimit) × (run_here (M.meaning model.now) self.old.end self.old.nodes budget (work_of self.old out.old.items 0) ≡ None))) }
+        ensures limit { 0 < budget → run_here (M.meaning model.now) self.old.end self.old.nodes 1 (work_of self.old out.old.items 0) ≡ None → result ≡ Err NumberLimit }
     {
         for ran in 0..budget {
-            let Some(message) = self.nexts.least() else {
+            let Some(message) = self.standings.least().next else {
                 return Ok(ran);
             };
             self.run_one(model, &message, out)?;
@@ -139,8 +147,33 @@ impl Roster {
         Ok(budget)
     }
 
-    /// Takes what is below the floor, in ticks, out of all processes.
-    pub fn collect(&mut self, floor: u64) -> Result<Vec<Done>, NodeFault>
+    /// Takes what is below the floor, in ticks, out of the process at this place, to the end of `fossils`.
+    fn collect_at(
+        &mut self,
+        place: usize,
+        floor: u64,
+        fossils: &mut Vec<Done>,
+    ) -> Result<(), NodeFault>
+        requires staffed { IsStaffed (at_floor floor (place_of self.old)) self.old.processes.items self.old.standings }
+        requires there { place < length self.old.processes.items }
+        ensures staffed { OnOk result (IsStaffed (at_floor floor (place_of self.old)) self.new.processes.items self.new.standings) }
+        ensures place { place_of self.new ≡ place_of self.old }
+        ensures processes { OnOk result (processes_of self.new.processes.items ≡ set (processes_of self.old.processes.items) place (release floor (get_or (processes_of self.old.processes.items) place nobody))) }
+        ensures fossils { OnOk result (fossils.new.items ≡ fossils.old.items ++ fossils_of floor (get_or (processes_of self.old.processes.items) place nobody)) }
+        ensures range { Every IsDoneInRange fossils.old.items → OnOk result (Every IsDoneInRange fossils.new.items) }
+        ensures memory { IfErr result (λ fault. fault ≡ NoMemory) }
+    {
+        let process = &mut self.processes[place];
+        let mut gone = process.collect(floor)?;
+        let standing = Standing::of(process, self.end);
+        self.standings.set(place, standing);
+        fossils.append(&mut gone)?;
+        Ok(())
+    }
+
+    /// Takes what is below the floor, in ticks, out of all processes. It visits those that have something there, and looks at
+    /// what stands of the others.
+    fn collect(&mut self, floor: u64) -> Result<Vec<Done>, NodeFault>
         requires ready { IsReady self.old }
         requires floor { self.old.floor ≤ floor }
         ensures ready { OnOk result (IsReady self.new) }
@@ -151,29 +184,22 @@ impl Roster {
         ensures memory { IfErr result (λ fault. fault ≡ NoMemory) }
     {
         let mut fossils = Vec::new(self.alloc);
-        for process in self.processes.iter_mut() {
-            let mut gone = process.collect(floor)?;
-            fossils.append(&mut gone)?;
+        let mut place = 0;
+        while let Some(due) = self.standings.first_due(place, floor) {
+            self.collect_at(due, floor, &mut fossils)?;
+            place = due + 1;
         }
         self.floor = floor;
         Ok(fossils)
     }
 
-    /// The least time, in ticks, of what waits at the node, antimessages too.
-    pub fn low(&self) -> Option<u64>
-        ensures low { result ≡ low_of (processes_of self.now.processes.items) }
-        ensures range { IfSome result (λ time. time < 2 ^ 41) }
-    {
-        let mut low = None;
-        for process in &self.processes {
-            low = earliest(low, process.low());
-        }
-        low
-    }
-
     /// Handles a parcel: all deliveries in their order, then up to its budget of messages, then it collects what is below
     /// the parcel's floor.
-    pub fn handle<M: Simulated>(&mut self, model: &M, parcel: Parcel) -> Result<Reply, NodeFault>
+    pub(crate) fn handle<M: Simulated>(
+        &mut self,
+        model: &M,
+        parcel: Parcel,
+    ) -> Result<Reply, NodeFault>
         requires ready { IsReady self.old }
         requires lps { (M.meaning model.now).lps ≡ self.old.lps }
         requires accepted { first_fault (node_of false self.old) parcel.deliver ≡ None }
@@ -183,6 +209,7 @@ impl Roster {
         ensures range { IfOk result IsReplyInRange }
         ensures place { OnErr result (place_of self.new ≡ place_of self.old) }
         ensures failed { IfErr result (λ fault. Fails (M.meaning model.now) parcel (node_of false self.old) fault) }
+        ensures limit { parcel.deliver ≡ [] → 0 < parcel.budget → run_here (M.meaning model.now) self.old.end self.old.nodes 1 (start (processes_of self.old.processes.items)) ≡ None → result ≡ Err NumberLimit }
     {
         let Parcel {
             deliver,
@@ -195,20 +222,9 @@ impl Roster {
         let fossils = self.collect(floor)?;
         Ok(Reply {
             out: Listed::from_vec(out),
-            low: self.low(),
+            low: self.standings.least().low,
             fossils: Listed::from_vec(fossils),
             ran,
         })
-    }
-}
-
-/// The lesser of two times, where each may be missing.
-fn earliest(one: Option<u64>, other: Option<u64>) -> Option<u64>
-    ensures { result ≡ earliest one other }
-{
-    match (one, other) {
-        (Some(x), Some(y)) => Some(x.min(y)),
-        (Some(x), None) => Some(x),
-        (None, rest) => rest,
     }
 }

@@ -1,24 +1,24 @@
-// The least of the next messages of many processes, known at any time.
+// The least of what stands of many processes, known at any time.
 
-ghost use Rattle.std.specs.Prelude.{◌≡◌, ◌<◌, ◌^◌, length, set, replicate, None, IfOk};
-ghost use Rattle.node.specs.Node.{lesser};
+ghost use Rattle.std.specs.Prelude.{◌≡◌, ◌<◌, ◌≤◌, ◌^◌, ℕ, length, set, get_or, replicate, true, false, IfOk, MatchOption};
+ghost use Rattle.node.specs.Seats.{is_due};
 
-use eventkey::Message;
+use crate::standing::Standing;
 use std::alloc::{AllocError, Global};
 
-/// A tree of matches between messages: its leaves are the next messages of processes, and each cell above them has the
-/// lesser of the two below it, so that a change of one leaf plays one match a level again.
+/// A tree of matches: its leaves are the standings of processes, and each cell above them has the lesser of the two below
+/// it, part by part, so that a change of one leaf plays one match a level again.
 #[derive(Drop)]
-pub struct Tournament {
+pub(crate) struct Tournament {
     leaves: usize,
-    cells: Vec<Option<Message>>,
+    cells: Vec<Standing>,
 }
 
 impl std::marker::Model for Tournament {
-    ghost use Rattle.std.specs.Prelude.{List, Option};
-    ghost use Rattle.eventkey.specs.Message.{Message};
+    ghost use Rattle.std.specs.Prelude.{List};
+    ghost use Rattle.node.specs.declared.standing.Standing.{Standing};
 
-    ghost Value = { List (Option Message) };
+    ghost Value = { List Standing };
 
     ghost use Rattle.node.specs.Tournament.{leaves_of, IsTournament};
 
@@ -28,50 +28,55 @@ impl std::marker::Model for Tournament {
 }
 
 impl Tournament {
-    ghost use Rattle.node.specs.Tournament.{least_among};
+    ghost use Rattle.node.specs.Tournament.{IsFirstDue, IsLowInRange, IsQuiet, absent, least_among};
 
-    /// A tournament of so many leaves, none of which has a message.
-    pub fn new(alloc: Global, leaves: usize) -> Result<Tournament, AllocError>
+    /// A tournament of so many leaves, at none of which anything stands.
+    pub(crate) fn new(alloc: Global, leaves: usize) -> Result<Tournament, AllocError>
         requires { leaves < 2 ^ 32 }
-        ensures { IfOk result (λ t. t ≡ replicate leaves None) }
+        ensures { IfOk result (λ t. t ≡ replicate leaves absent) }
     {
         let mut cells = Vec::new(alloc);
-        cells.resize(2 * leaves, None)?;
+        cells.resize(2 * leaves, Standing::ABSENT)?;
         Ok(Tournament { leaves, cells })
     }
 
-    /// Gives a leaf another message. It takes no memory.
-    pub fn set(&mut self, leaf: usize, message: Option<Message>)
-        requires { leaf < length self.old }
-        ensures { self.new ≡ set self.old leaf message }
+    /// Gives a leaf another standing. It takes no memory, and costs the logarithm of the leaves.
+    pub(crate) fn set(&mut self, leaf: usize, standing: Standing)
+        requires inside { leaf < length self.old }
+        requires range { IsLowInRange standing }
+        ensures { self.new ≡ set self.old leaf standing }
     {
         let mut cell = self.leaves + leaf;
-        self.cells[cell] = message;
+        self.cells[cell] = standing;
         while cell > 1 {
             cell /= 2;
-            self.cells[cell] = earlier(self.cells[2 * cell], self.cells[2 * cell + 1]);
+            let winner = self.cells[2 * cell].meet(&self.cells[2 * cell + 1]);
+            self.cells[cell] = winner;
         }
     }
 
-    /// The least message of all leaves.
-    pub fn least(&self) -> Option<Message>
-        ensures { result ≡ least_among self.now }
+    /// The least of all leaves, part by part. It takes no memory.
+    pub(crate) fn least(&self) -> Standing
+        ensures least { result ≡ least_among self.now }
+        ensures range { IsLowInRange result }
     {
         if self.leaves == 0 {
-            None
+            Standing::ABSENT
         } else {
             self.cells[1]
         }
     }
-}
 
-/// The message that comes first.
-fn earlier(one: Option<Message>, other: Option<Message>) -> Option<Message>
-    ensures { result ≡ lesser one other }
-{
-    match (one, other) {
-        (Some(x), Some(y)) => if y.is_before(&x) { Some(y) } else { Some(x) },
-        (Some(x), None) => Some(x),
-        (None, rest) => rest,
+    /// The first leaf from this one on whose oldest time is below the floor, in ticks, if there is one. It takes no memory, and
+    /// looks at the leaves up to that one.
+    pub(crate) fn first_due(&self, from: usize, floor: u64) -> Option<usize>
+        ensures { MatchOption result (IsQuiet floor self.now from (length self.now)) (λ due. IsFirstDue floor self.now from due) }
+    {
+        for leaf in from..self.leaves {
+            if self.cells[self.leaves + leaf].is_due(floor) {
+                return Some(leaf);
+            }
+        }
+        None
     }
 }

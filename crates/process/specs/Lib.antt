@@ -1,5 +1,8 @@
-pub mod Inside
+-- For callers: one logical process, what its calls answer and leave, and what it keeps true
 pub mod Process
-pub mod Ring
-pub mod Told
 pub mod View
+pub mod Told
+-- Inside: how the code keeps a process
+pub mod Inside
+-- For tests: a ring of three processes
+pub mod Ring

@@ -4,6 +4,7 @@ ghost use Rattle.std.specs.Prelude.{◌≡◌, ◌≢◌, ◌↔◌, ◌<◌, �
 ghost use Rattle.std.specs.List.{AllByRecursion as Every};
 ghost use Rattle.model.specs.Meaning.{Meaning};
 ghost use Rattle.queues.specs.Queue.{first_before, first_time};
+ghost use Rattle.queues.specs.Record.{first_handled};
 ghost use Rattle.process.specs.Process.{arrive, fossils_of, number_after, release, state_after, taken_back};
 ghost use Rattle.process.specs.Told.{IsToldFold};
 ghost use Rattle.process.specs.View.{HasDone, HasRun, IsDoneInRange, IsRefused, IsSound, LacksRoom, has_early, has_foreign, loaded};
@@ -200,6 +201,16 @@ impl Process {
         ensures range { IfSome result (λ time. time < 2 ^ 41) }
     {
         self.queue.low()
+    }
+
+    /// The time, in ticks, of the earliest handling that the process keeps; none where it keeps none. It takes no memory.
+    pub fn oldest(&self) -> Option<u64>
+        ensures { result ≡ first_handled self.now.process.done }
+    {
+        match self.history.first() {
+            Some(record) => Some(record.message.time()),
+            None => None,
+        }
     }
 
     /// Handles the least waiting message, if its time is below `end`, in ticks, and appends what it sends to `out`.

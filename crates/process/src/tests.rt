@@ -63,7 +63,8 @@ fn minus(message: Message) -> Signed {
 
 /// Process 1 in state 0, with send number 0 and floor 0, for which nothing waits.
 fn load(alloc: Global) -> Result<Process, Fail>
-    ensures { IfOk result (λ p. p.lp ≡ 1) }
+    ensures lp { IfOk result (λ p. p.lp ≡ 1) }
+    ensures floor { IfOk result (λ p. p.floor ≡ 0) }
 {
     let mut words = Words::new(alloc);
     words.push_reserved(0);
@@ -78,7 +79,8 @@ fn deliver(
     signed: Signed,
     wanted: Option<Signed>,
 ) -> Result<(), Fail>
-    ensures { process.new.lp ≡ process.old.lp }
+    ensures lp { process.new.lp ≡ process.old.lp }
+    ensures floor { process.new.floor ≡ process.old.floor }
 {
     let mut out = Vec::new(alloc);
     process.deliver(signed, &mut out)?;
@@ -90,7 +92,8 @@ fn deliver(
 /// One message below 10 is handled, and exactly this goes out.
 fn run(rt: &impl Abort, alloc: Global, process: &mut Process, wanted: Signed) -> Result<(), Fail>
     requires { process.old.lp < 3 }
-    ensures { process.new.lp ≡ process.old.lp }
+    ensures lp { process.new.lp ≡ process.old.lp }
+    ensures floor { process.new.floor ≡ process.old.floor }
 {
     let mut out = Vec::new(alloc);
     let ran = process.run_one(&Ring, 10, &mut out)?;
@@ -113,7 +116,8 @@ fn look(process: &Process) -> (u64, u64, usize, usize, usize) {
 
 /// The process after it handled A, the message of time 5.
 fn after_a(rt: &impl Abort, alloc: Global) -> Result<Process, Fail>
-    ensures { IfOk result (λ p. p.lp ≡ 1) }
+    ensures lp { IfOk result (λ p. p.lp ≡ 1) }
+    ensures floor { IfOk result (λ p. p.floor ≡ 0) }
 {
     let a = Message::new(5, 0, 1, 1, 0, 1)?;
     let mut process = load(alloc)?;
@@ -232,15 +236,14 @@ fn collects_with_the_state_after(rt: HostRuntime) -> Result<(), Fail> {
         &mut process,
         plus(Message::new(10, 1, 1, 2, 7, 1)?),
     )?;
-    if process.floor() > 6 {
-        return Ok(());
-    }
+    assert_eq!(rt; process.oldest(), Some(5));
     let fossils = process.collect(6)?;
     assert_eq!(rt; fossils.len(), 1);
     for fossil in fossils.as_slice() {
         is_told(&rt, fossil, (5, 1, 1));
     }
     assert_eq!(rt; process.floor(), 6);
+    assert_eq!(rt; process.oldest(), Some(8));
     assert_eq!(rt; look(&process), (2, 2, 1, 0, 0));
     Ok(())
 }
@@ -394,9 +397,6 @@ fn run_one_refused_memory_leaves_it_spent(rt: HostRuntime) -> Result<(), Fail> {
 #[test]
 fn collect_refused_memory_leaves_it_spent(rt: HostRuntime) -> Result<(), Fail> {
     let mut process = after_a(&rt, rt.alloc())?;
-    if process.floor() > 6 {
-        return Ok(());
-    }
     match process.collect(6) {
         Ok(fossils) => assert_eq!(rt; fossils.len(), 1),
         Err(fault) => {

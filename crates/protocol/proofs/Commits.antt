@@ -24,7 +24,7 @@ use Rattle.protocol.proofs.Gathered.{before_is_early, filter_swap, length-number
 use Rattle.protocol.specs.Picture.{IsProcessInRange, Picture, floor_at, gvt, messages_told, node_of, nodes_of, process_at, processes_of, sent_told, told_by, travelling}
 use Rattle.protocol.specs.Moves.{Commit, after_messages, commit, committed, merged, move, numbers_told, states_told, told_before, told_from}
 use Rattle.protocol.specs.Sound.{IsSoundPicture, IsSystem}
-use Rattle.protocol.specs.Laws.{CommitIsByWhatWasTold, CommitIsSequential, CommitsTellTheNextEvents, IsByWhatWasTold, MayCommit}
+use Rattle.protocol.specs.Laws.{CommitIsByWhatWasTold, CommitIsSequential, CommitsTellTheNextEvents, IsByWhatWasTold, MayCommit, SystemsMayCommit}
 
 below_least_time : (c t : ℕ) (xs : List Message) → c ≤ least_time t xs → (c ≤ t) × Every (λ (x : Message). c ≤ x.time) xs
 below_least_time c t [] h = (h, tt)
@@ -104,7 +104,9 @@ log_after m w [] = sym (append-nil w.log)
 log_after m w (x ∷ xs) = log_after m (handled m w x (remove_one x w.pending)) xs ∙ append_assoc w.log (x ∷ []) xs
 
 pub commit_is_sequential : CommitIsSequential
-commit_is_sequential m end c p law short may =
+commit_is_sequential m end c p may =
+    let law = may.lawful in
+    let short = may.short in
     let xs : List Message = merged c p.gathered in
     let d = done m end c p law short may in
     let log = log_after m p.front xs in
@@ -142,7 +144,9 @@ commit_is_sequential m end c p law short may =
 -- 3. By what was told
 
 pub commit_is_by_told : CommitIsByWhatWasTold
-commit_is_by_told m end c p law short may =
+commit_is_by_told m end c p may =
+    let law = may.lawful in
+    let short = may.short in
     let xs : List Message = merged c p.gathered in
     let ds : List Done = told_before c p.gathered in
     let d = done m end c p law short may in
@@ -179,8 +183,10 @@ least_floor-under t g [] some h = absurd (omega arith)
 least_floor-under t g (f ∷ fs) some h = let a = h.0 in omega (arith, least_floor-le (min t f) fs)
 
 -- at any time from the front's on that every node has answered
-pub may_commit : (m : Meaning) (end c : ℕ) (p : Picture) → IsSoundPicture m end p → p.front.time ≤ c → c ≤ least_floor end p.floors → MayCommit m end c p
-may_commit m end c p h later answered = record {
+pub systems_may_commit : SystemsMayCommit
+systems_may_commit m end c p system later answered = let h = system.sound in record {
+  lawful = system.lawful;
+  short = system.short;
   seated = h.seated;
   in_range = h.in_range;
   told = h.told;
@@ -201,7 +207,7 @@ module _ (m : Meaning) (end : ℕ) (p : Picture) (system : IsSystem m end p) whe
   sound_at : (c : ℕ) → p.front.time ≤ c → c ≤ least_floor end p.floors → IsSoundPicture m end (commit m c p)
   sound_at c later answered =
       let h = system.sound in
-      let is = commit_is_sequential m end c p system.lawful system.short (may_commit m end c p h later answered) in
+      let is = commit_is_sequential m end c p (systems_may_commit m end c p system later answered) in
       record {
         front = is.front;
         in_range = is.in_range;
@@ -229,9 +235,9 @@ sound_commit m end p p' system e =
 pub commits_tell : CommitsTellTheNextEvents
 commits_tell m end p system less =
     let c = least_floor end p.floors in
-    let may = may_commit m end c p system.sound (omega arith) (omega arith) in
-    let is = commit_is_sequential m end c p system.lawful system.short may in
-    let by = commit_is_by_told m end c p system.lawful system.short may in
+    let may = systems_may_commit m end c p system (omega arith) (omega arith) in
+    let is = commit_is_sequential m end c p may in
+    let by = commit_is_by_told m end c p may in
     let e : committed m end p ≡ commit m c p = cond-true (nat_lt p.front.time c) (commit m c p) p (lt-ltb p.front.time c less) in
     record {
       front = subst (λ (q : Picture). IsUpto m end c q.front) (sym e) is.front;

@@ -1,12 +1,10 @@
 -- What a move answers is what it did.
-use Rattle.std.proofs.Common.{◌≡◌, ℕ, suc, ◌+◌, ◌<◌, ◌++◌, ◌∙◌, Bool, true, false, cond, List, [], ◌∷◌, Option, None, Some, flat_map, length, map, nat_lt, get_or, option_map, refl, ap, sym, subst, arith}
+use Rattle.std.proofs.Common.{◌≡◌, ℕ, ◌+◌, ◌∙◌, Bool, true, false, cond, List, [], Option, None, Some, flat_map, length, nat_lt, get_or, option_map, refl, ap, subst, arith}
 use Rattle.std.specs.Prelude.{is_some}
-use Rattle.std.proofs.lemmas.Bool.{cond_both, ltb-true}
+use Rattle.std.proofs.lemmas.Bool.{ltb-true}
 use Rattle.std.proofs.lemmas.List.{length-append, length-map}
 use Rattle.std.proofs.lemmas.Option.{none-some, same_Some}
-use Rattle.eventkey.specs.Bag.{add, add_all}
-use Rattle.eventkey.specs.Message.{Message}
-use Rattle.model.proofs.Heaps.{length-add}
+use Rattle.model.proofs.Heaps.{length-add_all}
 use Rattle.model.specs.Meaning.{Meaning}
 use Rattle.process.specs.Process.{Process, fossils_of}
 use Rattle.process.specs.declared.Done.{Done}
@@ -19,10 +17,6 @@ use Rattle.protocol.specs.declared.Answer.TheVariants.{AlreadyAt, Checkpointed, 
 use Rattle.protocol.specs.Laws.{MovesAnswer, Tells}
 use Rattle.protocol.specs.Moves.{Checkpoint, Commit, Move, Post, Take, answer_of, answered, can_post, commit, commit_answer, committed, merged, move, posted, take_answer, take_from, told_before}
 use Rattle.protocol.specs.Picture.{Picture, gvt, messages_told, node_of, nodes_of}
-
-length-add_all : (ms xs : List Message) → length (add_all ms xs) ≡ length ms + length xs
-length-add_all [] xs = omega arith
-length-add_all (m ∷ ms) xs = omega (arith, length-add_all ms (add m xs), length-add m xs)
 
 -- each handling that was told before a time is one event
 pub length-merged : (c : ℕ) (ds : List Done) → length (merged c ds) ≡ length (told_before c ds)

@@ -29,7 +29,7 @@ use Rattle.node.specs.declared.Parcel.{Parcel}
 use Rattle.node.specs.declared.Part.{Part}
 use Rattle.gvt.specs.Ledger.{delivered_by}
 use Rattle.protocol.proofs.Gvt.{KeptFrom, SignedFrom, gvt_above}
-use Rattle.protocol.specs.Picture.{IsBalanced, IsInRange, IsProcessInRange, IsSeatedBy, Picture, floor_at, gvt, node_of, nodes_of, opened, opened_process, process_at}
+use Rattle.protocol.specs.Picture.{IsBalanced, IsPictureInRange, IsProcessInRange, IsSeatedBy, Picture, floor_at, gvt, node_of, nodes_of, opened, opened_process, process_at}
 use Rattle.protocol.specs.Sound.{IsOpening, IsSoundPicture}
 use Rattle.protocol.specs.Laws.{IsLoadedWith, OpenedNodes, OpeningIsSound}
 use Rattle.protocol.specs.Views.{load_of, node_view, part_of}
@@ -127,7 +127,7 @@ module _ (m : Meaning) (end nodes : ℕ) (w : World) (begins : IsOpening m end n
       let sent = ap (copies x) (nothing_sent m.lps nodes w (below nodes)) in
       omega arith
 
-  opened_in_range : IsInRange first
+  opened_in_range : IsPictureInRange first
   opened_in_range = (
     tt,
     Every-map (λ (qs : List Process). Every IsProcessInRange qs) (node_opened m.lps nodes w) (below nodes)

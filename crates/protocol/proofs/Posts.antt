@@ -17,7 +17,7 @@ use Rattle.node.specs.declared.Parcel.{Parcel}
 use Rattle.gvt.specs.Ledger.{delivered_by}
 use Rattle.gvt.specs.Picks.{are_distinct, can_pick, has, not_picked, nothing, picked}
 use Rattle.protocol.proofs.Gvt.{Every-parcels-set, SignedFrom, copies-parcels-set, gvt-le, gvt_above, gvt_nodes, gvt_travelling}
-use Rattle.protocol.specs.Picture.{IsInRange, Picture, gvt, nodes_of}
+use Rattle.protocol.specs.Picture.{IsPictureInRange, Picture, gvt, nodes_of}
 use Rattle.protocol.specs.Moves.{Post, can_post, is_busy, move, posted}
 use Rattle.protocol.specs.Sound.{IsParcel, IsSoundPicture}
 
@@ -119,7 +119,7 @@ module _ (m : Meaning) (end node : ℕ) (picks : List ℕ) (budget : ℕ) (p : P
       (Every-picked (SignedFrom (gvt end p)) (nodes_of p) node p.transit picks checks.2 moving)
       (Every-right (SignedFrom (gvt end p)) p.transit (flat_map delivered_by p.parcels) (gvt_travelling end p))))
 
-  new_in_range : IsInRange new
+  new_in_range : IsPictureInRange new
   unfolding new
   new_in_range = (
     h.in_range.0,

@@ -1,9 +1,8 @@
 -- A move is made exactly where it is not refused; and a node accepts what it is posted.
 use Rattle.std.specs.Prelude.{is_some, not, ◌&&◌}
-use Rattle.std.proofs.Common.{◌≡◌, ℕ, zero, suc, ◌≤◌, ◌<◌, ◌%◌, Bool, true, false, cond, List, [], ◌∷◌, get_or, length, Option, None, Some, option_map, nat_lt, inl, inr, refl, sym, subst, arith, eq-eqb}
+use Rattle.std.proofs.Common.{◌≡◌, ℕ, zero, suc, ◌≤◌, ◌<◌, ◌%◌, Bool, true, false, cond, List, [], ◌∷◌, get_or, length, Option, None, Some, option_map, nat_lt, inl, inr, refl, arith, eq-eqb}
 use Rattle.std.specs.List.{AllByRecursion as Every}
 use Rattle.std.proofs.lemmas.Bool.{cases_lt, lt-ltb, le-ltb}
-use Rattle.eventkey.specs.Message.{Message}
 use Rattle.eventkey.specs.declared.Signed.{Signed}
 use Rattle.eventkey.proofs.Lists.{Every-both}
 use Rattle.model.specs.Meaning.{Meaning}

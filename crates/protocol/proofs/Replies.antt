@@ -1,7 +1,7 @@
 -- What a node replies to a parcel of a sound picture names only what is there.
 use Rattle.std.specs.List.{AllByRecursion as Every, list_all}
 use Rattle.std.specs.Prelude.{◌&&◌}
-use Rattle.std.proofs.Common.{◌≡◌, ℕ, ◌<◌, ◌%◌, ◌++◌, ◌∙◌, List, [], ◌∷◌, Bool, true, flat_map, get_or, length, map, nat_lt, Option, None, Some, refl, ap, ap₂, sym, subst, arith, eq-eqb}
+use Rattle.std.proofs.Common.{◌≡◌, ℕ, ◌<◌, ◌%◌, ◌++◌, ◌∙◌, List, [], ◌∷◌, Bool, true, flat_map, get_or, length, nat_lt, None, Some, refl, ap, ap₂, sym, subst, arith, eq-eqb}
 use Rattle.std.proofs.lemmas.Bool.{lt-ltb}
 use Rattle.std.proofs.lemmas.List.{map-append}
 use Rattle.eventkey.proofs.Lists.{Every-both, Every-flat_map, Every-get_or, Every-left, Every-append, Every-right, Every-unmap, Every-weaker}
@@ -17,11 +17,10 @@ use Rattle.process.proofs.Histories.{messages_told as messages_of_told}
 use Rattle.process.specs.Process.{Process, fossils_of, nobody}
 use Rattle.process.specs.Told.{IsToldFold}
 use Rattle.process.specs.declared.Done.{Done}
-use Rattle.node.proofs.Works.{place}
 use Rattle.node.specs.Kept.{HasRanged, IsUnderWay, own}
 use Rattle.node.specs.Node.{Work, work_here}
 use Rattle.node.specs.declared.Parcel.{Parcel}
-use Rattle.protocol.proofs.Takes.{here, let_go, own_fossils_at, past_known, past_of, worked}
+use Rattle.protocol.proofs.Takes.{let_go, own_fossils_at, past_known, worked}
 use Rattle.protocol.specs.Laws.{RepliesNameWhatIsThere}
 use Rattle.protocol.specs.Picture.{Picture, gvt, node_of, nodes_of, told_by}
 use Rattle.protocol.specs.Replies.{is_told_there}

@@ -6,7 +6,7 @@ use Rattle.std.specs.List.{AllByRecursion as Every}
 use Rattle.std.specs.Prelude.{nat_lt, get_or, option_and_then, unwrap_or, ◌<◌, ◌^◌}
 use Rattle.eventkey.proofs.Lists.{Every-all, Every-get_or, Every-left, Every-right}
 use Rattle.eventkey.specs.Message.{Message}
-use Rattle.model.proofs.Worlds.{upto_goes_on}
+use Rattle.model.proofs.Worlds.{upto_goes_on, upto_is_one}
 use Rattle.model.specs.Meaning.{IsLawful, Meaning}
 use Rattle.model.specs.World.{IsUpto, World, opening}
 use Rattle.gvt.specs.Ledger.{least_floor}
@@ -17,9 +17,9 @@ use Rattle.protocol.proofs.Posts.{sound_post}
 use Rattle.protocol.proofs.Takes.{sound_take, taken_from}
 use Rattle.protocol.specs.Picture.{Picture, gvt, opened}
 use Rattle.protocol.specs.Moves.{Checkpoint, Commit, Move, Post, Run, Take, after_moves, after_runs, can_post, commit, committed, move, moves_made, posted}
-use Rattle.protocol.specs.Sound.{GoesOn, IsOpening, IsSoundPicture, IsSystem}
-use Rattle.protocol.specs.Laws.{AreMade, AreMadeInParts, FirstOpens, FrontsOpen, IsOneSimulation, MovesAreSound, MovesMadeAreSound, MovesMadeJoin, MovesMadePart, RunsAreOneSimulation, RunsAreSound}
-use Rattle.protocol.specs.Readers.{OptimisticIsSequential}
+use Rattle.protocol.specs.Sound.{GoesOnFrom, IsOpening, IsSoundPicture, IsSystem}
+use Rattle.protocol.specs.Laws.{AreMade, AreMadeInParts, FirstOpens, FrontsOpen, MovesAreSound, MovesMadeAreSound, MovesMadeJoin, MovesMadePart, RunsAreOneSimulation, RunsAreSound}
+use Rattle.protocol.specs.Readers.{OptimisticIsSequential, SchedulesAgree}
 
 -- floors that are each at least what they were
 record HaveRisen (old new : List ℕ) : Type 0 where
@@ -76,7 +76,7 @@ floors_kept m end Commit p p' h e =
     subst (λ (q : Picture). HaveRisen p.floors q.floors) (same_Some (committed m end p) p' e) here
 floors_kept m end Checkpoint p p' h e = subst (λ (q : Picture). HaveRisen p.floors q.floors) (same_Some p p' e) (risen_none p.floors)
 
-goes_on : (m : Meaning) (end : ℕ) (p p' : Picture) → IsSoundPicture m end p → IsSoundPicture m end p' → gvt end p ≤ gvt end p' → HaveRisen p.floors p'.floors → p.front.time ≤ p'.front.time → GoesOn end p p'
+goes_on : (m : Meaning) (end : ℕ) (p p' : Picture) → IsSoundPicture m end p → IsSoundPicture m end p' → gvt end p ≤ gvt end p' → HaveRisen p.floors p'.floors → p.front.time ≤ p'.front.time → GoesOnFrom end p p'
 goes_on m end p p' h h' rises risen later = record {
   gvt_rises = rises;
   same_nodes = sym h'.seated.floors ∙ risen.size ∙ h.seated.floors;
@@ -91,7 +91,7 @@ moves_are_sound m end k p p' h e =
     (record { lawful = h.lawful; short = h.short; sound = new.0 }, goes_on m end p p' h.sound new.0 new.1 (floors_kept m end k p p' h.sound e) (later_front m end k p p' e))
 
 module _ (m : Meaning) (end : ℕ) where
-  goes_on_from : (p q r : Picture) → IsSystem m end p → IsSystem m end r → GoesOn end p q → GoesOn end q r → GoesOn end p r
+  goes_on_from : (p q r : Picture) → IsSystem m end p → IsSystem m end r → GoesOnFrom end p q → GoesOnFrom end q r → GoesOnFrom end p r
   goes_on_from p q r h h' a b =
       let a1 = a.gvt_rises in
       let b1 = b.gvt_rises in
@@ -106,16 +106,16 @@ module _ (m : Meaning) (end : ℕ) where
         log_grows = upto_goes_on m end p.front.time r.front.time p.front r.front later h.sound.front h'.sound.front;
       }
 
-  goes_nowhere : (p : Picture) → IsSystem m end p → GoesOn end p p
+  goes_nowhere : (p : Picture) → IsSystem m end p → GoesOnFrom end p p
   goes_nowhere p h = goes_on m end p p h.sound h.sound (omega arith) (risen_none p.floors) (omega arith)
 
   -- a refused move changes nothing
-  one_move : (p : Picture) (o : Option Picture) → IsSystem m end p → ((p' : Picture) → o ≡ Some p' → IsSystem m end p' × GoesOn end p p') →
-      IsSystem m end (unwrap_or o p) × GoesOn end p (unwrap_or o p)
+  one_move : (p : Picture) (o : Option Picture) → IsSystem m end p → ((p' : Picture) → o ≡ Some p' → IsSystem m end p' × GoesOnFrom end p p') →
+      IsSystem m end (unwrap_or o p) × GoesOnFrom end p (unwrap_or o p)
   one_move p None h f = (h, goes_nowhere p h)
   one_move p (Some p') h f = f p' refl
 
-  all_moves : (ks : List Move) (p : Picture) → IsSystem m end p → IsSystem m end (after_moves m end ks p) × GoesOn end p (after_moves m end ks p)
+  all_moves : (ks : List Move) (p : Picture) → IsSystem m end p → IsSystem m end (after_moves m end ks p) × GoesOnFrom end p (after_moves m end ks p)
   all_moves [] p h = (h, goes_nowhere p h)
   all_moves (k ∷ ks) p h =
       let next : Picture = unwrap_or (move m end k p) p in
@@ -128,7 +128,7 @@ module _ (m : Meaning) (end : ℕ) where
   after-append (k ∷ ks) ls p = after-append ks ls (unwrap_or (move m end k p) p)
 
 pub runs_are_sound : RunsAreSound
-runs_are_sound m end nodes w begins ks ls =
+runs_are_sound m end nodes w ks ls begins =
     let first = all_moves m end ks (opened m.lps nodes w) (opening_is_sound m end nodes w begins) in
     rw (after-append m end ks ls (opened m.lps nodes w)) (all_moves m end ls (after_moves m end ks (opened m.lps nodes w)) first.0)
 
@@ -240,5 +240,16 @@ runs_are_one_simulation m end rs ss law short some =
 
 pub optimistic_is_sequential : OptimisticIsSequential
 optimistic_is_sequential m end nodes w ks ls law short some soon front =
-    let all = runs_are_sound m end nodes w (record { lawful = law; short = short; some = some; soon = soon; front = front }) ks ls in
+    let all = runs_are_sound m end nodes w ks ls (record { lawful = law; short = short; some = some; soon = soon; front = front }) in
     record { front = all.0.sound.front; log_grows = all.1.log_grows; gvt_rises = all.1.gvt_rises }
+
+pub schedules_agree : SchedulesAgree
+schedules_agree m end nodes nodes' u ks ls law short some some' soon front =
+    let v : World = (after_moves m end ks (opened m.lps nodes u)).front in
+    let w : World = (after_moves m end ls (opened m.lps nodes' u)).front in
+    let a : IsUpto m end v.time v = (optimistic_is_sequential m end nodes u [] ks law short some soon front).front in
+    let b : IsUpto m end w.time w = (optimistic_is_sequential m end nodes' u [] ls law short some' soon front).front in
+    record {
+      begins = λ up. upto_goes_on m end v.time w.time v w up a b;
+      same = λ e. upto_is_one m end w.time v w (subst (λ (g : ℕ). IsUpto m end g v) e a) b;
+    }

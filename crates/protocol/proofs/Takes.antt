@@ -36,7 +36,7 @@ use Rattle.protocol.proofs.Fossils.{copies-messages_told, copies-sent_nodes, cop
 use Rattle.protocol.proofs.Gathered.{copies-told_by, told_by-apart}
 use Rattle.protocol.proofs.Gvt.{Every-parcels, Every-parcels-set, KeptFrom, SignedFrom, copies-parcels-set, gvt-le, gvt_above, gvt_node, gvt_nodes, gvt_travelling, some_within}
 use Rattle.protocol.proofs.Places.{at_place}
-use Rattle.protocol.specs.Picture.{IsBalanced, IsInRange, IsProcessInRange, IsSeatedBy, Picture, all_sent, floor_at, gvt, messages_told, node_of, nodes_of, process_at, processes_of, sent_told, told_by, travelling}
+use Rattle.protocol.specs.Picture.{IsBalanced, IsPictureInRange, IsProcessInRange, IsSeatedBy, Picture, all_sent, floor_at, gvt, messages_told, node_of, nodes_of, process_at, processes_of, sent_told, told_by, travelling}
 use Rattle.protocol.specs.Moves.{Take, answered, move, take_from}
 use Rattle.protocol.specs.Sound.{IsParcel, IsSoundPicture, IsSystem}
 
@@ -376,7 +376,7 @@ module _ (m : Meaning) (end node : ℕ) (p : Picture) (system : IsSystem m end p
         (let same = ap (copies x) (messages_of_told (handled_before parcel.floor q.done) (state_before (handled_from parcel.floor q.done) q.state) (number_before (handled_from parcel.floor q.done) q.number)) in omega (arith, copies-handled_before-le parcel.floor x q.done)))))
         w.processes worked.kept.ranged)
 
-    new_in_range : IsInRange new
+    new_in_range : IsPictureInRange new
     unfolding new fossils
     new_in_range = (
       Every-map IsRanged (λ (d : Done). d.message) new.gathered

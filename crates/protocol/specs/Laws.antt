@@ -1,6 +1,7 @@
--- The laws of a running system, over every list of moves. Each holds for every meaning that keeps its laws.
+-- The laws of a running system, over every list of moves. Each holds for every meaning that keeps
+-- its laws.
 use Rattle.std.specs.List.{AllByRecursion as Every}
-use Rattle.std.specs.Prelude.{◌≡◌, ℕ, ◌^◌, ◌<◌, ◌≤◌, ◌+◌, ◌++◌, ◌&&◌, List, Bool, not, get_or, length, map, nat_lt, option_and_then, if◌then◌else◌, Err, Ok, Some, None, is_some, true}
+use Rattle.std.specs.Prelude.{◌≡◌, ℕ, ◌^◌, ◌<◌, ◌≤◌, ◌+◌, ◌++◌, ◌&&◌, List, not, get_or, length, map, nat_lt, option_and_then, if◌then◌else◌, Err, Ok, Some, None, is_some, true}
 use Rattle.eventkey.specs.Bag.{IsAscending}
 use Rattle.eventkey.specs.Message.{Message}
 use Rattle.gvt.specs.Ledger.{after_post, after_take, is_busy as is_ledger_busy, ledger_floor, least_floor, may_pick, nodes_of as ledger_nodes, started}
@@ -15,14 +16,15 @@ use Rattle.process.specs.Process.{number_after, state_after}
 use Rattle.protocol.specs.declared.Answer.{Answer}
 use Rattle.protocol.specs.declared.Answer.TheVariants.{AlreadyAt, Checkpointed, Committed, Posted, Taken}
 use Rattle.protocol.specs.Moves.{Busy, Move, NoSuchNode, NoSuchPick, Post, Run, Take, after_moves, after_runs, answer_of, answered, commit, committed, is_busy, merged, move, moves_made, posted, refusal, told_before, told_front}
-use Rattle.protocol.specs.Picture.{IsBalanced, IsInRange, IsSeatedBy, IsToldTruly, Picture, gvt, lows_of, node_of, nodes_of, opened, told_by}
+use Rattle.protocol.specs.Picture.{IsBalanced, IsPictureInRange, IsSeatedBy, IsToldTruly, Picture, gvt, lows_of, node_of, nodes_of, opened, told_by}
 use Rattle.protocol.specs.Replies.{names_there}
-use Rattle.protocol.specs.Sound.{GoesOn, IsOpening, IsSystem}
+use Rattle.protocol.specs.Sound.{GoesOnFrom, IsOpening, IsSystem}
 use Rattle.protocol.specs.Views.{ledger_of, load_of, node_view}
 
 -- 1. Openings
 
--- A system opens with a sound picture, if its front is the sequential simulation up to the front's time.
+-- A system opens with a sound picture, if its front is the sequential simulation up to the front's
+-- time.
 abbrev pub OpeningIsSound : Type 0
 OpeningIsSound = (m : Meaning) (end nodes : ℕ) (w : World) → IsOpening m end nodes w →
     IsSystem m end (opened m.lps nodes w)
@@ -39,10 +41,11 @@ FrontsOpen = (m : Meaning) (end nodes : ℕ) (p : Picture) → IsSystem m end p 
 
 -- 2. Moves
 
--- Every move keeps a picture sound; global virtual time, the floors of the nodes and the front's time never fall.
+-- Every move keeps a picture sound; global virtual time, the floors of the nodes and the front's
+-- time never fall.
 abbrev pub MovesAreSound : Type 0
 MovesAreSound = (m : Meaning) (end : ℕ) (k : Move) (p p' : Picture) → IsSystem m end p →
-    move m end k p ≡ Some p' → IsSystem m end p' × GoesOn end p p'
+    move m end k p ≡ Some p' → IsSystem m end p' × GoesOnFrom end p p'
 
 -- A move is made exactly where it is not refused.
 abbrev pub MovesAreMadeOrRefused : Type 0
@@ -53,7 +56,8 @@ MovesAreMadeOrRefused = (m : Meaning) (end : ℕ) (k : Move) (p : Picture) → I
 abbrev pub Tells : ℕ → Picture → Picture → Answer → Type 0
 Tells end p p' (Posted floor) = floor ≡ gvt end p
 Tells end p p' (Taken ran out fossils) =
-    (length p'.transit ≡ length p.transit + out) × (length p'.gathered ≡ length p.gathered + fossils)
+    (length p'.transit ≡ length p.transit + out)
+    × (length p'.gathered ≡ length p.gathered + fossils)
 Tells end p p' (Committed g events) =
     (p.front.time < g) × (p'.front.time ≡ g) × (length p'.front.log ≡ length p.front.log + events)
 Tells end p p' (AlreadyAt g) = (p' ≡ p) × (p.front.time ≡ g)
@@ -70,11 +74,12 @@ MovesAnswer = (m : Meaning) (end : ℕ) (k : Move) (p : Picture) → IsAnswering
 
 -- 3. Runs
 
--- After any list of moves of an opened system the picture is sound, and it goes on from what it was after fewer of them.
+-- After any list of moves of an opened system the picture is sound, and it goes on from what it was
+-- after fewer of them.
 abbrev pub RunsAreSound : Type 0
-RunsAreSound = (m : Meaning) (end nodes : ℕ) (w : World) → IsOpening m end nodes w → (ks ls : List Move) →
-    IsSystem m end (after_moves m end (ks ++ ls) (opened m.lps nodes w))
-    × GoesOn end (after_moves m end ks (opened m.lps nodes w))
+RunsAreSound = (m : Meaning) (end nodes : ℕ) (w : World) (ks ls : List Move) →
+    IsOpening m end nodes w → IsSystem m end (after_moves m end (ks ++ ls) (opened m.lps nodes w))
+    × GoesOnFrom end (after_moves m end ks (opened m.lps nodes w))
     (after_moves m end (ks ++ ls) (opened m.lps nodes w))
 
 -- Moves that are all made are made in parts: the first of them, and then the others.
@@ -95,15 +100,15 @@ MovesMadePart = (m : Meaning) (end : ℕ) (ks ls : List Move) (p r : Picture) �
 -- They take a system to a system that goes on from it, as where refused moves change nothing.
 pub record AreMade (m : Meaning) (end : ℕ) (ks : List Move) (p q : Picture) : Type 0 where
   pub system : IsSystem m end q
-  pub goes_on : GoesOn end p q
+  pub goes_on : GoesOnFrom end p q
   pub same : after_moves m end ks p ≡ q
 
 abbrev pub MovesMadeAreSound : Type 0
 MovesMadeAreSound = (m : Meaning) (end : ℕ) (ks : List Move) (p q : Picture) → IsSystem m end p →
     moves_made m end ks p ≡ Some q → AreMade m end ks p q
 
--- After any runs of any numbers of nodes the front is the sequential simulation up to its time, which is
--- not past the end, and its log begins with that of the front after fewer of them.
+-- After any runs of any numbers of nodes the front is the sequential simulation up to its time,
+-- which is not past the end, and its log begins with that of the front after fewer of them.
 pub record IsOneSimulation (m : Meaning) (end : ℕ) (v w : World) : Type 0 where
   pub front : IsUpto m end w.time w
   pub soon : w.time ≤ end
@@ -113,14 +118,17 @@ pub record IsOneSimulation (m : Meaning) (end : ℕ) (v w : World) : Type 0 wher
 abbrev pub RunsAreOneSimulation : Type 0
 RunsAreOneSimulation = (m : Meaning) (end : ℕ) (rs ss : List Run) → IsLawful m → end ≤ 2 ^ 40 →
     Every (λ (r : Run). 1 ≤ r.nodes) (rs ++ ss) →
-    IsOneSimulation m end (after_runs m end rs (opening m)) (after_runs m end (rs ++ ss) (opening m))
+    IsOneSimulation m end (after_runs m end rs (opening m))
+    (after_runs m end (rs ++ ss) (opening m))
 
 -- 4. Commits
 
 -- A picture of which a commit may take what was told before c
 pub record MayCommit (m : Meaning) (end c : ℕ) (p : Picture) : Type 0 where
+  pub lawful : IsLawful m
+  pub short : end ≤ 2 ^ 40
   pub seated : IsSeatedBy m.lps p
-  pub in_range : IsInRange p
+  pub in_range : IsPictureInRange p
   pub told : IsToldTruly m p
   pub balanced : IsBalanced m p
   pub front : IsUpto m end p.front.time p.front
@@ -129,24 +137,29 @@ pub record MayCommit (m : Meaning) (end c : ℕ) (p : Picture) : Type 0 where
   pub safe : c ≤ gvt end p
   pub answered : c ≤ least_floor end p.floors
 
--- A commit at a time that is not above global virtual time, nor above any node's floor, makes the front the
--- sequential simulation up to that time.
+-- such is every picture of a system, at any time from its front's on that all nodes have answered
+abbrev pub SystemsMayCommit : Type 0
+SystemsMayCommit = (m : Meaning) (end c : ℕ) (p : Picture) → IsSystem m end p →
+    p.front.time ≤ c → c ≤ least_floor end p.floors → MayCommit m end c p
+
+-- A commit at a time that is not above global virtual time, nor above any node's floor, makes the
+-- front the sequential simulation up to that time.
 pub record IsCommitted (m : Meaning) (end c : ℕ) (p : Picture) : Type 0 where
   pub front : IsUpto m end c (commit m c p).front
   pub log : (commit m c p).front.log ≡ p.front.log ++ merged c p.gathered
   pub told : IsToldTruly m (commit m c p)
   pub balanced : IsBalanced m (commit m c p)
-  pub in_range : IsInRange (commit m c p)
+  pub in_range : IsPictureInRange (commit m c p)
   pub seated : IsSeatedBy m.lps (commit m c p)
   pub same_gvt : gvt end (commit m c p) ≡ gvt end p
 
 abbrev pub CommitIsSequential : Type 0
-CommitIsSequential = (m : Meaning) (end c : ℕ) (p : Picture) → IsLawful m → end ≤ 2 ^ 40 →
-    MayCommit m end c p → IsCommitted m end c p
+CommitIsSequential = (m : Meaning) (end c : ℕ) (p : Picture) → MayCommit m end c p →
+    IsCommitted m end c p
 
--- The front that a commit makes is known by what was told, without a call of the model: each process is as the
--- last that it told before c left it, and what is pending is what was, with all that was sent, less all that
--- was handled.
+-- The front that a commit makes is known by what was told, without a call of the model: each
+-- process is as the last that it told before c left it, and what is pending is what was, with all
+-- that was sent, less all that was handled.
 pub record IsByWhatWasTold (lps c : ℕ) (p : Picture) (w : World) : Type 0 where
   pub front : w ≡ told_front c p.gathered p.front
   pub states : (lp : ℕ) → lp < lps →
@@ -155,15 +168,16 @@ pub record IsByWhatWasTold (lps c : ℕ) (p : Picture) (w : World) : Type 0 wher
       number_of w lp ≡ number_after (told_before c (told_by lp p.gathered)) (number_of p.front lp)
 
 abbrev pub CommitIsByWhatWasTold : Type 0
-CommitIsByWhatWasTold = (m : Meaning) (end c : ℕ) (p : Picture) → IsLawful m → end ≤ 2 ^ 40 →
-    MayCommit m end c p → IsByWhatWasTold m.lps c p (commit m c p).front
+CommitIsByWhatWasTold = (m : Meaning) (end c : ℕ) (p : Picture) → MayCommit m end c p →
+    IsByWhatWasTold m.lps c p (commit m c p).front
 
--- The move `Commit` of a sound picture whose nodes have all answered a floor c above the front's time: the front
--- becomes the sequential simulation up to c, its log grows by exactly what was told below c in message order,
--- and it is known by what was told.
+-- The move `Commit` of a sound picture whose nodes have all answered a floor c above the front's
+-- time: the front becomes the sequential simulation up to c, its log grows by exactly what was told
+-- below c in message order, and it is known by what was told.
 pub record TellsTheNextEvents (m : Meaning) (end : ℕ) (p : Picture) : Type 0 where
   pub front : IsUpto m end (least_floor end p.floors) (committed m end p).front
-  pub log : (committed m end p).front.log ≡ p.front.log ++ merged (least_floor end p.floors) p.gathered
+  pub log :
+      (committed m end p).front.log ≡ p.front.log ++ merged (least_floor end p.floors) p.gathered
   pub in_order : IsAscending (merged (least_floor end p.floors) p.gathered)
   pub by_told : IsByWhatWasTold m.lps (least_floor end p.floors) p (committed m end p).front
 
@@ -173,31 +187,34 @@ CommitsTellTheNextEvents = (m : Meaning) (end : ℕ) (p : Picture) → IsSystem 
 
 -- 5. Nodes
 
--- The node that is posted a parcel does not refuse it: the parcel's floor is not below the node's, and its
--- messages are for the node's processes and not before its floor.
+-- The node that is posted a parcel does not refuse it: the parcel's floor is not below the node's,
+-- and its messages are for the node's processes and not before its floor.
 abbrev pub ParcelsAreAccepted : Type 0
-ParcelsAreAccepted = (m : Meaning) (end node : ℕ) (p : Picture) (parcel : Parcel) → IsSystem m end p →
-    get_or p.parcels node None ≡ Some parcel → refused_by (node_view m end p node) parcel ≡ None
+ParcelsAreAccepted = (m : Meaning) (end node : ℕ) (p : Picture) (parcel : Parcel) →
+    IsSystem m end p → get_or p.parcels node None ≡ Some parcel →
+    refused_by (node_view m end p node) parcel ≡ None
 
--- What the node replies to it names only processes that are there, and tells only what its own have handled.
+-- What the node replies to it names only processes that are there, and tells only what its own have
+-- handled.
 abbrev pub RepliesNameWhatIsThere : Type 0
 RepliesNameWhatIsThere = (m : Meaning) (end node : ℕ) (p : Picture) (parcel : Parcel) (w : Work) →
     IsSystem m end p → get_or p.parcels node None ≡ Some parcel →
     work_here m end (nodes_of p) parcel (node_of p node) ≡ Some w →
     names_there m.lps (nodes_of p) node (reply_of parcel.floor w) ≡ true
 
--- What a node is loaded with at the opening is in range, and what it answers is that node of the opened picture.
+-- What a node is loaded with at the opening is in range, and what it answers is that node of the
+-- opened picture.
 pub record IsLoadedWith (m : Meaning) (end nodes node : ℕ) (w : World) : Type 0 where
   pub in_range : Every IsPartInRange (load_of m.lps end nodes node w).parts
   pub answer : load_answer m.lps (load_of m.lps end nodes node w)
       ≡ Ok (node_view m end (opened m.lps nodes w) node)
 
 abbrev pub OpenedNodes : Type 0
-OpenedNodes = (m : Meaning) (end nodes node : ℕ) (w : World) → IsOpening m end nodes w → node < nodes →
-    IsLoadedWith m end nodes node w
+OpenedNodes = (m : Meaning) (end nodes node : ℕ) (w : World) → IsOpening m end nodes w →
+    node < nodes → IsLoadedWith m end nodes node w
 
--- What the node that is posted this parcel answers to it: the reply of which the picture after its take is made,
--- and then it is that node of the picture.
+-- What the node that is posted this parcel answers to it: the reply of which the picture after its
+-- take is made, and then it is that node of the picture.
 pub record IsAnsweredBy (m : Meaning) (end node : ℕ) (p : Picture) (parcel : Parcel) : Type 0 where
   pub made : (p' : Picture) → move m end (Take node) p ≡ Some p' →
       (w : Work) × (p' ≡ answered node parcel p w)
@@ -213,8 +230,9 @@ TakesAreAnswers = (m : Meaning) (end node : ℕ) (p : Picture) (parcel : Parcel)
 
 -- Any other move leaves the node as it is.
 abbrev pub MovesLeaveNodes : Type 0
-MovesLeaveNodes = (m : Meaning) (end node : ℕ) (k : Move) (p p' : Picture) → move m end k p ≡ Some p' →
-    (k ≡ Take node → ⊥) → node_view m end p' node ≡ node_view m end p node
+MovesLeaveNodes = (m : Meaning) (end node : ℕ) (k : Move) (p p' : Picture) →
+    move m end k p ≡ Some p' → (k ≡ Take node → ⊥) →
+    node_view m end p' node ≡ node_view m end p node
 
 -- 6. The ledger
 
@@ -223,14 +241,17 @@ abbrev pub LedgersTellGvt : Type 0
 LedgersTellGvt = (end : ℕ) (p : Picture) →
     ledger_floor end p.transit p.parcels (lows_of p) ≡ gvt end p
 
--- The lows of a picture are those of its nodes, and its ledger is what the ledger's calls make of it, move by move.
+-- The lows of a picture are those of its nodes, and its ledger is what the ledger's calls make of
+-- it, move by move.
 pub record LedgersFollow (m : Meaning) (end : ℕ) : Type 0 where
   pub lows : (p : Picture) →
       lows_of p ≡ map (λ (node : ℕ). low_of (node_view m end p node).processes) (below (nodes_of p))
   pub starts : (nodes : ℕ) (w : World) →
-      started nodes end w.time (lows_of (opened m.lps nodes w)) ≡ ledger_of end (opened m.lps nodes w)
+      started nodes end w.time (lows_of (opened m.lps nodes w))
+      ≡ ledger_of end (opened m.lps nodes w)
   pub posts : (p : Picture) (node : ℕ) (picks : List ℕ) (budget : ℕ) →
-      after_post (ledger_of end p) node picks budget ≡ ledger_of end (posted end node picks budget p)
+      after_post (ledger_of end p) node picks budget
+      ≡ ledger_of end (posted end node picks budget p)
   pub takes : (p : Picture) (node : ℕ) (parcel : Parcel) (w : Work) →
       after_take (ledger_of end p) node parcel (reply_of parcel.floor w)
       ≡ ledger_of end (answered node parcel p w)

@@ -1,6 +1,6 @@
--- The moves of a running system: post, take, commit and checkpoint (Jefferson 1985, with commits and a
--- coordinator by this project's profile).
-use Rattle.std.specs.Prelude.{Bool, List, None, Option, Some, [], filter, get_or, flat_map, if◌then◌else◌, is_some, length, nat_lt, not, option_and_then, option_map, set, unwrap_or, ℕ, ◌&&◌, ◌++◌, ◌∷◌}
+-- The moves of a running system: post, take, commit and checkpoint (Jefferson 1985, with commits
+-- and a coordinator by this project's profile).
+use Rattle.std.specs.Prelude.{Bool, List, None, Option, Some, [], filter, get_or, flat_map, if◌then◌else◌, is_some, length, map, nat_lt, not, option_and_then, option_map, set, unwrap_or, ℕ, ◌&&◌, ◌++◌, ◌∷◌}
 use Rattle.eventkey.specs.Bag.{add_all, remove_all, remove_one}
 use Rattle.eventkey.specs.Message.{Message}
 use Rattle.gvt.specs.Ledger.{least_floor}
@@ -13,7 +13,41 @@ use Rattle.process.specs.Process.{Process, fossils_of}
 use Rattle.process.specs.declared.Done.{Done}
 use Rattle.protocol.specs.declared.Answer.{Answer}
 use Rattle.protocol.specs.declared.Answer.TheVariants.{AlreadyAt, Checkpointed, Committed, Posted, Taken}
-use Rattle.protocol.specs.Picture.{Picture, gvt, messages_told, node_of, nodes_of, opened, sent_told}
+use Rattle.protocol.specs.Picture.{Picture, gvt, node_of, nodes_of, opened, sent_told}
+
+-- 1. Post
+
+abbrev pub is_busy : Picture → ℕ → Bool  -- the node has a parcel that is not answered
+is_busy p node = is_some (get_or p.parcels node None)
+
+abbrev pub can_post : Picture → ℕ → List ℕ → Bool  -- picks: each once, in transit, for the node
+can_post p node picks =
+    (nat_lt node (nodes_of p) && not (is_busy p node))
+    && (can_pick (nodes_of p) node p.transit picks && are_distinct picks)
+
+abbrev pub posted : ℕ → ℕ → List ℕ → ℕ → Picture → Picture  -- the picks leave transit as a parcel
+posted end node picks budget p =
+    let ss = picked p.transit picks in
+    let new : Parcel = record { deliver = ss; budget = budget; floor = gvt end p } in
+    record p { transit = not_picked picks 0 p.transit; parcels = set p.parcels node (Some new) }
+
+-- 2. Take
+
+abbrev pub answered : ℕ → Parcel → Picture → Work → Picture  -- the node did this work for a parcel
+answered node parcel p w = record p {
+  gathered = p.gathered ++ flat_map (λ (q : Process). fossils_of parcel.floor q) w.processes;
+  nodes = set p.nodes node (released parcel.floor w);
+  transit = p.transit ++ w.out;
+  parcels = set p.parcels node None;
+  floors = set p.floors node parcel.floor;
+}
+
+abbrev pub take_from : Meaning → ℕ → ℕ → Picture → Option Parcel → Option Picture  -- by its parcel
+take_from m end node p None = None
+take_from m end node p (Some parcel) =
+    option_map (answered node parcel p) (work_here m end (nodes_of p) parcel (node_of p node))
+
+-- 3. Commit
 
 abbrev pub told_before : ℕ → List Done → List Done  -- of handlings before a time, and of the others
 told_before c ds = filter (λ (d : Done). nat_lt d.message.time c) ds
@@ -22,17 +56,21 @@ abbrev pub told_from : ℕ → List Done → List Done
 told_from c ds = filter (λ (d : Done). not (nat_lt d.message.time c)) ds
 
 abbrev pub merged : ℕ → List Done → List Message  -- those of what was told before a time, in order
-merged c ds = add_all (messages_told (told_before c ds)) []
+merged c ds = add_all (map (λ (d : Done). d.message) (told_before c ds)) []
 
 abbrev pub after_messages : Meaning → World → List Message → World  -- each is taken from pending
 after_messages m w [] = w
 after_messages m w (x ∷ xs) = after_messages m (handled m w x (remove_one x w.pending)) xs
 
-abbrev pub commit : Meaning → ℕ → Picture → Picture  -- the front moves to c, by what was told below it
+abbrev pub commit : Meaning → ℕ → Picture → Picture  -- the front moves to a time, by what was told
 commit m c p = record p {
   front = at_time c (after_messages m p.front (merged c p.gathered));
   gathered = told_from c p.gathered;
 }
+
+abbrev pub committed : Meaning → ℕ → Picture → Picture  -- to the least floor of the nodes
+committed m end p =
+    let c = least_floor end p.floors in if nat_lt p.front.time c then commit m c p else p
 
 -- each process as it was left by the last of what it told
 abbrev pub states_told : List Done → List (List ℕ) → List (List ℕ)
@@ -53,37 +91,7 @@ told_front c ds w = record {
   log = w.log ++ merged c ds;
 }
 
-abbrev pub is_busy : Picture → ℕ → Bool  -- the node has a parcel that is not answered
-is_busy p node = is_some (get_or p.parcels node None)
-
--- the node is there and idle, and each pick names, once, a message in transit for one of its processes
-abbrev pub can_post : Picture → ℕ → List ℕ → Bool
-can_post p node picks =
-    (nat_lt node (nodes_of p) && not (is_busy p node))
-    && (can_pick (nodes_of p) node p.transit picks && are_distinct picks)
-
-abbrev pub posted : ℕ → ℕ → List ℕ → ℕ → Picture → Picture  -- the picks leave transit as a parcel
-posted end node picks budget p =
-    let new : Parcel = record { deliver = picked p.transit picks; budget = budget; floor = gvt end p } in
-    record p { transit = not_picked picks 0 p.transit; parcels = set p.parcels node (Some new) }
-
-abbrev pub answered : ℕ → Parcel → Picture → Work → Picture  -- the node of this parcel did this work
-answered node parcel p w = record p {
-  gathered = p.gathered ++ flat_map (λ (q : Process). fossils_of parcel.floor q) w.processes;
-  nodes = set p.nodes node (released parcel.floor w);
-  transit = p.transit ++ w.out;
-  parcels = set p.parcels node None;
-  floors = set p.floors node parcel.floor;
-}
-
-abbrev pub take_from : Meaning → ℕ → ℕ → Picture → Option Parcel → Option Picture
-take_from m end node p None = None  -- the node has no parcel; or a send number has no room
-take_from m end node p (Some parcel) =
-    option_map (answered node parcel p) (work_here m end (nodes_of p) parcel (node_of p node))
-
-abbrev pub committed : Meaning → ℕ → Picture → Picture  -- to the least floor that all nodes answered
-committed m end p =
-    if nat_lt p.front.time (least_floor end p.floors) then commit m (least_floor end p.floors) p else p
+-- 4. Moves
 
 pub data Move : Type 0 where  -- a step of a session (this project's profile)
   Post : ℕ → List ℕ → ℕ → Move  -- node, picks, budget
@@ -103,16 +111,17 @@ pub data Refusal : Type 0 where
   Busy : Refusal  -- a parcel of the node is not answered
   Idle : Refusal  -- the node has no parcel
   NoSuchNode : Refusal
-  NoSuchPick : Refusal  -- a pick is outside transit, names a message for another node's process, or stands twice
+  NoSuchPick : Refusal  -- a pick is outside transit, is for another node, or stands twice
   NumberLimit : Refusal  -- a handling would take a send number past 2^63
 
 -- why a take is refused, by the parcel of the node
 abbrev pub take_refusal : Meaning → ℕ → ℕ → Picture → Option Parcel → Option Refusal
 take_refusal m end node p None = Some Idle
 take_refusal m end node p (Some parcel) =
-    if is_some (work_here m end (nodes_of p) parcel (node_of p node)) then None else Some NumberLimit
+    if is_some (work_here m end (nodes_of p) parcel (node_of p node)) then None
+    else Some NumberLimit
 
--- the first of them that holds, in the order in which they are looked for; none where the move is made
+-- the first that holds, in the order in which they are looked for; none where the move is made
 abbrev pub refusal : Meaning → ℕ → Move → Picture → Option Refusal
 refusal m end (Post node picks budget) p =
     if not (nat_lt node (nodes_of p)) then Some NoSuchNode
@@ -125,7 +134,7 @@ refusal m end (Take node) p =
 refusal m end Commit p = None
 refusal m end Checkpoint p = None
 
--- The numbers of a move: what it answers, and none where it is refused.
+-- the numbers of a take, by the parcel of the node
 abbrev pub take_answer : Meaning → ℕ → ℕ → Picture → Option Parcel → Option Answer
 take_answer m end node p None = None
 take_answer m end node p (Some parcel) =
@@ -136,14 +145,18 @@ take_answer m end node p (Some parcel) =
 abbrev pub commit_answer : ℕ → Picture → Answer
 commit_answer end p =
     let c = least_floor end p.floors in
-    if nat_lt p.front.time c then Committed c (length (told_before c p.gathered)) else AlreadyAt p.front.time
+    if nat_lt p.front.time c then Committed c (length (told_before c p.gathered))
+    else AlreadyAt p.front.time
 
+-- what a move answers; none where it is refused
 abbrev pub answer_of : Meaning → ℕ → Move → Picture → Option Answer
 answer_of m end (Post node picks budget) p =
     if can_post p node picks then Some (Posted (gvt end p)) else None
 answer_of m end (Take node) p = take_answer m end node p (get_or p.parcels node None)
 answer_of m end Commit p = Some (commit_answer end p)
 answer_of m end Checkpoint p = Some (Checkpointed p.front.time)
+
+-- 5. Lists of moves
 
 -- after these moves, one after another; none where one of them is refused
 abbrev pub moves_made : Meaning → ℕ → List Move → Picture → Option Picture

@@ -1,4 +1,5 @@
--- A running system, as it is seen from outside: the committed front, and what each node has beyond it.
+-- A running system, as it is seen from outside: the committed front, and what each node has beyond
+-- it.
 use Rattle.std.specs.List.{AllByRecursion as Every}
 use Rattle.std.specs.Prelude.{List, None, Option, [], filter, flat_map, get_or, length, map, replicate, ℕ, ◌%◌, ◌/◌, ◌++◌, ◌+◌, ◌<◌, ◌==◌, ◌≡◌}
 use Rattle.eventkey.specs.Bag.{copies, least_time}
@@ -17,10 +18,9 @@ use Rattle.process.specs.Told.{IsTold}
 use Rattle.process.specs.declared.Done.{Done}
 use Rattle.queues.specs.Record.{messages}
 
--- a system between two of its moves; a node with an unanswered parcel is as it was before that parcel
-pub record Picture : Type 0 where
+pub record Picture : Type 0 where  -- a node with an unanswered parcel is as it was before it
   pub front : World
-  pub gathered : List Done  -- told by nodes and taken by no commit yet, in the order in which it was told
+  pub gathered : List Done  -- told by nodes and taken by no commit yet, in that order
   pub nodes : List (List Process)  -- for each node its processes, ascending
   pub transit : List Signed
   pub parcels : List (Option Parcel)  -- for each node what it was posted and has not answered
@@ -47,7 +47,8 @@ told_by lp gathered = filter (λ (d : Done). d.message.to == lp) gathered
 abbrev pub processes_of : Picture → List Process  -- all of them, node by node
 processes_of p = flat_map (λ (qs : List Process). qs) p.nodes
 
--- each node has its processes, for each there is a place for a parcel and a floor, and what was told is of one of them
+-- each node has its processes, for each there is a place for a parcel and a floor, and what was
+-- told is of one of them
 pub record IsSeatedBy (lps : ℕ) (p : Picture) : Type 0 where
   pub seats : (node : ℕ) → node < nodes_of p →
       length (node_of p node) ≡ length (own_lps (nodes_of p) node lps)
@@ -55,11 +56,12 @@ pub record IsSeatedBy (lps : ℕ) (p : Picture) : Type 0 where
   pub floors : length p.floors ≡ nodes_of p
   pub told : Every (λ (d : Done). d.message.to < lps) p.gathered
 
--- Told truly: along each process, from the front's state on, what it told and what it has done is what the model
--- does, in the order of messages (this project's profile).
+-- Told truly: along each process, from the front's state on, what it told and what it has done is
+-- what the model does, in the order of messages (this project's profile).
 abbrev pub IsToldTruly : Meaning → Picture → Type 0
 IsToldTruly m p = (lp : ℕ) → lp < m.lps →
-    IsTold m lp p.front.time (state_of p.front lp) (number_of p.front lp) (floor_at p lp) (told_by lp p.gathered) (process_at p lp)
+    IsTold m lp p.front.time (state_of p.front lp) (number_of p.front lp) (floor_at p lp)
+    (told_by lp p.gathered) (process_at p lp)
 
 abbrev pub travelling : Picture → List Signed  -- in transit and in parcels that are not answered
 travelling p = p.transit ++ flat_map delivered_by p.parcels
@@ -75,8 +77,8 @@ sent_told ds = flat_map (λ (d : Done). d.sent) ds
 abbrev pub all_sent : Picture → List Message
 all_sent p = sent_told p.gathered ++ flat_map sent_by (processes_of p)
 
--- Balance (this project's profile). For each message: where its copies are, less the antimessages that wait or
--- travel for it, is where they came from.
+-- Balance (this project's profile). For each message: where its copies are, less the antimessages
+-- that wait or travel for it, is where they came from.
 abbrev pub IsBalanced : Meaning → Picture → Type 0
 IsBalanced m p = (x : Message) → x.to < m.lps →
     copies x (messages_told p.gathered) + copies x (messages (process_at p x.to).done)
@@ -86,17 +88,17 @@ IsBalanced m p = (x : Message) → x.to < m.lps →
 
 -- The numbers of all messages lie in their ranges.
 abbrev pub IsProcessInRange : Process → Type 0
-IsProcessInRange q = Every IsRanged (messages q.done) × Every IsRanged q.waiting × Every IsRanged q.antis
+IsProcessInRange q =
+    Every IsRanged (messages q.done) × Every IsRanged q.waiting × Every IsRanged q.antis
 
-abbrev pub IsInRange : Picture → Type 0
-IsInRange p =
+abbrev pub IsPictureInRange : Picture → Type 0
+IsPictureInRange p =
     Every IsRanged (messages_told p.gathered)
     × Every (λ (qs : List Process). Every IsProcessInRange qs) p.nodes
     × Every (λ (s : Signed). IsRanged s.message) (travelling p)
 
-abbrev pub gvt : ℕ → Picture → ℕ  -- the least time that waits or travels, or the end (Jefferson 1985)
-gvt end p =
-    least_time end
+abbrev pub gvt : ℕ → Picture → ℕ  -- the least time under way, at most the end (Jefferson 1985)
+gvt end p = least_time end
     (flat_map (λ (q : Process). q.waiting ++ q.antis) (processes_of p)
     ++ map (λ (s : Signed). s.message) (travelling p))
 
@@ -107,7 +109,7 @@ opened_process w lp = record nobody {
   number = number_of w lp;
 }
 
-abbrev pub opened : ℕ → ℕ → World → Picture  -- a system begins: there is its front, and what is pending waits
+abbrev pub opened : ℕ → ℕ → World → Picture  -- a front, and what is pending waits
 opened lps nodes w = record {
   front = w;
   gathered = [];

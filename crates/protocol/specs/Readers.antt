@@ -1,4 +1,5 @@
--- Optimistic equals sequential, for readers: what a running system does for its users, without its invariants.
+-- Optimistic equals sequential, for readers: what a running system does for its users, without its
+-- invariants.
 use Rattle.std.specs.Prelude.{List, ℕ, ◌++◌, ◌^◌, ◌≡◌, ◌≤◌}
 use Rattle.eventkey.specs.Message.{Message}
 use Rattle.model.specs.Meaning.{IsLawful, Meaning}
@@ -6,14 +7,26 @@ use Rattle.model.specs.World.{IsUpto, World}
 use Rattle.protocol.specs.Moves.{Move, after_moves}
 use Rattle.protocol.specs.Picture.{Picture, gvt, opened}
 
--- The front is the sequential simulation up to its time, its log grows, and no time below gvt comes back.
+-- The front is the sequential simulation up to its time, its log only grows, and gvt never falls.
 pub record IsSequential (m : Meaning) (end : ℕ) (p p' : Picture) : Type 0 where
   pub front : IsUpto m end p'.front.time p'.front
   pub log_grows : (more : List Message) × (p'.front.log ≡ p.front.log ++ more)
   pub gvt_rises : gvt end p ≤ gvt end p'
 
 abbrev pub OptimisticIsSequential : Type 0
-OptimisticIsSequential = (m : Meaning) (end nodes : ℕ) (w : World) (ks ls : List Move) → IsLawful m →
-    end ≤ 2 ^ 40 → 1 ≤ nodes → w.time ≤ end → IsUpto m end w.time w →
+OptimisticIsSequential = (m : Meaning) (end nodes : ℕ) (w : World) (ks ls : List Move) →
+    IsLawful m → end ≤ 2 ^ 40 → 1 ≤ nodes → w.time ≤ end → IsUpto m end w.time w →
     IsSequential m end (after_moves m end ks (opened m.lps nodes w))
     (after_moves m end (ks ++ ls) (opened m.lps nodes w))
+
+-- There is one committed history, whatever the numbers of nodes and the moves: the log of an
+-- earlier front begins that of a later one, and at the same time they are the same world.
+pub record IsOneHistory (v w : World) : Type 0 where
+  pub begins : v.time ≤ w.time → (more : List Message) × (w.log ≡ v.log ++ more)
+  pub same : v.time ≡ w.time → v ≡ w
+
+abbrev pub SchedulesAgree : Type 0
+SchedulesAgree = (m : Meaning) (end nodes nodes' : ℕ) (u : World) (ks ls : List Move) →
+    IsLawful m → end ≤ 2 ^ 40 → 1 ≤ nodes → 1 ≤ nodes' → u.time ≤ end → IsUpto m end u.time u →
+    IsOneHistory (after_moves m end ks (opened m.lps nodes u)).front
+    (after_moves m end ls (opened m.lps nodes' u)).front

@@ -13,7 +13,8 @@ is_told_there lps nodes node d =
     (nat_lt d.message.to lps && sits_on nodes node d.message.to)
     && list_all (λ (x : Message). nat_lt x.to lps) d.sent
 
--- all that the reply names is there, and the handlings that it tells are of the node's own processes
+-- all that the reply names is there, and the handlings that it tells are of the node's own
+-- processes
 abbrev pub names_there : ℕ → ℕ → ℕ → Reply → Bool
 names_there lps nodes node reply =
     list_all (λ (s : Signed). nat_lt s.message.to lps) reply.out

@@ -6,24 +6,25 @@ use Rattle.eventkey.specs.declared.Signed.{Signed}
 use Rattle.model.specs.Meaning.{IsLawful, Meaning}
 use Rattle.model.specs.World.{IsUpto, World}
 use Rattle.node.specs.declared.Parcel.{Parcel}
-use Rattle.protocol.specs.Picture.{IsBalanced, IsInRange, IsSeatedBy, IsToldTruly, Picture, gvt, nodes_of}
+use Rattle.protocol.specs.Picture.{IsBalanced, IsPictureInRange, IsSeatedBy, IsToldTruly, Picture, gvt, nodes_of}
 
--- What holds of the parcel of a node: its messages are for processes of that node, and its floor lies between
--- the node's and global virtual time.
+-- What holds of the parcel of a node: its messages are for processes of that node, and its floor
+-- lies between the node's and global virtual time.
 pub record IsParcel (m : Meaning) (nodes node low high : ℕ) (parcel : Parcel) : Type 0 where
   pub from : low ≤ parcel.floor
   pub upto : parcel.floor ≤ high
   pub there : Every (λ (s : Signed). s.message.to < m.lps) parcel.deliver
   pub on_node : Every (λ (s : Signed). s.message.to % nodes ≡ node) parcel.deliver
 
--- The invariant of a running system: its front is the sequential simulation up to the front's time, its processes
--- sit on its nodes, it is told truly and balanced, and no floor, of a node or of a parcel under way, is above
--- global virtual time. The front's time is at most those floors, and so not past the end.
+-- The invariant of a running system: its front is the sequential simulation up to the front's time,
+-- its processes sit on its nodes, it is told truly and balanced, and no floor, of a node or of a
+-- parcel under way, is above global virtual time. The front's time is at most those floors, and so
+-- not past the end.
 pub record IsSoundPicture (m : Meaning) (end : ℕ) (p : Picture) : Type 0 where
   pub front : IsUpto m end p.front.time p.front
   pub some : 1 ≤ nodes_of p
   pub seated : IsSeatedBy m.lps p
-  pub in_range : IsInRange p
+  pub in_range : IsPictureInRange p
   pub told : IsToldTruly m p
   pub balanced : IsBalanced m p
   pub front_low : Every (λ (f : ℕ). p.front.time ≤ f) p.floors
@@ -38,8 +39,9 @@ pub record IsSystem (m : Meaning) (end : ℕ) (p : Picture) : Type 0 where
   pub short : end ≤ 2 ^ 40
   pub sound : IsSoundPicture m end p
 
--- With what a session begins: some nodes, and a front that is the sequential simulation up to its time, which is
--- not past the end (the simulation up to g alone does not say so: past the end no step is made).
+-- With what a session begins: some nodes, and a front that is the sequential simulation up to its
+-- time, which is not past the end (the simulation up to g alone does not say so: past the end no
+-- step is made).
 pub record IsOpening (m : Meaning) (end nodes : ℕ) (w : World) : Type 0 where
   pub lawful : IsLawful m
   pub short : end ≤ 2 ^ 40
@@ -48,7 +50,7 @@ pub record IsOpening (m : Meaning) (end nodes : ℕ) (w : World) : Type 0 where
   pub front : IsUpto m end w.time w
 
 -- What a later picture of a system is to an earlier one.
-pub record GoesOn (end : ℕ) (p p' : Picture) : Type 0 where
+pub record GoesOnFrom (end : ℕ) (p p' : Picture) : Type 0 where
   pub gvt_rises : gvt end p ≤ gvt end p'
   pub same_nodes : nodes_of p' ≡ nodes_of p
   pub floors_rise : (node : ℕ) → get_or p.floors node 0 ≤ get_or p'.floors node 0

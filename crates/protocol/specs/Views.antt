@@ -1,4 +1,5 @@
--- The nodes and the ledger of a picture, as their own crates show them, and what a node is loaded with.
+-- The nodes and the ledger of a picture, as their own crates show them, and what a node is loaded
+-- with.
 use Rattle.std.specs.Prelude.{false, filter, get_or, map, ℕ, ◌==◌}
 use Rattle.eventkey.specs.Message.{Message}
 use Rattle.gvt.specs.Ledger.{Ledger}

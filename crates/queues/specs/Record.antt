@@ -1,7 +1,7 @@
 -- A message handled, and lists of such (the state queue and the output queue of a process, in one: Jefferson 1985).
 use Rattle.queues.specs.declared.Record.{Record}
 use Rattle.std.specs.List.{filter}
-use Rattle.std.specs.Prelude.{ℕ, List, [], ◌∷◌, if◌then◌else◌, nat_le, nat_lt, flat_map, map, ◌≡◌}
+use Rattle.std.specs.Prelude.{ℕ, List, [], ◌∷◌, if◌then◌else◌, nat_le, nat_lt, flat_map, map, ◌≡◌, Option, Some, None}
 use Rattle.eventkey.specs.Bag.{IsAscending}
 use Rattle.eventkey.specs.Message.{Message}
 
@@ -23,6 +23,11 @@ state_before (h ∷ hs) state = h.before
 abbrev pub number_before : List Record → ℕ → ℕ
 number_before [] number = number
 number_before (h ∷ hs) number = h.number_before
+
+-- the time of the first of these handlings, if there are any
+abbrev pub first_handled : List Record → Option ℕ
+first_handled [] = None
+first_handled (h ∷ hs) = Some h.message.time
 
 abbrev pub sent_in : List Record → List Message
 sent_in hs = flat_map (λ (h : Record). h.sent) hs

@@ -1,11 +1,12 @@
 // The history of a logical process.
 
-ghost use Rattle.std.specs.Prelude.{◌≡◌, ◌<◌, ◌≤◌, ◌++◌, ◌∷◌, [], length, IfOk, OnOk, OnErr, take, drop};
+ghost use Rattle.std.specs.Prelude.{◌≡◌, ◌<◌, ◌≤◌, ◌++◌, ◌∷◌, [], length, IfOk, OnOk, OnErr, take, drop, nat_le, nat_lt};
 ghost use Rattle.std.specs.Option.{option_copied};
-ghost use Rattle.std.specs.List.{slice_get};
+ghost use Rattle.std.specs.List.{filter, slice_get};
 ghost use Rattle.std.specs.VecDeque.{deque_len};
 ghost use Rattle.queues.specs.Queue.{but_last, last_of};
-ghost use Rattle.queues.specs.Record.{handled_before, handled_from};
+ghost use Rattle.queues.specs.Record.{handled_before, handled_from, messages};
+ghost use Rattle.eventkey.specs.Bag.{IsAscending};
 
 use crate::Record;
 use std::alloc::{AllocError, AllocFailed, Global};
@@ -76,10 +77,13 @@ impl History {
     }
 
     /// Takes out the first records, as long as their messages are below the floor, in ticks, and answers them in their
-    /// order. It is refused only for want of memory, and then the history is unchanged.
+    /// order: where the records ascend, all that are below it. It is refused only for want of memory, and then the history
+    /// is unchanged. It costs what it takes out.
     pub fn release(&mut self, floor: u64) -> Result<Vec<Record>, AllocError>
         ensures answer { IfOk result (λ released. released.items ≡ handled_before floor self.old) }
         ensures left { OnOk result (self.new ≡ handled_from floor self.old) }
+        ensures below { IsAscending (messages self.old) → IfOk result (λ released. released.items ≡ filter (λ h. nat_lt h.message.time floor) self.old) }
+        ensures from_floor { IsAscending (messages self.old) → OnOk result (self.new ≡ filter (λ h. nat_le floor h.message.time) self.old) }
         ensures unchanged { OnErr result (self.new ≡ self.old) }
     {
         let count = count_before(&self.records, floor);

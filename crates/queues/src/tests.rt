@@ -125,6 +125,52 @@ fn copies_are_counted(rt: HostRuntime) -> Result<(), Fail> {
 }
 
 #[test]
+fn one_of_two_equal_done_copies_is_taken_back(rt: HostRuntime) -> Result<(), Fail> {
+    let a = Message::new(5, 0, 1, 1, 0, 1)?;
+    let mut queue = InputQueue::new(rt.alloc());
+    for _ in 0..2 {
+        arrive(&rt, &mut queue, plus(a))?;
+        assert_eq!(rt; take_next(&rt, &mut queue, 10)?, Some(a));
+    }
+    assert_eq!(rt; lens(&queue), (2, 0, 0));
+    assert_eq!(rt;
+        arrive(&rt, &mut queue, minus(a))?,
+        Arrival::Annihilated { back: 1 }
+    );
+    assert_eq!(rt; lens(&queue), (1, 0, 0));
+    assert_eq!(rt;
+        arrive(&rt, &mut queue, minus(a))?,
+        Arrival::Annihilated { back: 1 }
+    );
+    assert_eq!(rt; lens(&queue), (0, 0, 0));
+    assert_eq!(rt; arrive(&rt, &mut queue, minus(a))?, Arrival::Waits);
+    Ok(())
+}
+
+#[test]
+fn each_of_two_equal_antimessages_meets_a_message(rt: HostRuntime) -> Result<(), Fail> {
+    let a = Message::new(5, 0, 1, 1, 0, 1)?;
+    let mut queue = InputQueue::new(rt.alloc());
+    for _ in 0..2 {
+        assert_eq!(rt; arrive(&rt, &mut queue, minus(a))?, Arrival::Waits);
+    }
+    assert_eq!(rt; lens(&queue), (0, 0, 2));
+    for left in [1, 0] {
+        assert_eq!(rt;
+            arrive(&rt, &mut queue, plus(a))?,
+            Arrival::Annihilated { back: 0 }
+        );
+        assert_eq!(rt; lens(&queue), (0, 0, left));
+    }
+    assert_eq!(rt;
+        arrive(&rt, &mut queue, plus(a))?,
+        Arrival::Queued { back: 0 }
+    );
+    assert_eq!(rt; queue.low(), Some(5));
+    Ok(())
+}
+
+#[test]
 fn straggler_undoes_what_comes_after(rt: HostRuntime) -> Result<(), Fail> {
     let mut pending = Vec::new(rt.alloc());
     for time in [9, 3, 7, 5] {

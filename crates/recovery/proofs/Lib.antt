@@ -8,4 +8,5 @@ pub mod Causes
 pub mod Filled
 pub mod Replaying
 pub mod Logs
+pub mod Disks
 mod Examples

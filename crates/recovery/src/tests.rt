@@ -3,7 +3,7 @@
 ghost use Rattle.std.specs.Prelude.{◌≡◌, ◌≤◌, ◌<◌, ◌^◌, ℕ};
 ghost use Rattle.recovery.specs.Ring.{ring_meaning, ring_lawful};
 
-use crate::{Front, RecoveryFault, encode_events, header, recover};
+use crate::{Front, RecoveryFault, encode_events, events_length, header, recover};
 use commitlog::{Log, LogFault, format};
 use disk::{DiskFault, MemDisk, Plan, SectorDisk, Torn};
 use eventkey::{Message, append_messages};

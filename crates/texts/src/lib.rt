@@ -6,5 +6,5 @@ mod model_file;
 mod tests;
 mod text;
 
-pub use model_file::{ModelFault, read_model};
+pub use model_file::{Key, Mistake, ModelFault, read_model};
 pub use text::{write_log, write_world};

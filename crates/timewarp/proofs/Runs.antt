@@ -6,6 +6,7 @@ use Rattle.std.specs.Prelude.{Result, Ok, Err, OnOk, IsErrAnd}
 use Rattle.timewarp.specs.Command.{of_model}
 use Rattle.timewarp.specs.declared.command.Fault.{Fault}
 use Rattle.timewarp.specs.declared.command.Fault.TheVariants as fault
+use Rattle.texts.specs.declared.model_file.Mistake.{Mistake}
 use Rattle.texts.specs.declared.model_file.ModelFault.{ModelFault}
 use Rattle.texts.specs.declared.model_file.ModelFault.TheVariants as file
 use Rattle.model.proofs.Worlds.{IsUpto_IsWorld, opening_IsWorld}
@@ -44,7 +45,8 @@ on_ok (Ok x) f h = f h
 on_ok (Err e) f h = tt
 
 -- the program's own name for a refusal tells which refusal it was
-pub bad_model : {T : Type 0} (r : Result T Fault) (f : ModelFault) → IsErrAnd r (λ e. e ≡ of_model f) → r ≡ Err fault.BadModel → f ≡ file.BadModel
-bad_model r file.BadModel h k = refl
+pub bad_model : {T : Type 0} (r : Result T Fault) (f : ModelFault) → IsErrAnd r (λ e. e ≡ of_model f) → r ≡ Err fault.BadModel
+    → (m : Mistake) × (f ≡ file.BadModel m)
+bad_model r (file.BadModel m) h k = (m, refl)
 bad_model (Ok x) file.NoMemory h k = absurd h
 bad_model (Err e) file.NoMemory h k = cc

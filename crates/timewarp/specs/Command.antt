@@ -18,7 +18,7 @@ run_text w = log_text w.log ++ world_text w
 
 -- the program's own name for a refusal of a model file
 abbrev pub of_model : ModelFault → Fault
-of_model file.BadModel = BadModel
+of_model (file.BadModel mistake) = BadModel
 of_model file.NoMemory = NoMemory
 
 -- the writer has taken the run of a model: its sequential simulation up to its end, and nothing else

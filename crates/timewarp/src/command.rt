@@ -1,7 +1,7 @@
 // The commands of the program.
 
 ghost use Rattle.std.specs.IoError.{error_kind};
-ghost use Rattle.std.specs.Prelude.{◌≡◌, ◌≤◌, ◌≢◌, ◌⊎◌, ℕ, Err, [], length, map, IsOkUnless, OnErr, OnOk};
+ghost use Rattle.std.specs.Prelude.{◌≡◌, ◌≤◌, ◌≢◌, ◌⊎◌, ℕ, Err, [], length, map, IsErr, IsOkUnless, OnErr, OnOk};
 ghost use Rattle.clap.specs.Words.{fault_of};
 ghost use Rattle.timewarp.specs.Command.{of_model, run_text, BeginsSome, PrintsBeginning, PrintsRun, PrintsSome};
 ghost use Rattle.timewarp.specs.Line.{program};
@@ -16,7 +16,7 @@ use model::{World, WorldFault};
 use std::alloc::Global;
 use std::convert::AsStr;
 use std::fs;
-use std::io::{Error as IoError, ErrorKind, Write};
+use std::io::{Error as IoError, ErrorKind, Result as IoResult, Write};
 use std::rt::Files;
 use texts::{ModelFault, read_model, write_log, write_world};
 use thiserror::Error;
@@ -74,12 +74,30 @@ where
     }
 }
 
+/// What the program does with the words of its command line, or with why they could not be read. Answers the exit status.
+pub fn answer<R, O, E>(rt: &R, words: IoResult<Vec<String>>, out: &mut O, err: &mut E) -> u8
+where
+    R: Files + AllocGlobal,
+    O: Write,
+    E: Write,
+    ensures unread { IsErr words → result ≢ 0 }
+    ensures printed { result ≡ 0 → PrintsSome (O.contents out.old) (O.contents out.new) }
+    ensures silent { result ≡ 2 → out.new ≡ out.old }
+    ensures quiet { result ≡ 0 → err.new ≡ err.old }
+{
+    match words {
+        Ok(words) => command(rt, words.as_slice(), out, err),
+        Err(error) => refuse_words(error, err),
+    }
+}
+
 /// Tells on `err` why the words of the command line could not be read, and answers the exit status.
 ///
 /// A word that is no UTF-8 is a mistake in the line, as those that `clap` finds. Else memory ran out.
 pub fn refuse_words<E: Write>(error: IoError, err: &mut E) -> u8
     ensures usage { error_kind error ≡ ErrorKind.InvalidData → result ≡ 2 }
     ensures memory { error_kind error ≢ ErrorKind.InvalidData → result ≡ 1 }
+    ensures failed { result ≢ 0 }
 {
     match error.kind() {
         ErrorKind::InvalidData => {
@@ -175,7 +193,7 @@ impl From<ModelFault> for Fault {
 
     fn from(fault: ModelFault) -> Fault {
         match fault {
-            ModelFault::BadModel => Fault::BadModel,
+            ModelFault::BadModel(_) => Fault::BadModel,
             ModelFault::NoMemory => Fault::NoMemory,
         }
     }

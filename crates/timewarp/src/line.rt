@@ -85,12 +85,24 @@ fn seq<'a>(alloc: Global) -> Result<Command<'a>, AllocError>
 }
 
 const MODEL_HELP: &str = "\
-A token ring has these keys:
-  model = \"ring\"
-  lps     processes, 1 to 1024
-  end     ticks at which the run ends, 1 to 1099511627776
-  hold    ticks for which a process holds a token, 1 to 4294967295
-  tokens  1 to 8 times lps
+Each model has these keys:
+  model       \"ring\", \"phold\" or \"jobshop\"
+  lps         processes, 1 to 1024
+  end         ticks at which the run ends, 1 to 1099511627776
+
+A token ring hands tokens round, and has also:
+  hold        ticks for which a process holds a token, 1 to 4294967295
+  tokens      1 to 8 times lps
+
+PHOLD sends each message on to a drawn process, and has also:
+  population  messages that each process starts with, 1 to 8
+  spread      the greatest delay in ticks, 1 to 4294967295
+  seed        what begins the drawn words, 0 to 9223372036854775807
+
+A job shop hands jobs from machine to machine, and has also:
+  jobs        jobs that each machine starts with, 1 to 8
+  service     the most ticks for which a machine serves a job, 1 to 4294967295
+  seed        what begins the drawn words, 0 to 9223372036854775807
 
 Output, all numbers decimal:
   TIME FROM NUMBER TO A B          each event that was handled

@@ -6,7 +6,7 @@ mod line;
 #[cfg(test)]
 mod tests;
 
-use command::{Fault, command, refuse_words, tell};
+use command::{Fault, answer, tell};
 use std::env;
 use std::io::{self, BufWriter};
 use std::process::ExitCode;
@@ -14,14 +14,10 @@ use std::rt::Env;
 
 fn main(rt: HostRuntime) -> ExitCode {
     let mut err = rt.stderr();
-    let words = match words(&rt) {
-        Ok(words) => words,
-        Err(error) => return ExitCode::from(refuse_words(error, &mut err)),
-    };
     let Ok(mut out) = BufWriter::new(rt.alloc(), io::writer(&rt)) else {
         return ExitCode::from(tell(Fault::NoMemory, &mut err));
     };
-    ExitCode::from(command(&rt, words.as_slice(), &mut out, &mut err))
+    ExitCode::from(answer(&rt, words(&rt), &mut out, &mut err))
 }
 
 /// The words of the command line, the program's own name first. One that is no UTF-8 is an error of the kind

@@ -35,7 +35,9 @@ pub record IsSamePort (old new : PortState) : Type 0 where
 pub record IsLoadInRange (load : Load) : Type 0 where
   pub node : load.node < load.nodes
   pub nodes : load.nodes ≤ 64
+  pub some : 1 ≤ load.end
   pub end : load.end ≤ 2 ^ 40
+  pub floor : load.floor ≤ load.end
   pub parts : Every IsInRange load.parts
 
 -- no fault of what is handed in: there was no memory, or the bytes were too many, or the way to the node ended for one of these causes

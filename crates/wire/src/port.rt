@@ -1,11 +1,12 @@
 // The interface of a port: what code above it may rely on.
 
-ghost use Rattle.std.specs.Prelude.{◌≡◌, true, IfErr, IfOk, OnErr, OnOk};
+ghost use Rattle.std.specs.Prelude.{◌≡◌, ◌≤◌, ◌^◌, true, IfErr, IfOk, OnErr, OnOk};
 ghost use Rattle.node.specs.declared.Parcel.{Parcel};
 ghost use Rattle.wire.specs.Port.{IsLoadFault, IsLoadInRange, IsLoaded, IsForWant, IsSamePort, IsTakeFault, IsTaken, PortState};
 ghost use Rattle.wire.specs.Port.Stage.{Ended, Fresh, Idle, Posted};
 
 use node::{Load, NodeFault, Parcel, Reply};
+use std::alloc::{AllocError, AllocFailed};
 use thiserror::Error;
 
 /// Why bytes are no frame, or are not sent.
@@ -29,6 +30,36 @@ pub enum WireFault {
     /// Memory was refused.
     #[error("NoMemory")]
     NoMemory,
+}
+
+impl From<AllocError> for WireFault {
+    ghost use Rattle.wire.specs.declared.port.WireFault.TheVariants.{NoMemory};
+
+    ghost from_gives = { λ _ e. e ≡ NoMemory };
+
+    fn from(_refused: AllocError) -> WireFault {
+        WireFault::NoMemory
+    }
+}
+
+impl<T: Drop> From<AllocFailed<T>> for WireFault {
+    ghost use Rattle.wire.specs.declared.port.WireFault.TheVariants.{NoMemory};
+
+    ghost from_gives = { λ _ e. e ≡ NoMemory };
+
+    fn from(_refused: AllocFailed<T>) -> WireFault {
+        WireFault::NoMemory
+    }
+}
+
+impl From<std::io::Error> for WireFault {
+    ghost use Rattle.wire.specs.declared.port.WireFault.TheVariants.{Io};
+
+    ghost from_gives = { λ _ e. e ≡ Io };
+
+    fn from(_error: std::io::Error) -> WireFault {
+        WireFault::Io
+    }
 }
 
 /// Why a port refuses a call.
@@ -66,6 +97,7 @@ pub trait Port {
     /// Hands the node a parcel.
     fn post(&mut self, parcel: Parcel) -> Result<(), PortFault>
         requires idle { (state self.old).stage ≡ Idle }
+        requires range { parcel.floor ≤ 2 ^ 40 }
         ensures posted { OnOk result ((state self.new).stage ≡ Posted parcel) }
         ensures ended { OnErr result ((state self.new).stage ≡ Ended) }
         ensures same { IsSamePort (state self.old) (state self.new) }

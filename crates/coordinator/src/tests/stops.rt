@@ -3,7 +3,7 @@ use super::*;
 // A device that fails in a commit.
 
 /// A disk with this image, of at most 1 MiB, whose operation of this number fails, counted from 0.
-fn failing(alloc: Global, image: Vec<u8>, fail: Option<u64>) -> Result<MemDisk, Fail> {
+pub(super) fn failing(alloc: Global, image: Vec<u8>, fail: Option<u64>) -> Result<MemDisk, Fail> {
     if image.len() > 1 << 20 {
         return Ok(MemDisk::blank(alloc, 0)?);
     }

@@ -1,5 +1,8 @@
-use Rattle.protocol.proofs.Commits.{commit_is_by_told, commit_is_sequential, commits_tell}
+use Rattle.protocol.proofs.Commits.{commit_is_by_told, commit_is_sequential, commits_tell, systems_may_commit}
 use Rattle.protocol.proofs.law_of_commits.Goals as goal
+
+pub returns-clause-may : goal.returns-clause-may
+returns-clause-may c = systems_may_commit
 
 pub returns-clause-sequential : goal.returns-clause-sequential
 returns-clause-sequential c = commit_is_sequential

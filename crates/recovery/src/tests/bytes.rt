@@ -25,6 +25,7 @@ fn records_of_events_have_the_bytes_of_their_format(rt: HostRuntime) -> Result<(
     disk.read(5, &mut sector)?;
     let three = [1, 0, 0, 0, 0x84, 0, 0, 0, 0, 0, 0, 0, 7, 0, 0, 0, 3];
     assert!(rt; sector.starts_with(&three));
+    assert_eq!(rt; events_length(3), 0x84);
     Ok(())
 }
 

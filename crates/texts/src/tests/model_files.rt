@@ -1,7 +1,7 @@
 // Model files.
 
-use crate::{ModelFault, read_model};
-use models::{AnyModel, TokenRing};
+use crate::{Key, Mistake, ModelFault, read_model};
+use models::{AnyModel, JobShop, Phold, TokenRing};
 use std::test::Fail;
 
 const RING: &str = "model = \"ring\"\nlps = 3\nend = 10\nhold = 2\ntokens = 1\n";
@@ -35,6 +35,102 @@ fn the_ends_of_each_range_are_allowed(rt: HostRuntime) -> Result<(), Fail> {
 }
 
 #[test]
+fn phold_and_the_job_shop_are_read_at_both_ends(rt: HostRuntime) -> Result<(), Fail> {
+    let seed = 9223372036854775807;
+    let most = u32::MAX;
+    let files = [
+        (
+            "model = 'phold'\nlps = 1\nend = 1\npopulation = 1\nspread = 1\nseed = 0\n",
+            (AnyModel::Phold(Phold::new(1, 1, 1, 0)), 1),
+        ),
+        (
+            "seed = 9223372036854775807\nspread = 4294967295\npopulation = 8\nend = 1099511627776\nlps = 1024\nmodel = 'phold'\n",
+            (
+                AnyModel::Phold(Phold::new(1024, 8, most, seed)),
+                1099511627776,
+            ),
+        ),
+        (
+            "model = 'jobshop'\nlps = 1\nend = 1\njobs = 1\nservice = 1\nseed = 0\n",
+            (AnyModel::JobShop(JobShop::new(1, 1, 1, 0)), 1),
+        ),
+        (
+            "seed = 9223372036854775807\nservice = 4294967295\njobs = 8\nend = 1099511627776\nlps = 1024\nmodel = 'jobshop'\n",
+            (
+                AnyModel::JobShop(JobShop::new(1024, 8, most, seed)),
+                1099511627776,
+            ),
+        ),
+    ];
+    for (text, file) in files {
+        assert!(rt; read_model(rt.alloc(), text)? == file, "{text}");
+    }
+    Ok(())
+}
+
+#[test]
+fn a_mistake_is_told_in_plain_words(rt: HostRuntime) -> Result<(), Fail> {
+    let rest = "end = 10\nhold = 2\ntokens = 1\n";
+    let texts = [
+        ("lps =", "not TOML"),
+        ("lps = 3\n", "model: not \"ring\", \"phold\" or \"jobshop\""),
+        ("model = 'ring'\n", "lps: missing"),
+        ("model = 'ring'\nlps = '3'\n", "lps: not a whole number"),
+        (
+            "model = 'ring'\nlps = 2000\n",
+            "lps: 2000 is not within 1 to 1024",
+        ),
+        (
+            "model = 'ring'\nlps = -1\n",
+            "lps: -1 is not within 1 to 1024",
+        ),
+        (
+            "model = 'ring'\nlps = 3\nseed = 1\n",
+            "a key that the model does not have",
+        ),
+    ];
+    for (start, want) in texts {
+        let text = format!(in rt.alloc(); "{start}{rest}")?;
+        let Err(ModelFault::BadModel(mistake)) = read_model(rt.alloc(), text.as_str()) else {
+            return Err("a mistake".into());
+        };
+        let told = format!(in rt.alloc(); "{mistake}")?;
+        assert_eq!(rt; told.as_str(), want);
+    }
+    Ok(())
+}
+
+#[test]
+fn each_key_is_told_as_it_is_spelled(rt: HostRuntime) -> Result<(), Fail> {
+    for (key, name) in [
+        (Key::Lps, "lps"),
+        (Key::End, "end"),
+        (Key::Hold, "hold"),
+        (Key::Tokens, "tokens"),
+        (Key::Population, "population"),
+        (Key::Spread, "spread"),
+        (Key::Jobs, "jobs"),
+        (Key::Service, "service"),
+        (Key::Seed, "seed"),
+    ] {
+        let told = format!(in rt.alloc(); "{key}")?;
+        assert_eq!(rt; told.as_str(), name);
+    }
+    for (fault, name) in [
+        (ModelFault::BadModel(Mistake::Toml), "BadModel"),
+        (ModelFault::NoMemory, "NoMemory"),
+    ] {
+        let told = format!(in rt.alloc(); "{fault}")?;
+        assert_eq!(rt; told.as_str(), name);
+    }
+    Ok(())
+}
+
+fn is_bad(fault: &ModelFault) -> bool {
+    matches!(fault, ModelFault::BadModel(_))
+}
+
+#[test]
 fn other_texts_are_no_model(rt: HostRuntime) {
     let texts = [
         "",
@@ -46,8 +142,19 @@ fn other_texts_are_no_model(rt: HostRuntime) {
         "model = \"ring\"\nlps = 3\nend = 10\nhold = 2\ntokens = 1\nseed = 1\n",
         "model = \"ring\"\nlps = 3\nend = 10\nhold = 2\nTokens = 1\n",
         "model = \"Ring\"\nlps = 3\nend = 10\nhold = 2\ntokens = 1\n",
-        "model = \"phold\"\nlps = 3\nend = 10\npopulation = 2\nspread = 1\nseed = 1\n",
-        "model = \"jobshop\"\nlps = 3\nend = 10\njobs = 2\nservice = 1\nseed = 1\n",
+        "model = \"phold\"\nlps = 3\nend = 10\npopulation = 0\nspread = 1\nseed = 1\n",
+        "model = \"phold\"\nlps = 3\nend = 10\npopulation = 9\nspread = 1\nseed = 1\n",
+        "model = \"phold\"\nlps = 3\nend = 10\npopulation = 2\nspread = 0\nseed = 1\n",
+        "model = \"phold\"\nlps = 3\nend = 10\npopulation = 2\nspread = 4294967296\nseed = 1\n",
+        "model = \"phold\"\nlps = 3\nend = 10\npopulation = 2\nspread = 1\nseed = -1\n",
+        "model = \"phold\"\nlps = 3\nend = 10\npopulation = 2\nspread = 1\nseed = 9223372036854775808\n",
+        "model = \"phold\"\nlps = 3\nend = 10\npopulation = 2\nspread = 1\nseed = 1\nhold = 1\n",
+        "model = \"phold\"\nlps = 3\nend = 10\njobs = 2\nservice = 1\nseed = 1\n",
+        "model = \"jobshop\"\nlps = 3\nend = 10\njobs = 0\nservice = 1\nseed = 1\n",
+        "model = \"jobshop\"\nlps = 3\nend = 10\njobs = 9\nservice = 1\nseed = 1\n",
+        "model = \"jobshop\"\nlps = 3\nend = 10\njobs = 2\nservice = 0\nseed = 1\n",
+        "model = \"jobshop\"\nlps = 3\nend = 10\njobs = 2\nservice = 4294967296\nseed = 1\n",
+        "model = \"jobshop\"\nlps = 3\nend = 10\njobs = 2\nservice = 1\n",
         "model = 1\nlps = 3\nend = 10\nhold = 2\ntokens = 1\n",
         "model = \"ring\"\nlps = 0\nend = 10\nhold = 2\ntokens = 1\n",
         "model = \"ring\"\nlps = 1025\nend = 10\nhold = 2\ntokens = 1\n",
@@ -78,7 +185,7 @@ fn other_texts_are_no_model(rt: HostRuntime) {
     ];
     for text in texts {
         let read = read_model(rt.alloc(), text);
-        assert!(rt; read == Err(ModelFault::BadModel), "{text}");
+        assert!(rt; read.is_err_and(|fault| is_bad(&fault)), "{text}");
     }
 }
 
@@ -100,5 +207,11 @@ fn a_bad_model_is_refused_at_a_second_try(rt: HostRuntime) {
     if read == Err(ModelFault::NoMemory) {
         read = read_model(rt.alloc(), text);
     }
-    assert!(rt; read == Err(ModelFault::BadModel));
+    let mistake = Mistake::Outside {
+        key: Key::Lps,
+        found: 0,
+        least: 1,
+        most: 1024,
+    };
+    assert!(rt; read == Err(ModelFault::BadModel(mistake)));
 }

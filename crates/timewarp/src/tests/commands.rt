@@ -82,6 +82,29 @@ fn seq_prints_the_log_and_then_the_world(rt: HostRuntime) -> std::result::Result
 }
 
 #[test]
+fn seq_runs_each_kind_of_model(rt: HostRuntime) -> std::result::Result<(), Fail> {
+    let files = [
+        (
+            "model = \"phold\"\nlps = 1\nend = 4\npopulation = 1\nspread = 1\nseed = 5\n",
+            "1 0 0 0 0 0\n2 0 1 0 0 1\n3 0 2 0 0 2\nvirtual time 4\nlp 0 sent 4 state ",
+            " 3\npending 4 0 3 0 0 3\n",
+        ),
+        (
+            "model = \"jobshop\"\nlps = 1\nend = 3\njobs = 2\nservice = 1\nseed = 5\n",
+            "1 0 0 0 0 0\n2 0 1 0 1 0\n2 0 2 0 0 1\nvirtual time 3\nlp 0 sent 5 state 4 3 1 0 ",
+            "\npending 3 0 3 0 1 1\npending 4 0 4 0 0 2\n",
+        ),
+    ];
+    for (file, start, end) in files {
+        let told = run_seq(&rt, "timewarp-kinds.toml", file.as_bytes())?;
+        assert!(rt; told.out.as_slice().starts_with(start.as_bytes()), "{start}");
+        assert!(rt; told.out.as_slice().ends_with(end.as_bytes()), "{end}");
+        assert_eq!(rt; (told.status, told.err.len()), (0, 0));
+    }
+    Ok(())
+}
+
+#[test]
 fn a_file_that_is_no_model_is_told(rt: HostRuntime) -> std::result::Result<(), Fail> {
     for bytes in [b"lps = 3\n".as_slice(), b"\xff".as_slice(), b"".as_slice()] {
         let told = run_seq(&rt, "timewarp-bad.toml", bytes)?;
@@ -169,16 +192,32 @@ fn help_tells_what_is_done_in_which_units_and_ranges(
         ),
         (seq.as_slice(), "Runs a model to its end"),
         (seq.as_slice(), "Usage: timewarp seq <MODEL>"),
-        (seq.as_slice(), "lps     processes, 1 to 1024\n"),
+        (seq.as_slice(), "lps         processes, 1 to 1024\n"),
         (
             seq.as_slice(),
-            "end     ticks at which the run ends, 1 to 1099511627776\n",
+            "end         ticks at which the run ends, 1 to 1099511627776\n",
         ),
         (
             seq.as_slice(),
-            "hold    ticks for which a process holds a token, 1 to 4294967295\n",
+            "hold        ticks for which a process holds a token, 1 to 4294967295\n",
         ),
-        (seq.as_slice(), "tokens  1 to 8 times lps\n"),
+        (seq.as_slice(), "tokens      1 to 8 times lps\n"),
+        (
+            seq.as_slice(),
+            "population  messages that each process starts with, 1 to 8\n",
+        ),
+        (
+            seq.as_slice(),
+            "spread      the greatest delay in ticks, 1 to 4294967295\n",
+        ),
+        (
+            seq.as_slice(),
+            "seed        what begins the drawn words, 0 to 9223372036854775807\n",
+        ),
+        (
+            seq.as_slice(),
+            "jobs        jobs that each machine starts with, 1 to 8\n",
+        ),
         (seq.as_slice(), "virtual time TIME                ticks\n"),
     ];
     for (words, part) in lines {
@@ -223,6 +262,45 @@ impl Write for Refusing {
     fn flush(&mut self) -> Result<()> {
         self.call()
     }
+}
+
+/// A writer that takes all, and refuses to flush.
+#[derive(Drop)]
+struct NeverFlushed {
+    taken: Vec<u8>,
+}
+
+impl Write for NeverFlushed {
+    fn write(&mut self, buf: &[u8]) -> Result<usize> {
+        self.taken.extend_from_slice(buf)?;
+        Ok(buf.len())
+    }
+
+    fn flush(&mut self) -> Result<()> {
+        Err(Error::from(ErrorKind::StorageFull))
+    }
+}
+
+#[test]
+fn the_last_flush_is_made_and_told(rt: HostRuntime) -> std::result::Result<(), Fail> {
+    let mut out = NeverFlushed {
+        taken: Vec::new(rt.alloc()),
+    };
+    assert!(rt; seq(rt.alloc(), RING, &mut out) == Err(Fault::Output));
+    assert_eq!(rt; out.taken.as_slice(), RING_TEXT.as_bytes());
+    let path = temporary(&rt, "timewarp flushed.toml ")?;
+    let path = path.as_path().to_str().ok_or("a path of text")?;
+    fs::write(&rt, path, RING)?;
+    let mut out = NeverFlushed {
+        taken: Vec::new(rt.alloc()),
+    };
+    let mut err = Vec::new(rt.alloc());
+    let words = ["timewarp", "seq", path];
+    let status = command(&rt, words.as_slice(), &mut out, &mut err);
+    fs::remove_file(&rt, path)?;
+    assert_eq!(rt; (status, out.taken.len()), (1, RING_TEXT.len()));
+    assert_eq!(rt; err.as_slice(), b"timewarp: Output\n".as_slice());
+    Ok(())
 }
 
 impl Refusing {

@@ -4,7 +4,7 @@ use Rattle.std.specs.Vec.Iter.{into_iter_items}
 use Rattle.eventkey.specs.Message.{Message}
 use Rattle.node.proofs.Loads.{all_seated, every_next, seats_more, seats_place}
 use Rattle.node.specs.Handling.{IsInRange}
-use Rattle.node.specs.Seats.{nexts_of, seat_of}
+use Rattle.node.specs.Seats.{standings_of, seat_of}
 use Rattle.node.specs.declared.Part.{Part}
 use Rattle.node.proofs.node.seat_all.Goals as goal
 
@@ -20,8 +20,8 @@ pub seated-requires-clause-late : goal.seated-requires-clause-late
 seated-requires-clause-late c =
     every_next (λ (p : Part). Every (λ (x : Message). c.args.floor ≤ x.time) p.pending) c.args.parts.items c.loop-part.yielded (into_iter_items c.loop-part.part-iterator) (into_iter_items c.next.new.self) c.in-Some.part (c.loop-part.invariant.so_far.all ∙ c.into_iter-part-iterator.ensures.into_iter_gives.0) c.in-Some.ensures.steps.0 c.requires.late
 
-pub set-requires : goal.set-requires
-set-requires c =
+pub set-requires-clause-inside : goal.set-requires-clause-inside
+set-requires-clause-inside c =
     let place = seats_place (into_iter_items c.next.new.self) c.in-Some.part c.loop-part.invariant.so_far c.in-Some.ensures.steps.0 in
     let size = c.len-2.ensures in
     omega arith
@@ -31,7 +31,7 @@ loop-part-preserved c =
     let told = c.len-in-loop-part.ensures in
     let place : c.len-in-loop-part.result ≡ length c.loop-part.processes.items = omega (arith, c.loop-part.processes.ok) in
     record {
-      so_far = seats_more (into_iter_items c.next.new.self) c.in-Some.part c.in_ok-process.process c.push.new.self.items c.next-in-loop-part.result c.set.new.self c.loop-part.invariant.so_far c.in-Some.ensures.steps.0 c.in_ok-process.ensures.process c.in_ok-push.ensures.items c.next-in-loop-part.ensures (c.set.ensures ∙ ap (λ n. set c.loop-part.nexts n c.next-in-loop-part.result) place);
+      so_far = seats_more (into_iter_items c.next.new.self) c.in-Some.part c.in_ok-process.process c.push.new.self.items c.of.result c.set.new.self c.loop-part.invariant.so_far c.in-Some.ensures.steps.0 c.in_ok-process.ensures.process c.in_ok-push.ensures.items c.of.ensures.standing (c.set.ensures ∙ ap (λ n. set c.loop-part.standings n c.of.result) place);
       left =
           let was = c.loop-part.invariant.left in
           let gone = c.in-Some.ensures.steps.1 in
@@ -44,7 +44,7 @@ returns-clause-processes c =
     let none = sym c.loop-part.invariant.left ∙ c.in-None.ensures.steps.0 in
     (all_seated c.loop-part.invariant.so_far none).0 ∙ ap (map (seat_of c.args.floor)) c.into_iter-part-iterator.ensures.into_iter_gives.0
 
-pub returns-clause-nexts : goal.returns-clause-nexts
-returns-clause-nexts c =
+pub returns-clause-standings : goal.returns-clause-standings
+returns-clause-standings c =
     let none = sym c.loop-part.invariant.left ∙ c.in-None.ensures.steps.0 in
-    (all_seated c.loop-part.invariant.so_far none).1 ∙ ap (λ (ps : List Part). nexts_of c.args.end (map (seat_of c.args.floor) ps)) c.into_iter-part-iterator.ensures.into_iter_gives.0
+    (all_seated c.loop-part.invariant.so_far none).1 ∙ ap (λ (ps : List Part). standings_of c.args.end (map (seat_of c.args.floor) ps)) c.into_iter-part-iterator.ensures.into_iter_gives.0

@@ -8,7 +8,9 @@ pub run_to-requires : goal.run_to-requires
 run_to-requires g c = opening_states (any_meaning c.in_ok-model.model) c.in_ok-model.end c.in_ok-world.world (any_lawful c.in_ok-model.model) c.in_ok-world.ensures.ok
 
 pub returns-in_err-model-clause-bad : goal.returns-in_err-model-clause-bad
-returns-in_err-model-clause-bad g c = λ e. c.in_err-model.ensures.bad (ap Err (bad_model c.from_residual.result c.in_err-model.field-0.0 c.from_residual.ensures.1 e))
+returns-in_err-model-clause-bad g c = λ e.
+    let bad = bad_model c.from_residual.result c.in_err-model.field-0.0 c.from_residual.ensures.1 e in
+    c.in_err-model.ensures.bad bad.0 (ap Err bad.1)
 
 pub returns-clause-ok : goal.returns-clause-ok
 returns-clause-ok g c = on_ok c.write_run.result (λ printed. record {

@@ -2,43 +2,43 @@ use Rattle.std.proofs.Common.{rules, Err, false, ap, sym, arith}
 use Rattle.std.proofs.lemmas.Bool.{both_ways}
 use Rattle.std.proofs.lemmas.Result.{err_from_is_err_and}
 use Rattle.node.proofs.Deliveries.{at_of, deliver_ready, deliver_work, memory_left, own_parts}
-use Rattle.node.proofs.Seats.{length-nexts, place_inside}
+use Rattle.node.proofs.Seats.{length-standings, place_inside}
 use Rattle.node.specs.Roster.{node_of, place_of}
 use Rattle.node.proofs.roster.Roster.deliver.Goals as goal
 
 pub index_mut-process-requires : goal.index_mut-process-requires
 index_mut-process-requires c =
     let own = own_parts (node_of false c.args.self.now) c.args.delivery.now.message.to c.requires.own in
-    let inside = place_inside (place_of c.args.self.now) c.args.self.now.processes.items c.args.self.now.nexts c.args.delivery.now.message.to c.requires.ready own.0 own.1 in
+    let inside = place_inside (place_of c.args.self.now) c.args.self.now.processes.items c.args.self.now.standings c.args.delivery.now.message.to c.requires.ready own.0 own.1 in
     rw c.to.ensures (search (rules, inside))
 
 pub returns-in_err-deliver-clause-memory : goal.returns-in_err-deliver-clause-memory
 returns-in_err-deliver-clause-memory c =
     let own = own_parts (node_of false c.args.self.now) c.args.delivery.now.message.to c.requires.own in
-    let at = at_of (place_of c.args.self.now) c.args.self.now.processes.items c.args.self.now.nexts c.args.delivery.now c.to.result c.index_mut-process.result.now (record { lp_is = c.to.ensures; staffed = c.requires.ready; node = own.0; there = own.1; read = c.index_mut-process.ensures.value }) in
+    let at = at_of (place_of c.args.self.now) c.args.self.now.processes.items c.args.self.now.standings c.args.delivery.now c.to.result c.index_mut-process.result.now (record { lp_is = c.to.ensures; staffed = c.requires.ready; node = own.0; there = own.1; read = c.index_mut-process.ensures.value }) in
     let p = err_from_is_err_and c.from_residual.result c.from_residual.ensures.1 in
     rw (p.1, p.2)
     (memory_left c.in_err-deliver.field-0.0
     (λ e. (c.in_err-deliver.ensures.not_mine.0 (ap Err e)).1 (sym at.lp_is))
-    (λ e. (let early = (c.in_err-deliver.ensures.below_floor.0 (ap Err e)).2 in let floor = at.seated.floor_is in let late = c.requires.late in omega arith))
+    (λ e. (let early = (c.in_err-deliver.ensures.below_floor.0 (ap Err e)).2 in let floor = at.seated.from_floor in let late = c.requires.late in omega arith))
     (λ e. c.in_err-deliver.ensures.unlimited (ap Err e))
     (λ e. both_ways c.index_mut-process.result.now.spent at.seated.unspent (c.in_err-deliver.ensures.spent.0 (ap Err e))))
 
-pub set-requires : goal.set-requires
-set-requires c =
+pub set-requires-clause-inside : goal.set-requires-clause-inside
+set-requires-clause-inside c =
     let own = own_parts (node_of false c.args.self.now) c.args.delivery.now.message.to c.requires.own in
-    rw (c.to.ensures, length-nexts (place_of c.args.self.now) c.args.self.now.processes.items c.args.self.now.nexts c.requires.ready)
-    (place_inside (place_of c.args.self.now) c.args.self.now.processes.items c.args.self.now.nexts c.args.delivery.now.message.to c.requires.ready own.0 own.1)
+    rw (c.to.ensures, length-standings (place_of c.args.self.now) c.args.self.now.processes.items c.args.self.now.standings c.requires.ready)
+    (place_inside (place_of c.args.self.now) c.args.self.now.processes.items c.args.self.now.standings c.args.delivery.now.message.to c.requires.ready own.0 own.1)
 
 pub returns-clause-ready : goal.returns-clause-ready
 returns-clause-ready c =
     let own = own_parts (node_of false c.args.self.now) c.args.delivery.now.message.to c.requires.own in
     rw c.set.ensures
-    (deliver_ready (place_of c.args.self.now) c.args.self.now.processes.items c.args.self.now.nexts c.args.delivery.now c.to.result c.index_mut-process.result.now c.deliver.new.self c.next-next.result
-    (record { lp_is = c.to.ensures; staffed = c.requires.ready; node = own.0; there = own.1; read = c.index_mut-process.ensures.value }) c.in_ok-deliver.ensures.delivered c.next-next.ensures)
+    (deliver_ready (place_of c.args.self.now) c.args.self.now.processes.items c.args.self.now.standings c.args.delivery.now c.to.result c.index_mut-process.result.now c.deliver.new.self c.of-standing.result
+    (record { lp_is = c.to.ensures; staffed = c.requires.ready; node = own.0; there = own.1; read = c.index_mut-process.ensures.value }) c.in_ok-deliver.ensures.delivered c.of-standing.ensures.standing)
 
 pub returns-clause-work : goal.returns-clause-work
 returns-clause-work c ran =
     let own = own_parts (node_of false c.args.self.now) c.args.delivery.now.message.to c.requires.own in
-    deliver_work (place_of c.args.self.now) c.args.self.now.processes.items c.args.self.now.nexts c.args.delivery.now c.to.result c.index_mut-process.result.now c.deliver.new.self c.args.out.now.items c.deliver.new.out.items ran
+    deliver_work (place_of c.args.self.now) c.args.self.now.processes.items c.args.self.now.standings c.args.delivery.now c.to.result c.index_mut-process.result.now c.deliver.new.self c.args.out.now.items c.deliver.new.out.items ran
     (record { lp_is = c.to.ensures; staffed = c.requires.ready; node = own.0; there = own.1; read = c.index_mut-process.ensures.value }) c.in_ok-deliver.ensures.delivered c.in_ok-deliver.ensures.out

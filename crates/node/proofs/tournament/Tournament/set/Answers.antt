@@ -1,36 +1,36 @@
-use Rattle.std.proofs.Common.{◌≡◌, ◌<◌, ℕ, ◌*◌, ◌+◌, ◌/◌, ◌-◌, length, set, get_or, None, List, Option, ap, sym, subst, ◌∙◌, arith}
+use Rattle.std.proofs.Common.{◌≡◌, ◌<◌, ℕ, ◌*◌, ◌+◌, ◌/◌, ◌-◌, length, set, get_or, List, ap, sym, subst, ◌∙◌, arith}
 use Rattle.std.proofs.lemmas.List.{length-drop}
-use Rattle.eventkey.specs.Message.{Message}
-use Rattle.node.specs.Node.{lesser}
+use Rattle.node.specs.Tournament.{absent, meet}
+use Rattle.node.specs.declared.standing.Standing.{Standing}
 use Rattle.node.proofs.Tournaments.{IsReplaying, cell_at, replay_begins, replay_ends, replay_goes_on}
 use Rattle.node.proofs.tournament.Tournament.set.Goals as goal
 
 pub loop-cell-init : goal.loop-cell-init
 loop-cell-init c =
     let leaves : ℕ = c.self.inside.leaves in
-    let cells : List (Option Message) = c.self.inside.cells.items in
+    let cells : List Standing = c.self.inside.cells.items in
     let size = c.self.invariant.size in
     let seen : length c.args.self.now ≡ length cells - leaves = ap length (sym c.self.view_is) ∙ length-drop leaves cells in
     let within : c.args.leaf < leaves = omega arith in
-    subst (λ (wanted : List (Option Message)). IsReplaying leaves (set cells (leaves + c.args.leaf) c.args.message) (leaves + c.args.leaf) (set wanted c.args.leaf c.args.message)) c.self.view_is
-    (replay_begins leaves cells c.args.leaf c.args.message c.self.invariant within)
+    subst (λ (wanted : List Standing). IsReplaying leaves (set cells (leaves + c.args.leaf) c.args.standing) (leaves + c.args.leaf) (set wanted c.args.leaf c.args.standing)) c.self.view_is
+    (replay_begins leaves cells c.args.leaf c.args.standing c.self.invariant within c.requires.range)
 
 pub invariant_of-self : goal.invariant_of-self
 invariant_of-self c = replay_ends _ _ c.loop-cell.cell _ c.loop-cell-test.false c.loop-cell.invariant
 
 pub loop-cell-preserved : goal.loop-cell-preserved
 loop-cell-preserved c =
-    let cells : List (Option Message) = c.loop-cell.self-inside.cells.items in
+    let cells : List Standing = c.loop-cell.self-inside.cells.items in
     let cell : ℕ = c.loop-cell.cell in
     let size = c.loop-cell.invariant.size in
     let inside = c.loop-cell.invariant.inside in
-    let won : c.earlier.result ≡ lesser (get_or cells (2 * (cell / 2)) None) (get_or cells (2 * (cell / 2) + 1) None) =
-    c.earlier.ensures
-    ∙ ap (λ (m : Option Message). lesser m c.index-in-loop-cell.result.now) (cell_at cells (2 * (cell / 2)) c.index.result.now c.index.ensures (omega arith))
-    ∙ ap (lesser (get_or cells (2 * (cell / 2)) None)) (cell_at cells (2 * (cell / 2) + 1) c.index-in-loop-cell.result.now c.index-in-loop-cell.ensures (omega arith))
+    let won : c.meet-winner.result ≡ meet (get_or cells (2 * (cell / 2)) absent) (get_or cells (2 * (cell / 2) + 1) absent) =
+    c.meet-winner.ensures
+    ∙ ap (λ (m : Standing). meet m c.index-in-loop-cell.result.now) (cell_at cells (2 * (cell / 2)) c.index.result.now c.index.ensures (omega arith))
+    ∙ ap (meet (get_or cells (2 * (cell / 2)) absent)) (cell_at cells (2 * (cell / 2) + 1) c.index-in-loop-cell.result.now c.index-in-loop-cell.ensures (omega arith))
     in
-    subst (λ (m : Option Message). IsReplaying c.loop-cell.self-inside.leaves (set cells (cell / 2) m) (cell / 2) (set c.args.self.now c.args.leaf c.args.message)) (sym won)
-    (replay_goes_on c.loop-cell.self-inside.leaves cells cell (set c.args.self.now c.args.leaf c.args.message) c.loop-cell-test.true c.loop-cell.invariant)
+    subst (λ (m : Standing). IsReplaying c.loop-cell.self-inside.leaves (set cells (cell / 2) m) (cell / 2) (set c.args.self.now c.args.leaf c.args.standing)) (sym won)
+    (replay_goes_on c.loop-cell.self-inside.leaves cells cell (set c.args.self.now c.args.leaf c.args.standing) c.loop-cell-test.true c.loop-cell.invariant)
 
 pub returns : goal.returns
 returns c = c.loop-cell.invariant.leaves_are

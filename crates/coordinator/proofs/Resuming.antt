@@ -1,0 +1,71 @@
+-- A whole session: what is opened, what is driven, what is left.
+use Rattle.std.proofs.Common.{Bool, List, None, Some, ap, arith, length, map, take, inl, inr, refl, subst, sym, ℕ, ◌≡◌, ◌∙◌}
+use Rattle.std.proofs.lemmas.Bool.{cases_Bool}
+use Rattle.std.proofs.lemmas.List.{take_all}
+use Rattle.disk.specs.Disk.{DiskState}
+use Rattle.model.specs.Meaning.{Meaning}
+use Rattle.model.specs.World.{IsUpto, World}
+use Rattle.protocol.proofs.Runs.{moves_made_are_sound}
+use Rattle.protocol.specs.Moves.{Move, moves_made}
+use Rattle.protocol.specs.Picture.{Picture, opened}
+use Rattle.protocol.specs.Sound.{IsSystem}
+use Rattle.recovery.specs.Replay.{IsReplayedTo}
+use Rattle.coordinator.proofs.Driving.{followed_by}
+use Rattle.commitlog.specs.Log.{Opened}
+use Rattle.coordinator.specs.Crashes.{IsWritten, KeepsRecovery, Recovers}
+use Rattle.coordinator.specs.Drives.{IsStopped, StepsAreMade}
+use Rattle.coordinator.specs.Headline.{IsResumed}
+use Rattle.coordinator.specs.Session.{IsTold, Running, picture_of}
+use Rattle.coordinator.specs.Steps.{leaves_all, move_of}
+use Rattle.coordinator.specs.declared.DriveFault.{DriveFault}
+use Rattle.coordinator.specs.declared.Step.{Step}
+
+-- a session that was stopped has the front that it had after the steps that were made
+pub stopped-front : (steps : List Step) (old new : Running) (spent : Bool) (stop : DriveFault) (stopped : IsStopped steps old new spent stop) → new.front ≡ stopped.made.front
+stopped-front steps old new spent stop stopped = elim (cases_Bool (leaves_all stop.fault)) [
+  | inl leaves ↦ ap (λ (r : Running). r.front) (stopped.refused.unchanged leaves).0
+  | inr spends ↦ (stopped.refused.spends spends).0
+]
+
+-- what is said of a disk by a session's own model and end
+pub driven-on : {D : Type 0} (m' m : Meaning) (end' end : ℕ) (first last : World) (log : Opened D) (mid new : DiskState) → m' ≡ m → end' ≡ end
+    → (IsWritten m' end' first log → Recovers m' end' first.time mid → KeepsRecovery m' end' first.time last.time mid new)
+    → IsWritten m end first log → Recovers m end first.time mid → KeepsRecovery m end first.time last.time mid new
+driven-on m' m end' end first last log mid new model_is end_is driven =
+    subst (λ (n : Meaning). IsWritten n end first log → Recovers n end first.time mid → KeepsRecovery n end first.time last.time mid new) model_is
+    (subst (λ (e : ℕ). IsWritten m' e first log → Recovers m' e first.time mid → KeepsRecovery m' e first.time last.time mid new) end_is driven)
+
+-- all steps were made
+pub made-all : (done : ℕ) (steps : List Step) (old new : Running) → done ≡ length steps → StepsAreMade (map move_of steps) old new → StepsAreMade (map move_of (take done steps)) old new
+made-all done steps old new is made = subst (λ (ss : List Step). StepsAreMade (map move_of ss) old new) (sym (ap (λ (n : ℕ). take n steps) is ∙ take_all (length steps) steps (omega arith))) made
+
+module _ (m : Meaning) (end nodes : ℕ) (v first : World) (disk mid : DiskState) (replayed : IsReplayedTo m end disk.reads first) (opened_kept : Recovers m end v.time disk → KeepsRecovery m end v.time first.time disk mid)
+    (begun : Running) (model_is : begun.meaning ≡ m) (end_is : begun.end ≡ end) (told : IsTold begun) (picture_is : picture_of begun ≡ opened m.lps nodes first) (moves : List Move) where
+  moved : (made : Running) → StepsAreMade moves begun made → moves_made m end moves (opened m.lps nodes first) ≡ Some (picture_of made)
+  moved made steps =
+      subst (λ (p : Picture). moves_made m end moves p ≡ Some (picture_of made)) picture_is
+      (subst (λ (e : ℕ). moves_made m e moves (picture_of begun) ≡ Some (picture_of made)) end_is
+      (subst (λ (n : Meaning). moves_made n begun.end moves (picture_of begun) ≡ Some (picture_of made)) model_is steps.moves_are))
+
+  system : IsSystem m end (opened m.lps nodes first)
+  system =
+      subst (λ (p : Picture). IsSystem m end p) picture_is
+      (subst (λ (e : ℕ). IsSystem m e (picture_of begun)) end_is (subst (λ (n : Meaning). IsSystem n begun.end (picture_of begun)) model_is told.system))
+
+  upto : (made : Running) → StepsAreMade moves begun made → IsUpto m end made.front.time made.front
+  upto made steps = (moves_made_are_sound m end moves (opened m.lps nodes first) (picture_of made) system (moved made steps)).system.sound.front
+
+  pub resumed : (made : Running) (last : World) (new : DiskState) → StepsAreMade moves begun made → last ≡ made.front → (Recovers m end first.time mid → KeepsRecovery m end first.time last.time mid new)
+      → IsResumed m end nodes moves v disk new (Some last.time)
+  resumed made last new steps last_is driven = record {
+    front = Some last;
+    told = refl;
+    driven = λ w is. let same : last ≡ w = cc in record { first = first; replayed = replayed; last = picture_of made; moved = moved made steps; front_is = sym same ∙ last_is };
+    kept = record {
+      crashes = λ recovers. let keeps = opened_kept recovers in followed_by m end v.time first.time last.time disk mid new keeps (driven keeps.now_on);
+      front = λ w is. let same : made.front ≡ w = (let e : last ≡ w = cc in sym last_is ∙ e) in subst (λ (x : World). IsUpto m end x.time x) same (upto made steps);
+    };
+  }
+
+pub not_resumed : (m : Meaning) (end nodes : ℕ) (moves : List Move) (v : World) (old new : DiskState) → (Recovers m end v.time old → KeepsRecovery m end v.time v.time old new) → IsResumed m end nodes moves v old new None
+not_resumed m end nodes moves v old new refused = record { front = None; told = refl; driven = λ w is. absurd (cc); kept = record { crashes = refused; front = λ w is. absurd (cc) } }

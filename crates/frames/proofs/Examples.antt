@@ -1,0 +1,58 @@
+-- The definitions, computed: what stands in a frame's place, and the frames of a ring of three processes.
+use Rattle.std.proofs.Common.{◌≡◌, List, ℕ, [], ◌∷◌, ◌++◌, refl, Some, Ok}
+use Rattle.byteorder.specs.Endian.{big_bytes}
+use Rattle.eventkey.specs.Reading.{number_at, items_at}
+use Rattle.eventkey.specs.Spelling.{message_at, signed_at}
+use Rattle.frames.specs.Bodies.{load_in, parcel_in, part_at, words_at, fault_in}
+use Rattle.frames.specs.Cutting.{cut, frame_cut, fails}
+use Rattle.frames.specs.declared.Frame.TheVariants.{Load, Parcel}
+use Rattle.wire.specs.declared.port.WireFault.TheVariants.{BadBody, BadKind, TooLong, Truncated}
+
+truncated : frame_cut (0 ∷ 0 ∷ 0 ∷ 16 ∷ 2 ∷ []) ≡ fails Truncated []
+unfolding cut number_at
+truncated = refl
+
+too_long : frame_cut (1 ∷ 0 ∷ 0 ∷ 1 ∷ []) ≡ fails TooLong []
+unfolding cut number_at
+too_long = refl
+
+bad_kind : frame_cut (0 ∷ 0 ∷ 0 ∷ 0 ∷ 5 ∷ []) ≡ fails BadKind []
+unfolding cut number_at
+bad_kind = refl
+
+bad_body : frame_cut (0 ∷ 0 ∷ 0 ∷ 1 ∷ 4 ∷ 7 ∷ []) ≡ fails BadBody []
+unfolding cut number_at fault_in
+bad_body = refl
+
+-- the load of node 1 of three, whose only process has one state word, and a byte behind it
+abbrev load_body : List ℕ
+load_body =
+    big_bytes 4 1 ++ (big_bytes 4 3 ++ (big_bytes 8 10 ++ (big_bytes 8 0 ++ (big_bytes 4 1
+    ++ (big_bytes 4 1 ++ (big_bytes 8 0 ++ (1 ∷ (big_bytes 8 0 ++ big_bytes 4 0))))))))
+
+load : frame_cut (0 ∷ 0 ∷ 0 ∷ 53 ∷ 1 ∷ (load_body ++ 9 ∷ []))
+    ≡ record {
+      found = Ok (Some (Load (record {
+        node = 1;
+        nodes = 3;
+        end = 10;
+        floor = 0;
+        parts = record { lp = 1; number = 0; words = 0 ∷ []; pending = [] } ∷ [];
+      })));
+      rest = 9 ∷ [];
+    }
+unfolding cut number_at items_at message_at words_at part_at load_in
+load = refl
+
+-- a parcel of no deliveries
+abbrev parcel_body : List ℕ
+parcel_body = big_bytes 4 0 ++ (big_bytes 4 16 ++ big_bytes 8 1)
+
+parcel : frame_cut (0 ∷ 0 ∷ 0 ∷ 16 ∷ 2 ∷ parcel_body)
+    ≡ record { found = Ok (Some (Parcel (record { deliver = []; budget = 16; floor = 1 }))); rest = [] }
+unfolding cut number_at items_at signed_at parcel_in
+parcel = refl
+
+one_byte_more : frame_cut (0 ∷ 0 ∷ 0 ∷ 17 ∷ 2 ∷ (parcel_body ++ 0 ∷ [])) ≡ fails BadBody []
+unfolding cut number_at items_at signed_at parcel_in
+one_byte_more = refl

@@ -1,0 +1,110 @@
+-- Steps of readers, and of what they read again.
+use Rattle.std.proofs.Common.{◌≡◌, ℕ, ◌+◌, ◌*◌, ◌^◌, ◌<◌, ◌≤◌, Bool, true, false, cond, List, [], ◌∷◌, ◌++◌, length, take, Option, Some, None, refl, sym, ap, subst, ◌∙◌, append_assoc, append-nil, arith, inl, inr, ◌⊎◌, eqb-true}
+use Rattle.std.specs.Prelude.{nat_le, nat_eq}
+use Rattle.std.specs.List.{flat_map, AllByRecursion as Every}
+use Rattle.std.proofs.lemmas.Bool.{cases_Bool, leb-true, le-leb, le-ltb}
+use Rattle.std.proofs.lemmas.Option.{same_Some, none-some}
+use Rattle.byteorder.specs.Endian.{big_number, big_bytes}
+use Rattle.eventkey.specs.Reading.{IsBytes, ◌>>=◌, Reader, number_at, items_at}
+use Rattle.eventkey.proofs.Fields.{IsFormat, IsStep, IsWide, Takes, Takes-then, bind_some, format4, items_again, items_take, number_format, step_of}
+use Rattle.frames.specs.Bodies.{counted, counted_at}
+
+-- 1. One byte
+
+pub wide1 : IsWide 1 256
+wide1 = record { back = back; limit_is = refl }
+  where
+    back : (bytes : List ℕ) → 1 ≤ length bytes → IsBytes bytes → big_bytes 1 (big_number 1 bytes) ≡ take 1 bytes
+    back [] long fits = absurd (omega arith)
+    back (b ∷ bytes) long fits =
+        let small : b < 256 = fits 0 in
+        ap (λ (k : ℕ). k ∷ []) (omega arith)
+
+pub format1 : IsFormat (λ x. x < 256) (big_bytes 1) (number_at 1)
+format1 = number_format 1 256 wide1
+
+pub byte_at : (b : ℕ) (bytes : List ℕ) → number_at 1 (b ∷ bytes) ≡ Some (b, bytes)
+unfolding number_at
+byte_at b bytes =
+    let long = le-ltb (length (b ∷ bytes)) 1 (omega arith) in
+    let is : b * 1 + 0 ≡ b = omega arith in
+    rw long (ap (λ (n : ℕ). Some (n, bytes)) is)
+
+-- 2. A reader that begins with another one, over what was written
+
+module _ {X Y : Type 0} {Fits : X → Type 0} {write : X → List ℕ} {read : Reader X} (format : IsFormat Fits write read) where
+  pub again_last : (x : X) (rest : List ℕ) (f : X × List ℕ → Option Y) → Fits x → (read (write x ++ rest) >>= f) ≡ f (x, rest)
+  again_last x rest f fits = ap (λ (o : Option (X × List ℕ)). o >>= f) (format.again x rest fits)
+
+  pub again_step : (x : X) (tail rest : List ℕ) (f : X × List ℕ → Option Y) → Fits x → (read ((write x ++ tail) ++ rest) >>= f) ≡ f (x, tail ++ rest)
+  again_step x tail rest f fits = ap (λ (b : List ℕ). read b >>= f) (append_assoc (write x) tail rest) ∙ again_last x (tail ++ rest) f fits
+
+-- a test that was passed
+pub when_some : {A : Type 0} (b : Bool) (o : Option A) (y : A) → cond b o None ≡ Some y → (b ≡ true) × (o ≡ Some y)
+when_some true o y e = (refl, e)
+when_some false o y e = absurd (none-some y e)
+
+-- all of the bytes were taken
+pub whole : (bytes text rest : List ℕ) → Takes bytes text rest → rest ≡ [] → bytes ≡ text
+whole bytes text rest t e = t.parts ∙ ap (λ (r : List ℕ). text ++ r) e ∙ append-nil text
+
+-- the first of some tests that is passed
+pub pick : {X : Type 0} (b k : ℕ) (x f : X) (more : Option X) → cond (nat_eq b k) (Some x) more ≡ Some f → ((b ≡ k) × (x ≡ f)) ⊎ (more ≡ Some f)
+pick b k x f more e = elim (cases_Bool (nat_eq b k)) [
+  | inl t ↦ (let is : Some x ≡ Some f = rw t at e in inl (eqb-true b k t, same_Some x f is))
+  | inr t ↦ (let is : more ≡ Some f = rw t at e in inr is)
+]
+
+-- 3. A count, and so many
+
+module _ {X Y : Type 0} {Fits : X → Type 0} {write : X → List ℕ} {read : Reader X} (format : IsFormat Fits write read) where
+  pub counted_step : (bytes : List ℕ) → IsBytes bytes → (f : List X × List ℕ → Option Y) (y : Y) →
+      (number_at 4 bytes >>= λ count. items_at read count.0 count.1 >>= f) ≡ Some y →
+      IsStep (λ (xs : List X). (length xs < 2 ^ 32) × Every Fits xs) (counted 4 write) bytes f y
+  counted_step bytes fits f y e =
+      let n = step_of format4 bytes fits (λ count. items_at read count.0 count.1 >>= f) y e in
+      let b = bind_some (items_at read n.got.0 n.got.1) f y n.rest in
+      let t = items_take Fits write read format n.got.0 n.got.1 b.0 n.front.fits b.1 in
+      let front = Takes-then bytes (big_bytes 4 n.got.0) n.got.1 (flat_map write b.0.0) b.0.1 n.front t.0 in
+      record {
+        got = b.0;
+        front = subst (λ (k : ℕ). Takes bytes (big_bytes 4 k ++ flat_map write b.0.0) b.0.1) (sym t.1) front;
+        is = (subst (λ (k : ℕ). k < 2 ^ 32) (sym t.1) n.is, t.2);
+        rest = b.2;
+      }
+
+  pub counted_last : (xs : List X) (rest : List ℕ) (f : List X × List ℕ → Option Y) → length xs < 2 ^ 32 → Every Fits xs →
+      (number_at 4 (counted 4 write xs ++ rest) >>= λ count. items_at read count.0 count.1 >>= f) ≡ f (xs, rest)
+  counted_last xs rest f few fits =
+      again_step format4 (length xs) (flat_map write xs) rest (λ count. items_at read count.0 count.1 >>= f) few
+      ∙ ap (λ (o : Option (List X × List ℕ)). o >>= f) (items_again Fits write read format xs rest fits)
+
+  pub counted_again : (xs : List X) (tail rest : List ℕ) (f : List X × List ℕ → Option Y) → length xs < 2 ^ 32 → Every Fits xs →
+      (number_at 4 ((counted 4 write xs ++ tail) ++ rest) >>= λ count. items_at read count.0 count.1 >>= f) ≡ f (xs, tail ++ rest)
+  counted_again xs tail rest f few fits =
+      ap (λ (b : List ℕ). number_at 4 b >>= λ count. items_at read count.0 count.1 >>= f) (append_assoc (counted 4 write xs) tail rest)
+      ∙ counted_last xs (tail ++ rest) f few fits
+
+-- a count of one byte, at most so much
+module _ {X : Type 0} {Fits : X → Type 0} {write : X → List ℕ} {read : Reader X} (format : IsFormat Fits write read) (most : ℕ) (small : most < 256) where
+  abbrev pub Few : List X → Type 0
+  Few xs = (length xs ≤ most) × Every Fits xs
+
+  few_takes : (bytes : List ℕ) (x : List X × List ℕ) → IsBytes bytes → counted_at 1 most read bytes ≡ Some x → Takes bytes (counted 1 write x.0) x.1 × Few x.0
+  few_takes bytes x fits e =
+      let n = step_of format1 bytes fits (λ count. cond (nat_le count.0 most) (items_at read count.0 count.1) None) x e in
+      let is = when_some (nat_le n.got.0 most) (items_at read n.got.0 n.got.1) x n.rest in
+      let t = items_take Fits write read format n.got.0 n.got.1 x n.front.fits is.1 in
+      let front = Takes-then bytes (big_bytes 1 n.got.0) n.got.1 (flat_map write x.0) x.1 n.front t.0 in (
+        subst (λ (k : ℕ). Takes bytes (big_bytes 1 k ++ flat_map write x.0) x.1) (sym t.1) front,
+        (subst (λ (k : ℕ). k ≤ most) (sym t.1) (leb-true n.got.0 most is.0), t.2),
+      )
+
+  few_again : (xs : List X) (rest : List ℕ) → Few xs → counted_at 1 most read (counted 1 write xs ++ rest) ≡ Some (xs, rest)
+  few_again xs rest fits =
+      let few = fits.0 in
+      again_step format1 (length xs) (flat_map write xs) rest (λ count. cond (nat_le count.0 most) (items_at read count.0 count.1) None) (omega arith)
+      ∙ rw (le-leb (length xs) most few) (items_again Fits write read format xs rest fits.1)
+
+  pub few_format : IsFormat Few (counted 1 write) (counted_at 1 most read)
+  few_format = record { takes = few_takes; again = few_again }

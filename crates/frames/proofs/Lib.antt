@@ -1,0 +1,11 @@
+pub mod Appending
+pub mod Cuts
+mod Examples
+pub mod Filling
+pub mod Formats
+pub mod Frames
+pub mod Givings
+pub mod Halfway
+pub mod Items
+pub mod Raws
+pub mod Whole

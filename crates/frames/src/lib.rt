@@ -1,0 +1,43 @@
+//! Frames of bytes between a session and its nodes (this project's profile): the length of a body, its kind, the body.
+#![tactic(auto)]
+
+ghost use Rattle.std.specs.Prelude.{◌≡◌};
+
+mod laws;
+mod reading;
+mod stream;
+#[cfg(test)]
+mod tests;
+mod writing;
+
+pub use laws::{law_of_bodies, law_of_frames};
+use node::{Load, NodeFault, Parcel, Reply};
+pub use reading::{read_load, read_parcel};
+pub use stream::{MOST_BYTES, Raw, read_frame, read_raw};
+pub use writing::{encode_fault, encode_load, encode_parcel, encode_reply};
+
+/// What stands between a session and a node.
+#[derive(Drop)]
+pub enum Frame {
+    /// What a node is made of.
+    Load(Load),
+    /// What a node is posted.
+    Parcel(Parcel),
+    /// What a node answers.
+    Reply(Reply),
+    /// Why a node refuses.
+    Fault(NodeFault),
+}
+
+/// The kind of a frame.
+#[derive(Clone, Copy, Debug, PartialEq, Eq)]
+pub enum Kind {
+    /// What a node is made of.
+    Load,
+    /// What a node is posted.
+    Parcel,
+    /// What a node answers.
+    Reply,
+    /// Why a node refuses.
+    Fault,
+}

@@ -1,0 +1,141 @@
+// Frames are read from a stream.
+
+ghost use Rattle.std.specs.Prelude.{◌≡◌, ◌<◌, ◌≤◌, ◌++◌, ◌^◌, IfOk, OnErr, length, take, Option, Ok, Err, Some, None, List, ℕ};
+ghost use Rattle.std.specs.Io.KnownBytes.{Consumes, IsAtEnd};
+ghost use Rattle.frames.specs.Bodies.{kind_of};
+ghost use Rattle.frames.specs.Cutting.{cut, frame_cut};
+ghost use Rattle.frames.specs.Streams.{Comes, GivesSome, IsCutBy, OnBytes};
+
+use crate::reading::read_body;
+use crate::{Frame, Kind};
+use byteorder::{BigEndian, ByteOrder};
+use eventkey::Listed;
+use std::alloc::Global;
+use std::io::{self, ErrorKind, Read};
+use wire::WireFault;
+
+/// The most bytes of a frame's body.
+pub const MOST_BYTES: u32 = 1 << 24;
+
+/// How many bytes of a body are asked for at once.
+const PIECE: usize = 4096;
+
+/// A frame whose body is not yet looked at.
+#[derive(Drop)]
+pub struct Raw {
+    pub kind: Kind,
+    pub body: Listed<u8>,
+}
+
+/// Reads until the buffer is full or the input has ended, and answers how many bytes came.
+fn fill<R: Read>(reader: &mut R, buffer: &mut [u8]) -> io::Result<usize>
+    ensures bound { IfOk result (λ n. n ≤ length buffer.new) }
+    ensures bytes { IfOk result (λ n. Consumes (R.remaining reader.old) (R.remaining reader.new) (take n buffer.new)) }
+    ensures end { IfOk result (λ n. n < length buffer.new → IsAtEnd (R.remaining reader.new)) }
+    ensures err { OnErr result (GivesSome (R.remaining reader.old) (R.remaining reader.new)) }
+{
+    let mut filled = 0;
+    for _ in 0..u64::MAX {
+        if filled >= buffer.len() {
+            return Ok(filled);
+        }
+        match reader.read(&mut buffer[filled..]) {
+            Ok(0) => return Ok(filled),
+            Ok(count) => filled += count,
+            Err(error) => {
+                if error.kind() != ErrorKind::Interrupted {
+                    return Err(error);
+                }
+            }
+        }
+    }
+    Err(io::Error::from(ErrorKind::TimedOut))
+}
+
+/// Reads so many bytes; `None` where the input ends before. The memory that it takes grows with the bytes that come.
+fn read_bytes<R: Read>(
+    alloc: Global,
+    reader: &mut R,
+    count: usize,
+) -> Result<Option<Vec<u8>>, WireFault>
+    ensures { Comes (λ v. v.items) count (R.remaining reader.old) (R.remaining reader.new) result }
+{
+    let mut body = Vec::new(alloc);
+    let mut piece = [0; PIECE];
+    while body.len() < count {
+        let room = PIECE.min(count - body.len());
+        let came = fill(reader, &mut piece[..room])?;
+        if came < room {
+            return Ok(None);
+        }
+        body.extend_from_slice(&piece[..room])?;
+    }
+    Ok(Some(body))
+}
+
+/// The kind of this number.
+fn kind_of(number: u8) -> Option<Kind>
+    ensures { result ≡ kind_of number }
+{
+    match number {
+        1 => Some(Kind::Load),
+        2 => Some(Kind::Parcel),
+        3 => Some(Kind::Reply),
+        4 => Some(Kind::Fault),
+        _ => None,
+    }
+}
+
+/// Reads one frame, and not a byte more, and leaves its body as it is. `None` where the input has ended.
+///
+/// TooLong for a body of more than 2^24 bytes, before the kind is read; else BadKind for a kind that is none, before the
+/// body is read; else Truncated where the input ends within the frame.
+pub fn read_raw<R: Read>(alloc: Global, reader: &mut R) -> Result<Option<Raw>, WireFault>
+    ensures { OnBytes (R.remaining reader.old) (R.remaining reader.new) (IsCutBy cut result) }
+{
+    let mut head = [0; 4];
+    let came = fill(reader, &mut head)?;
+    if came == 0 {
+        return Ok(None);
+    }
+    if came < 4 {
+        return Err(WireFault::Truncated);
+    }
+    let length = BigEndian::read_u32(&head);
+    if length > MOST_BYTES {
+        return Err(WireFault::TooLong);
+    }
+    let mut number = [0; 1];
+    let came = fill(reader, &mut number)?;
+    if came == 0 {
+        return Err(WireFault::Truncated);
+    }
+    let Some(kind) = kind_of(number[0]) else {
+        return Err(WireFault::BadKind);
+    };
+    let Some(body) = read_bytes(alloc, reader, length as usize)? else {
+        return Err(WireFault::Truncated);
+    };
+    Ok(Some(Raw {
+        kind,
+        body: Listed::from_vec(body),
+    }))
+}
+
+/// Reads one frame, and not a byte more. `None` where the input has ended.
+///
+/// TooLong for a body of more than 2^24 bytes, before the kind is read; else BadKind for a kind that is none, before the
+/// body is read; else Truncated where the input ends within the frame; else BadBody where the body is not of its kind.
+/// Io where the reader fails, and NoMemory where memory is refused: some bytes of the frame are taken then. The memory for a
+/// body grows with the bytes that come, not with the length that is stated.
+pub fn read_frame<R: Read>(alloc: Global, reader: &mut R) -> Result<Option<Frame>, WireFault>
+    ensures { OnBytes (R.remaining reader.old) (R.remaining reader.new) (IsCutBy frame_cut result) }
+{
+    let Some(raw) = read_raw(alloc, reader)? else {
+        return Ok(None);
+    };
+    match read_body(alloc, raw.kind, raw.body.as_slice())? {
+        Some(frame) => Ok(Some(frame)),
+        None => Err(WireFault::BadBody),
+    }
+}

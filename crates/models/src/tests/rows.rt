@@ -1,0 +1,135 @@
+// Worked examples of PHOLD and the job shop, each made by hand.
+
+use crate::{AnyModel, JobShop, Phold, Relay};
+use eventkey::Message;
+use model::{Model, Outgoing, World};
+use smallvec::SmallVec;
+use std::test::Fail;
+
+/// A message's time, sender, number, receiver and content.
+fn row(x: &Message) -> [u64; 6] {
+    [
+        x.time(),
+        u64::from(x.from()),
+        x.number(),
+        u64::from(x.to()),
+        x.a(),
+        x.b(),
+    ]
+}
+
+fn are(messages: &[Message], rows: &[[u64; 6]]) -> bool {
+    messages.len() == rows.len() && messages.iter().zip(rows).all(|(x, want)| row(x) == *want)
+}
+
+#[test]
+fn one_message_of_phold_comes_each_tick(rt: HostRuntime) -> Result<(), Fail> {
+    for seed in [0, 7, (1 << 63) - 1] {
+        let model = AnyModel::Phold(Phold::new(1, 1, 1, seed));
+        let mut world = World::open(rt.alloc(), &model, 4)?;
+        world.run_to(&model, 4)?;
+        let log = [[1, 0, 0, 0, 0, 0], [2, 0, 1, 0, 0, 1], [3, 0, 2, 0, 0, 2]];
+        assert!(rt; are(world.log(), &log));
+        assert!(rt; are(world.pending(), &[[4, 0, 3, 0, 0, 3]]));
+        assert_eq!(rt;
+            model.identity(rt.alloc()).as_slice(),
+            [2, 1, 1, seed].as_slice()
+        );
+    }
+    Ok(())
+}
+
+#[test]
+fn one_machine_serves_a_job_a_tick(rt: HostRuntime) -> Result<(), Fail> {
+    for seed in [0, 7, (1 << 63) - 1] {
+        let model = AnyModel::JobShop(JobShop::new(1, 2, 1, seed));
+        let mut world = World::open(rt.alloc(), &model, 3)?;
+        world.run_to(&model, 3)?;
+        let log = [[1, 0, 0, 0, 0, 0], [2, 0, 1, 0, 1, 0], [2, 0, 2, 0, 0, 1]];
+        assert!(rt; are(world.log(), &log));
+        assert!(rt; are(world.pending(), &[[3, 0, 3, 0, 1, 1], [4, 0, 4, 0, 0, 2]]));
+        let state = world.states().first().ok_or("a machine")?.as_slice();
+        assert_eq!(rt; state.len(), 5);
+        assert!(rt; state.starts_with(&[4, 3, 1, 0]));
+        assert_eq!(rt;
+            model.identity(rt.alloc()).as_slice(),
+            [3, 2, 1, seed].as_slice()
+        );
+    }
+    Ok(())
+}
+
+#[test]
+fn a_job_past_every_delay_is_turned_away(rt: HostRuntime) -> Result<(), Fail> {
+    let shop = JobShop::new(2, 1, 1, 3);
+    let message = Message::new(5, 1, 0, 0, 9, u64::MAX)?;
+    let state = SmallVec::from_slice(rt.alloc(), &[4294967299])?;
+    let (words, sends) = shop.handle(rt.alloc(), 0, &state, &message);
+    assert!(rt;
+        words
+            .as_slice()
+            .starts_with(&[4294967300, 1, 4294967294, 0])
+    );
+    let sent = Outgoing {
+        to: 1,
+        delay: 4294967295,
+        a: 9,
+        b: 0,
+    };
+    assert_eq!(rt; sends.as_slice(), [sent].as_slice());
+    let full = u64::MAX;
+    for (state, first) in [
+        ([4294967300, 0, 0, 0], [4294967300, 0, 0, 1]),
+        ([full, full, full, full], [full, full, full, full]),
+    ] {
+        let state = SmallVec::from_slice(rt.alloc(), &state)?;
+        let (words, sends) = shop.handle(rt.alloc(), 0, &state, &message);
+        assert!(rt; words.as_slice().starts_with(&first));
+        assert_eq!(rt; (words.len(), sends.len()), (5, 0));
+    }
+    Ok(())
+}
+
+#[test]
+fn missing_words_count_as_zero_and_counts_stay(rt: HostRuntime) -> Result<(), Fail> {
+    let hold = Phold::new(3, 2, 5, 7);
+    let message = Message::new(5, 1, 0, 0, 9, 1)?;
+    let (none, sent_none) = hold.handle(rt.alloc(), 2, &SmallVec::new(rt.alloc()), &message);
+    let zeros = SmallVec::from_slice(rt.alloc(), &[0, 0, 4])?;
+    let (words, sends) = hold.handle(rt.alloc(), 2, &zeros, &message);
+    assert_eq!(rt; none.as_slice(), words.as_slice());
+    assert_eq!(rt; sent_none.as_slice(), sends.as_slice());
+    let full = SmallVec::from_slice(rt.alloc(), &[0, u64::MAX])?;
+    let (words, _) = hold.handle(rt.alloc(), 2, &full, &message);
+    assert_eq!(rt; words.as_slice().get(1).copied(), Some(u64::MAX));
+    let shop = JobShop::new(2, 1, 1, 3);
+    let busy = SmallVec::from_slice(rt.alloc(), &[0, u64::MAX, u64::MAX, 0, 1])?;
+    let (words, _) = shop.handle(rt.alloc(), 0, &busy, &message);
+    assert!(rt; words.as_slice().starts_with(&[6, u64::MAX, u64::MAX, 0]));
+    Ok(())
+}
+
+#[test]
+fn a_relay_sends_twice(rt: HostRuntime) -> Result<(), Fail> {
+    let (state, sends) = Relay.start(rt.alloc(), 4);
+    assert_eq!(rt; (state.as_slice(), sends.len()), ([0].as_slice(), 1));
+    assert_eq!(rt; (Relay.lps(), Relay.identity(rt.alloc()).len()), (6, 0));
+    let message = Message::new(5, 1, 0, 4, 9, 1)?;
+    let seen = SmallVec::from_slice(rt.alloc(), &[8])?;
+    let (state, sends) = Relay.handle(rt.alloc(), 4, &seen, &message);
+    assert_eq!(rt; state.as_slice(), [29].as_slice());
+    let soon = Outgoing {
+        to: 0,
+        delay: 3,
+        a: 9,
+        b: 9,
+    };
+    let later = Outgoing {
+        to: 5,
+        delay: 23,
+        a: 1,
+        b: 9,
+    };
+    assert_eq!(rt; sends.as_slice(), [soon, later].as_slice());
+    Ok(())
+}

@@ -1,0 +1,84 @@
+// What a node keeps of each process beside it, so that it visits only processes with which there is something to do.
+
+ghost use Rattle.std.specs.Prelude.{◌≡◌, ◌<◌, ◌^◌, IfSome};
+ghost use Rattle.node.specs.Node.{earliest, lesser};
+ghost use Rattle.node.specs.Seats.{is_due, standing_of};
+ghost use Rattle.node.specs.Tournament.{IsLowInRange, meet};
+
+use eventkey::Message;
+use process::Process;
+
+/// What stands of a process, or of several: the least of each part.
+#[derive(Clone, Copy)]
+pub(crate) struct Standing {
+    /// The next message before the end.
+    pub next: Option<Message>,
+    /// The least time, in ticks, of what waits, antimessages too.
+    pub low: Option<u64>,
+    /// The time, in ticks, of the earliest handling that is kept.
+    pub oldest: Option<u64>,
+}
+
+impl Standing {
+    /// Where nothing stands.
+    pub(crate) const ABSENT: Standing = Standing {
+        next: None,
+        low: None,
+        oldest: None,
+    };
+
+    /// What stands of a process whose messages are handled before the end, in ticks. It takes no memory.
+    pub(crate) fn of(process: &Process, end: u64) -> Standing
+        ensures standing { result ≡ standing_of end process.now }
+        ensures range { IsLowInRange result }
+    {
+        Standing {
+            next: process.next(end),
+            low: process.low(),
+            oldest: process.oldest(),
+        }
+    }
+
+    /// Whether the oldest time is below the floor, in ticks.
+    pub(crate) fn is_due(&self, floor: u64) -> bool
+        ensures { result ≡ is_due floor self.now.oldest }
+    {
+        match self.oldest {
+            Some(time) => time < floor,
+            None => false,
+        }
+    }
+
+    /// The lesser of two standings, part by part.
+    pub(crate) fn meet(&self, other: &Standing) -> Standing
+        ensures { result ≡ meet self.now other.now }
+    {
+        Standing {
+            next: earlier(self.next, other.next),
+            low: earliest(self.low, other.low),
+            oldest: earliest(self.oldest, other.oldest),
+        }
+    }
+}
+
+/// The message that comes first.
+fn earlier(one: Option<Message>, other: Option<Message>) -> Option<Message>
+    ensures { result ≡ lesser one other }
+{
+    match (one, other) {
+        (Some(x), Some(y)) => if y.is_before(&x) { Some(y) } else { Some(x) },
+        (Some(x), None) => Some(x),
+        (None, rest) => rest,
+    }
+}
+
+/// The lesser of two times, where each may be missing.
+fn earliest(one: Option<u64>, other: Option<u64>) -> Option<u64>
+    ensures { result ≡ earliest one other }
+{
+    match (one, other) {
+        (Some(x), Some(y)) => Some(x.min(y)),
+        (Some(x), None) => Some(x),
+        (None, rest) => rest,
+    }
+}

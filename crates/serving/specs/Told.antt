@@ -1,0 +1,57 @@
+-- What a node's loop answers, writes and reads, where reader and writer tell their bytes: what is
+-- served; or it met an error or want of memory, and wrote a beginning of it.
+use Rattle.std.specs.Io.KnownBytes.{Appends}
+use Rattle.std.specs.Prelude.{ℕ, Bool, true, false, ◌≡◌, List, Option, Some, None, Result, Ok, Err}
+use Rattle.model.specs.Meaning.{Meaning}
+use Rattle.node.specs.Handling.{Node}
+use Rattle.frames.specs.Streams.{IsFront}
+use Rattle.serving.specs.Serving.{Lacks, Served, Turn, next_turn, served, served_from}
+use Rattle.serving.specs.Written.{TakesBeginning}
+use Rattle.wire.specs.declared.port.WireFault.{WireFault}
+use Rattle.wire.specs.declared.port.WireFault.TheVariants.{BadBody, BadKind, Io}
+use Rattle.wire.specs.declared.port.WireFault.TheVariants.{NoMemory, TooLong, Truncated}
+
+-- this was answered, that text was written, and those bytes are left
+abbrev pub Leaves : {X : Type 0} → X → X → List ℕ → List ℕ → List ℕ → Option (List ℕ) →
+    Option (List ℕ) → Type 0
+Leaves result is text rest left old new = (is ≡ result) × Appends old new text × (left ≡ rest)
+
+abbrev pub Tells : Served → List ℕ → List ℕ → Option (List ℕ) → Option (List ℕ) →
+    Result ℕ WireFault → Type 0
+Tells s bytes rest old new (Err Io) = TakesBeginning old new s.text × IsFront bytes rest
+Tells s bytes rest old new (Err NoMemory) = TakesBeginning old new s.text × IsFront bytes rest
+Tells s bytes rest old new (Err Truncated) =
+    Leaves (Err Truncated) s.result s.text s.rest rest old new
+Tells s bytes rest old new (Err TooLong) = Leaves (Err TooLong) s.result s.text s.rest rest old new
+Tells s bytes rest old new (Err BadKind) = Leaves (Err BadKind) s.result s.text s.rest rest old new
+Tells s bytes rest old new (Err BadBody) = Leaves (Err BadBody) s.result s.text s.rest rest old new
+Tells s bytes rest old new (Ok count) = Leaves (Ok count) s.result s.text s.rest rest old new
+
+-- Whenever the node lacked memory
+abbrev pub IsServed : Meaning → ℕ → Option (List ℕ) → Option (List ℕ) → Result ℕ WireFault →
+    List ℕ → List ℕ → Type 0
+IsServed m limit old new result bytes rest =
+    (lacks : Lacks) × Tells (served m lacks limit bytes) bytes rest old new result
+
+abbrev pub IsServedFrom : Meaning → ℕ → Node → Option (List ℕ) → Option (List ℕ) →
+    Result ℕ WireFault → List ℕ → List ℕ → Type 0
+IsServedFrom m limit n old new result bytes rest =
+    (lacks : Lacks) × Tells (served_from m lacks limit n bytes) bytes rest old new result
+
+-- The same of one turn of a node, which goes on where the answer is true
+abbrev pub TurnTells : Turn → List ℕ → Option (List ℕ) → Option (List ℕ) →
+    Result Bool WireFault → Node → Type 0
+TurnTells t rest old new (Err Io) n = TakesBeginning old new t.text
+TurnTells t rest old new (Err NoMemory) n = TakesBeginning old new t.text
+TurnTells t rest old new (Err Truncated) n =
+    Leaves (Err Truncated) t.result t.text t.rest rest old new
+TurnTells t rest old new (Err TooLong) n = Leaves (Err TooLong) t.result t.text t.rest rest old new
+TurnTells t rest old new (Err BadKind) n = Leaves (Err BadKind) t.result t.text t.rest rest old new
+TurnTells t rest old new (Err BadBody) n = Leaves (Err BadBody) t.result t.text t.rest rest old new
+TurnTells t rest old new (Ok true) n = Leaves (Ok (Some n)) t.result t.text t.rest rest old new
+TurnTells t rest old new (Ok false) n = Leaves (Ok None) t.result t.text t.rest rest old new
+
+pub record IsTurn (m : Meaning) (n n' : Node) (old new : Option (List ℕ)) (result : Result Bool WireFault) (bytes rest : List ℕ) : Type 0 where
+  pub lacks : Bool
+  pub front : IsFront bytes rest
+  pub tells : TurnTells (next_turn lacks m n bytes) rest old new result n'

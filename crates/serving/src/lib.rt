@@ -1,0 +1,10 @@
+//! A node behind a stream of bytes (this project's profile): the loop that serves it.
+#![tactic(auto)]
+
+mod node_loop;
+mod output;
+mod reaction;
+#[cfg(test)]
+mod tests;
+
+pub use node_loop::serve;

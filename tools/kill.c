@@ -1,0 +1,76 @@
+// Ends the program by SIGKILL at one of its calls that change a file or wait for the device: call KILL_AT, counted from 1 over all such
+// calls, in one of three ways KILL_WAY: 0 before the call, 1 after half of the bytes of a write, 2 after the call.
+// Where the program ends by itself first, the number of its calls goes to the file KILL_COUNT.
+#define _GNU_SOURCE
+#include <dlfcn.h>
+#include <signal.h>
+#include <stdio.h>
+#include <stdlib.h>
+#include <sys/types.h>
+#include <unistd.h>
+
+static long calls;
+
+static long number(const char *name) {
+    const char *word = getenv(name);
+    return word ? atol(word) : -1;
+}
+
+// Whether this call is the one at which the program ends in this way.
+static int ends(long way) {
+    return calls == number("KILL_AT") && way == number("KILL_WAY");
+}
+
+static void end(void) {
+    raise(SIGKILL);
+}
+
+__attribute__((destructor)) static void tell(void) {
+    const char *path = getenv("KILL_COUNT");
+    FILE *file = path ? fopen(path, "w") : NULL;
+    if (file) {
+        fprintf(file, "%ld\n", calls);
+        fclose(file);
+    }
+}
+
+#define WRITES(name, offset_type)                                                              \
+    ssize_t name(int file, const void *bytes, size_t count, offset_type offset) {              \
+        ssize_t (*real)(int, const void *, size_t, offset_type) = dlsym(RTLD_NEXT, #name);     \
+        calls++;                                                                               \
+        if (ends(0)) end();                                                                    \
+        if (ends(1)) {                                                                         \
+            real(file, bytes, count / 2, offset);                                              \
+            end();                                                                             \
+        }                                                                                      \
+        ssize_t done = real(file, bytes, count, offset);                                       \
+        if (ends(2)) end();                                                                    \
+        return done;                                                                           \
+    }
+
+#define WAITS(name)                                          \
+    int name(int file) {                                     \
+        int (*real)(int) = dlsym(RTLD_NEXT, #name);          \
+        calls++;                                             \
+        if (ends(0) || ends(1)) end();                       \
+        int done = real(file);                               \
+        if (ends(2)) end();                                  \
+        return done;                                         \
+    }
+
+#define SIZES(name, offset_type)                                          \
+    int name(int file, offset_type size) {                                \
+        int (*real)(int, offset_type) = dlsym(RTLD_NEXT, #name);          \
+        calls++;                                                          \
+        if (ends(0) || ends(1)) end();                                    \
+        int done = real(file, size);                                      \
+        if (ends(2)) end();                                               \
+        return done;                                                      \
+    }
+
+WRITES(pwrite, off_t)
+WRITES(pwrite64, off64_t)
+WAITS(fsync)
+WAITS(fdatasync)
+SIZES(ftruncate, off_t)
+SIZES(ftruncate64, off64_t)
