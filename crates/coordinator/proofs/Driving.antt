@@ -14,20 +14,11 @@ use Rattle.recovery.specs.Stands.{StandsAtLeast}
 use Rattle.wire.specs.Port.{PortState}
 use Rattle.coordinator.proofs.Committing.{stays}
 use Rattle.coordinator.specs.Crashes.{IsWritten, KeepsRecovery, Recovers}
-use Rattle.coordinator.specs.Drives.{StepsAreMade}
+use Rattle.coordinator.specs.Drives.{Goes, StepsAreMade}
 use Rattle.coordinator.specs.Session.{IsTold, Session, picture_of, running}
 use Rattle.coordinator.specs.Steps.{HasCause, IsMade, IsStepped, first_refusal, leaves_all, move_of}
 use Rattle.coordinator.specs.declared.SessionFault.{SessionFault}
 use Rattle.coordinator.specs.declared.Step.{Step}
-
--- These moves were made between the two, and the disk goes on recovering.
-pub record Goes {M P D : Type 0} (meaning : M → Meaning) (state : P → PortState) (disk : D → DiskState) (moves : List Move) (old new : Session M P D) : Type 0 where
-  pub model_is : new.model ≡ old.model
-  pub end_is : new.end ≡ old.end
-  pub made : IsTold (running meaning state old) → StepsAreMade moves (running meaning state old) (running meaning state new)
-  pub written : IsTold (running meaning state old) → IsWritten (meaning old.model) old.end old.front old.log → IsWritten (meaning old.model) old.end new.front new.log
-  pub crashes : IsTold (running meaning state old) → IsWritten (meaning old.model) old.end old.front old.log → Recovers (meaning old.model) old.end old.front.time (disk old.log.disk)
-      → KeepsRecovery (meaning old.model) old.end old.front.time new.front.time (disk old.log.disk) (disk new.log.disk)
 
 pub followed_by : (m : Meaning) (end a b c : ℕ) (old mid new : DiskState) → KeepsRecovery m end a b old mid → KeepsRecovery m end b c mid new → KeepsRecovery m end a c old new
 followed_by m end a b c old mid new first second = record {

@@ -3,7 +3,7 @@ mod Committing
 mod PortStates
 mod Posting
 mod Taking
-mod Driving
+pub mod Driving
 mod Refusals
 mod Loading
 mod Begun

@@ -1,0 +1,48 @@
+-- Steps of a session, one after another.
+use Rattle.std.proofs.Common.{◌≡◌, ◌≤◌, ℕ, List, [], ◌∷◌, ◌++◌, ap, arith, subst, sym}
+use Rattle.coordinator.proofs.Driving.{crashed, joined, none_made, one_made}
+use Rattle.coordinator.specs.Crashes.{IsWritten, KeepsRecovery, Recovers}
+use Rattle.coordinator.specs.Session.{IsTold, Session, picture_of, running}
+use Rattle.disk.specs.Disk.{DiskState}
+use Rattle.driver.specs.Driver.{IsDriven, IsFinished, KeepsStanding}
+use Rattle.model.specs.Meaning.{Meaning}
+use Rattle.model.specs.World.{IsUpto}
+use Rattle.protocol.proofs.Runs.{fronts_open}
+use Rattle.protocol.specs.Moves.{Move}
+use Rattle.protocol.specs.declared.Answer.{Answer}
+use Rattle.coordinator.specs.Steps.{IsMade}
+use Rattle.wire.specs.Port.{PortState}
+
+module _ {M P D : Type 0} (meaning : M → Meaning) (state : P → PortState) (disk : D → DiskState) where
+  pub stood : (s : Session M P D) → IsDriven meaning state disk s s
+  stood s = record { moves = []; made = none_made meaning state disk s }
+
+  -- a step that is made
+  pub one_step : (k : Move) (answer : Answer) (old new : Session M P D) → (new.model ≡ old.model) × (new.end ≡ old.end)
+      → (IsTold (running meaning state old) → IsMade k (running meaning state old) (running meaning state new) answer)
+      → (IsTold (running meaning state old) → IsWritten (meaning old.model) old.end old.front old.log → IsWritten (meaning old.model) old.end new.front new.log)
+      → KeepsStanding meaning state disk old new → IsDriven meaning state disk old new
+  one_step k answer old new same made written crashes = record { moves = k ∷ []; made = one_made meaning state disk k answer old new same made written crashes }
+
+  pub then_driven : (old mid new : Session M P D) → IsDriven meaning state disk old mid → IsDriven meaning state disk mid new → IsDriven meaning state disk old new
+  then_driven old mid new first second = record {
+    moves = first.moves ++ second.moves;
+    made = joined meaning state disk first.moves second.moves old mid new first.made second.made;
+  }
+
+  pub driven_stands : (old new : Session M P D) → IsDriven meaning state disk old new → KeepsStanding meaning state disk old new
+  driven_stands old new is = is.made.crashes
+
+  pub then_stands : (old mid new : Session M P D) → IsDriven meaning state disk old mid → KeepsStanding meaning state disk mid new → KeepsStanding meaning state disk old new
+  then_stands old mid new first second = crashed meaning state disk first.moves old mid new first.made second
+
+  -- a front that has come to the end is the sequential simulation up to the end
+  pub finished : (end : ℕ) (old new : Session M P D) → old.end ≡ end → IsDriven meaning state disk old new → end ≤ new.front.time → IsFinished meaning state end old new
+  finished end old new end_is is late = λ told.
+      let now = (is.made.made told).told in
+      let front = now.system.sound.front in
+      let same_end : new.end ≡ end = omega (arith, is.made.end_is, end_is) in
+      let soon = (fronts_open (meaning new.model) new.end 1 (picture_of (running meaning state new)) now.system (omega arith)).soon in
+      let time : new.front.time ≡ end = omega (arith, soon, same_end, late) in
+      subst (λ (m : M). IsUpto (meaning m) end end new.front) is.made.model_is
+      (subst (λ (t : ℕ). IsUpto (meaning new.model) end t new.front) time (subst (λ (e : ℕ). IsUpto (meaning new.model) e new.front.time new.front) same_end front))

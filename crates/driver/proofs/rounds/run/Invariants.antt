@@ -1,0 +1,13 @@
+use Rattle.std.proofs.Common.{◌≡◌, ◌≤◌, ◌-◌, length}
+use Rattle.driver.specs.Driver.{IsDriven}
+use Rattle.driver.proofs.rounds.run.Given as goal
+
+abbrev pub invariant-rounds : goal.invariant-rounds
+invariant-rounds g l = record {
+  made : l.made ≤ l.plan.rounds;
+  driven : IsDriven g.M.Model.meaning g.P.Port.state g.D.SectorDisk.state l.fn.session l.session;
+  count : length l.ran.items ≡ l.plan.nodes;
+}
+
+abbrev pub decreases-rounds : goal.decreases-rounds
+decreases-rounds g l = l.plan.rounds - l.made

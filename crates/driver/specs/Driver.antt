@@ -1,0 +1,40 @@
+-- What a driver does to a session (this project's profile): it makes steps of it, and nothing else.
+use Rattle.std.specs.Prelude.{ℕ, List, [], ◌∷◌, ◌+◌, if◌then◌else◌}
+use Rattle.coordinator.specs.Drives.{Goes}
+use Rattle.coordinator.specs.Crashes.{IsWritten, KeepsRecovery, Recovers}
+use Rattle.coordinator.specs.Session.{IsTold, Session, running}
+use Rattle.disk.specs.Disk.{DiskState}
+use Rattle.eventkey.specs.declared.Signed.{Signed}
+use Rattle.model.specs.Meaning.{Meaning}
+use Rattle.model.specs.World.{IsUpto}
+use Rattle.node.specs.Node.{sits_on}
+use Rattle.protocol.specs.Moves.{Move}
+use Rattle.wire.specs.Port.{PortState}
+
+-- the places, from place i on, of what is for the processes of a node
+abbrev pub places_for : ℕ → ℕ → ℕ → List Signed → List ℕ
+places_for nodes node i [] = []
+places_for nodes node i (s ∷ ss) =
+    if sits_on nodes node s.message.to then i ∷ places_for nodes node (i + 1) ss
+    else places_for nodes node (i + 1) ss
+
+module _ {M P D : Type 0} (meaning : M → Meaning) (state : P → PortState) where
+  -- some steps lead from one to the other: each is its move, and the disk goes on recovering
+  pub record IsDriven (disk : D → DiskState) (old new : Session M P D) : Type 0 where
+    pub moves : List Move
+    pub made : Goes meaning state disk moves old new
+
+  -- A crash at any moment leaves what stands at least at the time of the front before, and a crash
+  -- now what stands at least at that of the front now.
+  abbrev pub KeepsStanding : (D → DiskState) → Session M P D → Session M P D → Type 0
+  KeepsStanding disk old new =
+      IsTold (running meaning state old) →
+      IsWritten (meaning old.model) old.end old.front old.log →
+      Recovers (meaning old.model) old.end old.front.time (disk old.log.disk) →
+      KeepsRecovery (meaning old.model) old.end old.front.time new.front.time
+        (disk old.log.disk) (disk new.log.disk)
+
+  -- over ports that tell, the front is the sequential simulation up to the end
+  abbrev pub IsFinished : ℕ → Session M P D → Session M P D → Type 0
+  IsFinished end old new =
+      IsTold (running meaning state old) → IsUpto (meaning old.model) end end new.front

@@ -1,0 +1,2 @@
+-- For callers: what a run does to its session
+pub mod Driver

@@ -1,0 +1,7 @@
+//! The driver of a run: rounds of steps of a session, until all is committed up to the end.
+#![tactic(auto)]
+
+mod picks;
+mod rounds;
+
+pub use rounds::{Plan, RunFault, Watch, run};
