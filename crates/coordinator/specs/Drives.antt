@@ -29,7 +29,7 @@ pub record Goes {M P D : Type 0} (meaning : M → Meaning) (state : P → PortSt
       IsWritten (meaning old.model) old.end old.front old.log →
       Recovers (meaning old.model) old.end old.front.time (disk old.log.disk) →
       KeepsRecovery (meaning old.model) old.end old.front.time new.front.time
-        (disk old.log.disk) (disk new.log.disk)
+      (disk old.log.disk) (disk new.log.disk)
 
 -- So many steps were made, from told to told, and the next was refused with this fault.
 pub record IsStopped (steps : List Step) (old new : Running) (spent : Bool) (stop : DriveFault) : Type 0 where

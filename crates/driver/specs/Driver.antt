@@ -32,7 +32,7 @@ module _ {M P D : Type 0} (meaning : M → Meaning) (state : P → PortState) wh
       IsWritten (meaning old.model) old.end old.front old.log →
       Recovers (meaning old.model) old.end old.front.time (disk old.log.disk) →
       KeepsRecovery (meaning old.model) old.end old.front.time new.front.time
-        (disk old.log.disk) (disk new.log.disk)
+      (disk old.log.disk) (disk new.log.disk)
 
   -- over ports that tell, the front is the sequential simulation up to the end
   abbrev pub IsFinished : ℕ → Session M P D → Session M P D → Type 0
