@@ -1,1 +1,2 @@
 mod Drives
+mod Ports

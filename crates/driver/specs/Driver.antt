@@ -1,12 +1,12 @@
 -- What a driver does to a session (this project's profile): it makes steps of it, and nothing else.
-use Rattle.std.specs.Prelude.{ℕ, List, [], ◌∷◌, ◌+◌, if◌then◌else◌}
+use Rattle.std.specs.Prelude.{ℕ, List, [], ◌∷◌, ◌+◌, if◌then◌else◌, ◌≡◌, length}
 use Rattle.coordinator.specs.Drives.{Goes}
 use Rattle.coordinator.specs.Crashes.{IsWritten, KeepsRecovery, Recovers}
 use Rattle.coordinator.specs.Session.{IsTold, Session, running}
 use Rattle.disk.specs.Disk.{DiskState}
 use Rattle.eventkey.specs.declared.Signed.{Signed}
 use Rattle.model.specs.Meaning.{Meaning}
-use Rattle.model.specs.World.{IsUpto}
+use Rattle.model.specs.World.{IsUpto, World}
 use Rattle.node.specs.Node.{sits_on}
 use Rattle.protocol.specs.Moves.{Move}
 use Rattle.wire.specs.Port.{PortState}
@@ -38,3 +38,11 @@ module _ {M P D : Type 0} (meaning : M → Meaning) (state : P → PortState) wh
   abbrev pub IsFinished : ℕ → Session M P D → Session M P D → Type 0
   IsFinished end old new =
       IsTold (running meaning state old) → IsUpto (meaning old.model) end end new.front
+
+-- what is told of a run: it came to the end, and so many events are in the log of the sequential
+-- simulation up to there
+pub record IsRunOf (m : Meaning) (end time events : ℕ) : Type 0 where
+  pub world : World
+  pub upto : IsUpto m end end world
+  pub time_is : time ≡ end
+  pub events_are : events ≡ length world.log

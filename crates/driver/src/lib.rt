@@ -1,7 +1,9 @@
 //! The driver of a run: rounds of steps of a session, until all is committed up to the end.
 #![tactic(auto)]
 
+mod local;
 mod picks;
 mod rounds;
 
+pub use local::{Finished, run_local};
 pub use rounds::{Plan, RunFault, Watch, run};
