@@ -1,3 +1,5 @@
+ghost use Rattle.std.specs.Prelude.{◌≤◌};
+
 use super::*;
 use crate::{Resumed, resume};
 use commitlog::LogFault;
@@ -13,7 +15,8 @@ fn refused(
     disk: MemDisk,
     end: u64,
 ) -> Result<(SessionFault, MemDisk), Fail>
-    requires { (1 ≤ end) × (end ≤ 1000) }
+    requires begun { 1 ≤ end }
+    requires short { end ≤ 1000 }
 {
     match Session::open(alloc, ring, ports(alloc, ring)?, disk, end) {
         Ok(_session) => Err(Fail::from("the disk was opened")),
