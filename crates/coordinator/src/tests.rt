@@ -5,10 +5,10 @@ ghost use Rattle.coordinator.specs.Opening.{AllFresh};
 ghost use Rattle.coordinator.specs.Ring.{ring_lawful, ring_meaning};
 ghost use Rattle.wire.specs.Local.{state_of};
 
-use crate::{Answer, DriveFault, NotOpened, Session, SessionFault, Step};
+use crate::{Answer, NotOpened, Session, SessionFault, Step};
 use commitlog::format;
 use disk::{MemDisk, Plan, SectorDisk, Torn};
-use eventkey::{Listed, Message, Sign, Signed};
+use eventkey::{Listed, Message};
 use model::{Model as Simulated, Outgoing, Sends, Words};
 use recovery::header;
 use smallvec::SmallVec;
@@ -17,8 +17,6 @@ use std::test::Fail;
 use wire::LocalPort;
 
 mod opening;
-mod rows;
-mod stops;
 
 #[derive(Drop)]
 struct Ring;

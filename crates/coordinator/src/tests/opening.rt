@@ -8,6 +8,14 @@ use recovery::RecoveryFault;
 
 // The opening of a session, and whole sessions.
 
+/// A disk with this image, of at most 1 MiB, whose operation of this number fails, counted from 0.
+fn failing(alloc: Global, image: Vec<u8>, fail: Option<u64>) -> Result<MemDisk, Fail> {
+    if image.len() > 1 << 20 {
+        return Ok(MemDisk::blank(alloc, 0)?);
+    }
+    Ok(MemDisk::of(alloc, image, Plan { fail, stop: None })?)
+}
+
 /// Why a disk is not opened up to this end, which is below 2^40, and the disk.
 fn refused(
     alloc: Global,
@@ -62,7 +70,7 @@ fn the_sync_of_an_opening_fails(rt: HostRuntime) -> Result<(), Fail> {
     let alloc = rt.alloc();
     let ring = Ring;
     let image = formatted(alloc, &ring)?.crash(alloc, Torn::Old)?;
-    let disk = stops::failing(alloc, image, Some(0))?;
+    let disk = failing(alloc, image, Some(0))?;
     let (fault, disk) = refused(alloc, &ring, disk, END)?;
     let device = LogFault::Disk(DiskFault::Device);
     assert!(rt; fault == SessionFault::Recovery(RecoveryFault::Log(device)));
