@@ -41,8 +41,7 @@ pub fn run_local<M: Simulated, D: SectorDisk + Drop, W: Watch>(
     requires begun { 1 ≤ end }
     requires short { end ≤ 2 ^ 40 }
     // All that is told is of the sequential simulation up to the end.
-    ensures finished {
-        IfOk result (λ told. IsRunOf (M.meaning model.now) end told.time told.events) }
+    ensures finished { IfOk result (λ told. IsRunOf (M.meaning model.now) end told.time told.events) }
     ensures count { IfOk result (λ told. length told.ran.items ≡ plan.nodes) }
 {
     let ports = local_ports(alloc, model, plan.nodes)?;
