@@ -1,5 +1,7 @@
 // Whole runs on disks in memory.
 
+ghost use Rattle.std.specs.Prelude.{◌<◌, ◌≤◌};
+
 use crate::{Finished, Plan, RunFault, Watch, run_local};
 use commitlog::format;
 use coordinator::SessionFault;
