@@ -28,22 +28,3 @@ fn records_of_events_have_the_bytes_of_their_format(rt: HostRuntime) -> Result<(
     assert_eq!(rt; events_length(3), 0x84);
     Ok(())
 }
-
-#[test]
-fn a_commit_of_thirteen_events_takes_a_second_sector(rt: HostRuntime) -> Result<(), Fail> {
-    let alloc = rt.alloc();
-    let twelve = body(alloc, 2, &[EVENTS[0]; 12])?;
-    let thirteen = body(alloc, 2, &[EVENTS[0]; 13])?;
-    assert_eq!(rt; 5 + twelve.len(), 497);
-    assert_eq!(rt; 5 + thirteen.len(), 537);
-    let mut log = log_with(alloc, &[], Some((1, twelve.as_slice())))?;
-    log.append(1, thirteen.as_slice())?;
-    log.append(1, &[])?;
-    let mut disk = log.into_disk();
-    let mut sector = [0; 512];
-    for (gate, byte) in [(2, 1), (4, 1), (7, 1), (9, 0)] {
-        disk.read(gate, &mut sector)?;
-        assert_eq!(rt; sector[0], byte, "gate {gate}");
-    }
-    Ok(())
-}

@@ -3,11 +3,11 @@
 ghost use Rattle.std.specs.Prelude.{◌≡◌, ◌≤◌, ◌<◌, ◌^◌, ℕ};
 ghost use Rattle.recovery.specs.Ring.{ring_meaning, ring_lawful};
 
-use crate::{Front, RecoveryFault, encode_events, events_length, header, recover};
 use commitlog::{Log, LogFault, format};
 use disk::{DiskFault, MemDisk, Plan, SectorDisk, Torn};
-use eventkey::{Message, append_messages};
+use eventkey::Message;
 use model::{Model as Simulated, Outgoing, Sends, Words, WorldFault};
+use recovery::{Front, RecoveryFault, encode_events, events_length, header, recover};
 use smallvec::SmallVec;
 use std::alloc::{AllocError, Global};
 use std::test::Fail;
