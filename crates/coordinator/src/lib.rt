@@ -80,6 +80,3 @@ pub struct DriveFault {
     pub done: u64,
     pub fault: SessionFault,
 }
-
-#[cfg(test)]
-mod tests;

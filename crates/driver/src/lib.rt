@@ -4,8 +4,6 @@
 mod local;
 mod picks;
 mod rounds;
-#[cfg(test)]
-mod tests;
 
 pub use local::{Finished, run_local};
 pub use rounds::{Plan, RunFault, Watch, run};

@@ -2,10 +2,10 @@
 
 ghost use Rattle.std.specs.Prelude.{◌<◌, ◌≤◌};
 
-use crate::{Finished, Plan, RunFault, Watch, run_local};
 use commitlog::format;
 use coordinator::SessionFault;
 use disk::MemDisk;
+use driver::{Finished, Plan, RunFault, Watch, run_local};
 use models::TokenRing;
 use recovery::header;
 use std::alloc::Global;

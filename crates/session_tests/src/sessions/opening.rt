@@ -1,8 +1,8 @@
 ghost use Rattle.std.specs.Prelude.{◌≤◌};
 
 use super::*;
-use crate::{Resumed, resume};
 use commitlog::LogFault;
+use coordinator::{Resumed, resume};
 use disk::DiskFault;
 use recovery::RecoveryFault;
 
@@ -74,16 +74,6 @@ fn the_sync_of_an_opening_fails(rt: HostRuntime) -> Result<(), Fail> {
     let (fault, disk) = refused(alloc, &ring, disk, END)?;
     let device = LogFault::Disk(DiskFault::Device);
     assert!(rt; fault == SessionFault::Recovery(RecoveryFault::Log(device)));
-    assert_eq!(rt; opened(alloc, &ring, disk)?.front().time, 0);
-    Ok(())
-}
-
-#[test]
-fn another_end_is_another_model(rt: HostRuntime) -> Result<(), Fail> {
-    let alloc = rt.alloc();
-    let ring = Ring;
-    let (fault, disk) = refused(alloc, &ring, formatted(alloc, &ring)?, 11)?;
-    assert!(rt; fault == SessionFault::Recovery(RecoveryFault::OtherModel));
     assert_eq!(rt; opened(alloc, &ring, disk)?.front().time, 0);
     Ok(())
 }

@@ -5,8 +5,8 @@ ghost use Rattle.coordinator.specs.Opening.{AllFresh};
 ghost use Rattle.coordinator.specs.Ring.{ring_lawful, ring_meaning};
 ghost use Rattle.wire.specs.Local.{state_of};
 
-use crate::{Answer, NotOpened, Session, SessionFault, Step};
 use commitlog::format;
+use coordinator::{Answer, NotOpened, Session, SessionFault, Step};
 use disk::{MemDisk, Plan, SectorDisk, Torn};
 use eventkey::{Listed, Message};
 use model::{Model as Simulated, Outgoing, Sends, Words};

@@ -1,0 +1,8 @@
+//! Tests of sessions and of whole runs, through their public functions. They stand in a crate of their own, since a crate with
+//! tests is proved twice.
+#![tactic(auto)]
+
+#[cfg(test)]
+mod runs;
+#[cfg(test)]
+mod sessions;
