@@ -11,8 +11,6 @@ mod bytes;
 mod laws;
 mod list;
 mod reading;
-#[cfg(test)]
-mod tests;
 
 pub use bytes::{MESSAGE_BYTES, SIGNED_BYTES, get_message, get_signed, put_message, put_signed};
 pub use laws::{law_of_bags, law_of_messages, law_of_order, law_of_signed_messages};

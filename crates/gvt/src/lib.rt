@@ -209,6 +209,3 @@ impl Ledger {
         Ok(())
     }
 }
-
-#[cfg(test)]
-mod tests;

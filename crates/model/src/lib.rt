@@ -9,8 +9,6 @@ mod laws;
 mod pending;
 mod runner;
 mod state;
-#[cfg(test)]
-mod tests;
 
 use eventkey::Message;
 pub use laws::{law_of_runs, law_of_sequential_simulation, law_of_worlds};

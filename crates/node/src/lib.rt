@@ -9,8 +9,6 @@ ghost use Rattle.node.specs.declared.NodeFault.TheVariants.{NoMemory};
 mod node;
 mod roster;
 mod standing;
-#[cfg(test)]
-mod tests;
 mod tournament;
 
 use eventkey::{Listed, Message, Signed};

@@ -9,8 +9,6 @@ ghost use Rattle.process.specs.declared.ProcessFault.TheVariants.{NoMemory};
 mod fossils;
 mod logical;
 mod sends;
-#[cfg(test)]
-mod tests;
 
 use eventkey::{Listed, Message};
 pub use logical::Process;

@@ -1,6 +1,7 @@
 // Worked values of messages and their bytes.
 
-use crate::*;
+use eventkey::*;
+use std::cmp::Ordering;
 use std::test::Fail;
 
 /// The message (3,0,1,1,0,1).
@@ -31,36 +32,6 @@ fn spells_an_antimessage(rt: HostRuntime) -> Result<(), Fail> {
     assert_eq!(rt; bytes[1..], SPELLED[..]);
     assert_eq!(rt; get_signed(&bytes)?, signed);
     Ok(())
-}
-
-#[test]
-fn refuses_a_time_at_the_limit(rt: HostRuntime) -> Result<(), Fail> {
-    let latest = Message::new(2199023255551, 0, 0, 0, 0, 0)?;
-    assert_eq!(rt; latest.time(), 2199023255551);
-    let refused = Message::new(2199023255552, 0, 0, 0, 0, 0);
-    assert_eq!(rt; refused, Err(KeyFault::TimeTooLarge));
-    let mut bytes = [0; 41];
-    bytes[2] = 2;
-    assert_eq!(rt; get_message(&bytes), Err(KeyFault::TimeTooLarge));
-    bytes[2] = 1;
-    assert_eq!(rt; get_message(&bytes)?.time(), 1099511627776);
-    Ok(())
-}
-
-#[test]
-fn refuses_in_order(rt: HostRuntime) {
-    assert_eq!(rt; get_message(&[0; 39]), Err(KeyFault::Short));
-    assert_eq!(rt; get_signed(&[0; 40]), Err(KeyFault::Short));
-    assert_eq!(rt; get_signed(&[2; 40]), Err(KeyFault::Short));
-    assert_eq!(rt; get_signed(&[2; 41]), Err(KeyFault::BadSign));
-    assert_eq!(rt; get_signed(&[1; 41]), Err(KeyFault::TimeTooLarge));
-    assert_eq!(rt; get_message(&[255; 39]), Err(KeyFault::Short));
-    assert_eq!(rt; get_message(&[255; 40]), Err(KeyFault::TimeTooLarge));
-    let mut early = [0; 41];
-    early[0] = 2;
-    assert_eq!(rt; get_signed(&early), Err(KeyFault::BadSign));
-    early[0] = 1;
-    assert!(rt; get_signed(&early).is_ok());
 }
 
 #[test]
@@ -98,18 +69,6 @@ fn orders_by_each_field_in_turn(rt: HostRuntime) -> Result<(), Fail> {
         least = message;
     }
     assert!(rt; first.is_same(&first));
-    Ok(())
-}
-
-#[test]
-fn tells_its_fields(rt: HostRuntime) -> Result<(), Fail> {
-    let message = Message::new(1, 2, 3, 4, 5, 6)?;
-    message.ranged();
-    assert_eq!(rt;
-        (message.time(), message.from(), message.number()),
-        (1, 2, 3)
-    );
-    assert_eq!(rt; (message.to(), message.a(), message.b()), (4, 5, 6));
     Ok(())
 }
 
@@ -155,34 +114,6 @@ fn reads_and_appends_signed_lists(rt: HostRuntime) -> Result<(), Fail> {
     assert_eq!(rt; again.as_slice(), list.as_slice());
     assert_eq!(rt; rest.len(), 0);
     assert!(rt; read_signed_list(rt.alloc(), 3, &bytes)?.is_none());
-    Ok(())
-}
-
-#[test]
-fn reads_numbers(rt: HostRuntime) -> Result<(), Fail> {
-    let bytes = [1, 2, 3, 4, 5, 6, 7, 8, 9, 10, 11, 12, 13];
-    let Some((one, rest)) = read_u8(&bytes) else {
-        return Err(Fail::new("a byte stands there"));
-    };
-    let Some((four, rest)) = read_u32(rest) else {
-        return Err(Fail::new("four bytes stand there"));
-    };
-    let Some((eight, rest)) = read_u64(rest) else {
-        return Err(Fail::new("eight bytes stand there"));
-    };
-    assert_eq!(rt; (one, four, eight), (1, 0x02030405, 0x060708090a0b0c0d));
-    assert!(rt; read_u8(rest).is_none());
-    assert!(rt; read_u32(&bytes[10..]).is_none());
-    assert!(rt; read_u64(&bytes[6..]).is_none());
-    Ok(())
-}
-
-#[test]
-fn lists_hold_their_items(rt: HostRuntime) -> Result<(), Fail> {
-    let items = vec![in rt.alloc(); 1, 2]?;
-    let list = Listed::from_vec(items);
-    assert_eq!(rt; list.as_slice(), [1, 2].as_slice());
-    assert_eq!(rt; list.into_vec().as_slice(), [1, 2].as_slice());
     Ok(())
 }
 

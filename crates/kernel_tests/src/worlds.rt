@@ -3,8 +3,8 @@
 ghost use Rattle.std.specs.Prelude.{◌≡◌, ◌≤◌, ◌<◌, ◌^◌, ℕ, length, IfOk};
 ghost use Rattle.model.specs.Ring.{ring_meaning, ring_lawful};
 
-use crate::{Model as Simulated, Outgoing, Sends, State, Words, World, WorldFault, ranged, stamp};
 use eventkey::Message;
+use model::{Model as Simulated, Outgoing, Sends, State, Words, World, WorldFault, ranged, stamp};
 use smallvec::SmallVec;
 use std::alloc::Global;
 use std::test::Fail;
@@ -135,55 +135,6 @@ fn stepped(world: &mut World, ring: &Ring) -> Result<[u64; 6], Fail>
     }
 }
 
-#[test]
-fn steps_one_by_one(rt: HostRuntime) -> Result<(), Fail> {
-    let ring = one_token();
-    let mut world = World::open(rt.alloc(), &ring, 10)?;
-    assert_eq!(rt; stepped(&mut world, &ring)?, LOGGED[0]);
-    assert_eq!(rt; stepped(&mut world, &ring)?, LOGGED[1]);
-    assert_eq!(rt; stepped(&mut world, &ring)?, LOGGED[2]);
-    assert_eq!(rt; stepped(&mut world, &ring)?, LOGGED[3]);
-    assert_eq!(rt; stepped(&mut world, &ring)?, LOGGED[4]);
-    assert_eq!(rt; world.step(&ring)?, None);
-    assert_eq!(rt; world.time(), 0);
-    Ok(())
-}
-
-// The messages of two tokens, the least first: those that wait at the opening, then those that the
-// steps send.
-fn two_tokens() -> Result<[Message; 6], Fail> {
-    Ok([
-        Message::new(1, 0, 0, 0, 0, 0)?,
-        Message::new(1, 1, 0, 1, 1, 0)?,
-        Message::new(3, 0, 1, 1, 0, 1)?,
-        Message::new(3, 1, 1, 2, 1, 1)?,
-        Message::new(5, 1, 2, 2, 0, 2)?,
-        Message::new(5, 2, 0, 0, 1, 2)?,
-    ])
-}
-
-#[test]
-fn handles_the_least_of_two(rt: HostRuntime) -> Result<(), Fail> {
-    let ring = Ring {
-        lps: 3,
-        hold: 2,
-        tokens: 2,
-    };
-    let [first, second, third, fourth, fifth, sixth] = two_tokens()?;
-    let mut world = World::open(rt.alloc(), &ring, 5)?;
-    assert_eq!(rt; world.pending(), [first, second].as_slice());
-    assert_eq!(rt; world.step(&ring)?, Some(first));
-    assert_eq!(rt; world.pending(), [second, third].as_slice());
-    assert_eq!(rt; world.step(&ring)?, Some(second));
-    assert_eq!(rt; world.least(), Some(third));
-    world.run_to(&ring, 9)?;
-    assert_eq!(rt; world.time(), 5);
-    assert_eq!(rt; world.log(), [first, second, third, fourth].as_slice());
-    assert_eq!(rt; world.pending(), [fifth, sixth].as_slice());
-    assert_eq!(rt; world.numbers(), [2, 3, 1].as_slice());
-    Ok(())
-}
-
 // All there is of a ring of three processes with one token: the time, how many messages were
 // handled, the send numbers, the counts, and the time and the receiver of the token.
 fn told(world: &World) -> [u64; 10] {
@@ -288,32 +239,6 @@ fn a_refused_run_keeps_whole_steps(rt: HostRuntime) -> Result<(), Fail> {
     }
     assert_eq!(rt; world.time(), 10);
     assert_eq!(rt; told(&world)[1..], TOLD[5][1..]);
-    Ok(())
-}
-
-#[test]
-fn is_taken_apart(rt: HostRuntime) -> Result<(), Fail> {
-    let ring = one_token();
-    let mut world = World::open(rt.alloc(), &ring, 10)?;
-    world.run_to(&ring, 4)?;
-    let parts = world.into_parts();
-    assert_eq!(rt; parts.time, 4);
-    assert_eq!(rt; parts.numbers.as_slice(), [2, 1, 0].as_slice());
-    assert_eq!(rt; parts.states.len(), 3);
-    assert_eq!(rt; parts.log.len(), 2);
-    let next = Message::new(5, 1, 0, 2, 0, 2)?;
-    assert_eq!(rt; parts.pending.as_slice(), [next].as_slice());
-    Ok(())
-}
-
-#[test]
-fn keeps_a_later_time(rt: HostRuntime) -> Result<(), Fail> {
-    let ring = one_token();
-    let mut world = World::open(rt.alloc(), &ring, 10)?;
-    world.run_to(&ring, 6)?;
-    world.run_to(&ring, 2)?;
-    assert_eq!(rt; world.time(), 6);
-    assert_eq!(rt; world.log().len(), 3);
     Ok(())
 }
 

@@ -7,14 +7,13 @@ ghost use Rattle.process.specs.Ring.{ring_lawful, ring_meaning};
 
 mod memory;
 mod plain;
-mod refusals;
 mod relay;
 mod schedules;
 mod sharing;
 
-use crate::{Load, Node, NodeFault, Parcel, Part, Reply};
 use eventkey::{Listed, Message, Sign, Signed};
 use model::{Model as Simulated, Outgoing, Sends, State, Words};
+use node::{Load, Node, NodeFault, Parcel, Part, Reply};
 use process::{Done, Process};
 use std::alloc::Global;
 use std::process::Abort;
@@ -247,34 +246,5 @@ fn a_token_passes_node_zero_of_three(rt: HostRuntime) -> Result<(), Fail> {
     let reply = hand(alloc, &mut node, &[], 10)?;
     let fossil = (t.to_zero, t.again, 2, 3);
     told(&rt, &reply, &[], None, 0, &[fossil]);
-    Ok(())
-}
-
-#[test]
-fn a_token_passes_node_one_of_three(rt: HostRuntime) -> Result<(), Fail> {
-    let (alloc, t) = (rt.alloc(), token()?);
-    let mut node = load(alloc, 1, 3, &[(1, 0, &[])])?;
-    let reply = hand(alloc, &mut node, &[plus(t.to_one)], 3)?;
-    told(&rt, &reply, &[plus(t.to_two)], None, 1, &[]);
-    let reply = hand(alloc, &mut node, &[plus(t.again)], 9)?;
-    let fossil = (t.to_one, t.to_two, 1, 1);
-    told(&rt, &reply, &[plus(t.last)], None, 1, &[fossil]);
-    let reply = hand(alloc, &mut node, &[], 10)?;
-    let fossil = (t.again, t.last, 2, 2);
-    told(&rt, &reply, &[], None, 0, &[fossil]);
-    Ok(())
-}
-
-#[test]
-fn a_token_ends_at_node_two_of_three(rt: HostRuntime) -> Result<(), Fail> {
-    let (alloc, t) = (rt.alloc(), token()?);
-    let mut node = load(alloc, 2, 3, &[(2, 0, &[])])?;
-    let reply = hand(alloc, &mut node, &[plus(t.to_two)], 5)?;
-    told(&rt, &reply, &[plus(t.to_zero)], None, 1, &[]);
-    let reply = hand(alloc, &mut node, &[plus(t.last)], 10)?;
-    let fossil = (t.to_two, t.to_zero, 1, 1);
-    told(&rt, &reply, &[], Some(11), 0, &[fossil]);
-    let reply = hand(alloc, &mut node, &[], 10)?;
-    told(&rt, &reply, &[], Some(11), 0, &[]);
     Ok(())
 }

@@ -3,9 +3,9 @@
 ghost use Rattle.std.specs.Prelude.{◌≡◌, ◌<◌, IfOk};
 ghost use Rattle.process.specs.Ring.{ring_lawful, ring_meaning};
 
-use crate::{Done, Process, ProcessFault};
 use eventkey::{Message, Sign, Signed};
 use model::{Model as Simulated, Outgoing, Sends, Words};
+use process::{Done, Process, ProcessFault};
 use std::alloc::Global;
 use std::process::Abort;
 use std::test::Fail;
@@ -176,16 +176,6 @@ fn antimessage_comes_first(rt: HostRuntime) -> Result<(), Fail> {
 }
 
 #[test]
-fn handled_message_is_taken_back(rt: HostRuntime) -> Result<(), Fail> {
-    let a = Message::new(5, 0, 1, 1, 0, 1)?;
-    let sent = Message::new(7, 1, 0, 2, 0, 2)?;
-    let mut process = after_a(&rt, rt.alloc())?;
-    deliver(&rt, rt.alloc(), &mut process, minus(a), Some(minus(sent)))?;
-    assert_eq!(rt; look(&process), (0, 0, 0, 0, 0));
-    Ok(())
-}
-
-#[test]
 fn matching_is_by_all_six_numbers(rt: HostRuntime) -> Result<(), Fail> {
     let a = Message::new(5, 0, 1, 1, 0, 1)?;
     let other = Message::new(5, 0, 1, 1, 9, 1)?;
@@ -196,19 +186,6 @@ fn matching_is_by_all_six_numbers(rt: HostRuntime) -> Result<(), Fail> {
     deliver(&rt, rt.alloc(), &mut process, minus(a), Some(minus(sent)))?;
     assert_eq!(rt; look(&process), (0, 0, 0, 1, 0));
     assert_eq!(rt; process.next(10), Some(other));
-    Ok(())
-}
-
-#[test]
-fn copies_are_counted(rt: HostRuntime) -> Result<(), Fail> {
-    let a = Message::new(5, 0, 1, 1, 0, 1)?;
-    let mut process = load(rt.alloc())?;
-    deliver(&rt, rt.alloc(), &mut process, plus(a), None)?;
-    deliver(&rt, rt.alloc(), &mut process, plus(a), None)?;
-    deliver(&rt, rt.alloc(), &mut process, minus(a), None)?;
-    assert_eq!(rt; look(&process), (0, 0, 0, 1, 0));
-    assert_eq!(rt; process.next(10), Some(a));
-    assert_eq!(rt; process.next(5), None);
     Ok(())
 }
 
@@ -245,56 +222,6 @@ fn collects_with_the_state_after(rt: HostRuntime) -> Result<(), Fail> {
     assert_eq!(rt; process.floor(), 6);
     assert_eq!(rt; process.oldest(), Some(8));
     assert_eq!(rt; look(&process), (2, 2, 1, 0, 0));
-    Ok(())
-}
-
-#[test]
-fn refuses_what_is_not_its_own_or_too_early(rt: HostRuntime) -> Result<(), Fail> {
-    let a = Message::new(5, 0, 1, 1, 0, 1)?;
-    let other = Message::new(7, 0, 1, 2, 0, 1)?;
-    let words = Words::new(rt.alloc());
-    let mut process = Process::load(rt.alloc(), 1, words, 0, Vec::new(rt.alloc()), 6)?;
-    let mut out = Vec::new(rt.alloc());
-    assert_eq!(rt;
-        process.deliver(plus(other), &mut out),
-        Err(ProcessFault::NotMine)
-    );
-    assert_eq!(rt;
-        process.deliver(minus(a), &mut out),
-        Err(ProcessFault::BelowFloor)
-    );
-    assert_eq!(rt;
-        process.deliver(plus(a), &mut out),
-        Err(ProcessFault::BelowFloor)
-    );
-    assert!(rt; !process.is_spent());
-    assert_eq!(rt; process.waiting_len(), 0);
-    Ok(())
-}
-
-/// What a load with floor 6 answers where these messages wait.
-fn load_with(alloc: Global, first: Message, second: Message) -> Result<Option<ProcessFault>, Fail> {
-    let mut pending = Vec::new(alloc);
-    pending.push(first)?;
-    pending.push(second)?;
-    let words = Words::new(alloc);
-    Ok(Process::load(alloc, 1, words, 0, pending, 6).err())
-}
-
-#[test]
-fn load_looks_for_others_messages_first(rt: HostRuntime) -> Result<(), Fail> {
-    let early = Message::new(5, 0, 1, 1, 0, 1)?;
-    let late = Message::new(6, 0, 1, 1, 0, 1)?;
-    let other = Message::new(7, 0, 1, 2, 0, 1)?;
-    assert_eq!(rt;
-        load_with(rt.alloc(), early, other)?,
-        Some(ProcessFault::NotMine)
-    );
-    assert_eq!(rt;
-        load_with(rt.alloc(), late, early)?,
-        Some(ProcessFault::BelowFloor)
-    );
-    assert_eq!(rt; load_with(rt.alloc(), late, late)?, None);
     Ok(())
 }
 
