@@ -6,8 +6,6 @@ ghost use Rattle.std.specs.Prelude.{◌≡◌};
 mod laws;
 mod reading;
 mod stream;
-#[cfg(test)]
-mod tests;
 mod writing;
 
 pub use laws::{law_of_bodies, law_of_frames};

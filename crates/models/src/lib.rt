@@ -6,8 +6,6 @@ mod job_shop;
 mod parallel_hold;
 mod relay;
 mod ring;
-#[cfg(test)]
-mod tests;
 mod words;
 
 pub use any_model::AnyModel;

@@ -2,8 +2,6 @@
 #![tactic(auto)]
 
 mod model_file;
-#[cfg(test)]
-mod tests;
 mod text;
 
 pub use model_file::{Key, Mistake, ModelFault, read_model};

@@ -1,8 +1,8 @@
 // Model files.
 
-use crate::{Key, Mistake, ModelFault, read_model};
 use models::{AnyModel, JobShop, Phold, TokenRing};
 use std::test::Fail;
+use texts::{Key, Mistake, ModelFault, read_model};
 
 const RING: &str = "model = \"ring\"\nlps = 3\nend = 10\nhold = 2\ntokens = 1\n";
 
@@ -13,24 +13,6 @@ fn a_ring_is_read_in_any_order(rt: HostRuntime) -> Result<(), Fail> {
     let (model, end) = read_model(rt.alloc(), text)?;
     assert!(rt; model == AnyModel::TokenRing(TokenRing::new(3, 4294967295, 24)));
     assert_eq!(rt; end, 1099511627776);
-    Ok(())
-}
-
-#[test]
-fn the_ends_of_each_range_are_allowed(rt: HostRuntime) -> Result<(), Fail> {
-    let least = "model = \"ring\"\nlps = 1\nend = 1\nhold = 1\ntokens = 1\n";
-    assert!(rt;
-        read_model(rt.alloc(), least)? == (AnyModel::TokenRing(TokenRing::new(1, 1, 1)), 1)
-    );
-    let most =
-        "model = \"ring\"\nlps = 1024\nend = 1099511627776\nhold = 4294967295\ntokens = 8192\n";
-    assert!(rt;
-        read_model(rt.alloc(), most)?
-            == (
-                AnyModel::TokenRing(TokenRing::new(1024, 4294967295, 8192)),
-                1099511627776
-            )
-    );
     Ok(())
 }
 

@@ -1,10 +1,10 @@
 // The texts of logs and worlds, and writers that fail.
 
-use crate::{write_log, write_world};
 use eventkey::Message;
 use smallvec::SmallVec;
 use std::io::{Error, ErrorKind, Result, Write};
 use std::test::Fail;
+use texts::{write_log, write_world};
 
 /// A writer that takes at most `count` bytes a call, and refuses the call number `fail`.
 #[derive(Drop)]
@@ -72,28 +72,6 @@ fn a_world_has_its_processes_and_pending_messages(
     let mut out = Vec::new(rt.alloc());
     write_world(9, states.as_slice(), &[0, 1 << 63], &log, &mut out)?;
     assert_eq!(rt; out.as_slice(), WORLD.as_bytes());
-    Ok(())
-}
-
-#[test]
-fn what_a_failing_writer_has_is_a_beginning(rt: HostRuntime) -> std::result::Result<(), Fail> {
-    let log = log().ok_or("log")?;
-    let mut done = false;
-    for fail in 0..200 {
-        let mut out = Faulty {
-            taken: Vec::new(rt.alloc()),
-            count: 3,
-            calls: 0,
-            fail,
-            kind: ErrorKind::BrokenPipe,
-        };
-        let result = write_log(&log, &mut out);
-        assert!(rt; LOG.as_bytes().starts_with(out.taken.as_slice()));
-        assert_eq!(rt; result.is_ok(), out.calls <= fail);
-        assert_eq!(rt; result.is_ok(), out.taken.len() == LOG.len());
-        done = done || result.is_ok();
-    }
-    assert!(rt; done);
     Ok(())
 }
 

@@ -1,8 +1,8 @@
 // Worked examples of PHOLD and the job shop, each made by hand.
 
-use crate::{AnyModel, JobShop, Phold, Relay};
 use eventkey::Message;
 use model::{Model, Outgoing, World};
+use models::{AnyModel, JobShop, Phold};
 use smallvec::SmallVec;
 use std::test::Fail;
 
@@ -87,49 +87,5 @@ fn a_job_past_every_delay_is_turned_away(rt: HostRuntime) -> Result<(), Fail> {
         assert!(rt; words.as_slice().starts_with(&first));
         assert_eq!(rt; (words.len(), sends.len()), (5, 0));
     }
-    Ok(())
-}
-
-#[test]
-fn missing_words_count_as_zero_and_counts_stay(rt: HostRuntime) -> Result<(), Fail> {
-    let hold = Phold::new(3, 2, 5, 7);
-    let message = Message::new(5, 1, 0, 0, 9, 1)?;
-    let (none, sent_none) = hold.handle(rt.alloc(), 2, &SmallVec::new(rt.alloc()), &message);
-    let zeros = SmallVec::from_slice(rt.alloc(), &[0, 0, 4])?;
-    let (words, sends) = hold.handle(rt.alloc(), 2, &zeros, &message);
-    assert_eq!(rt; none.as_slice(), words.as_slice());
-    assert_eq!(rt; sent_none.as_slice(), sends.as_slice());
-    let full = SmallVec::from_slice(rt.alloc(), &[0, u64::MAX])?;
-    let (words, _) = hold.handle(rt.alloc(), 2, &full, &message);
-    assert_eq!(rt; words.as_slice().get(1).copied(), Some(u64::MAX));
-    let shop = JobShop::new(2, 1, 1, 3);
-    let busy = SmallVec::from_slice(rt.alloc(), &[0, u64::MAX, u64::MAX, 0, 1])?;
-    let (words, _) = shop.handle(rt.alloc(), 0, &busy, &message);
-    assert!(rt; words.as_slice().starts_with(&[6, u64::MAX, u64::MAX, 0]));
-    Ok(())
-}
-
-#[test]
-fn a_relay_sends_twice(rt: HostRuntime) -> Result<(), Fail> {
-    let (state, sends) = Relay.start(rt.alloc(), 4);
-    assert_eq!(rt; (state.as_slice(), sends.len()), ([0].as_slice(), 1));
-    assert_eq!(rt; (Relay.lps(), Relay.identity(rt.alloc()).len()), (6, 0));
-    let message = Message::new(5, 1, 0, 4, 9, 1)?;
-    let seen = SmallVec::from_slice(rt.alloc(), &[8])?;
-    let (state, sends) = Relay.handle(rt.alloc(), 4, &seen, &message);
-    assert_eq!(rt; state.as_slice(), [29].as_slice());
-    let soon = Outgoing {
-        to: 0,
-        delay: 3,
-        a: 9,
-        b: 9,
-    };
-    let later = Outgoing {
-        to: 5,
-        delay: 23,
-        a: 1,
-        b: 9,
-    };
-    assert_eq!(rt; sends.as_slice(), [soon, later].as_slice());
     Ok(())
 }

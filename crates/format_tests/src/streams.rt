@@ -1,9 +1,9 @@
 // Worked frames, byte for byte, and streams that are none.
 
-use crate::*;
 use eventkey::{Listed, Message, Sign, Signed};
+use frames::{Frame, encode_fault, encode_load, encode_parcel, encode_reply, read_frame};
 use model::{State, Words};
-use node::Part;
+use node::{Load, NodeFault, Parcel, Part, Reply};
 use process::Done;
 use std::alloc::Global;
 use std::io::{self, Error, ErrorKind, Read};
@@ -215,83 +215,20 @@ fn refused(alloc: Global, bytes: &[u8]) -> (Option<WireFault>, usize) {
 
 #[test]
 fn what_is_no_frame_is_refused(rt: HostRuntime) {
-    let alloc = rt.alloc();
-    assert_eq!(rt;
-        refused(alloc, &[0, 0, 0, 16, 2]),
-        (Some(WireFault::Truncated), 0)
-    );
-    assert_eq!(rt;
-        refused(alloc, &[1, 0, 0, 1]),
-        (Some(WireFault::TooLong), 0)
-    );
-    assert_eq!(rt;
-        refused(alloc, &[1, 0, 0, 1, 9]),
-        (Some(WireFault::TooLong), 1)
-    );
-    assert_eq!(rt;
-        refused(alloc, &[0, 0, 0, 0, 5]),
-        (Some(WireFault::BadKind), 0)
-    );
-    assert_eq!(rt;
-        refused(alloc, &[0, 0, 0, 2, 0, 9, 9]),
-        (Some(WireFault::BadKind), 2)
-    );
-    assert_eq!(rt;
-        refused(alloc, &[0, 0, 0, 1, 4, 7]),
-        (Some(WireFault::BadBody), 0)
-    );
-    assert_eq!(rt; refused(alloc, &[0, 0, 0]), (Some(WireFault::Truncated), 0));
-    assert_eq!(rt;
-        refused(alloc, &[1, 0, 0, 0, 2, 9]),
-        (Some(WireFault::Truncated), 0)
-    );
-    assert_eq!(rt; refused(alloc, &[]), (None, 0));
-}
-
-/// The frame with one byte in the place of another, and what is told of it.
-fn with_byte(
-    alloc: Global,
-    frame: &[u8],
-    place: usize,
-    byte: u8,
-) -> Result<Option<WireFault>, Fail> {
-    let mut bytes = Vec::new(alloc);
-    bytes.extend_from_slice(frame)?;
-    if let Some(old) = bytes.get_mut(place) {
-        *old = byte;
+    let cases: [(&[u8], Option<WireFault>, usize); 9] = [
+        (&[0, 0, 0, 16, 2], Some(WireFault::Truncated), 0),
+        (&[1, 0, 0, 1], Some(WireFault::TooLong), 0),
+        (&[1, 0, 0, 1, 9], Some(WireFault::TooLong), 1),
+        (&[0, 0, 0, 0, 5], Some(WireFault::BadKind), 0),
+        (&[0, 0, 0, 2, 0, 9, 9], Some(WireFault::BadKind), 2),
+        (&[0, 0, 0, 1, 4, 7], Some(WireFault::BadBody), 0),
+        (&[0, 0, 0], Some(WireFault::Truncated), 0),
+        (&[1, 0, 0, 0, 2, 9], Some(WireFault::Truncated), 0),
+        (&[], None, 0),
+    ];
+    for (bytes, fault, left) in cases {
+        assert_eq!(rt; refused(rt.alloc(), bytes), (fault, left));
     }
-    Ok(refused(alloc, bytes.as_slice()).0)
-}
-
-#[test]
-fn numbers_out_of_range_are_no_body(rt: HostRuntime) -> Result<(), Fail> {
-    let alloc = rt.alloc();
-    let bad = Some(WireFault::BadBody);
-    // Of the load: the node, how many nodes, the end, the floor, the send number, the count of words.
-    for (place, byte) in [
-        (8, 3),
-        (12, 65),
-        (20, 0),
-        (15, 1),
-        (28, 11),
-        (37, 129),
-        (45, 17),
-    ] {
-        assert_eq!(rt; with_byte(alloc, &LOAD, place, byte)?, bad);
-    }
-    // Of the parcel: the floor.
-    assert_eq!(rt; with_byte(alloc, &PARCEL, 15, 1)?, bad);
-    // Of the reply: the sign, the time of a message, the flag of the low, the low, the count of sends.
-    for (place, byte) in [(9, 2), (12, 2), (50, 2), (53, 2), (103, 9)] {
-        assert_eq!(rt; with_byte(alloc, &LADEN, place, byte)?, bad);
-    }
-    for number in [0, 7] {
-        assert_eq!(rt; with_byte(alloc, &FAULT, 5, number)?, bad);
-    }
-    for number in 1..7 {
-        assert_eq!(rt; with_byte(alloc, &FAULT, 5, number)?, None);
-    }
-    Ok(())
 }
 
 #[test]
@@ -306,30 +243,6 @@ fn a_failing_reader_is_told(rt: HostRuntime) -> Result<(), Fail> {
         reader.fail = fail;
         reader.kind = ErrorKind::Interrupted;
         assert!(rt; read_frame(alloc, &mut reader)?.is_some());
-    }
-    Ok(())
-}
-
-#[test]
-fn a_body_above_the_limit_is_not_written(rt: HostRuntime) -> Result<(), Fail> {
-    let alloc = rt.alloc();
-    // Each delivery has 41 bytes, and 16 bytes are the parcel's own.
-    for (count, fits) in [(409_200, true), (409_201, false)] {
-        let message = message()?;
-        let sign = Sign::Plus;
-        let mut deliver = Vec::with_capacity(alloc, count)?;
-        for _ in 0..count {
-            deliver.push(Signed { sign, message })?;
-        }
-        let parcel = Parcel {
-            deliver: Listed::from_vec(deliver),
-            budget: 1,
-            floor: 0,
-        };
-        match encode_parcel(alloc, &parcel) {
-            Ok(frame) => assert!(rt; fits && frame.len() > 16_777_000),
-            Err(fault) => assert!(rt; !fits && fault == WireFault::TooLong),
-        }
     }
     Ok(())
 }

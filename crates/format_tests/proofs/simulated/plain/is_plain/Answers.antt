@@ -1,7 +1,7 @@
 use Rattle.std.proofs.Common.{length, subst, sym, ◌≡◌}
 use Rattle.model.proofs.Worlds.{opening_IsWorld}
 use Rattle.models.specs.Any.{any_lawful, any_meaning}
-use Rattle.models.proofs.tests.plain.is_plain.Goals as goal
+use Rattle.format_tests.proofs.simulated.plain.is_plain.Goals as goal
 
 pub run_to-requires : goal.run_to-requires
 run_to-requires c =
