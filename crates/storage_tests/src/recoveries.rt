@@ -16,7 +16,6 @@ mod bytes;
 mod device;
 mod faults;
 mod memory;
-mod worlds;
 
 #[derive(Drop)]
 struct Ring {
@@ -154,11 +153,6 @@ fn recovered_as(
 {
     let mut log = open(alloc, log.into_disk())?;
     recover(alloc, ring, &mut log, end)
-}
-
-/// Recovers the ring, and keeps the log.
-fn recovered_from(alloc: Global, log: &mut Log<MemDisk>) -> Result<Front, RecoveryFault> {
-    recover(alloc, &RING, log, END)
 }
 
 /// Whether each state is one word, and they are these.

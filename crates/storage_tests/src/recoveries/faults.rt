@@ -1,25 +1,6 @@
 use super::*;
 
 #[test]
-fn an_event_that_is_not_the_least_is_refused(rt: HostRuntime) -> Result<(), Fail> {
-    let alloc = rt.alloc();
-    let fault = Some(RecoveryFault::NotTheLeast);
-    for field in 1..6 {
-        let mut changed = EVENTS[1];
-        changed[field] += 1;
-        let events = [EVENTS[0], changed, EVENTS[2]];
-        assert_eq!(rt;
-            fault_of(alloc, &[(7, &events)], None)?,
-            fault,
-            "field {field}"
-        );
-    }
-    let missed = [EVENTS[0], EVENTS[2]];
-    assert_eq!(rt; fault_of(alloc, &[(7, &missed)], None)?, fault);
-    Ok(())
-}
-
-#[test]
 fn the_first_record_at_fault_decides(rt: HostRuntime) -> Result<(), Fail> {
     let alloc = rt.alloc();
     let behind = Some((9, [].as_slice()));
