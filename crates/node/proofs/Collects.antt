@@ -1,11 +1,9 @@
 -- A node lets go of what is below the floor, at the processes that have something there.
-use Rattle.std.proofs.Common.{◌≡◌, ℕ, zero, suc, ◌+◌, ◌<◌, ◌≤◌, false, List, [], ◌∷◌, ◌++◌, length, get_or, map, take, drop, set, refl, sym, subst, ◌∙◌, ap, arith}
+use Rattle.std.proofs.Common.{◌≡◌, ℕ, zero, suc, ◌+◌, ◌<◌, ◌≤◌, Bool, true, false, cond, List, [], ◌∷◌, ◌++◌, length, get_or, map, set, append_assoc, refl, sym, subst, ◌∙◌, ap, arith}
 use Rattle.std.specs.Prelude.{flat_map, nat_lt}
 use Rattle.std.specs.List.{AllByRecursion as Every}
-use Rattle.std.proofs.Math.Seq.{take-suc}
-use Rattle.std.proofs.lemmas.Bool.{cond-false}
+use Rattle.std.proofs.lemmas.Bool.{cond-false, cond-true, cond_both}
 use Rattle.std.proofs.lemmas.List.{append-nil, get_or-map, length-map, map-set}
-use Rattle.std.proofs.lemmas.List.Concat.{flat_map-append}
 use Rattle.eventkey.proofs.Lists.{Every-get_or}
 use Rattle.eventkey.specs.Message.{Message}
 use Rattle.process.specs.Process.{Process, fossils_of, nobody, release, told}
@@ -22,47 +20,7 @@ use Rattle.node.specs.Seats.{is_due, standing_of, standings_of}
 use Rattle.node.specs.Tournament.{IsFirstDue, IsQuiet, absent}
 use Rattle.node.specs.declared.standing.Standing.{Standing}
 
--- 1. A list whose elements are changed one after the other
-
-module _ {X : Type 0} (f : X → X) where
-  abbrev pub so_far : ℕ → List X → List X
-  so_far i xs = map f (take i xs) ++ drop i xs
-
-  pub none_so_far : (xs : List X) → so_far 0 xs ≡ xs
-  none_so_far [] = refl
-  none_so_far (x ∷ xs) = refl
-
-  pub so_far-later : (xs : List X) (i j : ℕ) (d : X) → i ≤ j → get_or (so_far i xs) j d ≡ get_or xs j d
-  so_far-later [] zero j d l = refl
-  so_far-later [] (suc i) j d l = refl
-  so_far-later (x ∷ xs) zero j d l = refl
-  so_far-later (x ∷ xs) (suc i) zero d l = absurd (omega arith)
-  so_far-later (x ∷ xs) (suc i) (suc j) d l = so_far-later xs i j d (omega arith)
-
-  pub so_far-set : (xs : List X) (i : ℕ) (d : X) → i < length xs → set (so_far i xs) i (f (get_or xs i d)) ≡ so_far (suc i) xs
-  so_far-set [] i d l = absurd (omega arith)
-  so_far-set (x ∷ xs) zero d l = refl
-  so_far-set (x ∷ xs) (suc i) d l = ap (λ ys. f x ∷ ys) (so_far-set xs i d (omega arith))
-
-  pub so_far-length : (xs : List X) (i : ℕ) → length (so_far i xs) ≡ length xs
-  so_far-length [] zero = refl
-  so_far-length [] (suc i) = refl
-  so_far-length (x ∷ xs) zero = refl
-  so_far-length (x ∷ xs) (suc i) = ap suc (so_far-length xs i)
-
-  pub so_far-all : (xs : List X) (i : ℕ) → length xs ≤ i → so_far i xs ≡ map f xs
-  so_far-all [] zero l = refl
-  so_far-all [] (suc i) l = refl
-  so_far-all (x ∷ xs) zero l = absurd (omega arith)
-  so_far-all (x ∷ xs) (suc i) l = ap (λ ys. f x ∷ ys) (so_far-all xs i (omega arith))
-
-take_all : {X : Type 0} (xs : List X) (i : ℕ) → length xs ≤ i → take i xs ≡ xs
-take_all [] zero l = refl
-take_all [] (suc i) l = refl
-take_all (x ∷ xs) zero l = absurd (omega arith)
-take_all (x ∷ xs) (suc i) l = ap (λ ys. x ∷ ys) (take_all xs i (omega arith))
-
--- 2. A process with nothing below the floor
+-- 1. A process with nothing below the floor
 
 none_before : (floor : ℕ) (hs : List Record) → is_due floor (first_handled hs) ≡ false → handled_before floor hs ≡ []
 none_before floor [] e = refl
@@ -82,111 +40,115 @@ fossils_none : (floor : ℕ) (q : Process) → is_due floor (first_handled q.don
 fossils_none floor q e =
     ap (λ (hs : List Record). told hs (state_before (handled_from floor q.done) q.state) (number_before (handled_from floor q.done) q.number)) (none_before floor q.done e)
 
--- 3. The processes up to a place have let go of what is below the floor
+rests : (floor : ℕ) (hs : List Record) → is_due floor (first_handled (handled_from floor hs)) ≡ false
+rests floor [] = refl
+rests floor (h ∷ hs) = cond_both (nat_lt h.message.time floor) (handled_from floor hs) (h ∷ hs) (λ (rs : List Record). is_due floor (first_handled rs) ≡ false) (λ _. rests floor hs) (λ e. e)
+
+one_less : (a b n : ℕ) → a ≡ 0 → b ≡ 1 → a + n < b + n
+one_less a b n e f = omega arith
+
+-- 2. Of the processes of a node those that have something there let go of it, one after the other.
 
 module _ (floor : ℕ) where
-  abbrev pub kept : ℕ → List Process → List Process
-  kept i qs = so_far (λ (q : Process). release floor q) i qs
+  abbrev IsDueAt : List Process → ℕ → Bool → Type 0
+  IsDueAt qs k due = is_due floor (first_handled (get_or qs k nobody).done) ≡ due
 
-  abbrev pub gone : ℕ → List Process → List Done
-  gone i qs = flat_map (λ (q : Process). fossils_of floor q) (take i qs)
+  abbrev pub with_released : List Process → ℕ → List Process
+  with_released qs i = set qs i (release floor (get_or qs i nobody))
 
-  none_gone : (qs : List Process) → gone 0 qs ≡ []
-  none_gone [] = refl
-  none_gone (q ∷ qs) = refl
+  -- so many have something there
+  abbrev pub due_count : List Process → ℕ
+  due_count [] = 0
+  due_count (q ∷ qs) = cond (is_due floor (first_handled q.done)) 1 0 + due_count qs
 
-  abbrev AreAtRest : List Process → ℕ → ℕ → Type 0
-  AreAtRest qs a b = (k : ℕ) → a ≤ k → k < b → is_due floor (first_handled (get_or qs k nobody).done) ≡ false
+  one_fewer : (qs : List Process) (i : ℕ) → i < length qs → IsDueAt qs i true → due_count (with_released qs i) < due_count qs
+  one_fewer [] i l e = absurd (omega arith)
+  one_fewer (q ∷ qs) zero l e =
+      one_less (cond (is_due floor (first_handled (handled_from floor q.done))) 1 0) (cond (is_due floor (first_handled q.done)) 1 0) (due_count qs)
+      (cond-false (is_due floor (first_handled (handled_from floor q.done))) 1 0 (rests floor q.done)) (cond-true (is_due floor (first_handled q.done)) 1 0 e)
+  one_fewer (q ∷ qs) (suc i) l e = let rest = one_fewer qs i (omega arith) e in omega arith
 
-  skipped : (qs : List Process) (a b : ℕ) → a ≤ b → b ≤ length qs → AreAtRest qs a b → (kept a qs ≡ kept b qs) × (gone a qs ≡ gone b qs)
-  skipped [] zero zero l inside rest = (refl, refl)
-  skipped [] zero (suc b) l inside rest = absurd (omega arith)
-  skipped [] (suc a) zero l inside rest = absurd (omega arith)
-  skipped [] (suc a) (suc b) l inside rest = absurd (omega arith)
-  skipped (q ∷ qs) zero zero l inside rest = (refl, refl)
-  skipped (q ∷ qs) zero (suc b) l inside rest =
-      let later = skipped qs zero b (omega arith) (omega arith) (λ k m n. rest (suc k) (omega arith) (omega arith)) in
-      let here = rest zero (omega arith) (omega arith) in (
-        ap (λ (x : Process). x ∷ qs) (sym (release_same floor q here)) ∙ ap (λ (xs : List Process). release floor q ∷ xs) (sym (none_so_far (λ (x : Process). release floor x) qs) ∙ later.0),
-        sym (ap (λ (xs : List Done). xs ++ gone b qs) (fossils_none floor q here) ∙ sym later.1 ∙ none_gone qs),
+  same_released : (qs : List Process) (i : ℕ) → map (λ (q : Process). release floor q) (with_released qs i) ≡ map (λ (q : Process). release floor q) qs
+  same_released [] i = refl
+  same_released (q ∷ qs) zero = ap (λ (x : Process). x ∷ map (λ (q : Process). release floor q) qs) (release_same floor (release floor q) (rests floor q.done))
+  same_released (q ∷ qs) (suc i) = ap (λ (xs : List Process). release floor q ∷ xs) (same_released qs i)
+
+  -- what the first of them that has something there tells comes first
+  told_first : (qs : List Process) (i : ℕ) → i < length qs → ((k : ℕ) → k < i → IsDueAt qs k false) →
+      fossils_of floor (get_or qs i nobody) ++ flat_map (λ (q : Process). fossils_of floor q) (with_released qs i) ≡ flat_map (λ (q : Process). fossils_of floor q) qs
+  told_first [] i l rest = absurd (omega arith)
+  told_first (q ∷ qs) zero l rest = ap (λ (ds : List Done). fossils_of floor q ++ (ds ++ flat_map (λ (q : Process). fossils_of floor q) qs)) (fossils_none floor (release floor q) (rests floor q.done))
+  told_first (q ∷ qs) (suc i) l rest =
+      let none = fossils_none floor q (rest zero (omega arith)) in
+      ap (λ (ds : List Done). fossils_of floor (get_or qs i nobody) ++ (ds ++ flat_map (λ (q : Process). fossils_of floor q) (with_released qs i))) none
+      ∙ told_first qs i (omega arith) (λ k m. rest (suc k) (omega arith))
+      ∙ ap (λ (ds : List Done). ds ++ flat_map (λ (q : Process). fossils_of floor q) qs) (sym none)
+
+  none_left : (qs : List Process) → ((k : ℕ) → k < length qs → IsDueAt qs k false) → (map (λ (q : Process). release floor q) qs ≡ qs) × (flat_map (λ (q : Process). fossils_of floor q) qs ≡ [])
+  none_left [] rest = (refl, refl)
+  none_left (q ∷ qs) rest =
+      let later = none_left qs (λ k l. rest (suc k) (omega arith)) in
+      let here = rest zero (omega arith) in (
+        ap (λ (x : Process). x ∷ map (λ (q : Process). release floor q) qs) (release_same floor q here) ∙ ap (λ (xs : List Process). q ∷ xs) later.0,
+        ap (λ (ds : List Done). ds ++ flat_map (λ (q : Process). fossils_of floor q) qs) (fossils_none floor q here) ∙ later.1,
       )
-  skipped (q ∷ qs) (suc a) zero l inside rest = absurd (omega arith)
-  skipped (q ∷ qs) (suc a) (suc b) l inside rest =
-      let later = skipped qs a b (omega arith) (omega arith) (λ k m n. rest (suc k) (omega arith) (omega arith)) in
-      (ap (λ (xs : List Process). release floor q ∷ xs) later.0, ap (λ (xs : List Done). fossils_of floor q ++ xs) later.1)
-
-  one_more_kept : (qs : List Process) (i : ℕ) → i < length qs → set (kept i qs) i (release floor (get_or (kept i qs) i nobody)) ≡ kept (i + 1) qs
-  one_more_kept qs i l =
-      ap (λ (q : Process). set (kept i qs) i (release floor q)) (so_far-later (λ (q : Process). release floor q) qs i i nobody (omega arith))
-      ∙ so_far-set (λ (q : Process). release floor q) qs i nobody l
-      ∙ ap (λ n. kept n qs) {x = suc i} {y = i + 1} (omega arith)
-
-  one_more_gone : (qs : List Process) (i : ℕ) → i < length qs → gone i qs ++ fossils_of floor (get_or qs i nobody) ≡ gone (i + 1) qs
-  one_more_gone qs i l =
-      ap (λ (xs : List Done). gone i qs ++ xs) (sym (append-nil (fossils_of floor (get_or qs i nobody))))
-      ∙ sym (flat_map-append (λ (q : Process). fossils_of floor q) (take i qs) (get_or qs i nobody ∷ []))
-      ∙ sym (ap (flat_map (λ (q : Process). fossils_of floor q)) (take-suc qs i nobody l))
-      ∙ ap (λ n. gone n qs) {x = suc i} {y = i + 1} (omega arith)
 
 -- what was there at first, what is there, and what was told
-pub record IsCollected (floor place : ℕ) (before now : List Process) (fossils : List Done) : Type 0 where
-  pub processes : now ≡ kept floor place before
-  pub fossils_are : fossils ≡ gone floor place before
+pub record IsCollected (floor : ℕ) (before now : List Process) (fossils : List Done) : Type 0 where
+  pub processes : map (λ (q : Process). release floor q) now ≡ map (λ (q : Process). release floor q) before
+  pub fossils_are : fossils ++ flat_map (λ (q : Process). fossils_of floor q) now ≡ flat_map (λ (q : Process). fossils_of floor q) before
 
-pub none_collected : (floor : ℕ) (qs : List Process) (fossils : List Done) → fossils ≡ [] → IsCollected floor 0 qs qs fossils
-none_collected floor qs fossils e = record { processes = sym (none_so_far (λ (q : Process). release floor q) qs); fossils_are = e ∙ sym (none_gone floor qs) }
+pub none_collected : (floor : ℕ) (qs : List Process) (fossils : List Done) → fossils ≡ [] → IsCollected floor qs qs fossils
+none_collected floor qs fossils e = record { processes = refl; fossils_are = ap (λ (ds : List Done). ds ++ flat_map (λ (q : Process). fossils_of floor q) qs) e }
 
 oldest_at : (end : ℕ) (seats : List ProcessView) (k : ℕ) → (get_or (standings_of end seats) k absent).oldest ≡ first_handled (get_or (processes_of seats) k nobody).done
 oldest_at end [] k = refl
 oldest_at end (q ∷ seats) zero = refl
 oldest_at end (q ∷ seats) (suc k) = oldest_at end seats k
 
-module _ {p : Place} {floor place : ℕ} {before : List Process} {seats : List ProcessView} {standings : List Standing} {fossils : List Done} (h : IsStaffed p seats standings) (so : IsCollected floor place before (processes_of seats) fossils) where
-  size : length standings ≡ length before
-  size = length-standings p seats standings h ∙ sym (length-map seats (λ (v : ProcessView). v.process)) ∙ ap length so.processes ∙ so_far-length (λ (q : Process). release floor q) before place
+module _ {p : Place} {seats : List ProcessView} {standings : List Standing} (h : IsStaffed p seats standings) where
+  due_there : (floor k : ℕ) (due : Bool) → is_due floor (get_or standings k absent).oldest ≡ due → IsDueAt floor (processes_of seats) k due
+  due_there floor k due e = ap (is_due floor) (sym (oldest_at p.end seats k) ∙ ap (λ (xs : List Standing). (get_or xs k absent).oldest) (sym h.known)) ∙ e
 
-  at_rest : (to : ℕ) → IsQuiet floor standings place to → AreAtRest floor before place to
-  at_rest to quiet k l m =
-      ap (λ (q : Process). is_due floor (first_handled q.done)) (sym (so_far-later (λ (q : Process). release floor q) before place k nobody l) ∙ ap (λ (qs : List Process). get_or qs k nobody) (sym so.processes))
-      ∙ ap (is_due floor) (sym (oldest_at p.end seats k) ∙ ap (λ (xs : List Standing). (get_or xs k absent).oldest) (sym h.known))
-      ∙ quiet k l m
-
-  pub due_seat : (due : ℕ) → IsFirstDue floor standings place due → due < length seats
+  pub due_seat : {floor : ℕ} (due : ℕ) → IsFirstDue floor standings due → due < length seats
   due_seat due first = let inside = first.inside in let same = length-standings p seats standings h in omega arith
 
-  pub due_before : (due : ℕ) → IsFirstDue floor standings place due → due < length before
-  due_before due first = let inside = first.inside in let same = size in omega arith
+  due_process : {floor : ℕ} (due : ℕ) → IsFirstDue floor standings due → due < length (processes_of seats)
+  due_process due first = let inside = due_seat due first in let same = length-map seats (λ (v : ProcessView). v.process) in omega arith
 
-  pub one_more_collected : (due : ℕ) (now : List Process) (told : List Done) → IsFirstDue floor standings place due →
-      now ≡ set (processes_of seats) due (release floor (get_or (processes_of seats) due nobody)) → told ≡ fossils ++ fossils_of floor (get_or (processes_of seats) due nobody) → IsCollected floor (due + 1) before now told
-  one_more_collected due now told first is are =
-      let there = due_before due first in
-      let skip = skipped floor before place due first.later (omega arith) (at_rest due first.first) in
-      let same : processes_of seats ≡ kept floor due before = so.processes ∙ skip.0 in
-      let here : get_or (processes_of seats) due nobody ≡ get_or before due nobody = ap (λ (qs : List Process). get_or qs due nobody) same ∙ so_far-later (λ (q : Process). release floor q) before due due nobody (omega arith) in
+  pub fewer_due : {floor : ℕ} (due : ℕ) (now : List Process) → IsFirstDue floor standings due → now ≡ with_released floor (processes_of seats) due → due_count floor now < due_count floor (processes_of seats)
+  fewer_due {floor} due now first is =
+      subst (λ (qs : List Process). due_count floor qs < due_count floor (processes_of seats)) (sym is) (one_fewer floor (processes_of seats) due (due_process due first) (due_there floor due true first.due))
+
+  pub one_more_collected : {floor : ℕ} {before : List Process} {fossils : List Done} (due : ℕ) (now : List Process) (more : List Done) → IsCollected floor before (processes_of seats) fossils → IsFirstDue floor standings due →
+      now ≡ with_released floor (processes_of seats) due → more ≡ fossils ++ fossils_of floor (get_or (processes_of seats) due nobody) → IsCollected floor before now more
+  one_more_collected {floor} {before} {fossils} due now more so first is are =
+      let qs : List Process = processes_of seats in
+      let left : List Done = flat_map (λ (q : Process). fossils_of floor q) (with_released floor qs due) in
       record {
-        processes = is ∙ ap (λ (qs : List Process). set qs due (release floor (get_or qs due nobody))) same ∙ one_more_kept floor before due there;
-        fossils_are = are ∙ ap (λ (xs : List Done). xs ++ fossils_of floor (get_or (processes_of seats) due nobody)) (so.fossils_are ∙ skip.1) ∙ ap (λ (q : Process). gone floor due before ++ fossils_of floor q) here ∙ one_more_gone floor before due there;
+        processes = ap (map (λ (q : Process). release floor q)) is ∙ same_released floor qs due ∙ so.processes;
+        fossils_are =
+            ap (λ (xs : List Process). more ++ flat_map (λ (q : Process). fossils_of floor q) xs) is
+            ∙ ap (λ (ds : List Done). ds ++ left) are
+            ∙ append_assoc fossils (fossils_of floor (get_or qs due nobody)) left
+            ∙ ap (λ (ds : List Done). fossils ++ ds) (told_first floor qs due (due_process due first) (λ k l. due_there floor k false (first.first k l)))
+            ∙ so.fossils_are;
       }
 
-  all_at : place ≤ length before → IsQuiet floor standings place (length standings) → (processes_of seats ≡ kept floor (length before) before) × (fossils ≡ gone floor (length before) before)
-  all_at l quiet =
-      let many = size in
-      let skip = skipped floor before place (length before) l (omega arith) (λ k a b. at_rest (length standings) quiet k a (omega arith)) in
-      (so.processes ∙ skip.0, so.fossils_are ∙ skip.1)
-
-  pub all_collected : place ≤ length before → IsQuiet floor standings place (length standings) →
+  pub all_collected : {floor : ℕ} {before : List Process} {fossils : List Done} → IsCollected floor before (processes_of seats) fossils → IsQuiet floor standings (length standings) →
       (processes_of seats ≡ map (λ (q : Process). release floor q) before) × (fossils ≡ flat_map (λ (q : Process). fossils_of floor q) before)
-  all_collected l quiet =
-      let all = all_at l quiet in (
-        all.0 ∙ so_far-all (λ (q : Process). release floor q) before (length before) (omega arith),
-        all.1 ∙ ap (flat_map (λ (q : Process). fossils_of floor q)) (take_all before (length before) (omega arith)),
+  all_collected {floor} {before} {fossils} so quiet =
+      let many = length-standings p seats standings h in
+      let same = length-map seats (λ (v : ProcessView). v.process) in
+      let none = none_left floor (processes_of seats) (λ k l. due_there floor k false (quiet k (omega arith))) in (
+        sym none.0 ∙ so.processes,
+        sym (append-nil fossils) ∙ ap (λ (ds : List Done). fossils ++ ds) (sym none.1) ∙ so.fossils_are,
       )
 
 pub node_collected : (floor : ℕ) (p p' : Place) (before now : List Process) → p' ≡ p → now ≡ map (λ (q : Process). release floor q) before → node_at (at_floor floor p') now ≡ after floor (working before [] 0) (node_at p before)
 node_collected floor p p' before now same is = ap (λ (k : Place). node_at (at_floor floor k) now) same ∙ ap (node_at (at_floor floor p)) is
 
--- 4. One process that lets go
+-- 3. One process that lets go
 
 -- a process when it has let go of what is below the floor
 abbrev pub collected : ℕ → ProcessView → ProcessView

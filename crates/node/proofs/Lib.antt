@@ -3,6 +3,7 @@ pub mod Lesser
 pub mod Owns
 pub mod Seats
 pub mod Tournaments
+pub mod Searches
 pub mod Turns
 pub mod Runs
 pub mod Lows
@@ -11,3 +12,4 @@ pub mod Handled
 pub mod Loads
 pub mod Arrived
 pub mod Works
+pub mod Histories

@@ -19,6 +19,7 @@ use Rattle.node.specs.declared.NodeFault.{NodeFault}
 use Rattle.node.specs.declared.NodeFault.TheVariants.{BelowFloor, NoMemory, NotMine}
 use Rattle.std.specs.Cmp.Lexicographic.{same_text}
 use Rattle.node.specs.declared.Load.{Load}
+use Rattle.process.proofs.Sound.{own_from}
 use Rattle.process.specs.Process.{Process}
 use Rattle.node.specs.Roster.{IsSeated, IsStaffed, Place, lps_of, processes_of}
 use Rattle.node.specs.Seats.{seat_of, standing_of, standings_of}
@@ -249,12 +250,6 @@ parts_late floor [] h = refl
 parts_late floor (p ∷ ps) h = rw (late_early floor p.pending h.0) (parts_late floor ps h.1)
 
 -- and the other way round
-foreign_own : (lp : ℕ) (xs : List Message) → has_foreign lp xs ≡ false → Every (λ (x : Message). x.to ≡ lp) xs
-foreign_own lp [] e = tt
-foreign_own lp (x ∷ xs) e = elim (cases_Bool (x.to == lp)) [
-  | inl f ↦ (eqb-true x.to lp f, foreign_own lp xs (rw f at e))
-  | inr f ↦ absurd (let now = rw f at e in cc)
-]
 
 early_late : (floor : ℕ) (xs : List Message) → has_early floor xs ≡ false → Every (λ (x : Message). floor ≤ x.time) xs
 early_late floor [] e = tt
@@ -267,7 +262,7 @@ foreign_none : (parts : List Part) → list_any (λ (p : Part). has_foreign p.lp
 foreign_none [] e = tt
 foreign_none (p ∷ ps) e = elim (cases_Bool (has_foreign p.lp p.pending)) [
   | inl f ↦ absurd (let now = rw f at e in cc)
-  | inr f ↦ (foreign_own p.lp p.pending f, foreign_none ps (rw f at e))
+  | inr f ↦ (own_from p.lp p.pending f, foreign_none ps (rw f at e))
 ]
 
 early_none : (floor : ℕ) (parts : List Part) → list_any (λ (p : Part). has_early floor p.pending) parts ≡ false → Every (λ (p : Part). Every (λ (x : Message). floor ≤ x.time) p.pending) parts

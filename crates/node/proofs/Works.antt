@@ -88,14 +88,14 @@ first_is : (xs : List Message) (x : Message) → first xs ≡ Some x → (rest :
 first_is [] x e = absurd (none-some x e)
 first_is (y ∷ ys) x e = (ys, ap (λ (z : Message). z ∷ ys) (same_Some y x e))
 
-least_of_is : (x : Message) (qs : List Process) → least_of qs ≡ Some x → (k : ℕ) × (k < length qs) × ((rest : List Message) × ((get_or qs k nobody).waiting ≡ x ∷ rest))
+pub least_of_is : (x : Message) (qs : List Process) → least_of qs ≡ Some x → (k : ℕ) × (k < length qs) × ((rest : List Message) × ((get_or qs k nobody).waiting ≡ x ∷ rest))
 least_of_is x [] e = absurd (none-some x e)
 least_of_is x (q ∷ qs) e = elim (lesser_is (first q.waiting) (least_of qs) x e) [
   | inl f ↦ (zero, omega arith, first_is q.waiting x f)
   | inr f ↦ (let r = least_of_is x qs f in (suc r.0, omega (arith, r.1), r.2))
 ]
 
-same_place : (nodes a b : ℕ) → a % nodes ≡ b % nodes → a / nodes ≡ b / nodes → a ≡ b
+pub same_place : (nodes a b : ℕ) → a % nodes ≡ b % nodes → a / nodes ≡ b / nodes → a ≡ b
 same_place nodes a b e f = let g = ap (λ (z : ℕ). z * nodes) f in omega (arith, div-add-mod' a nodes, div-add-mod' b nodes)
 
 -- 3. A change of one process

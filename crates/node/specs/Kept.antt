@@ -8,16 +8,25 @@ use Rattle.eventkey.specs.declared.Sign.TheVariants.{Minus, Plus}
 use Rattle.eventkey.specs.declared.Signed.{Signed}
 use Rattle.model.specs.Meaning.{IsLawful, IsWords, Meaning}
 use Rattle.process.specs.Process.{Process, fossils_of, nobody, release, sent_by}
-use Rattle.process.specs.Told.{IsTold, held}
+use Rattle.process.specs.Told.{IsHistory, IsTold, held}
 use Rattle.process.specs.declared.Done.{Done}
 use Rattle.queues.specs.Record.{messages}
-use Rattle.node.specs.Handling.{own_lps}
+use Rattle.node.specs.Handling.{Node, loaded_node, own_lps}
 use Rattle.node.specs.Node.{Work, work_here}
+use Rattle.node.specs.declared.Load.{Load}
 use Rattle.node.specs.declared.Parcel.{Parcel}
 
 -- process lp, among those of its node
 abbrev pub own : ℕ → List Process → ℕ → Process
 own nodes qs lp = get_or qs (lp / nodes) nobody
+
+-- What each process of the node has handled and not told is what the model does.
+abbrev pub HasHistories : Meaning → Node → Type 0
+HasHistories m n = (lp : ℕ) → lp < n.lps → lp % n.nodes ≡ n.node → IsHistory m lp (own n.nodes n.processes lp)
+
+-- A node that is loaded has handled nothing.
+abbrev pub HistoriesBegin : Type 0
+HistoriesBegin = (m : Meaning) (lps : ℕ) (load : Load) → HasHistories m (loaded_node lps load)
 
 -- What was before: the states and the send numbers at a time, and what each process told since then
 pub record Past : Type 0 where

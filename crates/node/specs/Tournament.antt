@@ -1,5 +1,5 @@
 -- A tournament (Knuth, The Art of Computer Programming 3, tree selection): the cells of a tree that knows the least of its leaves.
-use Rattle.std.specs.Prelude.{ℕ, List, [], ◌∷◌, None, true, false, IfSome, length, drop, get_or, ◌+◌, ◌*◌, ◌≡◌, ◌≤◌, ◌<◌, ◌^◌}
+use Rattle.std.specs.Prelude.{ℕ, List, [], ◌∷◌, None, true, false, IfSome, length, take, drop, get_or, ◌+◌, ◌*◌, ◌≡◌, ◌≤◌, ◌<◌, ◌^◌}
 use Rattle.node.specs.Node.{earliest, lesser}
 use Rattle.node.specs.Seats.{is_due}
 use Rattle.node.specs.declared.standing.Standing.{Standing}
@@ -26,23 +26,26 @@ IsLowInRange s = IfSome s.low (λ time. time < 2 ^ 41)
 abbrev pub HasWinner : List Standing → ℕ → Type 0
 HasWinner cells k = get_or cells k absent ≡ meet (get_or cells (2 * k) absent) (get_or cells (2 * k + 1) absent)
 
--- Cell 1 is the root, the last so many cells are the leaves, and each cell above the leaves won its match.
-pub record IsTournament (leaves : ℕ) (cells : List Standing) : Type 0 where
-  pub size : length cells ≡ 2 * leaves
-  pub few : leaves < 2 ^ 32
-  pub winners : (k : ℕ) → 1 ≤ k → k < leaves → HasWinner cells k
+-- Cell 1 is the root, the cells from width on are the last row, and each cell above it won its match. The first cells of
+-- that row are the leaves, and at the others nothing stands.
+pub record IsTournament (leaves width : ℕ) (cells : List Standing) : Type 0 where
+  pub size : length cells ≡ 2 * width
+  pub few : width < 2 ^ 33
+  pub whole : (levels : ℕ) × (width ≡ 2 ^ levels)
+  pub within : leaves ≤ width
+  pub winners : (k : ℕ) → 1 ≤ k → k < width → HasWinner cells k
   pub lows : (k : ℕ) → IsLowInRange (get_or cells k absent)
+  pub rest : (k : ℕ) → width + leaves ≤ k → get_or cells k absent ≡ absent
 
--- at none of these from one on and before another anything is due
-abbrev pub IsQuiet : ℕ → List Standing → ℕ → ℕ → Type 0
-IsQuiet floor xs from to = (k : ℕ) → from ≤ k → k < to → is_due floor (get_or xs k absent).oldest ≡ false
+-- at none of the first so many anything is due
+abbrev pub IsQuiet : ℕ → List Standing → ℕ → Type 0
+IsQuiet floor xs to = (k : ℕ) → k < to → is_due floor (get_or xs k absent).oldest ≡ false
 
--- the first from one on at which something is due
-pub record IsFirstDue (floor : ℕ) (xs : List Standing) (from at : ℕ) : Type 0 where
-  pub later : from ≤ at
+-- the first at which something is due
+pub record IsFirstDue (floor : ℕ) (xs : List Standing) (at : ℕ) : Type 0 where
   pub inside : at < length xs
   pub due : is_due floor (get_or xs at absent).oldest ≡ true
-  pub first : IsQuiet floor xs from at
+  pub first : IsQuiet floor xs at
 
 abbrev pub leaves_of : Inside → List Standing
-leaves_of t = drop t.leaves t.cells.items
+leaves_of t = take t.leaves (drop t.width t.cells.items)

@@ -3,7 +3,7 @@
 
 ghost use Rattle.std.specs.Prelude.{◌≡◌};
 ghost use Rattle.node.specs.Fault.{fault_of};
-ghost use Rattle.node.specs.Kept.{ReleasingIsKept, WorkIsKept};
+ghost use Rattle.node.specs.Kept.{HistoriesBegin, ReleasingIsKept, WorkIsKept};
 ghost use Rattle.node.specs.declared.NodeFault.TheVariants.{NoMemory};
 
 mod node;
@@ -129,4 +129,10 @@ impl From<ProcessFault> for NodeFault {
 pub fn law_of_work()
     ensures kept { WorkIsKept }
     ensures released { ReleasingIsKept }
+{}
+
+/// What the processes of a node have handled is what the model does: when it is loaded, and so after any parcels, since
+/// `Node::handle` keeps it.
+pub fn law_of_histories()
+    ensures { HistoriesBegin }
 {}

@@ -3,6 +3,7 @@
 ghost use Rattle.std.specs.Prelude.{◌≡◌, ◌<◌, ◌≤◌, ◌^◌, ◌↔◌, ◌⊎◌, ◌==◌, Some, None, Err, IfOk, IfErr, IsTrue, length, map, nat_lt, not, true, false};
 ghost use Rattle.std.specs.List.{AllByRecursion as Every};
 ghost use Rattle.node.specs.Handling.{IsInRange, own_lps};
+ghost use Rattle.node.specs.Kept.{HasHistories};
 ghost use Rattle.node.specs.Seats.{seat_of, standings_of};
 ghost use Rattle.node.specs.declared.NodeFault.TheVariants.{NoMemory, NumberLimit};
 
@@ -89,14 +90,14 @@ impl Node {
     /// was. After want of memory, and after NumberLimit, the node is spent. The number limit may be met after memory is
     /// wanted, but not where the parcel delivers nothing and the first message has no room.
     ///
-    /// It costs the deliveries, the handlings and the handlings let go, each with the logarithm of the node's processes, and
-    /// a look at what stands of each process to find what is to be let go.
+    /// It costs the deliveries, the handlings and the handlings let go, each with the logarithm of the node's processes.
     pub fn handle<M: Simulated>(&mut self, model: &M, parcel: Parcel) -> Result<Reply, NodeFault>
         requires { self.old.spent ≡ false → (M.meaning model.now).lps ≡ self.old.lps }
         ensures answered { IsAnswered (M.meaning model.now) parcel self.old self.new result }
         ensures range { IfOk result IsReplyInRange }
         ensures limit { IsLimitedAtOnce (M.meaning model.now) parcel self.old → result ≡ Err NumberLimit }
         ensures lps { self.new.lps ≡ self.old.lps }
+        ensures histories { HasHistories (M.meaning model.now) self.old → HasHistories (M.meaning model.now) self.new }
     {
         if let Some(fault) = self.refusal(&parcel) {
             return Err(fault);

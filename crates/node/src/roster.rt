@@ -164,15 +164,13 @@ impl Roster {
         ensures memory { IfErr result (λ fault. fault ≡ NoMemory) }
     {
         let process = &mut self.processes[place];
-        let mut gone = process.collect(floor)?;
+        process.collect_into(floor, fossils)?;
         let standing = Standing::of(process, self.end);
         self.standings.set(place, standing);
-        fossils.append(&mut gone)?;
         Ok(())
     }
 
-    /// Takes what is below the floor, in ticks, out of all processes. It visits those that have something there, and looks at
-    /// what stands of the others.
+    /// Takes what is below the floor, in ticks, out of all processes. It visits only those that have something there.
     fn collect(&mut self, floor: u64) -> Result<Vec<Done>, NodeFault>
         requires ready { IsReady self.old }
         requires floor { self.old.floor ≤ floor }
@@ -184,10 +182,8 @@ impl Roster {
         ensures memory { IfErr result (λ fault. fault ≡ NoMemory) }
     {
         let mut fossils = Vec::new(self.alloc);
-        let mut place = 0;
-        while let Some(due) = self.standings.first_due(place, floor) {
+        while let Some(due) = self.standings.first_due(floor) {
             self.collect_at(due, floor, &mut fossils)?;
-            place = due + 1;
         }
         self.floor = floor;
         Ok(fossils)

@@ -7,10 +7,12 @@ use crate::standing::Standing;
 use std::alloc::{AllocError, Global};
 
 /// A tree of matches: its leaves are the standings of processes, and each cell above them has the lesser of the two below
-/// it, part by part, so that a change of one leaf plays one match a level again.
+/// it, part by part, so that a change of one leaf plays one match a level again. Its last row is a power of two wide, so
+/// that the leaves below a cell stand side by side.
 #[derive(Drop)]
 pub(crate) struct Tournament {
     leaves: usize,
+    width: usize,
     cells: Vec<Standing>,
 }
 
@@ -24,7 +26,7 @@ impl std::marker::Model for Tournament {
 
     ghost view = { leaves_of };
 
-    ghost invariant = { λ t. IsTournament t.leaves t.cells.items };
+    ghost invariant = { λ t. IsTournament t.leaves t.width t.cells.items };
 }
 
 impl Tournament {
@@ -35,9 +37,14 @@ impl Tournament {
         requires { leaves < 2 ^ 32 }
         ensures { IfOk result (λ t. t ≡ replicate leaves absent) }
     {
+        let width = width_for(leaves);
         let mut cells = Vec::new(alloc);
-        cells.resize(2 * leaves, Standing::ABSENT)?;
-        Ok(Tournament { leaves, cells })
+        cells.resize(2 * width, Standing::ABSENT)?;
+        Ok(Tournament {
+            leaves,
+            width,
+            cells,
+        })
     }
 
     /// Gives a leaf another standing. It takes no memory, and costs the logarithm of the leaves.
@@ -46,7 +53,7 @@ impl Tournament {
         requires range { IsLowInRange standing }
         ensures { self.new ≡ set self.old leaf standing }
     {
-        let mut cell = self.leaves + leaf;
+        let mut cell = self.width + leaf;
         self.cells[cell] = standing;
         while cell > 1 {
             cell /= 2;
@@ -60,23 +67,38 @@ impl Tournament {
         ensures least { result ≡ least_among self.now }
         ensures range { IsLowInRange result }
     {
-        if self.leaves == 0 {
-            Standing::ABSENT
-        } else {
-            self.cells[1]
-        }
+        self.cells[1]
     }
 
-    /// The first leaf from this one on whose oldest time is below the floor, in ticks, if there is one. It takes no memory, and
-    /// looks at the leaves up to that one.
-    pub(crate) fn first_due(&self, from: usize, floor: u64) -> Option<usize>
-        ensures { MatchOption result (IsQuiet floor self.now from (length self.now)) (λ due. IsFirstDue floor self.now from due) }
+    /// The first leaf whose oldest time is below the floor, in ticks, if there is one. It takes no memory, and costs the
+    /// logarithm of the leaves.
+    pub(crate) fn first_due(&self, floor: u64) -> Option<usize>
+        ensures { MatchOption result (IsQuiet floor self.now (length self.now)) (λ due. IsFirstDue floor self.now due) }
     {
-        for leaf in from..self.leaves {
-            if self.cells[self.leaves + leaf].is_due(floor) {
-                return Some(leaf);
+        let mut cell = 1;
+        if !self.cells[cell].is_due(floor) {
+            return None;
+        }
+        while cell < self.width {
+            cell *= 2;
+            if !self.cells[cell].is_due(floor) {
+                cell += 1;
             }
         }
-        None
+        Some(cell - self.width)
     }
+}
+
+/// The least power of two that is not below so many leaves.
+fn width_for(leaves: usize) -> usize
+    requires { leaves < 2 ^ 32 }
+    ensures within { leaves ≤ result }
+    ensures few { result < 2 ^ 33 }
+    ensures whole { (levels : ℕ) × (result ≡ 2 ^ levels) }
+{
+    let mut width = 1;
+    while width < leaves {
+        width *= 2;
+    }
+    width
 }

@@ -5,12 +5,13 @@ use Rattle.std.proofs.lemmas.List.{append_assoc, map-append}
 use Rattle.std.proofs.lemmas.List.Concat.{flat_map-append}
 use Rattle.std.specs.List.{AllByRecursion as Every}
 use Rattle.std.specs.Prelude.{nat_lt}
-use Rattle.eventkey.proofs.Bags.{at_most_from_before, copies-append, earlier_before, is_same_itself, time_from_at_most}
+use Rattle.eventkey.proofs.Bags.{at_most_from_before, copies-append, earlier_before, time_from_at_most}
 use Rattle.eventkey.proofs.Lists.{Every-append, Every-left, Every-map, Every-right, Every-unmap, Every-weaker, IsAllAtMost, IsAscending-append, IsAscending-right}
 use Rattle.eventkey.specs.Bag.{IsAscending, copies, remove_one}
 use Rattle.eventkey.specs.Message.{IsAtMost, Message}
 use Rattle.model.proofs.Worlds.{length-stamp}
 use Rattle.model.specs.Meaning.{Meaning}
+use Rattle.queues.proofs.Moves.{remove_first}
 use Rattle.queues.specs.Record.{handled_before, handled_from, messages, number_before, sent_in, state_before}
 use Rattle.queues.specs.declared.Record.{Record}
 use Rattle.process.proofs.Arrivals.{IsFine}
@@ -20,9 +21,6 @@ use Rattle.process.specs.Told.{IsFold, IsHistory, IsTold, IsToldFold, held}
 use Rattle.process.specs.declared.Done.{Done}
 
 -- 1. One message handled
-
-remove_first : (x : Message) (rest : List Message) → remove_one x (x ∷ rest) ≡ rest
-remove_first x rest = rw (is_same_itself x) refl
 
 module _ (m : Meaning) (lp : ℕ) (x : Message) (q : Process) where
   messages_of_handle : messages (handle m lp x q).done ≡ messages q.done ++ x ∷ []

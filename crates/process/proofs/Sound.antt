@@ -27,7 +27,7 @@ use Rattle.process.specs.View.{HasDone, HasRun, IsDoneInRange, IsSound, ProcessV
 
 -- 1. Loading
 
-own_from : (lp : ℕ) (xs : List Message) → has_foreign lp xs ≡ false → Every (λ (x : Message). x.to ≡ lp) xs
+pub own_from : (lp : ℕ) (xs : List Message) → has_foreign lp xs ≡ false → Every (λ (x : Message). x.to ≡ lp) xs
 own_from lp [] e = tt
 own_from lp (x ∷ xs) e = elim (cases_Bool (x.to == lp)) [
   | inl f ↦ (eqb-true x.to lp f, own_from lp xs (rw f at e))

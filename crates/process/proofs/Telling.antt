@@ -1,34 +1,42 @@
--- What is told of handlings, from the last one on.
-use Rattle.std.proofs.Common.{◌≡◌, ℕ, List, [], ◌∷◌, ◌++◌, refl, ap, ◌∙◌, sym, reverse}
-use Rattle.std.proofs.lemmas.List.{append_assoc, reverse-append}
+-- What is told of handlings, from the first one on.
+use Rattle.std.proofs.Common.{◌≡◌, ℕ, List, [], ◌∷◌, ◌++◌, refl, ap, ◌∙◌, sym, length, arith}
+use Rattle.std.proofs.lemmas.List.{append_assoc}
+use Rattle.eventkey.specs.Message.{Message}
 use Rattle.process.specs.Process.{told}
 use Rattle.process.specs.declared.Done.{Done}
-use Rattle.queues.specs.Record.{number_before, state_before}
 use Rattle.queues.specs.declared.Record.{Record}
 
+-- the handling of this message, which sent these, and those after it: what was before the first of them is not told
+abbrev pub with_first : Message → List Message → List Record → List Record
+with_first message sent rest = record { message = message; before = []; number_before = 0; sent = sent } ∷ rest
+
 -- what is told of one handling
-abbrev pub done_of : Record → List ℕ → ℕ → Done
-done_of r state number = record { message = r.message; sent = r.sent; after = state; number_after = number }
+abbrev pub done_of : Message → List Message → List ℕ → ℕ → Done
+done_of message sent state number = record { message = message; sent = sent; after = state; number_after = number }
 
-state_before-push : (hs : List Record) (r : Record) (state : List ℕ) → state_before (hs ++ r ∷ []) state ≡ state_before hs r.before
-state_before-push [] r state = refl
-state_before-push (h ∷ hs) r state = refl
+pub first_is_told : (first : Record) (rest : List Record) (state : List ℕ) (number : ℕ) → told (first ∷ rest) state number ≡ told (with_first first.message first.sent rest) state number
+first_is_told first rest state number = refl
 
-number_before-push : (hs : List Record) (r : Record) (number : ℕ) → number_before (hs ++ r ∷ []) number ≡ number_before hs r.number_before
-number_before-push [] r number = refl
-number_before-push (h ∷ hs) r number = refl
+pub told_one_more : (fossils more : List Done) (message : Message) (sent : List Message) (left rest : List Record) (next : Record) (state : List ℕ) (number : ℕ) → left ≡ next ∷ rest →
+    more ≡ fossils ++ done_of message sent next.before next.number_before ∷ [] →
+    more ++ told (with_first next.message next.sent rest) state number ≡ fossils ++ told (with_first message sent left) state number
+told_one_more fossils more message sent left rest next state number e f =
+    ap (λ (ds : List Done). ds ++ told (with_first next.message next.sent rest) state number) f
+    ∙ append_assoc fossils (done_of message sent next.before next.number_before ∷ []) (told (with_first next.message next.sent rest) state number)
+    ∙ ap (λ (hs : List Record). fossils ++ told (with_first message sent hs) state number) (sym e)
 
-told-push : (hs : List Record) (r : Record) (state : List ℕ) (number : ℕ) → told (hs ++ r ∷ []) state number ≡ told hs r.before r.number_before ++ done_of r state number ∷ []
-told-push [] r state number = refl
-told-push (h ∷ hs) r state number =
-    let after = state_before-push hs r state in
-    let number_after = number_before-push hs r number in
-    let rest = told-push hs r state number in
-    λ i. record { message = h.message; sent = h.sent; after = after i; number_after = number_after i } ∷ rest i
+pub told_last : (fossils more : List Done) (message : Message) (sent : List Message) (left : List Record) (state : List ℕ) (number : ℕ) → left ≡ [] →
+    more ≡ fossils ++ done_of message sent state number ∷ [] → more ≡ fossils ++ told (with_first message sent left) state number
+told_last fossils more message sent left state number e f = f ∙ ap (λ (hs : List Record). fossils ++ told (with_first message sent hs) state number) (sym e)
 
-pub told_one_more : (left rest : List Record) (r : Record) (state : List ℕ) (number : ℕ) (fossils : List Done) → left ≡ rest ++ r ∷ [] →
-    told rest r.before r.number_before ++ reverse (fossils ++ done_of r state number ∷ []) ≡ told left state number ++ reverse fossils
-told_one_more left rest r state number fossils e =
-    ap (λ (ds : List Done). told rest r.before r.number_before ++ ds) (reverse-append fossils (done_of r state number ∷ []))
-    ∙ (sym (append_assoc (told rest r.before r.number_before) (done_of r state number ∷ []) (reverse fossils))
-    ∙ ap (λ (ds : List Done). ds ++ reverse fossils) (sym (told-push rest r state number) ∙ ap (λ (hs : List Record). told hs state number) (sym e)))
+-- all is still to be told but for the message and the sends of the first
+pub told_begins : (old now : List Done) (first : Record) (handled rest left : List Record) (state : List ℕ) (number : ℕ) → now ≡ old → left ≡ rest → handled ≡ first ∷ rest →
+    now ++ told (with_first first.message first.sent left) state number ≡ old ++ told handled state number
+told_begins old now first handled rest left state number e f g =
+    ap (λ (ds : List Done). ds ++ told (with_first first.message first.sent left) state number) e
+    ∙ ap (λ (hs : List Record). old ++ told (with_first first.message first.sent hs) state number) f
+    ∙ ap (λ (hs : List Record). old ++ told hs state number) (sym g)
+
+pub no_more : {X : Type 0} (xs : List X) → length xs ≡ 0 → xs ≡ []
+no_more [] e = refl
+no_more (x ∷ xs) e = absurd (omega arith)

@@ -1,46 +1,52 @@
 // What is told of handlings that no rollback reaches any more.
 
-ghost use Rattle.std.specs.Prelude.{◌≡◌, IfOk};
+ghost use Rattle.std.specs.Prelude.{◌≡◌, ◌++◌, IfOk, OnOk};
 ghost use Rattle.queues.specs.Record.{number_before, state_before};
-ghost use Rattle.process.specs.Process.{told as told_of};
+ghost use Rattle.process.specs.Process.{told};
 
 use crate::Done;
 use model::{State, Words};
 use queues::{History, Record};
 use std::alloc::{AllocError, Global};
 
-/// What is told of these handlings, where this state and this send number came after them.
-pub(crate) fn told(
-    alloc: Global,
+/// Tells of these handlings at the end of `fossils`, where this state and this send number came after them. Where memory is
+/// wanted some of them are told.
+pub(crate) fn tell(
     handled: Vec<Record>,
     state: State,
     number: u64,
-) -> Result<Vec<Done>, AllocError>
-    ensures { IfOk result (λ fossils. fossils.items ≡ told_of handled.items state number) }
+    fossils: &mut Vec<Done>,
+) -> Result<(), AllocError>
+    ensures { OnOk result (fossils.new.items ≡ fossils.old.items ++ told handled.items state number) }
 {
-    let mut left = handled;
-    let mut after = state;
-    let mut number_after = number;
-    let mut fossils = Vec::with_capacity(alloc, left.len())?;
-    // Each handling's state before it is the state after the one before.
-    while let Some(last) = left.pop() {
-        let Record {
-            message,
-            before,
-            number_before,
-            sent,
-        } = last;
+    fossils.reserve(handled.len())?;
+    let mut left = handled.into_iter();
+    let Some(first) = left.next() else {
+        return Ok(());
+    };
+    let Record {
+        mut message,
+        mut sent,
+        ..
+    } = first;
+    // The state before a handling is the state after the one before it.
+    for next in left {
         fossils.push(Done {
             message,
             sent,
-            after,
-            number_after,
+            after: next.before,
+            number_after: next.number_before,
         })?;
-        after = before;
-        number_after = number_before;
+        message = next.message;
+        sent = next.sent;
     }
-    fossils.reverse();
-    Ok(fossils)
+    fossils.push(Done {
+        message,
+        sent,
+        after: state,
+        number_after: number,
+    })?;
+    Ok(())
 }
 
 /// Puts state words and send number back to those before these handlings, where there are any.

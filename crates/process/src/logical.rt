@@ -10,7 +10,7 @@ ghost use Rattle.process.specs.Told.{IsToldFold};
 ghost use Rattle.process.specs.View.{HasDone, HasRun, IsDoneInRange, IsRefused, IsSound, LacksRoom, has_early, has_foreign, loaded};
 ghost use Rattle.process.specs.declared.ProcessFault.TheVariants.{BelowFloor, NoMemory, NotMine, NumberLimit, Spent};
 
-use crate::fossils::{before_first, restore, told};
+use crate::fossils::{before_first, restore, tell};
 use crate::sends::{append, stamped, take_back_sends};
 use crate::{Done, ProcessFault};
 use eventkey::{Listed, Message, Sign, Signed};
@@ -291,6 +291,24 @@ impl Process {
         ensures done { (m : Meaning) (state : List ℕ) (number : ℕ) → HasDone m self.old state number → IfOk result (λ fossils. IsToldFold m self.old.lp state number fossils.items × HasDone m self.new (state_after fossils.items state) (number_after fossils.items number)) }
         ensures refused { IfErr result (λ fault. IsRefused fault self.old self.new [] []) }
     {
+        let mut fossils = Vec::new(self.alloc);
+        self.collect_into(floor, &mut fossils)?;
+        Ok(fossils)
+    }
+
+    /// The same, but the handlings go straight to the end of `fossils`; at want of memory some of them may be there.
+    pub fn collect_into(&mut self, floor: u64, fossils: &mut Vec<Done>) -> Result<(), ProcessFault>
+        requires { self.old.floor ≤ floor }
+        ensures fossils { OnOk result (fossils.new.items ≡ fossils.old.items ++ fossils_of floor self.old.process) }
+        ensures collected { OnOk result (self.new ≡ record self.old { floor = floor; process = release floor self.old.process }) }
+        ensures spent { (result ≡ Err Spent) ↔ (self.old.spent ≡ true) }
+        ensures causes { IfErr result (λ fault. (fault ≡ Spent) ⊎ (fault ≡ NoMemory)) }
+        ensures lp { self.new.lp ≡ self.old.lp }
+        ensures floor { OnErr result (self.new.floor ≡ self.old.floor) }
+        ensures range { OnOk result (Every IsDoneInRange (fossils_of floor self.old.process)) }
+        ensures done { (m : Meaning) (state : List ℕ) (number : ℕ) → HasDone m self.old state number → OnOk result (let told = fossils_of floor self.old.process in IsToldFold m self.old.lp state number told × HasDone m self.new (state_after told state) (number_after told number)) }
+        ensures refused { IfErr result (λ fault. IsRefused fault self.old self.new [] []) }
+    {
         if self.spent {
             return Err(ProcessFault::Spent);
         }
@@ -304,10 +322,10 @@ impl Process {
             &self.state,
             self.number,
         )?;
-        let fossils = told(self.alloc, released, after, number_after)?;
+        tell(released, after, number_after, fossils)?;
         self.floor = floor;
         self.spent = false;
-        Ok(fossils)
+        Ok(())
     }
 }
 
