@@ -1,7 +1,10 @@
--- Worked rows: images and plans.
+-- Worked rows: images, plans, and what a crash may leave.
 use Rattle.std.specs.Prelude.{replicate}
-use Rattle.std.proofs.Common.{◌≡◌, true, false, [], ◌∷◌, Some, None, refl}
-use Rattle.disk.specs.Disk.{image_of}
+use Rattle.std.proofs.Common.{◌≡◌, ℕ, zero, suc, Bool, true, false, List, [], ◌∷◌, get_or, Some, None, refl, ap, arith}
+use Rattle.disk.specs.Disk.{image_of, IsDisk, IsSector, MayLeave}
+use Rattle.disk.specs.Memory.{MemoryState, crash_content}
+use Rattle.disk.specs.declared.memory.Torn.TheVariants.{Old, New, Fill}
+use Rattle.disk.proofs.Sectors.{replicate_whole}
 use Rattle.disk.specs.Plans.{Counts, started, counted, write_counted, fails, write_fails}
 
 -- less than a sector is left out
@@ -33,3 +36,53 @@ write_stopped = refl
 
 nothing_after : fails (write_counted stops_at_once) ≡ true
 nothing_after = refl
+
+-- Sector 0 is firm; sector 1 held zeros at the last sync, and ones were written there since.
+abbrev zeros : List ℕ
+zeros = replicate 512 0
+
+abbrev ones : List ℕ
+ones = replicate 512 1
+
+abbrev sevens : List ℕ
+sevens = replicate 512 7
+
+abbrev reads : List (List ℕ)
+reads = zeros ∷ (ones ∷ [])
+
+abbrev loose : List Bool
+loose = false ∷ (true ∷ [])
+
+-- a crash may leave any 512 bytes in sector 1,
+torn : MayLeave reads loose (zeros ∷ (sevens ∷ []))
+torn = record { sectors = refl; firm = firm; torn = whole }
+  where
+    firm : (n : ℕ) → get_or loose n false ≡ false → get_or (zeros ∷ (sevens ∷ [])) n [] ≡ get_or reads n []
+    firm zero is = refl
+    firm (suc zero) is = absurd cc
+    firm (suc (suc n)) is = refl
+
+    whole : (n : ℕ) → get_or loose n false ≡ true → IsSector (get_or (zeros ∷ (sevens ∷ [])) n [])
+    whole zero is = absurd cc
+    whole (suc zero) is = replicate_whole 7 (omega arith)
+    whole (suc (suc n)) is = absurd cc
+
+-- but no others in sector 0
+kept : MayLeave reads loose (ones ∷ (ones ∷ [])) → ⊥
+kept left = let same : 1 ≡ 0 = ap (λ (l : List ℕ). get_or l 0 0) (left.firm 0 refl) in omega (arith, same)
+
+module _ (sound : IsDisk reads loose) where
+  abbrev written : MemoryState
+  written = record { reads = reads; synced = zeros ∷ (zeros ∷ []); attempted = reads; loose = loose; sound = sound; past = []; counts = second_fails }
+
+  old_left : crash_content Old written 1 ≡ zeros
+  old_left = refl
+
+  new_left : crash_content New written 1 ≡ ones
+  new_left = refl
+
+  filled : crash_content (Fill 7) written 1 ≡ sevens
+  filled = refl
+
+  firm_left : crash_content (Fill 7) written 0 ≡ zeros
+  firm_left = refl
