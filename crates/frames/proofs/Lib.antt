@@ -1,4 +1,5 @@
 pub mod Appending
+pub mod Counts
 pub mod Cuts
 mod Examples
 pub mod Filling

@@ -4,6 +4,7 @@
 ghost use Rattle.std.specs.Prelude.{◌≡◌};
 
 mod laws;
+mod ranges;
 mod reading;
 mod stream;
 mod writing;

@@ -1,4 +1,4 @@
-pub mod Begun
+pub mod Beginnings
 mod Examples
 pub mod Places
 pub mod Reacting

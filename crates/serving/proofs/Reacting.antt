@@ -1,22 +1,24 @@
 -- What the loop does with one frame, at each exit.
 use Rattle.std.proofs.Common.{◌≡◌, ℕ, ◌^◌, ◌<◌, ◌⊎◌, Bool, true, false, List, length, Option, Some, None, Result, Ok, Err, inl, inr, refl, sym, ap, subst, ◌∙◌, arith}
-use Rattle.std.specs.Prelude.{IfSome}
+use Rattle.std.specs.Prelude.{IfOk, IfSome, OnOk}
+use Rattle.std.proofs.lemmas.Option.{same_Some}
 use Rattle.std.specs.Result.{IsErrAnd}
 use Rattle.std.specs.List.{AllByRecursion as Every}
 use Rattle.eventkey.proofs.Lists.{Every-weaker}
 use Rattle.model.specs.Meaning.{Meaning}
-use Rattle.node.specs.Handling.{IsAnswered, IsInRange, IsLoaded, Node, load_refusal, loaded_node}
+use Rattle.node.specs.Handling.{IsAnswered, IsInRange, IsLoaded, Node, answer, load_refusal, loaded_node}
 use Rattle.node.specs.declared.Load.{Load}
 use Rattle.node.specs.declared.NodeFault.{NodeFault}
+use Rattle.node.specs.declared.NodeFault.TheVariants as node
 use Rattle.node.specs.declared.Parcel.{Parcel}
 use Rattle.node.specs.declared.Part.{Part}
 use Rattle.node.specs.declared.Reply.{Reply}
 use Rattle.frames.specs.Bodies.{fault_bytes, load_in, parcel_in}
-use Rattle.frames.specs.Ranges.{IsLoad, IsPart}
+use Rattle.frames.specs.Ranges.{IsLoad, IsPart, IsReply}
 use Rattle.frames.specs.declared.Kind.{Kind}
 use Rattle.frames.specs.declared.Kind.TheVariants as kind
 use Rattle.frames.specs.declared.stream.Raw.{Raw}
-use Rattle.serving.specs.Reactions.{Begins, Reaction, Reacts, answer_at, answer_lacking, begun, begun_by, begun_with, lacking, load_at, on_load, on_parcel, reaction, reaction_to, response_to}
+use Rattle.serving.specs.Reactions.{Begins, Reaction, Reacts, RepliesInRange, answer_at, answer_lacking, begun, begun_by, begun_with, lacking, load_at, on_load, on_parcel, reaction, reaction_to, response_to}
 use Rattle.serving.specs.declared.reaction.Begun.{Begun}
 use Rattle.serving.specs.declared.reaction.Response.{Response}
 use Rattle.wire.specs.declared.port.WireFault.{WireFault}
@@ -92,6 +94,9 @@ answer_lacks m p old new r (inl e) = (false, e.0, e.1)
 answer_lacks m p old new r (inr e) =
     (true, e.1 ∙ sym (ap (λ (o : Option NodeFault). (answer_lacking old o).result) e.0), e.2 ∙ sym (ap (λ (o : Option NodeFault). (answer_lacking old o).node) e.0))
 
+same_going : (r : Result Response WireFault) (x y : Response) → r ≡ Ok x → r ≡ Ok y → x.goes_on ≡ y.goes_on
+same_going r x y e f = let is : x ≡ y = cc in ap (λ (r : Response). r.goes_on) is
+
 module _ (m : Meaning) (old new : Node) (raw : Raw) where
   other_parcel : (lacks : Bool) (k : Kind) (body : List ℕ) → (k ≡ kind.Parcel → ⊥) → reaction_to lacks m old k body ≡ record { response = Err BadKind; node = old }
   other_parcel lacks kind.Load body ne = refl
@@ -121,3 +126,15 @@ module _ (m : Meaning) (old new : Node) (raw : Raw) where
       let at = reaction_at a.0 (Some p) e f in
       (a.0, inl (is ∙ ap response_to a.1 ∙ sym (ap (λ (r : Reaction). r.response) at), a.2 ∙ sym (ap (λ (r : Reaction). r.node) at)))
   react_done p r result e f h (inr is) = (false, inr is)
+
+  -- a reply that was answered is the node's own, and not one for want of memory
+  pub react_in_range : (p : Parcel) (r : Result Reply NodeFault) (result : Result Response WireFault) → parcel_in raw.body ≡ Some p → IsAnswered m p old new r →
+      (result ≡ response_to r) ⊎ (result ≡ Err NoMemory) → OnOk result (IfOk r (λ reply. IsReply reply)) → IfOk result (λ response. RepliesInRange m old raw response)
+  react_in_range p r (Err fault) e h is fits = tt
+  react_in_range p r (Ok response) e h (inr is) fits = absurd (cc)
+  react_in_range p r (Ok response) e (inl h) (inl is) fits = λ q eq on.
+      let same : p ≡ q = same_Some p q (sym e ∙ eq) in
+      subst (λ (x : Parcel). IfOk (answer m old x).result IsReply) same (subst (λ (x : Result Reply NodeFault). IfOk x IsReply) h.0 fits)
+  react_in_range p r (Ok response) e (inr h) (inl is) fits = λ q eq on.
+      let off : response.goes_on ≡ false = same_going (response_to (Err node.NoMemory)) response _ (sym (is ∙ ap response_to h.1)) refl in
+      absurd (cc)

@@ -1,7 +1,7 @@
 -- One frame's place in a node's loop (this project's profile): what the loop does with a frame whose
 -- body is not yet looked at.
 use Rattle.std.specs.Prelude.{ℕ, ◌^◌, Bool, true, false, nat_lt, if◌then◌else◌, ◌≡◌, ◌⊎◌, length, List}
-use Rattle.std.specs.Prelude.{Option, Some, None, Result, Ok, Err}
+use Rattle.std.specs.Prelude.{Option, Some, None, Result, Ok, Err, IfOk}
 use Rattle.model.specs.Meaning.{Meaning}
 use Rattle.node.specs.Handling.{Answer, Node, answer, ended, load_answer, load_refusal, refusal}
 use Rattle.node.specs.declared.Load.{Load}
@@ -10,6 +10,7 @@ use Rattle.node.specs.declared.NodeFault.TheVariants as node
 use Rattle.node.specs.declared.Parcel.{Parcel}
 use Rattle.node.specs.declared.Reply.{Reply}
 use Rattle.frames.specs.Bodies.{frame_bytes, load_in, parcel_in, reply_bytes}
+use Rattle.frames.specs.Ranges.{IsReply}
 use Rattle.frames.specs.declared.Frame.TheVariants as frame
 use Rattle.frames.specs.declared.Kind.{Kind}
 use Rattle.frames.specs.declared.Kind.TheVariants as kind
@@ -99,6 +100,12 @@ Reacts m old new raw result = (lacks : Bool) × IsReaction (reaction lacks m old
 abbrev pub Begins : ℕ → Raw → Result Begun WireFault → Type 0
 Begins lps raw result =
     (lacks : Bool) × ((result ≡ begun lacks lps raw) ⊎ (result ≡ Err NoMemory))
+
+-- a reply that was answered lies in the ranges of a frame, so that its bytes are read back as it
+abbrev pub RepliesInRange : Meaning → Node → Raw → Response → Type 0
+RepliesInRange m n raw r =
+    (parcel : Parcel) → parcel_in raw.body ≡ Some parcel → r.goes_on ≡ true →
+    IfOk (answer m n parcel).result IsReply
 
 -- a node that was made is one of so many processes
 abbrev pub HasProcesses : ℕ → Begun → Type 0

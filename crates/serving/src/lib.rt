@@ -8,3 +8,4 @@ mod reaction;
 mod tests;
 
 pub use node_loop::serve;
+pub use reaction::{Begun, Response, begin, react};

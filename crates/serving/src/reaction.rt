@@ -1,7 +1,9 @@
 // What a node's loop does with one frame.
 
-ghost use Rattle.std.specs.Prelude.{◌≡◌, ◌⊎◌, Err, IfOk, false};
-ghost use Rattle.serving.specs.Reactions.{Begins, HasProcesses, Reacts, response_to};
+ghost use Rattle.std.specs.Prelude.{◌≡◌, ◌⊎◌, Err, IfOk, OnOk, false};
+ghost use Rattle.frames.specs.Ranges.{IsReply};
+ghost use Rattle.node.specs.Handling.{IsReplyInRange};
+ghost use Rattle.serving.specs.Reactions.{Begins, HasProcesses, Reacts, RepliesInRange, response_to};
 ghost use Rattle.wire.specs.declared.port.WireFault.TheVariants.{NoMemory};
 
 use eventkey::Listed;
@@ -13,22 +15,27 @@ use wire::WireFault;
 
 /// What is written in a frame's place, and whether the loop goes on.
 #[derive(Drop)]
-pub(crate) struct Response {
+pub struct Response {
+    /// The bytes of a reply or of a fault.
     pub frame: Listed<u8>,
+    /// Whether it is a reply.
     pub goes_on: bool,
 }
 
 /// What is made of the first frame: a node, or what is written in its place.
 #[derive(Drop)]
-pub(crate) enum Begun {
+pub enum Begun {
+    /// The node.
     Loaded(Node),
+    /// The bytes of a fault.
     Refused(Listed<u8>),
 }
 
 /// Makes the node of the frame of a load.
 ///
-/// BadKind for a frame of another kind, else BadBody for a body that is no load.
-pub(crate) fn begin<M: Simulated>(alloc: Global, model: &M, raw: &Raw) -> Result<Begun, WireFault>
+/// BadKind for a frame of another kind, else BadBody for a body that is no load; NoMemory where memory is refused for the
+/// load or for the frame of the node's refusal.
+pub fn begin<M: Simulated>(alloc: Global, model: &M, raw: &Raw) -> Result<Begun, WireFault>
     ensures begins { Begins (M.meaning model.now).lps raw.now result }
     ensures lps { IfOk result (λ begun. HasProcesses (M.meaning model.now).lps begun) }
 {
@@ -50,8 +57,8 @@ pub(crate) fn begin<M: Simulated>(alloc: Global, model: &M, raw: &Raw) -> Result
 /// Lets the node handle the frame of a parcel.
 ///
 /// BadKind for a frame of another kind, else BadBody for a body that is no parcel, else TooLong for a reply of more than
-/// 2^24 bytes.
-pub(crate) fn react<M: Simulated>(
+/// 2^24 bytes; NoMemory where memory is refused for the parcel or for the response.
+pub fn react<M: Simulated>(
     alloc: Global,
     model: &M,
     node: &mut Node,
@@ -59,6 +66,8 @@ pub(crate) fn react<M: Simulated>(
 ) -> Result<Response, WireFault>
     requires lps { node.old.spent ≡ false → (M.meaning model.now).lps ≡ node.old.lps }
     ensures told { Reacts (M.meaning model.now) node.old node.new raw.now result }
+    ensures range { IfOk result (λ response.
+        RepliesInRange (M.meaning model.now) node.old raw.now response) }
     ensures lps { node.new.spent ≡ false → (M.meaning model.now).lps ≡ node.new.lps }
 {
     let Kind::Parcel = raw.kind else {
@@ -73,7 +82,9 @@ pub(crate) fn react<M: Simulated>(
 
 /// What is written for a node's answer.
 fn respond(alloc: Global, answer: Result<Reply, NodeFault>) -> Result<Response, WireFault>
-    ensures { (result ≡ response_to answer) ⊎ (result ≡ Err NoMemory) }
+    ensures exact { (result ≡ response_to answer) ⊎ (result ≡ Err NoMemory) }
+    ensures range { IfOk answer (λ reply. IsReplyInRange reply) →
+        OnOk result (IfOk answer (λ reply. IsReply reply)) }
 {
     match answer {
         Ok(reply) => {

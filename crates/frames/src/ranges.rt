@@ -1,0 +1,95 @@
+// What an encoder accepts lies in the ranges of its frame. These calls answer nothing: their contracts say it.
+
+ghost use Rattle.std.specs.Prelude.{◌≤◌, ◌<◌, ◌^◌, length};
+ghost use Rattle.std.specs.List.{AllByRecursion as Every};
+ghost use Rattle.eventkey.specs.Message.{IsRanged};
+ghost use Rattle.node.specs.Handling.{IsInRange, IsReplyInRange};
+ghost use Rattle.process.specs.View.{IsDoneInRange};
+ghost use Rattle.wire.specs.Port.{IsLoadInRange};
+ghost use Rattle.frames.specs.Bodies.{load_bytes, parcel_bytes, part_bytes, reply_bytes};
+ghost use Rattle.frames.specs.Ranges.{IsDone, IsLoad, IsParcel, IsPart, IsReply};
+
+use eventkey::{Message, Signed};
+use model::ranged;
+use node::{Load, Parcel, Part, Reply};
+use process::Done;
+
+/// The numbers of these messages.
+fn messages_ranged(messages: &[Message])
+    ensures { Every IsRanged messages.now }
+{
+    for message in messages {
+        message.ranged();
+    }
+}
+
+/// The numbers of these messages and antimessages.
+fn signed_ranged(list: &[Signed])
+    ensures { Every (λ s. IsRanged s.message) list.now }
+{
+    for signed in list {
+        signed.message.ranged();
+    }
+}
+
+/// A part of a load, where its state words are few and its send number is no more than it may be.
+fn part_ranged(part: &Part)
+    ensures { IsInRange part.now → length (part_bytes part.now) ≤ 2 ^ 24 → IsPart part.now }
+{
+    let _lp = part.lp;
+    ranged(part.words.words());
+    messages_ranged(part.pending.as_slice());
+}
+
+/// The parts of a load.
+fn parts_ranged(parts: &[Part])
+    ensures { Every (λ p. IsInRange p → length (part_bytes p) ≤ 2 ^ 24 → IsPart p) parts.now }
+{
+    for part in parts {
+        part_ranged(part);
+    }
+}
+
+/// A load that a node takes.
+pub(crate) fn load_ranged(load: &Load)
+    ensures { IsLoadInRange load.now → length (load_bytes load.now) ≤ 2 ^ 24 → IsLoad load.now }
+{
+    parts_ranged(load.parts.as_slice());
+}
+
+/// A parcel whose floor is no later than an end may be.
+pub(crate) fn parcel_ranged(parcel: &Parcel)
+    ensures { parcel.now.floor ≤ 2 ^ 40 → length (parcel_bytes parcel.now) ≤ 2 ^ 24 →
+        IsParcel parcel.now }
+{
+    let _budget = parcel.budget;
+    signed_ranged(parcel.deliver.as_slice());
+}
+
+/// A handling that is told.
+fn done_ranged(done: &Done)
+    ensures { IsDoneInRange done.now → IsDone done.now }
+{
+    done.message.ranged();
+    messages_ranged(done.sent.as_slice());
+    ranged(done.after.words());
+}
+
+/// Handlings that are told.
+fn fossils_ranged(fossils: &[Done])
+    ensures { Every (λ d. IsDoneInRange d → IsDone d) fossils.now }
+{
+    for done in fossils {
+        done_ranged(done);
+    }
+}
+
+/// A reply that a node answers.
+pub(crate) fn reply_ranged(reply: &Reply)
+    ensures { IsReplyInRange reply.now → length (reply_bytes reply.now) ≤ 2 ^ 24 →
+        IsReply reply.now }
+{
+    let _ran = reply.ran;
+    signed_ranged(reply.out.as_slice());
+    fossils_ranged(reply.fossils.as_slice());
+}

@@ -1,0 +1,130 @@
+// A node of a ring of three processes behind bytes: two rounds of a run, and refusals.
+
+ghost use Rattle.std.specs.Prelude.{◌≡◌, ◌<◌, IfOk};
+ghost use Rattle.process.specs.Ring.{ring_lawful, ring_meaning};
+ghost use Rattle.wire.specs.Port.{IsLoadInRange};
+
+use crate::LoopPort;
+use eventkey::{Listed, Message, Sign, Signed};
+use model::{Model as Simulated, Outgoing, Sends, State, Words};
+use node::{Load, NodeFault, Parcel, Part};
+use smallvec::SmallVec;
+use std::alloc::Global;
+use std::test::Fail;
+use wire::{Port, PortFault};
+
+#[derive(Drop)]
+struct Ring;
+
+impl Simulated for Ring {
+    ghost meaning = { λ _. ring_meaning };
+
+    ghost lawful = { λ _. ring_lawful };
+
+    fn lps(&self) -> u32 {
+        3
+    }
+
+    fn identity(&self, alloc: Global) -> SmallVec<u64, 8> {
+        SmallVec::new(alloc)
+    }
+
+    fn start(&self, alloc: Global, _lp: u32) -> (Words, Sends) {
+        let mut words = Words::new(alloc);
+        words.push_reserved(0);
+        (words, Sends::new(alloc))
+    }
+
+    fn handle(&self, alloc: Global, lp: u32, state: &Words, message: &Message) -> (Words, Sends) {
+        let count = state.as_slice().first().copied().unwrap_or(0);
+        let mut words = Words::new(alloc);
+        words.push_reserved(count.saturating_add(1));
+        let mut sends = Sends::new(alloc);
+        sends.push_reserved(Outgoing {
+            to: (lp + 1) % 3,
+            delay: 2,
+            a: message.a(),
+            b: message.b().wrapping_add(1),
+        });
+        (words, sends)
+    }
+}
+
+/// Node 0 of three, with the token of the ring, told to be process `lp`.
+fn load(alloc: Global, lp: u32) -> Result<Load, Fail>
+    ensures { IfOk result (λ load. IsLoadInRange load) }
+{
+    let mut words = Words::new(alloc);
+    words.push_reserved(0);
+    let mut pending = Vec::new(alloc);
+    pending.push(Message::new(1, 0, 0, 0, 0, 0)?)?;
+    let mut parts = Vec::new(alloc);
+    parts.push(Part {
+        lp,
+        number: 1,
+        words: State::from_words(words),
+        pending: Listed::from_vec(pending),
+    })?;
+    Ok(Load {
+        node: 0,
+        nodes: 3,
+        end: 10,
+        floor: 0,
+        parts: Listed::from_vec(parts),
+    })
+}
+
+#[test]
+fn two_rounds_of_a_run(rt: HostRuntime) -> Result<(), Fail> {
+    let alloc = rt.alloc();
+    let mut port = LoopPort::new(alloc, &Ring);
+    port.load(load(alloc, 0)?)?;
+    port.post(Parcel {
+        deliver: Listed::from_vec(Vec::new(alloc)),
+        budget: 16,
+        floor: 1,
+    })?;
+    let reply = port.take()?;
+    assert_eq!(rt;
+        (reply.ran, reply.low, reply.fossils.as_slice().len()),
+        (1, None, 0)
+    );
+    let sent = Signed {
+        sign: Sign::Plus,
+        message: Message::new(3, 0, 1, 1, 0, 1)?,
+    };
+    assert_eq!(rt; reply.out.as_slice(), [sent].as_slice());
+    let mut deliver = Vec::new(alloc);
+    deliver.push(Signed {
+        sign: Sign::Plus,
+        message: Message::new(7, 2, 0, 0, 0, 3)?,
+    })?;
+    port.post(Parcel {
+        deliver: Listed::from_vec(deliver),
+        budget: 16,
+        floor: 7,
+    })?;
+    let reply = port.take()?;
+    assert_eq!(rt; (reply.ran, reply.low), (1, None));
+    let [told] = reply.fossils.as_slice() else {
+        return Err(Fail::new("one handling is told"));
+    };
+    assert_eq!(rt; told.message, Message::new(1, 0, 0, 0, 0, 0)?);
+    // A floor before the node's is refused, and ends the port.
+    port.post(Parcel {
+        deliver: Listed::from_vec(Vec::new(alloc)),
+        budget: 16,
+        floor: 6,
+    })?;
+    let refused = port.take();
+    assert!(rt; matches!(refused, Err(PortFault::Peer(NodeFault::FloorFell))));
+    Ok(())
+}
+
+#[test]
+fn a_load_of_another_process_is_refused(rt: HostRuntime) -> Result<(), Fail> {
+    let mut port = LoopPort::new(rt.alloc(), &Ring);
+    let refused = port.load(load(rt.alloc(), 1)?);
+    assert_eq!(rt; refused, Err(PortFault::Peer(NodeFault::NotMine)));
+    Ok(())
+}
