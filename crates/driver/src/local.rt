@@ -59,7 +59,7 @@ pub fn run_local<M: Simulated, D: SectorDisk + Drop, W: Watch>(
 }
 
 /// So many ports to nodes in this program, which all run this model and are not loaded yet.
-fn local_ports<'m, M: Simulated>(
+pub fn local_ports<'m, M: Simulated>(
     alloc: Global,
     model: &'m M,
     nodes: u32,

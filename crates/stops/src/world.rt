@@ -1,0 +1,32 @@
+// Whether a session has come where the plain runner came.
+
+use coordinator::FrontView;
+use eventkey::Message;
+use model::{State, Words, WorldParts};
+
+/// Whether the front is the world of the plain run.
+pub fn is_front(plain: &WorldParts, front: FrontView<'_>) -> bool {
+    front.time == plain.time
+        && same_states(front.states, plain.states.as_slice())
+        && front.numbers == plain.numbers.as_slice()
+        && same_messages(front.pending, plain.pending.as_slice())
+        && same_messages(front.log, plain.log.as_slice())
+}
+
+/// Whether these are the same words of the same processes.
+fn same_states(states: &[State], words: &[Words]) -> bool {
+    if states.len() != words.len() {
+        return false;
+    }
+    for (lp, state) in states.iter().enumerate() {
+        if state.words().as_slice() != words[lp].as_slice() {
+            return false;
+        }
+    }
+    true
+}
+
+/// Whether these are the same messages.
+fn same_messages(some: &[Message], others: &[Message]) -> bool {
+    some == others
+}
