@@ -1,2 +1,3 @@
 mod Drives
+mod Kept
 mod Ports

@@ -5,5 +5,5 @@ mod local;
 mod picks;
 mod rounds;
 
-pub use local::{Finished, local_ports, run_local};
+pub use local::{Finished, Ran, local_ports, run_local};
 pub use rounds::{Plan, RunFault, Watch, run};

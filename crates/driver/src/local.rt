@@ -1,12 +1,13 @@
 // Whole runs on a disk, over nodes in this program.
 
-ghost use Rattle.std.specs.Prelude.{◌≡◌, ◌<◌, ◌≤◌, ◌^◌, IfOk, length, map, replicate};
+ghost use Rattle.std.specs.Prelude.{◌≡◌, ◌<◌, ◌≤◌, ◌^◌, ℕ, IfOk, OnOk, length, map, replicate};
+ghost use Rattle.coordinator.specs.Crashes.{KeepsRecovery, Recovers};
 ghost use Rattle.driver.specs.Driver.{IsRunOf};
 ghost use Rattle.wire.specs.Local.{state_of};
 ghost use Rattle.wire.specs.declared.local.Held.TheVariants.{Fresh};
 
 use crate::rounds::{Plan, RunFault, Watch, run};
-use coordinator::Session;
+use coordinator::{NotOpened, Session};
 use disk::SectorDisk;
 use model::Model as Simulated;
 use std::alloc::Global;
@@ -23,8 +24,17 @@ pub struct Finished {
     pub events: usize,
 }
 
+/// How a run over nodes in this program ended.
+#[derive(Drop)]
+pub struct Ran<D> {
+    /// The disk, as the run left it.
+    pub disk: D,
+    /// What there is to tell, or why the run stopped before its end.
+    pub told: Result<Finished, RunFault>,
+}
+
 /// Runs a simulation on its disk over 1 to 64 nodes in this program, from where the disk stands to
-/// `end`, the tick at which it ends, 1 to 2^40.
+/// `end`, the tick at which it ends, 1 to 2^40, and hands the disk back.
 ///
 /// The faults are those of the session's opening and steps (`Session`), of the rounds (`Rounds`), and
 /// `NoMemory` where memory is refused. What was committed stands on the disk, whatever is answered.
@@ -35,27 +45,53 @@ pub fn run_local<M: Simulated, D: SectorDisk + Drop, W: Watch>(
     end: u64,
     plan: Plan,
     watch: &mut W,
-) -> Result<Finished, RunFault>
+) -> Ran<D>
     requires some { 0 < plan.nodes }
     requires few { plan.nodes ≤ 64 }
     requires begun { 1 ≤ end }
     requires short { end ≤ 2 ^ 40 }
     // All that is told is of the sequential simulation up to the end.
-    ensures finished { IfOk result (λ told. IsRunOf (M.meaning model.now) end told.time told.events) }
-    ensures count { IfOk result (λ told. length told.ran.items ≡ plan.nodes) }
+    ensures finished { IfOk result.told (λ told. IsRunOf (M.meaning model.now) end told.time told.events) }
+    ensures count { IfOk result.told (λ told. length told.ran.items ≡ plan.nodes) }
+    // Whatever time the disk stands for at least, it does so at each moment of the run and after it, at
+    // every exit; and after a run that came to its end, for the end.
+    ensures crashes { (a : ℕ) → Recovers (M.meaning model.now) end a (D.state disk) →
+        KeepsRecovery (M.meaning model.now) end a a (D.state disk) (D.state result.disk) }
+    ensures committed { OnOk result.told (Recovers (M.meaning model.now) end end (D.state result.disk)) }
 {
-    let ports = local_ports(alloc, model, plan.nodes)?;
+    let ports = match local_ports(alloc, model, plan.nodes) {
+        Ok(ports) => ports,
+        Err(fault) => {
+            return Ran {
+                disk,
+                told: Err(fault),
+            };
+        }
+    };
     let mut session = match Session::open(alloc, model, ports, disk, end) {
         Ok(session) => session,
-        Err(refused) => return Err(RunFault::Session(refused.fault)),
+        Err(NotOpened { fault, disk }) => {
+            return Ran {
+                disk,
+                told: Err(RunFault::Session(fault)),
+            };
+        }
     };
-    let ran = run(alloc, &mut session, end, plan, watch)?;
-    let front = session.front();
-    Ok(Finished {
-        ran,
-        time: front.time,
-        events: front.log.len(),
-    })
+    let told = match run(alloc, &mut session, end, plan, watch) {
+        Ok(ran) => {
+            let front = session.front();
+            Ok(Finished {
+                ran,
+                time: front.time,
+                events: front.log.len(),
+            })
+        }
+        Err(fault) => Err(fault),
+    };
+    Ran {
+        disk: session.into_disk(),
+        told,
+    }
 }
 
 /// So many ports to nodes in this program, which all run this model and are not loaded yet.

@@ -1,4 +1,4 @@
 // Texts of logs and worlds, and model files.
 
 mod model_files;
-mod texts;
+mod writing;

@@ -1,13 +1,14 @@
-// A node of a ring of three processes behind bytes: two rounds of a run, and refusals.
+// A node of a ring of three processes behind bytes: a round of a run, and refusals.
 
-ghost use Rattle.std.specs.Prelude.{◌≡◌, ◌<◌, IfOk};
+ghost use Rattle.std.specs.Prelude.{◌≡◌, ◌≤◌, ◌^◌, IfOk, OnOk};
 ghost use Rattle.process.specs.Ring.{ring_lawful, ring_meaning};
 ghost use Rattle.wire.specs.Port.{IsLoadInRange};
+ghost use Rattle.wire.specs.Port.Stage.{Idle};
 
 use crate::LoopPort;
 use eventkey::{Listed, Message, Sign, Signed};
 use model::{Model as Simulated, Outgoing, Sends, State, Words};
-use node::{Load, NodeFault, Parcel, Part};
+use node::{Load, NodeFault, Parcel, Part, Reply};
 use smallvec::SmallVec;
 use std::alloc::Global;
 use std::test::Fail;
@@ -74,57 +75,43 @@ fn load(alloc: Global, lp: u32) -> Result<Load, Fail>
     })
 }
 
-#[test]
-fn two_rounds_of_a_run(rt: HostRuntime) -> Result<(), Fail> {
-    let alloc = rt.alloc();
-    let mut port = LoopPort::new(alloc, &Ring);
-    port.load(load(alloc, 0)?)?;
+/// Posts a parcel that delivers nothing, and takes the reply.
+fn round<P: Port>(port: &mut P, alloc: Global, floor: u64) -> Result<Reply, PortFault>
+    requires idle { (P.state port.old).stage ≡ Idle }
+    requires floor { floor ≤ 2 ^ 40 }
+    ensures { OnOk result ((P.state port.new).stage ≡ Idle) }
+{
     port.post(Parcel {
         deliver: Listed::from_vec(Vec::new(alloc)),
         budget: 16,
-        floor: 1,
+        floor,
     })?;
-    let reply = port.take()?;
-    assert_eq!(rt;
-        (reply.ran, reply.low, reply.fossils.as_slice().len()),
-        (1, None, 0)
-    );
+    port.take()
+}
+
+#[test]
+fn a_round_of_a_run(rt: HostRuntime) -> Result<(), Fail> {
+    let mut port = LoopPort::new(rt.alloc(), &Ring);
+    port.load(load(rt.alloc(), 0)?)?;
+    let reply = round(&mut port, rt.alloc(), 1)?;
     let sent = Signed {
         sign: Sign::Plus,
         message: Message::new(3, 0, 1, 1, 0, 1)?,
     };
+    assert_eq!(rt; reply.ran, 1);
     assert_eq!(rt; reply.out.as_slice(), [sent].as_slice());
-    let mut deliver = Vec::new(alloc);
-    deliver.push(Signed {
-        sign: Sign::Plus,
-        message: Message::new(7, 2, 0, 0, 0, 3)?,
-    })?;
-    port.post(Parcel {
-        deliver: Listed::from_vec(deliver),
-        budget: 16,
-        floor: 7,
-    })?;
-    let reply = port.take()?;
-    assert_eq!(rt; (reply.ran, reply.low), (1, None));
-    let [told] = reply.fossils.as_slice() else {
-        return Err(Fail::new("one handling is told"));
-    };
-    assert_eq!(rt; told.message, Message::new(1, 0, 0, 0, 0, 0)?);
-    // A floor before the node's is refused, and ends the port.
-    port.post(Parcel {
-        deliver: Listed::from_vec(Vec::new(alloc)),
-        budget: 16,
-        floor: 6,
-    })?;
-    let refused = port.take();
-    assert!(rt; matches!(refused, Err(PortFault::Peer(NodeFault::FloorFell))));
     Ok(())
 }
 
 #[test]
-fn a_load_of_another_process_is_refused(rt: HostRuntime) -> Result<(), Fail> {
+fn refusals_of_the_node_come_back(rt: HostRuntime) -> Result<(), Fail> {
     let mut port = LoopPort::new(rt.alloc(), &Ring);
     let refused = port.load(load(rt.alloc(), 1)?);
     assert_eq!(rt; refused, Err(PortFault::Peer(NodeFault::NotMine)));
+    let mut port = LoopPort::new(rt.alloc(), &Ring);
+    port.load(load(rt.alloc(), 0)?)?;
+    let _ = round(&mut port, rt.alloc(), 1)?;
+    let refused = round(&mut port, rt.alloc(), 0);
+    assert!(rt; matches!(refused, Err(PortFault::Peer(NodeFault::FloorFell))));
     Ok(())
 }

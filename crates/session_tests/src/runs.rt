@@ -44,7 +44,7 @@ fn run_on(
     let ring = TokenRing::new(3, 2, 1);
     let mut disk = MemDisk::blank(alloc, sectors)?;
     format(&mut disk, &header(alloc, &ring, 10))?;
-    Ok(run_local(alloc, &ring, disk, 10, plan, told))
+    Ok(run_local(alloc, &ring, disk, 10, plan, told).told)
 }
 
 #[test]

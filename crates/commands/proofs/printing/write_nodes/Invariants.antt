@@ -1,0 +1,10 @@
+use Rattle.std.proofs.Common.{drop, flat_map, length}
+use Rattle.commands.specs.Commands.{node_text}
+use Rattle.model.specs.World.{below}
+use Rattle.texts.proofs.Written.{HasWritten}
+use Rattle.commands.proofs.printing.write_nodes.Given as goal
+
+abbrev pub invariant-loop-node : goal.invariant-loop-node
+invariant-loop-node g l =
+    HasWritten (g.O.Write.contents l.initial.out) (g.O.Write.contents l.out)
+    (flat_map (node_text l.ran) (below (length l.ran))) (flat_map (node_text l.ran) (drop l.node (below (length l.ran))))

@@ -1,0 +1,98 @@
+// Why a command failed.
+
+ghost use Rattle.std.specs.Prelude.{◌≡◌};
+
+use commitlog::LogFault;
+use coordinator::SessionFault;
+use driver::RunFault;
+use recovery::RecoveryFault;
+use std::alloc::{AllocError, AllocFailed};
+use std::io::Error as IoError;
+use thiserror::Error;
+
+/// Why a command failed. Its text is its name, and after a blank that of the fault that it carries.
+#[derive(Clone, Copy, Debug, PartialEq, Eq, Error)]
+pub enum CommandFault {
+    /// Memory ran out, but in no call that has a name of its own for it.
+    #[error("NoMemory")]
+    NoMemory,
+    /// The log of the disk is not made, or not opened.
+    #[error("Log {0}")]
+    Log(LogFault),
+    /// No world is recovered of the log.
+    #[error("Recovery {0}")]
+    Recovery(RecoveryFault),
+    /// The session of a run refused its opening or a step.
+    #[error("Session {0}")]
+    Session(SessionFault),
+    /// All rounds of a run are made, and not all is committed.
+    #[error("Rounds")]
+    Rounds,
+    /// The writer refused.
+    #[error("Output")]
+    Output,
+}
+
+impl From<AllocError> for CommandFault {
+    ghost use Rattle.commands.specs.declared.fault.CommandFault.TheVariants.{NoMemory};
+
+    ghost from_gives = { λ _ e. e ≡ NoMemory };
+
+    fn from(_refused: AllocError) -> CommandFault {
+        CommandFault::NoMemory
+    }
+}
+
+impl<T: Drop> From<AllocFailed<T>> for CommandFault {
+    ghost use Rattle.commands.specs.declared.fault.CommandFault.TheVariants.{NoMemory};
+
+    ghost from_gives = { λ _ e. e ≡ NoMemory };
+
+    fn from(_refused: AllocFailed<T>) -> CommandFault {
+        CommandFault::NoMemory
+    }
+}
+
+impl From<LogFault> for CommandFault {
+    ghost use Rattle.commands.specs.declared.fault.CommandFault.TheVariants.{Log};
+
+    ghost from_gives = { λ fault e. e ≡ Log fault };
+
+    fn from(fault: LogFault) -> CommandFault {
+        CommandFault::Log(fault)
+    }
+}
+
+impl From<RecoveryFault> for CommandFault {
+    ghost use Rattle.commands.specs.declared.fault.CommandFault.TheVariants.{Recovery};
+
+    ghost from_gives = { λ fault e. e ≡ Recovery fault };
+
+    fn from(fault: RecoveryFault) -> CommandFault {
+        CommandFault::Recovery(fault)
+    }
+}
+
+impl From<RunFault> for CommandFault {
+    ghost use Rattle.commands.specs.Commands.{of_run};
+
+    ghost from_gives = { λ fault e. e ≡ of_run fault };
+
+    fn from(fault: RunFault) -> CommandFault {
+        match fault {
+            RunFault::Session(fault) => CommandFault::Session(fault),
+            RunFault::Rounds => CommandFault::Rounds,
+            RunFault::NoMemory => CommandFault::NoMemory,
+        }
+    }
+}
+
+impl From<IoError> for CommandFault {
+    ghost use Rattle.commands.specs.declared.fault.CommandFault.TheVariants.{Output};
+
+    ghost from_gives = { λ _ e. e ≡ Output };
+
+    fn from(_error: IoError) -> CommandFault {
+        CommandFault::Output
+    }
+}

@@ -1,0 +1,11 @@
+//! The commands on a disk: make an empty log for a simulation, run it to its end, and print what is committed.
+#![tactic(auto)]
+
+mod commands;
+mod fault;
+mod printing;
+#[cfg(test)]
+mod tests;
+
+pub use commands::{Simulated, log, new, run, show};
+pub use fault::CommandFault;

@@ -1,0 +1,61 @@
+// What the commands print.
+
+ghost use Rattle.std.specs.Prelude.{◌++◌, codes, decimal, flat_map, length, IsOkUnless};
+ghost use Rattle.commands.specs.Commands.{formatted_text, node_text, ran_text};
+ghost use Rattle.commands.specs.declared.fault.CommandFault.TheVariants.{Output};
+ghost use Rattle.model.specs.World.{below};
+ghost use Rattle.texts.specs.Writing.{Writes};
+
+use crate::CommandFault;
+use std::io::{Result as IoResult, Write};
+use texts::{write_number, write_text};
+
+/// Writes how many sectors a disk has that is formatted now, and flushes the writer.
+pub fn write_formatted<O: Write>(sectors: u32, out: &mut O) -> Result<(), CommandFault>
+    ensures written { Writes (O.contents out.old) (O.contents out.new) result (formatted_text sectors) }
+    ensures fault { IsOkUnless result Output }
+{
+    write_number("formatted ", u64::from(sectors), out)?;
+    write_text(" sectors\n", out)?;
+    out.flush()?;
+    Ok(())
+}
+
+/// Writes what a run has to tell: how many messages each node handled, and what is committed. Flushes the writer.
+pub fn write_ran<O: Write>(
+    ran: &[u64],
+    time: u64,
+    events: usize,
+    out: &mut O,
+) -> Result<(), CommandFault>
+    ensures written { Writes (O.contents out.old) (O.contents out.new) result (ran_text ran.now time events) }
+    ensures fault { IsOkUnless result Output }
+{
+    write_nodes(ran, out)?;
+    write_number("committed ", time, out)?;
+    write_number(" events ", events as u64, out)?;
+    write_text("\n", out)?;
+    out.flush()?;
+    Ok(())
+}
+
+/// A line for each node.
+fn write_nodes<O: Write>(ran: &[u64], out: &mut O) -> IoResult<()>
+    ensures { Writes (O.contents out.old) (O.contents out.new) result
+        (flat_map (node_text ran.now) (below (length ran.now))) }
+{
+    for node in 0..ran.len() {
+        write_node(node, ran[node], out)?;
+    }
+    Ok(())
+}
+
+/// The line of one node.
+fn write_node<O: Write>(node: usize, handled: u64, out: &mut O) -> IoResult<()>
+    ensures { Writes (O.contents out.old) (O.contents out.new) result
+        (codes "node " ++ decimal node ++ (codes " ran " ++ decimal handled) ++ codes "\n") }
+{
+    write_number("node ", node as u64, out)?;
+    write_number(" ran ", handled, out)?;
+    write_text("\n", out)
+}

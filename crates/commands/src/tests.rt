@@ -1,0 +1,3 @@
+// The commands on disks in memory.
+
+mod runs;
