@@ -1,4 +1,5 @@
 mod Batches
+mod Sorting
 mod Committing
 mod PortStates
 mod Posting

@@ -81,7 +81,7 @@ impl Process {
             lp,
             floor,
             spent: false,
-            queue: InputQueue::of_waiting(alloc, pending),
+            queue: InputQueue::of_waiting(alloc, pending)?,
             history: History::new(alloc),
             state: State::from_words(words),
             number,

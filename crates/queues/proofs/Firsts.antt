@@ -13,30 +13,7 @@ use Rattle.queues.proofs.Halves.{ascending_at}
 use Rattle.queues.proofs.Moves.{remove_first, same_queue}
 use Rattle.queues.specs.Queue.{IsInOrder, Queue, first_before, first_time, released, taken}
 
--- 1. The last of a bag that is kept greatest first
-
-bag_ends : (bag rest : List Message) (x : Message) → reverse bag ≡ x ∷ rest → bag ≡ reverse rest ++ x ∷ []
-bag_ends bag rest x e = sym (reverse-reverse bag) ∙ (ap reverse e ∙ reverse-append (x ∷ []) rest)
-
-pub last_is_first : (bag : List Message) (x : Message) → Some x ≡ slice_get bag (length bag - 1) → (rest : List Message) × (reverse bag ≡ x ∷ rest)
-last_is_first bag x e = by_first (reverse bag) refl
-  where
-    by_first : (ys : List Message) → reverse bag ≡ ys → (rest : List Message) × (reverse bag ≡ x ∷ rest)
-    by_first [] f = absurd (
-        let none : bag ≡ [] = sym (reverse-reverse bag) ∙ ap reverse f in
-        let nothing : Some x ≡ None = e ∙ ap (λ (zs : List Message). slice_get zs (length zs - 1)) none in
-        none-some x (sym nothing))
-    by_first (y ∷ ys) f =
-        let ends = bag_ends bag ys y f in
-        let got : slice_get bag (length bag - 1) ≡ Some y =
-        ap (λ (zs : List Message). slice_get zs (length zs - 1)) ends
-        ∙ (slice_get-get_or (reverse ys ++ y ∷ []) (length (reverse ys ++ y ∷ []) - 1) y (omega (arith, length-append (reverse ys) (y ∷ [])))
-        ∙ ap Some (get_or_at (reverse ys) y [] y (length (reverse ys ++ y ∷ []) - 1) (omega (arith, length-append (reverse ys) (y ∷ []))))) in
-        (ys, f ∙ ap (λ (z : Message). z ∷ ys) (sym (same_Some x y (e ∙ got))))
-
-pub none_is_empty : (bag : List Message) → None ≡ slice_get bag (length bag - 1) → reverse bag ≡ []
-none_is_empty [] e = refl
-none_is_empty (y ∷ ys) e = absurd (none-some (get_or (y ∷ ys) (length (y ∷ ys) - 1) y) (e ∙ slice_get-get_or (y ∷ ys) (length (y ∷ ys) - 1) y (omega arith)))
+-- 1. The least time of a list
 
 pub least_of_ascending : (xs : List Message) (x : Message) → IsAscending (x ∷ xs) → least_time x.time xs ≡ x.time
 least_of_ascending [] x up = refl
@@ -44,8 +21,13 @@ least_of_ascending (y ∷ ys) x up =
     let late = time_from_at_most x y up.0.0 in
     ap (λ (t : ℕ). least_time t ys) (let e : min x.time y.time ≡ x.time = omega arith in e) ∙ least_of_ascending ys x (up.0.1, up.1.1)
 
-pub first_is : (bag rest : List Message) (x : Message) → IsAscending (reverse bag) → reverse bag ≡ x ∷ rest → Some x.time ≡ first_time (reverse bag)
-first_is bag rest x up e = ap Some (sym (least_of_ascending rest x (subst IsAscending e up))) ∙ ap first_time (sym e)
+pub first_is : (xs : List Message) (x : Message) → IsAscending xs → Some x ≡ slice_get xs 0 → Some x.time ≡ first_time xs
+first_is [] x up e = absurd (none-some x (sym e))
+first_is (y ∷ ys) x up e = ap (λ (z : Message). Some z.time) (same_Some x y e) ∙ ap Some (sym (least_of_ascending ys y up))
+
+pub none_first : (xs : List Message) → None ≡ slice_get xs 0 → None ≡ first_time xs
+none_first [] e = refl
+none_first (y ∷ ys) e = absurd (none-some y e)
 
 -- 2. The least time of two lists
 
@@ -82,15 +64,8 @@ first_before_is end (y ∷ ys) x e = elim (cases_Bool (nat_lt y.time end)) [
   | inr t ↦ absurd (let now = rw t at e in none-some x now)
 ]
 
-pub taken_is : (end : ℕ) (q new : Queue) (x : Message) (bag : List Message) → first_before end q.waiting ≡ Some x → q.waiting ≡ reverse bag → new.done ≡ q.done ++ x ∷ [] → new.waiting ≡ reverse (take (length bag - 1) bag) → new.antis ≡ q.antis → new ≡ taken end q
-taken_is end q new x bag e b d w a =
-    let f = first_before_is end q.waiting x e in
-    let rest = f.0 in
-    let ends = bag_ends bag rest x (sym b ∙ f.1) in
-    let left : take (length bag - 1) bag ≡ reverse rest =
-    ap (λ (ys : List Message). take (length ys - 1) ys) ends ∙ take_at (reverse rest) (x ∷ []) (length (reverse rest ++ x ∷ []) - 1) (omega (arith, length-append (reverse rest) (x ∷ []))) in
-    let waits : new.waiting ≡ remove_one x q.waiting = w ∙ (ap reverse left ∙ (reverse-reverse rest ∙ (sym (remove_first x rest) ∙ ap (remove_one x) (sym f.1)))) in
-    rw (e, taken) (same_queue new _ d waits a)
+pub taken_is : (end : ℕ) (q new : Queue) (x : Message) → first_before end q.waiting ≡ Some x → new.done ≡ q.done ++ x ∷ [] → new.waiting ≡ remove_one x q.waiting → new.antis ≡ q.antis → new ≡ taken end q
+taken_is end q new x e d w a = rw (e, taken) (same_queue new _ d w a)
 
 -- the lists stay in order
 pub taken_in_order : (end : ℕ) (q : Queue) (x : Message) → first_before end q.waiting ≡ Some x → IsInOrder q → IsInOrder (taken end q)

@@ -1,9 +1,9 @@
 pub mod Arrivals
+pub mod Buckets
 pub mod Firsts
 pub mod Halves
 pub mod Moves
 pub mod Places
 pub mod Queues
 pub mod Releases
-pub mod Sorting
 pub mod Undone

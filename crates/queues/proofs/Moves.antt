@@ -11,7 +11,7 @@ use Rattle.eventkey.specs.Signed.{minus, plus}
 use Rattle.queues.proofs.Halves.{last_kept}
 use Rattle.queues.proofs.Places.{but_last-last_of}
 use Rattle.queues.proofs.Queues.{queues_arrive_by_cases}
-use Rattle.queues.proofs.Undone.{but_last-append, last_of-append, but_last-take, last_of-drop}
+use Rattle.queues.proofs.Undone.{but_last-append, last_of-append, but_last-take, last_of-drop, put_first}
 use Rattle.queues.specs.Queue.{IsInOrder, Queue, after, arrival, arrived, but_last, last_of}
 use Rattle.queues.specs.declared.Arrival.TheVariants.{Annihilated, Queued, Waits}
 
@@ -42,11 +42,9 @@ module _ (m : Message) (q new : Queue) (h : IsInOrder q) where
   pub plus_met_answer : is_among m q.antis ≡ true → Annihilated 0 ≡ arrival (plus m) q
   plus_met_answer e = rw e refl
 
-  pub plus_stayed : (n : ℕ) (bag : List Message) → is_among m q.antis ≡ false → n ≡ after m q.done → new.done ≡ but_last n q.done → bag ≡ last_of n q.done ++ q.waiting → new.waiting ≡ add m bag → new.antis ≡ q.antis →
-      new ≡ arrived (plus m) q
-  plus_stayed n bag e k d b w a =
-      let undone = add_all-ascending (last_of n q.done) q.waiting (undone_ascending n q h) in
-      let is : new ≡ record { done = but_last n q.done; waiting = add m (add_all (last_of n q.done) q.waiting); antis = q.antis } = same_queue new _ d (w ∙ ap (add m) (b ∙ sym undone)) a in
+  pub plus_stayed : (n : ℕ) → is_among m q.antis ≡ false → n ≡ after m q.done → new.done ≡ but_last n q.done → new.waiting ≡ add_all (last_of n q.done) (add m q.waiting) → new.antis ≡ q.antis → new ≡ arrived (plus m) q
+  plus_stayed n e k d w a =
+      let is : new ≡ record { done = but_last n q.done; waiting = add m (add_all (last_of n q.done) q.waiting); antis = q.antis } = same_queue new _ d (w ∙ put_first m (last_of n q.done) q.waiting h.waiting) a in
       is ∙ (ap (λ (i : ℕ). record { done = but_last i q.done; waiting = add m (add_all (last_of i q.done) q.waiting); antis = q.antis }) k ∙ sym ((queues_arrive_by_cases m q h.done).plus_waits e).1)
 
   pub plus_stayed_answer : (n : ℕ) → is_among m q.antis ≡ false → n ≡ after m q.done → Queued n ≡ arrival (plus m) q
@@ -60,7 +58,7 @@ module _ (m : Message) (q new : Queue) (h : IsInOrder q) where
 
   -- the last one that is not after m is m, and goes with those after it
   pub minus_undone : (n : ℕ) (kept : List Message) → is_among m q.waiting ≡ false → is_among m q.done ≡ true → n ≡ after m q.done → kept ≡ but_last n q.done → new.done ≡ take (length kept - 1) kept →
-      new.waiting ≡ last_of n q.done ++ q.waiting → new.antis ≡ q.antis → new ≡ arrived (minus m) q
+      new.waiting ≡ add_all (last_of n q.done) q.waiting → new.antis ≡ q.antis → new ≡ arrived (minus m) q
   minus_undone n kept e f k b d w a =
       let last = last_kept m q.done m h.done (ltb-true 0 (copies m q.done) f) in
       let short : n < length q.done = rw k last.0 in
@@ -80,7 +78,7 @@ module _ (m : Message) (q new : Queue) (h : IsInOrder q) where
       let all = add_all-ascending (last_of (n + 1) q.done) q.waiting (undone_ascending (n + 1) q h) in
       let waits : remove_one m (add_all (last_of (n + 1) q.done) q.waiting) ≡ later ++ q.waiting =
       ap (remove_one m) (all ∙ ap (λ (ys : List Message). ys ++ q.waiting) undone) ∙ remove_first m (later ++ q.waiting) in
-      let is : new ≡ record { done = but_last (n + 1) q.done; waiting = remove_one m (add_all (last_of (n + 1) q.done) q.waiting); antis = q.antis } = same_queue new _ (d ∙ (left ∙ sym done)) (w ∙ sym waits) a in
+      let is : new ≡ record { done = but_last (n + 1) q.done; waiting = remove_one m (add_all (last_of (n + 1) q.done) q.waiting); antis = q.antis } = same_queue new _ (d ∙ (left ∙ sym done)) (w ∙ (add_all-ascending later q.waiting (undone_ascending n q h) ∙ sym waits)) a in
       is ∙ (ap (λ (l : ℕ). record { done = but_last (l + 1) q.done; waiting = remove_one m (add_all (last_of (l + 1) q.done) q.waiting); antis = q.antis }) k ∙ sym ((queues_arrive_by_cases m q h.done).minus_undoes e f).1)
 
   pub minus_undone_answer : (n : ℕ) → is_among m q.waiting ≡ false → is_among m q.done ≡ true → n ≡ after m q.done → Annihilated (n + 1) ≡ arrival (minus m) q

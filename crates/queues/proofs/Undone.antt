@@ -1,8 +1,10 @@
--- The last records or messages of a list, taken off one by one or at once.
-use Rattle.std.proofs.Common.{◌≡◌, ℕ, ◌+◌, ◌-◌, ◌≤◌, List, [], ◌∷◌, ◌++◌, suc, refl, ap, sym, ◌∙◌, arith, length, take, drop, reverse, inl, inr}
+-- The last records or messages of a list, and messages put into a bag and taken out again.
+use Rattle.std.proofs.Common.{false, ◌≡◌, ℕ, ◌+◌, ◌-◌, ◌<◌, ◌≤◌, List, [], ◌∷◌, ◌++◌, suc, refl, ap, sym, ◌∙◌, arith, length, take, drop, get_or, inl, inr}
 use Rattle.std.proofs.lemmas.Bool.{cases_Bool, ltb-true, ltb-false, lt-ltb, le-ltb}
-use Rattle.std.proofs.lemmas.List.{append-nil, append_assoc, length-append, reverse-append}
+use Rattle.std.proofs.lemmas.List.{get_or-drop, length-append, length-drop, take_all, take_more}
 use Rattle.std.specs.Prelude.{nat_lt}
+use Rattle.eventkey.proofs.Bags.{IsAscending-add, IsAscending-add_all, IsAscending-remove_all, copies-add, copies-add_all, copies-remove_all, remove_one_none, same_ascending}
+use Rattle.eventkey.specs.Bag.{IsAscending, add, add_all, copies, is_among, remove_all, remove_one}
 use Rattle.eventkey.specs.Message.{Message}
 use Rattle.queues.specs.Queue.{but_last, last_of}
 
@@ -36,26 +38,34 @@ module _ {X : Type 0} where
         rw e (last_of-drop n xs short ∙ sym (ap (λ (k : ℕ). drop k (x ∷ xs)) (let k : suc (length xs) - n ≡ suc (length xs - n) = omega arith in k)))
   ]
 
--- so many messages have gone from the end of what is done to the bag that waits, which is kept greatest first
-pub record IsUndone (old : List Message) (bag : List Message) (done : List Message) (waiting : List Message) (n : ℕ) : Type 0 where
-  pub undone : List Message
-  pub many : length undone ≡ n
-  pub split : done ++ undone ≡ old
-  pub joined : reverse waiting ≡ undone ++ reverse bag
+  pub next_of : (xs : List X) (i n : ℕ) (d : X) → i + n < length xs → take (n + 1) (drop i xs) ≡ take n (drop i xs) ++ get_or xs (i + n) d ∷ []
+  next_of xs i n d h =
+      take_more (drop i xs) n d (omega (arith, length-drop i xs)) ∙ ap (λ (x : X). take n (drop i xs) ++ x ∷ []) (get_or-drop i xs n d)
 
-pub none_undone : (old bag : List Message) → IsUndone old bag old bag 0
-none_undone old bag = record { undone = []; many = refl; split = append-nil old; joined = refl }
+  pub last_of-taken : (n : ℕ) (xs : List X) → n ≤ length xs → take n (drop (length xs - n) xs) ≡ last_of n xs
+  last_of-taken n xs h = take_all n (drop (length xs - n) xs) (omega (arith, length-drop (length xs - n) xs)) ∙ sym (last_of-drop n xs h)
 
-pub one_more_undone : (old bag done waiting rest : List Message) (m : Message) (n : ℕ) → done ≡ rest ++ m ∷ [] → IsUndone old bag done waiting n → IsUndone old bag rest (waiting ++ m ∷ []) (n + 1)
-one_more_undone old bag done waiting rest m n e h = record {
-  undone = m ∷ h.undone;
-  many = let k = h.many in omega arith;
-  split = sym (append_assoc rest (m ∷ []) h.undone) ∙ (ap (λ (ys : List Message). ys ++ h.undone) (sym e) ∙ h.split);
-  joined = reverse-append waiting (m ∷ []) ∙ ap (λ (ys : List Message). m ∷ ys) h.joined;
-}
+pub add_all-last : (xs bag : List Message) (m : Message) → add_all (xs ++ m ∷ []) bag ≡ add m (add_all xs bag)
+add_all-last [] bag m = refl
+add_all-last (x ∷ xs) bag m = add_all-last xs (add x bag) m
 
-pub undone_done : (old bag done waiting : List Message) (n : ℕ) → IsUndone old bag done waiting n → done ≡ but_last n old
-undone_done old bag done waiting n h = sym (but_last-append done h.undone n h.many) ∙ ap (but_last n) h.split
+pub remove_all-last : (xs bag : List Message) (m : Message) → remove_all (xs ++ m ∷ []) bag ≡ remove_one m (remove_all xs bag)
+remove_all-last [] bag m = refl
+remove_all-last (x ∷ xs) bag m = remove_all-last xs (remove_one x bag) m
 
-pub undone_waiting : (old bag done waiting : List Message) (n : ℕ) → IsUndone old bag done waiting n → reverse waiting ≡ last_of n old ++ reverse bag
-undone_waiting old bag done waiting n h = h.joined ∙ ap (λ (ys : List Message). ys ++ reverse bag) (sym (last_of-append done h.undone n h.many) ∙ ap (last_of n) h.split)
+-- what was put in is taken out again
+pub taken_out : (xs bag : List Message) → IsAscending bag → remove_all xs (add_all xs bag) ≡ bag
+taken_out xs bag up =
+    same_ascending (remove_all xs (add_all xs bag)) bag (IsAscending-remove_all xs (add_all xs bag) (IsAscending-add_all xs bag up)) up
+    (λ y. omega (arith, copies-remove_all y xs (add_all xs bag) (λ x. omega (arith, copies-add_all x xs bag)), copies-add_all y xs bag))
+
+pub put_first : (m : Message) (xs bag : List Message) → IsAscending bag → add_all xs (add m bag) ≡ add m (add_all xs bag)
+put_first m xs bag up =
+    same_ascending (add_all xs (add m bag)) (add m (add_all xs bag)) (IsAscending-add_all xs (add m bag) (IsAscending-add m bag up)) (IsAscending-add m (add_all xs bag) (IsAscending-add_all xs bag up))
+    (λ y. omega (arith, copies-add_all y xs (add m bag), copies-add y m bag, copies-add y m (add_all xs bag), copies-add_all y xs bag))
+
+pub put_one_back : (m : Message) (bag : List Message) → IsAscending bag → remove_one m (add m bag) ≡ bag
+put_one_back m bag up = taken_out (m ∷ []) bag up
+
+pub not_taken : (m : Message) (old new : List Message) → is_among m old ≡ false → new ≡ remove_one m old → new ≡ old
+not_taken m old new e h = h ∙ remove_one_none m old (let none = ltb-false 0 (copies m old) e in omega arith)

@@ -1,6 +1,8 @@
 -- For callers: the input queue and its five cases, and records of what was handled
 pub mod Queue
 pub mod Record
--- Inside: how the code keeps a queue, and where a message stands in a bag
+-- Inside: how the code keeps a queue, where a message stands in a list, and what leaves a bucket
 pub mod Inside
 pub mod Place
+pub mod Buckets
+pub mod Bag

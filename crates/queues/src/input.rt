@@ -5,7 +5,8 @@ ghost use Rattle.eventkey.specs.Bag.{add_all};
 ghost use Rattle.eventkey.specs.Signed.{minus, plus};
 ghost use Rattle.queues.specs.Queue.{IsInOrder, arrival, arrived, first_before, first_time, released, taken};
 
-use crate::{Arrival, bag};
+use crate::bag::Bag;
+use crate::{Arrival, done};
 use eventkey::{Message, Sign, Signed};
 use std::alloc::{AllocError, Global};
 use std::collections::VecDeque;
@@ -17,9 +18,8 @@ use std::collections::VecDeque;
 pub struct InputQueue {
     // Let go of at the beginning, put back at the end.
     done: VecDeque<Message>,
-    // The bags have their least message last, so that it is taken, and what is undone put back, at the end.
-    waiting: Vec<Message>,
-    antis: Vec<Message>,
+    waiting: Bag,
+    antis: Bag,
 }
 
 impl std::marker::Model for InputQueue {
@@ -40,22 +40,25 @@ impl InputQueue {
     {
         InputQueue {
             done: VecDeque::new(alloc),
-            waiting: Vec::new(alloc),
-            antis: Vec::new(alloc),
+            waiting: Bag::new(alloc),
+            antis: Bag::new(alloc),
         }
     }
 
-    /// The queue in which these messages wait, in whatever order they are handed in. It takes no memory.
-    pub fn of_waiting(alloc: Global, messages: Vec<Message>) -> InputQueue
-        ensures { result ≡ record { done = []; waiting = add_all messages.items []; antis = [] } }
+    /// The queue in which these messages wait, in whatever order they are handed in. It is refused only for want of
+    /// memory.
+    pub fn of_waiting(alloc: Global, messages: Vec<Message>) -> Result<InputQueue, AllocError>
+        ensures { IfOk result (λ q. q ≡ record { done = []; waiting = add_all messages.items []; antis = [] }) }
     {
-        let mut waiting = messages;
-        bag::sort(&mut waiting);
-        InputQueue {
+        let mut waiting = Bag::new(alloc);
+        for place in 0..messages.len() {
+            waiting.add(messages[place])?;
+        }
+        Ok(InputQueue {
             done: VecDeque::new(alloc),
             waiting,
-            antis: Vec::new(alloc),
-        }
+            antis: Bag::new(alloc),
+        })
     }
 
     /// The lists are in order, and no antimessage stands with its message.
@@ -105,15 +108,17 @@ impl InputQueue {
         ensures arrived { OnOk result (self.new ≡ arrived (plus message) self.old) }
         ensures unchanged { OnErr result (self.new ≡ self.old) }
     {
-        if let Some(place) = bag::find(self.antis.as_slice(), &message) {
-            self.antis.remove(place);
+        if self.antis.remove(&message) {
             return Ok(Arrival::Annihilated { back: 0 });
         }
-        let back = bag::count_after(&self.done, &message);
+        let back = done::count_after(&self.done, &message);
         // What can fail comes first.
-        self.waiting.reserve(back + 1)?;
-        bag::wait_again(&mut self.done, &mut self.waiting, back);
-        bag::put(&mut self.waiting, message);
+        self.waiting.add(message)?;
+        if done::wait_again(&self.done, &mut self.waiting, back).is_err() {
+            self.waiting.remove(&message);
+            return Err(AllocError);
+        }
+        done::undo(&mut self.done, back);
         Ok(Arrival::Queued { back })
     }
 
@@ -123,20 +128,18 @@ impl InputQueue {
         ensures arrived { OnOk result (self.new ≡ arrived (minus message) self.old) }
         ensures unchanged { OnErr result (self.new ≡ self.old) }
     {
-        if let Some(place) = bag::find(self.waiting.as_slice(), &message) {
-            self.waiting.remove(place);
+        if self.waiting.remove(&message) {
             return Ok(Arrival::Annihilated { back: 0 });
         }
-        if bag::holds(&self.done, &message) {
-            let later = bag::count_after(&self.done, &message);
-            self.waiting.reserve(later)?;
-            bag::wait_again(&mut self.done, &mut self.waiting, later);
+        if done::holds(&self.done, &message) {
+            let later = done::count_after(&self.done, &message);
+            done::wait_again(&self.done, &mut self.waiting, later)?;
+            done::undo(&mut self.done, later);
             // The last one done is now the message itself.
             self.done.pop_back();
             return Ok(Arrival::Annihilated { back: later + 1 });
         }
-        self.antis.reserve(1)?;
-        bag::put(&mut self.antis, message);
+        self.antis.add(message)?;
         Ok(Arrival::Waits)
     }
 
@@ -144,8 +147,8 @@ impl InputQueue {
     pub fn next(&self, end: u64) -> Option<Message>
         ensures { result ≡ first_before end self.now.waiting }
     {
-        match self.waiting.last() {
-            Some(message) if message.time() < end => Some(*message),
+        match self.waiting.first() {
+            Some(message) if message.time() < end => Some(message),
             _ => None,
         }
     }
@@ -162,7 +165,7 @@ impl InputQueue {
             return Ok(None);
         };
         self.done.push_back(message)?;
-        self.waiting.pop();
+        self.waiting.remove(&message);
         Ok(Some(message))
     }
 
@@ -175,7 +178,7 @@ impl InputQueue {
                 ensures { result ≡ nat_lt message.now.time floor }
             { message.time() < floor },
         );
-        bag::let_go(&mut self.done, count);
+        done::let_go(&mut self.done, count);
     }
 
     /// The least time, in ticks, of what waits, antimessages too; none where nothing does. It takes no memory.
@@ -183,8 +186,8 @@ impl InputQueue {
         ensures low { result ≡ first_time (self.now.waiting ++ self.now.antis) }
         ensures range { IfSome result (λ time. time < 2 ^ 41) }
     {
-        let waiting = bag::least_time(self.waiting.as_slice());
-        let antis = bag::least_time(self.antis.as_slice());
+        let waiting = self.waiting.least_time();
+        let antis = self.antis.least_time();
         match (waiting, antis) {
             (Some(message), Some(anti)) => Some(message.min(anti)),
             (Some(message), None) => Some(message),

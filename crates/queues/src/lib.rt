@@ -6,6 +6,8 @@ ghost use Rattle.queues.specs.Record.{RecordsPart};
 ghost use Rattle.std.specs.Prelude.{◌≡◌};
 
 mod bag;
+mod bucket;
+mod done;
 mod handled;
 mod input;
 #[cfg(test)]

@@ -176,7 +176,7 @@ fn straggler_undoes_what_comes_after(rt: HostRuntime) -> Result<(), Fail> {
     for time in [9, 3, 7, 5] {
         pending.push(Message::new(time, 0, 0, 1, 0, 0)?)?;
     }
-    let mut queue = InputQueue::of_waiting(rt.alloc(), pending);
+    let mut queue = InputQueue::of_waiting(rt.alloc(), pending)?;
     for time in [3, 5, 7] {
         assert_eq!(rt;
             take_next(&rt, &mut queue, 8)?.map(|next| next.time()),

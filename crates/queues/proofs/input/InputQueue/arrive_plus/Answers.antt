@@ -1,52 +1,97 @@
-use Rattle.std.proofs.Common.{◌≡◌, ◌++◌, ◌∙◌, ap, arith, refl, reverse, subst, sym, false, List}
-use Rattle.eventkey.specs.Bag.{IsAscending, is_among}
-use Rattle.eventkey.specs.Message.{Message}
+use Rattle.std.proofs.Common.{◌≡◌, ◌∙◌, ap, arith, refl, subst, sym, false, true}
+use Rattle.std.proofs.lemmas.Bool.{false≢true, true≢false}
+use Rattle.std.specs.Prelude.{Err, Ok, OnErr, OnOk, Result}
+use Rattle.std.specs.Result.{is_err}
+use Rattle.eventkey.proofs.Bags.{IsAscending-add}
+use Rattle.eventkey.specs.Bag.{IsAscending, add, add_all, is_among, remove_one}
 use Rattle.eventkey.specs.Signed.{plus}
-use Rattle.queues.proofs.Moves.{plus_met, plus_stayed, undone_ascending}
+use Rattle.queues.proofs.Moves.{plus_met, plus_stayed, same_queue}
 use Rattle.queues.proofs.Places.{after-le}
 use Rattle.queues.proofs.Queues.{queues_stay_in_order}
+use Rattle.queues.proofs.Undone.{not_taken, put_one_back}
 use Rattle.queues.specs.Inside.{queue_of}
-use Rattle.queues.specs.Place.{StandsAt}
-use Rattle.queues.specs.Queue.{IsInOrder, after, arrived, last_of}
+use Rattle.queues.specs.Queue.{IsInOrder, Queue, after, arrived, last_of}
 use Rattle.queues.proofs.input.InputQueue.arrive_plus.Goals as goal
 
-met : (c : goal.After-remove) → StandsAt c.args.message c.self.inside.antis.items c.in-Some.place
-met c = rw c.as_slice.ensures.value at c.in-Some.ensures
+on_err : {X E P : Type 0} (r : Result X E) → P → OnErr r P
+on_err (Ok x) p = tt
+on_err (Err e) p = p
 
-met_is : (c : goal.After-remove) → queue_of (record { done = c.self.inside.done; waiting = c.self.inside.waiting; antis = c.remove.new.self }) ≡ arrived (plus c.args.message) (queue_of c.self.inside)
-met_is c =
-    let at = met c in
-    plus_met c.args.message (queue_of c.self.inside) (queue_of (record { done = c.self.inside.done; waiting = c.self.inside.waiting; antis = c.remove.new.self })) c.self.invariant
-    at.among refl refl (ap reverse c.remove.ensures.items ∙ at.without)
+at_err : {X E P : Type 0} (r : Result X E) → OnErr r P → is_err r ≡ true → P
+at_err (Ok x) p e = absurd (false≢true e)
+at_err (Err x) p e = p
+
+at_ok : {X E P : Type 0} (r : Result X E) → OnOk r P → is_err r ≡ false → P
+at_ok (Ok x) p e = p
+at_ok (Err x) p e = absurd (true≢false e)
 
 pub invariant_of-self : goal.invariant_of-self
-invariant_of-self c = subst IsInOrder (sym (met_is c)) (queues_stay_in_order (plus c.args.message) (queue_of c.self.inside) c.self.invariant)
+invariant_of-self c =
+    let q = queue_of c.self.inside in
+    let is = plus_met c.args.message q (record { done = q.done; waiting = q.waiting; antis = c.remove.new.self }) c.self.invariant (sym c.remove.ensures.answer ∙ c.if-remove.true) refl refl c.remove.ensures.removed in
+    subst IsInOrder (sym is) (queues_stay_in_order (plus c.args.message) q c.self.invariant)
 
-pub returns-in-Some-clause-arrived : goal.returns-in-Some-clause-arrived
-returns-in-Some-clause-arrived c = met_is c ∙ ap (arrived (plus c.args.message)) c.self.view_is
+pub returns-then-remove-clause-arrived : goal.returns-then-remove-clause-arrived
+returns-then-remove-clause-arrived c =
+    let q = queue_of c.self.inside in
+    let is = plus_met c.args.message q (record { done = q.done; waiting = q.waiting; antis = c.remove.new.self }) c.self.invariant (sym c.remove.ensures.answer ∙ c.if-remove.true) refl refl c.remove.ensures.removed in
+    is ∙ ap (arrived (plus c.args.message)) c.self.view_is
 
-pub overflow_add-back : goal.overflow_add-back
-overflow_add-back c = omega (arith, after-le c.args.message c.self.inside.done.items)
+pub invariant_of-self-in_err-add : goal.invariant_of-self-in_err-add
+invariant_of-self-in_err-add c =
+    let kept = not_taken c.args.message c.self.inside.antis c.remove.new.self (sym c.remove.ensures.answer ∙ c.if-remove.false) c.remove.ensures.removed in
+    subst IsInOrder (same_queue (queue_of c.self.inside) _ refl (sym c.in_err-add.ensures.unchanged) (sym kept)) c.self.invariant
+
+pub returns-in_err-add-clause-unchanged : goal.returns-in_err-add-clause-unchanged
+returns-in_err-add-clause-unchanged c =
+    let kept = not_taken c.args.message c.self.inside.antis c.remove.new.self (sym c.remove.ensures.answer ∙ c.if-remove.false) c.remove.ensures.removed in
+    on_err c.from_residual.result (same_queue _ (queue_of c.self.inside) refl c.in_err-add.ensures.unchanged kept ∙ c.self.view_is)
 
 pub wait_again-requires-clause-there : goal.wait_again-requires-clause-there
 wait_again-requires-clause-there c = omega (arith, after-le c.args.message c.self.inside.done.items)
 
--- what waits, with what was undone before it
-undone_is : (c : goal.After-put-arg-1) → reverse c.wait_again.new.waiting.items ≡ last_of c.count_after-back.result c.self.inside.done.items ++ reverse c.self.inside.waiting.items
-undone_is c = c.wait_again.ensures.waiting ∙ ap (λ (ys : List Message). last_of c.count_after-back.result c.self.inside.done.items ++ reverse ys) c.reserve.ensures.items
+pub undo-requires : goal.undo-requires
+undo-requires c = omega (arith, after-le c.args.message c.self.inside.done.items)
 
-pub put-requires-clause-ascending : goal.put-requires-clause-ascending
-put-requires-clause-ascending c = subst IsAscending (sym (undone_is c)) (undone_ascending c.count_after-back.result (queue_of c.self.inside) c.self.invariant)
-
-stayed_is : (c : goal.After-put) → queue_of (record { done = c.wait_again.new.done; waiting = c.put.new.bag; antis = c.self.inside.antis }) ≡ arrived (plus c.args.message) (queue_of c.self.inside)
-stayed_is c =
-    let alone : is_among c.args.message (reverse c.self.inside.antis.items) ≡ false = rw c.as_slice.ensures.value at c.in_default.ensures in
-    let many : c.count_after-back.result ≡ after c.args.message c.self.inside.done.items = c.count_after-back.ensures in
-    plus_stayed c.args.message (queue_of c.self.inside) (queue_of (record { done = c.wait_again.new.done; waiting = c.put.new.bag; antis = c.self.inside.antis })) c.self.invariant
-    c.count_after-back.result (reverse c.wait_again.new.waiting.items) alone many c.wait_again.ensures.done (undone_is c.before) c.put.ensures refl
+pub wait_again-requires-clause-ascending : goal.wait_again-requires-clause-ascending
+wait_again-requires-clause-ascending c = subst IsAscending (sym c.in_ok-add.ensures.added) (IsAscending-add c.args.message c.self.inside.waiting c.self.invariant.waiting)
 
 pub invariant_of-self-2 : goal.invariant_of-self-2
-invariant_of-self-2 c = subst IsInOrder (sym (stayed_is c)) (queues_stay_in_order (plus c.args.message) (queue_of c.self.inside) c.self.invariant)
+invariant_of-self-2 c =
+    let q = queue_of c.self.inside in
+    let alone : is_among c.args.message q.antis ≡ false = sym c.remove.ensures.answer ∙ c.if-remove.false in
+    let kept = not_taken c.args.message q.antis c.remove.new.self alone c.remove.ensures.removed in
+    let waits = at_ok c.wait_again.result c.wait_again.ensures.waits (sym c.is_err.ensures.value ∙ c.if-is_err.false) in
+    let is =
+    plus_stayed c.args.message q (queue_of (record { done = c.undo.new.done; waiting = c.wait_again.new.waiting; antis = c.remove.new.self })) c.self.invariant c.count_after-back.result alone c.count_after-back.ensures c.undo.ensures
+    (waits ∙ ap (add_all (last_of c.count_after-back.result q.done)) c.in_ok-add.ensures.added) kept in
+    subst IsInOrder (sym is) (queues_stay_in_order (plus c.args.message) q c.self.invariant)
 
 pub returns-clause-arrived : goal.returns-clause-arrived
-returns-clause-arrived c = stayed_is c ∙ ap (arrived (plus c.args.message)) c.self.view_is
+returns-clause-arrived c =
+    let q = queue_of c.self.inside in
+    let alone : is_among c.args.message q.antis ≡ false = sym c.remove.ensures.answer ∙ c.if-remove.false in
+    let kept = not_taken c.args.message q.antis c.remove.new.self alone c.remove.ensures.removed in
+    let waits = at_ok c.wait_again.result c.wait_again.ensures.waits (sym c.is_err.ensures.value ∙ c.if-is_err.false) in
+    let is =
+    plus_stayed c.args.message q (queue_of (record { done = c.undo.new.done; waiting = c.wait_again.new.waiting; antis = c.remove.new.self })) c.self.invariant c.count_after-back.result alone c.count_after-back.ensures c.undo.ensures
+    (waits ∙ ap (add_all (last_of c.count_after-back.result q.done)) c.in_ok-add.ensures.added) kept in
+    is ∙ ap (arrived (plus c.args.message)) c.self.view_is
+
+pub invariant_of-self-then-is_err : goal.invariant_of-self-then-is_err
+invariant_of-self-then-is_err c =
+    let m = c.args.message in
+    let q = queue_of c.self.inside in
+    let kept = not_taken m q.antis c.remove.new.self (sym c.remove.ensures.answer ∙ c.if-remove.false) c.remove.ensures.removed in
+    let back : c.wait_again.new.waiting ≡ c.add.new.self = at_err c.wait_again.result c.wait_again.ensures.unchanged (sym c.is_err.ensures.value ∙ c.if-is_err.true) in
+    let out : c.remove-then-is_err.new.self ≡ q.waiting = c.remove-then-is_err.ensures.removed ∙ (ap (remove_one m) (back ∙ c.in_ok-add.ensures.added) ∙ put_one_back m q.waiting c.self.invariant.waiting) in
+    subst IsInOrder (same_queue q _ refl (sym out) (sym kept)) c.self.invariant
+
+pub returns-then-is_err-clause-unchanged : goal.returns-then-is_err-clause-unchanged
+returns-then-is_err-clause-unchanged c =
+    let m = c.args.message in
+    let q = queue_of c.self.inside in
+    let kept = not_taken m q.antis c.remove.new.self (sym c.remove.ensures.answer ∙ c.if-remove.false) c.remove.ensures.removed in
+    let back : c.wait_again.new.waiting ≡ c.add.new.self = at_err c.wait_again.result c.wait_again.ensures.unchanged (sym c.is_err.ensures.value ∙ c.if-is_err.true) in
+    let out : c.remove-then-is_err.new.self ≡ q.waiting = c.remove-then-is_err.ensures.removed ∙ (ap (remove_one m) (back ∙ c.in_ok-add.ensures.added) ∙ put_one_back m q.waiting c.self.invariant.waiting) in
+    same_queue _ q refl out kept ∙ c.self.view_is

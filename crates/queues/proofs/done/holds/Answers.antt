@@ -2,7 +2,7 @@ use Rattle.std.proofs.Common.{◌≡◌, ◌-◌, ℕ, ap, arith, get_or, length
 use Rattle.std.specs.Prelude.{nat_lt}
 use Rattle.queues.proofs.Halves.{holds_is, holds_not}
 use Rattle.queues.proofs.Places.{after-le}
-use Rattle.queues.proofs.bag.holds.Goals as goal
+use Rattle.queues.proofs.done.holds.Goals as goal
 
 pub overflow_sub-kept : goal.overflow_sub-kept
 overflow_sub-kept c = omega (arith, after-le c.args.message.now c.args.ascending.now.items)

@@ -1,6 +1,6 @@
 use Rattle.std.proofs.Common.{◌∙◌, arith, sym}
 use Rattle.queues.proofs.Releases.{drop_next}
-use Rattle.queues.proofs.bag.let_go.Goals as goal
+use Rattle.queues.proofs.done.let_go.Goals as goal
 
 pub loop-preserved : goal.loop-preserved
 loop-preserved c =

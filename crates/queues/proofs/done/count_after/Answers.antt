@@ -2,7 +2,7 @@ use Rattle.std.proofs.Common.{◌≡◌, length, rules, of_calls, arith, not}
 use Rattle.std.proofs.lemmas.Fn.{always_returns_same}
 use Rattle.eventkey.specs.Message.{Message, is_before}
 use Rattle.queues.proofs.Halves.{after_is, kept_parted}
-use Rattle.queues.proofs.bag.count_after.Goals as goal
+use Rattle.queues.proofs.done.count_after.Goals as goal
 
 pub returns : goal.returns
 returns c =

@@ -1,6 +1,6 @@
 use Rattle.std.proofs.Common.{◌≡◌, ◌+◌, drop}
 use Rattle.std.specs.VecDeque.{deque_len}
-use Rattle.queues.proofs.bag.let_go.Given as goal
+use Rattle.queues.proofs.done.let_go.Given as goal
 
 abbrev pub invariant-loop : goal.invariant-loop
 invariant-loop l = record {

@@ -1,0 +1,6 @@
+use Rattle.std.proofs.Common.{◌≡◌, drop, take}
+use Rattle.eventkey.specs.Bag.{remove_all}
+use Rattle.queues.proofs.done.take_out.Given as goal
+
+abbrev pub invariant-loop-offset : goal.invariant-loop-offset
+invariant-loop-offset l = l.waiting ≡ remove_all (take l.offset (drop l.first l.done.items)) l.fn.waiting

@@ -1,0 +1,11 @@
+-- How the code keeps a bag: by buckets, and how many messages they have.
+use Rattle.std.specs.Prelude.{List, length, ◌≡◌}
+use Rattle.eventkey.specs.Message.{Message}
+use Rattle.queues.specs.Buckets.{IsParted, all_of}
+use Rattle.queues.specs.declared.bag.Bag.TheInside.{Inside}
+
+abbrev pub messages_of : Inside → List Message
+messages_of b = all_of b.times.entries
+
+abbrev pub IsCounted : Inside → Type 0
+IsCounted b = IsParted b.times.entries × (b.len ≡ length (all_of b.times.entries))

@@ -1,0 +1,85 @@
+// The done messages: an ascending list, searched by halves.
+
+ghost use Rattle.std.specs.Prelude.{◌≡◌, ◌≤◌, ◌+◌, not, take, drop, OnOk, OnErr};
+ghost use Rattle.std.specs.VecDeque.{deque_len};
+ghost use Rattle.eventkey.specs.Bag.{IsAscending, add_all, is_among, remove_all};
+ghost use Rattle.eventkey.specs.Message.{is_before};
+ghost use Rattle.queues.specs.Queue.{after, but_last, last_of};
+
+use crate::bag::Bag;
+use eventkey::Message;
+use std::alloc::AllocError;
+use std::collections::VecDeque;
+
+/// How many messages of an ascending list are after this one.
+pub(crate) fn count_after(ascending: &VecDeque<Message>, message: &Message) -> usize
+    requires { IsAscending ascending.now.items }
+    ensures { result ≡ after message.now ascending.now.items }
+{
+    let kept = ascending.partition_point(
+        |other: &Message| -> bool
+            ensures { result ≡ not (is_before message.entry.now other.now) }
+        { !message.is_before(other) },
+    );
+    ascending.len() - kept
+}
+
+/// Whether a message is in an ascending list.
+pub(crate) fn holds(ascending: &VecDeque<Message>, message: &Message) -> bool
+    requires { IsAscending ascending.now.items }
+    ensures { result ≡ is_among message.now ascending.now.items }
+{
+    let kept = ascending.len() - count_after(ascending, message);
+    kept > 0 && ascending[kept - 1].is_same(message)
+}
+
+/// The last `count` done messages wait again. It is refused only for want of memory, and then what was put in is taken
+/// out again.
+pub(crate) fn wait_again(
+    done: &VecDeque<Message>,
+    waiting: &mut Bag,
+    count: usize,
+) -> Result<(), AllocError>
+    requires there { count ≤ deque_len done.now }
+    requires ascending { IsAscending waiting.old }
+    ensures waits { OnOk result (waiting.new ≡ add_all (last_of count done.now.items) waiting.old) }
+    ensures unchanged { OnErr result (waiting.new ≡ waiting.old) }
+{
+    let first = done.len() - count;
+    for offset in 0..count {
+        if waiting.add(done[first + offset]).is_err() {
+            take_out(done, waiting, first, offset);
+            return Err(AllocError);
+        }
+    }
+    Ok(())
+}
+
+/// So many done messages, from this place on, wait no more. It takes no memory.
+fn take_out(done: &VecDeque<Message>, waiting: &mut Bag, first: usize, count: usize)
+    requires { first + count ≤ deque_len done.now }
+    ensures { waiting.new ≡ remove_all (take count (drop first done.now.items)) waiting.old }
+{
+    for offset in 0..count {
+        waiting.remove(&done[first + offset]);
+    }
+}
+
+/// The last `count` messages are done no more. It takes no memory.
+pub(crate) fn undo(done: &mut VecDeque<Message>, count: usize)
+    requires { count ≤ deque_len done.old }
+    ensures { done.new.items ≡ but_last count done.old.items }
+{
+    let kept = done.len() - count;
+    done.truncate(kept);
+}
+
+/// The first `count` done messages are let go. It takes no memory.
+pub(crate) fn let_go(done: &mut VecDeque<Message>, count: usize)
+    requires { count ≤ deque_len done.old }
+    ensures { done.new.items ≡ drop count done.old.items }
+{
+    for _ in 0..count {
+        done.pop_front().unwrap();
+    }
+}
