@@ -1,10 +1,13 @@
 // The commands of the program.
 
 ghost use Rattle.std.specs.IoError.{error_kind};
-ghost use Rattle.std.specs.Prelude.{◌≡◌, ◌≤◌, ◌≢◌, ◌⊎◌, ℕ, Err, [], length, map, IsErr, IsOkUnless, OnErr, OnOk};
+ghost use Rattle.std.specs.Prelude.{◌≡◌, ◌≤◌, ◌^◌, ◌≢◌, ◌⊎◌, ℕ, List, Err, [], length, map};
+ghost use Rattle.std.specs.Prelude.{IfOk, IsErr, IsOkUnless, OnErr, OnOk};
 ghost use Rattle.clap.specs.Words.{fault_of};
-ghost use Rattle.timewarp.specs.Command.{of_model, run_text, BeginsSome, PrintsBeginning, PrintsRun, PrintsSome};
-ghost use Rattle.timewarp.specs.Line.{program};
+ghost use Rattle.commands.specs.declared.fault.CommandFault.{CommandFault};
+ghost use Rattle.timewarp.specs.Command.{of_command, of_model, run_text, Begins, IsChecked, IsFormatted, IsLogged};
+ghost use Rattle.timewarp.specs.Command.{IsOutput, IsRan, IsShown, IsSomeChecked, IsWhole, PrintsBeginning, PrintsRun, PrintsSaid, Prints, BeginsSaid};
+ghost use Rattle.timewarp.specs.Line.{program, IsRanged};
 ghost use Rattle.texts.specs.ModelFile.{IsModelFile};
 ghost use Rattle.texts.specs.Writing.{Writes};
 ghost use Rattle.models.specs.declared.any_model.AnyModel.{AnyModel};
@@ -12,13 +15,20 @@ ghost use Rattle.timewarp.specs.declared.command.Fault.TheVariants.{BadModel, No
 
 use crate::line::{Line, read_line};
 use clap::error::ErrorKind as LineFault;
-use model::{World, WorldFault};
-use std::alloc::Global;
+use commands::{CommandFault, Simulated};
+use commitlog::LogFault;
+use coordinator::SessionFault;
+use disk::{FileDisk, FileFault};
+use driver::{Plan, Watch};
+use model::{Model as Modelled, World, WorldFault};
+use models::AnyModel;
+use recovery::RecoveryFault;
+use std::alloc::{AllocError, Global};
 use std::convert::AsStr;
-use std::fs;
+use std::fs::{self, File};
 use std::io::{Error as IoError, ErrorKind, Result as IoResult, Write};
 use std::rt::Files;
-use texts::{ModelFault, read_model, write_log, write_world};
+use texts::{Mistake, ModelFault, read_model, write_log, write_text, write_world};
 use thiserror::Error;
 
 /// Why a command failed. Its text is its name, and after a blank that of the fault that it carries.
@@ -27,12 +37,27 @@ pub enum Fault {
     /// The text is no model file.
     #[error("BadModel")]
     BadModel,
-    /// A file cannot be read.
+    /// A file cannot be read, or is no disk of the size that is wanted.
     #[error("File")]
     File,
     /// The plain runner refused.
     #[error("World {0}")]
     World(WorldFault),
+    /// The log of a disk is not made, or not opened.
+    #[error("Log {0}")]
+    Log(LogFault),
+    /// No world is recovered of the log.
+    #[error("Recovery {0}")]
+    Recovery(RecoveryFault),
+    /// The session of a run refused its opening or a step.
+    #[error("Session {0}")]
+    Session(SessionFault),
+    /// All rounds of a run are made, and not all is committed.
+    #[error("Rounds")]
+    Rounds,
+    /// What `check` finds to be wrong with a file that is no model file.
+    #[error("{0}")]
+    Mistake(Mistake),
     /// Memory ran out, but in no call that has a name of its own for it.
     #[error("NoMemory")]
     NoMemory,
@@ -41,22 +66,30 @@ pub enum Fault {
     Output,
 }
 
+/// Is told of a run: first at which tick it ends, and then how far it has come.
+pub trait Progress: Watch {
+    /// A run begins that ends at this tick.
+    fn begin(&mut self, end: u64);
+}
+
 /// Does what the words ask for, of which the first is the program's own name, and answers the exit status.
 ///
 /// The status is 0 where all is done, 1 where a fault is told on `err` as `timewarp: ` and its text, and 2 where the
 /// words are no command or ask for help, with `clap`'s text on `err`. What is asked for is written to `out`, which is
-/// flushed at the end.
-pub fn command<R, S, O, E>(rt: &R, words: &[S], out: &mut O, err: &mut E) -> u8
+/// flushed at the end. A run tells `progress` how far it has come.
+pub fn command<R, S, P, O, E>(rt: &R, words: &[S], progress: &mut P, out: &mut O, err: &mut E) -> u8
 where
-    R: Files + AllocGlobal,
+    R: Files<File = File> + AllocGlobal,
     S: AsStr,
+    P: Progress,
     O: Write,
     E: Write,
     ensures status { result ≤ 2 }
-    ensures printed { result ≡ 0 → PrintsSome (O.contents out.old) (O.contents out.new) }
+    ensures printed { result ≡ 0 → PrintsSaid (map S.text words.now) (O.contents out.old) (O.contents out.new) }
     ensures usage { fault_of program (map S.text words.now) ≢ [] → result ≢ 0 }
     ensures line { result ≡ 2 → fault_of program (map S.text words.now) ≢ [] }
-    ensures failed { result ≡ 1 → (out.new ≡ out.old) ⊎ BeginsSome (O.contents out.old) (O.contents out.new) }
+    ensures failed { result ≡ 1 → (out.new ≡ out.old)
+        ⊎ BeginsSaid (map S.text words.now) (O.contents out.old) (O.contents out.new) }
     ensures silent { result ≡ 2 → out.new ≡ out.old }
     ensures quiet { result ≡ 0 → err.new ≡ err.old }
 {
@@ -68,25 +101,32 @@ where
             return 2;
         }
     };
-    match run(rt, line, out) {
+    match run(rt, line, progress, out) {
         Ok(()) => 0,
         Err(fault) => tell(fault, err),
     }
 }
 
 /// What the program does with the words of its command line, or with why they could not be read. Answers the exit status.
-pub fn answer<R, O, E>(rt: &R, words: IoResult<Vec<String>>, out: &mut O, err: &mut E) -> u8
+pub fn answer<R, P, O, E>(
+    rt: &R,
+    words: IoResult<Vec<String>>,
+    progress: &mut P,
+    out: &mut O,
+    err: &mut E,
+) -> u8
 where
-    R: Files + AllocGlobal,
+    R: Files<File = File> + AllocGlobal,
+    P: Progress,
     O: Write,
     E: Write,
     ensures unread { IsErr words → result ≢ 0 }
-    ensures printed { result ≡ 0 → PrintsSome (O.contents out.old) (O.contents out.new) }
+    ensures printed { result ≡ 0 → (said : List (List ℕ)) × PrintsSaid said (O.contents out.old) (O.contents out.new) }
     ensures silent { result ≡ 2 → out.new ≡ out.old }
     ensures quiet { result ≡ 0 → err.new ≡ err.old }
 {
     match words {
-        Ok(words) => command(rt, words.as_slice(), out, err),
+        Ok(words) => command(rt, words.as_slice(), progress, out, err),
         Err(error) => refuse_words(error, err),
     }
 }
@@ -123,22 +163,155 @@ pub fn tell<E: Write>(fault: Fault, err: &mut E) -> u8
     1
 }
 
-fn run<R, O>(rt: &R, line: Line<'_>, out: &mut O) -> Result<(), Fault>
+/// Does what a line asks for.
+fn run<R, P, O>(rt: &R, line: Line<'_>, progress: &mut P, out: &mut O) -> Result<(), Fault>
+where
+    R: Files<File = File> + AllocGlobal,
+    P: Progress,
+    O: Write,
+    requires { IsRanged line }
+    ensures ok { OnOk result (Prints (IsOutput line.entry) (O.contents out.old) (O.contents out.new)) }
+    ensures err { OnErr result ((out.new ≡ out.old)
+        ⊎ Begins (IsOutput line.entry) (O.contents out.old) (O.contents out.new)) }
+{
+    match line {
+        Line::New {
+            model,
+            disk,
+            sectors,
+        } => format(rt, model, disk, sectors, out),
+        Line::Run {
+            model,
+            disk,
+            nodes,
+            batch,
+            rounds,
+        } => {
+            let plan = Plan {
+                nodes,
+                batch,
+                rounds,
+            };
+            run_on(rt, model, disk, plan, progress, out)
+        }
+        Line::Log { model, disk } => log_of(rt, model, disk, out),
+        Line::Show { model, disk } => show_of(rt, model, disk, out),
+        Line::Seq { model } => seq_of(rt, model, out),
+        Line::Check { model } => check_of(rt, model, out),
+    }
+}
+
+/// Runs the model of a file by the plain runner.
+fn seq_of<R, O>(rt: &R, model: &str, out: &mut O) -> Result<(), Fault>
 where
     R: Files + AllocGlobal,
     O: Write,
-    ensures ok { OnOk result (PrintsSome (O.contents out.old) (O.contents out.new)) }
-    ensures err { OnErr result ((out.new ≡ out.old) ⊎ BeginsSome (O.contents out.old) (O.contents out.new)) }
+    ensures ok { OnOk result (Prints IsWhole (O.contents out.old) (O.contents out.new)) }
+    ensures err { OnErr result ((out.new ≡ out.old)
+        ⊎ Begins IsWhole (O.contents out.old) (O.contents out.new)) }
 {
-    match line {
-        Line::Seq { model } => {
-            let bytes = fs::read(rt, model).map_err(unreadable)?;
-            let Ok(text) = str::from_utf8(bytes.as_slice()) else {
-                return Err(Fault::BadModel);
-            };
-            seq(rt.alloc(), text, out)
-        }
-    }
+    let bytes = fs::read(rt, model).map_err(unreadable)?;
+    let Ok(text) = str::from_utf8(bytes.as_slice()) else {
+        return Err(Fault::BadModel);
+    };
+    seq(rt.alloc(), text, out)
+}
+
+/// Says whether a file is a model file.
+fn check_of<R, O>(rt: &R, model: &str, out: &mut O) -> Result<(), Fault>
+where
+    R: Files + AllocGlobal,
+    O: Write,
+    ensures ok { OnOk result (Prints IsSomeChecked (O.contents out.old) (O.contents out.new)) }
+    ensures err { OnErr result ((out.new ≡ out.old)
+        ⊎ Begins IsSomeChecked (O.contents out.old) (O.contents out.new)) }
+{
+    let bytes = fs::read(rt, model).map_err(unreadable)?;
+    let Ok(text) = str::from_utf8(bytes.as_slice()) else {
+        return Err(Fault::Mistake(Mistake::Toml));
+    };
+    check(rt.alloc(), text, out)
+}
+
+/// Makes an empty log on a disk of so many sectors, 8 to 131,072, for the model of a file.
+fn format<R, O>(rt: &R, model: &str, disk: &str, sectors: u32, out: &mut O) -> Result<(), Fault>
+where
+    R: Files<File = File> + AllocGlobal,
+    O: Write,
+    ensures ok { OnOk result (Prints (IsFormatted sectors) (O.contents out.old) (O.contents out.new)) }
+    ensures err { OnErr result ((out.new ≡ out.old)
+        ⊎ Begins (IsFormatted sectors) (O.contents out.old) (O.contents out.new)) }
+{
+    let of = simulated(rt, model)?;
+    let mut disk = FileDisk::open(rt, rt.alloc(), disk, Some(sectors))?;
+    Ok(commands::new(rt.alloc(), &of, &mut disk, out)?)
+}
+
+/// Runs the model of a file on its disk.
+fn run_on<R, P, O>(
+    rt: &R,
+    model: &str,
+    disk: &str,
+    plan: Plan,
+    progress: &mut P,
+    out: &mut O,
+) -> Result<(), Fault>
+where
+    R: Files<File = File> + AllocGlobal,
+    P: Progress,
+    O: Write,
+    requires some { 1 ≤ plan.nodes }
+    requires few { plan.nodes ≤ 64 }
+    ensures ok { OnOk result (Prints (IsRan plan.nodes) (O.contents out.old) (O.contents out.new)) }
+    ensures err { OnErr result ((out.new ≡ out.old)
+        ⊎ Begins (IsRan plan.nodes) (O.contents out.old) (O.contents out.new)) }
+{
+    let of = simulated(rt, model)?;
+    let disk = FileDisk::open(rt, rt.alloc(), disk, None)?;
+    progress.begin(of.end);
+    Ok(commands::run(rt.alloc(), &of, disk, plan, progress, out)?)
+}
+
+/// Writes what a disk has committed of the model of a file.
+fn log_of<R, O>(rt: &R, model: &str, disk: &str, out: &mut O) -> Result<(), Fault>
+where
+    R: Files<File = File> + AllocGlobal,
+    O: Write,
+    ensures ok { OnOk result (Prints IsLogged (O.contents out.old) (O.contents out.new)) }
+    ensures err { OnErr result ((out.new ≡ out.old)
+        ⊎ Begins IsLogged (O.contents out.old) (O.contents out.new)) }
+{
+    let of = simulated(rt, model)?;
+    let disk = FileDisk::open(rt, rt.alloc(), disk, None)?;
+    Ok(commands::log(rt.alloc(), &of, disk, out)?)
+}
+
+/// Writes the world for which a disk stands, of the model of a file.
+fn show_of<R, O>(rt: &R, model: &str, disk: &str, out: &mut O) -> Result<(), Fault>
+where
+    R: Files<File = File> + AllocGlobal,
+    O: Write,
+    ensures ok { OnOk result (Prints IsShown (O.contents out.old) (O.contents out.new)) }
+    ensures err { OnErr result ((out.new ≡ out.old)
+        ⊎ Begins IsShown (O.contents out.old) (O.contents out.new)) }
+{
+    let of = simulated(rt, model)?;
+    let disk = FileDisk::open(rt, rt.alloc(), disk, None)?;
+    Ok(commands::show(rt.alloc(), &of, disk, out)?)
+}
+
+/// The model that a file describes, and its end.
+fn simulated<R: Files + AllocGlobal>(rt: &R, path: &str) -> Result<Simulated, Fault>
+    ensures file { IfOk result (λ of. (text : List ℕ) × IsModelFile text of.model of.end) }
+    ensures some { IfOk result (λ of. 1 ≤ of.end) }
+    ensures short { IfOk result (λ of. of.end ≤ 2 ^ 40) }
+{
+    let bytes = fs::read(rt, path).map_err(unreadable)?;
+    let Ok(text) = str::from_utf8(bytes.as_slice()) else {
+        return Err(Fault::BadModel);
+    };
+    let (model, end) = read_model(rt.alloc(), text)?;
+    Ok(Simulated { model, end })
 }
 
 /// Why a file could not be read.
@@ -188,6 +361,54 @@ fn write_run<O: Write>(world: World, out: &mut O) -> Result<(), Fault>
     Ok(())
 }
 
+/// Says whether a text is a model file: writes `ok`, and a line `key: value` for the model's name and each number.
+///
+/// The faults come in this order: `Mistake` where the text is no model file, or `NoMemory` where memory runs out;
+/// `Output` where the writer refuses. Before the last nothing is written.
+pub fn check<O: Write>(alloc: Global, text: &str, out: &mut O) -> Result<(), Fault>
+    ensures ok { OnOk result (Prints (IsChecked text.now) (O.contents out.old) (O.contents out.new)) }
+    ensures wrong { (mistake : Mistake) → result ≡ Err (Fault.Mistake mistake) →
+        (model : AnyModel) (end : ℕ) → ¬ IsModelFile text.now model end }
+    ensures err { OnErr result ((out.new ≡ out.old)
+        ⊎ Begins (IsChecked text.now) (O.contents out.old) (O.contents out.new)) }
+{
+    match read_model(alloc, text) {
+        Ok((model, end)) => {
+            let values = values(alloc, &model, end)?;
+            write_whole(values.as_str(), out)
+        }
+        Err(ModelFault::BadModel(mistake)) => Err(Fault::Mistake(mistake)),
+        Err(ModelFault::NoMemory) => Err(Fault::NoMemory),
+    }
+}
+
+/// Writes a text, and flushes the writer.
+fn write_whole<O: Write>(text: &str, out: &mut O) -> Result<(), Fault>
+    ensures written { Writes (O.contents out.old) (O.contents out.new) result text.now }
+    ensures fault { IsOkUnless result Output }
+{
+    write_text(text, out)?;
+    out.flush()?;
+    Ok(())
+}
+
+/// That a model file is one, and its values.
+fn values(alloc: Global, model: &AnyModel, end: u64) -> Result<String, AllocError> {
+    let (name, keys) = match model {
+        AnyModel::TokenRing(_) => ("ring", ["hold", "tokens"].as_slice()),
+        AnyModel::Phold(_) => ("phold", ["population", "spread", "seed"].as_slice()),
+        AnyModel::JobShop(_) => ("jobshop", ["jobs", "service", "seed"].as_slice()),
+    };
+    let lps = model.lps();
+    let numbers = model.identity(alloc);
+    let mut text = format!(in alloc; "ok\nmodel: {name}\nlps: {lps}\nend: {end}\n")?;
+    // The first word of an identity is the kind of the model.
+    for (key, number) in keys.iter().zip(numbers.as_slice().iter().skip(1)) {
+        text.push_str(format!(in alloc; "{key}: {number}\n")?.as_str())?;
+    }
+    Ok(text)
+}
+
 impl From<ModelFault> for Fault {
     ghost from_gives = { λ fault e. e ≡ of_model fault };
 
@@ -213,5 +434,42 @@ impl From<WorldFault> for Fault {
 
     fn from(fault: WorldFault) -> Fault {
         Fault::World(fault)
+    }
+}
+
+impl From<CommandFault> for Fault {
+    ghost from_gives = { λ fault e. e ≡ of_command fault };
+
+    fn from(fault: CommandFault) -> Fault {
+        match fault {
+            CommandFault::NoMemory => Fault::NoMemory,
+            CommandFault::Log(fault) => Fault::Log(fault),
+            CommandFault::Recovery(fault) => Fault::Recovery(fault),
+            CommandFault::Session(fault) => Fault::Session(fault),
+            CommandFault::Rounds => Fault::Rounds,
+            CommandFault::Output => Fault::Output,
+        }
+    }
+}
+
+impl From<FileFault> for Fault {
+    ghost use Rattle.timewarp.specs.Command.{of_file};
+
+    ghost from_gives = { λ fault e. e ≡ of_file fault };
+
+    fn from(fault: FileFault) -> Fault {
+        match fault {
+            FileFault::File => Fault::File,
+            FileFault::NoMemory => Fault::NoMemory,
+        }
+    }
+}
+
+/// Where memory is refused for a text that is written.
+impl From<AllocError> for Fault {
+    ghost from_gives = { λ _ e. e ≡ NoMemory };
+
+    fn from(_refused: AllocError) -> Fault {
+        Fault::NoMemory
     }
 }

@@ -1,20 +1,63 @@
 // Reading the command line.
 
-ghost use Rattle.std.specs.Prelude.{◌≡◌, map, false, true, IfOk};
-ghost use Rattle.clap.specs.Words.{app_of, fault_of, FailsBy};
+ghost use Rattle.std.specs.Prelude.{◌≡◌, ◌⊎◌, ◌≤◌, ◌∷◌, [], map, false, true, IfOk, codes};
+ghost use Rattle.clap.specs.Words.{app_of, fault_of, found_of, rows_of, rule_of, FailsBy};
 ghost use Rattle.clap.specs.declared.builder.command.Command.TheViews.{out-Command as fields_of};
-ghost use Rattle.timewarp.specs.Line.{program, seq_command, Says};
+ghost use Rattle.timewarp.specs.Line.{is_named, new_command, number_in, number_option, on_disk, on_model};
+ghost use Rattle.timewarp.specs.Line.{path_argument, program, run_command, text_in, IsRanged, Says, SaysRows};
 
-use clap::{Arg, Command, Error};
+use clap::builder::ValueParser;
+use clap::{Arg, ArgMatches, Command, Error};
 use std::alloc::{AllocError, Global};
 use std::convert::AsStr;
 
 /// What a command line asks for.
 #[derive(Clone, Copy, Debug, PartialEq, Eq)]
 pub enum Line<'a> {
+    /// Make an empty log on a disk.
+    New {
+        /// The path of the model file.
+        model: &'a str,
+        /// The path of the disk's file.
+        disk: &'a str,
+        /// How many sectors the disk has, 8 to 131,072.
+        sectors: u32,
+    },
+    /// Run a model on its disk.
+    Run {
+        /// The path of the model file.
+        model: &'a str,
+        /// The path of the disk's file.
+        disk: &'a str,
+        /// How many nodes there are, 1 to 64.
+        nodes: u32,
+        /// How many messages a node may handle at a turn, at least 1.
+        batch: u32,
+        /// How many rounds are made at most, at least 1.
+        rounds: u32,
+    },
+    /// Print the committed events of a disk.
+    Log {
+        /// The path of the model file.
+        model: &'a str,
+        /// The path of the disk's file.
+        disk: &'a str,
+    },
+    /// Print the committed world of a disk.
+    Show {
+        /// The path of the model file.
+        model: &'a str,
+        /// The path of the disk's file.
+        disk: &'a str,
+    },
     /// Run a model by the plain runner.
     Seq {
         /// The path of the model file.
+        model: &'a str,
+    },
+    /// Say whether a file is a model file.
+    Check {
+        /// The path of the file.
         model: &'a str,
     },
 }
@@ -25,14 +68,66 @@ pub enum Line<'a> {
 /// asked for. `clap` also answers by an error where memory runs out.
 pub fn read_line<'a, S: AsStr>(alloc: Global, words: &'a [S]) -> Result<Line<'a>, Error>
     ensures ok { IfOk result (Says (map S.text words.entry.now)) }
+    ensures ranged { IfOk result IsRanged }
     ensures refused { FailsBy (fault_of program (map S.text words.entry.now)) result }
 {
     let matches = program(alloc)?.try_get_matches_from(words)?;
     match matches.subcommand() {
-        Some((_, seq)) => Ok(Line::Seq {
-            model: seq.get_str("MODEL").unwrap_or(""),
-        }),
+        Some((name, values)) => Ok(line_of(name, values)),
         None => unreachable!(),
+    }
+}
+
+/// What the values of a command ask for.
+fn line_of<'a>(name: &str, values: &ArgMatches<'a>) -> Line<'a>
+    requires { is_named name.now }
+    ensures says { SaysRows result name.now (rows_of (found_of values.now)) }
+    ensures ranged { IsRanged result }
+{
+    let model = text(values, "MODEL");
+    match name {
+        "new" => Line::New {
+            model,
+            disk: text(values, "DISK"),
+            sectors: number(values, "sectors", 8, 131_072),
+        },
+        "run" => Line::Run {
+            model,
+            disk: text(values, "DISK"),
+            nodes: number(values, "nodes", 1, 64),
+            batch: number(values, "batch", 1, u32::MAX),
+            rounds: number(values, "rounds", 1, u32::MAX),
+        },
+        "log" => Line::Log {
+            model,
+            disk: text(values, "DISK"),
+        },
+        "show" => Line::Show {
+            model,
+            disk: text(values, "DISK"),
+        },
+        "seq" => Line::Seq { model },
+        _ => Line::Check { model },
+    }
+}
+
+/// The text of a required argument.
+fn text<'a>(values: &ArgMatches<'a>, id: &str) -> &'a str
+    ensures { result.now ≡ text_in id.now (rows_of (found_of values.now)) }
+{
+    values.get_str(id).unwrap_or("")
+}
+
+/// The number of an option that takes one from `least` to `most`.
+fn number(values: &ArgMatches<'_>, id: &str, least: u32, most: u32) -> u32
+    requires { least ≤ most }
+    ensures value { result ≡ number_in id.now least most (rows_of (found_of values.now)) }
+    ensures least { least ≤ result }
+    ensures most { result ≤ most }
+{
+    match values.get_one::<u32>(id) {
+        Some(number) if least <= number && number <= most => number,
+        _ => least,
     }
 }
 
@@ -50,11 +145,18 @@ fn program<'a>(alloc: Global) -> Result<Command<'a>, AllocError>
         .subcommand_required(true)
         .arg_required_else_help(true)
         .disable_help_subcommand(true)
-        .subcommand(seq(alloc)?)
+        .subcommand(new(alloc)?)?
+        .subcommand(run(alloc)?)?
+        .subcommand(on_disk(alloc, "log", LOG_ABOUT, LOG_HELP)?)?
+        .subcommand(on_disk(alloc, "show", SHOW_ABOUT, SHOW_HELP)?)?
+        .subcommand(on_model(alloc, "seq", SEQ_ABOUT, SEQ_HELP)?)?
+        .subcommand(on_model(alloc, "check", CHECK_ABOUT, CHECK_HELP)?)
 }
 
 const PROGRAM_HELP: &str = "\
 Virtual times are whole ticks. Models are described by TOML files, as examples/ring.toml.
+A disk is a file, which 'new' makes. A run that is killed goes on from its last commit when
+'run' is called again, with any number of nodes.
 
 Exit status:
   0  done
@@ -62,29 +164,83 @@ Exit status:
   2  a mistake in the command line, or help
 
 Faults:
-  BadModel   the file is no model file ('timewarp seq --help' has its keys)
-  File       a file cannot be read
-  World ..   the simulation stops: NoMemory, or NumberLimit past 2^63 messages of one process
-  NoMemory   memory ran out elsewhere
-  Output     standard output refused a write";
+  BadModel     the file is no model file ('timewarp check' tells why)
+  File         a file cannot be read, or is no disk, or one of another size
+  Log ..       the disk: NotBlank (it has a log), NotFormatted, Corrupt, Disk ..
+  Recovery ..  the disk is of another simulation (OtherModel), or is damaged
+  Session ..   a run stops: Full (the disk has no room), Recovery .., Disk, NoMemory
+  Rounds       all rounds of a run are made, and it is not at its end
+  World ..     'seq' stops: NoMemory, or NumberLimit past 2^63 messages of one process
+  NoMemory     memory ran out elsewhere
+  Output       standard output refused a write";
 
-/// The command `seq`.
-fn seq<'a>(alloc: Global) -> Result<Command<'a>, AllocError>
-    ensures app { IfOk result (λ c. app_of c ≡ seq_command) }
+/// The command `new`.
+fn new<'a>(alloc: Global) -> Result<Command<'a>, AllocError>
+    ensures app { IfOk result (λ c. app_of c ≡ new_command) }
     ensures plain { IfOk result (λ c. (fields_of c).has_globals ≡ false) }
 {
-    let model = Arg::new(alloc, "MODEL").required(true).help(
-        "The model file: TOML with exactly the keys of its model (see below)",
+    let sectors = number_option(alloc, "sectors", "4096", 8, 131_072).help(
+        "How many sectors of 512 bytes the disk has, 8 to 131072",
     );
-    Command::new(alloc, "seq")
-        .about(
-            "Runs a model to its end, one event at a time, and prints its log and its final world",
-        )
-        .after_help(MODEL_HELP)
-        .arg(model)
+    on_disk(alloc, "new", NEW_ABOUT, NEW_HELP)?.arg(sectors)
 }
 
-const MODEL_HELP: &str = "\
+const NEW_ABOUT: &str = "Makes a disk with an empty log for a model";
+
+const NEW_HELP: &str = "\
+A file that is there has to have the size that is asked for, and must not have a log.
+
+Output:
+  formatted N sectors";
+
+/// The command `run`.
+fn run<'a>(alloc: Global) -> Result<Command<'a>, AllocError>
+    ensures app { IfOk result (λ c. app_of c ≡ run_command) }
+    ensures plain { IfOk result (λ c. (fields_of c).has_globals ≡ false) }
+{
+    let nodes = number_option(alloc, "nodes", "1", 1, 64).help(
+        "How many nodes share the processes, 1 to 64",
+    );
+    let batch = number_option(alloc, "batch", "16", 1, 4_294_967_295).help(
+        "How many messages a node handles at a turn, 1 to 4294967295",
+    );
+    let rounds = number_option(alloc, "rounds", "1000000", 1, 4_294_967_295).help(
+        "After how many rounds the run stops, 1 to 4294967295",
+    );
+    on_disk(alloc, "run", RUN_ABOUT, RUN_HELP)?
+        .arg(nodes)?
+        .arg(batch)?
+        .arg(rounds)
+}
+
+const RUN_ABOUT: &str = "Runs a model on its disk, from the last commit to its end";
+
+const RUN_HELP: &str = "\
+In a round each node has its turn, and what no rollback can reach any more is committed.
+Whatever ends the run, what was committed stands on the disk, and the next run goes on there.
+
+Output:
+  node NODE ran N           messages that the node handled, those too that were undone again
+  committed TIME events N   ticks, and events in the log";
+
+const LOG_ABOUT: &str = "Prints the committed events of a disk";
+
+const LOG_HELP: &str = "\
+Output, all numbers decimal:
+  TIME FROM NUMBER TO A B   each committed event";
+
+const SHOW_ABOUT: &str = "Prints the committed world of a disk";
+
+const SHOW_HELP: &str = "\
+Output, all numbers decimal:
+  virtual time TIME                ticks
+  lp LP sent NUMBER state WORDS    each process
+  pending TIME FROM NUMBER TO A B  each message that is not handled";
+
+const SEQ_ABOUT: &str =
+    "Runs a model to its end, one event at a time, and prints its log and its final world";
+
+const SEQ_HELP: &str = "\
 Each model has these keys:
   model       \"ring\", \"phold\" or \"jobshop\"
   lps         processes, 1 to 1024
@@ -109,3 +265,69 @@ Output, all numbers decimal:
   virtual time TIME                ticks
   lp LP sent NUMBER state WORDS    each process
   pending TIME FROM NUMBER TO A B  each message that is not handled";
+
+const CHECK_ABOUT: &str = "Says whether a file is a model file, or what is wrong with it";
+
+const CHECK_HELP: &str = "\
+Output:
+  ok
+  KEY: VALUE   the model's name, and each of its numbers";
+
+/// A command on a model file and a disk.
+fn on_disk<'a>(
+    alloc: Global,
+    name: &'a str,
+    about: &'a str,
+    help: &'a str,
+) -> Result<Command<'a>, AllocError>
+    ensures app { IfOk result (λ c. app_of c ≡ on_disk name.entry.now) }
+    ensures plain { IfOk result (λ c. (fields_of c).has_globals ≡ false) }
+{
+    let disk = path(alloc, "DISK").help("The file of the disk");
+    on_model(alloc, name, about, help)?.arg(disk)
+}
+
+/// A command on a model file.
+fn on_model<'a>(
+    alloc: Global,
+    name: &'a str,
+    about: &'a str,
+    help: &'a str,
+) -> Result<Command<'a>, AllocError>
+    ensures app { IfOk result (λ c. app_of c ≡ on_model name.entry.now) }
+    ensures plain { IfOk result (λ c. (fields_of c).has_globals ≡ false) }
+{
+    let model = path(alloc, "MODEL").help(
+        "The model file: TOML with exactly the keys of its model (see 'seq --help')",
+    );
+    Command::new(alloc, name)
+        .about(about)
+        .after_help(help)
+        .arg(model)
+}
+
+/// A required argument, a path.
+fn path<'a>(alloc: Global, id: &'a str) -> Arg<'a>
+    ensures rule { rule_of result ≡ path_argument id.entry.now }
+    ensures local { result.global ≡ false }
+{
+    Arg::new(alloc, id).required(true)
+}
+
+/// An option whose value is a number from `least` to `most`.
+fn number_option<'a>(
+    alloc: Global,
+    name: &'a str,
+    default: &'a str,
+    least: u64,
+    most: u64,
+) -> Arg<'a>
+    ensures rule { rule_of result ≡ number_option name.entry.now least most default.entry.now }
+    ensures local { result.global ≡ false }
+{
+    Arg::new(alloc, name)
+        .long(name)
+        .value_name("N")
+        .value_parser(ValueParser::unsigned(least, most))
+        .default_value(default)
+}

@@ -3,12 +3,12 @@
 
 use crate::command::{Fault, seq};
 use crate::line::{Line, read_line};
-use crate::tests::commands::{RING, RING_TEXT, Told, run, temporary};
+use crate::tests::program::{RING, RING_TEXT, Told, run, temporary};
 use clap::error::ErrorKind;
 use model::WorldFault;
 use std::alloc::Global;
-use std::fs;
-use std::rt::Files;
+use std::fs::{self, File};
+use std::rt::{Clock, Files};
 use std::test::Fail;
 
 /// Whether the line runs `ring.toml`, or its error's kind.
@@ -51,7 +51,10 @@ fn is_short(told: &Told) -> bool {
 }
 
 /// Runs a command, and once more where it found no memory.
-fn run_again(rt: &(impl Files + AllocGlobal), words: &[&str]) -> Result<Told, Fail> {
+fn run_again<R: Files<File = File> + Clock + AllocGlobal>(
+    rt: &R,
+    words: &[&str],
+) -> Result<Told, Fail> {
     let told = run(rt, words)?;
     if is_short(&told) {
         run(rt, words)

@@ -1,13 +1,19 @@
 // The program's commands, as a user sees them.
 
 use crate::command::{Fault, command, seq, tell};
+use crate::progress::Shown;
+use commitlog::LogFault;
+use coordinator::SessionFault;
 use model::WorldFault;
+use recovery::RecoveryFault;
 use std::alloc::{AllocError, Global};
+use std::env;
+use std::fs::{self, File};
 use std::io::{Error, ErrorKind, Result, Write};
 use std::path::PathBuf;
-use std::rt::{Env, Files};
+use std::rt::{Clock, Env, Files};
 use std::test::Fail;
-use std::{env, fs};
+use texts::{Key, Mistake};
 
 pub const RING: &str = "model = \"ring\"\nlps = 3\nend = 10\nhold = 2\ntokens = 1\n";
 
@@ -24,9 +30,9 @@ lp 2 sent 1 state 1
 pending 11 1 1 2 0 5
 ";
 
-const RING_ONE: &str = "model = \"ring\"\nlps = 3\nend = 1\nhold = 2\ntokens = 1\n";
+pub const RING_ONE: &str = "model = \"ring\"\nlps = 3\nend = 1\nhold = 2\ntokens = 1\n";
 
-const RING_ONE_TEXT: &str = "\
+pub const RING_ONE_TEXT: &str = "\
 virtual time 1
 lp 0 sent 1 state 0
 lp 1 sent 0 state 0
@@ -43,15 +49,23 @@ pub struct Told {
 }
 
 /// Runs a command with two writers that need no more memory.
-pub fn run(rt: &(impl Files + AllocGlobal), words: &[&str]) -> std::result::Result<Told, Fail> {
+pub fn run<R>(rt: &R, words: &[&str]) -> std::result::Result<Told, Fail>
+where
+    R: Files<File = File> + Clock + AllocGlobal,
+{
     let mut out = Vec::with_capacity(rt.alloc(), 8192)?;
     let mut err = Vec::with_capacity(rt.alloc(), 8192)?;
-    let status = command(rt, words, &mut out, &mut err);
+    let status = command(rt, words, &mut unseen(rt), &mut out, &mut err);
     Ok(Told { status, out, err })
 }
 
+/// Shows nothing, as where there is no terminal.
+fn unseen<C: Clock>(clock: &C) -> Shown<'_, C, Vec<u8>> {
+    Shown::on(clock, None)
+}
+
 /// Runs `seq` on a file of these bytes.
-fn run_seq<R: Files + Env + AllocGlobal>(
+fn run_seq<R: Files<File = File> + Clock + Env + AllocGlobal>(
     rt: &R,
     name: &str,
     bytes: &[u8],
@@ -142,11 +156,10 @@ fn a_folder_is_no_model_file(rt: HostRuntime) -> std::result::Result<(), Fail> {
 }
 
 /// Whether a command answers status 2, prints nothing, and tells a text with this part.
-fn is_usage(
-    rt: &(impl Files + AllocGlobal),
-    words: &[&str],
-    part: &[u8],
-) -> std::result::Result<bool, Fail> {
+fn is_usage<R>(rt: &R, words: &[&str], part: &[u8]) -> std::result::Result<bool, Fail>
+where
+    R: Files<File = File> + Clock + AllocGlobal,
+{
     let told = run(rt, words)?;
     let has_part = told
         .err
@@ -163,7 +176,12 @@ fn mistakes_in_the_line_are_told(rt: HostRuntime) -> std::result::Result<(), Fai
         (["timewarp"].as_slice(), "Usage: timewarp <COMMAND>"),
         (["timewarp", "seq"].as_slice(), "<MODEL>"),
         (["timewarp", "seq", "a", "b"].as_slice(), "'b'"),
-        (["timewarp", "show", "a", "b"].as_slice(), "'show'"),
+        (["timewarp", "node", "a", "b"].as_slice(), "'node'"),
+        (["timewarp", "run", "a"].as_slice(), "<DISK>"),
+        (
+            ["timewarp", "new", "a", "b", "--sectors", "7"].as_slice(),
+            "7 is not in 8..=131072",
+        ),
         (["timewarp", "help"].as_slice(), "'help'"),
         (["timewarp", "--nodes"].as_slice(), "'--nodes'"),
         (
@@ -188,7 +206,10 @@ fn help_tells_what_is_done_in_which_units_and_ranges(
         (program.as_slice(), "Virtual times are whole ticks"),
         (program.as_slice(), "Usage: timewarp <COMMAND>"),
         (program.as_slice(), "  seq "),
-        (program.as_slice(), "  BadModel   the file is no model file"),
+        (
+            program.as_slice(),
+            "  BadModel     the file is no model file",
+        ),
         (
             program.as_slice(),
             "  2  a mistake in the command line, or help\n",
@@ -299,7 +320,7 @@ fn the_last_flush_is_made_and_told(rt: HostRuntime) -> std::result::Result<(), F
     };
     let mut err = Vec::new(rt.alloc());
     let words = ["timewarp", "seq", path];
-    let status = command(&rt, words.as_slice(), &mut out, &mut err);
+    let status = command(&rt, words.as_slice(), &mut unseen(&rt), &mut out, &mut err);
     fs::remove_file(&rt, path)?;
     assert_eq!(rt; (status, out.taken.len()), (1, RING_TEXT.len()));
     assert_eq!(rt; err.as_slice(), b"timewarp: Output\n".as_slice());
@@ -337,15 +358,14 @@ fn each_write_that_is_refused_is_told(rt: HostRuntime) -> std::result::Result<()
 
 /// Runs `seq` on this file with a writer that refuses the call number `fail`. Answers whether it refused, the status
 /// and what was told.
-fn run_refused(
-    rt: &(impl Files + AllocGlobal),
-    path: &str,
-    fail: usize,
-) -> std::result::Result<(bool, Told), Fail> {
+fn run_refused<R>(rt: &R, path: &str, fail: usize) -> std::result::Result<(bool, Told), Fail>
+where
+    R: Files<File = File> + Clock + AllocGlobal,
+{
     let mut out = Refusing::at(rt.alloc(), fail)?;
     let mut err = Vec::with_capacity(rt.alloc(), 512)?;
     let words = ["timewarp", "seq", path];
-    let status = command(rt, words.as_slice(), &mut out, &mut err);
+    let status = command(rt, words.as_slice(), &mut unseen(rt), &mut out, &mut err);
     let told = Told {
         status,
         out: out.taken,
@@ -395,10 +415,19 @@ fn a_refused_message_changes_no_status(rt: HostRuntime) -> std::result::Result<(
     let mut out = Vec::new(rt.alloc());
     let mut err = Refusing::at(rt.alloc(), 0)?;
     let words = ["timewarp", "seq", "timewarp-missing.toml"];
-    assert_eq!(rt; command(&rt, words.as_slice(), &mut out, &mut err), 1);
+    assert_eq!(rt;
+        command(&rt, words.as_slice(), &mut unseen(&rt), &mut out, &mut err,),
+        1
+    );
     let mut err = Refusing::at(rt.alloc(), 0)?;
     assert_eq!(rt;
-        command(&rt, ["timewarp", "run"].as_slice(), &mut out, &mut err),
+        command(
+            &rt,
+            ["timewarp", "run"].as_slice(),
+            &mut unseen(&rt),
+            &mut out,
+            &mut err
+        ),
         2
     );
     assert_eq!(rt; out.len(), 0);
@@ -417,6 +446,20 @@ fn faults_are_told_by_their_names(rt: HostRuntime) {
         (
             Fault::World(WorldFault::NoMemory),
             "timewarp: World NoMemory\n",
+        ),
+        (Fault::Log(LogFault::NotBlank), "timewarp: Log NotBlank\n"),
+        (
+            Fault::Recovery(RecoveryFault::OtherModel),
+            "timewarp: Recovery OtherModel\n",
+        ),
+        (
+            Fault::Session(SessionFault::Full),
+            "timewarp: Session Full\n",
+        ),
+        (Fault::Rounds, "timewarp: Rounds\n"),
+        (
+            Fault::Mistake(Mistake::Missing(Key::Hold)),
+            "timewarp: hold: missing\n",
         ),
         (Fault::NoMemory, "timewarp: NoMemory\n"),
         (Fault::Output, "timewarp: Output\n"),
