@@ -1,0 +1,23 @@
+-- Ports that all stand where one does, before anything is loaded through them.
+use Rattle.std.proofs.Common.{◌≡◌, ◌≤◌, ◌<◌, ℕ, List, ap, arith, length, true, ◌∙◌}
+use Rattle.std.specs.Prelude.{replicate}
+use Rattle.std.proofs.lemmas.List.{get_or-replicate, length-replicate}
+use Rattle.coordinator.specs.Opening.{AllFresh, AllTell}
+use Rattle.coordinator.specs.Session.{no_port, port_at}
+use Rattle.model.specs.Meaning.{Meaning}
+use Rattle.loopback.specs.Loop.{state_of}
+use Rattle.loopback.specs.declared.port.Held.TheVariants.{Fresh}
+use Rattle.wire.specs.Port.{PortState}
+
+module _ (m : Meaning) (nodes : ℕ) (ports : List PortState) (is : ports ≡ replicate nodes (state_of m Fresh)) where
+  pub so_many : length ports ≡ nodes
+  so_many = ap length is ∙ length-replicate nodes (state_of m Fresh)
+
+  each_is : (k : ℕ) → k < length ports → port_at ports k ≡ state_of m Fresh
+  each_is k l = ap (λ (ps : List PortState). port_at ps k) is ∙ get_or-replicate nodes k (state_of m Fresh) no_port (omega (arith, so_many, l))
+
+  pub all_fresh : AllFresh ports
+  all_fresh k l = ap (λ (p : PortState). p.stage) (each_is k l)
+
+  pub all_tell : AllTell m ports
+  all_tell k l = (ap (λ (p : PortState). p.tells) (each_is k l), ap (λ (p : PortState). p.meaning) (each_is k l))

@@ -1,0 +1,1 @@
+-- What is said of these sessions is said by the crates below.

@@ -1,0 +1,43 @@
+// Whole sessions over nodes behind bytes.
+
+ghost use Rattle.std.specs.Prelude.{◌≡◌, ◌≤◌, ◌^◌, IfErr, IfOk, IsSome, None, length, map, take};
+ghost use Rattle.coordinator.specs.Headline.{IsResumed};
+ghost use Rattle.coordinator.specs.Steps.{move_of};
+ghost use Rattle.model.specs.World.{World};
+
+use crate::ports::loop_ports;
+use coordinator::{Resumed, Step, resume};
+use disk::SectorDisk;
+use model::Model as Simulated;
+use std::alloc::Global;
+
+/// Opens a session over 1 to 64 nodes behind bytes in memory, makes these steps, up to the first that is refused, and hands the
+/// disk back. All that a node is told and answers passes as frames.
+///
+/// The disk was formatted for this model and this end, in ticks. Where memory is refused for the ports the disk is handed
+/// back as it was.
+pub fn resume_behind_bytes<M: Simulated, D: SectorDisk + Drop>(
+    alloc: Global,
+    model: &M,
+    nodes: u32,
+    disk: D,
+    end: u64,
+    steps: &[Step],
+) -> Result<Resumed<D>, D>
+    requires some { 1 ≤ nodes }
+    requires few { nodes ≤ 64 }
+    requires begun { 1 ≤ end }
+    requires short { end ≤ 2 ^ 40 }
+
+    // The headline for one session, whatever front was told last on the disk.
+    ensures kept { IfOk result (λ left. let made = map move_of (take left.done steps.now) in (v : World) →
+        IsResumed (M.meaning model.now) end nodes made v (D.state disk) (D.state left.disk) left.time) }
+    ensures all { IfOk result (λ left. left.fault ≡ None →
+        (left.done ≡ length steps.now) × IsSome left.time) }
+    ensures refused { IfErr result (λ back. back ≡ disk) }
+{
+    match loop_ports(alloc, model, nodes) {
+        Ok(ports) => Ok(resume(alloc, model, ports, disk, end, steps)),
+        Err(_) => Err(disk),
+    }
+}
