@@ -28,35 +28,35 @@ earliest_other floor (Some x) (Some y) e f = lt-ltb y floor (let less = ltb-true
 
 -- 2. The cells below a cell. A row begins at a cell, and the next row at twice that.
 
--- so many rows further down
+-- so many levels further down
 abbrev down : ℕ → ℕ → ℕ
 down zero row = row
-down (suc rows) row = down rows (2 * row)
+down (suc levels) row = down levels (2 * row)
 
--- the cell above a cell, so many rows up
+-- the cell above a cell, so many levels up
 abbrev pub up : ℕ → ℕ → ℕ
 up zero k = k
-up (suc rows) k = up rows k / 2
+up (suc levels) k = up levels k / 2
 
-down_double : (rows row : ℕ) → down rows (2 * row) ≡ 2 * down rows row
+down_double : (levels row : ℕ) → down levels (2 * row) ≡ 2 * down levels row
 down_double zero row = refl
-down_double (suc rows) row = down_double rows (2 * row)
+down_double (suc levels) row = down_double levels (2 * row)
 
-down_one : (rows : ℕ) → down rows 1 ≡ 2 ^ rows
+down_one : (levels : ℕ) → down levels 1 ≡ 2 ^ levels
 down_one zero = refl
-down_one (suc rows) = down_double rows 1 ∙ ap (λ (n : ℕ). 2 * n) (down_one rows) ∙ sym (pow-succ' 2 rows)
+down_one (suc levels) = down_double levels 1 ∙ ap (λ (n : ℕ). 2 * n) (down_one levels) ∙ sym (pow-succ' 2 levels)
 
-down_grows : (rows row : ℕ) → row ≤ down rows row
+down_grows : (levels row : ℕ) → row ≤ down levels row
 down_grows zero row = omega arith
-down_grows (suc rows) row = let more = down_grows rows (2 * row) in omega arith
+down_grows (suc levels) row = let more = down_grows levels (2 * row) in omega arith
 
-up_from : (rows row k : ℕ) → down rows row ≤ k → row ≤ up rows k
+up_from : (levels row k : ℕ) → down levels row ≤ k → row ≤ up levels k
 up_from zero row k l = l
-up_from (suc rows) row k l = let more = up_from rows (2 * row) k l in omega arith
+up_from (suc levels) row k l = let more = up_from levels (2 * row) k l in omega arith
 
-up_before : (rows row k : ℕ) → k < 2 * down rows row → up rows k < 2 * row
+up_before : (levels row k : ℕ) → k < 2 * down levels row → up levels k < 2 * row
 up_before zero row k l = l
-up_before (suc rows) row k l = let more = up_before rows (2 * row) k l in omega arith
+up_before (suc levels) row k l = let more = up_before levels (2 * row) k l in omega arith
 
 module _ (floor width : ℕ) (cells : List Standing) where
   abbrev pub DueAt : ℕ → Bool → Type 0
@@ -64,18 +64,18 @@ module _ (floor width : ℕ) (cells : List Standing) where
 
   -- on the way down: something is due at this cell, and nothing at the leaves left of those below it
   pub record IsDescending (cell : ℕ) : Type 0 where
-    pub rows : ℕ
+    pub levels : ℕ
     pub row : ℕ
-    pub row_is : width ≡ down rows row
+    pub row_is : width ≡ down levels row
     pub some : 1 ≤ row
     pub from : row ≤ cell
     pub before : cell < 2 * row
     pub due : DueAt cell true
-    pub left : (k : ℕ) → width ≤ k → up rows k < cell → DueAt k false
+    pub left : (k : ℕ) → width ≤ k → up levels k < cell → DueAt k false
 
   pub descent_begins : ((levels : ℕ) × (width ≡ 2 ^ levels)) → DueAt 1 true → IsDescending 1
   descent_begins whole e = record {
-    rows = whole.0;
+    levels = whole.0;
     row = 1;
     row_is = whole.1 ∙ sym (down_one whole.0);
     some = omega arith;
@@ -86,31 +86,31 @@ module _ (floor width : ℕ) (cells : List Standing) where
   }
 
   -- the row of a cell that is not a leaf is not the last
-  next_row : (rows row cell : ℕ) → width ≡ down rows row → row ≤ cell → cell < width → (less : ℕ) × (rows ≡ suc less)
+  next_row : (levels row cell : ℕ) → width ≡ down levels row → row ≤ cell → cell < width → (less : ℕ) × (levels ≡ suc less)
   next_row zero row cell is from inside = absurd (omega arith)
-  next_row (suc rows) row cell is from inside = (rows, refl)
+  next_row (suc levels) row cell is from inside = (levels, refl)
 
-  last_row : (rows row cell : ℕ) → width ≡ down rows row → cell < 2 * row → width ≤ cell → rows ≡ 0
+  last_row : (levels row cell : ℕ) → width ≡ down levels row → cell < 2 * row → width ≤ cell → levels ≡ 0
   last_row zero row cell is before outside = refl
-  last_row (suc rows) row cell is before outside = absurd (let grows = down_grows rows (2 * row) in omega arith)
+  last_row (suc levels) row cell is before outside = absurd (let grows = down_grows levels (2 * row) in omega arith)
 
   -- at the end of the way down
   descent_ends : (cell : ℕ) → width ≤ cell → IsDescending cell → (k : ℕ) → width ≤ k → k < cell → DueAt k false
-  descent_ends cell outside h k l m = h.left k l (subst (λ (r : ℕ). up r k < cell) (sym (last_row h.rows h.row cell h.row_is h.before outside)) m)
+  descent_ends cell outside h k l m = h.left k l (subst (λ (r : ℕ). up r k < cell) (sym (last_row h.levels h.row cell h.row_is h.before outside)) m)
 
 module _ (floor width : ℕ) (cells : List Standing) (winners : (k : ℕ) → 1 ≤ k → k < width → HasWinner cells k) where
   won : (k : ℕ) (due : Bool) → 1 ≤ k → k < width → DueAt floor width cells k due → is_due floor (earliest (get_or cells (2 * k) absent).oldest (get_or cells (2 * k + 1) absent).oldest) ≡ due
   won k due some inside e = ap (λ (m : Standing). is_due floor m.oldest) (sym (winners k some inside)) ∙ e
 
   -- where nothing is due at a cell, nothing is due below it
-  none_below : (rows row c : ℕ) → width ≡ down rows row → 1 ≤ row → row ≤ c → c < 2 * row → DueAt floor width cells c false → (k : ℕ) → up rows k ≡ c → DueAt floor width cells k false
+  none_below : (levels row c : ℕ) → width ≡ down levels row → 1 ≤ row → row ≤ c → c < 2 * row → DueAt floor width cells c false → (k : ℕ) → up levels k ≡ c → DueAt floor width cells k false
   none_below zero row c is some from before e k same = subst (λ (j : ℕ). DueAt floor width cells j false) (sym same) e
-  none_below (suc rows) row c is some from before e k same =
-      let inside : c < width = let grows = down_grows rows (2 * row) in omega arith in
+  none_below (suc levels) row c is some from before e k same =
+      let inside : c < width = let grows = down_grows levels (2 * row) in omega arith in
       let lost = won c false (omega arith) inside e in
-      elim (cases_eq (up rows k) (2 * c)) [
-        | inl left ↦ none_below rows (2 * row) (2 * c) is (omega arith) (omega arith) (omega arith) (earliest_left floor (get_or cells (2 * c) absent).oldest (get_or cells (2 * c + 1) absent).oldest lost) k left
-        | inr other ↦ none_below rows (2 * row) (2 * c + 1) is (omega arith) (omega arith) (omega arith) (earliest_right floor (get_or cells (2 * c) absent).oldest (get_or cells (2 * c + 1) absent).oldest lost) k (omega arith)
+      elim (cases_eq (up levels k) (2 * c)) [
+        | inl left ↦ none_below levels (2 * row) (2 * c) is (omega arith) (omega arith) (omega arith) (earliest_left floor (get_or cells (2 * c) absent).oldest (get_or cells (2 * c + 1) absent).oldest lost) k left
+        | inr other ↦ none_below levels (2 * row) (2 * c + 1) is (omega arith) (omega arith) (omega arith) (earliest_right floor (get_or cells (2 * c) absent).oldest (get_or cells (2 * c + 1) absent).oldest lost) k (omega arith)
       ]
 
   pub descent_left : (cell : ℕ) → cell < width → IsDescending floor width cells cell → DueAt floor width cells (2 * cell) true → IsDescending floor width cells (2 * cell)
@@ -118,9 +118,9 @@ module _ (floor width : ℕ) (cells : List Standing) (winners : (k : ℕ) → 1 
       let some = h.some in
       let from = h.from in
       let before = h.before in
-      let next = next_row floor width cells h.rows h.row cell h.row_is h.from inside in
+      let next = next_row floor width cells h.levels h.row cell h.row_is h.from inside in
       record {
-        rows = next.0;
+        levels = next.0;
         row = 2 * h.row;
         row_is = h.row_is ∙ ap (λ (r : ℕ). down r h.row) next.1;
         some = omega arith;
@@ -135,10 +135,10 @@ module _ (floor width : ℕ) (cells : List Standing) (winners : (k : ℕ) → 1 
       let some = h.some in
       let from = h.from in
       let before = h.before in
-      let next = next_row floor width cells h.rows h.row cell h.row_is h.from inside in
+      let next = next_row floor width cells h.levels h.row cell h.row_is h.from inside in
       let down_is : width ≡ down next.0 (2 * h.row) = h.row_is ∙ ap (λ (r : ℕ). down r h.row) next.1 in
       record {
-        rows = next.0;
+        levels = next.0;
         row = 2 * h.row;
         row_is = down_is;
         some = omega arith;
