@@ -4,8 +4,10 @@ use Rattle.std.proofs.lemmas.Bool.{false≢true}
 use Rattle.std.specs.Prelude.{◌≡◌, ◌<◌, ◌≤◌, ◌+◌, ◌++◌, ℕ, List, Option, Result, Ok, Err, IsErr, drop, flat_map, length}
 use Rattle.commands.specs.Commands.{node_text}
 use Rattle.model.specs.World.{below}
-use Rattle.texts.proofs.Written.{began, flat_map-at, get_or-below, length-below, none_left}
-use Rattle.texts.specs.Writing.{Writes}
+use Rattle.eventkey.proofs.Writers.{began}
+use Rattle.model.proofs.Worlds.{get_or-below, length-below}
+use Rattle.texts.proofs.Written.{flat_map-at, none_left}
+use Rattle.eventkey.specs.Writing.{Writes}
 
 -- nothing more was to be written where it failed
 pub writes_last : {T E U F : Type 0} {s : Result T E} {old new : Option (List ℕ)} {text : List ℕ} {x : E} (r : Result U F) → Writes old new s text → s ≡ Err x → IsErr r → Writes old new r text

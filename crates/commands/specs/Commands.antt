@@ -8,7 +8,7 @@ use Rattle.driver.specs.declared.rounds.RunFault.TheVariants as run
 use Rattle.model.specs.Meaning.{Meaning}
 use Rattle.model.specs.World.{IsUpto, World, below}
 use Rattle.recovery.specs.Stands.{Stands}
-use Rattle.texts.specs.Writing.{TakesBeginning}
+use Rattle.eventkey.specs.Writing.{TakesBeginning}
 
 -- 1. Texts
 
@@ -17,7 +17,8 @@ formatted_text sectors = codes "formatted " ++ decimal sectors ++ codes " sector
 
 -- a node: how many messages it handled
 abbrev pub node_text : List ℕ → ℕ → List ℕ
-node_text ran node = codes "node " ++ decimal node ++ (codes " ran " ++ decimal (get_or ran node 0)) ++ codes "\n"
+node_text ran node =
+    codes "node " ++ decimal node ++ (codes " ran " ++ decimal (get_or ran node 0)) ++ codes "\n"
 
 -- each node, and the time before which so many events are committed
 abbrev pub ran_text : List ℕ → ℕ → ℕ → List ℕ
@@ -27,8 +28,8 @@ ran_text ran time events =
 
 -- 2. What is printed
 
--- the writer has taken this text of the world for which the image stands: the sequential simulation up
--- to its time
+-- the writer has taken this text of the world for which the image stands: the sequential simulation
+-- up to its time
 pub record PrintsCommitted (m : Meaning) (end : ℕ) (image : List (List ℕ)) (text : World → List ℕ)
     (old new : Option (List ℕ)) : Type 0 where
   pub world : World
@@ -46,7 +47,8 @@ pub record BeginsCommitted (m : Meaning) (end : ℕ) (image : List (List ℕ)) (
   pub within : world.time ≤ end
   pub part : TakesBeginning old new (text world)
 
--- it has taken what so many nodes handled, and how many events the sequential simulation up to the end has
+-- it has taken what so many nodes handled, and how many events the sequential simulation up to the
+-- end has
 pub record PrintsRan (m : Meaning) (end nodes : ℕ) (old new : Option (List ℕ)) : Type 0 where
   pub ran : List ℕ
   pub world : World

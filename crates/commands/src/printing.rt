@@ -4,7 +4,7 @@ ghost use Rattle.std.specs.Prelude.{◌++◌, codes, decimal, flat_map, length, 
 ghost use Rattle.commands.specs.Commands.{formatted_text, node_text, ran_text};
 ghost use Rattle.commands.specs.declared.fault.CommandFault.TheVariants.{Output};
 ghost use Rattle.model.specs.World.{below};
-ghost use Rattle.texts.specs.Writing.{Writes};
+ghost use Rattle.eventkey.specs.Writing.{Writes};
 
 use crate::CommandFault;
 use std::io::{Result as IoResult, Write};

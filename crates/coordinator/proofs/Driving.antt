@@ -1,5 +1,5 @@
 -- Lists of steps, one after another.
-use Rattle.std.proofs.Common.{Err, List, Result, [], ◌∷◌, ◌++◌, ◌+◌, ◌<◌, Some, ap, arith, false, get_or, length, map, refl, suc, subst, sym, take, true, zero, ℕ, ◌≡◌, ◌∙◌}
+use Rattle.std.proofs.Common.{Err, List, Result, [], ◌∷◌, ◌++◌, ◌+◌, ◌<◌, Some, ap, arith, false, get_or, length, map, refl, suc, subst, sym, take, true, ℕ, ◌≡◌, ◌∙◌}
 use Rattle.std.proofs.Math.Seq.{take-suc}
 use Rattle.std.proofs.lemmas.List.{map-append}
 use Rattle.disk.specs.Disk.{DiskState}
@@ -7,14 +7,13 @@ use Rattle.disk.specs.Laws.{followed, weaker}
 use Rattle.model.specs.Meaning.{Meaning}
 use Rattle.protocol.proofs.Runs.{moves_made_join}
 use Rattle.protocol.specs.Moves.{Move, moves_made}
-use Rattle.protocol.specs.Picture.{Picture}
 use Rattle.protocol.specs.declared.Answer.{Answer}
 use Rattle.recovery.proofs.Images.{stands_at_least_earlier}
 use Rattle.recovery.specs.Stands.{StandsAtLeast}
 use Rattle.wire.specs.Port.{PortState}
 use Rattle.coordinator.proofs.Committing.{stays}
 use Rattle.coordinator.specs.Crashes.{IsWritten, KeepsRecovery, Recovers}
-use Rattle.coordinator.specs.Drives.{Goes, StepsAreMade}
+use Rattle.coordinator.specs.Drives.{Goes}
 use Rattle.coordinator.specs.Session.{IsTold, Session, picture_of, running}
 use Rattle.coordinator.specs.Steps.{HasCause, IsMade, IsStepped, first_refusal, leaves_all, move_of}
 use Rattle.coordinator.specs.declared.SessionFault.{SessionFault}

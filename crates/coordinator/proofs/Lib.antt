@@ -9,4 +9,4 @@ mod Refusals
 mod Loading
 mod Begun
 mod Histories
-mod Resuming
+pub mod Resuming

@@ -32,7 +32,8 @@ pub record Goes {M P D : Type 0} (meaning : M → Meaning) (state : P → PortSt
       (disk old.log.disk) (disk new.log.disk)
 
 -- So many steps were made, from told to told, and the next was refused with this fault.
-pub record IsStopped (steps : List Step) (old new : Running) (spent : Bool) (stop : DriveFault) : Type 0 where
+pub record IsStopped (steps : List Step) (old new : Running) (spent : Bool)
+    (stop : DriveFault) : Type 0 where
   pub made : Running
   pub next : Step
   pub more : List Step

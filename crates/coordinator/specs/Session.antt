@@ -14,7 +14,8 @@ use Rattle.wire.specs.Port.Stage.{Fresh, Idle, Posted}
 use Rattle.protocol.specs.Sound.{IsSystem}
 use Rattle.protocol.specs.Views.{node_view}
 
--- What callers see of a session. What its model means, what its ports have of their nodes and what a crash may leave of its disk are ghosts of those values.
+-- What callers see of a session. What its model means, what its ports have of their nodes and what a
+-- crash may leave of its disk are ghosts of those values.
 pub record Session (M P D : Type 0) : Type 0 where
   pub model : M
   pub end : ℕ
@@ -35,9 +36,17 @@ pub record Running : Type 0 where
   pub ports : List PortState
 
 abbrev pub running : {M P D : Type 0} → (M → Meaning) → (P → PortState) → Session M P D → Running
-running meaning state s = record { meaning = meaning s.model; end = s.end; front = s.front; gathered = s.gathered; ledger = s.ledger; ports = map state s.ports }
+running meaning state s = record {
+  meaning = meaning s.model;
+  end = s.end;
+  front = s.front;
+  gathered = s.gathered;
+  ledger = s.ledger;
+  ports = map state s.ports;
+}
 
--- The picture of a session is nothing that it keeps: it is told by its front, its ledger, what it gathered, and the nodes behind its ports.
+-- The picture of a session is nothing that it keeps: it is told by its front, its ledger, what it
+-- gathered, and the nodes behind its ports.
 abbrev pub picture_of : Running → Picture
 picture_of r = record {
   front = r.front;
@@ -53,7 +62,14 @@ abbrev pub no_port : PortState
 no_port = record {
   stage = Fresh;
   tells = false;
-  meaning = record { lps = 0; identity = []; start_state = λ lp. []; start_sends = λ lp. []; next_state = λ lp state x. []; sends = λ lp state x. [] };
+  meaning = record {
+    lps = 0;
+    identity = [];
+    start_state = λ lp. [];
+    start_sends = λ lp. [];
+    next_state = λ lp state x. [];
+    sends = λ lp state x. [];
+  };
   node = nobody;
 }
 
@@ -72,7 +88,8 @@ pub record IsFit (r : Running) : Type 0 where
   pub parcels : length r.ledger.parcels ≡ length r.ports
   pub floors : length r.ledger.floors ≡ length r.ports
   pub few : length r.ports ≤ 64
-  pub stages : (k : ℕ) → k < length r.ports → (port_at r.ports k).stage ≡ stage_by (get_or r.ledger.parcels k None)
+  pub stages : (k : ℕ) → k < length r.ports →
+      (port_at r.ports k).stage ≡ stage_by (get_or r.ledger.parcels k None)
   pub states : length r.front.states ≡ r.meaning.lps
   pub numbers : length r.front.numbers ≡ r.meaning.lps
   pub ascending : IsAscending r.front.pending

@@ -1,15 +1,12 @@
 -- What a step does, what it answers, and why it is refused.
-use Rattle.std.specs.Prelude.{Bool, IfErr, IfOk, List, None, OnOk, Option, Result, Some, Ok, Err, false, get_or, if◌then◌else◌, is_some, length, nat_lt, not, option_map, true, ℕ, ◌&&◌, ◌*◌, ◌+◌, ◌<◌, ◌^◌, ◌≡◌, ◌⊎◌, ◌≤◌}
+use Rattle.std.specs.Prelude.{Bool, IfErr, IfOk, None, OnOk, Option, Result, Some, Err, false, if◌then◌else◌, length, nat_lt, not, true, ℕ, ◌&&◌, ◌*◌, ◌+◌, ◌^◌, ◌≡◌, ◌⊎◌}
 use Rattle.gvt.specs.Ledger.{least_floor}
 use Rattle.gvt.specs.Picks.{are_distinct, can_pick}
-use Rattle.model.specs.Meaning.{Meaning}
-use Rattle.node.specs.Node.{Work, reply_of, work_here}
 use Rattle.node.specs.declared.NodeFault.TheVariants as node
-use Rattle.node.specs.declared.Parcel.{Parcel}
-use Rattle.protocol.specs.Moves.{Move, Refusal, answer_of, is_busy, move, refusal, told_before}
+use Rattle.protocol.specs.Moves.{Move, answer_of, is_busy, move, refusal, told_before}
 use Rattle.protocol.specs.Moves.Move.{Checkpoint as CheckpointMove, Commit as CommitMove, Post as PostMove, Take as TakeMove}
 use Rattle.protocol.specs.Moves.Refusal.{NumberLimit as NumberLimitRefusal}
-use Rattle.protocol.specs.Picture.{Picture, gvt, node_of, nodes_of}
+use Rattle.protocol.specs.Picture.{Picture, nodes_of}
 use Rattle.wire.specs.Port.{IsForWant}
 use Rattle.wire.specs.declared.port.PortFault.{PortFault}
 use Rattle.wire.specs.declared.port.PortFault.TheVariants.{Peer}
@@ -46,17 +43,26 @@ first_refusal end (PostMove node picks budget) p =
     else if is_busy p node then Some Busy
     else if can_pick (nodes_of p) node p.transit picks && are_distinct picks then None
     else Some NoSuchPick
-first_refusal end (TakeMove node) p = if not (nat_lt node (nodes_of p)) then Some NoSuchNode else if is_busy p node then None else Some Idle
-first_refusal end CommitMove p = if nat_lt p.front.time (next_time end p) && nat_lt (2 ^ 24) (17 + 40 * next_events end p) then Some TooLong else None
+first_refusal end (TakeMove node) p =
+    if not (nat_lt node (nodes_of p)) then Some NoSuchNode
+    else if is_busy p node then None else Some Idle
+first_refusal end CommitMove p =
+    if nat_lt p.front.time (next_time end p) && nat_lt (2 ^ 24) (17 + 40 * next_events end p)
+    then Some TooLong else None
 first_refusal end CheckpointMove p = None
 
--- A fault of a port that tells: want, or the number limit, where a handling of the parcel would pass it.
+-- A fault of a port that tells: want, or the number limit, where a handling of the parcel would
+-- pass it.
 abbrev pub IsPortFault : Move → Running → PortFault → Type 0
-IsPortFault k old fault = IsForWant fault ⊎ ((fault ≡ Peer node.NumberLimit) × (refusal old.meaning old.end k (picture_of old) ≡ Some NumberLimitRefusal))
+IsPortFault k old fault = IsForWant fault
+    ⊎ ((fault ≡ Peer node.NumberLimit)
+      × (refusal old.meaning old.end k (picture_of old) ≡ Some NumberLimitRefusal))
 
--- why a step of a session that is not spent is refused; of Full and Disk more is said where the log is
+-- why a step of a session that is not spent is refused; of Full and Disk more is said where the log
+-- is
 abbrev pub HasCause : Move → Running → SessionFault → Type 0
-HasCause k old (Port fault) = (first_refusal old.end k (picture_of old) ≡ None) × (IsTold old → IsPortFault k old fault)
+HasCause k old (Port fault) = (first_refusal old.end k (picture_of old) ≡ None)
+    × (IsTold old → IsPortFault k old fault)
 HasCause k old NoMemory = first_refusal old.end k (picture_of old) ≡ None
 HasCause k old Full = (k ≡ CommitMove) × (first_refusal old.end k (picture_of old) ≡ None)
 HasCause k old Disk = (k ≡ CommitMove) × (first_refusal old.end k (picture_of old) ≡ None)
@@ -77,12 +83,15 @@ leaves_all Spent = true
 leaves_all fault = false
 
 -- What a step of a session that is not spent does, in the picture.
-pub record IsStepped (k : Move) (old new : Running) (spent : Bool) (result : Result Answer SessionFault) : Type 0 where
+pub record IsStepped (k : Move) (old new : Running) (spent : Bool)
+    (result : Result Answer SessionFault) : Type 0 where
   pub made : IsTold old → IfOk result (λ answer. IsMade k old new answer)
-  pub refused : (fault : SessionFault) → first_refusal old.end k (picture_of old) ≡ Some fault → result ≡ Err fault
+  pub refused : (fault : SessionFault) →
+      first_refusal old.end k (picture_of old) ≡ Some fault → result ≡ Err fault
   pub cause : IfErr result (λ fault. HasCause k old fault)
   pub unchanged : IfErr result (λ fault. leaves_all fault ≡ true → (new ≡ old) × (spent ≡ false))
-  pub spends : IfErr result (λ fault. leaves_all fault ≡ false → (new.front ≡ old.front) × (spent ≡ true))
+  pub spends :
+      IfErr result (λ fault. leaves_all fault ≡ false → (new.front ≡ old.front) × (spent ≡ true))
   pub usable : OnOk result (spent ≡ false)
   pub meaning_is : new.meaning ≡ old.meaning
   pub end_is : new.end ≡ old.end

@@ -1,7 +1,7 @@
 -- Steps of a session, one after another.
-use Rattle.std.proofs.Common.{◌≡◌, ◌≤◌, ℕ, List, [], ◌∷◌, ◌++◌, ap, arith, subst, sym}
+use Rattle.std.proofs.Common.{◌≡◌, ◌≤◌, ℕ, [], ◌∷◌, ◌++◌, arith, subst}
 use Rattle.coordinator.proofs.Driving.{crashed, joined, none_made, one_made}
-use Rattle.coordinator.specs.Crashes.{IsWritten, KeepsRecovery, Recovers}
+use Rattle.coordinator.specs.Crashes.{IsWritten}
 use Rattle.coordinator.specs.Session.{IsTold, Session, picture_of, running}
 use Rattle.disk.specs.Disk.{DiskState}
 use Rattle.driver.specs.Driver.{IsDriven, IsFinished, KeepsStanding}

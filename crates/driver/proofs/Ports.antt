@@ -1,8 +1,8 @@
 -- Ports to nodes in this program, before anything is loaded through them.
-use Rattle.std.proofs.Common.{◌≡◌, ◌≤◌, ◌<◌, ℕ, List, ap, arith, length, sym, true, ◌∙◌}
+use Rattle.std.proofs.Common.{◌≡◌, ◌<◌, ℕ, List, ap, arith, length, ◌∙◌}
 use Rattle.std.specs.Prelude.{replicate}
 use Rattle.std.proofs.lemmas.List.{get_or-replicate, length-replicate}
-use Rattle.coordinator.specs.Opening.{AllFresh, AllTell}
+use Rattle.coordinator.specs.Opening.{AllTell}
 use Rattle.coordinator.specs.Session.{no_port, port_at}
 use Rattle.model.specs.Meaning.{Meaning}
 use Rattle.wire.specs.Local.{state_of}
@@ -15,9 +15,6 @@ module _ (m : Meaning) (nodes : ℕ) (ports : List PortState) (is : ports ≡ re
 
   each_is : (k : ℕ) → k < length ports → port_at ports k ≡ state_of m Fresh
   each_is k l = ap (λ (ps : List PortState). port_at ps k) is ∙ get_or-replicate nodes k (state_of m Fresh) no_port (omega (arith, so_many, l))
-
-  pub all_fresh : AllFresh ports
-  all_fresh k l = ap (λ (p : PortState). p.stage) (each_is k l)
 
   pub all_tell : AllTell m ports
   all_tell k l = (ap (λ (p : PortState). p.tells) (each_is k l), ap (λ (p : PortState). p.meaning) (each_is k l))

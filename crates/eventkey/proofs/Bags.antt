@@ -1,6 +1,6 @@
 -- The order of messages, and bags of them. Nothing but the first part knows the fields of a message:
 -- it shows a total order whose equals are equal, and which goes by time first.
-use Rattle.std.proofs.Common.{◌≡◌, refl, Ordering, Less, Equal, Greater, ℕ, ◌<◌, sym, nat_cmp, arith, true, false, is_eq, is_lt, ap, ◌↔◌, ◌∙◌, ◌≤◌, inl, inr, ◌⊎◌, ◌+◌, List, [], ◌∷◌, ◌++◌, subst, zero, suc, length, get_or, Contains, ap₂, flat_map, set}
+use Rattle.std.proofs.Common.{◌≡◌, refl, Ordering, Less, Equal, Greater, ℕ, ◌<◌, sym, nat_cmp, arith, true, false, is_eq, is_lt, ap, ◌↔◌, ◌∙◌, ◌≤◌, inl, inr, ◌⊎◌, ◌+◌, List, [], ◌∷◌, ◌++◌, subst, zero, suc, length, get_or, Contains, ap₂, flat_map, set, min}
 use Rattle.std.proofs.lemmas.Bool.{false≢true, true≢false, both_ways, false_from_ne_true, cases_lt, cases_Bool, cond_both}
 use Rattle.std.proofs.lemmas.Cmp.{nat_cmp_total, on_total, then_total, ranked, by_ranked, tied_itself}
 use Rattle.std.proofs.lemmas.List.Concat.{flat_map-append}
@@ -9,7 +9,7 @@ use Rattle.std.specs.Cmp.{IsTotalOrder}
 use Rattle.std.specs.List.{AllByRecursion as Every}
 use Rattle.std.specs.Ordering.{ordering_then, MatchOrdering, ordering_reverse}
 use Rattle.eventkey.specs.Laws.{MessagesAreOrdered}
-use Rattle.eventkey.specs.Bag.{IsAscending, add, add_all, copies, one_if_same, remove_all, remove_one}
+use Rattle.eventkey.specs.Bag.{IsAscending, add, add_all, copies, least_time, one_if_same, remove_all, remove_one}
 use Rattle.eventkey.specs.Message.{IsAtMost, Message, is_before, is_same, message_cmp}
 
 -- 1. The order
@@ -120,14 +120,14 @@ before_from_at_most x y z e f = elim (before_or_at_most x y) [
   | inr h ↦ rw (same_from_at_most x y e h) f
 ]
 
+pub before_from_before : (x y z : Message) → is_before x y ≡ true → IsAtMost y z → is_before x z ≡ true
+before_from_before x y z e f = elim (before_or_at_most y z) [
+  | inl h ↦ is_before_trans x y z e h
+  | inr h ↦ rw (← same_from_at_most y z f h) e
+]
+
 pub at_most_trans : (x y z : Message) → IsAtMost x y → IsAtMost y z → IsAtMost x z
-at_most_trans x y z e f = false_from_ne_true (is_before z x) (λ h. both_ways (is_before z y) f (is_before_from z x y h e))
-  where
-    is_before_from : (u v w : Message) → is_before u v ≡ true → IsAtMost v w → is_before u w ≡ true
-    is_before_from u v w g k = elim (before_or_at_most v w) [
-      | inl h ↦ is_before_trans u v w g h
-      | inr h ↦ rw (← same_from_at_most v w k h) g
-    ]
+at_most_trans x y z e f = false_from_ne_true (is_before z x) (λ h. both_ways (is_before z y) f (before_from_before z x y h e))
 
 pub at_most_total : (x y : Message) → IsAtMost x y ⊎ IsAtMost y x
 at_most_total x y = elim (before_or_at_most x y) [ inl h ↦ inl (at_most_from_before x y h) | inr h ↦ inr h ]
@@ -214,6 +214,15 @@ Contains-from_copies xs x n = Every-member (Contains xs) xs x (recursion_from_Al
 pub empty_from_copies : (xs : List Message) → ((x : Message) → copies x xs ≡ 0) → xs ≡ []
 empty_from_copies [] h = refl
 empty_from_copies (y ∷ ys) h = absurd (omega (arith, h y, one_if_same_itself y))
+
+-- the least time of two
+pub least_time-min : (a b : ℕ) (xs : List Message) → least_time (min a b) xs ≡ min a (least_time b xs)
+least_time-min a b [] = refl
+least_time-min a b (x ∷ xs) = ap (λ (t : ℕ). least_time t xs) (let e : min (min a b) x.time ≡ min a (min b x.time) = omega arith in e) ∙ least_time-min a (min b x.time) xs
+
+pub least_time-append : (t : ℕ) (xs ys : List Message) → least_time t (xs ++ ys) ≡ least_time (least_time t xs) ys
+least_time-append t [] ys = refl
+least_time-append t (x ∷ xs) ys = least_time-append (min t x.time) xs ys
 
 -- 4. Ascending lists
 

@@ -6,5 +6,6 @@ pub mod Loop
 pub mod Spellings
 pub mod Fixed
 pub mod Written
+pub mod Writers
 pub mod Readings
 pub mod Missing

@@ -1,10 +1,11 @@
 -- Lists: what holds of every element, ascending lists, signed messages.
-use Rattle.std.proofs.Common.{ℕ, zero, suc, ◌+◌, ◌<◌, List, [], ◌∷◌, ◌++◌, map, flat_map, arith, length, set, get_or, sym, subst, inl, inr, ◌≡◌, true, ◌≤◌, refl, ap, ◌∙◌, Option, Some, None, filter, Bool, ◌==◌, eqb-true, replicate}
+use Rattle.std.proofs.Common.{ℕ, zero, suc, ◌+◌, ◌<◌, List, [], ◌∷◌, ◌++◌, map, flat_map, arith, length, set, get_or, sym, subst, inl, inr, ◌≡◌, true, ◌≤◌, refl, ap, ◌∙◌, Option, Some, None, filter, Bool, ◌==◌, eqb-true, replicate, drop}
 use Rattle.std.proofs.lemmas.Bool.{cases_Bool, cond_both, both_ways}
+use Rattle.std.proofs.lemmas.List.{drop_more}
 use Rattle.std.proofs.lemmas.Option.{none-some, same_Some}
 use Rattle.std.specs.List.{AllByRecursion as Every}
 use Rattle.std.specs.Prelude.{option_map}
-use Rattle.eventkey.proofs.Bags.{Every-from_members, Every-member, copies-add, copies-append, copies-remove_one-le, is_before_trans, one_if_same_cases, same_from_at_most}
+use Rattle.eventkey.proofs.Bags.{Every-from_members, Every-member, before_from_before, copies-add, copies-append, copies-remove_one-le, one_if_same_cases, same_from_at_most}
 use Rattle.eventkey.specs.Bag.{IsAscending, add, add_all, copies, one_if_same, remove_one}
 use Rattle.eventkey.specs.Message.{IsAtMost, Message, is_before}
 use Rattle.eventkey.specs.Signed.{minus, of_sign, plus}
@@ -108,13 +109,11 @@ IsAscending-append (x ∷ xs) ys h k a = (
   IsAscending-append xs ys h.1 k (Every-weaker (λ (y : Message). Every (λ (z : Message). IsAtMost z y) (x ∷ xs)) (λ (y : Message). Every (λ (z : Message). IsAtMost z y) xs) (λ y p. p.1) ys a),
 )
 
--- 4. Those after m
+-- what stands at a place and behind it
+pub drop_here : {X : Type 0} (xs : List X) (i : ℕ) (x : X) → i < length xs → x ≡ get_or xs i x → drop i xs ≡ x ∷ drop (i + 1) xs
+drop_here xs i x l is = drop_more xs i x l ∙ ap (λ y. y ∷ drop (i + 1) xs) (sym is)
 
-before_from_before : (x y z : Message) → is_before x y ≡ true → IsAtMost y z → is_before x z ≡ true
-before_from_before x y z e k = elim (cases_Bool (is_before y z)) [
-  | inl h ↦ is_before_trans x y z e h
-  | inr h ↦ rw (← same_from_at_most y z k h) e
-]
+-- 4. Those after m
 
 -- in an ascending list all that follow one after m are after m
 pub after_head : (m x : Message) (xs : List Message) → IsAscending (x ∷ xs) → is_before m x ≡ true → Every (λ (y : Message). is_before m y ≡ true) xs

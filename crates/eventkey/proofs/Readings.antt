@@ -63,7 +63,7 @@ messages_are_spelled = (message_format.again, λ bytes x rest fits e. let got = 
 abbrev with_sign : Sign → Message × List ℕ → Option (Signed × List ℕ)
 with_sign sign x = Some (record { sign = sign; message = x.0 }, x.1)
 
-first_number : (byte : ℕ) (bytes : List ℕ) → number_at 1 (byte ∷ bytes) ≡ Some (byte, bytes)
+pub first_number : (byte : ℕ) (bytes : List ℕ) → number_at 1 (byte ∷ bytes) ≡ Some (byte, bytes)
 unfolding number_at
 first_number byte bytes =
     let long = le-ltb (length (byte ∷ bytes)) 1 (omega arith) in

@@ -1,8 +1,8 @@
 -- Steps of readers, and of what they read again.
-use Rattle.std.proofs.Common.{◌≡◌, ℕ, ◌+◌, ◌*◌, ◌^◌, ◌<◌, ◌≤◌, Bool, true, false, cond, List, [], ◌∷◌, ◌++◌, length, take, Option, Some, None, refl, sym, ap, subst, ◌∙◌, append_assoc, append-nil, arith, inl, inr, ◌⊎◌, eqb-true}
+use Rattle.std.proofs.Common.{◌≡◌, ℕ, ◌+◌, ◌^◌, ◌<◌, ◌≤◌, Bool, true, false, cond, List, [], ◌∷◌, ◌++◌, length, take, Option, Some, None, refl, sym, ap, subst, ◌∙◌, append_assoc, append-nil, arith, inl, inr, ◌⊎◌, eqb-true}
 use Rattle.std.specs.Prelude.{nat_le, nat_eq}
 use Rattle.std.specs.List.{flat_map, AllByRecursion as Every}
-use Rattle.std.proofs.lemmas.Bool.{cases_Bool, leb-true, le-leb, le-ltb}
+use Rattle.std.proofs.lemmas.Bool.{cases_Bool, leb-true, le-leb}
 use Rattle.std.proofs.lemmas.Option.{same_Some, none-some}
 use Rattle.byteorder.specs.Endian.{big_number, big_bytes}
 use Rattle.eventkey.specs.Reading.{IsBytes, ◌>>=◌, Reader, number_at, items_at}
@@ -22,13 +22,6 @@ wide1 = record { back = back; limit_is = refl }
 
 pub format1 : IsFormat (λ x. x < 256) (big_bytes 1) (number_at 1)
 format1 = number_format 1 256 wide1
-
-pub byte_at : (b : ℕ) (bytes : List ℕ) → number_at 1 (b ∷ bytes) ≡ Some (b, bytes)
-unfolding number_at
-byte_at b bytes =
-    let long = le-ltb (length (b ∷ bytes)) 1 (omega arith) in
-    let is : b * 1 + 0 ≡ b = omega arith in
-    rw long (ap (λ (n : ℕ). Some (n, bytes)) is)
 
 -- 2. A reader that begins with another one, over what was written
 

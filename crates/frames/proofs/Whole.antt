@@ -5,6 +5,7 @@ use Rattle.std.proofs.lemmas.Bool.{and_from, and_parts, leb-true, le-leb, ltb-tr
 use Rattle.std.proofs.lemmas.List.{nil_from_length}
 use Rattle.std.proofs.lemmas.Option.{cond_some, none-some}
 use Rattle.byteorder.specs.Endian.{big_bytes}
+use Rattle.eventkey.proofs.Readings.{first_number}
 use Rattle.eventkey.specs.Reading.{IsBytes, ◌>>=◌, number_at, items_at}
 use Rattle.eventkey.specs.declared.Signed.{Signed}
 use Rattle.eventkey.proofs.Fields.{Takes-then, format4, format8, step_of}
@@ -18,7 +19,7 @@ use Rattle.node.specs.declared.Reply.{Reply}
 use Rattle.process.specs.declared.Done.{Done}
 use Rattle.frames.specs.Bodies.{counted, done_at, done_bytes, fault_bytes, fault_in, fault_of, is_place, load_bytes, load_in, low_at, low_bytes, number_of, parcel_bytes, parcel_in, part_at, part_bytes, reply_bytes, reply_in}
 use Rattle.frames.specs.Ranges.{IsLoad, IsParcel, IsReply}
-use Rattle.frames.proofs.Formats.{again_last, again_step, byte_at, counted_again, counted_last, counted_step, pick, when_some, whole}
+use Rattle.frames.proofs.Formats.{again_last, again_step, counted_again, counted_last, counted_step, pick, when_some, whole}
 use Rattle.frames.proofs.Items.{Field, done_format, low_format, part_format}
 
 -- nothing is left over
@@ -226,9 +227,13 @@ no_number = refl
 fault_takes_number : (bytes : List ℕ) (f : NodeFault) → (number_at 1 bytes >>= fault_told) ≡ Some f → bytes ≡ number_of f ∷ []
 fault_takes_number [] f e = absurd (none-some f (sym (ap (λ (o : Option Field). o >>= fault_told) no_number) ∙ e))
 fault_takes_number (b ∷ rest) f e =
-    let told : fault_told (b, rest) ≡ Some f = sym (ap (λ (o : Option Field). o >>= fault_told) (byte_at b rest)) ∙ e in
+    let told : fault_told (b, rest) ≡ Some f = sym (ap (λ (o : Option Field). o >>= fault_told) (first_number b rest)) ∙ e in
     let is = when_some (nat_eq (length rest) 0) (fault_of b) f told in
     ap (λ (r : List ℕ). b ∷ r) (nil_from_length rest (eqb-true (length rest) 0 is.0)) ∙ ap (λ (n : ℕ). n ∷ []) (number_of_fault b f is.1)
+
+pub length-fault : (f : NodeFault) → length (fault_bytes f) ≡ 1
+unfolding fault_bytes
+length-fault f = refl
 
 pub fault_takes : (bytes : List ℕ) (f : NodeFault) → fault_in bytes ≡ Some f → bytes ≡ fault_bytes f
 unfolding fault_in fault_bytes
@@ -237,4 +242,4 @@ fault_takes bytes f e = fault_takes_number bytes f e
 pub fault_again : (f : NodeFault) (rest : List ℕ) → fault_in (fault_bytes f ++ rest) ≡ alone rest f
 unfolding fault_in fault_bytes
 fault_again f rest =
-    ap (λ (o : Option Field). o >>= fault_told) (byte_at (number_of f) rest) ∙ ap (λ (o : Option NodeFault). cond (nat_eq (length rest) 0) o None) (fault_of_number f)
+    ap (λ (o : Option Field). o >>= fault_told) (first_number (number_of f) rest) ∙ ap (λ (o : Option NodeFault). cond (nat_eq (length rest) 0) o None) (fault_of_number f)

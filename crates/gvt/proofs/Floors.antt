@@ -9,7 +9,8 @@ use Rattle.eventkey.specs.Message.{Message}
 use Rattle.eventkey.specs.declared.Signed.{Signed}
 use Rattle.gvt.specs.Accounts.{low_posted, lows_in, parcel_at, parcels_in, with_node, floors_in}
 use Rattle.gvt.specs.Ledger.{delivered_by, ledger_floor, least_floor, least_low}
-use Rattle.node.proofs.Lows.{first_time-append, least_time-append}
+use Rattle.eventkey.proofs.Bags.{least_time-append, least_time-min}
+use Rattle.node.proofs.Lows.{first_time-append}
 use Rattle.node.specs.Node.{earliest, first_time}
 use Rattle.gvt.specs.Times.{low_in}
 use Rattle.gvt.specs.declared.account.Account.{Account}
@@ -18,18 +19,16 @@ use Rattle.gvt.specs.declared.account.Posted.{Posted}
 abbrev messages : List Signed → List Message
 messages ss = map (λ (s : Signed). s.message) ss
 
-least_time-min : (t a : ℕ) (xs : List Message) → least_time (min t a) xs ≡ min (least_time t xs) a
-least_time-min t a [] = refl
-least_time-min t a (x ∷ xs) =
-    let swap : min (min t a) x.time ≡ min (min t x.time) a = omega arith in
-    ap (λ n. least_time n xs) swap ∙ least_time-min (min t x.time) a xs
+least_time-lesser : (t a : ℕ) (xs : List Message) → least_time (min t a) xs ≡ min (least_time t xs) a
+least_time-lesser t a xs =
+    let swap : min t a ≡ min a t = omega arith in
+    let back : min a (least_time t xs) ≡ min (least_time t xs) a = omega arith in
+    ap (λ n. least_time n xs) swap ∙ (least_time-min a t xs ∙ back)
 
 -- of some times together it is the lesser of a time and of their own least
 pub least_time_by_low : (t : ℕ) (ss : List Signed) → least_time t (messages ss) ≡ least_low t (low_in ss ∷ [])
 least_time_by_low t [] = refl
-least_time_by_low t (s ∷ ss) =
-    let swap : min t s.message.time ≡ min s.message.time t = omega arith in
-    ap (λ n. least_time n (messages ss)) swap ∙ (least_time-min s.message.time t (messages ss) ∙ omega arith)
+least_time_by_low t (s ∷ ss) = least_time-min t s.message.time (messages ss)
 
 pub low_in-append : (ss ts : List Signed) → low_in (ss ++ ts) ≡ earliest (low_in ss) (low_in ts)
 low_in-append ss ts = ap first_time (map-append (λ (s : Signed). s.message) ss ts) ∙ first_time-append (messages ss) (messages ts)
@@ -44,7 +43,7 @@ low_last : (t : ℕ) (low : Option ℕ) (lows : List (Option ℕ)) (xs ys : List
     least_low (least_time (least_time (least_low t (low ∷ [])) xs) ys) lows ≡ least_low (least_time (least_time t xs) ys) (low ∷ lows)
 low_last t None lows xs ys = refl
 low_last t (Some low) lows xs ys =
-    ap (λ n. least_low n lows) (ap (λ n. least_time n ys) (least_time-min t low xs) ∙ least_time-min (least_time t xs) low ys)
+    ap (λ n. least_low n lows) (ap (λ n. least_time n ys) (least_time-lesser t low xs) ∙ least_time-lesser (least_time t xs) low ys)
 
 nodes_floor : (t : ℕ) (accounts : List Account) →
     fold with_node t accounts ≡ least_low (least_time t (messages (flat_map delivered_by (parcels_in accounts)))) (lows_in accounts)

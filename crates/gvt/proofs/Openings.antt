@@ -1,7 +1,7 @@
 -- Accounts as they are opened.
 use Rattle.std.proofs.Common.{ℕ, ◌≡◌, List, [], ◌∷◌, map, Option, None, refl, ap, length, replicate}
 use Rattle.gvt.specs.Accounts.{floors_in, lows_in, parcels_in}
-use Rattle.gvt.specs.Ledger.{Ledger, started}
+use Rattle.gvt.specs.Ledger.{Ledger, first_ledger}
 use Rattle.gvt.specs.declared.account.Account.{Account}
 use Rattle.node.specs.declared.Parcel.{Parcel}
 
@@ -22,6 +22,6 @@ floors_opened floor (low ∷ lows) = ap (λ (fs : List ℕ). floor ∷ fs) (floo
 
 -- what a ledger of new accounts shows
 pub opened_is : (nodes end floor : ℕ) (lows : List (Option ℕ)) (accounts : List Account) → length lows ≡ nodes → accounts ≡ map (account_of floor) lows →
-    ◌≡◌ {A = Ledger} (record { end = end; transit = []; parcels = parcels_in accounts; lows = lows_in accounts; floors = floors_in accounts }) (started nodes end floor lows)
+    ◌≡◌ {A = Ledger} (record { end = end; transit = []; parcels = parcels_in accounts; lows = lows_in accounts; floors = floors_in accounts }) (first_ledger nodes end floor lows)
 opened_is nodes end floor lows accounts count are =
     rw (are, ← count, parcels_opened floor lows, lows_opened floor lows, floors_opened floor lows) refl

@@ -25,4 +25,5 @@ low_posted (Some posted) = posted.least
 
 -- a floor of some nodes, with one node more
 abbrev pub with_node : ℕ → Account → ℕ
-with_node floor account = least_low (least_low floor (account.low ∷ [])) (low_posted account.posted ∷ [])
+with_node floor account =
+    least_low (least_low floor (account.low ∷ [])) (low_posted account.posted ∷ [])

@@ -1,4 +1,5 @@
--- The ledger of a running system: what travels, what the nodes told last, and the floor that follows (global virtual time: Jefferson 1985, Fujimoto 1990).
+-- The ledger of a running system: what travels, what the nodes told last, and the floor that follows
+-- (global virtual time: Jefferson 1985, Fujimoto 1990).
 use Rattle.std.specs.Prelude.{ℕ, List, [], ◌∷◌, min, Option, Some, None, ◌++◌, map, flat_map, Bool, is_some, get_or, set, length, ◌&&◌, replicate}
 use Rattle.eventkey.specs.Bag.{least_time}
 use Rattle.eventkey.specs.declared.Signed.{Signed}
@@ -17,9 +18,12 @@ abbrev pub delivered_by : Option Parcel → List Signed
 delivered_by None = []
 delivered_by (Some parcel) = parcel.deliver
 
--- the floor: the least of the end, the times in transit, the times in outstanding parcels and the last lows of the nodes
+-- the floor: the least of the end, the times in transit, the times in outstanding parcels and the
+-- last lows of the nodes
 abbrev pub ledger_floor : ℕ → List Signed → List (Option Parcel) → List (Option ℕ) → ℕ
-ledger_floor end transit parcels lows = least_low (least_time end (map (λ (s : Signed). s.message) (transit ++ flat_map delivered_by parcels))) lows
+ledger_floor end transit parcels lows =
+    least_low
+    (least_time end (map (λ (s : Signed). s.message) (transit ++ flat_map delivered_by parcels))) lows
 
 -- the least of a time and of the floors that the nodes have answered
 abbrev pub least_floor : ℕ → List ℕ → ℕ
@@ -49,15 +53,26 @@ is_busy ledger node = is_some (outstanding ledger node)
 
 -- the picks are places of transit, no two the same, and each has a message for the node
 abbrev pub may_pick : Ledger → ℕ → List ℕ → Bool
-may_pick ledger node picks = can_pick (nodes_of ledger) node ledger.transit picks && are_distinct picks
+may_pick ledger node picks =
+    can_pick (nodes_of ledger) node ledger.transit picks && are_distinct picks
 
 -- the ledger before anything travels
-abbrev pub started : ℕ → ℕ → ℕ → List (Option ℕ) → Ledger
-started nodes end floor lows = record { end = end; transit = []; parcels = replicate nodes None; lows = lows; floors = replicate nodes floor }
+abbrev pub first_ledger : ℕ → ℕ → ℕ → List (Option ℕ) → Ledger
+first_ledger nodes end floor lows = record {
+  end = end;
+  transit = [];
+  parcels = replicate nodes None;
+  lows = lows;
+  floors = replicate nodes floor;
+}
 
 -- the parcel of these picks, with the floor that holds before it is posted
 abbrev pub parcel_of : Ledger → List ℕ → ℕ → Parcel
-parcel_of ledger picks budget = record { deliver = picked ledger.transit picks; budget = budget; floor = floor_of ledger }
+parcel_of ledger picks budget = record {
+  deliver = picked ledger.transit picks;
+  budget = budget;
+  floor = floor_of ledger;
+}
 
 -- the ledger after the node is posted that parcel
 abbrev pub after_post : Ledger → ℕ → List ℕ → ℕ → Ledger

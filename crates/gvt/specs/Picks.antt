@@ -23,9 +23,12 @@ picked transit picks = map (λ (i : ℕ). get_or transit i nothing) picks
 -- the messages at no picked place, of those from place i on
 abbrev pub not_picked : List ℕ → ℕ → List Signed → List Signed
 not_picked picks i [] = []
-not_picked picks i (s ∷ ss) = if has i picks then not_picked picks (i + 1) ss else s ∷ not_picked picks (i + 1) ss
+not_picked picks i (s ∷ ss) =
+    if has i picks then not_picked picks (i + 1) ss else s ∷ not_picked picks (i + 1) ss
 
 -- each pick is a place of transit and names a message for the node
 abbrev pub can_pick : ℕ → ℕ → List Signed → List ℕ → Bool
 can_pick nodes node transit [] = true
-can_pick nodes node transit (i ∷ is) = (nat_lt i (length transit) && sits_on nodes node (get_or transit i nothing).message.to) && can_pick nodes node transit is
+can_pick nodes node transit (i ∷ is) =
+    (nat_lt i (length transit) && sits_on nodes node (get_or transit i nothing).message.to)
+    && can_pick nodes node transit is

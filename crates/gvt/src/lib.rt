@@ -4,7 +4,7 @@
 
 ghost use Rattle.std.specs.Prelude.{◌≡◌, ◌<◌, ◌≤◌, ◌↔◌, ℕ, true, false, length, IfOk, OnOk, OnErr, IsErrOf, IsTrue, Some, None, get_or};
 ghost use Rattle.node.specs.declared.Parcel.{Parcel};
-ghost use Rattle.gvt.specs.Ledger.{Ledger, after_post, after_take, floor_of, is_busy, least_floor, may_pick, nodes_of, outstanding, parcel_of, started};
+ghost use Rattle.gvt.specs.Ledger.{Ledger, after_post, after_take, first_ledger, floor_of, is_busy, least_floor, may_pick, nodes_of, outstanding, parcel_of};
 ghost use Rattle.gvt.specs.declared.LedgerFault.TheVariants.{NoMemory};
 
 mod account;
@@ -97,7 +97,7 @@ impl Ledger {
         lows: &[Option<u64>],
     ) -> Result<Ledger, LedgerFault>
         requires { length lows.now ≡ nodes }
-        ensures ok { IfOk result (λ ledger. ledger ≡ started nodes end floor lows.now) }
+        ensures ok { IfOk result (λ ledger. ledger ≡ first_ledger nodes end floor lows.now) }
         ensures err { OnErr result (IsErrOf result LedgerFault.NoMemory) }
     {
         Ok(Ledger {

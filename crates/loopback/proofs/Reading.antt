@@ -4,7 +4,8 @@ use Rattle.node.specs.declared.Load.{Load}
 use Rattle.node.specs.declared.NodeFault.{NodeFault}
 use Rattle.node.specs.declared.Parcel.{Parcel}
 use Rattle.frames.proofs.Frames.{frames_are_read_back}
-use Rattle.frames.specs.Bodies.{body_bytes, fault_bytes, fault_in, frame_bytes, frame_in, load_in, parcel_in, reply_in, seen_as}
+use Rattle.frames.proofs.Whole.{length-fault}
+use Rattle.frames.specs.Bodies.{body_bytes, fault_in, frame_bytes, frame_in, load_in, parcel_in, reply_in, seen_as}
 use Rattle.frames.specs.Cutting.{Cut, cut, frame_cut, opened, opened_cut}
 use Rattle.frames.specs.Laws.{IsSpelled}
 use Rattle.frames.specs.Ranges.{IsInRange}
@@ -22,10 +23,6 @@ use Rattle.wire.specs.declared.port.WireFault.TheVariants.{BadBody}
 
 pub spelled_as : (bytes : List ℕ) (f : Frame) → bytes ≡ frame_bytes f → IsInRange f → length (body_bytes f) ≤ 2 ^ 24 → IsSpelled bytes f []
 spelled_as bytes f e range fits = record { spelled = e ∙ sym (append-nil (frame_bytes f)); in_range = range; fits = fits }
-
-length-fault : (n : NodeFault) → length (fault_bytes n) ≡ 1
-unfolding fault_bytes
-length-fault n = refl
 
 pub spelled_fault : (bytes : List ℕ) (n : NodeFault) → bytes ≡ frame_bytes (frame.Fault n) → IsSpelled bytes (frame.Fault n) []
 spelled_fault bytes n e = spelled_as bytes (frame.Fault n) e tt (omega (arith, length-fault n))

@@ -1,6 +1,8 @@
 -- Worlds: what each step keeps, and where steps lead.
-use Rattle.std.proofs.Common.{◌≡◌, ℕ, suc, ◌+◌, ◌-◌, List, [], ◌∷◌, refl, ap, length, ◌<◌, arith, ◌≤◌, ◌^◌, zero, length-append, flat_map, ◌∙◌, length-set, true, inl, inr, Some, None, subst, suc-add, zero-add, sym, nat_lt, nat_le, ◌++◌, append_assoc, append-nil, ap₂}
+use Rattle.std.proofs.Common.{◌≡◌, ℕ, suc, ◌+◌, ◌-◌, List, [], ◌∷◌, refl, ap, length, ◌<◌, arith, ◌≤◌, ◌^◌, zero, length-append, flat_map, ◌∙◌, length-set, true, inl, inr, Some, None, subst, suc-add, zero-add, sym, nat_lt, nat_le, ◌++◌, append_assoc, append-nil, ap₂, get_or}
 use Rattle.std.proofs.lemmas.Bool.{cases_Bool, and_parts, ltb-true, leb-true, cases_lt}
+use Rattle.std.proofs.Math.ListN.{get_or-append}
+use Rattle.std.proofs.Math.Seq.{get_or-append_seam}
 use Rattle.std.proofs.lemmas.List.{length-map}
 use Rattle.std.specs.List.{AllByRecursion as Every}
 use Rattle.eventkey.proofs.Bags.{IsAscending-add_all}
@@ -40,6 +42,15 @@ stamp_addressed lps lp t k (o ∷ os) few l early fits h = (
 pub length-below : (n : ℕ) → length (below n) ≡ n
 length-below zero = refl
 length-below (suc n) = omega (arith, length-append (below n) (n ∷ []), length-below n)
+
+pub get_or-below : (n i d : ℕ) → i < n → get_or (below n) i d ≡ i
+get_or-below zero i d l = absurd (omega arith)
+get_or-below (suc n) i d l = elim (cases_lt i n) [
+  | inl low ↦ get_or-append (below n) (n ∷ []) d i (omega (arith, length-below n)) ∙ get_or-below n i d low
+  | inr high ↦
+      let last : i ≡ length (below n) = omega (arith, length-below n) in
+      ap (λ j. get_or (below n ++ n ∷ []) j d) last ∙ get_or-append_seam (below n) n [] d ∙ omega (arith, length-below n)
+]
 
 pub Every-below : (n : ℕ) → Every (λ k. k < n) (below n)
 Every-below zero = tt

@@ -1,9 +1,9 @@
 -- One delivery at its process, and all of them, one after the other.
-use Rattle.std.proofs.Common.{◌≡◌, ℕ, ◌+◌, ◌/◌, ◌%◌, ◌<◌, ◌≤◌, true, false, List, [], ◌∷◌, ◌++◌, length, get_or, set, drop, Option, Some, None, suc, refl, sym, subst, ◌∙◌, ap, arith, cond, inl, inr}
+use Rattle.std.proofs.Common.{◌≡◌, ℕ, ◌+◌, ◌/◌, ◌%◌, ◌<◌, ◌≤◌, true, false, List, [], ◌∷◌, ◌++◌, length, get_or, set, drop, Option, Some, None, refl, sym, subst, ◌∙◌, ap, cond, inl, inr}
 use Rattle.std.specs.Prelude.{nat_lt}
 use Rattle.std.proofs.lemmas.Bool.{and_parts, cases_Bool, cond-true, cond-false, eqb-true, ltb-false, ltb-true}
-use Rattle.std.proofs.Math.Seq.{drop-cons}
 use Rattle.std.proofs.lemmas.List.{map-set}
+use Rattle.eventkey.proofs.Lists.{drop_here}
 use Rattle.eventkey.specs.Message.{Message}
 use Rattle.eventkey.specs.declared.Signed.{Signed}
 use Rattle.process.specs.Process.{Process, arrive, nobody, taken_back}
@@ -118,9 +118,6 @@ deliver_work p seats standings s lp q r out out' ran h is sent =
 
 -- All deliveries: those that are done, and those that are left
 
-pub rest_of : {X : Type 0} (xs : List X) (i : ℕ) (x : X) → i < length xs → x ≡ get_or xs i x → drop i xs ≡ x ∷ drop (i + 1) xs
-rest_of xs i x l is = drop-cons xs i x l ∙ ap (λ y. y ∷ drop (suc i) xs) (sym is) ∙ ap (λ k. x ∷ drop k xs) {x = suc i} {y = i + 1} (omega arith)
-
 abbrev pub node_at : Place → List Process → Node
 node_at p qs = record { node = p.node; nodes = p.nodes; lps = p.lps; end = p.end; floor = p.floor; spent = false; processes = qs }
 
@@ -136,10 +133,10 @@ pub deliveries_go_on : (nodes nodes' : ℕ) (ss : List Signed) (i : ℕ) (s : Si
     deliver_here nodes (drop i ss) w ≡ total → deliver_here nodes (drop (i + 1) ss) w' ≡ total
 deliveries_go_on nodes nodes' ss i s w w' total l is same one so_far =
     ap (deliver_here nodes (drop (i + 1) ss)) (one ∙ ap (λ n. deliver_one_here n s w) same)
-    ∙ sym (ap (λ (rest : List Signed). deliver_here nodes rest w) (rest_of ss i s l is))
+    ∙ sym (ap (λ (rest : List Signed). deliver_here nodes rest w) (drop_here ss i s l is))
     ∙ so_far
 
 pub still_accepted : (p p' : Place) (qs rs : List Process) (ss : List Signed) (i : ℕ) (s : Signed) → i < length ss → s ≡ get_or ss i s → p' ≡ p → first_fault (node_at p qs) (drop i ss) ≡ None → first_fault (node_at p' rs) (drop (i + 1) ss) ≡ None
 still_accepted p p' qs rs ss i s l is same h =
-    let here : first_fault (node_at p qs) (s ∷ drop (i + 1) ss) ≡ None = sym (ap (first_fault (node_at p qs)) (rest_of ss i s l is)) ∙ h in
+    let here : first_fault (node_at p qs) (s ∷ drop (i + 1) ss) ≡ None = sym (ap (first_fault (node_at p qs)) (drop_here ss i s l is)) ∙ h in
     first_fault-place p p' qs rs (drop (i + 1) ss) same (accepted (node_at p qs) s (drop (i + 1) ss) here).rest_is

@@ -14,7 +14,7 @@ use Rattle.node.specs.declared.Parcel.{Parcel}
 use Rattle.node.specs.declared.Reply.{Reply}
 
 -- what is let go waits for nothing
-waits-released : (floor : ℕ) (qs : List Process) → flat_map (λ (q : Process). q.waiting ++ q.antis) (map (λ (q : Process). release floor q) qs) ≡ flat_map (λ (q : Process). q.waiting ++ q.antis) qs
+pub waits-released : (floor : ℕ) (qs : List Process) → flat_map (λ (q : Process). q.waiting ++ q.antis) (map (λ (q : Process). release floor q) qs) ≡ flat_map (λ (q : Process). q.waiting ++ q.antis) qs
 waits-released floor [] = refl
 waits-released floor (q ∷ qs) = ap (λ (xs : List Message). (q.waiting ++ q.antis) ++ xs) (waits-released floor qs)
 

@@ -10,8 +10,7 @@ use Rattle.eventkey.specs.Message.{Message}
 use Rattle.std.proofs.Math.Seq.{set-append_seam}
 use Rattle.std.proofs.lemmas.Bool.{both_ways, cases_Bool, cases_lt, eq-eqb, eqb-true, le-ltb, ltb-false, not_from_true}
 use Rattle.std.proofs.lemmas.List.{append-nil, append_assoc, get_or-map, length-append, length-map, length-replicate, map-append}
-use Rattle.eventkey.proofs.Lists.{Every-get_or, Every-add_all, Every-right, Every-weaker}
-use Rattle.node.proofs.Deliveries.{rest_of}
+use Rattle.eventkey.proofs.Lists.{Every-add_all, Every-get_or, Every-right, Every-weaker, drop_here}
 use Rattle.node.proofs.Seats.{own_strided}
 use Rattle.process.specs.View.{ProcessView, has_early, has_foreign, loaded}
 use Rattle.node.specs.Handling.{IsLoaded, Node, is_own_load, load_answer, load_refusal, loaded_node, own_lps}
@@ -31,7 +30,7 @@ use Rattle.node.specs.declared.Part.{Part}
 
 module _ {X : Type 0} (P : X → Type 0) where
   pub every_more : (xs : List X) (i : ℕ) (x : X) → i < length xs → x ≡ get_or xs i x → P x → (Every P (drop i xs) → Every P xs) → Every P (drop (i + 1) xs) → Every P xs
-  every_more xs i x l is p so_far rest = so_far (subst (Every P) (sym (rest_of xs i x l is)) (p, rest))
+  every_more xs i x l is p so_far rest = so_far (subst (Every P) (sym (drop_here xs i x l is)) (p, rest))
 
   pub every_fails : (xs : List X) (i : ℕ) (x : X) → i < length xs → x ≡ get_or xs i x → (P x → ⊥) → Every P xs → ⊥
   every_fails xs i x l is not_here all = not_here (subst P (sym is) (Every-get_or P xs i x l all))

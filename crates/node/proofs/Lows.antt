@@ -1,7 +1,8 @@
 -- The least time of what waits at a node, as its tournament tells it.
-use Rattle.std.proofs.Common.{◌≡◌, ℕ, List, [], ◌∷◌, ◌++◌, min, Option, Some, refl, sym, ◌∙◌, ap, arith}
+use Rattle.std.proofs.Common.{◌≡◌, ℕ, List, [], ◌∷◌, ◌++◌, Option, Some, refl, sym, ◌∙◌, ap}
 use Rattle.std.specs.Prelude.{flat_map}
 use Rattle.std.proofs.lemmas.List.{append-nil}
+use Rattle.eventkey.proofs.Bags.{least_time-append, least_time-min}
 use Rattle.eventkey.specs.Bag.{least_time}
 use Rattle.eventkey.specs.Message.{Message}
 use Rattle.process.specs.Process.{Process}
@@ -11,14 +12,6 @@ use Rattle.node.specs.Roster.{IsStaffed, Place, processes_of}
 use Rattle.node.specs.Seats.{standings_of}
 use Rattle.node.specs.Tournament.{least_among}
 use Rattle.node.specs.declared.standing.Standing.{Standing}
-
-least_time-min : (a b : ℕ) (xs : List Message) → least_time (min a b) xs ≡ min a (least_time b xs)
-least_time-min a b [] = refl
-least_time-min a b (x ∷ xs) = ap (λ t. least_time t xs) {x = min (min a b) x.time} {y = min a (min b x.time)} (omega arith) ∙ least_time-min a (min b x.time) xs
-
-pub least_time-append : (t : ℕ) (xs ys : List Message) → least_time t (xs ++ ys) ≡ least_time (least_time t xs) ys
-least_time-append t [] ys = refl
-least_time-append t (x ∷ xs) ys = least_time-append (min t x.time) xs ys
 
 pub first_time-append : (xs ys : List Message) → first_time (xs ++ ys) ≡ earliest (first_time xs) (first_time ys)
 first_time-append [] ys = refl

@@ -6,7 +6,7 @@ use Rattle.process.specs.declared.Done.{Done}
 use Rattle.process.specs.Process.{Process}
 use Rattle.protocol.proofs.Examples.{msg, ring}
 use Rattle.protocol.specs.Picture.{Picture}
-use Rattle.protocol.specs.Moves.{commit, committed, told_front}
+use Rattle.protocol.specs.Moves.{commit, picture_after_commit, told_front}
 
 abbrev still : Process
 still = record { done = []; waiting = []; antis = []; state = 0 ∷ []; number = 0 }
@@ -38,7 +38,7 @@ after_both = record {
   log = msg 5 0 0 1 0 1 ∷ msg 7 1 0 2 0 2 ∷ [];
 }
 
-by_move : (committed ring 100 told).front ≡ after_both
+by_move : (picture_after_commit ring 100 told).front ≡ after_both
 unfolding message_cmp
 by_move = refl
 

@@ -22,7 +22,7 @@ use Rattle.gvt.specs.Ledger.{least_floor}
 use Rattle.protocol.proofs.Commit.{IsDone, IsReady, finish}
 use Rattle.protocol.proofs.Gathered.{before_is_early, filter_swap, length-numbers_told, length-states_told, numbers_told-at, states_told-at}
 use Rattle.protocol.specs.Picture.{IsProcessInRange, Picture, floor_at, gvt, messages_told, node_of, nodes_of, process_at, processes_of, sent_told, told_by, travelling}
-use Rattle.protocol.specs.Moves.{Commit, after_messages, commit, committed, merged, move, numbers_told, states_told, told_before, told_from}
+use Rattle.protocol.specs.Moves.{Commit, after_messages, commit, merged, move, numbers_told, picture_after_commit, states_told, told_before, told_from}
 use Rattle.protocol.specs.Sound.{IsSoundPicture, IsSystem}
 use Rattle.protocol.specs.Laws.{CommitIsByWhatWasTold, CommitIsSequential, CommitsTellTheNextEvents, IsByWhatWasTold, MayCommit, SystemsMayCommit}
 
@@ -221,7 +221,7 @@ module _ (m : Meaning) (end : ℕ) (p : Picture) (system : IsSystem m end p) whe
         parcels = h.parcels;
       }
 
-  sound_committed : IsSoundPicture m end (committed m end p) × (gvt end p ≤ gvt end (committed m end p))
+  sound_committed : IsSoundPicture m end (picture_after_commit m end p) × (gvt end p ≤ gvt end (picture_after_commit m end p))
   sound_committed =
       cond_both (nat_lt p.front.time (least_floor end p.floors)) (commit m (least_floor end p.floors) p) p (λ (q : Picture). IsSoundPicture m end q × (gvt end p ≤ gvt end q))
       (λ e. let less = ltb-true p.front.time (least_floor end p.floors) e in (sound_at (least_floor end p.floors) (omega arith) (omega arith), omega arith))
@@ -229,7 +229,7 @@ module _ (m : Meaning) (end : ℕ) (p : Picture) (system : IsSystem m end p) whe
 
 pub sound_commit : (m : Meaning) (end : ℕ) (p p' : Picture) → IsSystem m end p → move m end Commit p ≡ Some p' → IsSoundPicture m end p' × (gvt end p ≤ gvt end p')
 sound_commit m end p p' system e =
-    subst (λ (q : Picture). IsSoundPicture m end q × (gvt end p ≤ gvt end q)) (same_Some (committed m end p) p' e) (sound_committed m end p system)
+    subst (λ (q : Picture). IsSoundPicture m end q × (gvt end p ≤ gvt end q)) (same_Some (picture_after_commit m end p) p' e) (sound_committed m end p system)
 
 -- a commit writes the next events of the sequential simulation: what was told below the new time, in message order
 pub commits_tell : CommitsTellTheNextEvents
@@ -238,7 +238,7 @@ commits_tell m end p system less =
     let may = systems_may_commit m end c p system (omega arith) (omega arith) in
     let is = commit_is_sequential m end c p may in
     let by = commit_is_by_told m end c p may in
-    let e : committed m end p ≡ commit m c p = cond-true (nat_lt p.front.time c) (commit m c p) p (lt-ltb p.front.time c less) in
+    let e : picture_after_commit m end p ≡ commit m c p = cond-true (nat_lt p.front.time c) (commit m c p) p (lt-ltb p.front.time c less) in
     record {
       front = subst (λ (q : Picture). IsUpto m end c q.front) (sym e) is.front;
       log = ap (λ (q : Picture). q.front.log) e ∙ is.log;

@@ -9,14 +9,13 @@ use Rattle.eventkey.proofs.Times.{IsFrom, least_time-above, least_time-each, lea
 use Rattle.eventkey.specs.Bag.{least_time}
 use Rattle.eventkey.specs.Message.{Message}
 use Rattle.eventkey.specs.declared.Signed.{Signed}
-use Rattle.model.proofs.Worlds.{length-below}
+use Rattle.model.proofs.Worlds.{get_or-below, length-below}
 use Rattle.model.specs.World.{below}
 use Rattle.process.specs.Process.{Process, release}
 use Rattle.node.specs.Node.{Work, first_time, low_of, released}
 use Rattle.gvt.specs.Ledger.{ledger_floor, least_floor, least_low}
 use Rattle.gvt.specs.Picks.{are_distinct, can_pick, not_picked, picked}
 use Rattle.protocol.proofs.Gvt.{KeptFrom, gvt-le, gvt_above, gvt_nodes, gvt_travelling, kept_by}
-use Rattle.protocol.proofs.Opened.{get_or-below}
 use Rattle.protocol.specs.Laws.{LedgersAllowPosts, LedgersFollowPictures, LedgersTellGvt}
 use Rattle.protocol.specs.Moves.{Busy, NoSuchNode, NoSuchPick, commit, is_busy}
 use Rattle.protocol.specs.Picture.{Picture, gvt, lows_of, node_of, nodes_of, travelling}
@@ -95,7 +94,7 @@ ledgers_follow m end = record {
       (λ i l.
       let there : i < nodes_of p = let e = length-map p.nodes low_of in omega arith in
       get_or-map low_of p.nodes i [] None there
-      ∙ sym (get_or-map (λ (node : ℕ). low_of (node_of p node)) (below (nodes_of p)) i 0 None (let e = length-below (nodes_of p) in omega arith) ∙ ap (λ (node : ℕ). low_of (node_of p node)) (get_or-below (nodes_of p) i there)));
+      ∙ sym (get_or-map (λ (node : ℕ). low_of (node_of p node)) (below (nodes_of p)) i 0 None (let e = length-below (nodes_of p) in omega arith) ∙ ap (λ (node : ℕ). low_of (node_of p node)) (get_or-below (nodes_of p) i 0 there)));
   starts = λ nodes w. refl;
   posts = λ p node picks budget.
       ap (λ (floor : ℕ). record (ledger_of end p) {

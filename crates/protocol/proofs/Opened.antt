@@ -1,7 +1,6 @@
 -- The picture with which a session begins is sound, and its nodes are what they are loaded with.
-use Rattle.std.proofs.Common.{◌^◌, ◌≡◌, ℕ, zero, suc, ◌<◌, ◌/◌, ◌%◌, ◌≤◌, [], ◌∷◌, ◌++◌, false, sym, ◌∙◌, subst, inl, inr, arith, get_or, flat_map, replicate, refl, Ok, Some, None, List, map, filter, ◌==◌, ap, length, mod-lt, eq-eqb}
-use Rattle.std.proofs.lemmas.Bool.{cases_lt}
-use Rattle.std.proofs.lemmas.List.{append-nil, get_or_append_left, get_or_at, length-replicate, get_or-replicate, length-map}
+use Rattle.std.proofs.Common.{◌^◌, ◌≡◌, ℕ, zero, suc, ◌<◌, ◌/◌, ◌%◌, ◌≤◌, [], ◌∷◌, ◌++◌, false, sym, ◌∙◌, subst, arith, get_or, flat_map, replicate, refl, Ok, Some, None, List, map, filter, ◌==◌, ap, length, mod-lt, eq-eqb}
+use Rattle.std.proofs.lemmas.List.{append-nil, length-replicate, get_or-replicate, length-map}
 use Rattle.std.proofs.lemmas.Option.{none-some}
 use Rattle.std.specs.List.{AllByRecursion as Every}
 use Rattle.eventkey.proofs.Lists.{Every-all, Every-append, Every-filter, Every-get_or-default, Every-map, Every-passes, Every-replicate, Every-weaker, IsAscending-filter, copies-filter, get_or-map}
@@ -12,7 +11,7 @@ use Rattle.eventkey.specs.Signed.{of_sign}
 use Rattle.eventkey.specs.declared.Sign.TheVariants.{Minus, Plus}
 use Rattle.eventkey.specs.declared.Signed.{Signed}
 use Rattle.model.proofs.Steps.{IsUpto_IsReached}
-use Rattle.model.proofs.Worlds.{length-below, words_at}
+use Rattle.model.proofs.Worlds.{get_or-below, length-below, words_at}
 use Rattle.model.specs.Meaning.{IsAddressed, Meaning}
 use Rattle.model.specs.Runner.{IsReached}
 use Rattle.model.specs.World.{World, below, number_of, state_of}
@@ -35,13 +34,6 @@ use Rattle.protocol.specs.Laws.{IsLoadedWith, OpenedNodes, OpeningIsSound}
 use Rattle.protocol.specs.Views.{load_of, node_view, part_of}
 
 -- 1. Lists
-
-pub get_or-below : (n lp : ℕ) → lp < n → get_or (below n) lp 0 ≡ lp
-get_or-below zero lp h = absurd (omega arith)
-get_or-below (suc n) lp h = elim (cases_lt lp n) [
-  | inl l ↦ get_or_append_left (below n) (n ∷ []) 0 lp (let e = length-below n in omega arith) ∙ get_or-below n lp l
-  | inr l ↦ (let e : lp ≡ n = omega arith in subst (λ k. get_or (below n ++ n ∷ []) k 0 ≡ k) (sym e) (get_or_at (below n) n [] 0 n (length-below n)))
-]
 
 nothing_delivered : (n : ℕ) → flat_map delivered_by (replicate n None) ≡ []
 nothing_delivered zero = refl
@@ -79,7 +71,7 @@ module _ (m : Meaning) (end nodes : ℕ) (w : World) (begins : IsOpening m end n
   pub node_is : (node : ℕ) → node < nodes → node_of first node ≡ node_opened m.lps nodes w node
   node_is node l =
       get_or-map (node_opened m.lps nodes w) (below nodes) node 0 [] (let e = length-below nodes in omega arith)
-      ∙ ap (node_opened m.lps nodes w) (get_or-below nodes node l)
+      ∙ ap (node_opened m.lps nodes w) (get_or-below nodes node 0 l)
 
   process_is : (lp : ℕ) → lp < m.lps → process_at first lp ≡ opened_process w lp
   process_is lp l =

@@ -14,18 +14,15 @@ use Rattle.eventkey.specs.declared.Signed.{Signed}
 use Rattle.model.specs.Meaning.{Meaning}
 use Rattle.node.specs.Node.{sits_on}
 use Rattle.node.specs.declared.Parcel.{Parcel}
+use Rattle.gvt.proofs.Sweeps.{not_picked-none}
 use Rattle.gvt.specs.Ledger.{delivered_by}
 use Rattle.gvt.specs.Picks.{are_distinct, can_pick, has, not_picked, nothing, picked}
 use Rattle.protocol.proofs.Gvt.{Every-parcels-set, SignedFrom, copies-parcels-set, gvt-le, gvt_above, gvt_nodes, gvt_travelling}
 use Rattle.protocol.specs.Picture.{IsPictureInRange, Picture, gvt, nodes_of}
-use Rattle.protocol.specs.Moves.{Post, can_post, is_busy, move, posted}
+use Rattle.protocol.specs.Moves.{Post, can_post, is_busy, move, picture_after_post}
 use Rattle.protocol.specs.Sound.{IsParcel, IsSoundPicture}
 
 -- 1. Picks
-
-not_picked-none : (i : ℕ) (ss : List Signed) → not_picked [] i ss ≡ ss
-not_picked-none i [] = refl
-not_picked-none i (s ∷ ss) = ap (λ (ts : List Signed). s ∷ ts) (not_picked-none (i + 1) ss)
 
 -- a pick before place i takes nothing from there on
 not_picked-past : (picks : List ℕ) (k i : ℕ) (ss : List Signed) → k < i → not_picked (k ∷ picks) i ss ≡ not_picked picks i ss
@@ -105,7 +102,7 @@ module _ (m : Meaning) (end node : ℕ) (picks : List ℕ) (budget : ℕ) (p : P
   within = let a = checks.0 in let b = h.seated.parcels in omega arith
 
   new : Picture
-  new = posted end node picks budget p
+  new = picture_after_post end node picks budget p
 
   moving : Every (SignedFrom (gvt end p)) p.transit
   moving = Every-left (SignedFrom (gvt end p)) p.transit (flat_map delivered_by p.parcels) (gvt_travelling end p)
@@ -190,6 +187,6 @@ module _ (m : Meaning) (end node : ℕ) (picks : List ℕ) (budget : ℕ) (p : P
 pub sound_post : (m : Meaning) (end node : ℕ) (picks : List ℕ) (budget : ℕ) (p p' : Picture) → IsSoundPicture m end p → move m end (Post node picks budget) p ≡ Some p' → IsSoundPicture m end p' × (gvt end p ≤ gvt end p')
 unfolding new
 sound_post m end node picks budget p p' h =
-    cond_both (can_post p node picks) (Some (posted end node picks budget p)) None (λ (r : Option Picture). r ≡ Some p' → IsSoundPicture m end p' × (gvt end p ≤ gvt end p'))
-    (λ can e. subst (λ (q : Picture). IsSoundPicture m end q × (gvt end p ≤ gvt end q)) (same_Some (posted end node picks budget p) p' e) (new_sound m end node picks budget p h can, gvt_kept m end node picks budget p h can))
+    cond_both (can_post p node picks) (Some (picture_after_post end node picks budget p)) None (λ (r : Option Picture). r ≡ Some p' → IsSoundPicture m end p' × (gvt end p ≤ gvt end p'))
+    (λ can e. subst (λ (q : Picture). IsSoundPicture m end q × (gvt end p ≤ gvt end q)) (same_Some (picture_after_post end node picks budget p) p' e) (new_sound m end node picks budget p h can, gvt_kept m end node picks budget p h can))
     (λ _ e. absurd (none-some p' e))

@@ -12,7 +12,7 @@ use Rattle.node.specs.Node.{Work, work_here}
 use Rattle.node.specs.declared.Parcel.{Parcel}
 use Rattle.gvt.specs.Picks.{are_distinct, can_pick}
 use Rattle.protocol.specs.Picture.{Picture, gvt, node_of, nodes_of}
-use Rattle.protocol.specs.Moves.{Busy, Checkpoint, Commit, NoSuchNode, NoSuchPick, NumberLimit, Post, Take, answered, is_busy, take_from, take_refusal}
+use Rattle.protocol.specs.Moves.{Busy, Checkpoint, Commit, NoSuchNode, NoSuchPick, NumberLimit, Post, Take, is_busy, picture_after_answer, take_from, take_refusal}
 use Rattle.protocol.specs.Laws.{MovesAreMadeOrRefused, ParcelsAreAccepted}
 use Rattle.protocol.specs.Views.{node_view}
 use Rattle.protocol.proofs.Takes.{fits, floor_under, under_way}
@@ -37,7 +37,7 @@ take_tested : (m : Meaning) (end node : ℕ) (p : Picture) (o : Option Parcel) �
 take_tested m end node p None = refl
 take_tested m end node p (Some parcel) = go (work_here m end (nodes_of p) parcel (node_of p node))
   where
-    go : (o : Option Work) → is_some (option_map (λ (w : Work). answered node parcel p w) o) ≡ not (is_some (cond (is_some o) None (Some NumberLimit)))
+    go : (o : Option Work) → is_some (option_map (λ (w : Work). picture_after_answer node parcel p w) o) ≡ not (is_some (cond (is_some o) None (Some NumberLimit)))
     go None = refl
     go (Some w) = refl
 

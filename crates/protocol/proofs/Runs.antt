@@ -16,7 +16,7 @@ use Rattle.protocol.proofs.Opened.{opening_is_sound}
 use Rattle.protocol.proofs.Posts.{sound_post}
 use Rattle.protocol.proofs.Takes.{sound_take, taken_from}
 use Rattle.protocol.specs.Picture.{Picture, gvt, opened}
-use Rattle.protocol.specs.Moves.{Checkpoint, Commit, Move, Post, Run, Take, after_moves, after_runs, can_post, commit, committed, move, moves_made, posted}
+use Rattle.protocol.specs.Moves.{Checkpoint, Commit, Move, Post, Run, Take, after_moves, after_runs, can_post, commit, move, moves_made, picture_after_commit, picture_after_post}
 use Rattle.protocol.specs.Sound.{GoesOnFrom, IsOpening, IsSoundPicture, IsSystem}
 use Rattle.protocol.specs.Laws.{AreMade, AreMadeInParts, FirstOpens, FrontsOpen, MovesAreSound, MovesMadeAreSound, MovesMadeJoin, MovesMadePart, RunsAreOneSimulation, RunsAreSound}
 use Rattle.protocol.specs.Readers.{OptimisticIsSequential, SchedulesAgree}
@@ -47,16 +47,16 @@ kept_sound m end Checkpoint p p' h e = subst (λ (q : Picture). IsSoundPicture m
 
 later_front : (m : Meaning) (end : ℕ) (k : Move) (p p' : Picture) → move m end k p ≡ Some p' → p.front.time ≤ p'.front.time
 later_front m end (Post node picks budget) p p' e =
-    cond_both (can_post p node picks) (Some (posted end node picks budget p)) None (λ (r : Option Picture). r ≡ Some p' → p.front.time ≤ p'.front.time)
-    (λ _ f. let g : p.front.time ≡ p'.front.time = ap (λ (q : Picture). q.front.time) (same_Some (posted end node picks budget p) p' f) in omega arith)
+    cond_both (can_post p node picks) (Some (picture_after_post end node picks budget p)) None (λ (r : Option Picture). r ≡ Some p' → p.front.time ≤ p'.front.time)
+    (λ _ f. let g : p.front.time ≡ p'.front.time = ap (λ (q : Picture). q.front.time) (same_Some (picture_after_post end node picks budget p) p' f) in omega arith)
     (λ _ f. absurd (none-some p' f)) e
 later_front m end (Take node) p p' e =
     let t = taken_from m end node p p' (get_or p.parcels node None) refl e in
     let g : p.front.time ≡ p'.front.time = ap (λ (q : Picture). q.front.time) t.is in
     omega arith
 later_front m end Commit p p' e =
-    let g = ap (λ (q : Picture). q.front.time) (same_Some (committed m end p) p' e) in
-    let h : p.front.time ≤ (committed m end p).front.time =
+    let g = ap (λ (q : Picture). q.front.time) (same_Some (picture_after_commit m end p) p' e) in
+    let h : p.front.time ≤ (picture_after_commit m end p).front.time =
     cond_both (nat_lt p.front.time (least_floor end p.floors)) (commit m (least_floor end p.floors) p) p (λ (q : Picture). p.front.time ≤ q.front.time)
     (λ f. let less = ltb-true p.front.time (least_floor end p.floors) f in omega arith) (λ _. omega arith) in
     omega arith
@@ -64,16 +64,16 @@ later_front m end Checkpoint p p' e = let g = ap (λ (q : Picture). q.front.time
 
 floors_kept : (m : Meaning) (end : ℕ) (k : Move) (p p' : Picture) → IsSoundPicture m end p → move m end k p ≡ Some p' → HaveRisen p.floors p'.floors
 floors_kept m end (Post node picks budget) p p' h e =
-    cond_both (can_post p node picks) (Some (posted end node picks budget p)) None (λ (r : Option Picture). r ≡ Some p' → HaveRisen p.floors p'.floors)
-    (λ _ f. subst (λ (q : Picture). HaveRisen p.floors q.floors) (same_Some (posted end node picks budget p) p' f) (risen_none p.floors))
+    cond_both (can_post p node picks) (Some (picture_after_post end node picks budget p)) None (λ (r : Option Picture). r ≡ Some p' → HaveRisen p.floors p'.floors)
+    (λ _ f. subst (λ (q : Picture). HaveRisen p.floors q.floors) (same_Some (picture_after_post end node picks budget p) p' f) (risen_none p.floors))
     (λ _ f. absurd (none-some p' f)) e
 floors_kept m end (Take node) p p' h e =
     let t = taken_from m end node p p' (get_or p.parcels node None) refl e in
     subst (λ (q : Picture). HaveRisen p.floors q.floors) t.is (risen_set p.floors node t.parcel.floor (h.parcels node t.parcel t.posted).from)
 floors_kept m end Commit p p' h e =
-    let here : HaveRisen p.floors (committed m end p).floors =
+    let here : HaveRisen p.floors (picture_after_commit m end p).floors =
     cond_both (nat_lt p.front.time (least_floor end p.floors)) (commit m (least_floor end p.floors) p) p (λ (q : Picture). HaveRisen p.floors q.floors) (λ _. risen_none p.floors) (λ _. risen_none p.floors) in
-    subst (λ (q : Picture). HaveRisen p.floors q.floors) (same_Some (committed m end p) p' e) here
+    subst (λ (q : Picture). HaveRisen p.floors q.floors) (same_Some (picture_after_commit m end p) p' e) here
 floors_kept m end Checkpoint p p' h e = subst (λ (q : Picture). HaveRisen p.floors q.floors) (same_Some p p' e) (risen_none p.floors)
 
 goes_on : (m : Meaning) (end : ℕ) (p p' : Picture) → IsSoundPicture m end p → IsSoundPicture m end p' → gvt end p ≤ gvt end p' → HaveRisen p.floors p'.floors → p.front.time ≤ p'.front.time → GoesOnFrom end p p'

@@ -37,7 +37,7 @@ use Rattle.protocol.proofs.Gathered.{copies-told_by, told_by-apart}
 use Rattle.protocol.proofs.Gvt.{Every-parcels, Every-parcels-set, KeptFrom, SignedFrom, copies-parcels-set, gvt-le, gvt_above, gvt_node, gvt_nodes, gvt_travelling, some_within}
 use Rattle.protocol.proofs.Places.{at_place}
 use Rattle.protocol.specs.Picture.{IsBalanced, IsPictureInRange, IsProcessInRange, IsSeatedBy, Picture, all_sent, floor_at, gvt, messages_told, node_of, nodes_of, process_at, processes_of, sent_told, told_by, travelling}
-use Rattle.protocol.specs.Moves.{Take, answered, move, take_from}
+use Rattle.protocol.specs.Moves.{Take, move, picture_after_answer, take_from}
 use Rattle.protocol.specs.Sound.{IsParcel, IsSoundPicture, IsSystem}
 
 -- 1. The parts of a take
@@ -47,12 +47,12 @@ pub record IsTaken (m : Meaning) (end node : ℕ) (p p' : Picture) : Type 0 wher
   pub posted : get_or p.parcels node None ≡ Some parcel
   pub work : Work
   pub done : work_here m end (nodes_of p) parcel (node_of p node) ≡ Some work
-  pub is : answered node parcel p work ≡ p'
+  pub is : picture_after_answer node parcel p work ≡ p'
 
 pub taken_from : (m : Meaning) (end node : ℕ) (p p' : Picture) (o : Option Parcel) → get_or p.parcels node None ≡ o → take_from m end node p o ≡ Some p' → IsTaken m end node p p'
 taken_from m end node p p' None was e = absurd (none-some p' e)
 taken_from m end node p p' (Some parcel) was e =
-    let a = option_map_some (answered node parcel p) (work_here m end (nodes_of p) parcel (node_of p node)) p' e in
+    let a = option_map_some (picture_after_answer node parcel p) (work_here m end (nodes_of p) parcel (node_of p node)) p' e in
     record { parcel = parcel; posted = was; work = a.0; done = a.1; is = a.2 }
 
 -- 2. All sends are in range: each is balanced by a message that is
@@ -194,7 +194,7 @@ module _ (m : Meaning) (end node : ℕ) (p : Picture) (system : IsSystem m end p
     fossils = flat_map (λ (q : Process). fossils_of parcel.floor q) w.processes
 
     new : Picture
-    new = answered node parcel p w
+    new = picture_after_answer node parcel p w
 
     same_nodes : nodes_of new ≡ nodes_of p
     unfolding new

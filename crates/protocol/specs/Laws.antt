@@ -4,7 +4,7 @@ use Rattle.std.specs.List.{AllByRecursion as Every}
 use Rattle.std.specs.Prelude.{◌≡◌, ℕ, ◌^◌, ◌<◌, ◌≤◌, ◌+◌, ◌++◌, ◌&&◌, List, not, get_or, length, map, nat_lt, option_and_then, if◌then◌else◌, Err, Ok, Some, None, is_some, true}
 use Rattle.eventkey.specs.Bag.{IsAscending}
 use Rattle.eventkey.specs.Message.{Message}
-use Rattle.gvt.specs.Ledger.{after_post, after_take, is_busy as is_ledger_busy, ledger_floor, least_floor, may_pick, nodes_of as ledger_nodes, started}
+use Rattle.gvt.specs.Ledger.{after_post, after_take, first_ledger, is_busy as is_ledger_busy, ledger_floor, least_floor, may_pick, nodes_of as ledger_nodes}
 use Rattle.gvt.specs.Picks.{are_distinct, can_pick}
 use Rattle.model.specs.Meaning.{IsLawful, Meaning}
 use Rattle.model.specs.World.{IsUpto, World, below, number_of, opening, state_of}
@@ -15,7 +15,7 @@ use Rattle.node.specs.declared.Parcel.{Parcel}
 use Rattle.process.specs.Process.{number_after, state_after}
 use Rattle.protocol.specs.declared.Answer.{Answer}
 use Rattle.protocol.specs.declared.Answer.TheVariants.{AlreadyAt, Checkpointed, Committed, Posted, Taken}
-use Rattle.protocol.specs.Moves.{Busy, Move, NoSuchNode, NoSuchPick, Post, Run, Take, after_moves, after_runs, answer_of, answered, commit, committed, is_busy, merged, move, moves_made, posted, refusal, told_before, told_front}
+use Rattle.protocol.specs.Moves.{Busy, Move, NoSuchNode, NoSuchPick, Post, Run, Take, after_moves, after_runs, answer_of, commit, is_busy, merged, move, moves_made, picture_after_answer, picture_after_commit, picture_after_post, refusal, told_before, told_front}
 use Rattle.protocol.specs.Picture.{IsBalanced, IsPictureInRange, IsSeatedBy, IsToldTruly, Picture, gvt, lows_of, node_of, nodes_of, opened, told_by}
 use Rattle.protocol.specs.Replies.{names_there}
 use Rattle.protocol.specs.Sound.{GoesOnFrom, IsOpening, IsSystem}
@@ -175,11 +175,13 @@ CommitIsByWhatWasTold = (m : Meaning) (end c : ℕ) (p : Picture) → MayCommit 
 -- time: the front becomes the sequential simulation up to c, its log grows by exactly what was told
 -- below c in message order, and it is known by what was told.
 pub record TellsTheNextEvents (m : Meaning) (end : ℕ) (p : Picture) : Type 0 where
-  pub front : IsUpto m end (least_floor end p.floors) (committed m end p).front
+  pub front : IsUpto m end (least_floor end p.floors) (picture_after_commit m end p).front
   pub log :
-      (committed m end p).front.log ≡ p.front.log ++ merged (least_floor end p.floors) p.gathered
+      (picture_after_commit m end p).front.log
+      ≡ p.front.log ++ merged (least_floor end p.floors) p.gathered
   pub in_order : IsAscending (merged (least_floor end p.floors) p.gathered)
-  pub by_told : IsByWhatWasTold m.lps (least_floor end p.floors) p (committed m end p).front
+  pub by_told :
+      IsByWhatWasTold m.lps (least_floor end p.floors) p (picture_after_commit m end p).front
 
 abbrev pub CommitsTellTheNextEvents : Type 0
 CommitsTellTheNextEvents = (m : Meaning) (end : ℕ) (p : Picture) → IsSystem m end p →
@@ -217,7 +219,7 @@ OpenedNodes = (m : Meaning) (end nodes node : ℕ) (w : World) → IsOpening m e
 -- take is made, and then it is that node of the picture.
 pub record IsAnsweredBy (m : Meaning) (end node : ℕ) (p : Picture) (parcel : Parcel) : Type 0 where
   pub made : (p' : Picture) → move m end (Take node) p ≡ Some p' →
-      (w : Work) × (p' ≡ answered node parcel p w)
+      (w : Work) × (p' ≡ picture_after_answer node parcel p w)
       × (answer m (node_view m end p node) parcel
       ≡ record { result = Ok (reply_of parcel.floor w); node = node_view m end p' node })
   pub refused : move m end (Take node) p ≡ None →
@@ -247,15 +249,15 @@ pub record LedgersFollow (m : Meaning) (end : ℕ) : Type 0 where
   pub lows : (p : Picture) →
       lows_of p ≡ map (λ (node : ℕ). low_of (node_view m end p node).processes) (below (nodes_of p))
   pub starts : (nodes : ℕ) (w : World) →
-      started nodes end w.time (lows_of (opened m.lps nodes w))
+      first_ledger nodes end w.time (lows_of (opened m.lps nodes w))
       ≡ ledger_of end (opened m.lps nodes w)
   pub posts : (p : Picture) (node : ℕ) (picks : List ℕ) (budget : ℕ) →
       after_post (ledger_of end p) node picks budget
-      ≡ ledger_of end (posted end node picks budget p)
+      ≡ ledger_of end (picture_after_post end node picks budget p)
   pub takes : (p : Picture) (node : ℕ) (parcel : Parcel) (w : Work) →
       after_take (ledger_of end p) node parcel (reply_of parcel.floor w)
-      ≡ ledger_of end (answered node parcel p w)
-  pub commits : (p : Picture) → ledger_of end (committed m end p) ≡ ledger_of end p
+      ≡ ledger_of end (picture_after_answer node parcel p w)
+  pub commits : (p : Picture) → ledger_of end (picture_after_commit m end p) ≡ ledger_of end p
 
 abbrev pub LedgersFollowPictures : Type 0
 LedgersFollowPictures = (m : Meaning) (end : ℕ) → LedgersFollow m end

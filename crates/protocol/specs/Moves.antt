@@ -25,16 +25,18 @@ can_post p node picks =
     (nat_lt node (nodes_of p) && not (is_busy p node))
     && (can_pick (nodes_of p) node p.transit picks && are_distinct picks)
 
-abbrev pub posted : ℕ → ℕ → List ℕ → ℕ → Picture → Picture  -- the picks leave transit as a parcel
-posted end node picks budget p =
+-- the picks leave transit as a parcel
+abbrev pub picture_after_post : ℕ → ℕ → List ℕ → ℕ → Picture → Picture
+picture_after_post end node picks budget p =
     let ss = picked p.transit picks in
     let new : Parcel = record { deliver = ss; budget = budget; floor = gvt end p } in
     record p { transit = not_picked picks 0 p.transit; parcels = set p.parcels node (Some new) }
 
 -- 2. Take
 
-abbrev pub answered : ℕ → Parcel → Picture → Work → Picture  -- the node did this work for a parcel
-answered node parcel p w = record p {
+-- the node did this work for a parcel
+abbrev pub picture_after_answer : ℕ → Parcel → Picture → Work → Picture
+picture_after_answer node parcel p w = record p {
   gathered = p.gathered ++ flat_map (λ (q : Process). fossils_of parcel.floor q) w.processes;
   nodes = set p.nodes node (released parcel.floor w);
   transit = p.transit ++ w.out;
@@ -45,7 +47,8 @@ answered node parcel p w = record p {
 abbrev pub take_from : Meaning → ℕ → ℕ → Picture → Option Parcel → Option Picture  -- by its parcel
 take_from m end node p None = None
 take_from m end node p (Some parcel) =
-    option_map (answered node parcel p) (work_here m end (nodes_of p) parcel (node_of p node))
+    option_map (picture_after_answer node parcel p)
+    (work_here m end (nodes_of p) parcel (node_of p node))
 
 -- 3. Commit
 
@@ -68,8 +71,9 @@ commit m c p = record p {
   gathered = told_from c p.gathered;
 }
 
-abbrev pub committed : Meaning → ℕ → Picture → Picture  -- to the least floor of the nodes
-committed m end p =
+-- the front moves to the least floor of the nodes
+abbrev pub picture_after_commit : Meaning → ℕ → Picture → Picture
+picture_after_commit m end p =
     let c = least_floor end p.floors in if nat_lt p.front.time c then commit m c p else p
 
 -- each process as it was left by the last of what it told
@@ -101,9 +105,9 @@ pub data Move : Type 0 where  -- a step of a session (this project's profile)
 
 abbrev pub move : Meaning → ℕ → Move → Picture → Option Picture  -- None where it is refused
 move m end (Post node picks budget) p =
-    if can_post p node picks then Some (posted end node picks budget p) else None
+    if can_post p node picks then Some (picture_after_post end node picks budget p) else None
 move m end (Take node) p = take_from m end node p (get_or p.parcels node None)
-move m end Commit p = Some (committed m end p)
+move m end Commit p = Some (picture_after_commit m end p)
 move m end Checkpoint p = Some p
 
 -- why a move is refused

@@ -5,7 +5,7 @@ use Rattle.std.proofs.lemmas.List.{get_or_at, length-append, reverse-append, rev
 use Rattle.std.proofs.lemmas.Option.{slice_get-get_or, same_Some, none-some}
 use Rattle.std.specs.List.{AllByRecursion as Every, AllWithin, slice_get}
 use Rattle.std.specs.Prelude.{filter, nat_le, nat_lt}
-use Rattle.eventkey.proofs.Bags.{copies-append, time_from_at_most}
+use Rattle.eventkey.proofs.Bags.{copies-append, least_time-append, least_time-min, time_from_at_most}
 use Rattle.eventkey.proofs.Lists.{Every-append, Every-filter, Every-weaker, IsAscending-append, IsAscending-filter, IsAllAtMost}
 use Rattle.eventkey.specs.Bag.{IsAscending, copies, least_time, one_if_same, remove_one}
 use Rattle.eventkey.specs.Message.{IsAtMost, Message}
@@ -30,14 +30,6 @@ none_first [] e = refl
 none_first (y ∷ ys) e = absurd (none-some y e)
 
 -- 2. The least time of two lists
-
-least_time-min : (a b : ℕ) (xs : List Message) → least_time (min a b) xs ≡ min a (least_time b xs)
-least_time-min a b [] = refl
-least_time-min a b (x ∷ xs) = ap (λ (t : ℕ). least_time t xs) (let e : min (min a b) x.time ≡ min a (min b x.time) = omega arith in e) ∙ least_time-min a (min b x.time) xs
-
-least_time-append : (t : ℕ) (xs ys : List Message) → least_time t (xs ++ ys) ≡ least_time (least_time t xs) ys
-least_time-append t [] ys = refl
-least_time-append t (x ∷ xs) ys = least_time-append (min t x.time) xs ys
 
 pub first_time-both : (xs ys : List Message) (a b : ℕ) → Some a ≡ first_time xs → Some b ≡ first_time ys → Some (min a b) ≡ first_time (xs ++ ys)
 first_time-both [] ys a b e f = absurd (none-some a (sym e))

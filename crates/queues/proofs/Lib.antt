@@ -1,5 +1,6 @@
 pub mod Arrivals
 pub mod Buckets
+pub mod Exits
 pub mod Firsts
 pub mod Halves
 pub mod Moves

@@ -12,7 +12,7 @@ use Rattle.frames.proofs.Cuts.{IsFront-trans, front_of}
 use Rattle.serving.specs.Reactions.{Begins}
 use Rattle.serving.specs.Serving.{Lacks, Served, Turn, after_turn, begun_to, ends, first_turn, goes_on, load_turn, on_found, served, served_from, stops}
 use Rattle.serving.specs.Told.{IsServed, IsServedFrom, Tells}
-use Rattle.serving.specs.Written.{TakesBeginning}
+use Rattle.eventkey.specs.Writing.{TakesBeginning}
 use Rattle.serving.specs.declared.reaction.Begun.{Begun}
 use Rattle.serving.specs.declared.reaction.Begun.TheVariants.{Loaded, Refused}
 use Rattle.wire.specs.declared.port.WireFault.{WireFault}

@@ -3,4 +3,3 @@ mod Examples
 pub mod Places
 pub mod Reacting
 pub mod Turns
-pub mod Written

@@ -12,7 +12,7 @@ use Rattle.frames.proofs.Cuts.{front_of}
 use Rattle.serving.specs.Reactions.{Reacts, reaction}
 use Rattle.serving.specs.Serving.{Turn, ends, goes_on, next_turn, on_found, parcel_turn, stops, turn_to}
 use Rattle.serving.specs.Told.{IsTurn, TurnTells}
-use Rattle.serving.specs.Written.{TakesBeginning}
+use Rattle.eventkey.specs.Writing.{TakesBeginning}
 use Rattle.serving.specs.declared.reaction.Response.{Response}
 use Rattle.wire.specs.declared.port.WireFault.{WireFault}
 use Rattle.wire.specs.declared.port.WireFault.TheVariants as wire

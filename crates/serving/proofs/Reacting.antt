@@ -13,6 +13,7 @@ use Rattle.node.specs.declared.NodeFault.TheVariants as node
 use Rattle.node.specs.declared.Parcel.{Parcel}
 use Rattle.node.specs.declared.Part.{Part}
 use Rattle.node.specs.declared.Reply.{Reply}
+use Rattle.frames.proofs.Whole.{length-fault}
 use Rattle.frames.specs.Bodies.{fault_bytes, load_in, parcel_in}
 use Rattle.frames.specs.Ranges.{IsLoad, IsPart, IsReply}
 use Rattle.frames.specs.declared.Kind.{Kind}
@@ -25,10 +26,6 @@ use Rattle.wire.specs.declared.port.WireFault.{WireFault}
 use Rattle.wire.specs.declared.port.WireFault.TheVariants.{BadBody, BadKind, NoMemory, TooLong}
 
 -- 1. The frame of a fault is never too long.
-
-length-fault : (f : NodeFault) → length (fault_bytes f) ≡ 1
-unfolding fault_bytes
-length-fault f = refl
 
 pub fault_unwritten : {X : Type 0} (f : NodeFault) (fault : WireFault) (result : Result X WireFault) → IsErrAnd result (λ e. e ≡ fault) →
     (fault ≡ NoMemory) ⊎ ((fault ≡ TooLong) × (2 ^ 24 < length (fault_bytes f))) → result ≡ Err NoMemory

@@ -8,7 +8,7 @@ use Rattle.node.specs.Handling.{Node}
 use Rattle.frames.specs.Streams.{IsFront, OnBytes}
 use Rattle.serving.specs.Serving.{Lacks, Served, behind, next_turn, plus, served_from, then_on}
 use Rattle.serving.specs.Told.{IsServedFrom, IsTurn}
-use Rattle.serving.specs.Written.{TakesBeginning}
+use Rattle.eventkey.specs.Writing.{TakesBeginning}
 use Rattle.wire.specs.declared.port.WireFault.{WireFault}
 use Rattle.wire.specs.declared.port.WireFault.TheVariants as wire
 use Rattle.frames.proofs.Cuts.{IsFront-trans}

@@ -3,4 +3,3 @@ pub mod Serving  -- the served text, one function of the model, the limit and th
 pub mod Told  -- what `serve` answers, writes and reads
 -- Inside: one frame's place, and texts that are written.
 pub mod Reactions
-pub mod Written

@@ -6,7 +6,7 @@ use Rattle.model.specs.Meaning.{Meaning}
 use Rattle.node.specs.Handling.{Node}
 use Rattle.frames.specs.Streams.{IsFront}
 use Rattle.serving.specs.Serving.{Lacks, Served, Turn, next_turn, served, served_from}
-use Rattle.serving.specs.Written.{TakesBeginning}
+use Rattle.eventkey.specs.Writing.{TakesBeginning}
 use Rattle.wire.specs.declared.port.WireFault.{WireFault}
 use Rattle.wire.specs.declared.port.WireFault.TheVariants.{BadBody, BadKind, Io}
 use Rattle.wire.specs.declared.port.WireFault.TheVariants.{NoMemory, TooLong, Truncated}

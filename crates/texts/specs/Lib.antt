@@ -1,4 +1,3 @@
 -- For callers
 pub mod Text  -- the text of a log and of a world
-pub mod Writing  -- what a writer has of a text
 pub mod ModelFile  -- what a model file says

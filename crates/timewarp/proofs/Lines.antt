@@ -1,7 +1,7 @@
 -- What clap finds in a line of the program.
 use Rattle.std.specs.Borrow.{Bor}
 use Rattle.std.specs.Prelude.{◌≡◌, ◌⊎◌, ◌≤◌, ◌<◌, ◌^◌, ◌&&◌, ◌||◌, ℕ, Bool, true, false, List, [], ◌∷◌, Option, Some, None, Result, Ok, Err}
-use Rattle.std.specs.Prelude.{codes, option_map, unwrap_or, find, nat_le, if◌then◌else◌}
+use Rattle.std.specs.Prelude.{option_map, unwrap_or, find, nat_le, if◌then◌else◌}
 use Rattle.std.specs.Str.Parse.{ParsesUnsigned, digits_value, without_leading_plus}
 use Rattle.std.proofs.Common.{◌∙◌, refl, ap, ap₂, sym, inl, inr, arith}
 use Rattle.std.proofs.lemmas.Bool.{cases_Bool, le-leb, leb-true}

@@ -14,7 +14,7 @@ use Rattle.model.specs.World.{IsUpto, World}
 use Rattle.models.specs.Any.{any_meaning}
 use Rattle.texts.specs.ModelFile.{IsModelFile}
 use Rattle.texts.specs.Text.{log_text, world_text}
-use Rattle.texts.specs.Writing.{TakesBeginning}
+use Rattle.eventkey.specs.Writing.{TakesBeginning}
 use Rattle.texts.specs.declared.model_file.ModelFault.{ModelFault}
 use Rattle.texts.specs.declared.model_file.ModelFault.TheVariants as file
 use Rattle.timewarp.specs.declared.command.Fault.{Fault}
@@ -45,7 +45,8 @@ abbrev pub of_file : FileFault → Fault
 of_file opening.File = fault.File
 of_file opening.NoMemory = NoMemory
 
--- the writer has taken the run of a model: its sequential simulation up to its end, and nothing else
+-- the writer has taken the run of a model: its sequential simulation up to its end, and nothing
+-- else
 pub record PrintsRun (text : List ℕ) (old new : Option (List ℕ)) : Type 0 where
   pub model : AnyModel
   pub end : ℕ

@@ -1,4 +1,5 @@
--- The command line of `timewarp` (this project's profile), in the words of clap: its commands, and what a line says.
+-- The command line of `timewarp` (this project's profile), in the words of clap: its commands, and
+-- what a line says.
 use Rattle.std.specs.Prelude.{◌≡◌, ◌⊎◌, ◌≤◌, ℕ, List, [], ◌∷◌, Option, Some, None, true, codes, unwrap_or}
 use Rattle.std.specs.Prelude.{if◌then◌else◌, ⊤}
 use Rattle.std.specs.Str.Parse.{digits_value, without_leading_plus}
@@ -68,7 +69,8 @@ program = with_subcommand (with_subcommand (with_subcommand (with_subcommand
 abbrev pub text_in : Text → List Row → Text
 text_in id rows = unwrap_or (first_of id rows) []
 
--- the number that is written, a sign of plus before it or none; of what the option refuses the least
+-- the number that is written, a sign of plus before it or none; of what the option refuses the
+-- least
 abbrev pub number_of : ℕ → ℕ → Option Text → ℕ
 number_of least most None = least
 number_of least most (Some text) = if accepts true (Unsigned least most) text
@@ -85,7 +87,8 @@ SaysDisk model disk rows =
 
 -- the values of these rows, as clap gives them
 abbrev pub SaysRows : Line → Text → List Row → Type 0
-SaysRows (New model disk sectors) name rows = (name ≡ codes "new") × SaysDisk model.now disk.now rows
+SaysRows (New model disk sectors) name rows = (name ≡ codes "new")
+    × SaysDisk model.now disk.now rows
     × (sectors ≡ number_in (codes "sectors") 8 131072 rows)
 SaysRows (Run model disk nodes batch rounds) name rows = (name ≡ codes "run")
     × SaysDisk model.now disk.now rows

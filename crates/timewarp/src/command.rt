@@ -1,20 +1,22 @@
 // The commands of the program.
 
 ghost use Rattle.std.specs.IoError.{error_kind};
+ghost use Rattle.std.specs.Str.{IsUtf8};
 ghost use Rattle.std.specs.Prelude.{◌≡◌, ◌≤◌, ◌^◌, ◌≢◌, ◌⊎◌, ℕ, List, Err, [], length, map};
-ghost use Rattle.std.specs.Prelude.{IfOk, IsErr, IsOkUnless, OnErr, OnOk};
+ghost use Rattle.std.specs.Prelude.{IfOk, IsErr, IsOkUnless, MatchResult, OnErr, OnOk};
+ghost use Rattle.clap.specs.Values.{kind_of};
 ghost use Rattle.clap.specs.Words.{fault_of};
 ghost use Rattle.commands.specs.declared.fault.CommandFault.{CommandFault};
 ghost use Rattle.timewarp.specs.Command.{of_command, of_model, run_text, Begins, IsChecked, IsFormatted, IsLogged};
 ghost use Rattle.timewarp.specs.Command.{IsOutput, IsRan, IsShown, IsSomeChecked, IsWhole, PrintsBeginning, PrintsRun, PrintsSaid, Prints, BeginsSaid};
 ghost use Rattle.timewarp.specs.Line.{program, IsRanged};
 ghost use Rattle.texts.specs.ModelFile.{IsModelFile};
-ghost use Rattle.texts.specs.Writing.{Writes};
+ghost use Rattle.eventkey.specs.Writing.{Writes};
 ghost use Rattle.models.specs.declared.any_model.AnyModel.{AnyModel};
 ghost use Rattle.timewarp.specs.declared.command.Fault.TheVariants.{BadModel, NoMemory, Output, World as WorldCase};
 
 use crate::line::{Line, read_line};
-use clap::error::ErrorKind as LineFault;
+use clap::error::{Error as LineError, ErrorKind as LineFault};
 use commands::{CommandFault, Simulated};
 use commitlog::LogFault;
 use coordinator::SessionFault;
@@ -85,7 +87,8 @@ where
     O: Write,
     E: Write,
     ensures status { result ≤ 2 }
-    ensures printed { result ≡ 0 → PrintsSaid (map S.text words.now) (O.contents out.old) (O.contents out.new) }
+    ensures printed { result ≡ 0 →
+        PrintsSaid (map S.text words.now) (O.contents out.old) (O.contents out.new) }
     ensures usage { fault_of program (map S.text words.now) ≢ [] → result ≢ 0 }
     ensures line { result ≡ 2 → fault_of program (map S.text words.now) ≢ [] }
     ensures failed { result ≡ 1 → (out.new ≡ out.old)
@@ -95,11 +98,7 @@ where
 {
     let line = match read_line(rt.alloc(), words) {
         Ok(line) => line,
-        Err(error) if error.kind() == LineFault::OutOfMemory => return tell(Fault::NoMemory, err),
-        Err(error) => {
-            let _ = write!(err, "{error}");
-            return 2;
-        }
+        Err(error) => return refuse_line(error, err),
     };
     match run(rt, line, progress, out) {
         Ok(()) => 0,
@@ -121,13 +120,30 @@ where
     O: Write,
     E: Write,
     ensures unread { IsErr words → result ≢ 0 }
-    ensures printed { result ≡ 0 → (said : List (List ℕ)) × PrintsSaid said (O.contents out.old) (O.contents out.new) }
+    ensures printed { result ≡ 0 →
+        (said : List (List ℕ)) × PrintsSaid said (O.contents out.old) (O.contents out.new) }
     ensures silent { result ≡ 2 → out.new ≡ out.old }
     ensures quiet { result ≡ 0 → err.new ≡ err.old }
 {
     match words {
         Ok(words) => command(rt, words.as_slice(), progress, out, err),
         Err(error) => refuse_words(error, err),
+    }
+}
+
+/// Tells on `err` why words are no command, and answers the exit status.
+///
+/// The status is 2 for a mistake in the line or a wish for help, and 1 where memory ran out.
+fn refuse_line<E: Write>(error: LineError, err: &mut E) -> u8
+    ensures usage { kind_of error ≢ LineFault.OutOfMemory → result ≡ 2 }
+    ensures memory { kind_of error ≡ LineFault.OutOfMemory → result ≡ 1 }
+{
+    match error.kind() {
+        LineFault::OutOfMemory => tell(Fault::NoMemory, err),
+        _ => {
+            let _ = write!(err, "{error}");
+            2
+        }
     }
 }
 
@@ -170,7 +186,8 @@ where
     P: Progress,
     O: Write,
     requires { IsRanged line }
-    ensures ok { OnOk result (Prints (IsOutput line.entry) (O.contents out.old) (O.contents out.new)) }
+    ensures ok { OnOk result
+        (Prints (IsOutput line.entry) (O.contents out.old) (O.contents out.new)) }
     ensures err { OnErr result ((out.new ≡ out.old)
         ⊎ Begins (IsOutput line.entry) (O.contents out.old) (O.contents out.new)) }
 {
@@ -211,9 +228,7 @@ where
         ⊎ Begins IsWhole (O.contents out.old) (O.contents out.new)) }
 {
     let bytes = fs::read(rt, model).map_err(unreadable)?;
-    let Ok(text) = str::from_utf8(bytes.as_slice()) else {
-        return Err(Fault::BadModel);
-    };
+    let text = text_of(bytes.as_slice()).map_err(ModelFault::BadModel)?;
     seq(rt.alloc(), text, out)
 }
 
@@ -227,9 +242,7 @@ where
         ⊎ Begins IsSomeChecked (O.contents out.old) (O.contents out.new)) }
 {
     let bytes = fs::read(rt, model).map_err(unreadable)?;
-    let Ok(text) = str::from_utf8(bytes.as_slice()) else {
-        return Err(Fault::Mistake(Mistake::Toml));
-    };
+    let text = text_of(bytes.as_slice()).map_err(Fault::Mistake)?;
     check(rt.alloc(), text, out)
 }
 
@@ -238,7 +251,8 @@ fn format<R, O>(rt: &R, model: &str, disk: &str, sectors: u32, out: &mut O) -> R
 where
     R: Files<File = File> + AllocGlobal,
     O: Write,
-    ensures ok { OnOk result (Prints (IsFormatted sectors) (O.contents out.old) (O.contents out.new)) }
+    ensures ok { OnOk result
+        (Prints (IsFormatted sectors) (O.contents out.old) (O.contents out.new)) }
     ensures err { OnErr result ((out.new ≡ out.old)
         ⊎ Begins (IsFormatted sectors) (O.contents out.old) (O.contents out.new)) }
 {
@@ -307,11 +321,20 @@ fn simulated<R: Files + AllocGlobal>(rt: &R, path: &str) -> Result<Simulated, Fa
     ensures short { IfOk result (λ of. of.end ≤ 2 ^ 40) }
 {
     let bytes = fs::read(rt, path).map_err(unreadable)?;
-    let Ok(text) = str::from_utf8(bytes.as_slice()) else {
-        return Err(Fault::BadModel);
-    };
+    let text = text_of(bytes.as_slice()).map_err(ModelFault::BadModel)?;
     let (model, end) = read_model(rt.alloc(), text)?;
     Ok(Simulated { model, end })
+}
+
+/// The text of a model file; bytes that are no UTF-8 are no TOML.
+fn text_of(bytes: &[u8]) -> Result<&str, Mistake>
+    ensures { MatchResult result (λ text. (text.now ≡ bytes.now) × IsUtf8 bytes.now)
+        (λ mistake. ¬ (IsUtf8 bytes.now) × (mistake ≡ Mistake.Toml)) }
+{
+    match str::from_utf8(bytes) {
+        Ok(text) => Ok(text),
+        Err(_) => Err(Mistake::Toml),
+    }
 }
 
 /// Why a file could not be read.
@@ -331,9 +354,12 @@ fn unreadable(error: IoError) -> Fault
 /// reading it; `World` of the runner; `Output` where the writer refuses. Before the last nothing is written.
 pub fn seq<O: Write>(alloc: Global, text: &str, out: &mut O) -> Result<(), Fault>
     ensures ok { OnOk result (PrintsRun text.now (O.contents out.old) (O.contents out.new)) }
-    ensures bad { result ≡ Err Fault.BadModel → (model : AnyModel) (end : ℕ) → ¬ IsModelFile text.now model end }
-    ensures world { (fault : WorldFault) → result ≡ Err (Fault.World fault) → (model : AnyModel) × (end : ℕ) × IsModelFile text.now model end }
-    ensures output { result ≡ Err Fault.Output → PrintsBeginning text.now (O.contents out.old) (O.contents out.new) }
+    ensures bad { result ≡ Err Fault.BadModel →
+        (model : AnyModel) (end : ℕ) → ¬ IsModelFile text.now model end }
+    ensures world { (fault : WorldFault) → result ≡ Err (Fault.World fault) →
+        (model : AnyModel) × (end : ℕ) × IsModelFile text.now model end }
+    ensures output { result ≡ Err Fault.Output →
+        PrintsBeginning text.now (O.contents out.old) (O.contents out.new) }
     ensures unwritten { (fault : Fault) → result ≡ Err fault → fault ≢ Output → out.new ≡ out.old }
 {
     let (model, end) = read_model(alloc, text)?;
@@ -366,7 +392,8 @@ fn write_run<O: Write>(world: World, out: &mut O) -> Result<(), Fault>
 /// The faults come in this order: `Mistake` where the text is no model file, or `NoMemory` where memory runs out;
 /// `Output` where the writer refuses. Before the last nothing is written.
 pub fn check<O: Write>(alloc: Global, text: &str, out: &mut O) -> Result<(), Fault>
-    ensures ok { OnOk result (Prints (IsChecked text.now) (O.contents out.old) (O.contents out.new)) }
+    ensures ok { OnOk result
+        (Prints (IsChecked text.now) (O.contents out.old) (O.contents out.new)) }
     ensures wrong { (mistake : Mistake) → result ≡ Err (Fault.Mistake mistake) →
         (model : AnyModel) (end : ℕ) → ¬ IsModelFile text.now model end }
     ensures err { OnErr result ((out.new ≡ out.old)

@@ -2,6 +2,7 @@
 
 use crate::line::{Line, read_line};
 use clap::error::ErrorKind;
+use std::alloc::Global;
 
 #[test]
 fn a_line_names_a_command(rt: HostRuntime) {
@@ -18,35 +19,56 @@ fn a_line_names_a_command(rt: HostRuntime) {
     assert!(rt; read.is_ok_and(|line| line == Line::Seq { model: "--help" }));
 }
 
+fn is_read_as(alloc: Global, words: &[&str], want: Line<'_>) -> bool {
+    read_line(alloc, words).is_ok_and(|line| line == want)
+}
+
+fn is_refused_as(alloc: Global, words: &[&str], want: ErrorKind) -> bool {
+    read_line(alloc, words).is_err_and(|error| error.kind() == want)
+}
+
 #[test]
-fn a_line_has_the_values_of_its_command(rt: HostRuntime) {
+fn a_line_names_its_files(rt: HostRuntime) {
+    let (model, disk) = ("a", "b");
     let lines = [
         (
-            ["timewarp", "new", "a", "b"].as_slice(),
-            Line::New {
-                model: "a",
-                disk: "b",
-                sectors: 4096,
-            },
+            ["timewarp", "log", "a", "b"].as_slice(),
+            Line::Log { model, disk },
         ),
+        (
+            ["timewarp", "show", "a", "b"].as_slice(),
+            Line::Show { model, disk },
+        ),
+        (["timewarp", "check", "a"].as_slice(), Line::Check { model }),
+    ];
+    for (words, want) in lines {
+        assert!(rt; is_read_as(rt.alloc(), words, want), "{words:?}");
+    }
+}
+
+#[test]
+fn a_disk_has_4096_sectors_where_no_number_is_given(rt: HostRuntime) {
+    let lines = [
+        (["timewarp", "new", "a", "b"].as_slice(), 4096),
         (
             ["timewarp", "new", "a", "b", "--sectors", "131072"].as_slice(),
-            Line::New {
-                model: "a",
-                disk: "b",
-                sectors: 131_072,
-            },
+            131_072,
         ),
-        (
-            ["timewarp", "run", "a", "b"].as_slice(),
-            Line::Run {
-                model: "a",
-                disk: "b",
-                nodes: 1,
-                batch: 16,
-                rounds: 1_000_000,
-            },
-        ),
+    ];
+    for (words, sectors) in lines {
+        let want = Line::New {
+            model: "a",
+            disk: "b",
+            sectors,
+        };
+        assert!(rt; is_read_as(rt.alloc(), words, want), "{words:?}");
+    }
+}
+
+#[test]
+fn a_run_has_its_numbers(rt: HostRuntime) {
+    let lines = [
+        (["timewarp", "run", "a", "b"].as_slice(), (1, 16, 1_000_000)),
         (
             [
                 "timewarp",
@@ -60,41 +82,23 @@ fn a_line_has_the_values_of_its_command(rt: HostRuntime) {
                 "9",
             ]
             .as_slice(),
-            Line::Run {
-                model: "a",
-                disk: "b",
-                nodes: 64,
-                batch: 9,
-                rounds: 7,
-            },
-        ),
-        (
-            ["timewarp", "log", "a", "b"].as_slice(),
-            Line::Log {
-                model: "a",
-                disk: "b",
-            },
-        ),
-        (
-            ["timewarp", "show", "a", "b"].as_slice(),
-            Line::Show {
-                model: "a",
-                disk: "b",
-            },
-        ),
-        (
-            ["timewarp", "check", "a"].as_slice(),
-            Line::Check { model: "a" },
+            (64, 9, 7),
         ),
     ];
-    for (words, want) in lines {
-        let read = read_line(rt.alloc(), words);
-        assert!(rt; read.is_ok_and(|line| line == want), "{words:?}");
+    for (words, (nodes, batch, rounds)) in lines {
+        let want = Line::Run {
+            model: "a",
+            disk: "b",
+            nodes,
+            batch,
+            rounds,
+        };
+        assert!(rt; is_read_as(rt.alloc(), words, want), "{words:?}");
     }
 }
 
 #[test]
-fn another_line_is_refused_by_its_kind(rt: HostRuntime) {
+fn other_words_are_refused_by_their_kind(rt: HostRuntime) {
     let lines = [
         (
             ["timewarp", "seq"].as_slice(),
@@ -116,22 +120,29 @@ fn another_line_is_refused_by_its_kind(rt: HostRuntime) {
             ["timewarp", "run", "a"].as_slice(),
             ErrorKind::MissingRequiredArgument,
         ),
-        (
-            ["timewarp", "new", "a", "b", "--sectors", "131073"].as_slice(),
-            ErrorKind::ValueValidation,
-        ),
-        (
-            ["timewarp", "run", "a", "b", "--nodes", "65"].as_slice(),
-            ErrorKind::ValueValidation,
-        ),
-        (
-            ["timewarp", "run", "a", "b", "--batch=0"].as_slice(),
-            ErrorKind::ValueValidation,
-        ),
-        (
-            ["timewarp", "run", "a", "b", "--rounds", "4294967296"].as_slice(),
-            ErrorKind::ValueValidation,
-        ),
+    ];
+    for (words, kind) in lines {
+        assert!(rt; is_refused_as(rt.alloc(), words, kind), "{words:?}");
+    }
+}
+
+#[test]
+fn a_number_out_of_its_range_is_refused(rt: HostRuntime) {
+    let lines = [
+        ["timewarp", "new", "a", "b", "--sectors", "131073"].as_slice(),
+        ["timewarp", "run", "a", "b", "--nodes", "65"].as_slice(),
+        ["timewarp", "run", "a", "b", "--batch=0"].as_slice(),
+        ["timewarp", "run", "a", "b", "--rounds", "4294967296"].as_slice(),
+    ];
+    for words in lines {
+        let kind = ErrorKind::ValueValidation;
+        assert!(rt; is_refused_as(rt.alloc(), words, kind), "{words:?}");
+    }
+}
+
+#[test]
+fn help_is_no_command(rt: HostRuntime) {
+    let lines = [
         (
             ["timewarp", "help"].as_slice(),
             ErrorKind::InvalidSubcommand,
@@ -144,7 +155,6 @@ fn another_line_is_refused_by_its_kind(rt: HostRuntime) {
         ),
     ];
     for (words, kind) in lines {
-        let read = read_line(rt.alloc(), words);
-        assert!(rt; read.is_err_and(|error| error.kind() == kind), "{words:?}");
+        assert!(rt; is_refused_as(rt.alloc(), words, kind), "{words:?}");
     }
 }

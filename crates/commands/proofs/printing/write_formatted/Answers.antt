@@ -1,6 +1,6 @@
 use Rattle.std.proofs.Common.{codes, refl}
 use Rattle.commands.proofs.Printed.{writes_last}
-use Rattle.texts.proofs.Written.{writes_as, writes_failed, writes_then, writes_whole, wrote}
+use Rattle.eventkey.proofs.Writers.{writes_as, writes_failed, writes_then, writes_whole, wrote}
 use Rattle.commands.proofs.printing.write_formatted.Goals as goal
 
 pub returns-in_err-write_number-clause-written : goal.returns-in_err-write_number-clause-written

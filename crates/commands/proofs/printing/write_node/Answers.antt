@@ -1,5 +1,5 @@
-use Rattle.std.proofs.Common.{codes, decimal, refl, ◌++◌}
-use Rattle.texts.proofs.Written.{writes_as, writes_failed, writes_no_more, writes_then}
+use Rattle.std.proofs.Common.{codes, decimal, ◌++◌}
+use Rattle.eventkey.proofs.Writers.{writes_failed, writes_no_more, writes_then}
 use Rattle.commands.proofs.printing.write_node.Goals as goal
 
 pub returns-in_err-write_number : goal.returns-in_err-write_number

@@ -2,7 +2,7 @@ use Rattle.std.proofs.Common.{drop, flat_map, length, ◌+◌, arith}
 use Rattle.commands.proofs.Printed.{node_next, nodes_done}
 use Rattle.commands.specs.Commands.{node_text}
 use Rattle.model.specs.World.{below}
-use Rattle.texts.proofs.Written.{writes_broken, writes_end, written_next}
+use Rattle.eventkey.proofs.Writers.{writes_broken, writes_end, written_next}
 use Rattle.commands.proofs.printing.write_nodes.Goals as goal
 
 pub returns-in_err-write_node : goal.returns-in_err-write_node

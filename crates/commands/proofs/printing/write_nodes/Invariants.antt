@@ -1,7 +1,7 @@
 use Rattle.std.proofs.Common.{drop, flat_map, length}
 use Rattle.commands.specs.Commands.{node_text}
 use Rattle.model.specs.World.{below}
-use Rattle.texts.proofs.Written.{HasWritten}
+use Rattle.eventkey.proofs.Writers.{HasWritten}
 use Rattle.commands.proofs.printing.write_nodes.Given as goal
 
 abbrev pub invariant-loop-node : goal.invariant-loop-node

@@ -1,6 +1,6 @@
 use Rattle.std.proofs.Common.{codes, decimal, ◌++◌}
 use Rattle.commands.proofs.Printed.{writes_last}
-use Rattle.texts.proofs.Written.{writes_failed, writes_no_more, writes_then, writes_whole, wrote}
+use Rattle.eventkey.proofs.Writers.{writes_failed, writes_no_more, writes_then, writes_whole, wrote}
 use Rattle.commands.proofs.printing.write_ran.Goals as goal
 
 pub returns-in_err-write_nodes-clause-written : goal.returns-in_err-write_nodes-clause-written

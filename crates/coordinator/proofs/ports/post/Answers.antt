@@ -1,4 +1,3 @@
-use Rattle.std.proofs.Common.{◌≡◌}
 use Rattle.coordinator.proofs.PortStates.{at-read, at-set, others}
 use Rattle.coordinator.proofs.ports.post.Goals as goal
 

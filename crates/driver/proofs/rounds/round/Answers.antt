@@ -1,5 +1,4 @@
-use Rattle.driver.proofs.Drives.{driven_stands, one_step, stood, then_driven, then_stands}
-use Rattle.driver.specs.Driver.{IsDriven, KeepsStanding}
+use Rattle.driver.proofs.Drives.{one_step, stood, then_driven, then_stands}
 use Rattle.driver.proofs.rounds.round.Goals as goal
 
 pub nodes-init : goal.nodes-init

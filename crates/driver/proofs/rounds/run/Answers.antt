@@ -1,8 +1,7 @@
 use Rattle.std.proofs.Common.{◌≡◌, ℕ, List, ◌++◌, append-nil, ap, arith, drop, length, rules, take, ◌∙◌}
 use Rattle.std.proofs.lemmas.List.{drop_all, take_all}
 use Rattle.model.specs.World.{World}
-use Rattle.driver.proofs.Drives.{driven_stands, finished, stood, then_driven, then_stands}
-use Rattle.driver.specs.Driver.{IsDriven, IsFinished, KeepsStanding}
+use Rattle.driver.proofs.Drives.{finished, stood, then_driven, then_stands}
 use Rattle.driver.proofs.rounds.run.Goals as goal
 
 -- a vector whose items were lent out as a slice is as long as before

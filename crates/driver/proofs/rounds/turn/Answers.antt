@@ -1,5 +1,4 @@
 use Rattle.driver.proofs.Drives.{driven_stands, one_step, then_driven, then_stands}
-use Rattle.driver.specs.Driver.{IsDriven, KeepsStanding}
 use Rattle.driver.proofs.rounds.turn.Goals as goal
 
 pub returns-in_err-ran-clause-crashes : goal.returns-in_err-ran-clause-crashes

@@ -1,19 +1,9 @@
 use Rattle.std.proofs.Common.{◌≡◌, ◌∙◌, ◌+◌, ◌-◌, ◌∷◌, ◌++◌, [], List, ℕ, true, false, ap, arith, drop, length, rules, sym, take}
-use Rattle.std.proofs.lemmas.Bool.{false≢true, true≢false}
-use Rattle.std.specs.Prelude.{Err, Ok, OnErr, OnOk, Result}
-use Rattle.std.specs.Result.{is_err}
 use Rattle.eventkey.specs.Bag.{add, add_all, remove_all}
 use Rattle.eventkey.specs.Message.{Message}
+use Rattle.queues.proofs.Exits.{at_err, at_ok}
 use Rattle.queues.proofs.Undone.{add_all-last, last_of-taken, next_of, taken_out}
 use Rattle.queues.proofs.done.wait_again.Goals as goal
-
-at_err : {X E P : Type 0} (r : Result X E) → OnErr r P → is_err r ≡ true → P
-at_err (Ok x) p e = absurd (false≢true e)
-at_err (Err x) p e = p
-
-at_ok : {X E P : Type 0} (r : Result X E) → OnOk r P → is_err r ≡ false → P
-at_ok (Ok x) p e = p
-at_ok (Err x) p e = absurd (true≢false e)
 
 pub returns-then-is_err-clause-unchanged : goal.returns-then-is_err-clause-unchanged
 returns-then-is_err-clause-unchanged c =

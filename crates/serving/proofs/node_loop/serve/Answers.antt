@@ -1,7 +1,7 @@
 use Rattle.serving.proofs.Beginnings.{serve_cut_short, serve_ended, serve_loaded, serve_node_refused, serve_not_read, serve_refused}
 use Rattle.serving.proofs.Places.{found_as}
 use Rattle.serving.proofs.Reacting.{begins_as}
-use Rattle.serving.proofs.Written.{appended_as, begun_as}
+use Rattle.eventkey.proofs.Writers.{appended_as, begun_as}
 use Rattle.serving.proofs.node_loop.serve.Goals as goal
 
 pub returns-in_err-raw : goal.returns-in_err-raw

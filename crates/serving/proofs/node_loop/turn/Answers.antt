@@ -1,5 +1,5 @@
 use Rattle.serving.proofs.Places.{found_as, turn_answered, turn_cut_short, turn_ended, turn_not_read, turn_refused}
-use Rattle.serving.proofs.Written.{appended_as, begun_as}
+use Rattle.eventkey.proofs.Writers.{appended_as, begun_as}
 use Rattle.serving.proofs.node_loop.turn.Goals as goal
 
 pub returns-in_err-raw-clause-told : goal.returns-in_err-raw-clause-told

@@ -1,4 +1,4 @@
-use Rattle.serving.proofs.Written.{written_kept, written_more}
+use Rattle.eventkey.proofs.Writers.{written_kept, written_more}
 use Rattle.serving.proofs.output.write_all.Goals as goal
 use Rattle.serving.proofs.output.write_all.Goals.{in-Ok, in-Err+else-ne}
 

@@ -1,5 +1,5 @@
-use Rattle.std.proofs.Common.{ap, codes, refl, sym, ◌∙◌, ◌≡◌, Some}
-use Rattle.toml.specs.Data.{get_member, string}
+use Rattle.std.proofs.Common.{ap, codes, refl, sym, ◌∙◌, Some}
+use Rattle.toml.specs.Data.{get_member}
 use Rattle.toml.specs.View.{table_view}
 use Rattle.texts.proofs.Tables.{is_string, no_other}
 use Rattle.texts.proofs.model_file.model_of.Goals as goal

@@ -1,7 +1,7 @@
 use Rattle.std.proofs.Common.{ap, Err}
 use Rattle.models.specs.Any.{any_lawful, any_meaning}
 use Rattle.timewarp.proofs.Runs.{bad_model, on_ok, opening_states, upto_end}
-use Rattle.texts.proofs.Written.{began}
+use Rattle.eventkey.proofs.Writers.{began}
 use Rattle.timewarp.proofs.command.seq.Goals as goal
 
 pub run_to-requires : goal.run_to-requires

@@ -3,8 +3,8 @@ use Rattle.timewarp.proofs.Runs.{on_ok}
 use Rattle.timewarp.proofs.command.seq_of.Goals as goal
 
 pub returns-clause-ok : goal.returns-clause-ok
-returns-clause-ok g c = on_ok c.seq.result (whole_printed c.in-Ok.text.now) c.seq.ensures.ok
+returns-clause-ok g c = on_ok c.seq.result (whole_printed c.in_ok-text.text.now) c.seq.ensures.ok
 
 pub returns-clause-err : goal.returns-clause-err
 returns-clause-err g c =
-    on_fault c.seq.result (λ e. whole_begun c.in-Ok.text.now (c.seq.ensures.output e)) (λ f e n. c.seq.ensures.unwritten f e n)
+    on_fault c.seq.result (λ e. whole_begun c.in_ok-text.text.now (c.seq.ensures.output e)) (λ f e n. c.seq.ensures.unwritten f e n)

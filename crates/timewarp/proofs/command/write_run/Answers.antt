@@ -2,8 +2,8 @@ use Rattle.std.proofs.Common.{ap, length, map, refl, subst, sym, [], ◌++◌, �
 use Rattle.std.proofs.lemmas.List.{append-nil, length-map}
 use Rattle.timewarp.specs.Command.{run_text}
 use Rattle.texts.specs.Text.{log_text, world_text}
-use Rattle.texts.specs.Writing.{Writes}
-use Rattle.texts.proofs.Written.{writes_as, writes_failed, writes_then, writes_whole, wrote}
+use Rattle.eventkey.specs.Writing.{Writes}
+use Rattle.eventkey.proofs.Writers.{writes_as, writes_failed, writes_then, writes_whole, wrote}
 use Rattle.timewarp.proofs.command.write_run.Goals as goal
 
 pub write_world-requires : goal.write_world-requires

@@ -1,5 +1,5 @@
 use Rattle.std.proofs.Common.{ap, map, sym, Some, ◌∙◌, ◌≡◌}
-use Rattle.clap.specs.Words.{app_of, fault_of, found_of, is_simple, is_simple_and_free, rows_of, subcommand_of}
+use Rattle.clap.specs.Words.{fault_of, found_of, is_simple, is_simple_and_free, rows_of, subcommand_of}
 use Rattle.timewarp.specs.Line.{program}
 use Rattle.timewarp.proofs.Lines.{only_named, program_is_free, program_is_simple, subcommand_found}
 use Rattle.timewarp.proofs.line.read_line.Goals as goal

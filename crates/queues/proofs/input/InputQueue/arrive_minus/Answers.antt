@@ -1,7 +1,7 @@
 use Rattle.std.proofs.Common.{◌≡◌, ◌∙◌, ap, arith, refl, subst, sym, false, true, length, rules}
-use Rattle.std.specs.Prelude.{Err, Ok, OnErr, Result}
 use Rattle.eventkey.specs.Bag.{IsAscending, add, add_all, is_among}
 use Rattle.eventkey.specs.Signed.{minus}
+use Rattle.queues.proofs.Exits.{on_err}
 use Rattle.queues.proofs.Moves.{minus_met, minus_stayed, minus_undone, same_queue}
 use Rattle.queues.proofs.Places.{after-le}
 use Rattle.queues.proofs.Releases.{popped_is}
@@ -10,10 +10,6 @@ use Rattle.queues.proofs.Undone.{not_taken}
 use Rattle.queues.specs.Inside.{queue_of}
 use Rattle.queues.specs.Queue.{IsInOrder, Queue, after, arrived, last_of}
 use Rattle.queues.proofs.input.InputQueue.arrive_minus.Goals as goal
-
-on_err : {X E P : Type 0} (r : Result X E) → P → OnErr r P
-on_err (Ok x) p = tt
-on_err (Err e) p = p
 
 -- 1. The message waits
 

@@ -1,10 +1,8 @@
 use Rattle.std.proofs.Common.{◌≡◌, ◌∙◌, ap, arith, refl, subst, sym, false, true}
-use Rattle.std.proofs.lemmas.Bool.{false≢true, true≢false}
-use Rattle.std.specs.Prelude.{Err, Ok, OnErr, OnOk, Result}
-use Rattle.std.specs.Result.{is_err}
 use Rattle.eventkey.proofs.Bags.{IsAscending-add}
 use Rattle.eventkey.specs.Bag.{IsAscending, add, add_all, is_among, remove_one}
 use Rattle.eventkey.specs.Signed.{plus}
+use Rattle.queues.proofs.Exits.{at_err, at_ok, on_err}
 use Rattle.queues.proofs.Moves.{plus_met, plus_stayed, same_queue}
 use Rattle.queues.proofs.Places.{after-le}
 use Rattle.queues.proofs.Queues.{queues_stay_in_order}
@@ -12,18 +10,6 @@ use Rattle.queues.proofs.Undone.{not_taken, put_one_back}
 use Rattle.queues.specs.Inside.{queue_of}
 use Rattle.queues.specs.Queue.{IsInOrder, Queue, after, arrived, last_of}
 use Rattle.queues.proofs.input.InputQueue.arrive_plus.Goals as goal
-
-on_err : {X E P : Type 0} (r : Result X E) → P → OnErr r P
-on_err (Ok x) p = tt
-on_err (Err e) p = p
-
-at_err : {X E P : Type 0} (r : Result X E) → OnErr r P → is_err r ≡ true → P
-at_err (Ok x) p e = absurd (false≢true e)
-at_err (Err x) p e = p
-
-at_ok : {X E P : Type 0} (r : Result X E) → OnOk r P → is_err r ≡ false → P
-at_ok (Ok x) p e = p
-at_ok (Err x) p e = absurd (true≢false e)
 
 pub invariant_of-self : goal.invariant_of-self
 invariant_of-self c =
