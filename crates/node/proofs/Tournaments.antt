@@ -155,6 +155,21 @@ pub replay_ends : (leaves width : ℕ) (cells : List Standing) (cell : ℕ) (wan
 replay_ends leaves width cells cell wanted one h =
     record { size = h.size; few = h.few; whole = h.whole; within = h.within; winners = λ k a b. h.winners k a b (omega arith); lows = h.lows; rest = h.rest }
 
+-- where the winner of the next match is what it was, no other match is to be replayed
+pub replay_stops : (leaves width : ℕ) (cells : List Standing) (cell : ℕ) (wanted : List Standing) → HasWinner cells (cell / 2) → IsReplaying leaves width cells cell wanted → IsTournament leaves width cells
+replay_stops leaves width cells cell wanted won h = record {
+  size = h.size;
+  few = h.few;
+  whole = h.whole;
+  within = h.within;
+  winners = λ k a b. elim (cases_eq k (cell / 2)) [
+    | inl e ↦ (let P : ℕ → Type 0 = HasWinner cells in subst P (sym e) won)
+    | inr e ↦ h.winners k a b e
+  ];
+  lows = h.lows;
+  rest = h.rest;
+}
+
 -- an element that is there is what an index reads, whatever stands for those that aren't
 pub cell_at : (cells : List Standing) (k : ℕ) (x : Standing) → x ≡ get_or cells k x → k < length cells → x ≡ get_or cells k absent
 cell_at cells k x e h = e ∙ get_or_default cells k x absent h

@@ -1,6 +1,6 @@
 // What a node keeps of each process beside it, so that it visits only processes with which there is something to do.
 
-ghost use Rattle.std.specs.Prelude.{◌≡◌, ◌<◌, ◌^◌, IfSome};
+ghost use Rattle.std.specs.Prelude.{◌≡◌, ◌<◌, ◌^◌, ◌↔◌, IfSome, IsTrue};
 ghost use Rattle.node.specs.Node.{earliest, lesser};
 ghost use Rattle.node.specs.Seats.{is_due, standing_of};
 ghost use Rattle.node.specs.Tournament.{IsLowInRange, meet};
@@ -9,7 +9,7 @@ use eventkey::Message;
 use process::Process;
 
 /// What stands of a process, or of several: the least of each part.
-#[derive(Clone, Copy)]
+#[derive(Clone, Copy, PartialEq, Eq)]
 pub(crate) struct Standing {
     /// The next message before the end.
     pub next: Option<Message>,
@@ -47,6 +47,13 @@ impl Standing {
             Some(time) => time < floor,
             None => false,
         }
+    }
+
+    /// Whether all parts are the same.
+    pub(crate) fn is_same(&self, other: &Standing) -> bool
+        ensures { IsTrue result ↔ (self.now ≡ other.now) }
+    {
+        *self == *other
     }
 
     /// The lesser of two standings, part by part.

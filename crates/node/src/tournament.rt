@@ -47,7 +47,7 @@ impl Tournament {
         })
     }
 
-    /// Gives a leaf another standing. It takes no memory, and costs the logarithm of the leaves.
+    /// Gives a leaf another standing. It takes no memory, and costs the logarithm of the leaves at the most.
     pub(crate) fn set(&mut self, leaf: usize, standing: Standing)
         requires inside { leaf < length self.old }
         requires range { IsLowInRange standing }
@@ -58,6 +58,10 @@ impl Tournament {
         while cell > 1 {
             cell /= 2;
             let winner = self.cells[2 * cell].meet(&self.cells[2 * cell + 1]);
+            // Where the winner stays what it was, so do all above it.
+            if winner.is_same(&self.cells[cell]) {
+                return;
+            }
             self.cells[cell] = winner;
         }
     }

@@ -17,6 +17,7 @@ use std::test::Fail;
 use wire::LocalPort;
 
 mod opening;
+mod stepping;
 
 #[derive(Drop)]
 struct Ring;

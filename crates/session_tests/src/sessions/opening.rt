@@ -9,7 +9,7 @@ use recovery::RecoveryFault;
 // The opening of a session, and whole sessions.
 
 /// A disk with this image, of at most 1 MiB, whose operation of this number fails, counted from 0.
-fn failing(alloc: Global, image: Vec<u8>, fail: Option<u64>) -> Result<MemDisk, Fail> {
+pub(super) fn failing(alloc: Global, image: Vec<u8>, fail: Option<u64>) -> Result<MemDisk, Fail> {
     if image.len() > 1 << 20 {
         return Ok(MemDisk::blank(alloc, 0)?);
     }

@@ -2,7 +2,7 @@ use Rattle.std.proofs.Common.{◌≡◌, ◌<◌, ℕ, ◌*◌, ◌+◌, ◌/◌
 use Rattle.node.specs.Tournament.{absent, meet}
 use Rattle.node.specs.declared.standing.Standing.{Standing}
 use Rattle.node.proofs.Searches.{leaf_count}
-use Rattle.node.proofs.Tournaments.{IsReplaying, cell_at, replay_begins, replay_ends, replay_goes_on}
+use Rattle.node.proofs.Tournaments.{IsReplaying, cell_at, replay_begins, replay_ends, replay_goes_on, replay_stops}
 use Rattle.node.proofs.tournament.Tournament.set.Goals as goal
 
 pub index_mut-requires : goal.index_mut-requires
@@ -27,6 +27,21 @@ loop-cell-init c =
 
 pub invariant_of-self : goal.invariant_of-self
 invariant_of-self c = replay_ends _ _ _ c.loop-cell.cell _ c.loop-cell-test.false c.loop-cell.invariant
+
+pub invariant_of-self-then-is_same : goal.invariant_of-self-then-is_same
+invariant_of-self-then-is_same c =
+    let cells : List Standing = c.loop-cell.self-inside.cells.items in
+    let cell : ℕ = c.loop-cell.cell in
+    let size = c.loop-cell.invariant.size in
+    let inside = c.loop-cell.invariant.inside in
+    let won : c.meet-winner.result ≡ meet (get_or cells (2 * (cell / 2)) absent) (get_or cells (2 * (cell / 2) + 1) absent) =
+    c.meet-winner.ensures
+    ∙ ap (λ (m : Standing). meet m c.index-in-loop-cell.result.now) (cell_at cells (2 * (cell / 2)) c.index.result.now c.index.ensures (omega arith))
+    ∙ ap (meet (get_or cells (2 * (cell / 2)) absent)) (cell_at cells (2 * (cell / 2) + 1) c.index-in-loop-cell.result.now c.index-in-loop-cell.ensures (omega arith))
+    in
+    replay_stops _ _ cells cell _
+    (sym (cell_at cells (cell / 2) c.index-in-loop-cell-2.result.now c.index-in-loop-cell-2.ensures (omega arith)) ∙ sym (c.is_same.ensures.0 c.if-is_same.true) ∙ won)
+    c.loop-cell.invariant
 
 pub loop-cell-preserved : goal.loop-cell-preserved
 loop-cell-preserved c =
