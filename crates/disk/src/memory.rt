@@ -103,11 +103,12 @@ impl SectorDisk for MemDisk {
         ensures same_synced { self.new.synced ≡ self.old.synced }
         ensures attempted { self.new.attempted ≡ slice_set self.old.attempted n sector.now }
     {
-        if n >= self.image.count() {
+        let place = n as usize;
+        if place >= self.image.sectors.len() {
             return Err(DiskFault::NoSuchSector);
         }
         self.history = self.history.and(&self.image);
-        self.attempted[n as usize] = *sector;
+        self.attempted[place] = *sector;
         self.image.loosen(n);
         if self.schedule.write_fails() {
             return Err(DiskFault::Device);

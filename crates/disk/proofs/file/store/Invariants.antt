@@ -1,5 +1,5 @@
-use Rattle.std.proofs.Common.{◌≤◌}
+use Rattle.std.proofs.Common.{◌-◌}
 use Rattle.disk.proofs.file.store.Given as goal
 
-abbrev pub invariant-loop-n : goal.invariant-loop-n
-invariant-loop-n g l = l.first ≤ l.n
+abbrev pub decreases-loop-from : goal.decreases-loop-from
+decreases-loop-from g l = l.image.end - l.from
