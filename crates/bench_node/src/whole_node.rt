@@ -1,7 +1,9 @@
 // One node that runs all processes of a workload, parcel by parcel.
 
 ghost use Rattle.std.specs.Prelude.{◌≡◌, ◌≤◌, ◌^◌, IfOk};
+ghost use Rattle.bench_node.specs.Scatter.{scatter};
 ghost use Rattle.node.specs.Handling.{IsInRange};
+ghost use Rattle.node.specs.Kept.{HasHistories};
 
 use crate::scatter::{POPULATION, Scatter};
 use eventkey::{Listed, Sign, Signed};
@@ -77,7 +79,9 @@ fn part(alloc: Global, lp: u32) -> Part
 /// The node of all processes, for which nothing waits yet.
 fn loaded(alloc: Global, model: &Scatter, end: u64) -> Result<Node, NodeFault>
     requires { end ≤ 2 ^ 40 }
-    ensures { IfOk result (λ node. node.lps ≡ model.now.lps) }
+    ensures lps { IfOk result (λ node. node.lps ≡ model.now.lps) }
+    ensures histories { IfOk result (λ node.
+        HasHistories (scatter model.now.lps model.now.spread) node) }
 {
     let mut parts = Vec::new(alloc);
     for lp in 0..model.lps {

@@ -56,7 +56,7 @@ first_refusal end CheckpointMove p = None
 abbrev pub IsPortFault : Move → Running → PortFault → Type 0
 IsPortFault k old fault = IsForWant fault
     ⊎ ((fault ≡ Peer node.NumberLimit)
-      × (refusal old.meaning old.end k (picture_of old) ≡ Some NumberLimitRefusal))
+    × (refusal old.meaning old.end k (picture_of old) ≡ Some NumberLimitRefusal))
 
 -- why a step of a session that is not spent is refused; of Full and Disk more is said where the log
 -- is

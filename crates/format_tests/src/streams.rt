@@ -1,7 +1,7 @@
 // Worked frames, byte for byte, and streams that are none.
 
 use eventkey::{Listed, Message, Sign, Signed};
-use frames::{Frame, encode_fault, encode_load, encode_parcel, encode_reply, read_frame};
+use frames::{Frame, encode_fault, encode_load, encode_parcel, encode_reply, read_frame, read_raw};
 use model::{State, Words};
 use node::{Load, NodeFault, Parcel, Part, Reply};
 use process::Done;
@@ -215,7 +215,7 @@ fn refused(alloc: Global, bytes: &[u8]) -> (Option<WireFault>, usize) {
 
 #[test]
 fn what_is_no_frame_is_refused(rt: HostRuntime) {
-    let cases: [(&[u8], Option<WireFault>, usize); 9] = [
+    let cases: [(&[u8], Option<WireFault>, usize); 8] = [
         (&[0, 0, 0, 16, 2], Some(WireFault::Truncated), 0),
         (&[1, 0, 0, 1], Some(WireFault::TooLong), 0),
         (&[1, 0, 0, 1, 9], Some(WireFault::TooLong), 1),
@@ -223,11 +223,25 @@ fn what_is_no_frame_is_refused(rt: HostRuntime) {
         (&[0, 0, 0, 2, 0, 9, 9], Some(WireFault::BadKind), 2),
         (&[0, 0, 0, 1, 4, 7], Some(WireFault::BadBody), 0),
         (&[0, 0, 0], Some(WireFault::Truncated), 0),
-        (&[1, 0, 0, 0, 2, 9], Some(WireFault::Truncated), 0),
         (&[], None, 0),
     ];
     for (bytes, fault, left) in cases {
         assert_eq!(rt; refused(rt.alloc(), bytes), (fault, left));
+    }
+}
+
+// `tools/largest-blocks` looks at what this test asks for.
+#[test]
+fn a_claimed_length_takes_no_memory(rt: HostRuntime) {
+    for kind in 1..5u8 {
+        // A body of 2^24 bytes, of which two come.
+        let bytes = [1, 0, 0, 0, kind, 9, 9];
+        assert_eq!(rt;
+            refused(rt.alloc(), &bytes),
+            (Some(WireFault::Truncated), 0)
+        );
+        let read = read_raw(rt.alloc(), &mut Pieces::of(&bytes, 7));
+        assert_eq!(rt; read.err(), Some(WireFault::Truncated));
     }
 }
 

@@ -1,7 +1,9 @@
-//! Tests of the simulation kernel: messages, the plain runner, processes, nodes and the ledger, through their public functions.
-//! They stand in a crate of their own, since a crate with tests is proved twice.
+//! Tests of the simulation kernel: messages, input queues, the plain runner, nodes with their processes, and the ledger, through their public
+//! functions. They stand in a crate of their own, since a crate with tests is proved twice.
 #![tactic(auto)]
 
+#[cfg(test)]
+mod arrivals;
 #[cfg(test)]
 mod ledgers;
 #[cfg(test)]
@@ -9,6 +11,6 @@ mod messages;
 #[cfg(test)]
 mod nodes;
 #[cfg(test)]
-mod processes;
+mod rows;
 #[cfg(test)]
 mod worlds;

@@ -1,30 +1,30 @@
 // Worked values of messages and their bytes.
 
+use crate::rows::{Row, message, messages};
 use eventkey::*;
+use std::alloc::Global;
 use std::cmp::Ordering;
 use std::test::Fail;
 
-/// The message (3,0,1,1,0,1).
+/// A message as it travels.
+const ROW: Row = (3, 0, 1, 1, 0, 1);
+
+/// Its bytes.
 const SPELLED: [u8; 40] = [
     0, 0, 0, 0, 0, 0, 0, 3, 0, 0, 0, 0, 0, 0, 0, 0, 0, 0, 0, 1, 0, 0, 0, 1, 0, 0, 0, 0, 0, 0, 0, 0,
     0, 0, 0, 0, 0, 0, 0, 1,
 ];
 
 #[test]
-fn spells_a_message(rt: HostRuntime) -> Result<(), Fail> {
-    let message = Message::new(3, 0, 1, 1, 0, 1)?;
+fn a_message_and_an_antimessage_are_spelled(rt: HostRuntime) -> Result<(), Fail> {
+    let message = message(ROW)?;
     let mut bytes = [7; 40];
     put_message(&message, &mut bytes);
     assert_eq!(rt; bytes, SPELLED);
     assert_eq!(rt; get_message(&bytes)?, message);
-    Ok(())
-}
-
-#[test]
-fn spells_an_antimessage(rt: HostRuntime) -> Result<(), Fail> {
     let signed = Signed {
         sign: Sign::Minus,
-        message: Message::new(3, 0, 1, 1, 0, 1)?,
+        message,
     };
     let mut bytes = [7; 41];
     put_signed(&signed, &mut bytes);
@@ -34,119 +34,99 @@ fn spells_an_antimessage(rt: HostRuntime) -> Result<(), Fail> {
     Ok(())
 }
 
-#[test]
-fn ignores_what_follows(rt: HostRuntime) -> Result<(), Fail> {
-    let mut bytes = Vec::new(rt.alloc());
-    bytes.extend_from_slice(&SPELLED)?;
-    bytes.extend_from_slice(&[9; 3])?;
-    assert_eq!(rt; get_message(&bytes)?, Message::new(3, 0, 1, 1, 0, 1)?);
-    let Some((message, rest)) = read_message(&bytes) else {
-        return Err(Fail::new("a message stands there"));
-    };
-    assert_eq!(rt; message.b(), 1);
-    assert_eq!(rt; rest, [9; 3].as_slice());
-    Ok(())
+fn is_later(later: &Message, earlier: &Message) -> bool {
+    earlier < later
+        && earlier.is_before(later)
+        && !later.is_before(earlier)
+        && !later.is_same(earlier)
+        && later.is_same(later)
+        && later.order(earlier) == Ordering::Greater
 }
 
 #[test]
-fn orders_by_each_field_in_turn(rt: HostRuntime) -> Result<(), Fail> {
-    let first = Message::new(1, 1, 1, 1, 1, 1)?;
-    let later = [
-        Message::new(1, 1, 1, 1, 1, 2)?,
-        Message::new(1, 1, 1, 1, 2, 0)?,
-        Message::new(1, 1, 1, 2, 0, 0)?,
-        Message::new(1, 1, 2, 0, 0, 0)?,
-        Message::new(1, 2, 0, 0, 0, 0)?,
-        Message::new(2, 0, 0, 0, 0, 0)?,
+fn messages_go_by_each_field_in_turn(rt: HostRuntime) -> Result<(), Fail> {
+    let rows = [
+        (1, 1, 1, 1, 1, 1),
+        (1, 1, 1, 1, 1, 2),
+        (1, 1, 1, 1, 2, 0),
+        (1, 1, 1, 2, 0, 0),
+        (1, 1, 2, 0, 0, 0),
+        (1, 2, 0, 0, 0, 0),
+        (2, 0, 0, 0, 0, 0),
     ];
-    let mut least = first;
-    for message in later {
-        assert!(rt; least < message);
-        assert!(rt; least.is_before(&message));
-        assert!(rt; !message.is_before(&least));
-        assert!(rt; !message.is_same(&least));
-        assert_eq!(rt; message.order(&least), Ordering::Greater);
-        least = message;
+    let messages = messages(rt.alloc(), &rows)?;
+    for (earlier, later) in messages.iter().zip(messages.iter().skip(1)) {
+        assert!(rt; is_later(later, earlier));
     }
-    assert!(rt; first.is_same(&first));
     Ok(())
 }
 
-#[test]
-fn reads_and_appends_lists(rt: HostRuntime) -> Result<(), Fail> {
-    let messages = [
-        Message::new(1, 2, 3, 4, 5, 6)?,
-        Message::new(3, 0, 1, 1, 0, 1)?,
-    ];
-    let mut bytes = Vec::new(rt.alloc());
-    append_messages(&mut bytes, &messages)?;
-    assert_eq!(rt; bytes.len(), 80);
-    assert_eq!(rt; bytes[40..], SPELLED[..]);
-    let Some((list, rest)) = read_messages(rt.alloc(), 2, &bytes)? else {
-        return Err(Fail::new("two messages stand there"));
+/// Whether these bytes begin with these messages, and with no more.
+fn begins_with(alloc: Global, bytes: &[u8], messages: &[Message]) -> Result<bool, Fail> {
+    let count = u32::try_from(messages.len())?;
+    let Some((read, rest)) = read_messages(alloc, count, bytes)? else {
+        return Ok(false);
     };
-    assert_eq!(rt; list.as_slice(), messages.as_slice());
-    assert_eq!(rt; rest.len(), 0);
-    assert!(rt; read_messages(rt.alloc(), 3, &bytes)?.is_none());
-    Ok(())
+    let more = read_messages(alloc, count.saturating_add(1), bytes)?;
+    Ok(read.as_slice() == messages && rest.is_empty() && more.is_none())
+}
+
+fn begins_with_signed(alloc: Global, bytes: &[u8], list: &[Signed]) -> Result<bool, Fail> {
+    let count = u32::try_from(list.len())?;
+    let Some((read, rest)) = read_signed_list(alloc, count, bytes)? else {
+        return Ok(false);
+    };
+    let more = read_signed_list(alloc, count.saturating_add(1), bytes)?;
+    Ok(read.as_slice() == list && rest.is_empty() && more.is_none())
 }
 
 #[test]
-fn reads_and_appends_signed_lists(rt: HostRuntime) -> Result<(), Fail> {
-    let message = Message::new(3, 0, 1, 1, 0, 1)?;
-    let list = [
-        Signed {
-            sign: Sign::Plus,
-            message,
-        },
-        Signed {
-            sign: Sign::Minus,
-            message,
-        },
-    ];
+fn lists_are_appended_and_read(rt: HostRuntime) -> Result<(), Fail> {
+    let messages = messages(rt.alloc(), &[(1, 2, 3, 4, 5, 6), ROW])?;
+    let mut bytes = Vec::new(rt.alloc());
+    append_messages(&mut bytes, messages.as_slice())?;
+    assert!(rt; bytes.ends_with(&SPELLED));
+    assert!(rt; begins_with(rt.alloc(), bytes.as_slice(), messages.as_slice())?);
+    let message = message(ROW)?;
+    let list = [Sign::Plus, Sign::Minus].map(|sign| Signed { sign, message });
     let mut bytes = Vec::new(rt.alloc());
     append_signed_list(&mut bytes, &list)?;
     assert_eq!(rt; bytes.len(), 82);
-    assert_eq!(rt; (bytes[0], bytes[41]), (0, 1));
-    let Some((again, rest)) = read_signed_list(rt.alloc(), 2, &bytes)? else {
-        return Err(Fail::new("two signed messages stand there"));
-    };
-    assert_eq!(rt; again.as_slice(), list.as_slice());
-    assert_eq!(rt; rest.len(), 0);
-    assert!(rt; read_signed_list(rt.alloc(), 3, &bytes)?.is_none());
+    assert!(rt; bytes.get(0) == Some(&0) && bytes.get(41) == Some(&1));
+    assert!(rt; begins_with_signed(rt.alloc(), bytes.as_slice(), &list)?);
     Ok(())
 }
 
 #[test]
 fn a_refused_append_changes_nothing(rt: HostRuntime) -> Result<(), Fail> {
-    let message = Message::new(3, 0, 1, 1, 0, 1)?;
+    let message = message(ROW)?;
     let mut bytes = Vec::new(rt.alloc());
     if append_message(&mut bytes, &message).is_err() {
         assert_eq!(rt; bytes.len(), 0);
         append_message(&mut bytes, &message)?;
     }
-    assert_eq!(rt; bytes.as_slice(), SPELLED.as_slice());
     let sign = Sign::Minus;
     if append_signed(&mut bytes, &Signed { sign, message }).is_err() {
-        assert_eq!(rt; bytes.as_slice(), SPELLED.as_slice());
+        assert_eq!(rt; bytes.len(), 40);
         append_signed(&mut bytes, &Signed { sign, message })?;
     }
+    assert!(rt; bytes.starts_with(&SPELLED));
+    assert!(rt; bytes.ends_with(&SPELLED));
     assert_eq!(rt; bytes.len(), 81);
-    assert_eq!(rt; bytes[40], 1);
-    assert_eq!(rt; bytes[41..], SPELLED[..]);
+    assert!(rt; bytes.get(40) == Some(&1));
     Ok(())
 }
 
 #[test]
-fn reads_a_list_again_after_want_of_memory(rt: HostRuntime) -> Result<(), Fail> {
-    let messages = match read_messages(rt.alloc(), 1, &SPELLED) {
+fn a_list_is_read_again_after_want_of_memory(rt: HostRuntime) -> Result<(), Fail> {
+    let read = match read_messages(rt.alloc(), 1, &SPELLED) {
         Err(_) => read_messages(rt.alloc(), 1, &SPELLED)?,
-        Ok(messages) => messages,
+        Ok(read) => read,
     };
-    let Some((messages, rest)) = messages else {
+    let Some((messages, rest)) = read else {
         return Err(Fail::new("a message stands there"));
     };
-    assert_eq!(rt; messages.as_slice(), [get_message(&SPELLED)?].as_slice());
+    assert_eq!(rt; messages.as_slice(), [message(ROW)?].as_slice());
     assert_eq!(rt; rest.len(), 0);
     Ok(())
 }
@@ -159,12 +139,14 @@ fn a_claimed_count_takes_no_memory(rt: HostRuntime) -> Result<(), Fail> {
 }
 
 #[test]
-fn tells_its_faults(rt: HostRuntime) -> Result<(), Fail> {
-    let text = format!(in rt.alloc(); "{}", KeyFault::Short)?;
-    assert_eq!(rt; text.as_str(), "Short");
-    let text = format!(in rt.alloc(); "{}", KeyFault::TimeTooLarge)?;
-    assert_eq!(rt; text.as_str(), "TimeTooLarge");
-    let text = format!(in rt.alloc(); "{}", KeyFault::BadSign)?;
-    assert_eq!(rt; text.as_str(), "BadSign");
+fn faults_are_told(rt: HostRuntime) -> Result<(), Fail> {
+    for (fault, name) in [
+        (KeyFault::Short, "Short"),
+        (KeyFault::TimeTooLarge, "TimeTooLarge"),
+        (KeyFault::BadSign, "BadSign"),
+    ] {
+        let told = format!(in rt.alloc(); "{fault}")?;
+        assert_eq!(rt; told.as_str(), name);
+    }
     Ok(())
 }

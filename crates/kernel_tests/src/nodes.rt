@@ -1,74 +1,21 @@
-// Nodes at work on a ring of three processes, which hands a token on after two ticks.
+// Nodes at work on a ring of three processes, which hands a token on after two ticks, up to time 10.
 
 ghost use Rattle.std.specs.Prelude.{◌≡◌, ◌<◌, ◌≤◌, ◌^◌, IfOk};
 ghost use Rattle.std.specs.List.{AllByRecursion as Every};
 ghost use Rattle.node.specs.Handling.{IsInRange};
-ghost use Rattle.process.specs.Ring.{ring_lawful, ring_meaning};
 
-mod memory;
 mod plain;
-mod relay;
 mod schedules;
-mod sharing;
 
+use crate::rows::{Row, are, are_signed, messages, row, signed_list};
 use eventkey::{Listed, Message, Sign, Signed};
-use model::{Model as Simulated, Outgoing, Sends, State, Words};
+use model::{Model as Simulated, State, Words};
+use models::TokenRing;
 use node::{Load, Node, NodeFault, Parcel, Part, Reply};
 use process::{Done, Process};
 use std::alloc::Global;
 use std::process::Abort;
 use std::test::Fail;
-
-#[derive(Drop)]
-struct Ring;
-
-impl Simulated for Ring {
-    ghost meaning = { λ _. ring_meaning };
-
-    ghost lawful = { λ _. ring_lawful };
-
-    fn lps(&self) -> u32 {
-        3
-    }
-
-    fn identity(&self, alloc: Global) -> smallvec::SmallVec<u64, 8> {
-        smallvec::SmallVec::new(alloc)
-    }
-
-    fn start(&self, alloc: Global, _lp: u32) -> (Words, Sends) {
-        let mut words = Words::new(alloc);
-        words.push_reserved(0);
-        (words, Sends::new(alloc))
-    }
-
-    fn handle(&self, alloc: Global, lp: u32, state: &Words, message: &Message) -> (Words, Sends) {
-        let count = state.as_slice().first().copied().unwrap_or(0);
-        let mut words = Words::new(alloc);
-        words.push_reserved(count.saturating_add(1));
-        let mut sends = Sends::new(alloc);
-        sends.push_reserved(Outgoing {
-            to: (lp + 1) % 3,
-            delay: 2,
-            a: message.a(),
-            b: message.b().wrapping_add(1),
-        });
-        (words, sends)
-    }
-}
-
-fn plus(message: Message) -> Signed {
-    Signed {
-        sign: Sign::Plus,
-        message,
-    }
-}
-
-fn minus(message: Message) -> Signed {
-    Signed {
-        sign: Sign::Minus,
-        message,
-    }
-}
 
 /// A node with its model, which may be handed any parcel.
 #[derive(Drop)]
@@ -80,12 +27,14 @@ struct Tried<M: Simulated + Drop> {
 impl<M: Simulated + Drop> std::marker::Model for Tried<M> {
     ghost use Rattle.std.specs.Prelude.{◌≡◌, false};
     ghost use Rattle.node.specs.Handling.{Node};
+    ghost use Rattle.node.specs.Kept.{HasHistories};
 
     ghost Value = { Node };
 
     ghost view = { λ t. t.node };
 
-    ghost invariant = { λ t. t.node.spent ≡ false → (M.meaning t.model).lps ≡ t.node.lps };
+    ghost invariant = { λ t. (t.node.spent ≡ false → (M.meaning t.model).lps ≡ t.node.lps)
+        × HasHistories (M.meaning t.model) t.node };
 }
 
 impl<M: Simulated + Drop> Tried<M> {
@@ -105,40 +54,34 @@ impl<M: Simulated + Drop> Tried<M> {
 }
 
 /// A process in state 0, whose next send has this number, and for which these messages wait.
-fn part(alloc: Global, lp: u32, number: u64, pending: &[Message]) -> Result<Part, NodeFault>
-    ensures { IfOk result IsInRange }
+fn part(lp: u32, number: u64, alloc: Global, pending: Vec<Message>) -> Part
+    ensures { IsInRange result }
 {
     let mut words = Words::new(alloc);
     words.push_reserved(0);
-    Ok(Part {
+    Part {
         lp,
         number: number.min(Process::NUMBER_LIMIT),
         words: State::from_words(words),
-        pending: Listed::from_vec(pending.to_vec(alloc)?),
-    })
+        pending: Listed::from_vec(pending),
+    }
 }
 
 /// A process as a test names it: its number, the number of its next send, and what waits for it.
-type Seat<'a> = (u32, u64, &'a [Message]);
+type Seat<'a> = (u32, u64, &'a [Row]);
 
-fn parts(alloc: Global, seats: &[Seat]) -> Result<Vec<Part>, NodeFault>
+fn parts(alloc: Global, seats: &[Seat]) -> Result<Vec<Part>, Fail>
     ensures { IfOk result (λ parts. Every IsInRange parts.items) }
 {
     let mut parts = Vec::new(alloc);
     for (lp, number, pending) in seats {
-        parts.push(part(alloc, *lp, *number, pending)?)?;
+        parts.push(part(*lp, *number, alloc, messages(alloc, pending)?))?;
     }
     Ok(parts)
 }
 
-/// Node `node` of so many, of the ring that ends at 10, with this floor.
-fn load_from(
-    alloc: Global,
-    floor: u64,
-    node: u32,
-    nodes: u32,
-    seats: &[Seat],
-) -> Result<Tried<Ring>, NodeFault>
+/// Node `node` of so many.
+fn load(alloc: Global, node: u32, nodes: u32, seats: &[Seat]) -> Result<Tried<TokenRing>, Fail>
     requires node { node < nodes }
     requires nodes { nodes ≤ 64 }
 {
@@ -146,105 +89,164 @@ fn load_from(
         node,
         nodes,
         end: 10,
-        floor,
+        floor: 0,
         parts: Listed::from_vec(parts(alloc, seats)?),
     };
-    Tried::load(alloc, Ring, load)
+    Ok(Tried::load(alloc, TokenRing::new(3, 2, 1), load)?)
 }
 
-/// Node `node` of so many, of the ring that ends at 10, with the floor 0.
-fn load(alloc: Global, node: u32, nodes: u32, seats: &[Seat]) -> Result<Tried<Ring>, NodeFault>
-    requires node { node < nodes }
-    requires nodes { nodes ≤ 64 }
-{
-    load_from(alloc, 0, node, nodes, seats)
+/// A parcel as a test names it: what is delivered, the budget, and the floor in ticks.
+type Posted<'a> = (&'a [(Sign, Row)], u32, u64);
+
+/// A fossil as a test wants it: the message, the one message that it made the process send, the process's count of
+/// messages and the number of its next send.
+type Fossil = (Row, Row, u64, u64);
+
+/// A reply as a test wants it: what goes out, the low, how many messages were handled, and the fossils.
+type Wanted<'a> = (&'a [(Sign, Row)], Option<u64>, u32, &'a [Fossil]);
+
+fn is_fossil(fossil: &Done, wanted: &Fossil) -> bool {
+    let (handled, sent, count, number) = *wanted;
+    row(&fossil.message) == handled
+        && are(fossil.sent.as_slice(), &[sent])
+        && fossil.after.words().as_slice() == [count].as_slice()
+        && fossil.number_after == number
 }
 
-fn parcel(alloc: Global, deliver: &[Signed], budget: u32, floor: u64) -> Result<Parcel, NodeFault> {
+fn is_told(reply: &Reply, wanted: &Wanted) -> bool {
+    let (out, low, ran, fossils) = *wanted;
+    are_signed(reply.out.as_slice(), out)
+        && reply.low == low
+        && reply.ran == ran
+        && reply.fossils.as_slice().len() == fossils.len()
+        && reply
+            .fossils
+            .as_slice()
+            .iter()
+            .zip(fossils)
+            .all(|(fossil, wanted)| is_fossil(fossil, wanted))
+}
+
+fn parcel(alloc: Global, posted: &Posted) -> Result<Parcel, Fail> {
+    let (deliver, budget, floor) = *posted;
     Ok(Parcel {
-        deliver: Listed::from_vec(deliver.to_vec(alloc)?),
+        deliver: Listed::from_vec(signed_list(alloc, deliver)?),
         budget,
         floor,
     })
 }
 
-/// Hands a node these deliveries, with a budget of 16 and this floor.
-fn hand(
-    alloc: Global,
-    node: &mut Tried<Ring>,
-    deliver: &[Signed],
-    floor: u64,
-) -> Result<Reply, NodeFault> {
-    node.handle(parcel(alloc, deliver, 16, floor)?)
-}
-
-/// A fossil as a test wants it: the message, the one message that it made the process send, the process's count of
-/// messages and the number of its next send.
-type Fossil = (Message, Message, u64, u64);
-
-fn word(state: &State) -> u64 {
-    state.words().as_slice().first().copied().unwrap_or(0)
-}
-
-fn is_fossil(fossil: &Done, wanted: &Fossil) -> bool {
-    let (message, sent, count, number) = *wanted;
-    fossil.message == message
-        && fossil.sent.as_slice() == [sent].as_slice()
-        && word(&fossil.after) == count
-        && fossil.number_after == number
-}
-
-/// The reply is as told, each part of it.
-fn told(
+/// Hands a node parcels, until one is refused memory, which leaves the node spent.
+fn play(
     rt: &impl Abort,
-    reply: &Reply,
-    out: &[Signed],
-    low: Option<u64>,
-    ran: u32,
-    fossils: &[Fossil],
-) {
-    assert_eq!(rt; reply.out.as_slice(), out);
-    assert_eq!(rt; reply.low, low);
-    assert_eq!(rt; reply.ran, ran);
-    assert_eq!(rt; reply.fossils.as_slice().len(), fossils.len());
-    for (fossil, wanted) in reply.fossils.as_slice().iter().zip(fossils) {
-        assert!(rt; is_fossil(fossil, wanted), "at {wanted:?}");
+    alloc: Global,
+    node: &mut Tried<TokenRing>,
+    steps: &[(Posted, Wanted)],
+) -> Result<(), Fail> {
+    for (place, (posted, wanted)) in steps.iter().enumerate() {
+        match node.handle(parcel(alloc, posted)?) {
+            Ok(reply) => assert!(rt; is_told(&reply, wanted), "at {place}"),
+            Err(fault) => {
+                assert_eq!(rt; fault, NodeFault::NoMemory);
+                let again = node.handle(parcel(alloc, posted)?);
+                assert_eq!(rt; again.err(), Some(NodeFault::Spent));
+                return Ok(());
+            }
+        }
     }
+    Ok(())
 }
 
-/// The messages of a token that goes round the ring from process 0 at time 1.
-#[derive(Clone, Copy)]
-struct Journey {
-    first: Message,
-    to_one: Message,
-    to_two: Message,
-    to_zero: Message,
-    again: Message,
-    last: Message,
+const fn plus(row: Row) -> (Sign, Row) {
+    (Sign::Plus, row)
 }
 
-fn token() -> Result<Journey, Fail> {
-    Ok(Journey {
-        first: Message::new(1, 0, 0, 0, 0, 0)?,
-        to_one: Message::new(3, 0, 1, 1, 0, 1)?,
-        to_two: Message::new(5, 1, 0, 2, 0, 2)?,
-        to_zero: Message::new(7, 2, 0, 0, 0, 3)?,
-        again: Message::new(9, 0, 2, 1, 0, 4)?,
-        last: Message::new(11, 1, 1, 2, 0, 5)?,
-    })
+const fn minus(row: Row) -> (Sign, Row) {
+    (Sign::Minus, row)
 }
 
 #[test]
 fn a_token_passes_node_zero_of_three(rt: HostRuntime) -> Result<(), Fail> {
-    let (alloc, t) = (rt.alloc(), token()?);
-    let mut node = load(alloc, 0, 3, &[(0, 1, &[t.first])])?;
-    let reply = hand(alloc, &mut node, &[], 1)?;
-    told(&rt, &reply, &[plus(t.to_one)], None, 1, &[]);
-    let reply = hand(alloc, &mut node, &[plus(t.to_zero)], 7)?;
-    let fossil = (t.first, t.to_one, 1, 2);
-    told(&rt, &reply, &[plus(t.again)], None, 1, &[fossil]);
-    let reply = hand(alloc, &mut node, &[], 10)?;
-    let fossil = (t.to_zero, t.again, 2, 3);
-    told(&rt, &reply, &[], None, 0, &[fossil]);
-    Ok(())
+    let (first, to_one) = ((1, 0, 0, 0, 0, 0), (3, 0, 1, 1, 0, 1));
+    let (to_zero, again) = ((7, 2, 0, 0, 0, 3), (9, 0, 2, 1, 0, 4));
+    let mut node = load(rt.alloc(), 0, 3, &[(0, 1, &[first])])?;
+    let steps: [(Posted, Wanted); 3] = [
+        ((&[], 16, 1), (&[plus(to_one)], None, 1, &[])),
+        (
+            (&[plus(to_zero)], 16, 7),
+            (&[plus(again)], None, 1, &[(first, to_one, 1, 2)]),
+        ),
+        ((&[], 16, 10), (&[], None, 0, &[(to_zero, again, 2, 3)])),
+    ];
+    play(&rt, rt.alloc(), &mut node, &steps)
+}
+
+#[test]
+fn fossils_come_by_process(rt: HostRuntime) -> Result<(), Fail> {
+    let (zero, from_zero) = ((4, 0, 0, 0, 0, 0), (6, 0, 5, 1, 0, 1));
+    let (one, from_one) = ((1, 1, 0, 1, 0, 0), (3, 1, 5, 2, 0, 1));
+    let (two, from_two) = ((2, 2, 0, 2, 0, 0), (4, 2, 5, 0, 0, 1));
+    let seats: [Seat; 3] = [(0, 5, &[zero]), (1, 5, &[one]), (2, 5, &[two])];
+    let mut node = load(rt.alloc(), 0, 1, &seats)?;
+    let steps: [(Posted, Wanted); 1] = [(
+        (&[], 16, 5),
+        (
+            &[plus(from_one), plus(from_two), plus(from_zero)],
+            None,
+            3,
+            &[
+                (zero, from_zero, 1, 6),
+                (one, from_one, 1, 6),
+                (two, from_two, 1, 6),
+            ],
+        ),
+    )];
+    play(&rt, rt.alloc(), &mut node, &steps)
+}
+
+#[test]
+fn an_antimessage_that_waits_counts_as_low(rt: HostRuntime) -> Result<(), Fail> {
+    let (early, late) = ((3, 0, 0, 1, 0, 0), (8, 1, 0, 2, 0, 0));
+    let mut node = load(rt.alloc(), 0, 1, &[(0, 0, &[]), (1, 0, &[]), (2, 0, &[])])?;
+    let steps: [(Posted, Wanted); 2] = [
+        ((&[minus(early), plus(late)], 0, 0), (&[], Some(3), 0, &[])),
+        ((&[plus(early)], 0, 0), (&[], Some(8), 0, &[])),
+    ];
+    play(&rt, rt.alloc(), &mut node, &steps)
+}
+
+// Three processes with four messages. Then a straggler comes for process 0, the antimessage of what process 1 handled, and two
+// of the messages that went out.
+#[test]
+fn what_is_undone_and_done_again_goes_out_in_order(rt: HostRuntime) -> Result<(), Fail> {
+    let (zero, again) = ((1, 0, 0, 0, 0, 0), (4, 0, 1, 0, 0, 0));
+    let (one, two) = ((2, 1, 0, 1, 0, 0), (3, 2, 0, 2, 0, 0));
+    let (from_zero, from_again) = ((3, 0, 5, 1, 0, 1), (6, 0, 6, 1, 0, 1));
+    let (from_one, from_two) = ((4, 1, 5, 2, 0, 1), (5, 2, 5, 0, 0, 1));
+    let straggler = (3, 0, 9, 0, 7, 0);
+    let seats: [Seat; 3] = [(0, 5, &[zero, again]), (1, 5, &[one]), (2, 5, &[two])];
+    let mut node = load(rt.alloc(), 0, 1, &seats)?;
+    let out = [
+        plus(from_zero),
+        plus(from_one),
+        plus(from_two),
+        plus(from_again),
+    ];
+    let deliver = [plus(straggler), minus(one), plus(from_two), plus(from_zero)];
+    let sent = [
+        minus(from_again),
+        minus(from_one),
+        plus((5, 1, 5, 2, 0, 2)),
+        plus((5, 0, 6, 1, 7, 1)),
+        plus((6, 0, 7, 1, 0, 1)),
+        plus((7, 0, 8, 1, 0, 2)),
+    ];
+    let steps: [(Posted, Wanted); 2] = [
+        ((&[], 4, 0), (&out, None, 4, &[])),
+        (
+            (&deliver, 4, 2),
+            (&sent, None, 4, &[(zero, from_zero, 1, 6)]),
+        ),
+    ];
+    play(&rt, rt.alloc(), &mut node, &steps)
 }

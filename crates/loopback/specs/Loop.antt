@@ -2,6 +2,7 @@
 use Rattle.std.specs.Prelude.{ℕ, true, false, ◌≡◌, List, [], Option, Some, Result, Ok}
 use Rattle.model.specs.Meaning.{Meaning}
 use Rattle.node.specs.Handling.{Node}
+use Rattle.node.specs.Kept.{HasHistories}
 use Rattle.node.specs.declared.Parcel.{Parcel}
 use Rattle.frames.specs.Cutting.{frame_cut}
 use Rattle.frames.specs.Laws.{IsSpelled}
@@ -46,9 +47,10 @@ node_of Ended = nobody
 abbrev pub state_of : Meaning → Held → PortState
 state_of m held = record { stage = stage_of held; tells = true; meaning = m; node = node_of held }
 
--- its node is one of this model, and the bytes are the frame of a parcel, and nothing else
+-- its node is one of this model and has handled what it does, and the bytes are the frame of a parcel, and nothing else
 abbrev pub IsOfModel : Meaning → Held → Type 0
-IsOfModel m (Idle node) = (node.spent ≡ false) × (node.lps ≡ m.lps)
+IsOfModel m (Idle node) = (node.spent ≡ false) × (node.lps ≡ m.lps) × HasHistories m node
 IsOfModel m (Posted node bytes) =
-    (node.spent ≡ false) × (node.lps ≡ m.lps) × IsSpelled bytes (frame.Parcel (posted_in bytes)) []
+    (node.spent ≡ false) × (node.lps ≡ m.lps) × HasHistories m node
+    × IsSpelled bytes (frame.Parcel (posted_in bytes)) []
 IsOfModel m held = Unit {0}

@@ -7,6 +7,7 @@ ghost use Rattle.frames.specs.declared.Frame.{Frame};
 ghost use Rattle.frames.specs.declared.Frame.TheVariants as frame;
 ghost use Rattle.loopback.specs.Passing.{IsMade, IsRefusal, IsReplyBy};
 ghost use Rattle.node.specs.Handling.{answer, load_refusal};
+ghost use Rattle.node.specs.Kept.{HasHistories};
 ghost use Rattle.node.specs.declared.Parcel.{Parcel};
 ghost use Rattle.wire.specs.Port.{IsForWant, IsLoadInRange};
 
@@ -62,6 +63,7 @@ fn replied(alloc: Global, bytes: &[u8]) -> Result<Reply, PortFault>
 pub(crate) fn loaded<M: Simulated>(alloc: Global, model: &M, load: &Load) -> Result<Node, PortFault>
     requires { IsLoadInRange load.now }
     ensures ok { IfOk result (λ n. IsMade (M.meaning model.now).lps load.now n) }
+    ensures histories { IfOk result (λ n. HasHistories (M.meaning model.now) n) }
     ensures err { IfErr result (λ fault.
         IsRefusal (λ n. load_refusal (M.meaning model.now).lps load.now ≡ Some n) fault) }
 {
@@ -87,12 +89,14 @@ pub(crate) fn handled<M: Simulated>(
     node: &mut Node,
     parcel: &[u8],
 ) -> Result<Reply, PortFault>
-    requires { node.old.spent ≡ false → (M.meaning model.now).lps ≡ node.old.lps }
+    requires lps { node.old.spent ≡ false → (M.meaning model.now).lps ≡ node.old.lps }
+    requires histories { HasHistories (M.meaning model.now) node.old }
     ensures ok { (p : Parcel) → IsSpelled parcel.now (frame.Parcel p) [] →
         IfOk result (λ reply. IsReplyBy (answer (M.meaning model.now) node.old p) node.new reply) }
     ensures err { (p : Parcel) → IsSpelled parcel.now (frame.Parcel p) [] → IfErr result (λ fault.
         IsRefusal (λ n. (answer (M.meaning model.now) node.old p).result ≡ Err n) fault) }
     ensures lps { node.new.spent ≡ false → (M.meaning model.now).lps ≡ node.new.lps }
+    ensures histories { HasHistories (M.meaning model.now) node.new }
 {
     let raw = arrived(alloc, parcel)?;
     match react(alloc, model, node, &raw) {

@@ -6,5 +6,3 @@ pub mod Runner
 -- Inside: what contracts see of a world, and how the runner keeps what is pending
 pub mod Inside
 pub mod Pending
--- For tests: a token ring
-pub mod Ring

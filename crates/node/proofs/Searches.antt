@@ -1,12 +1,12 @@
 -- Down from the root of a tournament to the first leaf at which something is due.
-use Rattle.std.proofs.Common.{◌≡◌, ℕ, zero, suc, ◌+◌, ◌*◌, ◌/◌, ◌-◌, ◌<◌, ◌≤◌, ◌^◌, Bool, true, false, List, [], ◌∷◌, length, drop, take, get_or, None, Some, refl, sym, subst, ◌∙◌, ap, arith, inl, inr}
+use Rattle.std.proofs.Common.{◌≡◌, ℕ, zero, suc, ◌+◌, ◌*◌, ◌/◌, ◌-◌, ◌<◌, ◌≤◌, ◌^◌, Bool, true, false, List, length, drop, take, get_or, None, Some, refl, sym, subst, ◌∙◌, ap, arith, inl, inr}
 use Rattle.std.proofs.Math.Nat.{pow-succ'}
 use Rattle.std.proofs.lemmas.Bool.{both_ways, cases_eq, cases_lt, le-ltb, lt-ltb, ltb-false, ltb-true}
 use Rattle.std.proofs.lemmas.List.{get_or-drop, get_or-take, length-drop, length-take-le}
-use Rattle.std.specs.Prelude.{Option, min, nat_lt, ◌⊎◌}
+use Rattle.std.specs.Prelude.{Option, min}
 use Rattle.node.specs.Node.{earliest}
 use Rattle.node.specs.Seats.{is_due}
-use Rattle.node.specs.Tournament.{HasWinner, IsFirstDue, IsQuiet, IsTournament, absent, meet}
+use Rattle.node.specs.Tournament.{HasWinner, IsFirstDue, IsQuiet, IsTournament, absent}
 use Rattle.node.specs.declared.standing.Standing.{Standing}
 
 -- 1. Due, or not, in a match

@@ -1,5 +1,5 @@
 -- The processes of a node stand at their places, and stay there when one of them changes.
-use Rattle.std.proofs.Common.{◌≡◌, ℕ, zero, suc, ◌+◌, ◌*◌, ◌/◌, ◌%◌, ◌<◌, ◌≤◌, List, [], ◌∷◌, ◌++◌, length, get_or, set, Option, sym, subst, ◌∙◌, ap, arith, inl, inr}
+use Rattle.std.proofs.Common.{◌≡◌, ℕ, zero, suc, ◌+◌, ◌*◌, ◌/◌, ◌%◌, ◌<◌, ◌≤◌, List, [], ◌∷◌, ◌++◌, length, get_or, set, sym, subst, ◌∙◌, ap, arith, inl, inr}
 use Rattle.std.specs.List.{AllByRecursion as Every}
 use Rattle.std.proofs.Math.Nat.{mul-le-mul_right, mod-add-div', mod-eq_of_lt, add-mul-mod_self_right}
 use Rattle.std.proofs.Math.Seq.{get_or-append_seam, map-set_same}
@@ -7,7 +7,6 @@ use Rattle.std.proofs.lemmas.Bool.{both_ways, cases_Bool, cases_eq, cases_lt, co
 use Rattle.std.proofs.lemmas.List.{map-set, get_or-map, get_or_append_left, length-map, length-append, append-nil}
 use Rattle.std.proofs.lemmas.List.Elements.{filter-append}
 use Rattle.std.proofs.lemmas.Nat.{div-mul-add}
-use Rattle.eventkey.specs.Message.{Message}
 use Rattle.eventkey.proofs.Lists.{Every-get_or}
 use Rattle.model.specs.World.{below}
 use Rattle.process.specs.Process.{nobody}

@@ -8,5 +8,3 @@ pub mod Fault
 pub mod Roster
 pub mod Seats
 pub mod Tournament
--- For tests: six processes that send each message on twice
-pub mod Relay

@@ -4,6 +4,7 @@ use Rattle.std.specs.Prelude.{ℕ, Bool, false, List, [], Some, None, map, if◌
 use Rattle.eventkey.specs.Message.{Message}
 use Rattle.eventkey.specs.declared.Signed.{Signed}
 use Rattle.process.specs.Process.{Process}
+use Rattle.process.specs.Told.{IsHistory}
 use Rattle.queues.specs.Record.{messages}
 use Rattle.model.specs.Meaning.{Meaning}
 use Rattle.node.specs.Handling.{Node, after, own_lps}
@@ -44,6 +45,11 @@ pub record IsSeated (floor : ℕ) (q : ProcessView) : Type 0 where
   pub unspent : q.spent ≡ false
   pub own_done : Every (λ (x : Message). x.to ≡ q.lp) (messages q.process.done)
   pub own_waiting : Every (λ (x : Message). x.to ≡ q.lp) q.process.waiting
+
+-- a process of the model, which has handled what it has as the model does
+pub record IsModelled (m : Meaning) (q : ProcessView) : Type 0 where
+  pub there : q.lp < m.lps
+  pub history : IsHistory m q.lp q.process
 
 -- the processes of a node that is not spent, and what stands of them in its tournament
 pub record IsStaffed (p : Place) (seats : List ProcessView) (standings : List Standing) : Type 0 where

@@ -49,7 +49,8 @@ impl Node {
         requires nodes { load.nodes ≤ 64 }
         requires end { load.end ≤ 2 ^ 40 }
         requires parts { Every IsInRange load.parts }
-        ensures { IsLoaded (M.meaning model.now).lps load result }
+        ensures loaded { IsLoaded (M.meaning model.now).lps load result }
+        ensures histories { IfOk result (λ node. HasHistories (M.meaning model.now) node) }
     {
         let lps = model.lps();
         let parts = load.parts.as_slice();
@@ -92,12 +93,13 @@ impl Node {
     ///
     /// It costs the deliveries, the handlings and the handlings let go, each with the logarithm of the node's processes.
     pub fn handle<M: Simulated>(&mut self, model: &M, parcel: Parcel) -> Result<Reply, NodeFault>
-        requires { self.old.spent ≡ false → (M.meaning model.now).lps ≡ self.old.lps }
+        requires lps { self.old.spent ≡ false → (M.meaning model.now).lps ≡ self.old.lps }
+        requires histories { HasHistories (M.meaning model.now) self.old }
         ensures answered { IsAnswered (M.meaning model.now) parcel self.old self.new result }
         ensures range { IfOk result IsReplyInRange }
         ensures limit { IsLimitedAtOnce (M.meaning model.now) parcel self.old → result ≡ Err NumberLimit }
         ensures lps { self.new.lps ≡ self.old.lps }
-        ensures histories { HasHistories (M.meaning model.now) self.old → HasHistories (M.meaning model.now) self.new }
+        ensures histories { HasHistories (M.meaning model.now) self.new }
     {
         if let Some(fault) = self.refusal(&parcel) {
             return Err(fault);

@@ -6,7 +6,7 @@ ghost use Rattle.process.specs.Process.{fossils_of, has_room, nobody, release};
 ghost use Rattle.process.specs.View.{IsDoneInRange};
 ghost use Rattle.node.specs.Handling.{IsReplyInRange, after, first_fault, is_own};
 ghost use Rattle.node.specs.Node.{deliver_here, deliver_one_here, here, reply_of, run_here, run_one_here, start};
-ghost use Rattle.node.specs.Roster.{Fails, IsReady, IsStaffed, IsWorked, at_floor, node_of, place_of, processes_of, work_of};
+ghost use Rattle.node.specs.Roster.{Fails, IsModelled, IsReady, IsStaffed, IsWorked, at_floor, node_of, place_of, processes_of, work_of};
 ghost use Rattle.node.specs.Tournament.{least_among};
 ghost use Rattle.node.specs.declared.NodeFault.TheVariants.{NoMemory, NumberLimit};
 
@@ -57,43 +57,51 @@ impl Roster {
     }
 
     /// Hands a delivery to its process.
-    pub(crate) fn deliver(
+    pub(crate) fn deliver<M: Simulated>(
         &mut self,
+        model: &M,
         delivery: &Signed,
         out: &mut Vec<Signed>,
     ) -> Result<(), NodeFault>
         requires ready { IsReady self.old }
+        requires modelled { Every (IsModelled (M.meaning model.now)) self.old.processes.items }
         requires own { is_own (node_of false self.old) delivery.now.message.to ≡ true }
         requires late { self.old.floor ≤ delivery.now.message.time }
         ensures ready { OnOk result (IsReady self.new) }
+        ensures modelled { OnOk result
+            (Every (IsModelled (M.meaning model.now)) self.new.processes.items) }
         ensures place { place_of self.new ≡ place_of self.old }
         ensures work { (ran : ℕ) → OnOk result (work_of self.new out.new.items ran ≡ deliver_one_here self.old.nodes delivery.now (work_of self.old out.old.items ran)) }
         ensures memory { IfErr result (λ fault. fault ≡ NoMemory) }
     {
         let place = (delivery.message.to() / self.nodes) as usize;
         let process = &mut self.processes[place];
-        process.deliver(*delivery, out)?;
+        process.deliver(model, *delivery, out)?;
         let standing = Standing::of(process, self.end);
         self.standings.set(place, standing);
         Ok(())
     }
 
     /// Hands all deliveries over, in their order.
-    pub(crate) fn deliver_all(
+    pub(crate) fn deliver_all<M: Simulated>(
         &mut self,
+        model: &M,
         deliveries: &[Signed],
         out: &mut Vec<Signed>,
     ) -> Result<(), NodeFault>
         requires ready { IsReady self.old }
+        requires modelled { Every (IsModelled (M.meaning model.now)) self.old.processes.items }
         requires accepted { first_fault (node_of false self.old) deliveries.now ≡ None }
         ensures ready { OnOk result (IsReady self.new) }
+        ensures modelled { OnOk result
+            (Every (IsModelled (M.meaning model.now)) self.new.processes.items) }
         ensures place { place_of self.new ≡ place_of self.old }
         ensures work { (ran : ℕ) → OnOk result (work_of self.new out.new.items ran ≡ deliver_here self.old.nodes deliveries.now (work_of self.old out.old.items ran)) }
         ensures memory { IfErr result (λ fault. fault ≡ NoMemory) }
         ensures none { deliveries.now ≡ [] → IsOk result }
     {
         for delivery in deliveries {
-            self.deliver(delivery, out)?;
+            self.deliver(model, delivery, out)?;
         }
         Ok(())
     }
@@ -107,8 +115,11 @@ impl Roster {
     ) -> Result<(), NodeFault>
         requires ready { IsReady self.old }
         requires lps { (M.meaning model.now).lps ≡ self.old.lps }
+        requires modelled { Every (IsModelled (M.meaning model.now)) self.old.processes.items }
         requires least { (least_among self.old.standings).next ≡ Some message.now }
         ensures ready { OnOk result (IsReady self.new) }
+        ensures modelled { OnOk result
+            (Every (IsModelled (M.meaning model.now)) self.new.processes.items) }
         ensures place { place_of self.new ≡ place_of self.old }
         ensures work { (ran : ℕ) → OnOk result (work_of self.new out.new.items (ran + 1) ≡ run_one_here (M.meaning model.now) self.old.nodes message.now (work_of self.old out.old.items ran)) }
         ensures room { (ran : ℕ) → OnOk result (has_room (M.meaning model.now) message.now (here self.old.nodes (work_of self.old out.old.items ran) message.now.to) ≡ true) }
@@ -132,7 +143,10 @@ impl Roster {
     ) -> Result<u32, NodeFault>
         requires ready { IsReady self.old }
         requires lps { (M.meaning model.now).lps ≡ self.old.lps }
+        requires modelled { Every (IsModelled (M.meaning model.now)) self.old.processes.items }
         ensures ready { OnOk result (IsReady self.new) }
+        ensures modelled { OnOk result
+            (Every (IsModelled (M.meaning model.now)) self.new.processes.items) }
         ensures place { place_of self.new ≡ place_of self.old }
         ensures work { IfOk result (λ ran. run_here (M.meaning model.now) self.old.end self.old.nodes budget (work_of self.old out.old.items 0) ≡ Some (work_of self.new out.new.items ran)) }
         ensures causes { IfErr result (λ fault. (fault ≡ NoMemory) ⊎ ((fault ≡ NumberLimit) × (run_here (M.meaning model.now) self.old.end self.old.nodes budget (work_of self.old out.old.items 0) ≡ None))) }
@@ -148,15 +162,19 @@ impl Roster {
     }
 
     /// Takes what is below the floor, in ticks, out of the process at this place, to the end of `fossils`.
-    fn collect_at(
+    fn collect_at<M: Simulated>(
         &mut self,
+        model: &M,
         place: usize,
         floor: u64,
         fossils: &mut Vec<Done>,
     ) -> Result<(), NodeFault>
         requires staffed { IsStaffed (at_floor floor (place_of self.old)) self.old.processes.items self.old.standings }
+        requires modelled { Every (IsModelled (M.meaning model.now)) self.old.processes.items }
         requires there { place < length self.old.processes.items }
         ensures staffed { OnOk result (IsStaffed (at_floor floor (place_of self.old)) self.new.processes.items self.new.standings) }
+        ensures modelled { OnOk result
+            (Every (IsModelled (M.meaning model.now)) self.new.processes.items) }
         ensures place { place_of self.new ≡ place_of self.old }
         ensures processes { OnOk result (processes_of self.new.processes.items ≡ set (processes_of self.old.processes.items) place (release floor (get_or (processes_of self.old.processes.items) place nobody))) }
         ensures fossils { OnOk result (fossils.new.items ≡ fossils.old.items ++ fossils_of floor (get_or (processes_of self.old.processes.items) place nobody)) }
@@ -164,17 +182,20 @@ impl Roster {
         ensures memory { IfErr result (λ fault. fault ≡ NoMemory) }
     {
         let process = &mut self.processes[place];
-        process.collect_into(floor, fossils)?;
+        process.collect_into(model, floor, fossils)?;
         let standing = Standing::of(process, self.end);
         self.standings.set(place, standing);
         Ok(())
     }
 
     /// Takes what is below the floor, in ticks, out of all processes. It visits only those that have something there.
-    fn collect(&mut self, floor: u64) -> Result<Vec<Done>, NodeFault>
+    fn collect<M: Simulated>(&mut self, model: &M, floor: u64) -> Result<Vec<Done>, NodeFault>
         requires ready { IsReady self.old }
+        requires modelled { Every (IsModelled (M.meaning model.now)) self.old.processes.items }
         requires floor { self.old.floor ≤ floor }
         ensures ready { OnOk result (IsReady self.new) }
+        ensures modelled { OnOk result
+            (Every (IsModelled (M.meaning model.now)) self.new.processes.items) }
         ensures node { OnOk result (node_of false self.new ≡ after floor (work_of self.old [] 0) (node_of false self.old)) }
         ensures fossils { IfOk result (λ fossils. fossils.items ≡ (reply_of floor (work_of self.old [] 0)).fossils) }
         ensures range { IfOk result (λ fossils. Every IsDoneInRange fossils.items) }
@@ -183,7 +204,7 @@ impl Roster {
     {
         let mut fossils = Vec::new(self.alloc);
         while let Some(due) = self.standings.first_due(floor) {
-            self.collect_at(due, floor, &mut fossils)?;
+            self.collect_at(model, due, floor, &mut fossils)?;
         }
         self.floor = floor;
         Ok(fossils)
@@ -198,9 +219,12 @@ impl Roster {
     ) -> Result<Reply, NodeFault>
         requires ready { IsReady self.old }
         requires lps { (M.meaning model.now).lps ≡ self.old.lps }
+        requires modelled { Every (IsModelled (M.meaning model.now)) self.old.processes.items }
         requires accepted { first_fault (node_of false self.old) parcel.deliver ≡ None }
         requires floor { self.old.floor ≤ parcel.floor }
         ensures ready { OnOk result (IsReady self.new) }
+        ensures modelled { OnOk result
+            (Every (IsModelled (M.meaning model.now)) self.new.processes.items) }
         ensures handled { IfOk result (λ reply. IsWorked (M.meaning model.now) parcel (node_of false self.old) (node_of false self.new) reply) }
         ensures range { IfOk result IsReplyInRange }
         ensures place { OnErr result (place_of self.new ≡ place_of self.old) }
@@ -213,9 +237,9 @@ impl Roster {
             floor,
         } = parcel;
         let mut out = Vec::new(self.alloc);
-        self.deliver_all(deliver.as_slice(), &mut out)?;
+        self.deliver_all(model, deliver.as_slice(), &mut out)?;
         let ran = self.run(model, budget, &mut out)?;
-        let fossils = self.collect(floor)?;
+        let fossils = self.collect(model, floor)?;
         Ok(Reply {
             out: Listed::from_vec(out),
             low: self.standings.least().low,

@@ -9,12 +9,11 @@ use Rattle.model.specs.Meaning.{Meaning}
 use Rattle.queues.proofs.Moves.{same_queue}
 use Rattle.queues.proofs.Queues.{arrivals_tell_back}
 use Rattle.queues.specs.Queue.{Queue, arrival, arrived, back, back_of, but_last, first_before, last_of, released, taken}
-use Rattle.queues.specs.Record.{handled_before, handled_from, messages, number_before, state_before}
+use Rattle.queues.specs.Record.{handled_from, messages, number_before, state_before}
 use Rattle.queues.specs.declared.Arrival.{Arrival}
 use Rattle.queues.specs.declared.Record.{Record}
 use Rattle.process.proofs.Sound.{queue_of_arrive, queue_of_handle, queue_of_release}
-use Rattle.process.specs.Process.{Process, arrive, fossils_of, handle, handling_of, queue_of, release, told}
-use Rattle.process.specs.declared.Done.{Done}
+use Rattle.process.specs.Process.{Process, arrive, handle, handling_of, queue_of, release}
 
 pub same_process : (p q : Process) → p.done ≡ q.done → p.waiting ≡ q.waiting → p.antis ≡ q.antis → p.state ≡ q.state → p.number ≡ q.number → p ≡ q
 same_process p q d w a s n = λ i. record { done = d i; waiting = w i; antis = a i; state = s i; number = n i }
@@ -85,12 +84,3 @@ module _ (old : Queue) (q : Process) (same : old.done ≡ messages q.done) (wait
 
     pub collected_done : now.done ≡ messages new.done
     collected_done = ap (λ (c : Queue). c.done) now_released ∙ ap (λ (c : Process). messages c.done) (sym collected_is)
-
--- 4. What a collection tells
-
-pub fossils_are : (floor : ℕ) (q : Process) (gone left : List Record) (after : List ℕ) (number : ℕ) (fossils : List Done) → gone ≡ handled_before floor q.done → left ≡ handled_from floor q.done →
-    after ≡ state_before left q.state → number ≡ number_before left q.number → fossils ≡ told gone after number → fossils ≡ fossils_of floor q
-fossils_are floor q gone left after number fossils g l a n f =
-    let after_is = a ∙ ap (λ (hs : List Record). state_before hs q.state) l in
-    let number_is = n ∙ ap (λ (hs : List Record). number_before hs q.number) l in
-    f ∙ (λ i. told (g i) (after_is i) (number_is i))

@@ -5,4 +5,3 @@ pub mod Histories
 pub mod Laws
 pub mod Rollbacks
 pub mod Sound
-pub mod Telling

@@ -1,27 +1,33 @@
 // What is told of handlings that no rollback reaches any more.
 
 ghost use Rattle.std.specs.Prelude.{◌≡◌, ◌++◌, IfOk, OnOk};
-ghost use Rattle.queues.specs.Record.{number_before, state_before};
+ghost use Rattle.queues.specs.Record.{AreHandlings, handled_before, handled_from, number_before, state_before};
 ghost use Rattle.process.specs.Process.{told};
 
 use crate::Done;
-use model::{State, Words};
+use model::{Model as Simulated, State, Words};
 use queues::{History, Record};
 use std::alloc::{AllocError, Global};
 
-/// Tells of these handlings at the end of `fossils`, where this state and this send number came after them. Where memory is
-/// wanted some of them are told.
-pub(crate) fn tell(
-    handled: Vec<Record>,
-    state: State,
+/// Takes the handlings below the floor, in ticks, out of a history, where this state and this send number came after all of
+/// it, and tells of them at the end of `fossils`. Each is moved once. Where memory is wanted some of them are told.
+pub(crate) fn tell<M: Simulated>(
+    alloc: Global,
+    model: &M,
+    floor: u64,
+    history: &mut History<8>,
+    state: &State,
     number: u64,
     fossils: &mut Vec<Done>,
 ) -> Result<(), AllocError>
-    ensures { OnOk result (fossils.new.items ≡ fossils.old.items ++ told handled.items state number) }
+    requires { AreHandlings (M.meaning model.now) history.old }
+    ensures told { OnOk result (fossils.new.items ≡ fossils.old.items
+        ++ told (handled_before floor history.old)
+        (state_before (handled_from floor history.old) state.now)
+        (number_before (handled_from floor history.old) number)) }
+    ensures left { OnOk result (history.new ≡ handled_from floor history.old) }
 {
-    fossils.reserve(handled.len())?;
-    let mut left = handled.into_iter();
-    let Some(first) = left.next() else {
+    let Some(first) = history.release_first(model, floor) else {
         return Ok(());
     };
     let Record {
@@ -30,7 +36,7 @@ pub(crate) fn tell(
         ..
     } = first;
     // The state before a handling is the state after the one before it.
-    for next in left {
+    while let Some(next) = history.release_first(model, floor) {
         fossils.push(Done {
             message,
             sent,
@@ -40,11 +46,12 @@ pub(crate) fn tell(
         message = next.message;
         sent = next.sent;
     }
+    let (after, number_after) = before_first(alloc, history, state, number)?;
     fossils.push(Done {
         message,
         sent,
-        after: state,
-        number_after: number,
+        after,
+        number_after,
     })?;
     Ok(())
 }
@@ -61,9 +68,9 @@ pub(crate) fn restore(undone: Vec<Record>, state: &mut State, number: &mut u64)
 }
 
 /// State words and send number before these handlings, or these where there are none.
-pub(crate) fn before_first(
+fn before_first(
     alloc: Global,
-    history: &History,
+    history: &History<8>,
     state: &State,
     number: u64,
 ) -> Result<(State, u64), AllocError>

@@ -6,11 +6,11 @@ ghost use Rattle.model.specs.Meaning.{Meaning};
 ghost use Rattle.queues.specs.Queue.{first_before, first_time};
 ghost use Rattle.queues.specs.Record.{first_handled};
 ghost use Rattle.process.specs.Process.{arrive, fossils_of, number_after, release, state_after, taken_back};
-ghost use Rattle.process.specs.Told.{IsToldFold};
+ghost use Rattle.process.specs.Told.{IsHistory, IsToldFold};
 ghost use Rattle.process.specs.View.{HasDone, HasRun, IsDoneInRange, IsRefused, IsSound, LacksRoom, has_early, has_foreign, loaded};
 ghost use Rattle.process.specs.declared.ProcessFault.TheVariants.{BelowFloor, NoMemory, NotMine, NumberLimit, Spent};
 
-use crate::fossils::{before_first, restore, tell};
+use crate::fossils::{restore, tell};
 use crate::sends::{append, stamped, take_back_sends};
 use crate::{Done, ProcessFault};
 use eventkey::{Listed, Message, Sign, Signed};
@@ -30,7 +30,7 @@ pub struct Process {
     floor: u64,
     spent: bool,
     queue: InputQueue,
-    history: History,
+    history: History<8>,
     state: State,
     number: u64,
 }
@@ -69,6 +69,7 @@ impl Process {
         ensures unlimited { result ≢ Err NumberLimit }
         ensures unspent { result ≢ Err Spent }
         ensures done { (m : Meaning) → IfOk result (λ p. HasDone m p words.items number) }
+        ensures history { (m : Meaning) → IfOk result (λ p. IsHistory m p.lp p.process) }
     {
         if is_foreign(lp, pending.as_slice()) {
             return Err(ProcessFault::NotMine);
@@ -157,7 +158,15 @@ impl Process {
     ///
     /// Spent where the process is; NotMine where the message is for another process; BelowFloor where its time is
     /// below the floor, whatever its sign. These change nothing; want of memory leaves the process spent.
-    pub fn deliver(&mut self, signed: Signed, out: &mut Vec<Signed>) -> Result<(), ProcessFault>
+    pub fn deliver<M: Simulated>(
+        &mut self,
+        model: &M,
+        signed: Signed,
+        out: &mut Vec<Signed>,
+    ) -> Result<(), ProcessFault>
+        requires lp { self.old.lp < (M.meaning model.now).lps }
+        requires history { self.old.spent ≡ false →
+            IsHistory (M.meaning model.now) self.old.lp self.old.process }
         ensures delivered { OnOk result (self.new ≡ record self.old { process = arrive signed self.old.process }) }
         ensures out { OnOk result (out.new.items ≡ out.old.items ++ taken_back signed self.old.process) }
         ensures spent { (result ≡ Err Spent) ↔ (self.old.spent ≡ true) }
@@ -167,6 +176,8 @@ impl Process {
         ensures lp { self.new.lp ≡ self.old.lp }
         ensures floor { self.new.floor ≡ self.old.floor }
         ensures done { (m : Meaning) (state : List ℕ) (number : ℕ) → HasDone m self.old state number → OnOk result (HasDone m self.new state number) }
+        ensures history { self.new.spent ≡ false →
+            IsHistory (M.meaning model.now) self.new.lp self.new.process }
         ensures refused { IfErr result (λ fault. IsRefused fault self.old self.new out.old.items out.new.items) }
     {
         if self.spent {
@@ -181,7 +192,7 @@ impl Process {
         // Until all is done: want of memory may come halfway.
         self.spent = true;
         let arrival = self.queue.arrive(signed)?;
-        let undone = self.history.take_back(arrival.back())?;
+        let undone = self.history.take_back(model, arrival.back())?;
         take_back_sends(undone.as_slice(), out)?;
         restore(undone, &mut self.state, &mut self.number);
         self.spent = false;
@@ -236,6 +247,10 @@ impl Process {
         ensures lp { self.new.lp ≡ self.old.lp }
         ensures floor { self.new.floor ≡ self.old.floor }
         ensures done { (state : List ℕ) (number : ℕ) → HasDone (M.meaning model.now) self.old state number → OnOk result (HasDone (M.meaning model.now) self.new state number) }
+        ensures history { (self.old.spent ≡ false →
+            IsHistory (M.meaning model.now) self.old.lp self.old.process) →
+            self.new.spent ≡ false →
+            IsHistory (M.meaning model.now) self.new.lp self.new.process }
         ensures refused { IfErr result (λ fault. IsRefused fault self.old self.new out.old.items out.new.items) }
     {
         if self.spent {
@@ -279,8 +294,15 @@ impl Process {
     /// was after it. The floor is then the process's.
     ///
     /// Spent where the process is, which changes nothing; want of memory leaves the process spent.
-    pub fn collect(&mut self, floor: u64) -> Result<Vec<Done>, ProcessFault>
-        requires { self.old.floor ≤ floor }
+    pub fn collect<M: Simulated>(
+        &mut self,
+        model: &M,
+        floor: u64,
+    ) -> Result<Vec<Done>, ProcessFault>
+        requires lp { self.old.lp < (M.meaning model.now).lps }
+        requires history { self.old.spent ≡ false →
+            IsHistory (M.meaning model.now) self.old.lp self.old.process }
+        requires floor { self.old.floor ≤ floor }
         ensures fossils { IfOk result (λ fossils. fossils.items ≡ fossils_of floor self.old.process) }
         ensures collected { OnOk result (self.new ≡ record self.old { floor = floor; process = release floor self.old.process }) }
         ensures spent { (result ≡ Err Spent) ↔ (self.old.spent ≡ true) }
@@ -289,16 +311,26 @@ impl Process {
         ensures floor { OnErr result (self.new.floor ≡ self.old.floor) }
         ensures range { IfOk result (λ fossils. Every IsDoneInRange fossils.items) }
         ensures done { (m : Meaning) (state : List ℕ) (number : ℕ) → HasDone m self.old state number → IfOk result (λ fossils. IsToldFold m self.old.lp state number fossils.items × HasDone m self.new (state_after fossils.items state) (number_after fossils.items number)) }
+        ensures history { self.new.spent ≡ false →
+            IsHistory (M.meaning model.now) self.new.lp self.new.process }
         ensures refused { IfErr result (λ fault. IsRefused fault self.old self.new [] []) }
     {
         let mut fossils = Vec::new(self.alloc);
-        self.collect_into(floor, &mut fossils)?;
+        self.collect_into(model, floor, &mut fossils)?;
         Ok(fossils)
     }
 
     /// The same, but the handlings go straight to the end of `fossils`; at want of memory some of them may be there.
-    pub fn collect_into(&mut self, floor: u64, fossils: &mut Vec<Done>) -> Result<(), ProcessFault>
-        requires { self.old.floor ≤ floor }
+    pub fn collect_into<M: Simulated>(
+        &mut self,
+        model: &M,
+        floor: u64,
+        fossils: &mut Vec<Done>,
+    ) -> Result<(), ProcessFault>
+        requires lp { self.old.lp < (M.meaning model.now).lps }
+        requires history { self.old.spent ≡ false →
+            IsHistory (M.meaning model.now) self.old.lp self.old.process }
+        requires floor { self.old.floor ≤ floor }
         ensures fossils { OnOk result (fossils.new.items ≡ fossils.old.items ++ fossils_of floor self.old.process) }
         ensures collected { OnOk result (self.new ≡ record self.old { floor = floor; process = release floor self.old.process }) }
         ensures spent { (result ≡ Err Spent) ↔ (self.old.spent ≡ true) }
@@ -307,6 +339,8 @@ impl Process {
         ensures floor { OnErr result (self.new.floor ≡ self.old.floor) }
         ensures range { OnOk result (Every IsDoneInRange (fossils_of floor self.old.process)) }
         ensures done { (m : Meaning) (state : List ℕ) (number : ℕ) → HasDone m self.old state number → OnOk result (let told = fossils_of floor self.old.process in IsToldFold m self.old.lp state number told × HasDone m self.new (state_after told state) (number_after told number)) }
+        ensures history { self.new.spent ≡ false →
+            IsHistory (M.meaning model.now) self.new.lp self.new.process }
         ensures refused { IfErr result (λ fault. IsRefused fault self.old self.new [] []) }
     {
         if self.spent {
@@ -314,15 +348,16 @@ impl Process {
         }
         // Until all is done: want of memory may come halfway.
         self.spent = true;
-        let released = self.history.release(floor)?;
         self.queue.release(floor);
-        let (after, number_after) = before_first(
+        tell(
             self.alloc,
-            &self.history,
+            model,
+            floor,
+            &mut self.history,
             &self.state,
             self.number,
+            fossils,
         )?;
-        tell(released, after, number_after, fossils)?;
         self.floor = floor;
         self.spent = false;
         Ok(())

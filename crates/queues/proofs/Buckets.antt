@@ -1,5 +1,5 @@
 -- Messages by their times, with one message more or less.
-use Rattle.std.proofs.Common.{◌≡◌, ℕ, ◌+◌, ◌<◌, ◌≤◌, List, [], ◌∷◌, ◌++◌, Some, None, Less, Equal, Greater, Bool, true, false, refl, ap, sym, ◌∙◌, arith, length, nat_cmp, subst, inl, inr, ◌⊎◌}
+use Rattle.std.proofs.Common.{◌≡◌, ℕ, ◌+◌, ◌<◌, ◌≤◌, List, [], ◌∷◌, ◌++◌, Some, None, Less, Equal, Greater, true, false, refl, ap, sym, ◌∙◌, arith, length, nat_cmp, subst, inl, inr, ◌⊎◌}
 use Rattle.std.proofs.lemmas.Bool.{cases_Bool, cond_both, lt-ltb, le-ltb, ltb-true, ltb-false}
 use Rattle.std.proofs.lemmas.Cmp.{ranked, by_ranked}
 use Rattle.std.proofs.lemmas.Option.{same_Some, none-some}

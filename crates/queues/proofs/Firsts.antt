@@ -1,8 +1,8 @@
 -- The least message of a bag, and the least time of two.
-use Rattle.std.proofs.Common.{◌≡◌, ℕ, ◌+◌, ◌-◌, ◌<◌, ◌≤◌, List, [], ◌∷◌, ◌++◌, Some, None, true, false, refl, ap, sym, ◌∙◌, arith, length, reverse, get_or, take, drop, min, subst, zero, suc, inl, inr}
+use Rattle.std.proofs.Common.{◌≡◌, ℕ, ◌+◌, ◌<◌, ◌≤◌, List, [], ◌∷◌, ◌++◌, Some, None, true, false, refl, ap, sym, ◌∙◌, arith, length, get_or, drop, min, subst, zero, suc, inl, inr}
 use Rattle.std.proofs.lemmas.Bool.{cases_Bool, cond_both, le-leb, lt-leb, lt-ltb, ltb-true, ltb-false}
-use Rattle.std.proofs.lemmas.List.{get_or_at, length-append, reverse-append, reverse-reverse, take_at, append-nil}
-use Rattle.std.proofs.lemmas.Option.{slice_get-get_or, same_Some, none-some}
+use Rattle.std.proofs.lemmas.List.{append-nil}
+use Rattle.std.proofs.lemmas.Option.{same_Some, none-some}
 use Rattle.std.specs.List.{AllByRecursion as Every, AllWithin, slice_get}
 use Rattle.std.specs.Prelude.{filter, nat_le, nat_lt}
 use Rattle.eventkey.proofs.Bags.{copies-append, least_time-append, least_time-min, time_from_at_most}

@@ -1,16 +1,17 @@
 -- What was handled before a time, and the rest.
-use Rattle.std.proofs.Common.{◌≡◌, ℕ, zero, suc, Option, None, Some, ◌+◌, ◌-◌, ◌<◌, List, [], ◌∷◌, sym, refl, ap, arith, nat_lt, ltb-false, ◌≤◌, inl, inr, ltb-true, ◌++◌, ◌∙◌, length, take, drop, get_or, true, false}
+use Rattle.std.proofs.Common.{◌≡◌, ℕ, zero, suc, Option, None, Some, ◌+◌, ◌-◌, ◌<◌, List, [], ◌∷◌, sym, refl, ap, arith, nat_lt, ltb-false, ◌≤◌, inl, inr, ltb-true, ◌++◌, ◌∙◌, length, take, drop, get_or, rules, true, false}
 use Rattle.std.proofs.lemmas.Bool.{cases_Bool, cond_both, le-leb, le-ltb, lt-leb, lt-ltb}
-use Rattle.std.specs.List.{filter}
+use Rattle.std.specs.List.{filter, slice_get}
 use Rattle.eventkey.proofs.Lists.{Every-unmap, Every-weaker}
 use Rattle.std.proofs.lemmas.List.{append-nil, append_assoc, drop_all, drop_more, length-append, map-append, take_at, take_more}
 use Rattle.std.specs.Option.{option_to_list}
-use Rattle.std.specs.Prelude.{MatchOption, nat_le}
+use Rattle.std.specs.Prelude.{IsSome, MatchOption, nat_le}
 use Rattle.std.specs.List.{AllByRecursion as Every}
 use Rattle.eventkey.proofs.Bags.{at_most_itself, copies-append, none_from_Every, one_if_same_cases, time_from_at_most}
 use Rattle.eventkey.specs.Bag.{IsAscending, copies, one_if_same}
 use Rattle.eventkey.specs.Message.{IsAtMost, Message}
-use Rattle.queues.specs.Record.{RecordsPart, handled_before, handled_from, messages}
+use Rattle.queues.proofs.Forward.{record_at}
+use Rattle.queues.specs.Record.{IsFirstTaken, RecordsPart, handled_before, handled_from, messages}
 use Rattle.queues.specs.declared.Record.{Record}
 
 -- 1. Records before a time, and those from it on
@@ -147,3 +148,46 @@ records_part c (h ∷ hs) up = elim (cases_Bool (nat_lt h.message.time c)) [
       (Every-weaker (IsAtMost h.message) (λ (x : Message). c ≤ x.time) (λ x p. let t = time_from_at_most h.message x p in omega arith) (messages hs) up.0) in
       rw (e, passes) (sym (none_early c hs all), ap (λ (rs : List Record). h ∷ rs) (sym (all_late c hs all)))
 ]
+
+-- 13. The first of them alone
+
+pub none_first : (c : ℕ) (hs : List Record) → slice_get hs 0 ≡ None → IsFirstTaken c hs hs None
+none_first c [] e = (refl, refl)
+none_first c (h ∷ hs) e = absurd (cc)
+
+pub first_stays : (c : ℕ) (hs : List Record) (r : Record) → slice_get hs 0 ≡ Some r → c ≤ r.message.time → IsFirstTaken c hs hs None
+first_stays c [] r e l = absurd (cc)
+first_stays c (h ∷ hs) r e l = let same : h ≡ r = cc in (rw (le-ltb h.message.time c (let t = ap (λ (x : Record). x.message.time) same in omega (arith, t, l))) refl, refl)
+
+pub first_goes : (c : ℕ) (hs : List Record) (r : Record) → slice_get hs 0 ≡ Some r → r.message.time < c → IsFirstTaken c hs (drop 1 hs) (slice_get hs 0)
+first_goes c [] r e l = absurd (cc)
+first_goes c (h ∷ hs) r e l = let same : h ≡ r = cc in (refl, let t = ap (λ (x : Record). x.message.time) same in omega (arith, t, l))
+
+-- 14. Counted by messages
+
+pub one_message_counted : (c : ℕ) (hs : List Record) (n : ℕ) (x : Message) → n < length hs → slice_get (messages hs) n ≡ Some x → x.time < c → IsCounted c hs n → IsCounted c hs (n + 1)
+one_message_counted c hs n x l e early h =
+    let at = record_at hs n x e in
+    one_more_counted c hs n at.0 l at.1 (let t = ap (λ (y : Message). y.time) at.2 in omega (arith, t, early)) h
+
+pub message_counted_at : (c : ℕ) (hs : List Record) (n : ℕ) (x : Message) → n < length hs → slice_get (messages hs) n ≡ Some x → c ≤ x.time → IsCounted c hs n → (take n hs ≡ handled_before c hs) × (drop n hs ≡ handled_from c hs)
+message_counted_at c hs n x l e late h =
+    let at = record_at hs n x e in
+    counted_at c hs n at.0 l at.1 (let t = ap (λ (y : Message). y.time) at.2 in omega (arith, t, late)) h
+
+-- 15. The first of those that are left
+
+module _ {X : Type 0} where
+  pub some_left : (xs : List X) (n : ℕ) → n < length xs → IsSome (slice_get (drop n xs) 0)
+  some_left [] n l = absurd (omega arith)
+  some_left (x ∷ xs) zero l = search rules
+  some_left (x ∷ xs) (suc n) l = some_left xs n (omega arith)
+
+  past : (xs : List X) (n : ℕ) (x : X) → slice_get (drop n xs) 0 ≡ Some x → take (suc n) xs ≡ take n xs ++ x ∷ []
+  past [] zero x e = absurd (cc)
+  past [] (suc n) x e = absurd (cc)
+  past (y ∷ ys) zero x e = ap (λ (z : X). z ∷ []) (let same : y ≡ x = cc in same)
+  past (y ∷ ys) (suc n) x e = ap (λ (zs : List X). y ∷ zs) (past ys n x e)
+
+  pub take_past : (xs : List X) (n : ℕ) (x : X) → slice_get (drop n xs) 0 ≡ Some x → take (n + 1) xs ≡ take n xs ++ x ∷ []
+  take_past xs n x e = ap (λ (k : ℕ). take k xs) {x = n + 1} {y = suc n} (omega arith) ∙ past xs n x e

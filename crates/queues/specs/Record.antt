@@ -1,9 +1,11 @@
 -- A message handled, and lists of such (the state queue and the output queue of a process, in one: Jefferson 1985).
 use Rattle.queues.specs.declared.Record.{Record}
 use Rattle.std.specs.List.{filter}
-use Rattle.std.specs.Prelude.{ℕ, List, [], ◌∷◌, if◌then◌else◌, nat_le, nat_lt, flat_map, map, ◌≡◌, Option, Some, None}
+use Rattle.std.specs.Prelude.{ℕ, List, [], ◌∷◌, ◌++◌, if◌then◌else◌, nat_le, nat_lt, flat_map, map, length, ◌≡◌, ◌<◌, ◌≤◌, ⊤, Option, Some, None}
 use Rattle.eventkey.specs.Bag.{IsAscending}
 use Rattle.eventkey.specs.Message.{Message}
+use Rattle.model.specs.Meaning.{Meaning}
+use Rattle.queues.specs.Queue.{but_last, last_of}
 
 -- the first of them, as long as they are before the time
 abbrev pub handled_before : ℕ → List Record → List Record
@@ -35,7 +37,42 @@ sent_in hs = flat_map (λ (h : Record). h.sent) hs
 abbrev pub messages : List Record → List Message
 messages hs = map (λ (h : Record). h.message) hs
 
+-- the state words that a handling by this model leaves
+abbrev pub left_by : Meaning → Record → List ℕ
+left_by m h = m.next_state h.message.to h.before h.message
+
+-- Handlings by this model, one after another: of messages to its processes, in states of at most 16
+-- words, and each in the state that the one before it left. So the state words before any of them
+-- can be rebuilt by going forward from an earlier one.
+abbrev pub AreHandlings : Meaning → List Record → Type 0
+AreHandlings m [] = ⊤
+AreHandlings m (h ∷ hs) =
+    (h.message.to < m.lps) × (length h.before ≤ 16)
+    × (state_before hs (left_by m h) ≡ left_by m h) × AreHandlings m hs
+
+-- such handlings that lead to this state, of at most 16 words
+abbrev pub LeadTo : Meaning → List Record → List ℕ → Type 0
+LeadTo m [] state = length state ≤ 16
+LeadTo m (h ∷ hs) state =
+    (h.message.to < m.lps) × (length h.before ≤ 16)
+    × (state_before hs state ≡ left_by m h) × LeadTo m hs state
+
+-- the first of these handlings is taken out, if it is before the time
+abbrev pub IsFirstTaken : ℕ → List Record → List Record → Option Record → Type 0
+IsFirstTaken c old new None = (handled_before c old ≡ []) × (new ≡ old)
+IsFirstTaken c old new (Some h) = (old ≡ h ∷ new) × (h.message.time < c)
+
 -- Where the messages ascend, those first records are all records before the time, and the others all records from it on.
 abbrev pub RecordsPart : Type 0
 RecordsPart = (c : ℕ) (hs : List Record) → IsAscending (messages hs) →
     (handled_before c hs ≡ filter (λ (h : Record). nat_lt h.message.time c) hs) × (handled_from c hs ≡ filter (λ (h : Record). nat_le c h.message.time) hs)
+
+-- Handlings by a model stay so, whatever happens to a history: one more in the state to which they
+-- lead, the last n taken back with their states, the first released.
+abbrev pub HandlingsAreKept : Type 0
+HandlingsAreKept = (m : Meaning) (hs : List Record) (state : List ℕ) → LeadTo m hs state →
+    AreHandlings m hs
+    × ((h : Record) → h.before ≡ state → h.message.to < m.lps → length (left_by m h) ≤ 16 →
+    LeadTo m (hs ++ h ∷ []) (left_by m h))
+    × ((n : ℕ) → LeadTo m (but_last n hs) (state_before (last_of n hs) state))
+    × ((c : ℕ) → LeadTo m (handled_from c hs) state)

@@ -1,42 +1,54 @@
 // The history of a logical process.
 
-ghost use Rattle.std.specs.Prelude.{◌≡◌, ◌<◌, ◌≤◌, ◌++◌, ◌∷◌, [], length, IfOk, OnOk, OnErr, take, drop, nat_le, nat_lt};
+ghost use Rattle.std.specs.Prelude.{◌≡◌, ◌<◌, ◌≤◌, ◌+◌, ◌*◌, ◌/◌, ◌++◌, ◌∷◌, [], length, IfOk, OnOk, OnErr, take, drop, nat_le, nat_lt, vec_len, vec_capacity};
 ghost use Rattle.std.specs.Option.{option_copied};
 ghost use Rattle.std.specs.List.{filter, slice_get};
-ghost use Rattle.std.specs.VecDeque.{deque_len};
 ghost use Rattle.queues.specs.Queue.{but_last, last_of};
-ghost use Rattle.queues.specs.Record.{handled_before, handled_from, messages};
+ghost use Rattle.queues.specs.Record.{AreHandlings, IsFirstTaken, handled_before, handled_from, messages};
 ghost use Rattle.eventkey.specs.Bag.{IsAscending};
 
 use crate::Record;
-use std::alloc::{AllocError, AllocFailed, Global};
-use std::collections::VecDeque;
+use crate::sparse::SparseRecords;
+use model::Model as Simulated;
+use std::alloc::{AllocError, Global};
 
 /// What a logical process handled, in the order of handling: its state queue and its output queue in one (Jefferson
 /// 1985), seen as the list of records.
+///
+/// State words are kept for the first record and for one in any `K` in a row, `K` from 1 to 64. The
+/// others are rebuilt by going forward with the model (infrequent state saving: Fujimoto 1990).
 #[derive(Drop)]
-pub struct History {
+pub struct History<const K: usize> {
     alloc: Global,
-    records: VecDeque<Record>,
+    /// The place of the first record, below `K`: a record after it keeps its words where its place is
+    /// 0, and the places go round.
+    place: usize,
+    records: SparseRecords,
 }
 
-impl std::marker::Model for History {
+impl<const K: usize> std::marker::Model for History<K> {
     ghost use Rattle.std.specs.Prelude.{List};
+    ghost use Rattle.queues.specs.Sparse.{IsSpaced};
     ghost use Rattle.queues.specs.declared.Record.{Record};
 
     ghost Value = { List Record };
 
-    ghost view = { λ h. h.records.items };
+    ghost view = { λ h. h.records.records };
+
+    ghost invariant = { λ h. IsSpaced K h.place h.records.saved };
 }
 
-impl History {
+impl<const K: usize> History<K> {
     /// The empty history.
-    pub fn new(alloc: Global) -> History
+    pub fn new(alloc: Global) -> History<K>
+        requires some { 1 ≤ K }
+        requires few { K ≤ 64 }
         ensures { result ≡ [] }
     {
         History {
             alloc,
-            records: VecDeque::new(alloc),
+            place: 0,
+            records: SparseRecords::new(alloc),
         }
     }
 
@@ -47,11 +59,20 @@ impl History {
         self.records.len()
     }
 
+    /// For how many records the state words are kept. It takes no memory, and costs the number of
+    /// records.
+    pub fn saved(&self) -> usize
+        ensures bound { result ≤ 2 + length self.now / K }
+        ensures enough { length self.now ≤ result * K }
+    {
+        self.records.saved()
+    }
+
     /// The first record, if there is one.
     pub fn first(&self) -> Option<&Record>
         ensures { option_copied result ≡ slice_get self.now 0 }
     {
-        self.records.front()
+        self.records.first()
     }
 
     /// One more record, at the end. It is refused only for want of memory, and then the history is unchanged.
@@ -59,68 +80,106 @@ impl History {
         ensures pushed { OnOk result (self.new ≡ self.old ++ last ∷ []) }
         ensures unchanged { OnErr result (self.new ≡ self.old) }
     {
-        self.records.push_back(last)?;
-        Ok(())
+        let place = (self.place + self.records.len()) % K;
+        self.records.push(last, place == 0)
     }
 
-    /// Takes the last `count` records out and answers them in their order. It is refused only for want of memory, and
-    /// then the history is unchanged.
-    pub fn take_back(&mut self, count: usize) -> Result<Vec<Record>, AllocError>
-        requires { count ≤ length self.old }
+    /// Takes the last `count` records out and answers them in their order. It is refused only for want
+    /// of memory, and then the history is unchanged. It takes at most `count` and `K` handlings; none,
+    /// and no memory, where `count` is 0.
+    pub fn take_back<M: Simulated>(
+        &mut self,
+        model: &M,
+        count: usize,
+    ) -> Result<Vec<Record>, AllocError>
+        requires there { count ≤ length self.old }
+        requires handlings { AreHandlings (M.meaning model.now) self.old }
         ensures answer { IfOk result (λ undone. undone.items ≡ last_of count self.old) }
         ensures left { OnOk result (self.new ≡ but_last count self.old) }
         ensures unchanged { OnErr result (self.new ≡ self.old) }
     {
-        let kept = self.len() - count;
-        let undone = self.records.split_off(kept)?;
-        Ok(undone.into_vec())
+        if count == 0 {
+            return Ok(Vec::new(self.alloc));
+        }
+        let kept = self.records.len() - count;
+        // What can fail comes first.
+        let mut undone = Vec::with_capacity(self.alloc, count)?;
+        let mut last = self.records.split_off(model, kept)?;
+        take_first(model, &mut last, count, &mut undone);
+        Ok(undone)
     }
 
     /// Takes out the first records, as long as their messages are below the floor, in ticks, and answers them in their
     /// order: where the records ascend, all that are below it. It is refused only for want of memory, and then the history
-    /// is unchanged. It costs what it takes out.
-    pub fn release(&mut self, floor: u64) -> Result<Vec<Record>, AllocError>
+    /// is unchanged. It costs what it takes out, and takes at most as many handlings.
+    pub fn release<M: Simulated>(
+        &mut self,
+        model: &M,
+        floor: u64,
+    ) -> Result<Vec<Record>, AllocError>
+        requires { AreHandlings (M.meaning model.now) self.old }
         ensures answer { IfOk result (λ released. released.items ≡ handled_before floor self.old) }
         ensures left { OnOk result (self.new ≡ handled_from floor self.old) }
-        ensures below { IsAscending (messages self.old) → IfOk result (λ released. released.items ≡ filter (λ h. nat_lt h.message.time floor) self.old) }
-        ensures from_floor { IsAscending (messages self.old) → OnOk result (self.new ≡ filter (λ h. nat_le floor h.message.time) self.old) }
+        ensures below { IsAscending (messages self.old) → IfOk result (λ released.
+            released.items ≡ filter (λ h. nat_lt h.message.time floor) self.old) }
+        ensures from_floor { IsAscending (messages self.old) → OnOk result
+            (self.new ≡ filter (λ h. nat_le floor h.message.time) self.old) }
         ensures unchanged { OnErr result (self.new ≡ self.old) }
     {
         let count = count_before(&self.records, floor);
-        take_first(self.alloc, &mut self.records, count)
+        // What can fail comes first.
+        let mut released = Vec::with_capacity(self.alloc, count)?;
+        take_first(model, &mut self.records, count, &mut released);
+        self.place = (self.place + count) % K;
+        Ok(released)
+    }
+
+    /// Takes the first record out, if its message is below the floor, in ticks, and answers it. It
+    /// takes no memory, and at most one handling.
+    pub fn release_first<M: Simulated>(&mut self, model: &M, floor: u64) -> Option<Record>
+        requires { AreHandlings (M.meaning model.now) self.old }
+        ensures { IsFirstTaken floor self.old self.new result }
+    {
+        if self.records.first()?.message.time() >= floor {
+            return None;
+        }
+        self.place = (self.place + 1) % K;
+        self.records.take_first(model)
     }
 }
 
 /// How many of the first records have messages below the floor.
-fn count_before(records: &VecDeque<Record>, floor: u64) -> usize
-    ensures within { result ≤ deque_len records.now }
-    ensures before { take result records.now.items ≡ handled_before floor records.now.items }
-    ensures from { drop result records.now.items ≡ handled_from floor records.now.items }
+fn count_before(records: &SparseRecords, floor: u64) -> usize
+    ensures within { result ≤ length records.now.records }
+    ensures before { take result records.now.records ≡ handled_before floor records.now.records }
+    ensures from { drop result records.now.records ≡ handled_from floor records.now.records }
 {
     for count in 0..records.len() {
-        if records[count].message.time() >= floor {
+        if records.message(count).time() >= floor {
             return count;
         }
     }
     records.len()
 }
 
-/// Takes the first `count` records out.
-fn take_first(
-    alloc: Global,
-    records: &mut VecDeque<Record>,
+/// Moves the first `count` records to the end of `taken`, which has room for them.
+fn take_first<M: Simulated>(
+    model: &M,
+    records: &mut SparseRecords,
     count: usize,
-) -> Result<Vec<Record>, AllocError>
-    requires { count ≤ deque_len records.old }
-    ensures taken { IfOk result (λ taken. taken.items ≡ take count records.old.items) }
-    ensures left { OnOk result (records.new.items ≡ drop count records.old.items) }
-    ensures unchanged { OnErr result (records.new.items ≡ records.old.items) }
+    taken: &mut Vec<Record>,
+)
+    requires there { count ≤ length records.old.records }
+    requires handlings { AreHandlings (M.meaning model.now) records.old.records }
+    requires room { vec_len taken.old + count ≤ vec_capacity taken.old }
+    ensures taken { taken.new.items ≡ taken.old.items ++ take count records.old.records }
+    ensures left { records.new ≡ record {
+      records = drop count records.old.records;
+      saved = drop count records.old.saved;
+    } }
 {
-    // What can fail comes first.
-    let mut taken = Vec::with_capacity(alloc, count)?;
     for _ in 0..count {
-        let first = records.pop_front().unwrap();
+        let first = records.take_first(model).unwrap();
         taken.push(first).unwrap();
     }
-    Ok(taken)
 }

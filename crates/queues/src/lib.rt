@@ -2,7 +2,7 @@
 #![tactic(auto)]
 
 ghost use Rattle.queues.specs.Queue.{QueuesArriveByCases, QueuesStayApart, QueuesStayInOrder, QueuesCount, ArrivalsTellBack, back_of};
-ghost use Rattle.queues.specs.Record.{RecordsPart};
+ghost use Rattle.queues.specs.Record.{HandlingsAreKept, RecordsPart};
 ghost use Rattle.std.specs.Prelude.{◌≡◌};
 
 mod bag;
@@ -10,8 +10,8 @@ mod bucket;
 mod done;
 mod handled;
 mod input;
-#[cfg(test)]
-mod tests;
+mod kept;
+mod sparse;
 
 use eventkey::{Listed, Message};
 pub use handled::History;
@@ -63,4 +63,10 @@ pub fn law_of_queues()
     ensures count { QueuesCount }
     ensures back { ArrivalsTellBack }
     ensures parts { RecordsPart }
+{}
+
+/// The law of histories: what a model handled stays so, whatever happens to a history, so that its state words can be
+/// rebuilt.
+pub fn law_of_records()
+    ensures kept { HandlingsAreKept }
 {}

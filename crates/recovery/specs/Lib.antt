@@ -1,9 +1,10 @@
+-- For callers: the header of a disk, the bytes of a record, replay, and the worlds for which records and disks stand
 pub mod Header
 pub mod Bodies
 pub mod Replay
 pub mod Stands
-pub mod Causes
-pub mod Laws
 pub mod Front
 pub mod Recovered
-pub mod Ring
+-- For callers: laws of these, and why recovery refuses
+pub mod Laws
+pub mod Causes

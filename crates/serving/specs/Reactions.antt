@@ -4,6 +4,7 @@ use Rattle.std.specs.Prelude.{ℕ, ◌^◌, Bool, true, false, nat_lt, if◌then
 use Rattle.std.specs.Prelude.{Option, Some, None, Result, Ok, Err, IfOk}
 use Rattle.model.specs.Meaning.{Meaning}
 use Rattle.node.specs.Handling.{Answer, Node, answer, ended, load_answer, load_refusal, refusal}
+use Rattle.node.specs.Kept.{HasHistories}
 use Rattle.node.specs.declared.Load.{Load}
 use Rattle.node.specs.declared.NodeFault.{NodeFault}
 use Rattle.node.specs.declared.NodeFault.TheVariants as node
@@ -106,6 +107,11 @@ abbrev pub RepliesInRange : Meaning → Node → Raw → Response → Type 0
 RepliesInRange m n raw r =
     (parcel : Parcel) → parcel_in raw.body ≡ Some parcel → r.goes_on ≡ true →
     IfOk (answer m n parcel).result IsReply
+
+-- a node that was made has handled what the model does
+abbrev pub FollowsModel : Meaning → Begun → Type 0
+FollowsModel m (Loaded n) = HasHistories m n
+FollowsModel m (Refused text) = Unit {0}
 
 -- a node that was made is one of so many processes
 abbrev pub HasProcesses : ℕ → Begun → Type 0

@@ -262,8 +262,10 @@ fn served_after(
 
 #[test]
 fn a_fault_comes_after_all_replies_before_it(rt: HostRuntime) -> Result<(), Fail> {
-    let cases: [(&[u8], WireFault, usize); 6] = [
+    let cases: [(&[u8], WireFault, usize); 7] = [
         (&[1, 0, 0, 1, 2, 9], WireFault::TooLong, 2),
+        // A body of 2^24 bytes, of which one comes: `tools/largest-blocks` looks at what is asked for.
+        (&[1, 0, 0, 0, 2, 9], WireFault::Truncated, 0),
         (&[0, 0, 0, 16, 2, 0, 0], WireFault::Truncated, 0),
         (&[0, 0, 0, 1, 4, 7], WireFault::BadKind, 0),
         (&[0, 0, 0, 1, 3, 7, 9], WireFault::BadKind, 1),

@@ -1,14 +1,11 @@
 // The recovery of a token ring of three processes that hold the token two ticks, up to time 10.
 
-ghost use Rattle.std.specs.Prelude.{◌≡◌, ◌≤◌, ◌<◌, ◌^◌, ℕ};
-ghost use Rattle.recovery.specs.Ring.{ring_meaning, ring_lawful};
-
 use commitlog::{Log, LogFault, format};
 use disk::{DiskFault, MemDisk, Plan, SectorDisk, Torn};
 use eventkey::Message;
-use model::{Model as Simulated, Outgoing, Sends, Words, WorldFault};
+use model::WorldFault;
+use models::TokenRing;
 use recovery::{Front, RecoveryFault, encode_events, events_length, header, recover};
-use smallvec::SmallVec;
 use std::alloc::{AllocError, Global};
 use std::test::Fail;
 
@@ -17,64 +14,9 @@ mod device;
 mod faults;
 mod memory;
 
-#[derive(Drop)]
-struct Ring {
-    lps: u32,
-    hold: u32,
-    ghost some: { 1 ≤ lps },
-    ghost few: { lps ≤ 1024 },
-    ghost held: { 1 ≤ hold },
-    ghost fits: { hold < 2 ^ 32 },
+fn ring() -> TokenRing {
+    TokenRing::new(3, 2, 1)
 }
-
-impl Simulated for Ring {
-    ghost meaning = { λ r. ring_meaning r.lps r.hold };
-
-    ghost lawful = { λ r. ring_lawful r.lps r.hold r.some r.few r.held r.fits };
-
-    fn lps(&self) -> u32 {
-        self.lps
-    }
-
-    fn identity(&self, alloc: Global) -> SmallVec<u64, 8> {
-        let mut words = SmallVec::new(alloc);
-        words.push_reserved(1);
-        words.push_reserved(u64::from(self.hold));
-        words.push_reserved(1);
-        words
-    }
-
-    fn start(&self, alloc: Global, lp: u32) -> (Words, Sends) {
-        let mut words = SmallVec::new(alloc);
-        words.push_reserved(0);
-        let mut sends = SmallVec::new(alloc);
-        if lp == 0 {
-            sends.push_reserved(Outgoing {
-                to: 0,
-                delay: 1,
-                a: 0,
-                b: 0,
-            });
-        }
-        (words, sends)
-    }
-
-    fn handle(&self, alloc: Global, lp: u32, state: &Words, message: &Message) -> (Words, Sends) {
-        let count = state.as_slice().first().copied().unwrap_or(0);
-        let mut words = SmallVec::new(alloc);
-        words.push_reserved(count.saturating_add(1));
-        let mut sends = SmallVec::new(alloc);
-        sends.push_reserved(Outgoing {
-            to: (lp + 1) % self.lps,
-            delay: self.hold,
-            a: message.a(),
-            b: message.b().wrapping_add(1),
-        });
-        (words, sends)
-    }
-}
-
-const RING: Ring = Ring { lps: 3, hold: 2 };
 
 const END: u64 = 10;
 
@@ -125,7 +67,7 @@ fn log_with(
     last: Option<(u8, &[u8])>,
 ) -> Result<Log<MemDisk>, Fail> {
     let mut disk = MemDisk::blank(alloc, 64)?;
-    format(&mut disk, &header(alloc, &RING, END))?;
+    format(&mut disk, &header(alloc, &ring(), END))?;
     let mut log = open(alloc, disk)?;
     for (g, numbers) in records {
         log.append(1, body(alloc, *g, numbers)?.as_slice())?;
@@ -140,19 +82,6 @@ fn log_with(
 fn log_of_all(alloc: Global) -> Result<Log<MemDisk>, Fail> {
     let records: [(u64, &[[u64; 6]]); 3] = [(1, &[]), (7, &EVENTS[..3]), (END, &EVENTS[3..5])];
     log_with(alloc, &records, None)
-}
-
-fn recovered_as(
-    alloc: Global,
-    log: Log<MemDisk>,
-    ring: &Ring,
-    end: u64,
-) -> Result<Front, RecoveryFault>
-    requires some { 1 ≤ end }
-    requires end { end ≤ 2 ^ 40 }
-{
-    let mut log = open(alloc, log.into_disk())?;
-    recover(alloc, ring, &mut log, end)
 }
 
 /// Whether each state is one word, and they are these.
@@ -177,7 +106,8 @@ fn is_at_the_end(alloc: Global, front: &Front) -> Result<bool, Fail> {
 }
 
 fn recovered(alloc: Global, log: Log<MemDisk>) -> Result<Front, RecoveryFault> {
-    recovered_as(alloc, log, &RING, END)
+    let mut log = open(alloc, log.into_disk())?;
+    recover(alloc, &ring(), &mut log, END)
 }
 
 /// The fault of the recovery, if there is one.

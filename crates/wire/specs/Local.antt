@@ -2,6 +2,7 @@
 use Rattle.std.specs.Prelude.{false, true, ◌≡◌}
 use Rattle.model.specs.Meaning.{Meaning}
 use Rattle.node.specs.Handling.{Node}
+use Rattle.node.specs.Kept.{HasHistories}
 use Rattle.wire.specs.Port.{PortState, Stage, nobody}
 use Rattle.wire.specs.Port.Stage.{Ended as AtEnd, Fresh as AtFirst, Idle as AtRest, Posted as AtWork}
 use Rattle.wire.specs.declared.local.Held.{Held}
@@ -27,8 +28,9 @@ node_of Ended = nobody
 abbrev pub state_of : Meaning → Held → PortState
 state_of m held = record { stage = stage_of held; tells = true; meaning = m; node = node_of held }
 
--- its node is one of this model
+-- its node is one of this model, and has handled what it does
 abbrev pub IsOfModel : Meaning → Held → Type 0
-IsOfModel m (Idle node) = (node.spent ≡ false) × (node.lps ≡ m.lps)
-IsOfModel m (Posted node parcel) = (node.spent ≡ false) × (node.lps ≡ m.lps)
+IsOfModel m (Idle node) = (node.spent ≡ false) × (node.lps ≡ m.lps) × HasHistories m node
+IsOfModel m (Posted node parcel) =
+    (node.spent ≡ false) × (node.lps ≡ m.lps) × HasHistories m node
 IsOfModel m held = Unit {0}

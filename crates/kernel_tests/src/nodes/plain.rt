@@ -1,8 +1,8 @@
 // A node as plainly as it can be had: three lists a process in no order but that in which things came, and whatever is wanted is
 // found by looking at all of them. Nothing is let go: what was told is counted.
 
-use super::relay::{RELAYS, Relay};
 use super::*;
+use models::Relay;
 use std::alloc::AllocError;
 
 #[derive(Drop)]
@@ -48,6 +48,16 @@ pub struct PlainNode {
     processes: Vec<PlainProcess>,
 }
 
+fn going_out(message: Message) -> Signed {
+    let sign = Sign::Plus;
+    Signed { sign, message }
+}
+
+fn taken_back(message: Message) -> Signed {
+    let sign = Sign::Minus;
+    Signed { sign, message }
+}
+
 /// Takes one copy out. Whether there was one.
 fn remove_one(
     alloc: Global,
@@ -79,22 +89,17 @@ fn least_of(messages: &[Message], so_far: Option<Message>) -> Option<Message> {
 }
 
 impl PlainProcess {
-    pub fn new(
-        alloc: Global,
-        lp: u32,
-        number: u64,
-        pending: &[Message],
-    ) -> Result<Self, AllocError> {
-        Ok(PlainProcess {
+    pub fn new(alloc: Global, lp: u32, number: u64, pending: Vec<Message>) -> PlainProcess {
+        PlainProcess {
             alloc,
             lp,
             state: 0,
             number,
             done: Vec::new(alloc),
             told: 0,
-            waiting: pending.to_vec(alloc)?,
+            waiting: pending,
             antis: Vec::new(alloc),
-        })
+        }
     }
 
     /// How many handlings came after a message.
@@ -114,7 +119,7 @@ impl PlainProcess {
         let kept = self.done.len().saturating_sub(count);
         for handled in self.done.iter().skip(kept) {
             for sent in handled.sent.iter() {
-                out.push(minus(*sent))?;
+                out.push(taken_back(*sent))?;
             }
         }
         for _ in 0..count {
@@ -156,7 +161,7 @@ impl PlainProcess {
         let _ = remove_one(self.alloc, &mut self.waiting, message)?;
         let mut words = Words::new(self.alloc);
         words.push_reserved(self.state);
-        let (after, sends) = Relay.handle(self.alloc, self.lp % RELAYS, &words, &message);
+        let (after, sends) = Relay.handle(self.alloc, self.lp % 6, &words, &message);
         let mut sent = Vec::new(self.alloc);
         let (before, number_before) = (self.state, self.number);
         for send in sends.as_slice() {
@@ -164,7 +169,7 @@ impl PlainProcess {
             let one = Message::new(time, self.lp, self.number, send.to, send.a, send.b)?;
             self.number = self.number.wrapping_add(1);
             sent.push(one)?;
-            out.push(plus(one))?;
+            out.push(going_out(one))?;
         }
         self.state = after.as_slice().first().copied().unwrap_or(0);
         self.done.push(Handled {

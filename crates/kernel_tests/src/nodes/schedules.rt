@@ -5,10 +5,13 @@ ghost use Rattle.std.specs.List.{AllByRecursion as Every};
 ghost use Rattle.node.specs.Handling.{IsInRange};
 
 use super::plain::{PlainFossil, PlainNode, PlainProcess, PlainReply};
-use super::relay::{RELAYS, Relay};
 use super::*;
+use models::Relay;
 
 const END: u64 = 60;
+
+/// How many processes a relay has.
+const RELAYS: u32 = 6;
 
 /// Numbers by lot, the same at each run (a linear congruence).
 #[derive(Drop)]
@@ -65,11 +68,12 @@ fn agree(reply: &Reply, plain: &PlainReply) -> bool {
 }
 
 /// What waits for a process at first.
-fn pending(lp: u32) -> Result<[Message; 2], Fail> {
+fn pending(lp: u32) -> [Row; 2] {
     let time = u64::from(lp % 3);
-    let soon = Message::new(time.wrapping_add(1), lp, 0, lp, 0, u64::from(lp))?;
-    let later = Message::new(time.wrapping_add(4), lp, 1, lp, 0, 5)?;
-    Ok([later, soon])
+    [
+        (time + 4, lp, 1, lp, 0, 5),
+        (time + 1, lp, 0, lp, 0, u64::from(lp)),
+    ]
 }
 
 fn parts_and_plain(alloc: Global, node: u32, nodes: u32) -> Result<(Listed<Part>, PlainNode), Fail>
@@ -79,9 +83,9 @@ fn parts_and_plain(alloc: Global, node: u32, nodes: u32) -> Result<(Listed<Part>
     let mut plain = PlainNode::new(alloc, END);
     for lp in 0..RELAYS {
         if lp.checked_rem(nodes) == Some(node) {
-            let pending = pending(lp)?;
-            parts.push(part(alloc, lp, 2, &pending)?)?;
-            plain.seat(PlainProcess::new(alloc, lp, 2, &pending)?)?;
+            let pending = pending(lp);
+            parts.push(part(lp, 2, alloc, messages(alloc, &pending)?))?;
+            plain.seat(PlainProcess::new(alloc, lp, 2, messages(alloc, &pending)?))?;
         }
     }
     Ok((Listed::from_vec(parts), plain))
@@ -117,7 +121,12 @@ impl Pair {
         budget: u32,
         floor: u64,
     ) -> Result<Option<Reply>, Fail> {
-        let reply = self.node.handle(parcel(alloc, deliver, budget, floor)?)?;
+        let parcel = Parcel {
+            deliver: Listed::from_vec(deliver.to_vec(alloc)?),
+            budget,
+            floor,
+        };
+        let reply = self.node.handle(parcel)?;
         let plain = self.plain.handle(deliver, budget, floor)?;
         self.low = reply.low;
         self.floor = floor;

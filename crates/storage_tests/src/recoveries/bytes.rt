@@ -2,7 +2,7 @@ use super::*;
 
 #[test]
 fn a_header_has_the_bytes_of_its_format(rt: HostRuntime) -> Result<(), Fail> {
-    let bytes = header(rt.alloc(), &RING, END);
+    let bytes = header(rt.alloc(), &ring(), END);
     let start = [
         0x54, 0x49, 0x4d, 0x45, 0x57, 0x41, 0x52, 0x50, 0, 0, 0, 1, 0, 0, 0, 3, 0, 0, 0, 0, 0, 0,
         0, 10, 0, 0, 0, 3, 0, 0, 0, 0, 0, 0, 0, 1, 0, 0, 0, 0, 0, 0, 0, 2, 0, 0, 0, 0, 0, 0, 0, 1,

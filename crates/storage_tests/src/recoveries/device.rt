@@ -28,10 +28,10 @@ fn refused_twice(
     fail: u64,
 ) -> Result<Option<[RecoveryFault; 2]>, RecoveryFault> {
     let mut log = failing_log(alloc, image, fail)?;
-    let Err(first) = recover(alloc, &RING, &mut log, END) else {
+    let Err(first) = recover(alloc, &ring(), &mut log, END) else {
         return Ok(None);
     };
-    match recover(alloc, &RING, &mut log, END) {
+    match recover(alloc, &ring(), &mut log, END) {
         Err(second) => Ok(Some([first, second])),
         Ok(_front) => Ok(Some([first, first])),
     }

@@ -12,8 +12,8 @@ fn is_of_memory(fault: &RecoveryFault) -> bool {
 
 /// Recovers the ring; where memory is refused and the log is not spent, once again.
 fn recovered_again(alloc: Global, log: &mut Log<MemDisk>) -> Result<Front, RecoveryFault> {
-    match recover(alloc, &RING, log, END) {
-        Err(fault) if is_of_memory(&fault) && !log.is_spent() => recover(alloc, &RING, log, END),
+    match recover(alloc, &ring(), log, END) {
+        Err(fault) if is_of_memory(&fault) && !log.is_spent() => recover(alloc, &ring(), log, END),
         other => other,
     }
 }

@@ -1,5 +1,10 @@
 use Rattle.std.proofs.Common.{◌≡◌, false}
+use Rattle.bench_node.specs.Scatter.{scatter}
+use Rattle.node.specs.Kept.{HasHistories}
 use Rattle.bench_node.proofs.whole_node.run.Given as goal
 
 abbrev pub invariant-loop : goal.invariant-loop
-invariant-loop l = l.model.lps ≡ l.node.lps
+invariant-loop l = record {
+  lps : l.model.lps ≡ l.node.lps;
+  histories : HasHistories (scatter l.model.lps l.model.spread) l.node;
+}

@@ -1,4 +1,4 @@
-use Rattle.std.proofs.Common.{ℕ, suc, refl, ap, sym, ◌*◌, ◌∙◌, arith}
+use Rattle.std.proofs.Common.{ℕ, suc, refl, arith}
 use Rattle.std.proofs.Math.Nat.{pow-succ'}
 use Rattle.node.proofs.tournament.width_for.Goals as goal
 

@@ -19,12 +19,12 @@ returns-in_err-frame-in-Err-clause-begins g c =
 
 pub returns-in-Ok-clause-begins : goal.returns-in-Ok-clause-begins
 returns-in-Ok-clause-begins g c =
-    begin_made _ _ c.in-Some.load (Ok c.in-Ok.node) (Loaded c.in-Ok.node) c.in-Load.is (ap load_in (sym c.as_slice.ensures) ∙ sym c.in_ok-load.ensures.read ∙ c.in-Some.is) c.in-Ok.ensures refl
+    begin_made _ _ c.in-Some.load (Ok c.in-Ok.node) (Loaded c.in-Ok.node) c.in-Load.is (ap load_in (sym c.as_slice.ensures) ∙ sym c.in_ok-load.ensures.read ∙ c.in-Some.is) c.in-Ok.ensures.loaded refl
 
 pub returns-in-Ok-clause-lps : goal.returns-in-Ok-clause-lps
-returns-in-Ok-clause-lps g c = loaded_processes _ c.in-Some.load c.in-Ok.node c.in-Ok.ensures
+returns-in-Ok-clause-lps g c = loaded_processes _ c.in-Some.load c.in-Ok.node c.in-Ok.ensures.loaded
 
 pub returns-in_ok-frame-in-Err-clause-begins : goal.returns-in_ok-frame-in-Err-clause-begins
 returns-in_ok-frame-in-Err-clause-begins g c =
-    begin_made _ _ c.in-Some.load (Err c.in-Err.fault) (Refused c.from_vec.result) c.in-Load.is (ap load_in (sym c.as_slice.ensures) ∙ sym c.in_ok-load.ensures.read ∙ c.in-Some.is) c.in-Err.ensures
+    begin_made _ _ c.in-Some.load (Err c.in-Err.fault) (Refused c.from_vec.result) c.in-Load.is (ap load_in (sym c.as_slice.ensures) ∙ sym c.in_ok-load.ensures.read ∙ c.in-Some.is) c.in-Err.ensures.loaded
     (ap Refused (c.from_vec.ensures ∙ c.in_ok-frame-in-Err.ensures.1))

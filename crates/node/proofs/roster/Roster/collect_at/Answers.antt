@@ -2,28 +2,44 @@ use Rattle.std.proofs.Common.{◌++◌, ◌∙◌, ap, subst, sym}
 use Rattle.std.specs.List.{AllByRecursion as Every}
 use Rattle.eventkey.proofs.Lists.{Every-append}
 use Rattle.process.specs.Process.{Process, fossils_of}
-use Rattle.process.specs.View.{IsDoneInRange}
+use Rattle.process.specs.View.{IsDoneInRange, ProcessView}
 use Rattle.node.proofs.Collects.{process_at, processes_then, seated_at, staffed_then}
+use Rattle.node.proofs.Histories.{modelled_again, modelled_at}
 use Rattle.node.specs.Roster.{at_floor, place_of}
 use Rattle.node.proofs.roster.Roster.collect_at.Goals as goal
 
 pub returns-clause-staffed : goal.returns-clause-staffed
-returns-clause-staffed c = rw c.set.ensures
+returns-clause-staffed g c = rw c.set.ensures
     (staffed_then (at_floor c.args.floor (place_of c.args.self.now)) c.args.self.now.processes.items c.args.self.now.standings c.args.place c.index_mut-process.result.now c.requires.staffed c.requires.there c.index_mut-process.ensures.value
     c.collect_into.new.self c.of-standing.result c.in_ok-collect_into.ensures.collected c.of-standing.ensures.standing)
 
 pub returns-clause-processes : goal.returns-clause-processes
-returns-clause-processes c =
+returns-clause-processes g c =
     processes_then (at_floor c.args.floor (place_of c.args.self.now)) c.args.self.now.processes.items c.args.self.now.standings c.args.place c.index_mut-process.result.now c.requires.staffed c.requires.there c.index_mut-process.ensures.value
     c.collect_into.new.self c.in_ok-collect_into.ensures.collected
 
 pub returns-clause-fossils : goal.returns-clause-fossils
-returns-clause-fossils c =
+returns-clause-fossils g c =
     c.in_ok-collect_into.ensures.fossils
     ∙ ap (λ (q : Process). c.args.fossils.now.items ++ fossils_of c.args.floor q)
     (sym (process_at (at_floor c.args.floor (place_of c.args.self.now)) c.args.self.now.processes.items c.args.self.now.standings c.args.place c.index_mut-process.result.now c.requires.staffed c.requires.there c.index_mut-process.ensures.value))
 
 pub returns-clause-range : goal.returns-clause-range
-returns-clause-range c ranged =
+returns-clause-range g c ranged =
     subst (Every IsDoneInRange) (sym c.in_ok-collect_into.ensures.fossils)
     (Every-append IsDoneInRange c.args.fossils.now.items (fossils_of c.args.floor c.index_mut-process.result.now.process) ranged c.in_ok-collect_into.ensures.range)
+
+pub collect_into-requires-clause-lp : goal.collect_into-requires-clause-lp
+collect_into-requires-clause-lp g c =
+    (modelled_at (g.M.Model.meaning c.args.model.now) c.args.self.now.processes.items c.requires.modelled c.args.place c.index_mut-process.result.now c.requires.there c.index_mut-process.ensures.value).there
+
+pub collect_into-requires-clause-history : goal.collect_into-requires-clause-history
+collect_into-requires-clause-history g c = λ _.
+    (modelled_at (g.M.Model.meaning c.args.model.now) c.args.self.now.processes.items c.requires.modelled c.args.place c.index_mut-process.result.now c.requires.there c.index_mut-process.ensures.value).history
+
+pub returns-clause-modelled : goal.returns-clause-modelled
+returns-clause-modelled g c =
+    let m = g.M.Model.meaning c.args.model.now in
+    let seated = seated_at (at_floor c.args.floor (place_of c.args.self.now)) c.args.self.now.processes.items c.args.self.now.standings c.args.place c.index_mut-process.result.now c.requires.staffed c.requires.there c.index_mut-process.ensures.value in
+    let was = modelled_at m c.args.self.now.processes.items c.requires.modelled c.args.place c.index_mut-process.result.now c.requires.there c.index_mut-process.ensures.value in
+    modelled_again m c.args.self.now.processes.items c.requires.modelled c.args.place c.index_mut-process.result.now c.collect_into.new.self was c.in_ok-collect_into.ensures.lp (c.in_ok-collect_into.ensures.history (ap (λ (v : ProcessView). v.spent) c.in_ok-collect_into.ensures.collected ∙ seated.unspent))

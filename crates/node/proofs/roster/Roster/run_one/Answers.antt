@@ -1,7 +1,8 @@
-use Rattle.std.proofs.Common.{◌≡◌, ◌∙◌, ℕ, List, false, rules, Ok, Err, ap, sym}
+use Rattle.std.proofs.Common.{◌≡◌, ◌∙◌, ◌/◌, ℕ, List, false, rules, Ok, Err, ap, sym}
 use Rattle.std.proofs.lemmas.Bool.{both_ways}
 use Rattle.std.proofs.lemmas.Result.{err_from_is_err_and}
 use Rattle.node.proofs.Seats.{length-standings, place_inside}
+use Rattle.node.proofs.Histories.{modelled_again, modelled_at}
 use Rattle.node.proofs.Turns.{IsHandled, IsTurn, has_run, lacks_room, on_turn, room_here, run_fault, has_room_then, turn_place, turn_ready, turn_work}
 use Rattle.node.proofs.Deliveries.{working}
 use Rattle.node.proofs.Runs.{same_err}
@@ -112,3 +113,15 @@ returns-clause-limit g c ran none =
       lacks (g.M.Model.meaning c.args.model.now) (place_of c.args.self.now) c.args.self.now.processes.items c.args.self.now.standings c.args.message.now c.to.result c.index_mut-process.result.now c.args.out.now.items ran turn none,
     ) in
     absurd (cc)
+
+pub returns-clause-modelled : goal.returns-clause-modelled
+returns-clause-modelled g c =
+    let m = g.M.Model.meaning c.args.model.now in
+    let turn : IsTurn (place_of c.args.self.now) c.args.self.now.processes.items c.args.self.now.standings c.args.message.now c.to.result c.index_mut-process.result.now =
+    record { lp_is = c.to.ensures; staffed = c.requires.ready; least = c.requires.least; read = c.index_mut-process.ensures.value } in
+    let t = on_turn (place_of c.args.self.now) c.args.self.now.processes.items c.args.self.now.standings c.args.message.now c.to.result c.index_mut-process.result.now turn in
+    let place = turn_place (place_of c.args.self.now) c.args.self.now.processes.items c.args.self.now.standings c.args.message.now c.requires.ready c.requires.least in
+    let inside = place_inside (place_of c.args.self.now) c.args.self.now.processes.items c.args.self.now.standings c.args.message.now.to c.requires.ready place.0 place.1 in
+    let was = modelled_at m c.args.self.now.processes.items c.requires.modelled (c.to.result / c.args.self.now.nodes) c.index_mut-process.result.now (rw c.to.ensures inside) c.index_mut-process.ensures.value in
+    modelled_again m c.args.self.now.processes.items c.requires.modelled (c.to.result / c.args.self.now.nodes) c.index_mut-process.result.now c.run_one.new.self was c.in_ok-run_one.ensures.lp
+    (c.in_ok-run_one.ensures.history (λ _. was.history) (ap (λ (v : ProcessView). v.spent) (handled g c turn).process ∙ t.at.seated.unspent))

@@ -1,6 +1,6 @@
 use Rattle.std.proofs.Common.{◌≡◌, ◌++◌, ◌∙◌, List, [], ap, subst, sym}
 use Rattle.std.specs.List.{AllByRecursion as Every}
-use Rattle.process.specs.Process.{fossils_of, number_after, state_after}
+use Rattle.process.specs.Process.{number_after, state_after}
 use Rattle.process.specs.Told.{IsToldFold}
 use Rattle.process.specs.View.{HasDone, IsDoneInRange}
 use Rattle.process.specs.declared.Done.{Done}
@@ -11,12 +11,12 @@ alone : (told empty more : List Done) → told ≡ empty ++ more → empty ≡ [
 alone told empty more e f = e ∙ ap (λ (ds : List Done). ds ++ more) f
 
 pub returns-clause-fossils : goal.returns-clause-fossils
-returns-clause-fossils c = alone _ _ _ c.in_ok-collect_into.ensures.fossils c.new-fossils.ensures.items
+returns-clause-fossils g c = alone _ _ _ c.in_ok-collect_into.ensures.fossils c.new-fossils.ensures.items
 
 pub returns-clause-range : goal.returns-clause-range
-returns-clause-range c = subst (Every IsDoneInRange) (sym (alone _ _ _ c.in_ok-collect_into.ensures.fossils c.new-fossils.ensures.items)) c.in_ok-collect_into.ensures.range
+returns-clause-range g c = subst (Every IsDoneInRange) (sym (alone _ _ _ c.in_ok-collect_into.ensures.fossils c.new-fossils.ensures.items)) c.in_ok-collect_into.ensures.range
 
 pub returns-clause-done : goal.returns-clause-done
-returns-clause-done c m state number h =
+returns-clause-done g c m state number h =
     subst (λ (fs : List Done). IsToldFold m c.args.self.now.lp state number fs × HasDone m c.collect_into.new.self (state_after fs state) (number_after fs number)) (sym (alone _ _ _ c.in_ok-collect_into.ensures.fossils c.new-fossils.ensures.items))
     (c.in_ok-collect_into.ensures.done m state number h)

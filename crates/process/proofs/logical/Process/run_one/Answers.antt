@@ -4,7 +4,7 @@ use Rattle.eventkey.specs.Message.{Message}
 use Rattle.eventkey.specs.Signed.{plus}
 use Rattle.model.specs.Meaning.{IsWords, stamp}
 use Rattle.process.proofs.Calls.{handled_done, handled_is}
-use Rattle.process.proofs.Sound.{done_ran, handled_sound}
+use Rattle.process.proofs.Sound.{done_ran, handled_sound, has_history}
 use Rattle.process.specs.Inside.{view_of}
 use Rattle.process.specs.Process.{Process, handle, handling_of}
 use Rattle.process.specs.View.{HasRun, IsSound, ProcessView}
@@ -87,3 +87,7 @@ returns-clause-ran g c = λ _.
 pub returns-clause-done : goal.returns-clause-done
 returns-clause-done g c state number h =
     done_ran (g.M.Model.meaning c.args.model.now) c.args.end c.args.self.now (left_of g c) c.args.out.now.items c.append.new.out.items state number (returns-clause-ran g c refl) (invariant_of-self-2 g c refl).1.number h
+
+pub returns-clause-history : goal.returns-clause-history
+returns-clause-history g c h = λ _.
+    has_history (g.M.Model.meaning c.args.model.now) (left_of g c) _ _ (returns-clause-done g c _ _ (h (ap (λ (v : ProcessView). v.spent) (sym c.self.view_is) ∙ c.if-self.false)))

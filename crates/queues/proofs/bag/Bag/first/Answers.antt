@@ -1,4 +1,4 @@
-use Rattle.std.proofs.Common.{◌≡◌, ◌∙◌, List, ap, slice_get, subst, sym}
+use Rattle.std.proofs.Common.{◌∙◌, List, ap, slice_get, subst}
 use Rattle.eventkey.specs.Bag.{IsAscending}
 use Rattle.eventkey.specs.Message.{Message}
 use Rattle.queues.proofs.Buckets.{ascends, first_of}

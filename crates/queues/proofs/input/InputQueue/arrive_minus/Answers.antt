@@ -8,7 +8,7 @@ use Rattle.queues.proofs.Releases.{popped_is}
 use Rattle.queues.proofs.Queues.{queues_stay_in_order}
 use Rattle.queues.proofs.Undone.{not_taken}
 use Rattle.queues.specs.Inside.{queue_of}
-use Rattle.queues.specs.Queue.{IsInOrder, Queue, after, arrived, last_of}
+use Rattle.queues.specs.Queue.{IsInOrder, arrived, last_of}
 use Rattle.queues.proofs.input.InputQueue.arrive_minus.Goals as goal
 
 -- 1. The message waits

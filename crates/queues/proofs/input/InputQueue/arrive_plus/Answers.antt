@@ -1,6 +1,6 @@
 use Rattle.std.proofs.Common.{◌≡◌, ◌∙◌, ap, arith, refl, subst, sym, false, true}
 use Rattle.eventkey.proofs.Bags.{IsAscending-add}
-use Rattle.eventkey.specs.Bag.{IsAscending, add, add_all, is_among, remove_one}
+use Rattle.eventkey.specs.Bag.{IsAscending, add_all, is_among, remove_one}
 use Rattle.eventkey.specs.Signed.{plus}
 use Rattle.queues.proofs.Exits.{at_err, at_ok, on_err}
 use Rattle.queues.proofs.Moves.{plus_met, plus_stayed, same_queue}
@@ -8,7 +8,7 @@ use Rattle.queues.proofs.Places.{after-le}
 use Rattle.queues.proofs.Queues.{queues_stay_in_order}
 use Rattle.queues.proofs.Undone.{not_taken, put_one_back}
 use Rattle.queues.specs.Inside.{queue_of}
-use Rattle.queues.specs.Queue.{IsInOrder, Queue, after, arrived, last_of}
+use Rattle.queues.specs.Queue.{IsInOrder, arrived, last_of}
 use Rattle.queues.proofs.input.InputQueue.arrive_plus.Goals as goal
 
 pub invariant_of-self : goal.invariant_of-self

@@ -1,5 +1,5 @@
-use Rattle.std.proofs.Common.{◌≡◌, ◌∙◌, ◌+◌, ◌∷◌, ◌++◌, [], List, ap, arith, length, refl, rules, subst, sym, take}
-use Rattle.std.proofs.lemmas.List.{take_all, take_more}
+use Rattle.std.proofs.Common.{◌≡◌, ◌∙◌, ◌+◌, ◌∷◌, ◌++◌, [], List, ap, arith, rules, subst, sym, take}
+use Rattle.std.proofs.lemmas.List.{take_more}
 use Rattle.eventkey.proofs.Bags.{IsAscending-add_all}
 use Rattle.eventkey.specs.Bag.{IsAscending, add, add_all}
 use Rattle.eventkey.specs.Message.{Message}

@@ -1,0 +1,184 @@
+// Worked values of the input queue. A call that is refused for want of memory is made again, and must then answer as if it
+// had never been refused.
+
+use crate::rows::{Row, messages, signed};
+use eventkey::{Message, Sign, Signed};
+use queues::{Arrival, InputQueue};
+use std::alloc::AllocError;
+use std::process::Abort;
+use std::test::Fail;
+
+/// What is done with a queue: a message or an antimessage arrives, or the least message below an end, in ticks, is taken.
+#[derive(Clone, Copy)]
+enum Call {
+    Arrives(Signed),
+    Taken(u64),
+}
+
+/// What a call answers: the arrival, or the time of what was taken.
+type Answer = (Option<Arrival>, Option<u64>);
+
+/// How many messages are done, wait, and wait against.
+type Lens = (usize, usize, usize);
+
+/// A call, what it answers and how long the lists are then.
+type Step = (Call, Answer, Lens);
+
+const A: Row = (5, 0, 1, 1, 0, 1);
+/// Another message of the same sender and number.
+const OTHER: Row = (5, 0, 1, 1, 9, 1);
+
+const WAITS: Answer = (Some(Arrival::Waits), None);
+
+const NONE: Answer = (None, None);
+
+const fn queued(back: usize) -> Answer {
+    (Some(Arrival::Queued { back }), None)
+}
+
+const fn annihilated(back: usize) -> Answer {
+    (Some(Arrival::Annihilated { back }), None)
+}
+
+const fn taken(time: u64) -> Answer {
+    (None, Some(time))
+}
+
+fn lens(queue: &InputQueue) -> Lens {
+    (queue.done_len(), queue.waiting_len(), queue.antis_len())
+}
+
+/// All that a queue shows: the lists' lengths, the least message that waits, and the least time.
+fn shown(queue: &InputQueue) -> (Lens, Option<Message>, Option<u64>) {
+    (lens(queue), queue.next(u64::MAX), queue.low())
+}
+
+fn make(queue: &mut InputQueue, call: &Call) -> Result<Answer, AllocError> {
+    match *call {
+        Call::Arrives(signed) => {
+            let arrival = queue.arrive(signed)?;
+            Ok((Some(arrival), None))
+        }
+        Call::Taken(end) => {
+            let next = queue.take_next(end)?;
+            Ok((None, next.map(|next| next.time())))
+        }
+    }
+}
+
+/// Makes a call, and makes it again where memory was refused, which changed nothing.
+fn make_at_last(
+    rt: &impl Abort,
+    queue: &mut InputQueue,
+    call: &Call,
+) -> Result<Answer, AllocError> {
+    let before = shown(queue);
+    if let Ok(answer) = make(queue, call) {
+        return Ok(answer);
+    }
+    assert!(rt; shown(queue) == before);
+    make(queue, call)
+}
+
+fn play(rt: &impl Abort, queue: &mut InputQueue, steps: &[Step], name: &str) -> Result<(), Fail> {
+    for (call, answer, left) in steps {
+        let told = make_at_last(rt, queue, call)?;
+        assert!(rt; told == *answer, "{name}");
+        assert!(rt; lens(queue) == *left, "{name}");
+    }
+    Ok(())
+}
+
+#[test]
+fn what_arrives_meets_its_like(rt: HostRuntime) -> Result<(), Fail> {
+    let plus = Call::Arrives(signed(Sign::Plus, A)?);
+    let minus = Call::Arrives(signed(Sign::Minus, A)?);
+    let other = Call::Arrives(signed(Sign::Plus, OTHER)?);
+    let take = Call::Taken(10);
+    let scripts: [(&str, &[Step]); 6] = [
+        (
+            "an antimessage comes first",
+            &[(minus, WAITS, (0, 0, 1)), (plus, annihilated(0), (0, 0, 0))],
+        ),
+        (
+            "a handled message is taken back",
+            &[
+                (plus, queued(0), (0, 1, 0)),
+                (take, taken(5), (1, 0, 0)),
+                (minus, annihilated(1), (0, 0, 0)),
+            ],
+        ),
+        (
+            "matching is by all six numbers",
+            &[
+                (plus, queued(0), (0, 1, 0)),
+                (take, taken(5), (1, 0, 0)),
+                (other, queued(0), (1, 1, 0)),
+                (minus, annihilated(1), (0, 1, 0)),
+                (take, taken(5), (1, 0, 0)),
+            ],
+        ),
+        (
+            "copies that wait are counted",
+            &[
+                (plus, queued(0), (0, 1, 0)),
+                (plus, queued(0), (0, 2, 0)),
+                (minus, annihilated(0), (0, 1, 0)),
+            ],
+        ),
+        (
+            "one of two equal handled copies is taken back",
+            &[
+                (plus, queued(0), (0, 1, 0)),
+                (take, taken(5), (1, 0, 0)),
+                (plus, queued(0), (1, 1, 0)),
+                (take, taken(5), (2, 0, 0)),
+                (minus, annihilated(1), (1, 0, 0)),
+                (minus, annihilated(1), (0, 0, 0)),
+                (minus, WAITS, (0, 0, 1)),
+            ],
+        ),
+        (
+            "each of two equal antimessages meets a message",
+            &[
+                (minus, WAITS, (0, 0, 1)),
+                (minus, WAITS, (0, 0, 2)),
+                (plus, annihilated(0), (0, 0, 1)),
+                (plus, annihilated(0), (0, 0, 0)),
+                (plus, queued(0), (0, 1, 0)),
+            ],
+        ),
+    ];
+    for (name, steps) in scripts {
+        play(&rt, &mut InputQueue::new(rt.alloc()), steps, name)?;
+    }
+    Ok(())
+}
+
+#[test]
+fn a_straggler_undoes_what_comes_after(rt: HostRuntime) -> Result<(), Fail> {
+    let waiting = [
+        (9, 0, 0, 1, 0, 0),
+        (3, 0, 0, 1, 0, 0),
+        (7, 0, 0, 1, 0, 0),
+        (5, 0, 0, 1, 0, 0),
+    ];
+    let straggler = Call::Arrives(signed(Sign::Plus, (4, 2, 0, 1, 0, 0))?);
+    let steps = [
+        (Call::Taken(8), taken(3), (1, 3, 0)),
+        (Call::Taken(8), taken(5), (2, 2, 0)),
+        (Call::Taken(8), taken(7), (3, 1, 0)),
+        (Call::Taken(9), NONE, (3, 1, 0)),
+        (straggler, queued(2), (1, 4, 0)),
+        (Call::Taken(10), taken(4), (2, 3, 0)),
+        (Call::Taken(10), taken(5), (3, 2, 0)),
+        (Call::Taken(10), taken(7), (4, 1, 0)),
+        (Call::Taken(10), taken(9), (5, 0, 0)),
+    ];
+    let mut queue = InputQueue::of_waiting(rt.alloc(), messages(rt.alloc(), &waiting)?)?;
+    play(&rt, &mut queue, &steps, "a straggler")?;
+    queue.release(5);
+    assert_eq!(rt; lens(&queue), (3, 0, 0));
+    queue.in_order();
+    Ok(())
+}

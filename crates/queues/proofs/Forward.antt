@@ -1,0 +1,123 @@
+-- Going forward over records: each state is what the handling before it left.
+use Rattle.std.proofs.Common.{◌≡◌, ℕ, zero, suc, Bool, Option, None, Some, ◌+◌, ◌-◌, ◌<◌, ◌≤◌, List, [], ◌∷◌, ◌++◌, sym, refl, ap, arith, ◌∙◌, length, take, drop, get_or, inl, inr, subst}
+use Rattle.std.specs.List.{slice_get}
+use Rattle.std.specs.Option.{option_to_list}
+use Rattle.eventkey.specs.Message.{Message}
+use Rattle.model.specs.Meaning.{Meaning}
+use Rattle.std.proofs.lemmas.List.{drop-drop, drop-map, take-map}
+use Rattle.queues.specs.Kept.{saved_in, wholes}
+use Rattle.queues.specs.Sparse.{SparseRecords}
+use Rattle.std.proofs.lemmas.Bool.{cases_Bool, cond_both}
+use Rattle.std.specs.Prelude.{nat_lt}
+use Rattle.queues.specs.Queue.{but_last, last_of}
+use Rattle.queues.specs.Record.{AreHandlings, HandlingsAreKept, LeadTo, handled_from, left_by, messages, state_before}
+use Rattle.queues.specs.declared.Record.{Record}
+
+pub handlings_drop : (m : Meaning) (n : ℕ) (hs : List Record) → AreHandlings m hs → AreHandlings m (drop n hs)
+handlings_drop m zero hs h = h
+handlings_drop m (suc n) [] h = h
+handlings_drop m (suc n) (r ∷ rs) h = handlings_drop m n rs h.3
+
+-- a step forward, from the record at n, whose message x is
+pub record StepsTo (m : Meaning) (x : Message) (before after : List ℕ) : Type 0 where
+  pub to : x.to < m.lps
+  pub few : length before ≤ 16
+  pub next : m.next_state x.to before x ≡ after
+
+pub step_at : (m : Meaning) (hs : List Record) (n : ℕ) (x : Message) → AreHandlings m hs → suc n < length hs → slice_get (messages hs) n ≡ Some x →
+    StepsTo m x (state_before (drop n hs) []) (state_before (drop (suc n) hs) [])
+step_at m [] n x h l e = absurd (omega arith)
+step_at m (r ∷ []) n x h l e = absurd (omega arith)
+step_at m (r ∷ r' ∷ rs) zero x h l e =
+    let same : r.message ≡ x = cc in
+    subst (λ (y : Message). StepsTo m y r.before r'.before) same (record { to = h.0; few = h.1; next = sym h.2 })
+step_at m (r ∷ r' ∷ rs) (suc n) x h l e = step_at m (r' ∷ rs) n x h.3 (omega arith) e
+
+pub step_before : (m : Meaning) (hs : List Record) (at : ℕ) (x : Message) → AreHandlings m hs → 0 < at → at < length hs → slice_get (messages hs) (at - 1) ≡ Some x →
+    StepsTo m x (state_before (drop (at - 1) hs) []) (state_before (drop at hs) [])
+step_before m hs at x h p l e =
+    let again : suc (at - 1) ≡ at = omega arith in
+    subst (λ (n : ℕ). StepsTo m x (state_before (drop (at - 1) hs) []) (state_before (drop n hs) [])) again (step_at m hs (at - 1) x h (omega arith) e)
+
+-- a record that the code keeps at this place
+pub record IsKeptAt (k : Record × Bool) (at : ℕ) (hs : List Record) : Type 0 where
+  pub words : state_before (drop at hs) [] ≡ k.0.before
+  pub message : slice_get (messages hs) at ≡ Some k.0.message
+
+in_later : (later : List (Record × Bool)) (n : ℕ) (k : Record × Bool) → k ≡ get_or later n k → n < length (wholes later) → IsKeptAt k n (wholes later)
+in_later [] n k e l = absurd (omega arith)
+in_later (h ∷ hs) zero k e l = record { words = ap (λ (r : Record × Bool). r.0.before) (sym e); message = ap (λ (r : Record × Bool). Some r.0.message) (sym e) }
+in_later (h ∷ hs) (suc n) k e l = let rest = in_later hs n k e (omega arith) in record { words = rest.words; message = rest.message }
+
+pub kept_at : (first : Option Record) (later : List (Record × Bool)) (at : ℕ) (k : Record × Bool) → (first ≡ None → later ≡ []) → (at ≡ 0 → ⊥) → k ≡ get_or later (at - 1) k →
+    at < length (option_to_list first ++ wholes later) → IsKeptAt k at (option_to_list first ++ wholes later)
+kept_at None later at k whole ne e l = let none : length (wholes later) ≡ 0 = ap (λ (ks : List (Record × Bool)). length (wholes ks)) (whole refl) in absurd (omega (arith, none))
+kept_at (Some f) later zero k whole ne e l = absurd (ne refl)
+kept_at (Some f) later (suc n) k whole ne e l =
+    let rest = in_later later n k (e ∙ ap (λ (i : ℕ). get_or later i k) {x = suc n - 1} {y = n} (omega arith)) (omega arith) in
+    record { words = rest.words; message = rest.message }
+
+-- the record with the message at a place
+pub record_at : (hs : List Record) (n : ℕ) (x : Message) → slice_get (messages hs) n ≡ Some x → (r : Record) × (r ≡ get_or hs n r) × (r.message ≡ x)
+record_at [] n x e = absurd (cc)
+record_at (h ∷ hs) zero x e = (h, refl, (let same : h.message ≡ x = cc in same))
+record_at (h ∷ hs) (suc n) x e = record_at hs n x e
+
+-- the records from a place on, where the code cuts them
+pub cut_at : (first : Option Record) (later rest : List (Record × Bool)) (at : ℕ) (k : Record × Bool) → (first ≡ None → later ≡ []) → (at ≡ 0 → ⊥) → at < length (option_to_list first ++ wholes later) →
+    drop (at - 1) later ≡ k ∷ rest → drop at (option_to_list first ++ wholes later) ≡ k.0 ∷ wholes rest
+cut_at None later rest at k whole ne l e = let none : length (wholes later) ≡ 0 = ap (λ (ks : List (Record × Bool)). length (wholes ks)) (whole refl) in absurd (omega (arith, none))
+cut_at (Some f) later rest zero k whole ne l e = absurd (ne refl)
+cut_at (Some f) later rest (suc n) k whole ne l e =
+    drop-map (λ (r : Record × Bool). r.0) n later ∙ ap wholes (ap (λ (i : ℕ). drop i later) {x = n} {y = suc n - 1} (omega arith) ∙ e)
+
+-- and those before it
+pub kept_before : (first : Option Record) (later : List (Record × Bool)) (at : ℕ) → (first ≡ None → later ≡ []) → (at ≡ 0 → ⊥) → at < length (option_to_list first ++ wholes later) →
+    ◌≡◌ {A = SparseRecords} (record { records = option_to_list first ++ wholes (take (at - 1) later); saved = saved_in (take (at - 1) later) })
+    (record { records = take at (option_to_list first ++ wholes later); saved = take (at - 1) (saved_in later) })
+kept_before None later at whole ne l = let none : length (wholes later) ≡ 0 = ap (λ (ks : List (Record × Bool)). length (wholes ks)) (whole refl) in absurd (omega (arith, none))
+kept_before (Some f) later zero whole ne l = absurd (ne refl)
+kept_before (Some f) later (suc n) whole ne l =
+    let e : suc n - 1 ≡ n = omega arith in
+    rw (e, take-map (λ (r : Record × Bool). r.0) n later, take-map (λ (r : Record × Bool). r.1) n later) refl
+
+-- one more is gone
+pub one_more_gone : (s s' t : SparseRecords) (n : ℕ) → s' ≡ record { records = drop 1 s.records; saved = drop 1 s.saved } → s ≡ record { records = drop n t.records; saved = drop n t.saved } →
+    s' ≡ record { records = drop (n + 1) t.records; saved = drop (n + 1) t.saved }
+one_more_gone s s' t n e f =
+    e ∙ (ap (λ (r : SparseRecords). record { records = drop 1 r.records; saved = drop 1 r.saved }) f
+    ∙ (ap (λ (hs : List Record). record { records = hs; saved = drop 1 (drop n t.saved) }) (drop-drop 1 n t.records)
+    ∙ ap (λ (bs : List Bool). record { records = drop (n + 1) t.records; saved = bs }) (drop-drop 1 n t.saved)))
+
+-- what leads to a state stays so
+
+lead_to_handlings : (m : Meaning) (hs : List Record) (state : List ℕ) → LeadTo m hs state → AreHandlings m hs
+lead_to_handlings m [] state h = tt
+lead_to_handlings m (r ∷ []) state h = (h.0, h.1, refl, tt)
+lead_to_handlings m (r ∷ r' ∷ rs) state h = (h.0, h.1, h.2, lead_to_handlings m (r' ∷ rs) state h.3)
+
+lead_on : (m : Meaning) (hs : List Record) (state : List ℕ) (x : Record) → LeadTo m hs state → x.before ≡ state → x.message.to < m.lps → length (left_by m x) ≤ 16 → LeadTo m (hs ++ x ∷ []) (left_by m x)
+lead_on m [] state x h e t f = (t, rw e h, refl, f)
+lead_on m (r ∷ []) state x h e t f = (h.0, h.1, e ∙ h.2, lead_on m [] state x h.3 e t f)
+lead_on m (r ∷ r' ∷ rs) state x h e t f = (h.0, h.1, h.2, lead_on m (r' ∷ rs) state x h.3 e t f)
+
+before_cut : (n : ℕ) (hs : List Record) (state : List ℕ) → state_before (but_last n hs) (state_before (last_of n hs) state) ≡ state_before hs state
+before_cut n [] state = refl
+before_cut n (r ∷ rs) state = elim (cases_Bool (nat_lt (length rs) n)) [
+  | inl e ↦ rw e refl
+  | inr e ↦ rw e refl
+]
+
+lead_back : (m : Meaning) (n : ℕ) (hs : List Record) (state : List ℕ) → LeadTo m hs state → LeadTo m (but_last n hs) (state_before (last_of n hs) state)
+lead_back m n [] state h = h
+lead_back m n (r ∷ rs) state h = elim (cases_Bool (nat_lt (length rs) n)) [
+  | inl e ↦ rw e h.1
+  | inr e ↦ rw e (h.0, h.1, before_cut n rs state ∙ h.2, lead_back m n rs state h.3)
+]
+
+lead_from : (m : Meaning) (c : ℕ) (hs : List Record) (state : List ℕ) → LeadTo m hs state → LeadTo m (handled_from c hs) state
+lead_from m c [] state h = h
+lead_from m c (r ∷ rs) state h = cond_both (nat_lt r.message.time c) (handled_from c rs) (r ∷ rs) (λ (zs : List Record). LeadTo m zs state) (λ _. lead_from m c rs state h.3) (λ _. h)
+
+pub handlings_are_kept : HandlingsAreKept
+handlings_are_kept m hs state h = (lead_to_handlings m hs state h, (λ x e t f. lead_on m hs state x h e t f), (λ n. lead_back m n hs state h), (λ c. lead_from m c hs state h))

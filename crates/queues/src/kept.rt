@@ -1,0 +1,145 @@
+// A record after the first of a history.
+
+ghost use Rattle.std.specs.Prelude.{◌≡◌, ◌<◌, ◌≤◌, length, is_some, IfOk, IfSome};
+ghost use Rattle.queues.specs.Record.{left_by};
+
+use crate::Record;
+use eventkey::{Listed, Message};
+use model::{Model as Simulated, State};
+use std::alloc::{AllocError, Global};
+use std::snapshot::Snapshot;
+
+/// A record with or without its state words, seen as the whole record and whether it has them.
+#[derive(Drop)]
+pub(crate) struct Kept {
+    message: Message,
+    number_before: u64,
+    sent: Listed<Message>,
+    // Boxed, so that a record without them is small.
+    words: Option<Box<State>>,
+    // The state words before it, for clauses alone.
+    before: Snapshot<State>,
+}
+
+impl std::marker::Model for Kept {
+    ghost use Rattle.std.specs.Prelude.{◌≡◌, Bool, IfSome, is_some};
+    ghost use Rattle.queues.specs.declared.Record.{Record};
+
+    ghost Value = { Record × Bool };
+
+    ghost view = { λ k. (
+      record {
+        message = k.message;
+        before = k.before.value;
+        number_before = k.number_before;
+        sent = k.sent;
+      },
+      is_some k.words,
+    ) };
+
+    ghost invariant = { λ k. IfSome k.words (λ words. words.value ≡ k.before.value) };
+}
+
+impl Kept {
+    /// This record, with its state words or without.
+    pub fn of(alloc: Global, whole: Record, saved: bool) -> Result<Kept, AllocError>
+        ensures { IfOk result (λ kept. kept ≡ (whole, saved)) }
+    {
+        let Record {
+            message,
+            before,
+            number_before,
+            sent,
+        } = whole;
+        let known = Snapshot::of(&before);
+        let words = if saved {
+            Some(Box::new(alloc, before)?)
+        } else {
+            None
+        };
+        Ok(Kept {
+            message,
+            number_before,
+            sent,
+            words,
+            before: known,
+        })
+    }
+
+    /// The message that was handled.
+    pub fn message(&self) -> Message
+        ensures { result ≡ self.now.0.message }
+    {
+        self.message
+    }
+
+    /// The state words before it, if it has them.
+    pub fn words(&self) -> Option<&State>
+        ensures saved { is_some result ≡ self.now.1 }
+        ensures words { IfSome result (λ state. state.now ≡ self.now.0.before) }
+    {
+        match &self.words {
+            Some(words) => Some(&**words),
+            None => None,
+        }
+    }
+
+    /// The whole record, where `previous` is the one before it. It takes no memory, and at most one
+    /// handling.
+    pub fn into_record<M: Simulated>(self, alloc: Global, model: &M, previous: &Record) -> Record
+        requires to { previous.now.message.to < (M.meaning model.now).lps }
+        requires few { length previous.now.before ≤ 16 }
+        requires goes_forward { self.0.before ≡ left_by (M.meaning model.now) previous.now }
+        ensures { result ≡ self.0 }
+    {
+        let Kept {
+            message,
+            number_before,
+            sent,
+            words,
+            ..
+        } = self;
+        let before = match words {
+            Some(words) => Box::into_inner(words),
+            None => previous.handled(alloc, model),
+        };
+        Record {
+            message,
+            before,
+            number_before,
+            sent,
+        }
+    }
+
+    /// The whole record, with these state words before it. It takes no memory.
+    pub fn with_words(self, before: State) -> Record
+        requires { before ≡ self.0.before }
+        ensures { result ≡ self.0 }
+    {
+        let Kept {
+            message,
+            number_before,
+            sent,
+            ..
+        } = self;
+        Record {
+            message,
+            before,
+            number_before,
+            sent,
+        }
+    }
+}
+
+impl Record {
+    /// The state words that the handling leaves. It takes no memory.
+    pub(crate) fn handled<M: Simulated>(&self, alloc: Global, model: &M) -> State
+        requires to { self.now.message.to < (M.meaning model.now).lps }
+        requires few { length self.now.before ≤ 16 }
+        ensures { result ≡ left_by (M.meaning model.now) self.now }
+    {
+        let message = &self.message;
+        let (words, _) = model.handle(alloc, message.to(), self.before.words(), message);
+        State::from_words(words)
+    }
+}
