@@ -25,8 +25,7 @@ ledger_floor end transit parcels lows =
     least_low
     (least_time end (map (λ (s : Signed). s.message) (transit ++ flat_map delivered_by parcels))) lows
 
--- the least of a time and of the floors that the nodes have answered
-abbrev pub least_floor : ℕ → List ℕ → ℕ
+abbrev pub least_floor : ℕ → List ℕ → ℕ  -- of a time and of the floors that nodes have answered
 least_floor t [] = t
 least_floor t (f ∷ fs) = least_floor (min t f) fs
 

@@ -6,6 +6,7 @@ use Rattle.eventkey.specs.declared.Signed.{Signed}
 use Rattle.node.specs.Node.{sits_on}
 
 -- Post: the picked messages of transit become the parcel of a node that has none
+
 abbrev pub has : ℕ → List ℕ → Bool
 has i [] = false
 has i (k ∷ ks) = nat_eq i k || has i ks
@@ -20,14 +21,12 @@ nothing = plus zero_message
 abbrev pub picked : List Signed → List ℕ → List Signed
 picked transit picks = map (λ (i : ℕ). get_or transit i nothing) picks
 
--- the messages at no picked place, of those from place i on
-abbrev pub not_picked : List ℕ → ℕ → List Signed → List Signed
+abbrev pub not_picked : List ℕ → ℕ → List Signed → List Signed  -- at no pick, from place i on
 not_picked picks i [] = []
 not_picked picks i (s ∷ ss) =
     if has i picks then not_picked picks (i + 1) ss else s ∷ not_picked picks (i + 1) ss
 
--- each pick is a place of transit and names a message for the node
-abbrev pub can_pick : ℕ → ℕ → List Signed → List ℕ → Bool
+abbrev pub can_pick : ℕ → ℕ → List Signed → List ℕ → Bool  -- places of transit, for the node
 can_pick nodes node transit [] = true
 can_pick nodes node transit (i ∷ is) =
     (nat_lt i (length transit) && sits_on nodes node (get_or transit i nothing).message.to)

@@ -25,8 +25,7 @@ can_post p node picks =
     (nat_lt node (nodes_of p) && not (is_busy p node))
     && (can_pick (nodes_of p) node p.transit picks && are_distinct picks)
 
--- the picks leave transit as a parcel
-abbrev pub picture_after_post : ℕ → ℕ → List ℕ → ℕ → Picture → Picture
+abbrev pub picture_after_post : ℕ → ℕ → List ℕ → ℕ → Picture → Picture  -- picks leave transit
 picture_after_post end node picks budget p =
     let ss = picked p.transit picks in
     let new : Parcel = record { deliver = ss; budget = budget; floor = gvt end p } in
@@ -34,8 +33,7 @@ picture_after_post end node picks budget p =
 
 -- 2. Take
 
--- the node did this work for a parcel
-abbrev pub picture_after_answer : ℕ → Parcel → Picture → Work → Picture
+abbrev pub picture_after_answer : ℕ → Parcel → Picture → Work → Picture  -- by this work
 picture_after_answer node parcel p w = record p {
   gathered = p.gathered ++ flat_map (λ (q : Process). fossils_of parcel.floor q) w.processes;
   nodes = set p.nodes node (released parcel.floor w);
@@ -71,8 +69,7 @@ commit m c p = record p {
   gathered = told_from c p.gathered;
 }
 
--- the front moves to the least floor of the nodes
-abbrev pub picture_after_commit : Meaning → ℕ → Picture → Picture
+abbrev pub picture_after_commit : Meaning → ℕ → Picture → Picture  -- to the least floor
 picture_after_commit m end p =
     let c = least_floor end p.floors in if nat_lt p.front.time c then commit m c p else p
 
