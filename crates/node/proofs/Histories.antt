@@ -4,6 +4,7 @@ use Rattle.std.proofs.lemmas.Bool.{cases_Bool, cond-true}
 use Rattle.std.proofs.lemmas.List.{get_or-map, get_or_default}
 use Rattle.std.specs.Prelude.{nat_lt}
 use Rattle.std.specs.List.{AllByRecursion as Every}
+use Rattle.eventkey.proofs.Times.{Every-from_get_or}
 use Rattle.eventkey.proofs.Lists.{Every-get_or, Every-set}
 use Rattle.model.specs.Meaning.{Meaning}
 use Rattle.process.specs.Process.{nobody}
@@ -43,16 +44,12 @@ module _ (m : Meaning) (seats : List ProcessView) (h : Every (IsModelled m) seat
 
 -- 3. All of them
 
-every_at : {X : Type 0} (P : X → Type 0) (xs : List X) (none : X) → ((i : ℕ) → i < length xs → P (get_or xs i none)) → Every P xs
-every_at P [] none h = tt
-every_at P (x ∷ xs) none h = (h zero (omega arith), every_at P xs none (λ i l. h (suc i) (omega arith)))
-
 module _ (m : Meaning) (p : Place) (seats : List ProcessView) (standings : List Standing) (h : IsStaffed p seats standings) where
   nobody_there : ProcessView
   nobody_there = record { lp = 0; floor = 0; spent = false; process = nobody }
 
   pub are_modelled : m.lps ≡ p.lps → HasHistories m (node_at p (processes_of seats)) → Every (IsModelled m) seats
-  are_modelled lps histories = every_at (IsModelled m) seats nobody_there (λ i inside.
+  are_modelled lps histories = Every-from_get_or (IsModelled m) seats nobody_there (λ i inside.
       let q : ProcessView = get_or seats i nobody_there in
       let lp : ℕ = get_or (own_lps p.nodes p.node p.lps) i 0 in
       let at = own_at p.nodes p.node h.node p.lps i (rw (← length-lps p seats h.lps) inside) in
