@@ -1,0 +1,146 @@
+-- What clap finds in a line of the program.
+use Rattle.std.specs.Borrow.{Bor}
+use Rattle.std.specs.Prelude.{◌≡◌, ◌⊎◌, ◌≤◌, ◌<◌, ◌^◌, ◌&&◌, ◌||◌, ℕ, Bool, true, false, List, [], ◌∷◌, Option, Some, None, Result, Ok, Err}
+use Rattle.std.specs.Prelude.{option_map, unwrap_or, find, nat_le, if◌then◌else◌}
+use Rattle.std.specs.Str.Parse.{ParsesUnsigned, digits_value, without_leading_plus}
+use Rattle.std.proofs.Common.{◌∙◌, refl, ap, ap₂, sym, inl, inr, arith}
+use Rattle.std.proofs.lemmas.Bool.{cases_Bool, le-leb, leb-true}
+use Rattle.std.specs.Box.{box_value}
+use Rattle.clap.proofs.OnLiterals.{clap_on_literals}
+use Rattle.clap.proofs.ValueTestLemmas.{Accepts-accepts, accepts-Accepts}
+use Rattle.clap.proofs.WalkLemmas.{both}
+use Rattle.clap.specs.Faults.{is_simple_and_free}
+use Rattle.clap.specs.Matches.{ReadsOne}
+use Rattle.clap.specs.Simple.{argument_words, built, entered, is_simple, label_of, names_of, rows_at}
+use Rattle.clap.specs.ValueTests.{accepts}
+use Rattle.clap.specs.Words.{AddsSubcommand, App, Row, Text, app_of, found_of, rows_of, shape_of, subcommand_name_of, subcommand_of, subcommand_rows_of, with_subcommand}
+use Rattle.clap.specs.Walk.{answers_to, stop_after}
+use Rattle.clap.specs.declared.builder.command.Command.{Command}
+use Rattle.clap.specs.declared.builder.command.Command.TheViews.{out-Command}
+use Rattle.clap.specs.declared.builder.value_parser.ValueParser.TheVariants.{Unsigned}
+use Rattle.clap.specs.declared.parser.matches.ArgMatches.{ArgMatches}
+use Rattle.clap.specs.declared.parser.matches.ArgMatches.TheViews.{out-ArgMatches, out-SubCommand}
+use Rattle.lines.specs.Line.{is_named, number_of, program}
+
+pub program_is_simple : is_simple program ≡ true
+unfolding clap_on_literals
+program_is_simple = refl
+
+pub program_is_free : is_simple_and_free program ≡ true
+unfolding clap_on_literals
+program_is_free = refl
+
+module _ {X N R : Type 0} (f : X → N) (g : X → R) where
+  -- a name and rows that are found apart are found together
+  both_found : (o : Option X) (n : N) (r : R) → Some n ≡ option_map f o → Some r ≡ option_map {T = N × R} (λ p. p.1) (option_map {U = N × R} (λ x. (f x, g x)) o)
+      → option_map {U = N × R} (λ x. (f x, g x)) o ≡ Some (n, r)
+  both_found None n r h k = cc
+  both_found (Some x) n r h k =
+      let a : n ≡ f x = cc in
+      let b : r ≡ g x = cc in
+      rw (a, b) refl
+
+pub subcommand_found : (m : ArgMatches) (name : Text) (rows : List Row) → Some name ≡ subcommand_name_of m → Some rows ≡ option_map {T = Text × List Row} (λ p. p.1) (subcommand_rows_of m)
+    → subcommand_rows_of m ≡ Some (name, rows)
+subcommand_found m name rows h k =
+    both_found (λ b. (out-SubCommand (box_value b)).name.now) (λ b. rows_of (found_of (out-SubCommand (box_value b)).matches)) (out-ArgMatches m).subcommand name rows h k
+
+-- one of a list has this
+abbrev OneOf : {X : Type 0} → (X → Type 0) → List X → Type 0
+OneOf P [] = ⊥
+OneOf P (x ∷ xs) = P x ⊎ OneOf P xs
+
+found_among : {X Y : Type 0} (test : X → Bool) (f : X → Y) (xs : List X) (y : Y) → option_map f (find test xs) ≡ Some y → OneOf (λ x. f x ≡ y) xs
+found_among test f [] y h = cc
+found_among test f (x ∷ xs) y h = elim (cases_Bool (test x)) [
+  | inl e ↦ let found : Some (f x) ≡ Some y = rw e at h in inl cc
+  | inr e ↦ let rest : option_map f (find test xs) ≡ Some y = rw e at h in inr (found_among test f xs y rest)
+]
+
+-- there are no other commands
+entered_named : (stop : Option (Text × List Text)) (found : Text × List Row) → entered (built program) stop ≡ Some found → is_named found.0
+entered_named None found h = cc
+entered_named (Some p) found h = elim (found_among (λ s. answers_to p.0 (label_of s)) (λ s. rows_at s p.1) (built program).subs found h) [
+  | inl e ↦ inl (sym (ap (λ r. r.0) e))
+  | inr (inl e) ↦ inr (inl (sym (ap (λ r. r.0) e)))
+  | inr (inr (inl e)) ↦ inr (inr (inl (sym (ap (λ r. r.0) e))))
+  | inr (inr (inr (inl e))) ↦ inr (inr (inr (inl (sym (ap (λ r. r.0) e)))))
+  | inr (inr (inr (inr (inl e)))) ↦ inr (inr (inr (inr (inl (sym (ap (λ r. r.0) e))))))
+  | inr (inr (inr (inr (inr (inl e))))) ↦ inr (inr (inr (inr (inr (sym (ap (λ r. r.0) e))))))
+  | inr (inr (inr (inr (inr (inr e))))) ↦ absurd e
+]
+
+pub only_named : (words : List Text) (name : Text) (rows : List Row) → subcommand_of program words ≡ Some (name, rows) → is_named name
+only_named words name rows h = entered_named (stop_after (built program).top.rules (names_of (built program)) (argument_words program words)) (name, rows) h
+
+pub now_or : (o : Option (Bor (List ℕ))) (d : Bor (List ℕ)) → (unwrap_or o d).now ≡ unwrap_or (option_map (λ s. s.now) o) d.now
+now_or None d = refl
+now_or (Some s) d = refl
+
+-- a command with one more subcommand
+pub grown : (old sub new : Command) (a b : App) → AddsSubcommand old sub new → (out-Command sub).has_globals ≡ false → app_of old ≡ a → app_of sub ≡ b
+    → app_of new ≡ with_subcommand a b.top
+grown old sub new a b h local e f = h.shape local ∙ ap (λ x. with_subcommand x (shape_of sub)) e ∙ ap (λ (x : App). with_subcommand a x.top) f
+
+pub plain_grown : (old sub new : Command) → AddsSubcommand old sub new → (out-Command old).has_globals ≡ false → (out-Command sub).has_globals ≡ false
+    → (out-Command new).has_globals ≡ false
+plain_grown old sub new h a b = h.globals ∙ ap₂ (λ (x : Bool) (y : Bool). x || y) a b
+
+-- what is chosen of a number that was read
+abbrev pub chosen : ℕ → ℕ → Option ℕ → ℕ
+chosen least most None = least
+chosen least most (Some v) = if nat_le least v && nat_le v most then v else least
+
+-- the number that is read of a text is the one that is written there
+pub number_read : {E : Type 0} (G : Text → Result ℕ E → Type 0) → ((u : Text) (x : Result ℕ E) → G u x → ParsesUnsigned 32 10 u x) → (least most : ℕ) → most < 2 ^ 32
+    → (o : Option Text) (r : Option ℕ) → (o ≡ None → r ≡ None) → ((t : Text) → o ≡ Some t → ReadsOne G t r) → chosen least most r ≡ number_of least most o
+number_read G only least most small None r none some = rw (none refl) refl
+number_read G only least most small (Some t) (Some v) none some =
+    let p = only t (Ok v) (some t refl) in
+    let is : v ≡ digits_value 10 (without_leading_plus t) = p.1 in
+    elim (cases_Bool (accepts true (Unsigned least most) t)) [
+      | inl e ↦
+          let acc = accepts-Accepts true (Unsigned least most) t e in
+          let low : nat_le least v ≡ true = rw is (le-leb _ _ acc.2) in
+          let high : nat_le v most ≡ true = rw is (le-leb _ _ acc.3) in
+          rw (e, low, high) is
+      | inr e ↦ elim (cases_Bool (nat_le least v && nat_le v most)) [
+        | inl f ↦
+            let b = both _ _ f in
+            let low : least ≤ v = leb-true _ _ b.0 in
+            let high : v ≤ most = leb-true _ _ b.1 in
+            let yes = Accepts-accepts true (Unsigned least most) t (p.0.0, omega (arith), rw (← is) low, rw (← is) high) in
+            cc
+        | inr f ↦ rw (e, f) refl
+      ]
+    ]
+number_read G only least most small (Some t) None none some =
+    let h = some t refl in
+    elim (cases_Bool (accepts true (Unsigned least most) t)) [
+      | inl e ↦
+          let acc = accepts-Accepts true (Unsigned least most) t e in
+          absurd (only t (Err h.0) h.1 (acc.0, omega (arith)))
+      | inr e ↦ rw e refl
+    ]
+
+-- a number in the range is chosen, and in place of another the least
+pub chosen_in : (least most v : ℕ) (r : Option ℕ) → r ≡ Some v → least ≤ v → v ≤ most → v ≡ chosen least most r
+chosen_in least most v r e low high = rw (e, le-leb _ _ low, le-leb _ _ high) refl
+
+pub chosen_low : (least most v : ℕ) (r : Option ℕ) → r ≡ Some v → v < least → least ≡ chosen least most r
+chosen_low least most v r e low = elim (cases_Bool (nat_le least v)) [
+  | inl f ↦ let bad : least ≤ v = leb-true _ _ f in absurd (omega (arith))
+  | inr f ↦ rw (e, f) refl
+]
+
+pub chosen_high : (least most v : ℕ) (r : Option ℕ) → r ≡ Some v → most < v → least ≡ chosen least most r
+chosen_high least most v r e high = elim (cases_Bool (nat_le v most)) [
+  | inl f ↦ let bad : v ≤ most = leb-true _ _ f in absurd (omega (arith))
+  | inr f ↦ elim (cases_Bool (nat_le least v)) [
+    | inl k ↦ rw (e, f, k) refl
+    | inr k ↦ rw (e, f, k) refl
+  ]
+]
+
+pub chosen_none : (least most : ℕ) (r : Option ℕ) → r ≡ None → least ≡ chosen least most r
+chosen_none least most r e = rw e refl

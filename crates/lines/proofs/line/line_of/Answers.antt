@@ -1,0 +1,15 @@
+use Rattle.std.proofs.Common.{inl, inr}
+use Rattle.lines.proofs.line.line_of.Goals as goal
+
+pub returns-in_default-clause-says : goal.returns-in_default-clause-says
+returns-in_default-clause-says c = (
+  elim c.requires [
+    | inl e ↦ absurd (c.in_default.not-new e)
+    | inr (inl e) ↦ absurd (c.in_default.not-run e)
+    | inr (inr (inl e)) ↦ absurd (c.in_default.not-log e)
+    | inr (inr (inr (inl e))) ↦ absurd (c.in_default.not-show e)
+    | inr (inr (inr (inr (inl e)))) ↦ absurd (c.in_default.not-seq e)
+    | inr (inr (inr (inr (inr e)))) ↦ e
+  ],
+  c.text-model.ensures,
+)

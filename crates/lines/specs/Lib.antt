@@ -1,0 +1,2 @@
+-- For callers
+pub mod Line  -- the command line

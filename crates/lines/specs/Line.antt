@@ -1,0 +1,121 @@
+-- The command line of `timewarp` (this project's profile), in the words of clap: its commands, and
+-- what a line says.
+use Rattle.std.specs.Prelude.{◌≡◌, ◌⊎◌, ◌≤◌, ℕ, List, [], ◌∷◌, Option, Some, None, true, codes, unwrap_or}
+use Rattle.std.specs.Prelude.{if◌then◌else◌, ⊤}
+use Rattle.std.specs.Str.Parse.{digits_value, without_leading_plus}
+use Rattle.clap.specs.Words.{App, Row, Rule, Text, first_of, new_app, new_rule, one_of, subcommand_of}
+use Rattle.clap.specs.Words.{with_rule, with_subcommand}
+use Rattle.clap.specs.ValueTests.{accepts}
+use Rattle.clap.specs.declared.builder.value_parser.ValueParser.TheVariants.{Unsigned}
+use Rattle.lines.specs.declared.line.Line.{Line}
+use Rattle.lines.specs.declared.line.Line.TheVariants.{Check, Log, New, Run, Seq, Show}
+
+-- ---- the arguments
+
+-- a required argument, a path
+abbrev pub path_argument : Text → Rule
+path_argument id = record (new_rule id) { required = true }
+
+-- an option whose value is a number from `least` to `most`, and its value where it is not used
+abbrev pub number_option : Text → ℕ → ℕ → Text → Rule
+number_option name least most default = record (new_rule name) {
+  long = Some name;
+  value_names = 1;
+  parser = Some (Unsigned least most);
+  defaults = default ∷ [];
+}
+
+-- ---- the commands
+
+-- a command on a model file
+abbrev pub on_model : Text → App
+on_model name = with_rule (new_app name) (path_argument (codes "MODEL"))
+
+-- a command on a model file and a disk
+abbrev pub on_disk : Text → App
+on_disk name = with_rule (on_model name) (path_argument (codes "DISK"))
+
+-- a disk has 8 to 131,072 sectors
+abbrev pub new_command : App
+new_command =
+    with_rule (on_disk (codes "new")) (number_option (codes "sectors") 8 131072 (codes "4096"))
+
+-- 1 to 64 nodes, batches of 1 to 2^32 - 1 messages, and as many rounds
+abbrev pub run_command : App
+run_command = with_rule (with_rule
+    (with_rule (on_disk (codes "run")) (number_option (codes "nodes") 1 64 (codes "1")))
+    (number_option (codes "batch") 1 4294967295 (codes "16")))
+    (number_option (codes "rounds") 1 4294967295 (codes "1000000"))
+
+-- a command has to be named; there is no command `help`
+abbrev pub without_commands : App
+without_commands = record (new_app (codes "timewarp")) {
+  top = record (new_app (codes "timewarp")).top {
+    subcommand_required = true;
+    arg_required_else_help = true;
+    disable_help_subcommand = true;
+  };
+}
+
+abbrev pub program : App
+program = with_subcommand (with_subcommand (with_subcommand (with_subcommand
+    (with_subcommand (with_subcommand without_commands new_command.top) run_command.top)
+    (on_disk (codes "log")).top) (on_disk (codes "show")).top) (on_model (codes "seq")).top)
+    (on_model (codes "check")).top
+
+-- ---- what a line says
+
+-- the text of an argument
+abbrev pub text_in : Text → List Row → Text
+text_in id rows = unwrap_or (first_of id rows) []
+
+-- the number that is written, a sign of plus before it or none; of what the option refuses the
+-- least
+abbrev pub number_of : ℕ → ℕ → Option Text → ℕ
+number_of least most None = least
+number_of least most (Some text) = if accepts true (Unsigned least most) text
+    then digits_value 10 (without_leading_plus text) else least
+
+-- the number of an option
+abbrev pub number_in : Text → ℕ → ℕ → List Row → ℕ
+number_in id least most rows = number_of least most (one_of id rows)
+
+-- the line has a model file and a disk, as clap gives them
+abbrev pub SaysDisk : Text → Text → List Row → Type 0
+SaysDisk model disk rows =
+    (model ≡ text_in (codes "MODEL") rows) × (disk ≡ text_in (codes "DISK") rows)
+
+-- the values of these rows, as clap gives them
+abbrev pub SaysRows : Line → Text → List Row → Type 0
+SaysRows (New model disk sectors) name rows = (name ≡ codes "new")
+    × SaysDisk model.now disk.now rows
+    × (sectors ≡ number_in (codes "sectors") 8 131072 rows)
+SaysRows (Run model disk nodes batch rounds) name rows = (name ≡ codes "run")
+    × SaysDisk model.now disk.now rows
+    × (nodes ≡ number_in (codes "nodes") 1 64 rows)
+    × (batch ≡ number_in (codes "batch") 1 4294967295 rows)
+    × (rounds ≡ number_in (codes "rounds") 1 4294967295 rows)
+SaysRows (Log model disk) name rows = (name ≡ codes "log") × SaysDisk model.now disk.now rows
+SaysRows (Show model disk) name rows = (name ≡ codes "show") × SaysDisk model.now disk.now rows
+SaysRows (Seq model) name rows = (name ≡ codes "seq") × (model.now ≡ text_in (codes "MODEL") rows)
+SaysRows (Check model) name rows =
+    (name ≡ codes "check") × (model.now ≡ text_in (codes "MODEL") rows)
+
+-- the line has the subcommand that clap finds in the words, and its values
+pub record Says (words : List Text) (line : Line) : Type 0 where
+  pub name : Text
+  pub rows : List Row
+  pub found : subcommand_of program words ≡ Some (name, rows)
+  pub values : SaysRows line name rows
+
+-- the numbers of a line lie in their ranges
+abbrev pub IsRanged : Line → Type 0
+IsRanged (New model disk sectors) = (8 ≤ sectors) × (sectors ≤ 131072)
+IsRanged (Run model disk nodes batch rounds) =
+    (1 ≤ nodes) × (nodes ≤ 64) × (1 ≤ batch) × (1 ≤ rounds)
+IsRanged _ = ⊤
+
+-- the name is that of a command
+abbrev pub is_named : Text → Type 0
+is_named name = (name ≡ codes "new") ⊎ ((name ≡ codes "run") ⊎ ((name ≡ codes "log")
+    ⊎ ((name ≡ codes "show") ⊎ ((name ≡ codes "seq") ⊎ (name ≡ codes "check")))))

@@ -1,0 +1,211 @@
+// The commands, their arguments and their help, as `clap` takes them.
+
+ghost use Rattle.std.specs.Prelude.{◌≡◌, false, true, IfOk};
+ghost use Rattle.clap.specs.Words.{app_of, rule_of};
+ghost use Rattle.clap.specs.declared.builder.command.Command.TheViews.{out-Command as fields_of};
+ghost use Rattle.lines.specs.Line.{new_command, number_option, on_disk, on_model, path_argument, program, run_command};
+
+use clap::builder::ValueParser;
+use clap::{Arg, Command};
+use std::alloc::{AllocError, Global};
+
+/// All commands.
+pub fn program<'a>(alloc: Global) -> Result<Command<'a>, AllocError>
+    ensures app { IfOk result (λ c. app_of c ≡ program) }
+    ensures plain { IfOk result (λ c. (fields_of c).has_globals ≡ false) }
+    ensures required { IfOk result (λ c. (fields_of c).subcommand_required ≡ true) }
+{
+    Command::new(alloc, "timewarp")
+        .about(
+            "Simulates logical processes that send one another messages stamped with virtual times",
+        )
+        .after_help(PROGRAM_HELP)
+        .subcommand_required(true)
+        .arg_required_else_help(true)
+        .disable_help_subcommand(true)
+        .subcommand(new(alloc)?)?
+        .subcommand(run(alloc)?)?
+        .subcommand(on_disk(alloc, "log", LOG_ABOUT, LOG_HELP)?)?
+        .subcommand(on_disk(alloc, "show", SHOW_ABOUT, SHOW_HELP)?)?
+        .subcommand(on_model(alloc, "seq", SEQ_ABOUT, SEQ_HELP)?)?
+        .subcommand(on_model(alloc, "check", CHECK_ABOUT, CHECK_HELP)?)
+}
+
+const PROGRAM_HELP: &str = "\
+Virtual times are whole ticks. Models are described by TOML files, as examples/ring.toml.
+A disk is a file, which 'new' makes. A run that is killed goes on from its last commit when
+'run' is called again, with any number of nodes.
+
+Exit status:
+  0  done
+  1  a fault, told on standard error after 'timewarp: '
+  2  a mistake in the command line, or help
+
+Faults:
+  BadModel     the file is no model file ('timewarp check' tells why)
+  File         a file cannot be read, or is no disk, or one of another size
+  Log ..       the disk: NotBlank (it has a log), NotFormatted, Corrupt, Disk ..
+  Recovery ..  the disk is of another simulation (OtherModel), or is damaged
+  Session ..   a run stops: Full (the disk has no room), Recovery .., Disk, NoMemory
+  Rounds       all rounds of a run are made, and it is not at its end
+  World ..     'seq' stops: NoMemory, or NumberLimit past 2^63 messages of one process
+  NoMemory     memory ran out elsewhere
+  Output       standard output refused a write";
+
+/// The command `new`.
+fn new<'a>(alloc: Global) -> Result<Command<'a>, AllocError>
+    ensures app { IfOk result (λ c. app_of c ≡ new_command) }
+    ensures plain { IfOk result (λ c. (fields_of c).has_globals ≡ false) }
+{
+    let sectors = number_option(alloc, "sectors", "4096", 8, 131_072).help(
+        "How many sectors of 512 bytes the disk has, 8 to 131072",
+    );
+    on_disk(alloc, "new", NEW_ABOUT, NEW_HELP)?.arg(sectors)
+}
+
+const NEW_ABOUT: &str = "Makes a disk with an empty log for a model";
+
+const NEW_HELP: &str = "\
+A file that is there has to have the size that is asked for, and must not have a log.
+
+Output:
+  formatted N sectors";
+
+/// The command `run`.
+fn run<'a>(alloc: Global) -> Result<Command<'a>, AllocError>
+    ensures app { IfOk result (λ c. app_of c ≡ run_command) }
+    ensures plain { IfOk result (λ c. (fields_of c).has_globals ≡ false) }
+{
+    let nodes = number_option(alloc, "nodes", "1", 1, 64).help(
+        "How many nodes share the processes, 1 to 64",
+    );
+    let batch = number_option(alloc, "batch", "16", 1, 4_294_967_295).help(
+        "How many messages a node handles at a turn, 1 to 4294967295",
+    );
+    let rounds = number_option(alloc, "rounds", "1000000", 1, 4_294_967_295).help(
+        "After how many rounds the run stops, 1 to 4294967295",
+    );
+    on_disk(alloc, "run", RUN_ABOUT, RUN_HELP)?
+        .arg(nodes)?
+        .arg(batch)?
+        .arg(rounds)
+}
+
+const RUN_ABOUT: &str = "Runs a model on its disk, from the last commit to its end";
+
+const RUN_HELP: &str = "\
+In a round each node has its turn, and what no rollback can reach any more is committed.
+Whatever ends the run, what was committed stands on the disk, and the next run goes on there.
+
+Output:
+  node NODE ran N           messages that the node handled, those too that were undone again
+  committed TIME events N   ticks, and events in the log";
+
+const LOG_ABOUT: &str = "Prints the committed events of a disk";
+
+const LOG_HELP: &str = "\
+Output, all numbers decimal:
+  TIME FROM NUMBER TO A B   each committed event";
+
+const SHOW_ABOUT: &str = "Prints the committed world of a disk";
+
+const SHOW_HELP: &str = "\
+Output, all numbers decimal:
+  virtual time TIME                ticks
+  lp LP sent NUMBER state WORDS    each process
+  pending TIME FROM NUMBER TO A B  each message that is not handled";
+
+const SEQ_ABOUT: &str =
+    "Runs a model to its end, one event at a time, and prints its log and its final world";
+
+const SEQ_HELP: &str = "\
+Each model has these keys:
+  model       \"ring\", \"phold\" or \"jobshop\"
+  lps         processes, 1 to 1024
+  end         ticks at which the run ends, 1 to 1099511627776
+
+A token ring hands tokens round, and has also:
+  hold        ticks for which a process holds a token, 1 to 4294967295
+  tokens      1 to 8 times lps
+
+PHOLD sends each message on to a drawn process, and has also:
+  population  messages that each process starts with, 1 to 8
+  spread      the greatest delay in ticks, 1 to 4294967295
+  seed        what begins the drawn words, 0 to 9223372036854775807
+
+A job shop hands jobs from machine to machine, and has also:
+  jobs        jobs that each machine starts with, 1 to 8
+  service     the most ticks for which a machine serves a job, 1 to 4294967295
+  seed        what begins the drawn words, 0 to 9223372036854775807
+
+Output, all numbers decimal:
+  TIME FROM NUMBER TO A B          each event that was handled
+  virtual time TIME                ticks
+  lp LP sent NUMBER state WORDS    each process
+  pending TIME FROM NUMBER TO A B  each message that is not handled";
+
+const CHECK_ABOUT: &str = "Says whether a file is a model file, or what is wrong with it";
+
+const CHECK_HELP: &str = "\
+Output:
+  ok
+  KEY: VALUE   the model's name, and each of its numbers";
+
+/// A command on a model file and a disk.
+fn on_disk<'a>(
+    alloc: Global,
+    name: &'a str,
+    about: &'a str,
+    help: &'a str,
+) -> Result<Command<'a>, AllocError>
+    ensures app { IfOk result (λ c. app_of c ≡ on_disk name.entry.now) }
+    ensures plain { IfOk result (λ c. (fields_of c).has_globals ≡ false) }
+{
+    let disk = path(alloc, "DISK").help("The file of the disk");
+    on_model(alloc, name, about, help)?.arg(disk)
+}
+
+/// A command on a model file.
+fn on_model<'a>(
+    alloc: Global,
+    name: &'a str,
+    about: &'a str,
+    help: &'a str,
+) -> Result<Command<'a>, AllocError>
+    ensures app { IfOk result (λ c. app_of c ≡ on_model name.entry.now) }
+    ensures plain { IfOk result (λ c. (fields_of c).has_globals ≡ false) }
+{
+    let model = path(alloc, "MODEL").help(
+        "The model file: TOML with exactly the keys of its model (see 'seq --help')",
+    );
+    Command::new(alloc, name)
+        .about(about)
+        .after_help(help)
+        .arg(model)
+}
+
+/// A required argument, a path.
+fn path<'a>(alloc: Global, id: &'a str) -> Arg<'a>
+    ensures rule { rule_of result ≡ path_argument id.entry.now }
+    ensures local { result.global ≡ false }
+{
+    Arg::new(alloc, id).required(true)
+}
+
+/// An option whose value is a number from `least` to `most`.
+fn number_option<'a>(
+    alloc: Global,
+    name: &'a str,
+    default: &'a str,
+    least: u64,
+    most: u64,
+) -> Arg<'a>
+    ensures rule { rule_of result ≡ number_option name.entry.now least most default.entry.now }
+    ensures local { result.global ≡ false }
+{
+    Arg::new(alloc, name)
+        .long(name)
+        .value_name("N")
+        .value_parser(ValueParser::unsigned(least, most))
+        .default_value(default)
+}

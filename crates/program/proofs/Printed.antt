@@ -1,0 +1,131 @@
+-- What the commands print, in one form.
+use Rattle.std.specs.Prelude.{◌≡◌, ◌⊎◌, ◌≢◌, ℕ, List, Option, Result, Ok, Err, OnOk, OnErr, length}
+use Rattle.std.proofs.Common.{refl, inl, inr}
+use Rattle.commands.specs.Commands.{BeginsCommitted, BeginsRan, PrintsCommitted, PrintsRan, ran_text}
+use Rattle.commands.specs.declared.fault.CommandFault.{CommandFault}
+use Rattle.commands.specs.declared.fault.CommandFault.TheVariants as on_disk
+use Rattle.model.specs.World.{World}
+use Rattle.models.specs.Any.{any_meaning}
+use Rattle.models.specs.declared.any_model.AnyModel.{AnyModel}
+use Rattle.texts.specs.ModelFile.{IsModelFile}
+use Rattle.program.specs.Command.{Begins, IsCommitted, IsRan, IsWhole, Prints, PrintsBeginning, PrintsRun, run_text}
+use Rattle.program.specs.declared.fault.Fault.{Fault}
+use Rattle.program.specs.declared.fault.Fault.TheVariants as fault
+
+pub at_ok : {T E X : Type 0} {r : Result T E} {x : T} → r ≡ Ok x → OnOk r X → X
+at_ok {r = Ok x} e h = h
+at_ok {r = Err x} e h = cc
+
+pub at_err : {T E X : Type 0} {r : Result T E} {f : E} → r ≡ Err f → OnErr r X → X
+at_err {r = Ok x} e h = cc
+at_err {r = Err x} e h = h
+
+pub on_any : {T E X : Type 0} (r : Result T E) → X → OnErr r X
+on_any (Ok x) h = tt
+on_any (Err e) h = h
+
+pub on_err : {T E A B : Type 0} (r : Result T E) → (A → B) → OnErr r A → OnErr r B
+on_err (Ok x) f h = tt
+on_err (Err e) f h = f h
+
+module _ {T A B : Type 0} where
+  -- a refusal is the writer's, or another
+  pub on_command : (r : Result T CommandFault) → (r ≡ Err on_disk.Output → B) → ((f : CommandFault) → r ≡ Err f → f ≢ on_disk.Output → A) → OnErr r (A ⊎ B)
+  on_command (Ok x) h k = tt
+  on_command (Err on_disk.Output) h k = inr (h refl)
+  on_command (Err on_disk.NoMemory) h k = inl (k on_disk.NoMemory refl (λ e. cc))
+  on_command (Err (on_disk.Log f)) h k = inl (k (on_disk.Log f) refl (λ e. cc))
+  on_command (Err (on_disk.Recovery f)) h k = inl (k (on_disk.Recovery f) refl (λ e. cc))
+  on_command (Err (on_disk.Session f)) h k = inl (k (on_disk.Session f) refl (λ e. cc))
+  on_command (Err on_disk.Rounds) h k = inl (k on_disk.Rounds refl (λ e. cc))
+
+  pub on_fault : (r : Result T Fault) → (r ≡ Err fault.Output → B) → ((f : Fault) → r ≡ Err f → f ≢ fault.Output → A) → OnErr r (A ⊎ B)
+  on_fault (Ok x) h k = tt
+  on_fault (Err fault.Output) h k = inr (h refl)
+  on_fault (Err fault.BadModel) h k = inl (k fault.BadModel refl (λ e. cc))
+  on_fault (Err fault.File) h k = inl (k fault.File refl (λ e. cc))
+  on_fault (Err (fault.World f)) h k = inl (k (fault.World f) refl (λ e. cc))
+  on_fault (Err (fault.Log f)) h k = inl (k (fault.Log f) refl (λ e. cc))
+  on_fault (Err (fault.Recovery f)) h k = inl (k (fault.Recovery f) refl (λ e. cc))
+  on_fault (Err (fault.Session f)) h k = inl (k (fault.Session f) refl (λ e. cc))
+  on_fault (Err fault.Rounds) h k = inl (k fault.Rounds refl (λ e. cc))
+  on_fault (Err (fault.Mistake f)) h k = inl (k (fault.Mistake f) refl (λ e. cc))
+  on_fault (Err fault.NoMemory) h k = inl (k fault.NoMemory refl (λ e. cc))
+
+module _ {old new : Option (List ℕ)} where
+  module _ (source : List ℕ) (model : AnyModel) (end : ℕ) (file : IsModelFile source model end) where
+    pub ran_printed : (nodes : ℕ) → PrintsRan (any_meaning model) end nodes old new → Prints (IsRan nodes) old new
+    ran_printed nodes p = (
+      ran_text p.ran end (length p.world.log),
+      record {
+        source = source;
+        model = model;
+        end = end;
+        ran = p.ran;
+        world = p.world;
+        file = file;
+        each = p.each;
+        upto = p.upto;
+        is = refl;
+      },
+      p.printed,
+    )
+
+    pub ran_begun : (nodes : ℕ) → BeginsRan (any_meaning model) end nodes old new → Begins (IsRan nodes) old new
+    ran_begun nodes p = (
+      ran_text p.ran end (length p.world.log),
+      record {
+        source = source;
+        model = model;
+        end = end;
+        ran = p.ran;
+        world = p.world;
+        file = file;
+        each = p.each;
+        upto = p.upto;
+        is = refl;
+      },
+      p.part,
+    )
+
+    pub committed_printed : (image : List (List ℕ)) (shown : World → List ℕ) → PrintsCommitted (any_meaning model) end image shown old new → Prints (IsCommitted shown) old new
+    committed_printed image shown p = (
+      shown p.world,
+      record {
+        source = source;
+        model = model;
+        end = end;
+        image = image;
+        world = p.world;
+        file = file;
+        stands = p.stands;
+        upto = p.upto;
+        within = p.within;
+        is = refl;
+      },
+      p.printed,
+    )
+
+    pub committed_begun : (image : List (List ℕ)) (shown : World → List ℕ) → BeginsCommitted (any_meaning model) end image shown old new → Begins (IsCommitted shown) old new
+    committed_begun image shown p = (
+      shown p.world,
+      record {
+        source = source;
+        model = model;
+        end = end;
+        image = image;
+        world = p.world;
+        file = file;
+        stands = p.stands;
+        upto = p.upto;
+        within = p.within;
+        is = refl;
+      },
+      p.part,
+    )
+
+  pub whole_printed : (source : List ℕ) → PrintsRun source old new → Prints IsWhole old new
+  whole_printed source p = (run_text p.world, record { source = source; model = p.model; end = p.end; world = p.world; file = p.file; upto = p.upto; is = refl }, p.printed)
+
+  pub whole_begun : (source : List ℕ) → PrintsBeginning source old new → Begins IsWhole old new
+  whole_begun source p = (run_text p.world, record { source = source; model = p.model; end = p.end; world = p.world; file = p.file; upto = p.upto; is = refl }, p.part)

@@ -1,0 +1,18 @@
+use Rattle.std.proofs.Common.{inr}
+use Rattle.program.proofs.Printed.{on_err}
+use Rattle.program.proofs.Runs.{on_ok}
+use Rattle.program.proofs.files.check.Goals as goal
+
+pub returns-in_ok-values-in-Ok-clause-ok : goal.returns-in_ok-values-in-Ok-clause-ok
+returns-in_ok-values-in-Ok-clause-ok g c =
+    on_ok c.write_whole.result (λ a. (c.as_str.result.now, (c.in-Ok.model, c.in-Ok.end, c.in-Ok.ensures.ok), a)) c.write_whole.ensures.written.all
+
+pub returns-in_ok-values-in-Ok-clause-err : goal.returns-in_ok-values-in-Ok-clause-err
+returns-in_ok-values-in-Ok-clause-err g c =
+    on_err c.write_whole.result (λ a. inr (c.as_str.result.now, (c.in-Ok.model, c.in-Ok.end, c.in-Ok.ensures.ok), a)) c.write_whole.ensures.written.part
+
+pub returns-in-Err-BadModel-clause-wrong : goal.returns-in-Err-BadModel-clause-wrong
+returns-in-Err-BadModel-clause-wrong g c = λ mistake e.
+    let h = c.in-Err-BadModel.field-0-is in
+    let k = c.in-Err-BadModel.mistake-is in
+    c.in-Err-BadModel.ensures.bad c.in-Err-BadModel.mistake cc

@@ -1,0 +1,114 @@
+// Why a command failed.
+
+ghost use Rattle.std.specs.Prelude.{◌≡◌};
+ghost use Rattle.program.specs.Command.{of_command, of_file, of_model};
+ghost use Rattle.program.specs.declared.fault.Fault.TheVariants.{NoMemory, Output, World as WorldCase};
+
+use commands::CommandFault;
+use commitlog::LogFault;
+use coordinator::SessionFault;
+use disk::FileFault;
+use model::WorldFault;
+use recovery::RecoveryFault;
+use std::alloc::AllocError;
+use std::io::Error as IoError;
+use texts::{Mistake, ModelFault};
+use thiserror::Error;
+
+/// Why a command failed. Its text is its name, and after a blank that of the fault that it carries.
+#[derive(Clone, Copy, Debug, PartialEq, Eq, Error)]
+pub enum Fault {
+    /// The text is no model file.
+    #[error("BadModel")]
+    BadModel,
+    /// A file cannot be read, or is no disk of the size that is wanted.
+    #[error("File")]
+    File,
+    /// The plain runner refused.
+    #[error("World {0}")]
+    World(WorldFault),
+    /// The log of a disk is not made, or not opened.
+    #[error("Log {0}")]
+    Log(LogFault),
+    /// No world is recovered of the log.
+    #[error("Recovery {0}")]
+    Recovery(RecoveryFault),
+    /// The session of a run refused its opening or a step.
+    #[error("Session {0}")]
+    Session(SessionFault),
+    /// All rounds of a run are made, and not all is committed.
+    #[error("Rounds")]
+    Rounds,
+    /// What `check` finds to be wrong with a file that is no model file.
+    #[error("{0}")]
+    Mistake(Mistake),
+    /// Memory ran out, but in no call that has a name of its own for it.
+    #[error("NoMemory")]
+    NoMemory,
+    /// Standard output refused a write.
+    #[error("Output")]
+    Output,
+}
+
+impl From<ModelFault> for Fault {
+    ghost from_gives = { λ fault e. e ≡ of_model fault };
+
+    fn from(fault: ModelFault) -> Fault {
+        match fault {
+            ModelFault::BadModel(_) => Fault::BadModel,
+            ModelFault::NoMemory => Fault::NoMemory,
+        }
+    }
+}
+
+/// A writer's error. That of a file which is read is told by `unreadable`.
+impl From<IoError> for Fault {
+    ghost from_gives = { λ _ e. e ≡ Output };
+
+    fn from(_error: IoError) -> Fault {
+        Fault::Output
+    }
+}
+
+impl From<WorldFault> for Fault {
+    ghost from_gives = { λ fault e. e ≡ WorldCase fault };
+
+    fn from(fault: WorldFault) -> Fault {
+        Fault::World(fault)
+    }
+}
+
+impl From<CommandFault> for Fault {
+    ghost from_gives = { λ fault e. e ≡ of_command fault };
+
+    fn from(fault: CommandFault) -> Fault {
+        match fault {
+            CommandFault::NoMemory => Fault::NoMemory,
+            CommandFault::Log(fault) => Fault::Log(fault),
+            CommandFault::Recovery(fault) => Fault::Recovery(fault),
+            CommandFault::Session(fault) => Fault::Session(fault),
+            CommandFault::Rounds => Fault::Rounds,
+            CommandFault::Output => Fault::Output,
+        }
+    }
+}
+
+impl From<FileFault> for Fault {
+    ghost from_gives = { λ fault e. e ≡ of_file fault };
+
+    fn from(fault: FileFault) -> Fault {
+        match fault {
+            FileFault::File => Fault::File,
+            FileFault::NoMemory => Fault::NoMemory,
+        }
+    }
+}
+
+/// Where memory is refused for a text that is written.
+impl From<AllocError> for Fault {
+    ghost from_gives = { λ _ e. e ≡ NoMemory };
+
+    fn from(_refused: AllocError) -> Fault {
+        Fault::NoMemory
+    }
+}

@@ -1,0 +1,172 @@
+// The commands on a model file alone: its run by the plain runner, and its check.
+
+ghost use Rattle.std.specs.IoError.{error_kind};
+ghost use Rattle.std.specs.Prelude.{◌≡◌, ◌≤◌, ◌^◌, ◌≢◌, ◌⊎◌, ℕ, List, Err, length};
+ghost use Rattle.std.specs.Prelude.{IfOk, IsOkUnless, MatchResult, OnErr, OnOk};
+ghost use Rattle.std.specs.Str.{IsUtf8};
+ghost use Rattle.eventkey.specs.Writing.{Writes};
+ghost use Rattle.models.specs.declared.any_model.AnyModel.{AnyModel};
+ghost use Rattle.texts.specs.ModelFile.{IsModelFile};
+ghost use Rattle.program.specs.Command.{run_text, Begins, IsChecked, IsSomeChecked, IsWhole, Prints};
+ghost use Rattle.program.specs.Command.{PrintsBeginning, PrintsRun};
+ghost use Rattle.program.specs.declared.fault.Fault.TheVariants.{Output};
+
+use crate::fault::Fault;
+use commands::Simulated;
+use model::{Model as Modelled, World, WorldFault};
+use models::AnyModel;
+use std::alloc::{AllocError, Global};
+use std::fs;
+use std::io::{Error as IoError, ErrorKind, Write};
+use std::rt::Files;
+use texts::{Mistake, ModelFault, read_model, write_log, write_text, write_world};
+
+/// Runs the model of a file by the plain runner.
+pub(crate) fn seq_of<R, O>(rt: &R, model: &str, out: &mut O) -> Result<(), Fault>
+where
+    R: Files + AllocGlobal,
+    O: Write,
+    ensures ok { OnOk result (Prints IsWhole (O.contents out.old) (O.contents out.new)) }
+    ensures err { OnErr result ((out.new ≡ out.old)
+        ⊎ Begins IsWhole (O.contents out.old) (O.contents out.new)) }
+{
+    let bytes = fs::read(rt, model).map_err(unreadable)?;
+    let text = text_of(bytes.as_slice()).map_err(ModelFault::BadModel)?;
+    seq(rt.alloc(), text, out)
+}
+
+/// Says whether a file is a model file.
+pub(crate) fn check_of<R, O>(rt: &R, model: &str, out: &mut O) -> Result<(), Fault>
+where
+    R: Files + AllocGlobal,
+    O: Write,
+    ensures ok { OnOk result (Prints IsSomeChecked (O.contents out.old) (O.contents out.new)) }
+    ensures err { OnErr result ((out.new ≡ out.old)
+        ⊎ Begins IsSomeChecked (O.contents out.old) (O.contents out.new)) }
+{
+    let bytes = fs::read(rt, model).map_err(unreadable)?;
+    let text = text_of(bytes.as_slice()).map_err(Fault::Mistake)?;
+    check(rt.alloc(), text, out)
+}
+
+/// Runs the model of a model file to its end by the plain runner, and writes the log and then the world.
+///
+/// The faults come in this order: `BadModel` where the text is no model file, or `NoMemory` where memory runs out in
+/// reading it; `World` of the runner; `Output` where the writer refuses. Before the last nothing is written.
+pub fn seq<O: Write>(alloc: Global, text: &str, out: &mut O) -> Result<(), Fault>
+    ensures ok { OnOk result (PrintsRun text.now (O.contents out.old) (O.contents out.new)) }
+    ensures bad { result ≡ Err Fault.BadModel →
+        (model : AnyModel) (end : ℕ) → ¬ IsModelFile text.now model end }
+    ensures world { (fault : WorldFault) → result ≡ Err (Fault.World fault) →
+        (model : AnyModel) × (end : ℕ) × IsModelFile text.now model end }
+    ensures output { result ≡ Err Fault.Output →
+        PrintsBeginning text.now (O.contents out.old) (O.contents out.new) }
+    ensures unwritten { (fault : Fault) → result ≡ Err fault → fault ≢ Output → out.new ≡ out.old }
+{
+    let (model, end) = read_model(alloc, text)?;
+    let mut world = World::open(alloc, &model, end)?;
+    world.run_to(&model, end)?;
+    write_run(world, out)
+}
+
+/// Writes a world's log and then the world, and flushes the writer.
+fn write_run<O: Write>(world: World, out: &mut O) -> Result<(), Fault>
+    requires { length world.world.states ≡ length world.world.numbers }
+    ensures written { Writes (O.contents out.old) (O.contents out.new) result (run_text world.world) }
+    ensures fault { IsOkUnless result Fault.Output }
+{
+    let parts = world.into_parts();
+    write_log(parts.log.as_slice(), out)?;
+    write_world(
+        parts.time,
+        parts.states.as_slice(),
+        parts.numbers.as_slice(),
+        parts.pending.as_slice(),
+        out,
+    )?;
+    out.flush()?;
+    Ok(())
+}
+
+/// Says whether a text is a model file: writes `ok`, and a line `key: value` for the model's name and each number.
+///
+/// The faults come in this order: `Mistake` where the text is no model file, or `NoMemory` where memory runs out;
+/// `Output` where the writer refuses. Before the last nothing is written.
+pub fn check<O: Write>(alloc: Global, text: &str, out: &mut O) -> Result<(), Fault>
+    ensures ok { OnOk result
+        (Prints (IsChecked text.now) (O.contents out.old) (O.contents out.new)) }
+    ensures wrong { (mistake : Mistake) → result ≡ Err (Fault.Mistake mistake) →
+        (model : AnyModel) (end : ℕ) → ¬ IsModelFile text.now model end }
+    ensures err { OnErr result ((out.new ≡ out.old)
+        ⊎ Begins (IsChecked text.now) (O.contents out.old) (O.contents out.new)) }
+{
+    match read_model(alloc, text) {
+        Ok((model, end)) => {
+            let values = values(alloc, &model, end)?;
+            write_whole(values.as_str(), out)
+        }
+        Err(ModelFault::BadModel(mistake)) => Err(Fault::Mistake(mistake)),
+        Err(ModelFault::NoMemory) => Err(Fault::NoMemory),
+    }
+}
+
+/// Writes a text, and flushes the writer.
+fn write_whole<O: Write>(text: &str, out: &mut O) -> Result<(), Fault>
+    ensures written { Writes (O.contents out.old) (O.contents out.new) result text.now }
+    ensures fault { IsOkUnless result Output }
+{
+    write_text(text, out)?;
+    out.flush()?;
+    Ok(())
+}
+
+/// That a model file is one, and its values.
+fn values(alloc: Global, model: &AnyModel, end: u64) -> Result<String, AllocError> {
+    let (name, keys) = match model {
+        AnyModel::TokenRing(_) => ("ring", ["hold", "tokens"].as_slice()),
+        AnyModel::Phold(_) => ("phold", ["population", "spread", "seed"].as_slice()),
+        AnyModel::JobShop(_) => ("jobshop", ["jobs", "service", "seed"].as_slice()),
+    };
+    let lps = model.lps();
+    let numbers = model.identity(alloc);
+    let mut text = format!(in alloc; "ok\nmodel: {name}\nlps: {lps}\nend: {end}\n")?;
+    // The first word of an identity is the kind of the model.
+    for (key, number) in keys.iter().zip(numbers.as_slice().iter().skip(1)) {
+        text.push_str(format!(in alloc; "{key}: {number}\n")?.as_str())?;
+    }
+    Ok(text)
+}
+
+/// The model that a file describes, and its end.
+pub(crate) fn simulated<R: Files + AllocGlobal>(rt: &R, path: &str) -> Result<Simulated, Fault>
+    ensures file { IfOk result (λ of. (text : List ℕ) × IsModelFile text of.model of.end) }
+    ensures some { IfOk result (λ of. 1 ≤ of.end) }
+    ensures short { IfOk result (λ of. of.end ≤ 2 ^ 40) }
+{
+    let bytes = fs::read(rt, path).map_err(unreadable)?;
+    let text = text_of(bytes.as_slice()).map_err(ModelFault::BadModel)?;
+    let (model, end) = read_model(rt.alloc(), text)?;
+    Ok(Simulated { model, end })
+}
+
+/// The text of a model file; bytes that are no UTF-8 are no TOML.
+fn text_of(bytes: &[u8]) -> Result<&str, Mistake>
+    ensures { MatchResult result (λ text. (text.now ≡ bytes.now) × IsUtf8 bytes.now)
+        (λ mistake. ¬ (IsUtf8 bytes.now) × (mistake ≡ Mistake.Toml)) }
+{
+    match str::from_utf8(bytes) {
+        Ok(text) => Ok(text),
+        Err(_) => Err(Mistake::Toml),
+    }
+}
+
+/// Why a file could not be read.
+fn unreadable(error: IoError) -> Fault
+    ensures memory { error_kind error ≡ ErrorKind.OutOfMemory → result ≡ Fault.NoMemory }
+    ensures file { error_kind error ≢ ErrorKind.OutOfMemory → result ≡ Fault.File }
+{
+    match error.kind() {
+        ErrorKind::OutOfMemory => Fault::NoMemory,
+        _ => Fault::File,
+    }
+}

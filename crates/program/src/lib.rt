@@ -1,0 +1,13 @@
+//! The program `timewarp`, over any files and writers: what it does with the words of its command line.
+#![tactic(auto)]
+
+mod disks;
+mod fault;
+mod files;
+mod progress;
+mod status;
+
+pub use fault::Fault;
+pub use files::{check, seq};
+pub use progress::{Progress, Shown};
+pub use status::{answer, command, refuse_words, tell, words};

@@ -1,0 +1,86 @@
+// How far a run has come, as a terminal shows it.
+
+use driver::Watch;
+use std::io::Write;
+use std::time::{Clock, Duration};
+
+/// Is told of a run: first at which tick it ends, and then how far it has come.
+pub trait Progress: Watch {
+    /// A run begins that ends at this tick.
+    fn begin(&mut self, end: u64);
+}
+
+/// Shows on one line of a terminal how far a run has come, at most twice a second, and shows nothing where there is no
+/// terminal.
+#[derive(Drop)]
+pub struct Shown<'c, C, T> {
+    clock: &'c C,
+    terminal: Option<T>,
+    end: u64,
+    // When the line was last written, or the run began, and how many events were committed then.
+    last: Option<Duration>,
+    events: usize,
+    is_written: bool,
+}
+
+impl<'c, C: Clock, T: Write> Shown<'c, C, T> {
+    /// What is shown on this terminal, if there is one.
+    pub fn on(clock: &'c C, terminal: Option<T>) -> Shown<'c, C, T> {
+        Shown {
+            clock,
+            terminal,
+            end: 0,
+            last: None,
+            events: 0,
+            is_written: false,
+        }
+    }
+
+    /// Clears the line, where one was written.
+    pub fn clear(&mut self) {
+        if self.is_written {
+            if let Some(terminal) = &mut self.terminal {
+                let _ = terminal.write_all(b"\r\x1b[K");
+                let _ = terminal.flush();
+            }
+        }
+    }
+}
+
+impl<C: Clock, T: Write> Watch for Shown<'_, C, T> {
+    fn committed(&mut self, time: u64, events: usize) {
+        let Some(terminal) = &mut self.terminal else {
+            return;
+        };
+        let Ok(now) = self.clock.monotonic() else {
+            return;
+        };
+        let Some(last) = self.last else {
+            self.last = Some(now);
+            self.events = events;
+            return;
+        };
+        let past = now.saturating_sub(last);
+        if past < Duration::from_millis(500) {
+            return;
+        }
+        let percent = u128::from(time) * 100 / u128::from(self.end.max(1));
+        let more = events.saturating_sub(self.events) as u128;
+        let rate = more * 1000 / past.as_millis().max(1);
+        let end = self.end;
+        let _ = write!(
+            terminal,
+            "\r{percent}% of {end} ticks, {events} events committed, {rate} a second\x1b[K"
+        );
+        let _ = terminal.flush();
+        self.last = Some(now);
+        self.events = events;
+        self.is_written = true;
+    }
+}
+
+impl<C: Clock, T: Write> Progress for Shown<'_, C, T> {
+    fn begin(&mut self, end: u64) {
+        self.end = end;
+    }
+}

@@ -1,0 +1,101 @@
+// Want of memory is told by its name, and a second try then answers as if there had been none. This shows where one
+// allocation fails; with ample memory the first try succeeds.
+
+use crate::running::{RING, RING_TEXT, Told, run, temporary};
+use clap::error::ErrorKind;
+use lines::{Line, read_line};
+use model::WorldFault;
+use program::{Fault, seq};
+use std::alloc::Global;
+use std::fs::{self, File};
+use std::rt::{Clock, Files};
+use std::test::Fail;
+
+/// Whether the line runs `ring.toml`, or its error's kind.
+fn runs_ring(alloc: Global, words: &[&str]) -> Result<bool, ErrorKind> {
+    match read_line(alloc, words) {
+        Ok(line) => Ok(line == Line::Seq { model: "ring.toml" }),
+        Err(error) => Err(error.kind()),
+    }
+}
+
+#[test]
+fn a_line_is_read_at_a_second_try(rt: HostRuntime) {
+    let words = ["timewarp", "seq", "ring.toml"].as_slice();
+    let mut read = runs_ring(rt.alloc(), words);
+    if read == Err(ErrorKind::OutOfMemory) {
+        read = runs_ring(rt.alloc(), words);
+    }
+    assert!(rt; read == Ok(true));
+}
+
+/// Runs the ring.
+fn run_ring(alloc: Global, out: &mut Vec<u8>) -> Result<(), Fault> {
+    seq(alloc, RING, out)
+}
+
+#[test]
+fn a_run_that_finds_no_memory_prints_nothing(rt: HostRuntime) -> Result<(), Fail> {
+    let mut out = Vec::with_capacity(rt.alloc(), 512)?;
+    let mut result = run_ring(rt.alloc(), &mut out);
+    if result == Err(Fault::NoMemory) || result == Err(Fault::World(WorldFault::NoMemory)) {
+        assert_eq!(rt; out.len(), 0);
+        result = run_ring(rt.alloc(), &mut out);
+    }
+    assert!(rt; result == Ok(()));
+    assert_eq!(rt; out.as_slice(), RING_TEXT.as_bytes());
+    Ok(())
+}
+
+/// Whether a command found no memory, told so and printed nothing.
+fn is_short(told: &Told) -> bool {
+    let err = told.err.as_slice();
+    let is_told = err == b"timewarp: NoMemory\n".as_slice()
+        || err == b"timewarp: World NoMemory\n".as_slice();
+    told.status == 1 && told.out.len() == 0 && is_told
+}
+
+/// Runs a command, and once more where it found no memory.
+fn run_again<R: Files<File = File> + Clock + AllocGlobal>(
+    rt: &R,
+    words: &[&str],
+) -> Result<Told, Fail> {
+    let told = run(rt, words)?;
+    if is_short(&told) {
+        run(rt, words)
+    } else {
+        Ok(told)
+    }
+}
+
+#[test]
+fn a_command_that_finds_no_memory_tells_so(rt: HostRuntime) -> Result<(), Fail> {
+    let path = temporary(&rt, "timewarp-memory.toml")?;
+    let path = path.as_path().to_str().ok_or("a path of text")?;
+    fs::write(&rt, path, RING)?;
+    let told = run_again(&rt, &["timewarp", "seq", path])?;
+    fs::remove_file(&rt, path)?;
+    assert_eq!(rt; told.out.as_slice(), RING_TEXT.as_bytes());
+    assert_eq!(rt; (told.status, told.err.len()), (0, 0));
+    Ok(())
+}
+
+#[test]
+fn a_missing_file_is_told_at_a_second_try(rt: HostRuntime) -> Result<(), Fail> {
+    let told = run_again(&rt, &["timewarp", "seq", "timewarp-missing.toml"])?;
+    assert_eq!(rt; told.err.as_slice(), b"timewarp: File\n".as_slice());
+    assert_eq!(rt; (told.status, told.out.len()), (1, 0));
+    Ok(())
+}
+
+#[test]
+fn usage_is_told_at_a_second_try(rt: HostRuntime) -> Result<(), Fail> {
+    let told = run_again(&rt, &["timewarp", "seq"])?;
+    assert!(rt;
+        told.err
+            .as_slice()
+            .ends_with(b"For more information, try '--help'.\n")
+    );
+    assert_eq!(rt; (told.status, told.out.len()), (2, 0));
+    Ok(())
+}

@@ -1,0 +1,143 @@
+// Command lines.
+
+use clap::error::ErrorKind;
+use lines::{Line, read_line};
+use std::alloc::Global;
+
+fn is_read_as(alloc: Global, words: &[&str], want: Line<'_>) -> bool {
+    read_line(alloc, words).is_ok_and(|line| line == want)
+}
+
+fn is_refused_as(alloc: Global, words: &[&str], want: ErrorKind) -> bool {
+    read_line(alloc, words).is_err_and(|error| error.kind() == want)
+}
+
+/// The words of a line, and what it asks for.
+const READ: [(&[&str], Line<'static>); 9] = [
+    (
+        &["timewarp", "seq", "examples/ring.toml"],
+        Line::Seq {
+            model: "examples/ring.toml",
+        },
+    ),
+    (
+        &["timewarp", "seq", "--", "--help"],
+        Line::Seq { model: "--help" },
+    ),
+    (
+        &["timewarp", "log", "a", "b"],
+        Line::Log {
+            model: "a",
+            disk: "b",
+        },
+    ),
+    (
+        &["timewarp", "show", "a", "b"],
+        Line::Show {
+            model: "a",
+            disk: "b",
+        },
+    ),
+    (&["timewarp", "check", "a"], Line::Check { model: "a" }),
+    // A disk has 4096 sectors where no number is given.
+    (
+        &["timewarp", "new", "a", "b"],
+        Line::New {
+            model: "a",
+            disk: "b",
+            sectors: 4096,
+        },
+    ),
+    (
+        &["timewarp", "new", "a", "b", "--sectors", "131072"],
+        Line::New {
+            model: "a",
+            disk: "b",
+            sectors: 131_072,
+        },
+    ),
+    (
+        &["timewarp", "run", "a", "b"],
+        Line::Run {
+            model: "a",
+            disk: "b",
+            nodes: 1,
+            batch: 16,
+            rounds: 1_000_000,
+        },
+    ),
+    (
+        &[
+            "timewarp",
+            "run",
+            "--rounds",
+            "7",
+            "a",
+            "--nodes=64",
+            "b",
+            "--batch",
+            "9",
+        ],
+        Line::Run {
+            model: "a",
+            disk: "b",
+            nodes: 64,
+            batch: 9,
+            rounds: 7,
+        },
+    ),
+];
+
+#[test]
+fn a_line_names_a_command_and_its_values(rt: HostRuntime) {
+    for (words, want) in READ {
+        assert!(rt; is_read_as(rt.alloc(), words, want), "{words:?}");
+    }
+}
+
+/// The words of a line that is refused, and the kind.
+const REFUSED: [(&[&str], ErrorKind); 13] = [
+    (&["timewarp", "seq"], ErrorKind::MissingRequiredArgument),
+    (&["timewarp", "seq", "a", "b"], ErrorKind::UnknownArgument),
+    (
+        &["timewarp", "seq", "--nodes", "2", "a"],
+        ErrorKind::UnknownArgument,
+    ),
+    (&["timewarp", "node", "a"], ErrorKind::InvalidSubcommand),
+    (
+        &["timewarp", "run", "a"],
+        ErrorKind::MissingRequiredArgument,
+    ),
+    // Numbers out of their ranges.
+    (
+        &["timewarp", "new", "a", "b", "--sectors", "131073"],
+        ErrorKind::ValueValidation,
+    ),
+    (
+        &["timewarp", "run", "a", "b", "--nodes", "65"],
+        ErrorKind::ValueValidation,
+    ),
+    (
+        &["timewarp", "run", "a", "b", "--batch=0"],
+        ErrorKind::ValueValidation,
+    ),
+    (
+        &["timewarp", "run", "a", "b", "--rounds", "4294967296"],
+        ErrorKind::ValueValidation,
+    ),
+    // Help is no command.
+    (&["timewarp", "help"], ErrorKind::InvalidSubcommand),
+    (&["timewarp", "--help"], ErrorKind::DisplayHelp),
+    (&["timewarp", "seq", "-h"], ErrorKind::DisplayHelp),
+    (
+        &["timewarp"],
+        ErrorKind::DisplayHelpOnMissingArgumentOrSubcommand,
+    ),
+];
+
+#[test]
+fn other_words_are_refused_by_their_kind(rt: HostRuntime) {
+    for (words, kind) in REFUSED {
+        assert!(rt; is_refused_as(rt.alloc(), words, kind), "{words:?}");
+    }
+}

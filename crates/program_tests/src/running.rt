@@ -1,0 +1,80 @@
+// Commands with writers in memory, and files for them. None of these calls has a contract, so that the tests are proved
+// without those of the program.
+
+use program::{Shown, command};
+use std::env;
+use std::fs::{self, File};
+use std::io::Write;
+use std::path::PathBuf;
+use std::rt::{Clock, Env, Files};
+use std::test::Fail;
+
+pub const RING: &str = "model = \"ring\"\nlps = 3\nend = 10\nhold = 2\ntokens = 1\n";
+
+pub const RING_TEXT: &str = "\
+1 0 0 0 0 0
+3 0 1 1 0 1
+5 1 0 2 0 2
+7 2 0 0 0 3
+9 0 2 1 0 4
+virtual time 10
+lp 0 sent 3 state 2
+lp 1 sent 2 state 2
+lp 2 sent 1 state 1
+pending 11 1 1 2 0 5
+";
+
+/// What a command answers: its status, and what it writes to each stream.
+#[derive(Drop)]
+pub struct Told {
+    pub status: u8,
+    pub out: Vec<u8>,
+    pub err: Vec<u8>,
+}
+
+/// Runs a command with these writers, as where there is no terminal. Answers the status.
+pub fn run_to<R, O, E>(rt: &R, words: &[&str], out: &mut O, err: &mut E) -> u8
+where
+    R: Files<File = File> + Clock + AllocGlobal,
+    O: Write,
+    E: Write,
+{
+    let mut unseen = Shown::on(rt, None::<Vec<u8>>);
+    command(rt, words, &mut unseen, out, err)
+}
+
+/// Runs a command with two writers that need no more memory.
+pub fn run<R>(rt: &R, words: &[&str]) -> Result<Told, Fail>
+where
+    R: Files<File = File> + Clock + AllocGlobal,
+{
+    let mut out = Vec::with_capacity(rt.alloc(), 8192)?;
+    let mut err = Vec::with_capacity(rt.alloc(), 8192)?;
+    let status = run_to(rt, words, &mut out, &mut err);
+    Ok(Told { status, out, err })
+}
+
+/// Runs a command on a file of these bytes, which is also the disk of a command that takes one.
+pub fn run_on<R>(rt: &R, command: &str, bytes: &[u8]) -> Result<Told, Fail>
+where
+    R: Files<File = File> + Clock + Env + AllocGlobal,
+{
+    let path = temporary(rt, "timewarp-model.toml")?;
+    let path = path.as_path().to_str().ok_or("a path of text")?;
+    fs::write(rt, path, bytes)?;
+    let words = ["timewarp", command, path, path];
+    let count = if command == "seq" || command == "check" {
+        3
+    } else {
+        4
+    };
+    let told = run(rt, &words[..count])?;
+    fs::remove_file(rt, path)?;
+    Ok(told)
+}
+
+pub fn temporary<R: Env + AllocGlobal>(rt: &R, name: &str) -> Result<PathBuf, Fail> {
+    let mut path = env::temp_dir(rt)?;
+    path.push(name)?;
+    Ok(path)
+}

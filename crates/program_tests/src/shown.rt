@@ -1,0 +1,50 @@
+// What a terminal shows of a run.
+
+use driver::Watch;
+use program::{Progress, Shown};
+use std::io::Result as IoResult;
+use std::test::Fail;
+use std::time::{Clock, Duration};
+
+/// A clock that goes on by 200 milliseconds at each look.
+#[derive(Drop)]
+struct Ticking {
+    looks: std::cell::Cell<u32>,
+}
+
+impl Clock for Ticking {
+    fn monotonic(&self) -> IoResult<Duration> {
+        let looks = self.looks.get();
+        self.looks.set(looks.saturating_add(1));
+        Ok(Duration::from_millis(200 * u64::from(looks)))
+    }
+
+    fn since_1970(&self) -> IoResult<Duration> {
+        self.monotonic()
+    }
+}
+
+#[test]
+fn a_run_is_shown_twice_a_second_and_then_cleared(rt: HostRuntime) -> Result<(), Fail> {
+    let clock = Ticking {
+        looks: std::cell::Cell::new(0),
+    };
+    let mut terminal = Vec::with_capacity(rt.alloc(), 512)?;
+    let mut shown = Shown::on(&clock, Some(&mut terminal));
+    shown.begin(1000);
+    for commit in 0..7 {
+        shown.committed(100 * commit, 30 * commit as usize);
+    }
+    shown.clear();
+    assert_eq!(rt;
+        terminal.as_slice(),
+        b"\r30% of 1000 ticks, 90 events committed, 150 a second\x1b[K\
+          \r60% of 1000 ticks, 180 events committed, 150 a second\x1b[K\r\x1b[K"
+            .as_slice()
+    );
+    let mut shown = Shown::on(&clock, None::<Vec<u8>>);
+    shown.begin(10);
+    shown.committed(10, 5);
+    shown.clear();
+    Ok(())
+}

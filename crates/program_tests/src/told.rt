@@ -1,0 +1,268 @@
+// The program's commands, as a user sees them.
+
+use crate::running::{RING, RING_TEXT, run, run_on, temporary};
+use commitlog::LogFault;
+use coordinator::SessionFault;
+use model::WorldFault;
+use program::{Fault, tell};
+use recovery::RecoveryFault;
+use std::alloc::Global;
+use std::fs::File;
+use std::rt::{Clock, Files};
+use std::test::Fail;
+use texts::{Key, Mistake};
+
+const RING_ONE_TEXT: &str = "\
+virtual time 1
+lp 0 sent 1 state 0
+lp 1 sent 0 state 0
+lp 2 sent 0 state 0
+pending 1 0 0 0 0 0
+";
+
+/// A command, the bytes of a file, the status, and what is written to each stream.
+const FILES: [(&str, &[u8], u8, &str, &str); 10] = [
+    // `seq` prints the log and then the world.
+    (
+        "seq",
+        b"model = \"ring\"\nlps = 3\nend = 10\nhold = 2\ntokens = 1\n",
+        0,
+        RING_TEXT,
+        "",
+    ),
+    (
+        "seq",
+        b"model = \"ring\"\nlps = 3\nend = 1\nhold = 2\ntokens = 1\n",
+        0,
+        RING_ONE_TEXT,
+        "",
+    ),
+    ("seq", b"lps = 3\n", 1, "", "timewarp: BadModel\n"),
+    ("seq", b"\xff", 1, "", "timewarp: BadModel\n"),
+    ("seq", b"", 1, "", "timewarp: BadModel\n"),
+    (
+        "check",
+        b"model = \"ring\"\nlps = 3\nend = 10\nhold = 2\ntokens = 1\n",
+        0,
+        "ok\nmodel: ring\nlps: 3\nend: 10\nhold: 2\ntokens: 1\n",
+        "",
+    ),
+    (
+        "check",
+        b"model = \"phold\"\nlps = 1\nend = 4\npopulation = 2\nspread = 7\nseed = 5\n",
+        0,
+        "ok\nmodel: phold\nlps: 1\nend: 4\npopulation: 2\nspread: 7\nseed: 5\n",
+        "",
+    ),
+    (
+        "check",
+        b"model = \"jobshop\"\nlps = 1\nend = 3\njobs = 2\nservice = 9\nseed = 5\n",
+        0,
+        "ok\nmodel: jobshop\nlps: 1\nend: 3\njobs: 2\nservice: 9\nseed: 5\n",
+        "",
+    ),
+    (
+        "check",
+        b"model = \"ring\"\nlps = 3\nend = 10\ntokens = 1\n",
+        1,
+        "",
+        "timewarp: hold: missing\n",
+    ),
+    (
+        "check",
+        b"model = \"ring\"\nlps = 2000\nend = 10\nhold = 2\ntokens = 1\n",
+        1,
+        "",
+        "timewarp: lps: 2000 is not within 1 to 1024\n",
+    ),
+];
+
+#[test]
+fn files_are_run_and_checked(rt: HostRuntime) -> Result<(), Fail> {
+    for (command, bytes, status, out, err) in FILES {
+        let told = run_on(&rt, command, bytes)?;
+        assert_eq!(rt; told.err.as_slice(), err.as_bytes());
+        assert_eq!(rt; told.out.as_slice(), out.as_bytes());
+        assert_eq!(rt; told.status, status);
+    }
+    Ok(())
+}
+
+#[test]
+fn seq_runs_models_that_draw(rt: HostRuntime) -> Result<(), Fail> {
+    let files = [
+        (
+            "model = \"phold\"\nlps = 1\nend = 4\npopulation = 1\nspread = 1\nseed = 5\n",
+            "1 0 0 0 0 0\n2 0 1 0 0 1\n3 0 2 0 0 2\nvirtual time 4\nlp 0 sent 4 state ",
+            " 3\npending 4 0 3 0 0 3\n",
+        ),
+        (
+            "model = \"jobshop\"\nlps = 1\nend = 3\njobs = 2\nservice = 1\nseed = 5\n",
+            "1 0 0 0 0 0\n2 0 1 0 1 0\n2 0 2 0 0 1\nvirtual time 3\nlp 0 sent 5 state 4 3 1 0 ",
+            "\npending 3 0 3 0 1 1\npending 4 0 4 0 0 2\n",
+        ),
+    ];
+    for (file, start, end) in files {
+        let told = run_on(&rt, "seq", file.as_bytes())?;
+        assert!(rt;
+            told.out.as_slice().starts_with(start.as_bytes()),
+            "{start}"
+        );
+        assert!(rt; told.out.as_slice().ends_with(end.as_bytes()), "{end}");
+        assert_eq!(rt; (told.status, told.err.len()), (0, 0));
+    }
+    Ok(())
+}
+
+#[test]
+fn what_is_no_file_is_told(rt: HostRuntime) -> Result<(), Fail> {
+    let missing = temporary(&rt, "timewarp-missing.toml")?;
+    let missing = missing.as_path().to_str().ok_or("a path of text")?;
+    for path in [missing, "."] {
+        let told = run(&rt, &["timewarp", "seq", path])?;
+        assert_eq!(rt; told.err.as_slice(), b"timewarp: File\n".as_slice());
+        assert_eq!(rt; (told.status, told.out.len()), (1, 0));
+    }
+    Ok(())
+}
+
+#[test]
+fn a_model_file_is_looked_at_before_the_disk(rt: HostRuntime) -> Result<(), Fail> {
+    let files = [
+        (b"lps = 3\n".as_slice(), "timewarp: BadModel\n"),
+        (RING.as_bytes(), "timewarp: File\n"),
+    ];
+    for command in ["new", "run", "log", "show"] {
+        for (bytes, text) in files {
+            let told = run_on(&rt, command, bytes)?;
+            assert_eq!(rt; told.err.as_slice(), text.as_bytes(), "{command}");
+            assert_eq!(rt; (told.status, told.out.len()), (1, 0));
+        }
+    }
+    Ok(())
+}
+
+/// Whether a command answers status 2, prints nothing, and tells a text with this part.
+fn is_usage<R>(rt: &R, words: &[&str], part: &[u8]) -> Result<bool, Fail>
+where
+    R: Files<File = File> + Clock + AllocGlobal,
+{
+    let told = run(rt, words)?;
+    let has_part = told
+        .err
+        .as_slice()
+        .windows(part.len().max(1))
+        .any(|window| window == part);
+    Ok(has_part && told.status == 2 && told.out.len() == 0)
+}
+
+const PROGRAM: &[&str] = &["timewarp", "--help"];
+
+const SEQ: &[&str] = &["timewarp", "seq", "--help"];
+
+/// Lines that are mistaken or ask for help, and a part of what is told.
+const USAGES: [(&[&str], &str); 28] = [
+    (&[], "Usage: timewarp <COMMAND>"),
+    (&["timewarp"], "Usage: timewarp <COMMAND>"),
+    (&["timewarp", "seq"], "<MODEL>"),
+    (&["timewarp", "seq", "a", "b"], "'b'"),
+    (&["timewarp", "node", "a", "b"], "'node'"),
+    (&["timewarp", "run", "a"], "<DISK>"),
+    (
+        &["timewarp", "new", "a", "b", "--sectors", "7"],
+        "7 is not in 8..=131072",
+    ),
+    (&["timewarp", "help"], "'help'"),
+    (&["timewarp", "--nodes"], "'--nodes'"),
+    (&["timewarp", "seq", "--batch", "1", "a"], "'--batch'"),
+    // The line is looked at before the file.
+    (
+        &["timewarp", "seq", "timewarp-missing.toml", "--batch"],
+        "'--batch'",
+    ),
+    // Help tells what is done, and in which units and ranges.
+    (PROGRAM, "Simulates logical processes"),
+    (PROGRAM, "Virtual times are whole ticks"),
+    (PROGRAM, "Usage: timewarp <COMMAND>"),
+    (PROGRAM, "  seq "),
+    (PROGRAM, "  BadModel     the file is no model file"),
+    (PROGRAM, "  2  a mistake in the command line, or help\n"),
+    (SEQ, "Runs a model to its end"),
+    (SEQ, "Usage: timewarp seq <MODEL>"),
+    (SEQ, "lps         processes, 1 to 1024\n"),
+    (
+        SEQ,
+        "end         ticks at which the run ends, 1 to 1099511627776\n",
+    ),
+    (
+        SEQ,
+        "hold        ticks for which a process holds a token, 1 to 4294967295\n",
+    ),
+    (SEQ, "tokens      1 to 8 times lps\n"),
+    (
+        SEQ,
+        "population  messages that each process starts with, 1 to 8\n",
+    ),
+    (
+        SEQ,
+        "spread      the greatest delay in ticks, 1 to 4294967295\n",
+    ),
+    (
+        SEQ,
+        "seed        what begins the drawn words, 0 to 9223372036854775807\n",
+    ),
+    (
+        SEQ,
+        "jobs        jobs that each machine starts with, 1 to 8\n",
+    ),
+    (SEQ, "virtual time TIME                ticks\n"),
+];
+
+#[test]
+fn mistakes_and_help_are_told(rt: HostRuntime) -> Result<(), Fail> {
+    for (words, part) in USAGES {
+        assert!(rt; is_usage(&rt, words, part.as_bytes())?, "{words:?} {part}");
+    }
+    Ok(())
+}
+
+/// Whether a fault is told by this text, with status 1.
+fn is_told_as(alloc: Global, fault: Fault, text: &str) -> bool {
+    let mut err = Vec::new(alloc);
+    tell(fault, &mut err) == 1 && err.as_slice() == text.as_bytes()
+}
+
+#[test]
+fn faults_are_told_by_their_names(rt: HostRuntime) {
+    let faults = [
+        (Fault::BadModel, "timewarp: BadModel\n"),
+        (Fault::File, "timewarp: File\n"),
+        (
+            Fault::World(WorldFault::NumberLimit),
+            "timewarp: World NumberLimit\n",
+        ),
+        (
+            Fault::World(WorldFault::NoMemory),
+            "timewarp: World NoMemory\n",
+        ),
+        (Fault::Log(LogFault::NotBlank), "timewarp: Log NotBlank\n"),
+        (
+            Fault::Recovery(RecoveryFault::OtherModel),
+            "timewarp: Recovery OtherModel\n",
+        ),
+        (
+            Fault::Session(SessionFault::Full),
+            "timewarp: Session Full\n",
+        ),
+        (Fault::Rounds, "timewarp: Rounds\n"),
+        (
+            Fault::Mistake(Mistake::Missing(Key::Hold)),
+            "timewarp: hold: missing\n",
+        ),
+        (Fault::NoMemory, "timewarp: NoMemory\n"),
+        (Fault::Output, "timewarp: Output\n"),
+    ];
+    for (fault, text) in faults {
+        assert!(rt; is_told_as(rt.alloc(), fault, text), "{text}");
+    }
+}

@@ -1,0 +1,73 @@
+// The words of the command line.
+
+use program::{refuse_words, words};
+use std::alloc::Global;
+use std::env::FillError;
+use std::io::{self, Error, ErrorKind};
+use std::rt::Env;
+use std::test::Fail;
+
+/// An environment with one word after the program's name.
+#[derive(Drop)]
+struct OneWord {
+    word: &'static [u8],
+}
+
+impl Env for OneWord {
+    fn arg(&self, i: usize, buf: &mut [u8]) -> Result<usize, FillError> {
+        let word = match i {
+            0 => b"timewarp".as_slice(),
+            1 => self.word,
+            _ => return Err(FillError::NotPresent),
+        };
+        if buf.len() < word.len() {
+            return Err(FillError::TooLong);
+        }
+        buf[..word.len()].copy_from_slice(word);
+        Ok(word.len())
+    }
+
+    fn var(&self, _name: &str, _buf: &mut [u8]) -> Result<usize, FillError> {
+        Err(FillError::NotPresent)
+    }
+
+    fn var_at(&self, _i: usize, _buf: &mut [u8]) -> Result<usize, FillError> {
+        Err(FillError::NotPresent)
+    }
+}
+
+/// The program's name and this word.
+fn words_of(alloc: Global, word: &'static [u8]) -> io::Result<Vec<String>> {
+    words(&(OneWord { word }, alloc))
+}
+
+#[test]
+fn words_are_texts(rt: HostRuntime) -> Result<(), Fail> {
+    let words = words_of(rt.alloc(), b"\xc3\xa9")?;
+    assert_eq!(rt; words.len(), 2);
+    for text in ["timewarp", "\u{e9}"] {
+        assert!(rt;
+            words.as_slice().iter().any(|word| word.as_str() == text),
+            "{text}"
+        );
+    }
+    Ok(())
+}
+
+/// Whether words that could not be read are told by this text and with this status.
+fn is_told_as(alloc: Global, error: Error, status: u8, text: &str) -> Result<bool, Fail> {
+    let mut err = Vec::with_capacity(alloc, 512)?;
+    Ok(refuse_words(error, &mut err) == status && err.as_slice() == text.as_bytes())
+}
+
+#[test]
+fn words_that_could_not_be_read_are_told(rt: HostRuntime) -> Result<(), Fail> {
+    // A word that is no UTF-8 is a mistake in the line.
+    let mistake = words_of(rt.alloc(), b"a\xff").err().ok_or("a refusal")?;
+    let text =
+        "error: a word of the command line is not UTF-8\n\nFor more information, try '--help'.\n";
+    assert!(rt; is_told_as(rt.alloc(), mistake, 2, text)?);
+    let memory = Error::from(ErrorKind::OutOfMemory);
+    assert!(rt; is_told_as(rt.alloc(), memory, 1, "timewarp: NoMemory\n")?);
+    Ok(())
+}

@@ -1,0 +1,178 @@
+// Writers that refuse.
+
+use crate::running::{RING, RING_TEXT, Told, run_to, temporary};
+use program::{seq, tell};
+use std::alloc::{AllocError, Global};
+use std::fs::{self, File};
+use std::io::{self, Error, ErrorKind, Write};
+use std::rt::{Clock, Files};
+use std::test::Fail;
+
+/// A writer that refuses the call number `fail`, a flush also.
+#[derive(Drop)]
+struct Refusing {
+    taken: Vec<u8>,
+    calls: usize,
+    fail: usize,
+}
+
+impl Refusing {
+    fn at(alloc: Global, fail: usize) -> Result<Refusing, AllocError> {
+        Ok(Refusing {
+            taken: Vec::with_capacity(alloc, 512)?,
+            calls: 0,
+            fail,
+        })
+    }
+
+    fn call(&mut self) -> io::Result<()> {
+        let call = self.calls;
+        self.calls = self.calls.saturating_add(1);
+        if call == self.fail {
+            return Err(Error::from(ErrorKind::BrokenPipe));
+        }
+        Ok(())
+    }
+}
+
+impl Write for Refusing {
+    fn write(&mut self, buf: &[u8]) -> io::Result<usize> {
+        self.call()?;
+        self.taken.extend_from_slice(buf)?;
+        Ok(buf.len())
+    }
+
+    fn flush(&mut self) -> io::Result<()> {
+        self.call()
+    }
+}
+
+/// A writer that takes all, and refuses to flush.
+#[derive(Drop)]
+struct NeverFlushed {
+    taken: Vec<u8>,
+}
+
+impl Write for NeverFlushed {
+    fn write(&mut self, buf: &[u8]) -> io::Result<usize> {
+        self.taken.extend_from_slice(buf)?;
+        Ok(buf.len())
+    }
+
+    fn flush(&mut self) -> io::Result<()> {
+        Err(Error::from(ErrorKind::StorageFull))
+    }
+}
+
+/// Where a model is found.
+#[derive(Clone, Copy)]
+enum Source<'a> {
+    /// In this text, which the function `seq` runs.
+    Text(&'a str),
+    /// In the file of this path, on which the command `seq` runs.
+    Path(&'a str),
+}
+
+/// Runs a model by the plain runner with these writers. Answers the status.
+fn seq_to<R, O>(rt: &R, source: Source<'_>, out: &mut O, err: &mut Vec<u8>) -> u8
+where
+    R: Files<File = File> + Clock + AllocGlobal,
+    O: Write,
+{
+    match source {
+        Source::Text(text) => match seq(rt.alloc(), text, out) {
+            Ok(()) => 0,
+            Err(fault) => tell(fault, err),
+        },
+        Source::Path(path) => run_to(rt, &["timewarp", "seq", path], out, err),
+    }
+}
+
+/// Runs a model with a writer that refuses the call number `fail`. Answers whether it refused, and what was told.
+fn seq_refused<R>(rt: &R, source: Source<'_>, fail: usize) -> Result<(bool, Told), Fail>
+where
+    R: Files<File = File> + Clock + AllocGlobal,
+{
+    let mut out = Refusing::at(rt.alloc(), fail)?;
+    let mut err = Vec::with_capacity(rt.alloc(), 512)?;
+    let status = seq_to(rt, source, &mut out, &mut err);
+    let told = Told {
+        status,
+        out: out.taken,
+        err,
+    };
+    Ok((out.calls > fail, told))
+}
+
+#[test]
+fn each_write_that_is_refused_is_told(rt: HostRuntime) -> Result<(), Fail> {
+    let path = temporary(&rt, "timewarp-refused.toml")?;
+    let path = path.as_path().to_str().ok_or("a path of text")?;
+    fs::write(&rt, path, RING)?;
+    for source in [Source::Text(RING), Source::Path(path)] {
+        let mut done = false;
+        for fail in 0..300 {
+            let (refused, told) = seq_refused(&rt, source, fail)?;
+            assert!(rt; RING_TEXT.as_bytes().starts_with(told.out.as_slice()));
+            if refused {
+                assert_eq!(rt; told.err.as_slice(), b"timewarp: Output\n".as_slice());
+                assert_eq!(rt; told.status, 1);
+            } else {
+                assert_eq!(rt; (told.status, told.err.len()), (0, 0));
+                assert_eq!(rt; told.out.len(), RING_TEXT.len());
+                done = true;
+            }
+        }
+        assert!(rt; done);
+    }
+    fs::remove_file(&rt, path)?;
+    Ok(())
+}
+
+#[test]
+fn the_last_flush_is_made_and_told(rt: HostRuntime) -> Result<(), Fail> {
+    let path = temporary(&rt, "timewarp flushed.toml ")?;
+    let path = path.as_path().to_str().ok_or("a path of text")?;
+    fs::write(&rt, path, RING)?;
+    for source in [Source::Text(RING), Source::Path(path)] {
+        let mut out = NeverFlushed {
+            taken: Vec::new(rt.alloc()),
+        };
+        let mut err = Vec::new(rt.alloc());
+        let status = seq_to(&rt, source, &mut out, &mut err);
+        assert_eq!(rt; err.as_slice(), b"timewarp: Output\n".as_slice());
+        assert_eq!(rt; out.taken.as_slice(), RING_TEXT.as_bytes());
+        assert_eq!(rt; status, 1);
+    }
+    fs::remove_file(&rt, path)?;
+    Ok(())
+}
+
+#[test]
+fn faults_of_the_file_come_before_those_of_the_writer(rt: HostRuntime) -> Result<(), Fail> {
+    let sources = [
+        (Source::Path("timewarp-missing.toml"), "timewarp: File\n"),
+        (Source::Text("lps = 3\n"), "timewarp: BadModel\n"),
+    ];
+    for (source, text) in sources {
+        let (refused, told) = seq_refused(&rt, source, 0)?;
+        assert_eq!(rt; told.err.as_slice(), text.as_bytes());
+        assert_eq!(rt; (refused, told.status), (false, 1));
+    }
+    Ok(())
+}
+
+#[test]
+fn a_refused_message_changes_no_status(rt: HostRuntime) -> Result<(), Fail> {
+    let lines = [
+        (["timewarp", "seq", "timewarp-missing.toml"].as_slice(), 1),
+        (["timewarp", "run"].as_slice(), 2),
+    ];
+    for (words, status) in lines {
+        let mut out = Vec::new(rt.alloc());
+        let mut err = Refusing::at(rt.alloc(), 0)?;
+        assert_eq!(rt; run_to(&rt, words, &mut out, &mut err), status);
+        assert_eq!(rt; out.len(), 0);
+    }
+    Ok(())
+}
