@@ -1,5 +1,6 @@
 pub mod Headers
 pub mod Bodies
+pub mod Contents
 pub mod Replays
 pub mod Prefixes
 pub mod Standing
@@ -9,4 +10,5 @@ pub mod Filled
 pub mod Replaying
 pub mod Logs
 pub mod Disks
+pub mod Fronts
 mod Examples

@@ -2,8 +2,8 @@
 
 use commitlog::{Log, LogFault, format};
 use disk::{DiskFault, MemDisk, Plan, SectorDisk, Torn};
-use eventkey::Message;
-use model::WorldFault;
+use eventkey::{Listed, Message};
+use model::{State, Words, WorldFault};
 use models::TokenRing;
 use recovery::{Front, RecoveryFault, encode_events, events_length, header, recover};
 use std::alloc::{AllocError, Global};
@@ -84,25 +84,19 @@ fn log_of_all(alloc: Global) -> Result<Log<MemDisk>, Fail> {
     log_with(alloc, &records, None)
 }
 
-/// Whether each state is one word, and they are these.
-fn has_states(front: &Front, counts: &[u64]) -> bool {
-    let states = front.states.as_slice();
-    states.len() == counts.len()
-        && states.iter().zip(counts).all(|(state, count)| state.words().as_slice()
-            == [*count].as_slice())
-}
-
-/// Whether this is the world of the ring at the end.
-fn is_at_the_end(alloc: Global, front: &Front) -> Result<bool, Fail> {
-    let handled = messages(alloc, &EVENTS[..5])?;
-    let left = messages(alloc, &EVENTS[5..])?;
-    Ok(
-        front.g == END
-            && has_states(front, &[2, 2, 1])
-            && front.numbers.as_slice() == [3, 2, 1].as_slice()
-            && front.log.as_slice() == handled.as_slice()
-            && front.pending.as_slice() == left.as_slice(),
-    )
+/// The world of the ring at the end.
+fn front_at_the_end(alloc: Global) -> Result<Front, Fail> {
+    let mut states = Vec::new(alloc);
+    for count in [2, 2, 1] {
+        states.push(State::from_words(Words::from_slice(alloc, &[count])?))?;
+    }
+    Ok(Front {
+        g: END,
+        states: Listed::from_vec(states),
+        numbers: Listed::from_vec([3, 2, 1].to_vec(alloc)?),
+        pending: Listed::from_vec(messages(alloc, &EVENTS[5..])?),
+        log: Listed::from_vec(messages(alloc, &EVENTS[..5])?),
+    })
 }
 
 fn recovered(alloc: Global, log: Log<MemDisk>) -> Result<Front, RecoveryFault> {

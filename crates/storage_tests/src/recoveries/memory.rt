@@ -33,7 +33,7 @@ fn a_recovery_that_was_refused_memory_works_the_next_time(rt: HostRuntime) -> Re
     let alloc = rt.alloc();
     let mut log = log_of_all(alloc)?;
     let front = recovered_again(alloc, &mut log)?;
-    assert!(rt; is_at_the_end(alloc, &front)?);
+    assert!(rt; front.is_same(&front_at_the_end(alloc)?));
     assert_eq!(rt; log.len(), 3);
     assert!(rt; !log.is_spent());
     Ok(())
