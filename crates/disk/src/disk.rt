@@ -81,7 +81,8 @@ pub trait SectorDisk {
 }
 
 /// Writes sector `n`, and waits until it has reached the device. A crash since before the write may have left any 512 bytes
-/// in it, at every exit: also after a sync that ended well, where a crash now leaves just what was written.
+/// in it, at every exit: also after a sync that ended well, where a crash now leaves just what was written. `NoSuchSector`
+/// comes before `Device`.
 pub fn write_through<D: SectorDisk>(
     disk: &mut D,
     n: u32,
@@ -90,6 +91,11 @@ pub fn write_through<D: SectorDisk>(
     ensures written { OnOk result ((D.state disk.new).reads ≡ slice_set (D.state disk.old).reads n sector.now) }
     ensures firm { OnOk result (IsFirm (D.state disk.new).loose) }
     ensures torn { (bytes : List ℕ) → n < length (D.state disk.old).reads → IsSector bytes → left_since (D.state disk.new) (moment (D.state disk.old)) (slice_set (D.state disk.old).reads n bytes) }
+
+    // at every exit
+    ensures elsewhere { (D.state disk.new).reads ≡ slice_set (D.state disk.old).reads n (slice_index_or (D.state disk.new).reads n []) }
+    ensures beyond { IsErrOf result DiskFault.NoSuchSector ↔ (length (D.state disk.old).reads ≤ n) }
+    ensures cause { HasCause (D.state disk.old).failures (D.state disk.new).failures result }
 {
     disk.write(n, sector)?;
     disk.sync()
