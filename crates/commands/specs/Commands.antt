@@ -1,8 +1,10 @@
 -- What the commands on a disk print (this project's profile).
 use Rattle.std.specs.Io.KnownBytes.{Appends}
-use Rattle.std.specs.Prelude.{◌≡◌, ◌≤◌, ℕ, List, ◌++◌, Option, codes, decimal, flat_map, get_or, length}
+use Rattle.std.specs.Prelude.{◌≡◌, ◌≤◌, ◌⊎◌, ℕ, List, ◌++◌, Option, codes, decimal, flat_map, get_or, length}
 use Rattle.commands.specs.declared.fault.CommandFault.{CommandFault}
-use Rattle.commands.specs.declared.fault.CommandFault.TheVariants.{NoMemory, Rounds, Session}
+use Rattle.commands.specs.declared.fault.CommandFault.TheVariants.{Log, NoMemory, Output, Recovery, Rounds, Session}
+use Rattle.commitlog.specs.Faults.{FormatIsRefused, OpenIsRefused}
+use Rattle.commitlog.specs.Records.{IsBlank}
 use Rattle.driver.specs.declared.rounds.RunFault.{RunFault}
 use Rattle.driver.specs.declared.rounds.RunFault.TheVariants as run
 use Rattle.model.specs.Meaning.{Meaning}
@@ -64,7 +66,27 @@ pub record BeginsRan (m : Meaning) (end nodes : ℕ) (old new : Option (List ℕ
   pub upto : IsUpto m end end world
   pub part : TakesBeginning old new (ran_text ran end (length world.log))
 
--- 3. Faults
+-- 3. What is left
+
+-- an image without a log, or one that stands for this world
+abbrev pub IsBlankOrStands : Meaning → ℕ → World → List (List ℕ) → Type 0
+IsBlankOrStands m end w image = IsBlank image ⊎ Stands m end image w
+
+-- 4. Faults
+
+-- Why no log is made, or nothing is told of it. `failed` says that the device has failed in the call.
+abbrev pub MakingIsRefused : CommandFault → List (List ℕ) → Type 0 → Type 0
+MakingIsRefused (Log fault) image failed = FormatIsRefused fault image failed
+MakingIsRefused Output image failed = Unit {0}
+MakingIsRefused fault image failed = ⊥
+
+-- Why what is committed is not written. Whether the device has failed is not told any more, since
+-- the disk is let go of.
+abbrev pub LookingIsRefused : CommandFault → List (List ℕ) → Type 0
+LookingIsRefused (Log fault) image = OpenIsRefused fault image (Unit {0})
+LookingIsRefused (Recovery fault) image = Unit {0}
+LookingIsRefused Output image = Unit {0}
+LookingIsRefused fault image = ⊥
 
 -- a command's own name for why a run stopped
 abbrev pub of_run : RunFault → CommandFault

@@ -7,5 +7,5 @@ mod printing;
 #[cfg(test)]
 mod tests;
 
-pub use commands::{Simulated, log, new, run, show};
+pub use commands::{Ended, Simulated, log, new, run, show};
 pub use fault::CommandFault;

@@ -2,11 +2,11 @@
 
 ghost use Rattle.std.specs.Prelude.{◌≡◌, ◌<◌, ◌≤◌};
 
-use crate::{CommandFault, Simulated, log, new, run, show};
+use crate::{CommandFault, Ended, Simulated, log, new, run, show};
 use commitlog::LogFault;
 use coordinator::SessionFault;
 use disk::{MemDisk, Plan as Faults, Torn};
-use driver::{Plan, Watch, run_local};
+use driver::{Plan, Watch};
 use models::{AnyModel, TokenRing};
 use recovery::RecoveryFault;
 use std::alloc::Global;
@@ -110,14 +110,13 @@ fn ends_so(
     let of = ring(2);
     let mut ran = Vec::new(alloc);
     let disk = formatted(alloc, &of, sectors)?;
-    let ended = run(alloc, &of, disk, plan, &mut Nobody, &mut ran).err();
-    let disk = formatted(alloc, &of, sectors)?;
-    let disk = run_local(alloc, &of.model, disk, of.end, plan, &mut Nobody).disk;
+    let Ended { disk, told } = run(alloc, &of, disk, plan, &mut Nobody, &mut ran);
     let mut out = Vec::new(alloc);
     log(alloc, &of, copy(alloc, &disk, None)?, &mut out)?;
     show(alloc, &of, disk, &mut out)?;
-    let told = if fault.is_none() { RAN } else { "" };
-    Ok(ended == fault && ran.as_slice() == told.as_bytes() && out.as_slice() == text.as_bytes())
+    let counts = if fault.is_none() { RAN } else { "" };
+    let said = ran.as_slice() == counts.as_bytes() && out.as_slice() == text.as_bytes();
+    Ok(told.err() == fault && said)
 }
 
 #[test]
@@ -135,10 +134,11 @@ fn runs_end_or_stop_where_their_disks_do(rt: HostRuntime) -> Result<(), Fail> {
 fn a_run_again_writes_nothing(rt: HostRuntime) -> Result<(), Fail> {
     let of = ring(2);
     let disk = formatted(rt.alloc(), &of, 64)?;
-    let disk = run_local(rt.alloc(), &of.model, disk, of.end, PLAN, &mut Nobody).disk;
-    let disk = copy(rt.alloc(), &disk, Some(0))?;
     let mut out = Vec::new(rt.alloc());
-    run(rt.alloc(), &of, disk, PLAN, &mut Nobody, &mut out)?;
+    let disk = run(rt.alloc(), &of, disk, PLAN, &mut Nobody, &mut out).disk;
+    let disk = copy(rt.alloc(), &disk, Some(0))?;
+    out.clear();
+    run(rt.alloc(), &of, disk, PLAN, &mut Nobody, &mut out).told?;
     assert_eq!(rt; out.as_slice(), RAN_AGAIN.as_bytes());
     Ok(())
 }
@@ -155,9 +155,9 @@ fn another_log_is_refused(rt: HostRuntime) -> Result<(), Fail> {
     let copied = copy(rt.alloc(), &disk, None)?;
     let shown = show(rt.alloc(), &other, copied, &mut out).err();
     assert!(rt; shown == Some(CommandFault::Recovery(RecoveryFault::OtherModel)));
-    let ran = run(rt.alloc(), &other, disk, PLAN, &mut Nobody, &mut out).err();
+    let ended = run(rt.alloc(), &other, disk, PLAN, &mut Nobody, &mut out);
     let fault = CommandFault::Session(SessionFault::Recovery(RecoveryFault::OtherModel));
-    assert!(rt; ran == Some(fault));
+    assert!(rt; ended.told.err() == Some(fault));
     let told = format!(in rt.alloc(); "{fault}")?;
     assert_eq!(rt; told.as_str(), "Session Recovery OtherModel");
     Ok(())
