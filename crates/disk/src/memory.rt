@@ -22,13 +22,25 @@ pub enum Torn {
 
 /// A disk in memory. Its calls fail by a [`Plan`], and [`crash`](MemDisk::crash) gives what a power cut would leave.
 /// It takes all its memory when it is made.
-#[derive(Drop)]
 pub struct MemDisk {
     image: Image,
     synced: Vec<[u8; 512]>,
     attempted: Vec<[u8; 512]>,
     schedule: Schedule,
     history: History,
+}
+
+// Written out, so that whoever drops one proves nothing of its parts.
+impl Drop for MemDisk {
+    fn drop(self) {
+        let MemDisk {
+            image: _,
+            synced: _,
+            attempted: _,
+            schedule: _,
+            history: _,
+        } = self;
+    }
 }
 
 impl Model for MemDisk {

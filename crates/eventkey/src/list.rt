@@ -6,9 +6,15 @@ use std::alloc::{AllocError, AllocFailed, Global};
 
 /// A vector that contracts see as the list of its items, so that a struct with such a field is
 /// seen as plain data.
-#[derive(Drop)]
 pub struct Listed<T: Drop> {
     items: Vec<T>,
+}
+
+// Written out, so that whoever drops one proves nothing of its parts.
+impl<T: Drop> Drop for Listed<T> {
+    fn drop(self) {
+        let Listed { items: _ } = self;
+    }
 }
 
 impl<T: Drop> std::marker::Model for Listed<T> {

@@ -26,11 +26,21 @@ enum Held {
 /// program has. The node handles a parcel when it is asked for the reply.
 ///
 /// Where a frame would have a body of more than 2^24 bytes, the call answers TooLong, and the port has ended.
-#[derive(Drop)]
 pub struct LoopPort<'m, M: Simulated> {
     alloc: Global,
     model: &'m M,
     held: Held,
+}
+
+// Written out, so that whoever drops one proves nothing of its parts.
+impl<M: Simulated> Drop for LoopPort<'_, M> {
+    fn drop(self) {
+        let LoopPort {
+            alloc: _,
+            model: _,
+            held: _,
+        } = self;
+    }
 }
 
 impl<'m, M: Simulated> Model for LoopPort<'m, M> {

@@ -6,9 +6,15 @@ use crate::Words;
 
 /// State words that contracts see as the list of them, so that a struct with such a field is seen as
 /// plain data.
-#[derive(Drop)]
 pub struct State {
     words: Words,
+}
+
+// Written out, so that whoever drops one proves nothing of its parts.
+impl Drop for State {
+    fn drop(self) {
+        let State { words: _ } = self;
+    }
 }
 
 impl std::marker::Model for State {

@@ -18,10 +18,19 @@ use std::alloc::Global;
 
 /// Some logical processes of a simulation: all those whose number leaves the node's number, divided by how many nodes
 /// there are.
-#[derive(Drop)]
 pub struct Node {
     spent: bool,
     roster: Roster,
+}
+
+// Written out, so that whoever drops one proves nothing of its parts.
+impl Drop for Node {
+    fn drop(self) {
+        let Node {
+            spent: _,
+            roster: _,
+        } = self;
+    }
 }
 
 impl std::marker::Model for Node {

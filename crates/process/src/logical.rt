@@ -23,7 +23,6 @@ use std::mem;
 /// number. After want of memory, and at the limit of the send number, it is spent.
 ///
 /// No rollback takes back a handling below the floor, since what arrives is not below it.
-#[derive(Drop)]
 pub struct Process {
     alloc: Global,
     lp: u32,
@@ -33,6 +32,22 @@ pub struct Process {
     history: History<8>,
     state: State,
     number: u64,
+}
+
+// Written out, so that whoever drops one proves nothing of its parts.
+impl Drop for Process {
+    fn drop(self) {
+        let Process {
+            alloc: _,
+            lp: _,
+            floor: _,
+            spent: _,
+            queue: _,
+            history: _,
+            state: _,
+            number: _,
+        } = self;
+    }
 }
 
 impl std::marker::Model for Process {

@@ -17,13 +17,23 @@ use std::alloc::{AllocError, Global};
 ///
 /// State words are kept for the first record and for one in any `K` in a row, `K` from 1 to 64. The
 /// others are rebuilt by going forward with the model (infrequent state saving: Fujimoto 1990).
-#[derive(Drop)]
 pub struct History<const K: usize> {
     alloc: Global,
     /// The place of the first record, below `K`: a record after it keeps its words where its place is
     /// 0, and the places go round.
     place: usize,
     records: SparseRecords,
+}
+
+// Written out, so that whoever drops one proves nothing of its parts.
+impl<const K: usize> Drop for History<K> {
+    fn drop(self) {
+        let History {
+            alloc: _,
+            place: _,
+            records: _,
+        } = self;
+    }
 }
 
 impl<const K: usize> std::marker::Model for History<K> {

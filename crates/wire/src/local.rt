@@ -20,11 +20,21 @@ enum Held {
 }
 
 /// A node in this program. It handles a parcel when it is asked for the reply.
-#[derive(Drop)]
 pub struct LocalPort<'m, M: Simulated> {
     alloc: Global,
     model: &'m M,
     held: Held,
+}
+
+// Written out, so that whoever drops one proves nothing of its parts.
+impl<M: Simulated> Drop for LocalPort<'_, M> {
+    fn drop(self) {
+        let LocalPort {
+            alloc: _,
+            model: _,
+            held: _,
+        } = self;
+    }
 }
 
 impl<'m, M: Simulated> Model for LocalPort<'m, M> {

@@ -1,11 +1,16 @@
 use Rattle.std.proofs.Common.{ap, Err}
 use Rattle.models.specs.Any.{any_lawful, any_meaning}
-use Rattle.program.proofs.Runs.{bad_model, on_ok, opening_states, upto_end}
+use Rattle.program.proofs.Runs.{bad_model, on_ok, opening_states, upto_end, upto_numbers}
 use Rattle.eventkey.proofs.Writers.{began}
 use Rattle.program.proofs.files.seq.Goals as goal
 
 pub run_to-requires : goal.run_to-requires
 run_to-requires g c = opening_states (any_meaning c.in_ok-model.model) c.in_ok-model.end c.in_ok-world.world (any_lawful c.in_ok-model.model) c.in_ok-world.ensures.ok
+
+pub write_run-requires : goal.write_run-requires
+write_run-requires g c =
+    upto_numbers (any_meaning c.in_ok-model.model) c.in_ok-model.end c.run_to.new.self.world (any_lawful c.in_ok-model.model) c.in_ok-model.ensures.end
+    (upto_end (any_meaning c.in_ok-model.model) c.in_ok-model.end c.in_ok-world.world c.run_to.new.self.world c.in_ok-world.ensures.ok c.in_ok-run_to.ensures.sequential c.in_ok-world.ensures.sequential)
 
 pub returns-in_err-model-clause-bad : goal.returns-in_err-model-clause-bad
 returns-in_err-model-clause-bad g c = λ e.
