@@ -26,18 +26,6 @@ invariant_of-self-in-Some g c =
       c.self.invariant.2,
     )
 
-pub invariant_of-self-in-Some-2 : goal.invariant_of-self-in-Some-2
-invariant_of-self-in-Some-2 g c =
-    let m = ring_meaning c.self.inside.ring.ring in
-    let first = undone_first m c.min-count.result c.self.inside.history c.deref.result.now c.self.inside.state c.in-Some.first.now c.self.invariant.0 c.in-Some.ensures.value
-    (c.deref.ensures.value ∙ c.in_ok-undone.ensures.answer) in
-    let copied = rw c.unwrap.ensures at c.from_slice.ensures.ok in (
-      leads_back m c.min-count.result c.self.inside.history c.take_back.new.self c.self.inside.state c.from_words.result c.self.invariant.0 c.in_ok-undone.ensures.left
-          (c.from_words.ensures ∙ (copied ∙ (c.as_slice-words.ensures ∙ (c.words.ensures ∙ first.1)))),
-      c.self.invariant.1,
-      c.self.invariant.2,
-    )
-
 pub invariant_of-self-in_default : goal.invariant_of-self-in_default
 invariant_of-self-in_default g c =
     let m = ring_meaning c.self.inside.ring.ring in
