@@ -106,6 +106,15 @@ impl<const K: usize> Counting<K> {
         Ok(undone)
     }
 
+    /// Rolls the last handlings back, and answers the send number before them.
+    fn roll_back(&mut self, count: usize) -> Result<u64, AllocError> {
+        let count = count.min(self.history.len());
+        let mut number = self.count();
+        self.history
+            .roll_back(&self.ring, count, &mut self.state, &mut number)?;
+        Ok(number)
+    }
+
     fn release(&mut self, floor: u64) -> Result<Vec<Record>, AllocError> {
         let released = self.history.release(&self.ring, floor)?;
         Ok(released)
@@ -167,6 +176,21 @@ impl<const K: usize> Counting<K> {
         Ok(())
     }
 
+    /// So many are rolled back in place, again where memory was refused, which changed nothing.
+    fn undo(&mut self, rt: &impl Abort, count: usize) -> Result<(), Fail> {
+        let (before, handled) = (self.look(), self.count());
+        let number = match self.roll_back(count) {
+            Ok(number) => number,
+            Err(_) => {
+                assert!(rt; self.look() == before && self.count() == handled);
+                self.roll_back(count)?
+            }
+        };
+        assert!(rt; number == self.count() && number.checked_add(count as u64) == Some(handled));
+        assert!(rt; self.look().0.checked_add(count) == Some(before.0) && self.is_sparse());
+        Ok(())
+    }
+
     /// Those below the floor are released, again where memory was refused, which changed nothing.
     fn let_go(&mut self, rt: &impl Abort, floor: u64, count: usize) -> Result<(), Fail> {
         let before = self.look();
@@ -191,6 +215,8 @@ fn drive<const K: usize>(rt: &impl Abort, alloc: Global) -> Result<(), Fail>
 {
     let mut counting: Counting<K> = Counting::new(alloc);
     for count in [0, 1, 7, 63, 129] {
+        counting.fill(rt, 200)?;
+        counting.undo(rt, count)?;
         counting.fill(rt, 200)?;
         counting.go_back(rt, count)?;
     }

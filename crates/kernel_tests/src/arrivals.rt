@@ -89,6 +89,48 @@ fn play(rt: &impl Abort, queue: &mut InputQueue, steps: &[Step], name: &str) -> 
     Ok(())
 }
 
+/// A message of process 1 to itself.
+fn of_time(time: u64) -> Row {
+    (time, 1, time, 1, 0, 0)
+}
+
+/// Takes what waits, one after another, and answers how many messages that were.
+fn take_all(rt: &impl Abort, queue: &mut InputQueue) -> Result<u64, Fail> {
+    let mut count: u64 = 0;
+    let mut last = 0;
+    for _ in 0..queue.waiting_len() {
+        let (_, time) = make_at_last(rt, queue, &Call::Taken(1000))?;
+        assert!(rt; time.is_some_and(|time| time > last));
+        last = time.unwrap_or(0);
+        count = count.saturating_add(1);
+    }
+    Ok(count)
+}
+
+#[test]
+fn many_messages_wait_in_order(rt: HostRuntime) -> Result<(), Fail> {
+    let mut queue = InputQueue::new(rt.alloc());
+    // 200 times from 1 to 211 in no order, of which every fourth is taken back
+    for place in 0..200 {
+        let plus = signed(Sign::Plus, of_time(1 + place * 97 % 211))?;
+        let told = make_at_last(&rt, &mut queue, &Call::Arrives(plus))?;
+        assert!(&rt; told == queued(0));
+    }
+    for place in 0..50 {
+        let minus = signed(Sign::Minus, of_time(1 + place * 4 * 97 % 211))?;
+        let told = make_at_last(&rt, &mut queue, &Call::Arrives(minus))?;
+        assert!(&rt; told == annihilated(0));
+    }
+    assert!(&rt; lens(&queue) == (0, 150, 0));
+    assert!(&rt; take_all(&rt, &mut queue)? == 150);
+    assert!(&rt; lens(&queue) == (150, 0, 0));
+    // a straggler before all of them
+    let straggler = Call::Arrives(signed(Sign::Plus, of_time(0))?);
+    assert!(&rt; make_at_last(&rt, &mut queue, &straggler)? == queued(150));
+    assert!(&rt; lens(&queue) == (0, 151, 0));
+    Ok(())
+}
+
 #[test]
 fn what_arrives_meets_its_like(rt: HostRuntime) -> Result<(), Fail> {
     let plus = Call::Arrives(signed(Sign::Plus, A)?);

@@ -160,7 +160,7 @@ module _ (floor leaves width : ℕ) (cells : List Standing) (t : IsTournament le
   pub leaf_count : length row_of ≡ leaves
   leaf_count = let size = t.size in let within = t.within in length-take-le leaves (drop width cells) (let some = length-drop width cells in omega arith)
 
-  leaf_at : (k : ℕ) → k < leaves → get_or row_of k absent ≡ get_or cells (width + k) absent
+  pub leaf_at : (k : ℕ) → k < leaves → get_or row_of k absent ≡ get_or cells (width + k) absent
   leaf_at k l = get_or-take leaves (drop width cells) k absent l ∙ get_or-drop width cells k absent
 
   pub nothing_due : DueAt floor width cells 1 false → IsQuiet floor row_of (length row_of)

@@ -53,6 +53,19 @@ impl Tournament {
         requires range { IsLowInRange standing }
         ensures { self.new ≡ set self.old leaf standing }
     {
+        // Most deliveries change nothing here.
+        if standing.is_same(&self.cells[self.width + leaf]) {
+            return;
+        }
+        self.replay(leaf, standing);
+    }
+
+    // Plays the matches above a leaf again.
+    fn replay(&mut self, leaf: usize, standing: Standing)
+        requires inside { leaf < length self.old }
+        requires range { IsLowInRange standing }
+        ensures { self.new ≡ set self.old leaf standing }
+    {
         let mut cell = self.width + leaf;
         self.cells[cell] = standing;
         while cell > 1 {

@@ -56,17 +56,6 @@ pub(crate) fn tell<M: Simulated>(
     Ok(())
 }
 
-/// Puts state words and send number back to those before these handlings, where there are any.
-pub(crate) fn restore(undone: Vec<Record>, state: &mut State, number: &mut u64)
-    ensures state { state.new ≡ state_before undone.items state.old }
-    ensures number { number.new ≡ number_before undone.items number.old }
-{
-    if let Some(first) = undone.into_iter().next() {
-        *state = first.before;
-        *number = first.number_before;
-    }
-}
-
 /// State words and send number before these handlings, or these where there are none.
 fn before_first(
     alloc: Global,

@@ -10,7 +10,7 @@ ghost use Rattle.process.specs.Told.{IsHistory, IsToldFold};
 ghost use Rattle.process.specs.View.{HasDone, HasRun, IsDoneInRange, IsRefused, IsSound, LacksRoom, has_early, has_foreign, loaded};
 ghost use Rattle.process.specs.declared.ProcessFault.TheVariants.{BelowFloor, NoMemory, NotMine, NumberLimit, Spent};
 
-use crate::fossils::{restore, tell};
+use crate::fossils::tell;
 use crate::sends::{append, stamped, take_back_sends};
 use crate::{Done, ProcessFault};
 use eventkey::{Listed, Message, Sign, Signed};
@@ -207,9 +207,10 @@ impl Process {
         // Until all is done: want of memory may come halfway.
         self.spent = true;
         let arrival = self.queue.arrive(signed)?;
-        let undone = self.history.take_back(model, arrival.back())?;
-        take_back_sends(undone.as_slice(), out)?;
-        restore(undone, &mut self.state, &mut self.number);
+        let back = arrival.back();
+        take_back_sends(&self.history, back, out)?;
+        self.history
+            .roll_back(model, back, &mut self.state, &mut self.number)?;
         self.spent = false;
         Ok(())
     }

@@ -4,11 +4,12 @@ ghost use Rattle.std.specs.Prelude.{◌≡◌, ◌<◌, ◌≤◌, ◌+◌, ◌+
 ghost use Rattle.eventkey.specs.Signed.{minus};
 ghost use Rattle.eventkey.specs.declared.Signed.{Signed};
 ghost use Rattle.model.specs.Meaning.{stamp as stamped_all};
+ghost use Rattle.queues.specs.Queue.{last_of};
 ghost use Rattle.queues.specs.Record.{sent_in};
 
 use eventkey::{Message, Sign, Signed};
 use model::Outgoing;
-use queues::Record;
+use queues::History;
 use std::alloc::{AllocError, Global};
 
 /// The messages that a handling at this time makes of its sends, numbered from `number` on.
@@ -52,13 +53,21 @@ pub(crate) fn append(
     Ok(())
 }
 
-/// Appends the antimessages of all that was sent in these handlings. Where memory is wanted some of them are appended.
-pub(crate) fn take_back_sends(undone: &[Record], out: &mut Vec<Signed>) -> Result<(), AllocError>
-    ensures out { OnOk result (out.new.items ≡ out.old.items ++ map minus (sent_in undone.now)) }
+/// Appends the antimessages of all that was sent in the last `count` handlings, those of the earliest first. Where memory is
+/// wanted some of them are appended.
+pub(crate) fn take_back_sends(
+    history: &History<8>,
+    count: usize,
+    out: &mut Vec<Signed>,
+) -> Result<(), AllocError>
+    requires { count ≤ length history.now }
+    ensures out { OnOk result
+        (out.new.items ≡ out.old.items ++ map minus (sent_in (last_of count history.now))) }
     ensures begins { (more : List Signed) × (out.new.items ≡ out.old.items ++ more) }
 {
-    for record in undone {
-        append(out, Sign::Minus, record.sent.as_slice())?;
+    let kept = history.len() - count;
+    for undone in 0..count {
+        append(out, Sign::Minus, history.sent(kept + undone))?;
     }
     Ok(())
 }

@@ -10,7 +10,7 @@ use Rattle.queues.specs.Sparse.{SparseRecords}
 use Rattle.std.proofs.lemmas.Bool.{cases_Bool, cond_both}
 use Rattle.std.specs.Prelude.{nat_lt}
 use Rattle.queues.specs.Queue.{but_last, last_of}
-use Rattle.queues.specs.Record.{AreHandlings, HandlingsAreKept, LeadTo, handled_from, left_by, messages, state_before}
+use Rattle.queues.specs.Record.{AreHandlings, HandlingsAreKept, LeadTo, handled_from, left_by, messages, number_before, sends, state_before}
 use Rattle.queues.specs.declared.Record.{Record}
 
 pub handlings_drop : (m : Meaning) (n : ℕ) (hs : List Record) → AreHandlings m hs → AreHandlings m (drop n hs)
@@ -43,11 +43,18 @@ step_before m hs at x h p l e =
 pub record IsKeptAt (k : Record × Bool) (at : ℕ) (hs : List Record) : Type 0 where
   pub words : state_before (drop at hs) [] ≡ k.0.before
   pub message : slice_get (messages hs) at ≡ Some k.0.message
+  pub number : number_before (drop at hs) 0 ≡ k.0.number_before
+  pub sent : slice_get (sends hs) at ≡ Some k.0.sent
 
 in_later : (later : List (Record × Bool)) (n : ℕ) (k : Record × Bool) → k ≡ get_or later n k → n < length (wholes later) → IsKeptAt k n (wholes later)
 in_later [] n k e l = absurd (omega arith)
-in_later (h ∷ hs) zero k e l = record { words = ap (λ (r : Record × Bool). r.0.before) (sym e); message = ap (λ (r : Record × Bool). Some r.0.message) (sym e) }
-in_later (h ∷ hs) (suc n) k e l = let rest = in_later hs n k e (omega arith) in record { words = rest.words; message = rest.message }
+in_later (h ∷ hs) zero k e l = record {
+  words = ap (λ (r : Record × Bool). r.0.before) (sym e);
+  message = ap (λ (r : Record × Bool). Some r.0.message) (sym e);
+  number = ap (λ (r : Record × Bool). r.0.number_before) (sym e);
+  sent = ap (λ (r : Record × Bool). Some r.0.sent) (sym e);
+}
+in_later (h ∷ hs) (suc n) k e l = let rest = in_later hs n k e (omega arith) in record { words = rest.words; message = rest.message; number = rest.number; sent = rest.sent }
 
 pub kept_at : (first : Option Record) (later : List (Record × Bool)) (at : ℕ) (k : Record × Bool) → (first ≡ None → later ≡ []) → (at ≡ 0 → ⊥) → k ≡ get_or later (at - 1) k →
     at < length (option_to_list first ++ wholes later) → IsKeptAt k at (option_to_list first ++ wholes later)
@@ -55,7 +62,16 @@ kept_at None later at k whole ne e l = let none : length (wholes later) ≡ 0 = 
 kept_at (Some f) later zero k whole ne e l = absurd (ne refl)
 kept_at (Some f) later (suc n) k whole ne e l =
     let rest = in_later later n k (e ∙ ap (λ (i : ℕ). get_or later i k) {x = suc n - 1} {y = n} (omega arith)) (omega arith) in
-    record { words = rest.words; message = rest.message }
+    record { words = rest.words; message = rest.message; number = rest.number; sent = rest.sent }
+
+-- before some records it is no matter what came after them
+pub state_of_some : (hs : List Record) (s t : List ℕ) → 0 < length hs → state_before hs s ≡ state_before hs t
+state_of_some [] s t l = absurd (omega arith)
+state_of_some (h ∷ hs) s t l = refl
+
+pub number_of_some : (hs : List Record) (n k : ℕ) → 0 < length hs → number_before hs n ≡ number_before hs k
+number_of_some [] n k l = absurd (omega arith)
+number_of_some (h ∷ hs) n k l = refl
 
 -- the record with the message at a place
 pub record_at : (hs : List Record) (n : ℕ) (x : Message) → slice_get (messages hs) n ≡ Some x → (r : Record) × (r ≡ get_or hs n r) × (r.message ≡ x)

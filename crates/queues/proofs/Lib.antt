@@ -9,4 +9,5 @@ pub mod Places
 pub mod Queues
 pub mod Releases
 pub mod Spaced
+pub mod Splits
 pub mod Undone

@@ -1,11 +1,11 @@
 -- The first and the last messages of an ascending list.
-use Rattle.std.proofs.Common.{◌≡◌, ℕ, ◌+◌, List, [], ◌∷◌, ◌++◌, map, refl, ap, inl, inr, length, suc, ◌≤◌, arith, true, ◌⊎◌, false, ◌∙◌, ◌<◌, subst, sym}
-use Rattle.std.proofs.lemmas.Bool.{cases_Bool, cond_both, ltb-false, ltb-true, both_ways, cases_lt}
+use Rattle.std.proofs.Common.{◌≡◌, ℕ, ◌+◌, List, [], ◌∷◌, ◌++◌, map, refl, ap, inl, inr, length, zero, suc, ◌≤◌, arith, true, ◌⊎◌, false, ◌∙◌, ◌<◌, ◌-◌, get_or, subst, sym}
+use Rattle.std.proofs.lemmas.Bool.{cases_Bool, cond_both, false_from_ne_true, ltb-false, ltb-true, both_ways, cases_lt}
 use Rattle.std.proofs.lemmas.List.{append-nil, length-map}
 use Rattle.std.specs.List.{AllByRecursion as Every}
 use Rattle.std.specs.Prelude.{nat_lt}
-use Rattle.eventkey.proofs.Bags.{at_most_from_before, at_most_itself, is_before_itself, none_from_Every, one_if_same_cases}
-use Rattle.eventkey.proofs.Lists.{Every-weaker, after_head, after_last}
+use Rattle.eventkey.proofs.Bags.{at_most_from_before, before_from_before, at_most_itself, is_before_itself, none_from_Every, one_if_same_cases}
+use Rattle.eventkey.proofs.Lists.{Every-get_or, Every-weaker, after_head, after_last}
 use Rattle.eventkey.specs.Bag.{IsAscending, copies}
 use Rattle.eventkey.specs.Message.{IsAtMost, Message, is_before}
 use Rattle.queues.specs.Queue.{after, but_last, last_of}
@@ -134,3 +134,17 @@ those_from_at m n (x ∷ xs) h some e =
 -- those and the last copy of m hold a copy of m, and all of them are at least m
 pub those_from : (m : Message) (xs : List Message) → IsAscending xs → 1 ≤ copies m xs → (1 ≤ copies m (last_of (after m xs + 1) xs)) × Every (IsAtMost m) (last_of (after m xs + 1) xs)
 those_from m xs h some = those_from_at m (after m xs + 1) xs h some refl
+
+-- nothing is after what the last is not after
+pub none_after : (m last : Message) (xs : List Message) (n : ℕ) → n ≡ length xs → IsAscending xs → 0 < n → last ≡ get_or xs (n - 1) last → is_before m last ≡ false → 0 ≡ after m xs
+none_after m last xs n long up some is later = go xs (n - 1) up (omega arith) is
+  where
+    go : (ys : List Message) (k : ℕ) → IsAscending ys → k + 1 ≡ length ys → last ≡ get_or ys k last → 0 ≡ after m ys
+    go [] k h l e = absurd (omega arith)
+    go (y ∷ []) zero h l e = let none : is_before m y ≡ false = ap (is_before m) (sym e) ∙ later in rw none refl
+    go (y ∷ []) (suc k) h l e = absurd (omega arith)
+    go (y ∷ z ∷ ys) zero h l e = absurd (omega arith)
+    go (y ∷ z ∷ ys) (suc k) h l e =
+        let most : IsAtMost y last = subst (IsAtMost y) (sym e) (Every-get_or (IsAtMost y) (z ∷ ys) k last (omega arith) h.0) in
+        let none : is_before m y ≡ false = false_from_ne_true (is_before m y) (λ b. both_ways (is_before m last) later (before_from_before m y last b most)) in
+        rw none (go (z ∷ ys) k h.1 (omega arith) e)

@@ -37,6 +37,10 @@ sent_in hs = flat_map (λ (h : Record). h.sent) hs
 abbrev pub messages : List Record → List Message
 messages hs = map (λ (h : Record). h.message) hs
 
+-- what each of them sent
+abbrev pub sends : List Record → List (List Message)
+sends hs = map (λ (h : Record). h.sent) hs
+
 -- the state words that a handling by this model leaves
 abbrev pub left_by : Meaning → Record → List ℕ
 left_by m h = m.next_state h.message.to h.before h.message

@@ -6,7 +6,7 @@ ghost use Rattle.eventkey.specs.Bag.{IsAscending, add_all, is_among, remove_all}
 ghost use Rattle.eventkey.specs.Message.{is_before};
 ghost use Rattle.queues.specs.Queue.{after, but_last, last_of};
 
-use crate::bag::Bag;
+use crate::event_list::EventList;
 use eventkey::Message;
 use std::alloc::AllocError;
 use std::collections::VecDeque;
@@ -16,6 +16,13 @@ pub(crate) fn count_after(ascending: &VecDeque<Message>, message: &Message) -> u
     requires { IsAscending ascending.now.items }
     ensures { result ≡ after message.now ascending.now.items }
 {
+    // Most messages come after all of them.
+    let Some(last) = ascending.back() else {
+        return 0;
+    };
+    if !message.is_before(last) {
+        return 0;
+    }
     let kept = ascending.partition_point(
         |other: &Message| -> bool
             ensures { result ≡ not (is_before message.entry.now other.now) }
@@ -37,7 +44,7 @@ pub(crate) fn holds(ascending: &VecDeque<Message>, message: &Message) -> bool
 /// out again.
 pub(crate) fn wait_again(
     done: &VecDeque<Message>,
-    waiting: &mut Bag,
+    waiting: &mut EventList,
     count: usize,
 ) -> Result<(), AllocError>
     requires there { count ≤ deque_len done.now }
@@ -56,7 +63,7 @@ pub(crate) fn wait_again(
 }
 
 /// So many done messages, from this place on, wait no more. It takes no memory.
-fn take_out(done: &VecDeque<Message>, waiting: &mut Bag, first: usize, count: usize)
+fn take_out(done: &VecDeque<Message>, waiting: &mut EventList, first: usize, count: usize)
     requires { first + count ≤ deque_len done.now }
     ensures { waiting.new ≡ remove_all (take count (drop first done.now.items)) waiting.old }
 {

@@ -1,15 +1,16 @@
 // The history of a logical process.
 
-ghost use Rattle.std.specs.Prelude.{◌≡◌, ◌<◌, ◌≤◌, ◌+◌, ◌*◌, ◌/◌, ◌++◌, ◌∷◌, [], length, IfOk, OnOk, OnErr, take, drop, nat_le, nat_lt, vec_len, vec_capacity};
+ghost use Rattle.std.specs.Prelude.{◌≡◌, ◌<◌, ◌≤◌, ◌+◌, ◌*◌, ◌/◌, ◌++◌, ◌∷◌, [], length, IfOk, OnOk, OnErr, Some, take, drop, nat_le, nat_lt, vec_len, vec_capacity};
 ghost use Rattle.std.specs.Option.{option_copied};
 ghost use Rattle.std.specs.List.{filter, slice_get};
 ghost use Rattle.queues.specs.Queue.{but_last, last_of};
-ghost use Rattle.queues.specs.Record.{AreHandlings, IsFirstTaken, handled_before, handled_from, messages};
+ghost use Rattle.queues.specs.Record.{AreHandlings, IsFirstTaken, handled_before, handled_from, messages, number_before, sends, state_before};
 ghost use Rattle.eventkey.specs.Bag.{IsAscending};
 
 use crate::Record;
 use crate::sparse::SparseRecords;
-use model::Model as Simulated;
+use eventkey::Message;
+use model::{Model as Simulated, State};
 use std::alloc::{AllocError, Global};
 
 /// What a logical process handled, in the order of handling: its state queue and its output queue in one (Jefferson
@@ -85,6 +86,14 @@ impl<const K: usize> History<K> {
         self.records.first()
     }
 
+    /// The messages that the record at this place sent.
+    pub fn sent(&self, at: usize) -> &[Message]
+        requires { at < length self.now }
+        ensures { slice_get (sends self.now) at ≡ Some result.now }
+    {
+        self.records.sent(at)
+    }
+
     /// One more record, at the end. It is refused only for want of memory, and then the history is unchanged.
     pub fn push(&mut self, last: Record) -> Result<(), AllocError>
         ensures pushed { OnOk result (self.new ≡ self.old ++ last ∷ []) }
@@ -117,6 +126,37 @@ impl<const K: usize> History<K> {
         let mut last = self.records.split_off(model, kept)?;
         take_first(model, &mut last, count, &mut undone);
         Ok(undone)
+    }
+
+    /// Lets go of the last `count` records, and puts state words and send number back to those before them: a rollback
+    /// (Jefferson 1985). It is refused only for want of memory, and then nothing is changed. It takes at most `K` handlings;
+    /// none, and no memory, where `count` is 0.
+    pub fn roll_back<M: Simulated>(
+        &mut self,
+        model: &M,
+        count: usize,
+        state: &mut State,
+        number: &mut u64,
+    ) -> Result<(), AllocError>
+        requires there { count ≤ length self.old }
+        requires handlings { AreHandlings (M.meaning model.now) self.old }
+        ensures left { OnOk result (self.new ≡ but_last count self.old) }
+        ensures state { OnOk result (state.new ≡ state_before (last_of count self.old) state.old) }
+        ensures number { OnOk result
+            (number.new ≡ number_before (last_of count self.old) number.old) }
+        ensures unchanged { OnErr result
+            ((self.new ≡ self.old) × (state.new ≡ state.old) × (number.new ≡ number.old)) }
+    {
+        if count == 0 {
+            return Ok(());
+        }
+        let kept = self.records.len() - count;
+        // What can fail comes first.
+        let before = self.records.words_before(model, kept)?;
+        *state = State::from_words(before);
+        *number = self.records.number_before(kept);
+        self.records.truncate(kept);
+        Ok(())
     }
 
     /// Takes out the first records, as long as their messages are below the floor, in ticks, and answers them in their

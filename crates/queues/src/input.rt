@@ -6,6 +6,7 @@ ghost use Rattle.eventkey.specs.Signed.{minus, plus};
 ghost use Rattle.queues.specs.Queue.{IsInOrder, arrival, arrived, first_before, first_time, released, taken};
 
 use crate::bag::Bag;
+use crate::event_list::EventList;
 use crate::{Arrival, done};
 use eventkey::{Message, Sign, Signed};
 use std::alloc::{AllocError, Global};
@@ -17,7 +18,7 @@ use std::collections::VecDeque;
 pub struct InputQueue {
     // Let go of at the beginning, put back at the end.
     done: VecDeque<Message>,
-    waiting: Bag,
+    waiting: EventList,
     antis: Bag,
 }
 
@@ -50,7 +51,7 @@ impl InputQueue {
     {
         InputQueue {
             done: VecDeque::new(alloc),
-            waiting: Bag::new(alloc),
+            waiting: EventList::new(alloc),
             antis: Bag::new(alloc),
         }
     }
@@ -60,7 +61,7 @@ impl InputQueue {
     pub fn of_waiting(alloc: Global, messages: Vec<Message>) -> Result<InputQueue, AllocError>
         ensures { IfOk result (λ q. q ≡ record { done = []; waiting = add_all messages.items []; antis = [] }) }
     {
-        let mut waiting = Bag::new(alloc);
+        let mut waiting = EventList::new(alloc);
         for place in 0..messages.len() {
             waiting.add(messages[place])?;
         }

@@ -73,6 +73,20 @@ impl Kept {
         self.message
     }
 
+    /// The messages that it sent.
+    pub fn sent(&self) -> &[Message]
+        ensures { result.now ≡ self.now.0.sent }
+    {
+        self.sent.as_slice()
+    }
+
+    /// The send number before it.
+    pub fn number_before(&self) -> u64
+        ensures { result ≡ self.now.0.number_before }
+    {
+        self.number_before
+    }
+
     /// The state words before it, if it has them.
     pub fn words(&self) -> Option<&State>
         ensures saved { is_some result ≡ self.now.1 }

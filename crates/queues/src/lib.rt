@@ -8,6 +8,7 @@ ghost use Rattle.std.specs.Prelude.{◌≡◌};
 mod bag;
 mod bucket;
 mod done;
+mod event_list;
 mod handled;
 mod input;
 mod kept;

@@ -3,7 +3,7 @@
 ghost use Rattle.std.specs.Prelude.{◌≡◌, ◌<◌, ◌≤◌, ◌-◌, ◌+◌, ◌++◌, ◌∷◌, [], length, IfOk, IfSome, OnOk, OnErr, take, drop, ◌^◌, Some, None};
 ghost use Rattle.std.specs.Option.{option_copied};
 ghost use Rattle.std.specs.List.{slice_get};
-ghost use Rattle.queues.specs.Record.{AreHandlings, messages, state_before};
+ghost use Rattle.queues.specs.Record.{AreHandlings, messages, number_before, sends, state_before};
 ghost use Rattle.queues.specs.Sparse.{count_saved, saved_with};
 ghost use Rattle.queues.specs.Kept.{saved_in};
 
@@ -90,6 +90,45 @@ impl SparseRecords {
         }
     }
 
+    /// The messages that a record sent.
+    pub fn sent(&self, at: usize) -> &[Message]
+        requires { at < length self.now.records }
+        ensures { slice_get (sends self.now.records) at ≡ Some result.now }
+    {
+        if at == 0 {
+            self.first.as_ref().unwrap().sent.as_slice()
+        } else {
+            self.later[at - 1].sent()
+        }
+    }
+
+    /// The send number before a record.
+    pub fn number_before(&self, at: usize) -> u64
+        requires { at < length self.now.records }
+        ensures { result ≡ number_before (drop at self.now.records) 0 }
+    {
+        if at == 0 {
+            self.first.as_ref().unwrap().number_before
+        } else {
+            self.later[at - 1].number_before()
+        }
+    }
+
+    /// Lets go of all but the first `kept` records. It takes no memory.
+    pub fn truncate(&mut self, kept: usize)
+        requires { kept < length self.old.records }
+        ensures { self.new ≡ record {
+          records = take kept self.old.records;
+          saved = take (kept - 1) self.old.saved;
+        } }
+    {
+        if kept == 0 {
+            *self = SparseRecords::new(self.alloc);
+        } else {
+            self.later.truncate(kept - 1);
+        }
+    }
+
     /// One more record, at the end, with its state words where it is to be saved or is the first. It
     /// is refused only for want of memory, and then nothing is changed.
     pub fn push(&mut self, last: Record, save: bool) -> Result<(), AllocError>
@@ -155,7 +194,7 @@ impl SparseRecords {
     }
 
     /// The state words before a record, by going forward from the nearest state that is kept.
-    fn words_before<M: Simulated>(&self, model: &M, at: usize) -> Result<Words, AllocError>
+    pub fn words_before<M: Simulated>(&self, model: &M, at: usize) -> Result<Words, AllocError>
         requires there { at < length self.now.records }
         requires handlings { AreHandlings (M.meaning model.now) self.now.records }
         ensures { IfOk result (λ words. words.items ≡ state_before (drop at self.now.records) []) }

@@ -1,4 +1,4 @@
-use Rattle.std.proofs.Common.{◌≡◌, ◌∙◌, ◌+◌, ◌-◌, ◌∷◌, ◌++◌, [], List, ℕ, true, false, ap, arith, drop, length, rules, sym, take}
+use Rattle.std.proofs.Common.{◌≡◌, ◌∙◌, ◌+◌, ◌-◌, ◌∷◌, ◌++◌, [], List, ℕ, ap, arith, drop, length, rules, sym, take}
 use Rattle.eventkey.specs.Bag.{add, add_all, remove_all}
 use Rattle.eventkey.specs.Message.{Message}
 use Rattle.queues.proofs.Exits.{at_err, at_ok}

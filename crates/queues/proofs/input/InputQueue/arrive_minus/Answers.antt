@@ -1,5 +1,5 @@
 use Rattle.std.proofs.Common.{◌≡◌, ◌∙◌, ap, arith, refl, subst, sym, false, true, length, rules}
-use Rattle.eventkey.specs.Bag.{IsAscending, add, add_all, is_among}
+use Rattle.eventkey.specs.Bag.{IsAscending, add_all, is_among}
 use Rattle.eventkey.specs.Signed.{minus}
 use Rattle.queues.proofs.Exits.{on_err}
 use Rattle.queues.proofs.Moves.{minus_met, minus_stayed, minus_undone, same_queue}

@@ -1,4 +1,4 @@
-use Rattle.std.proofs.Common.{◌≡◌, ◌∙◌, ap, arith, refl, subst, sym, false, true}
+use Rattle.std.proofs.Common.{◌≡◌, ◌∙◌, ap, arith, refl, subst, sym, false}
 use Rattle.eventkey.proofs.Bags.{IsAscending-add}
 use Rattle.eventkey.specs.Bag.{IsAscending, add_all, is_among, remove_one}
 use Rattle.eventkey.specs.Signed.{plus}

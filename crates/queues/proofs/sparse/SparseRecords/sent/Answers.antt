@@ -1,0 +1,13 @@
+use Rattle.std.proofs.Common.{◌∙◌, List, Some, ap, arith, length, sym}
+use Rattle.std.specs.List.{slice_get}
+use Rattle.eventkey.specs.Message.{Message}
+use Rattle.queues.proofs.Forward.{kept_at}
+use Rattle.queues.proofs.sparse.SparseRecords.sent.Goals as goal
+use Rattle.queues.specs.Record.{sends}
+use Rattle.queues.specs.Sparse.{SparseRecords}
+
+pub returns-else-at-eq0 : goal.returns-else-at-eq0
+returns-else-at-eq0 c =
+    let long = ap (λ (s : SparseRecords). length s.records) c.self.view_is in
+    let kept = kept_at c.self.inside.first c.self.inside.later.items c.args.at c.index.result.now c.self.invariant c.if-at-eq0.false c.index.ensures (omega (arith, long, c.requires)) in
+    ap (λ (s : SparseRecords). slice_get (sends s.records) c.args.at) (sym c.self.view_is) ∙ (kept.sent ∙ ap (λ (ms : List Message). Some ms) (sym c.sent.ensures))

@@ -1,0 +1,173 @@
+// What waits at a process.
+
+ghost use Rattle.std.specs.Prelude.{◌≡◌, ◌<◌, ◌^◌, [], length, vec_len, vec_capacity, slice_get, IfSome, OnOk, OnErr};
+ghost use Rattle.eventkey.specs.Bag.{IsAscending, add, is_among, remove_one};
+ghost use Rattle.queues.specs.Queue.{first_time};
+ghost use Rattle.queues.specs.Split.{IsSplit, both};
+
+use crate::bag::Bag;
+use crate::bucket::{find, put};
+use eventkey::Message;
+use std::alloc::{AllocError, Global};
+
+/// How many messages are at hand at the most, so that one more moves few of them.
+const AT_HAND: usize = 32;
+
+/// The messages that wait, seen as the ascending list of them. The least ones are at hand in one piece of memory, since
+/// they are handled next; where more than `AT_HAND` wait, the others are in a bag, and what one more costs is the
+/// logarithm of their times.
+#[derive(Drop)]
+pub(crate) struct EventList {
+    // Greatest first, so that the least is taken at the end.
+    near: Vec<Message>,
+    far: Bag,
+    len: usize,
+}
+
+impl std::marker::Model for EventList {
+    ghost use Rattle.std.specs.Prelude.{List};
+    ghost use Rattle.eventkey.specs.Message.{Message};
+    ghost use Rattle.queues.specs.EventList.{IsInTwo, all_waiting};
+
+    ghost Value = { List Message };
+
+    ghost view = { all_waiting };
+
+    ghost invariant = { IsInTwo };
+}
+
+impl EventList {
+    /// Nothing waits.
+    pub fn new(alloc: Global) -> EventList
+        ensures { result ≡ [] }
+    {
+        EventList {
+            near: Vec::new(alloc),
+            far: Bag::new(alloc),
+            len: 0,
+        }
+    }
+
+    /// How many messages wait.
+    pub fn len(&self) -> usize
+        ensures { result ≡ length self.now }
+    {
+        self.len
+    }
+
+    /// The least message, if one waits.
+    pub fn first(&self) -> Option<Message>
+        ensures least { result ≡ slice_get self.now 0 }
+        ensures ascending { IsAscending self.now }
+    {
+        match self.near.last() {
+            Some(least) => Some(*least),
+            None => None,
+        }
+    }
+
+    /// The least time, in ticks, if a message waits.
+    pub fn least_time(&self) -> Option<u64>
+        ensures least { result ≡ first_time self.now }
+        ensures range { IfSome result (λ time. time < 2 ^ 41) }
+    {
+        match self.first() {
+            Some(least) => {
+                least.ranged();
+                Some(least.time())
+            }
+            None => None,
+        }
+    }
+
+    /// One more message waits. It is refused only for want of memory, and then nothing is changed.
+    pub fn add(&mut self, message: Message) -> Result<(), AllocError>
+        ensures added { OnOk result (self.new ≡ add message self.old) }
+        ensures unchanged { OnErr result (self.new ≡ self.old) }
+    {
+        let Some(len) = self.len.checked_add(1) else {
+            return Err(AllocError);
+        };
+        put_in(&mut self.near, &mut self.far, message)?;
+        self.len = len;
+        Ok(())
+    }
+
+    /// One copy of a message waits no more; whether it was there. It takes no memory.
+    pub fn remove(&mut self, message: &Message) -> bool
+        ensures answer { result ≡ is_among message.now self.old }
+        ensures removed { self.new ≡ remove_one message.now self.old }
+    {
+        let was_there = take_out(&mut self.near, &mut self.far, message);
+        if was_there {
+            self.len -= 1;
+        }
+        was_there
+    }
+}
+
+/// One more message. It is refused only for want of memory, and then none is there.
+fn put_in(near: &mut Vec<Message>, far: &mut Bag, message: Message) -> Result<(), AllocError>
+    requires { IsSplit near.old.items far.old }
+    ensures split { IsSplit near.new.items far.new }
+    ensures added { OnOk result
+        (both near.new.items far.new ≡ add message (both near.old.items far.old)) }
+    ensures unchanged { OnErr result (both near.new.items far.new ≡ both near.old.items far.old) }
+{
+    make_room(near, far)?;
+    if far.len() > 0 && near[0].is_before(&message) {
+        far.add(message)?;
+        return Ok(());
+    }
+    near.reserve(1)?;
+    put(near, message);
+    Ok(())
+}
+
+/// Where enough messages are at hand, the greatest of them goes to the others. It is refused only for want of memory, and
+/// then it stays.
+fn make_room(near: &mut Vec<Message>, far: &mut Bag) -> Result<(), AllocError>
+    requires { IsSplit near.old.items far.old }
+    ensures split { IsSplit near.new.items far.new }
+    ensures same { both near.new.items far.new ≡ both near.old.items far.old }
+{
+    if near.len() < AT_HAND {
+        return Ok(());
+    }
+    far.add(near[0])?;
+    near.remove(0);
+    Ok(())
+}
+
+/// Takes one copy of a message out; whether it was there. It takes no memory.
+fn take_out(near: &mut Vec<Message>, far: &mut Bag, message: &Message) -> bool
+    requires { IsSplit near.old.items far.old }
+    ensures split { IsSplit near.new.items far.new }
+    ensures answer { result ≡ is_among message.now (both near.old.items far.old) }
+    ensures taken { both near.new.items far.new ≡ remove_one message.now (both near.old.items far.old) }
+{
+    match find(near.as_slice(), message) {
+        Some(place) => {
+            near.remove(place);
+            refill(near, far);
+            true
+        }
+        None => far.remove(message),
+    }
+}
+
+/// Where nothing is at hand, the least of the others comes there. It takes no memory.
+fn refill(near: &mut Vec<Message>, far: &mut Bag)
+    requires ascending { IsAscending (both near.old.items far.old) }
+    requires room { 0 < vec_capacity near.old }
+    ensures split { IsSplit near.new.items far.new }
+    ensures same { both near.new.items far.new ≡ both near.old.items far.old }
+{
+    if near.len() > 0 {
+        return;
+    }
+    if let Some(least) = far.first() {
+        far.remove(&least);
+        near.push(least).unwrap();
+    }
+}
