@@ -1,5 +1,6 @@
-//! Runs the model of a model file plainly to its end, and prints how many events that made, where the last one went, and a
-//! digest of the world. What times it stands outside: this program's output is the same at each run.
+//! Runs the model of a model file plainly to its end, and prints how many events that made, where
+//! the last one went, and a digest of the world. What times it stands outside: this program's
+//! output is the same at each run.
 #![tactic(auto)]
 
 ghost use Rattle.std.specs.Prelude.{◌≤◌, ◌^◌};

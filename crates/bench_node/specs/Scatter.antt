@@ -1,7 +1,6 @@
--- A workload in the manner of PHOLD (Fujimoto 1990): each message that is handled sends one on, to a process and with a delay that
--- a step of a linear congruential generator draws from its content.
-use Rattle.std.specs.Prelude.{◌≡◌, ℕ, ◌+◌, ◌*◌, ◌/◌, ◌%◌, ◌^◌, ◌<◌, ◌≤◌, List, [], ◌∷◌, length, map}
-use Rattle.std.specs.List.{AllByRecursion as Every}
+-- A workload in the manner of PHOLD (Fujimoto 1990): each message that is handled sends one on, to
+-- a process and with a delay that a step of a linear congruential generator draws from its content.
+use Rattle.std.specs.Prelude.{ℕ, ◌+◌, ◌*◌, ◌/◌, ◌%◌, ◌^◌, ◌<◌, ◌≤◌, List, [], ◌∷◌, map}
 use Rattle.std.proofs.Common.{arith, lit<, lit≤}
 use Rattle.std.proofs.Math.Nat.{mod-lt}
 use Rattle.model.specs.Meaning.{Meaning, IsLawful, IsSend}
@@ -14,7 +13,12 @@ next a = (a * 6364136223846793005 + 1442695040888963407) % 2 ^ 64
 
 -- what is sent on of this number
 abbrev pub sent : ℕ → ℕ → ℕ → ℕ → Outgoing
-sent lps spread a b = record { to = next a / 2 ^ 33 % lps; delay = 1 + next a / 2 ^ 20 % spread; a = next a; b = b }
+sent lps spread a b = record {
+  to = next a / 2 ^ 33 % lps;
+  delay = 1 + next a / 2 ^ 20 % spread;
+  a = next a;
+  b = b;
+}
 
 -- a process starts with eight messages to whichever process and time its number draws
 abbrev pub first : ℕ → ℕ → ℕ → ℕ → Outgoing
@@ -33,7 +37,8 @@ scatter lps spread = record {
   sends = λ lp state x. sent lps spread x.a x.b ∷ [];
 }
 
-pub scatter_lawful : (lps spread : ℕ) → 1 ≤ lps → lps ≤ 1024 → 1 ≤ spread → spread < 2 ^ 32 → IsLawful (scatter lps spread)
+pub scatter_lawful : (lps spread : ℕ) → 1 ≤ lps → lps ≤ 1024 → 1 ≤ spread → spread < 2 ^ 32 →
+    IsLawful (scatter lps spread)
 scatter_lawful lps spread some few far fits = record {
   some = some;
   few_lps = few;
@@ -50,4 +55,10 @@ scatter_lawful lps spread some few far fits = record {
     one : (a b : ℕ) → b < 2 ^ 64 → IsSend lps (sent lps spread a b)
     one a b h =
         let d = mod-lt (next a / 2 ^ 20) far in
-        record { delay = omega arith; delay_fits = omega (arith, d); to = mod-lt (next a / 2 ^ 33) some; a = mod-lt (a * 6364136223846793005 + 1442695040888963407) (lit< tt); b = h }
+        record {
+          delay = omega arith;
+          delay_fits = omega (arith, d);
+          to = mod-lt (next a / 2 ^ 33) some;
+          a = mod-lt (a * 6364136223846793005 + 1442695040888963407) (lit< tt);
+          b = h;
+        }

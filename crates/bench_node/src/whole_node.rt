@@ -23,8 +23,8 @@ pub struct Outcome {
     pub ran: u64,
 }
 
-/// Runs the workload up to the end, in ticks, on one node: each parcel delivers what the one before it sent, and its floor
-/// is the least time of all that was under way then.
+/// Runs the workload up to the end, in ticks, on one node: each parcel delivers what the one before
+/// it sent, and its floor is the least time of all that was under way then.
 pub fn run(alloc: Global, model: &Scatter, end: u64) -> Result<Outcome, NodeFault>
     requires { end ≤ 2 ^ 40 }
 {

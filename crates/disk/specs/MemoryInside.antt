@@ -24,4 +24,5 @@ pub record IsKept (m : Inside) : Type 0 where
   pub synced : AreSectors (length m.image.sectors.items) m.synced.items
   pub attempted : AreSectors (length m.image.sectors.items) m.attempted.items
   -- a firm sector was last synced as a read gives it
-  pub firm : (n : ℕ) → slice_index_or m.image.loose.items n false ≡ false → slice_index_or m.synced.items n [] ≡ slice_index_or m.image.sectors.items n []
+  pub firm : (n : ℕ) → slice_index_or m.image.loose.items n false ≡ false →
+      slice_index_or m.synced.items n [] ≡ slice_index_or m.image.sectors.items n []

@@ -1,8 +1,10 @@
 -- Which operations of a disk in memory fail by its plan. (This project's profile.)
-use Rattle.std.specs.Prelude.{◌+◌, ◌||◌, ℕ, Bool, false, Option, Some, None, min, eqb, if◌then◌else◌}
+use Rattle.std.specs.Prelude.{◌+◌, ◌||◌, ℕ, Bool, false, Option, Some, None, min, eqb}
+use Rattle.std.specs.Prelude.{if◌then◌else◌}
 use Rattle.disk.specs.declared.plan.Plan.{Plan}
 
--- a plan, how many operations and writes there were, whether the write at which all stops was among them, and how many operations failed
+-- a plan, how many operations and writes there were, whether the write at which all stops was among
+-- them, and how many operations failed
 pub record Counts : Type 0 where
   pub plan : Plan
   pub operations : ℕ
@@ -29,7 +31,8 @@ fails now = now.stopped || is_at now.plan.fail now.operations
 
 -- whether it fails, if it is a write: the write at which all stops too
 abbrev pub write_fails : Counts → Bool
-write_fails now = (now.stopped || is_at now.plan.stop now.writes) || is_at now.plan.fail now.operations
+write_fails now = (now.stopped || is_at now.plan.stop now.writes)
+    || is_at now.plan.fail now.operations
 
 -- after an operation that is no write
 abbrev pub counted : Counts → Counts

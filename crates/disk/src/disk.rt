@@ -1,6 +1,8 @@
 // The interface of a disk of sectors: what code above it may rely on.
-ghost use Rattle.std.specs.Prelude.{◌≡◌, ◌<◌, ◌≤◌, ◌↔◌, ◌⊎◌, List, ℕ, Bool, true, [], length, slice_set, slice_index_or, OnOk, OnErr, IsErrOf};
-ghost use Rattle.disk.specs.Disk.{DiskState, IsDisk, IsSector, IsFirm, MayLeave, Elapses, HasCause, moment, left_since};
+ghost use Rattle.std.specs.Prelude.{◌≡◌, ◌<◌, ◌≤◌, ◌↔◌, ◌⊎◌, List, ℕ, Bool, true, [], length};
+ghost use Rattle.std.specs.Prelude.{slice_set, slice_index_or, OnOk, OnErr, IsErrOf};
+ghost use Rattle.disk.specs.Disk.{DiskState, IsDisk, IsSector, IsFirm, MayLeave, Elapses, HasCause};
+ghost use Rattle.disk.specs.Disk.{moment, left_since};
 ghost use Rattle.disk.specs.Laws.{counts_now as now_counts, only_now as now_only};
 
 use thiserror::Error;
@@ -21,8 +23,8 @@ pub enum DiskFault {
 /// A sector that was written since the last successful sync is loose: a crash may leave any 512 bytes in it.
 /// In each other sector a crash leaves what a read gives. (This project's profile of a disk.)
 pub trait SectorDisk {
-    /// What a read of each sector gives, which sectors are loose, how this was at each moment before now, and how often the
-    /// device has failed.
+    /// What a read of each sector gives, which sectors are loose, how this was at each moment
+    /// before now, and how often the device has failed.
     ghost state: { Self → DiskState };
 
     /// The number of sectors.
@@ -38,22 +40,27 @@ pub trait SectorDisk {
         ensures same_loose { (state self.new).loose ≡ (state self.old).loose }
         ensures time { Elapses (state self.old) (state self.new) }
 
-        ensures beyond { IsErrOf result DiskFault.NoSuchSector ↔ (length (state self.old).reads ≤ n) }
+        ensures beyond { IsErrOf result DiskFault.NoSuchSector
+            ↔ (length (state self.old).reads ≤ n) }
         ensures unchanged { IsErrOf result DiskFault.NoSuchSector → self.new ≡ self.old }
         ensures untouched { IsErrOf result DiskFault.NoSuchSector → sector.new ≡ sector.old }
         ensures cause { HasCause (state self.old).failures (state self.new).failures result };
 
-    /// Writes sector `n`, which is loose from then on until a successful sync. A write that fails makes it loose too, and
-    /// a read then gives some 512 bytes, the same until its next write. `NoSuchSector` comes before `Device`.
+    /// Writes sector `n`, which is loose from then on until a successful sync. A write that fails
+    /// makes it loose too, and a read then gives some 512 bytes, the same until its next write.
+    /// `NoSuchSector` comes before `Device`.
     fn write(&mut self, n: u32, sector: &[u8; 512]) -> Result<(), DiskFault>
-        ensures written { OnOk result ((state self.new).reads ≡ slice_set (state self.old).reads n sector.now) }
+        ensures written { OnOk result
+            ((state self.new).reads ≡ slice_set (state self.old).reads n sector.now) }
 
         // at every exit (to set past the end of a list changes nothing)
-        ensures elsewhere { (state self.new).reads ≡ slice_set (state self.old).reads n (slice_index_or (state self.new).reads n []) }
+        ensures elsewhere { (state self.new).reads ≡ slice_set (state self.old).reads n
+            (slice_index_or (state self.new).reads n []) }
         ensures loosened { (state self.new).loose ≡ slice_set (state self.old).loose n true }
         ensures time { Elapses (state self.old) (state self.new) }
 
-        ensures beyond { IsErrOf result DiskFault.NoSuchSector ↔ (length (state self.old).reads ≤ n) }
+        ensures beyond { IsErrOf result DiskFault.NoSuchSector
+            ↔ (length (state self.old).reads ≤ n) }
         ensures unchanged { IsErrOf result DiskFault.NoSuchSector → self.new ≡ self.old }
         ensures cause { HasCause (state self.old).failures (state self.new).failures result };
 
@@ -64,7 +71,9 @@ pub trait SectorDisk {
 
         // at every exit; a crash then leaves nothing that it might not have left before
         ensures same_reads { (state self.new).reads ≡ (state self.old).reads }
-        ensures crash { (image : List (List ℕ)) → MayLeave (state self.new).reads (state self.new).loose image → MayLeave (state self.old).reads (state self.old).loose image }
+        ensures crash { (image : List (List ℕ)) →
+            MayLeave (state self.new).reads (state self.new).loose image →
+            MayLeave (state self.old).reads (state self.old).loose image }
         ensures time { Elapses (state self.old) (state self.new) }
 
         ensures there { IsErrOf result DiskFault.NoSuchSector → ⊥ }
@@ -74,26 +83,36 @@ pub trait SectorDisk {
     ghost sound: { (disk : Self) → IsDisk (state disk).reads (state disk).loose };
 
     /// This moment is one of those since an earlier one.
-    ghost counts_now: { (disk : Self) (t : ℕ) (image : List (List ℕ)) → t ≤ moment (state disk) → MayLeave (state disk).reads (state disk).loose image → left_since (state disk) t image } = { λ disk t image le left. now_counts (state disk) t image le left };
+    ghost counts_now: { (disk : Self) (t : ℕ) (image : List (List ℕ)) → t ≤ moment (state disk) →
+        MayLeave (state disk).reads (state disk).loose image →
+        left_since (state disk) t image } = { λ disk t image le left.
+            now_counts (state disk) t image le left };
 
     /// Since this moment there is no other.
-    ghost only_now: { (disk : Self) (image : List (List ℕ)) → left_since (state disk) (moment (state disk)) image → MayLeave (state disk).reads (state disk).loose image } = { λ disk image left. now_only (state disk) image left };
+    ghost only_now: { (disk : Self) (image : List (List ℕ)) →
+        left_since (state disk) (moment (state disk)) image →
+        MayLeave (state disk).reads (state disk).loose image } = { λ disk image left.
+            now_only (state disk) image left };
 }
 
-/// Writes sector `n`, and waits until it has reached the device. A crash since before the write may have left any 512 bytes
-/// in it, at every exit: also after a sync that ended well, where a crash now leaves just what was written. `NoSuchSector`
-/// comes before `Device`.
+/// Writes sector `n`, and waits until it has reached the device. A crash since before the write may
+/// have left any 512 bytes in it, at every exit: also after a sync that ended well, where a crash
+/// now leaves just what was written. `NoSuchSector` comes before `Device`.
 pub fn write_through<D: SectorDisk>(
     disk: &mut D,
     n: u32,
     sector: &[u8; 512],
 ) -> Result<(), DiskFault>
-    ensures written { OnOk result ((D.state disk.new).reads ≡ slice_set (D.state disk.old).reads n sector.now) }
+    ensures written { OnOk result
+        ((D.state disk.new).reads ≡ slice_set (D.state disk.old).reads n sector.now) }
     ensures firm { OnOk result (IsFirm (D.state disk.new).loose) }
-    ensures torn { (bytes : List ℕ) → n < length (D.state disk.old).reads → IsSector bytes → left_since (D.state disk.new) (moment (D.state disk.old)) (slice_set (D.state disk.old).reads n bytes) }
+    ensures torn { (bytes : List ℕ) → n < length (D.state disk.old).reads → IsSector bytes →
+        left_since (D.state disk.new) (moment (D.state disk.old))
+        (slice_set (D.state disk.old).reads n bytes) }
 
     // at every exit
-    ensures elsewhere { (D.state disk.new).reads ≡ slice_set (D.state disk.old).reads n (slice_index_or (D.state disk.new).reads n []) }
+    ensures elsewhere { (D.state disk.new).reads ≡ slice_set (D.state disk.old).reads n
+        (slice_index_or (D.state disk.new).reads n []) }
     ensures beyond { IsErrOf result DiskFault.NoSuchSector ↔ (length (D.state disk.old).reads ≤ n) }
     ensures cause { HasCause (D.state disk.old).failures (D.state disk.new).failures result }
 {

@@ -26,7 +26,8 @@ impl History {
 
     /// One moment more, at which the disk stands as its image does.
     pub fn and(&self, _image: &Image) -> History
-        ensures { result.past ≡ standing_of _image.now.sectors.items _image.now.loose.items ∷ self.now.past }
+        ensures { result.past
+            ≡ standing_of _image.now.sectors.items _image.now.loose.items ∷ self.now.past }
     {
         History {}
     }

@@ -1,5 +1,6 @@
 // The sectors of a disk that is kept in memory, and which of them are loose.
-ghost use Rattle.std.specs.Prelude.{◌≡◌, ◌/◌, ◌<◌, ◌^◌, ℕ, List, [], true, false, length, replicate, slice_set, slice_index_or, IfOk};
+ghost use Rattle.std.specs.Prelude.{◌≡◌, ◌/◌, ◌<◌, ◌^◌, ℕ, List, [], true, false, length};
+ghost use Rattle.std.specs.Prelude.{replicate, slice_set, slice_index_or, IfOk};
 ghost use Rattle.disk.specs.Disk.{image_of, IsFirm, IsSector, IsSpan};
 
 use std::alloc::{AllocError, Global};
@@ -13,7 +14,8 @@ pub struct Image {
     pub end: usize,
     ghost each: { length loose.items ≡ length sectors.items },
     ghost numbered: { length sectors.items < 2 ^ 32 },
-    ghost whole: { (n : ℕ) → n < length sectors.items → IsSector (slice_index_or sectors.items n []) },
+    ghost whole: { (n : ℕ) → n < length sectors.items →
+        IsSector (slice_index_or sectors.items n []) },
     ghost span: { IsSpan first end loose.items },
 }
 
@@ -45,7 +47,8 @@ fn clear(loose: &mut [bool], first: usize, end: usize)
 impl Image {
     /// An image of zeros, none of whose sectors is loose.
     pub fn blank(alloc: Global, count: u32) -> Result<Image, AllocError>
-        ensures sectors { IfOk result (λ image. image.sectors.items ≡ replicate count (replicate 512 0)) }
+        ensures sectors { IfOk result
+            (λ image. image.sectors.items ≡ replicate count (replicate 512 0)) }
         ensures firm { IfOk result (λ image. IsFirm image.loose.items) }
     {
         Image::firm(alloc, zeros(alloc, count)?)
@@ -62,7 +65,8 @@ impl Image {
 
     fn of_sectors(alloc: Global, sectors: &[[u8; 512]]) -> Result<Image, AllocError>
         requires numbered { length sectors.now < 2 ^ 32 }
-        requires whole { (n : ℕ) → n < length sectors.now → IsSector (slice_index_or sectors.now n []) }
+        requires whole { (n : ℕ) → n < length sectors.now →
+            IsSector (slice_index_or sectors.now n []) }
         ensures sectors { IfOk result (λ image. image.sectors.items ≡ sectors.now) }
         ensures firm { IfOk result (λ image. IsFirm image.loose.items) }
     {
@@ -71,7 +75,8 @@ impl Image {
 
     fn firm(alloc: Global, sectors: Vec<[u8; 512]>) -> Result<Image, AllocError>
         requires numbered { length sectors.items < 2 ^ 32 }
-        requires whole { (n : ℕ) → n < length sectors.items → IsSector (slice_index_or sectors.items n []) }
+        requires whole { (n : ℕ) → n < length sectors.items →
+            IsSector (slice_index_or sectors.items n []) }
         ensures sectors { IfOk result (λ image. image.sectors.items ≡ sectors.items) }
         ensures firm { IfOk result (λ image. IsFirm image.loose.items) }
     {

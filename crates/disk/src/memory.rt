@@ -1,5 +1,7 @@
 // A disk in memory, whose failures and stop are planned, and which can be crashed.
-ghost use Rattle.std.specs.Prelude.{None, ◌≡◌, ◌*◌, ◌/◌, ◌<◌, ◌≤◌, ◌↔◌, ◌^◌, ℕ, Bool, List, [], true, false, length, replicate, slice_set, slice_index_or, OnOk, OnErr, IfOk, IsErrOf};
+ghost use Rattle.std.specs.Prelude.{None, ◌≡◌, ◌*◌, ◌/◌, ◌<◌, ◌≤◌, ◌↔◌, ◌^◌, ℕ, Bool, List, []};
+ghost use Rattle.std.specs.Prelude.{true, false, length, replicate, slice_set, slice_index_or};
+ghost use Rattle.std.specs.Prelude.{OnOk, OnErr, IfOk, IsErrOf};
 ghost use Rattle.disk.specs.Disk.{image_of, IsFirm, IsSector, MayLeave, Elapses, HasCause};
 
 use crate::history::History;
@@ -79,7 +81,8 @@ impl SectorDisk for MemDisk {
         ensures cause { HasCause self.old.counts.failures self.new.counts.failures result }
 
         // by the plan
-        ensures planned { n < length self.old.reads → (IsErrOf result DiskFault.Device ↔ (fails self.old.counts ≡ true)) }
+        ensures planned { n < length self.old.reads →
+            (IsErrOf result DiskFault.Device ↔ (fails self.old.counts ≡ true)) }
         ensures counts { n < length self.old.reads → self.new.counts ≡ counted self.old.counts }
 
         // for a crash
@@ -99,7 +102,8 @@ impl SectorDisk for MemDisk {
     #[tactic(auto, unfolding(crate::specs::Disk::left_since, crate::specs::Disk::moment))]
     fn write(&mut self, n: u32, sector: &[u8; 512]) -> Result<(), DiskFault>
         ensures written { OnOk result (self.new.reads ≡ slice_set self.old.reads n sector.now) }
-        ensures elsewhere { self.new.reads ≡ slice_set self.old.reads n (slice_index_or self.new.reads n []) }
+        ensures elsewhere { self.new.reads ≡ slice_set self.old.reads n
+            (slice_index_or self.new.reads n []) }
         ensures loosened { self.new.loose ≡ slice_set self.old.loose n true }
         ensures time { Elapses (disk_of_memory self.old) (disk_of_memory self.new) }
         ensures beyond { IsErrOf result DiskFault.NoSuchSector ↔ (length self.old.reads ≤ n) }
@@ -107,8 +111,10 @@ impl SectorDisk for MemDisk {
         ensures cause { HasCause self.old.counts.failures self.new.counts.failures result }
 
         // by the plan
-        ensures planned { n < length self.old.reads → (IsErrOf result DiskFault.Device ↔ (write_fails self.old.counts ≡ true)) }
-        ensures counts { n < length self.old.reads → self.new.counts ≡ write_counted self.old.counts }
+        ensures planned { n < length self.old.reads →
+            (IsErrOf result DiskFault.Device ↔ (write_fails self.old.counts ≡ true)) }
+        ensures counts { n < length self.old.reads →
+            self.new.counts ≡ write_counted self.old.counts }
         ensures failed { OnErr result (self.new.reads ≡ self.old.reads) }
 
         // for a crash; at every exit
@@ -134,7 +140,8 @@ impl SectorDisk for MemDisk {
         ensures firm { OnOk result (IsFirm self.new.loose) }
         ensures err { OnErr result (self.new.loose ≡ self.old.loose) }
         ensures same_reads { self.new.reads ≡ self.old.reads }
-        ensures crash { (image : List (List ℕ)) → MayLeave self.new.reads self.new.loose image → MayLeave self.old.reads self.old.loose image }
+        ensures crash { (image : List (List ℕ)) → MayLeave self.new.reads self.new.loose image →
+            MayLeave self.old.reads self.old.loose image }
         ensures time { Elapses (disk_of_memory self.old) (disk_of_memory self.new) }
         ensures there { IsErrOf result DiskFault.NoSuchSector → ⊥ }
         ensures cause { HasCause self.old.counts.failures self.new.counts.failures result }
@@ -169,7 +176,8 @@ impl MemDisk {
         ensures synced { IfOk result (λ disk. disk.synced ≡ disk.reads) }
         ensures attempted { IfOk result (λ disk. disk.attempted ≡ disk.reads) }
         ensures firm { IfOk result (λ disk. IsFirm disk.loose) }
-        ensures counts { IfOk result (λ disk. disk.counts ≡ started (record { fail = None; stop = None })) }
+        ensures counts { IfOk result
+            (λ disk. disk.counts ≡ started (record { fail = None; stop = None })) }
     {
         MemDisk::on(alloc, Image::blank(alloc, sectors)?, Plan::default())
     }
@@ -211,7 +219,8 @@ impl MemDisk {
     pub fn crash(&self, alloc: Global, torn: Torn) -> Result<Vec<u8>, AllocError>
         ensures size { IfOk result (λ bytes. length bytes.items ≡ length self.now.reads * 512) }
         ensures image { IfOk result (λ bytes. IsCrashed torn self.now (image_of bytes.items)) }
-        ensures left { IfOk result (λ bytes. MayLeave self.now.reads self.now.loose (image_of bytes.items)) }
+        ensures left { IfOk result
+            (λ bytes. MayLeave self.now.reads self.now.loose (image_of bytes.items)) }
     {
         let mut bytes = Vec::with_capacity(alloc, self.image.sectors.len() * 512)?;
         for n in 0..self.image.sectors.len() {
@@ -240,7 +249,8 @@ impl MemDisk {
 /// The loose sectors of the image.
 fn copy_loose(synced: &mut [[u8; 512]], image: &Image)
     requires each { length synced.old ≡ length image.now.sectors.items }
-    requires firm { (n : ℕ) → slice_index_or image.now.loose.items n false ≡ false → slice_index_or synced.old n [] ≡ slice_index_or image.now.sectors.items n [] }
+    requires firm { (n : ℕ) → slice_index_or image.now.loose.items n false ≡ false →
+        slice_index_or synced.old n [] ≡ slice_index_or image.now.sectors.items n [] }
     ensures { synced.new ≡ image.now.sectors.items }
 {
     for n in image.first..image.end {

@@ -29,7 +29,13 @@ impl Model for Schedule {
 
     ghost Value = { Counts };
 
-    ghost view = { λ s. record { plan = s.plan; operations = s.operations; writes = s.writes; stopped = s.stopped; failures = s.failures.count } };
+    ghost view = { λ s. record {
+      plan = s.plan;
+      operations = s.operations;
+      writes = s.writes;
+      stopped = s.stopped;
+      failures = s.failures.count;
+    } };
 }
 
 impl Schedule {

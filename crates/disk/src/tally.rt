@@ -4,7 +4,8 @@ ghost use Rattle.std.specs.Borrow.{ftrue};
 
 use std::marker::Model;
 
-/// How often a device has failed. No machine number could count that without an end, so the count is in the proofs alone.
+/// How often a device has failed. No machine number could count that without an end, so the count
+/// is in the proofs alone.
 #[derive(Drop)]
 pub struct Tally {
     pub ghost count: { ℕ },

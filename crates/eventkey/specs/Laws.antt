@@ -1,11 +1,13 @@
 -- The laws of messages, of bags and of bytes, as statements about definitions alone.
 use Rattle.std.specs.Cmp.{IsTotalOrder}
-use Rattle.std.specs.Prelude.{◌≡◌, ◌↔◌, ◌+◌, ◌^◌, ◌<◌, ◌≤◌, List, ℕ, ◌++◌, length, drop, nat_lt, if◌then◌else◌, Some, None}
+use Rattle.std.specs.Prelude.{◌≡◌, ◌↔◌, ◌+◌, ◌^◌, ◌<◌, ◌≤◌, List, ℕ, ◌++◌, length, drop, nat_lt}
+use Rattle.std.specs.Prelude.{if◌then◌else◌, Some, None}
 use Rattle.std.specs.declared.cmp.Ordering.TheVariants.{Less, Equal}
 use Rattle.eventkey.specs.Bag.{IsAscending, add, copies, one_if_same, remove_one}
 use Rattle.eventkey.specs.Message.{Message, IsRanged, message_cmp}
 use Rattle.eventkey.specs.Reading.{IsBytes, with_rest}
-use Rattle.eventkey.specs.Spelling.{message_bytes, message_at, message_in, signed_bytes, signed_at, signed_read}
+use Rattle.eventkey.specs.Spelling.{message_bytes, message_at, message_in, signed_bytes, signed_at}
+use Rattle.eventkey.specs.Spelling.{signed_read}
 use Rattle.eventkey.specs.declared.Signed.{Signed}
 
 -- the order of messages is total, messages that are equal in it are the same, and earlier times

@@ -1,6 +1,7 @@
 -- Reading bytes from left to right (numbers have their highest byte first). A reader answers a
 -- value and the bytes behind it, or nothing.
-use Rattle.std.specs.Prelude.{ℕ, zero, suc, List, [], ◌∷◌, length, drop, get_or, ◌<◌, Option, Some, None, Result, Ok, Err, if◌then◌else◌, nat_lt, ◌≡◌}
+use Rattle.std.specs.Prelude.{ℕ, zero, suc, List, [], ◌∷◌, length, drop, get_or, ◌<◌, Option, Some}
+use Rattle.std.specs.Prelude.{None, Result, Ok, Err, if◌then◌else◌, nat_lt, ◌≡◌}
 use Rattle.byteorder.specs.Endian.{big_number}
 
 abbrev pub IsBytes : List ℕ → Type 0

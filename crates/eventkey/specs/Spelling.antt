@@ -1,6 +1,7 @@
 -- The bytes of messages (this project's profile): how they are spelled, and how they are read. Each
 -- message has one spelling.
-use Rattle.std.specs.Prelude.{ℕ, ◌^◌, nat_lt, nat_eq, if◌then◌else◌, List, ◌∷◌, ◌++◌, length, drop, slice_index, Option, Some, None, Result, Ok, Err}
+use Rattle.std.specs.Prelude.{ℕ, ◌^◌, nat_lt, nat_eq, if◌then◌else◌, List, ◌∷◌, ◌++◌, length, drop}
+use Rattle.std.specs.Prelude.{slice_index, Option, Some, None, Result, Ok, Err}
 use Rattle.byteorder.specs.Endian.{big_number, big_bytes}
 use Rattle.eventkey.specs.Message.{Message}
 use Rattle.eventkey.specs.Reading.{◌>>=◌, Reader, number_at}

@@ -1,8 +1,10 @@
 // Messages as bytes (this project's profile). Each number has its highest byte first.
 
-ghost use Rattle.std.specs.Prelude.{◌≡◌, ◌<◌, ◌≤◌, ◌^◌, ◌↔◌, IfOk, length, List, ℕ, take, drop, slice_index, ◌++◌};
+ghost use Rattle.std.specs.Prelude.{◌≡◌, ◌<◌, ◌≤◌, ◌^◌, ◌↔◌, IfOk, length, List, ℕ, take, drop};
+ghost use Rattle.std.specs.Prelude.{slice_index, ◌++◌};
 ghost use Rattle.eventkey.specs.Message.{Message, IsRanged};
-ghost use Rattle.eventkey.specs.Spelling.{made, message_bytes, message_in, message_read, sign_byte, sign_of, signed_bytes, signed_read};
+ghost use Rattle.eventkey.specs.Spelling.{made, message_bytes, message_in, message_read, sign_byte};
+ghost use Rattle.eventkey.specs.Spelling.{sign_of, signed_bytes, signed_read};
 ghost use Rattle.eventkey.specs.declared.KeyFault.TheVariants.{Short, TimeTooLarge, BadSign};
 
 use crate::{KeyFault, Message, Sign, Signed};

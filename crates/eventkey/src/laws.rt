@@ -1,6 +1,8 @@
 // Laws of messages, as contracts of calls that do nothing.
 
-ghost use Rattle.eventkey.specs.Laws.{BagsCountCopies, MessagesAreOrdered, MessagesAreRead, MessagesAreSpelled, SignedAreRead, SignedAreSpelled, SpellingsAreAsLong};
+ghost use Rattle.eventkey.specs.Laws.{BagsCountCopies, MessagesAreOrdered, MessagesAreRead};
+ghost use Rattle.eventkey.specs.Laws.{MessagesAreSpelled, SignedAreRead, SignedAreSpelled};
+ghost use Rattle.eventkey.specs.Laws.{SpellingsAreAsLong};
 
 /// Messages are in a total order, in which equal ones are the same and earlier times come first.
 pub fn law_of_order()

@@ -1,7 +1,8 @@
 //! Messages of a simulation: their order and their bytes.
 #![tactic(auto)]
 
-ghost use Rattle.std.specs.Prelude.{◌≡◌, if◌then◌else◌, nat_lt, ◌<◌, ◌≤◌, ◌^◌, ◌↔◌, IfOk, IsErrOf, IsTrue, length, MatchResult, List, ℕ, take, ◌++◌};
+ghost use Rattle.std.specs.Prelude.{◌≡◌, if◌then◌else◌, nat_lt, ◌<◌, ◌≤◌, ◌^◌, ◌↔◌, IfOk, IsErrOf};
+ghost use Rattle.std.specs.Prelude.{IsTrue, length, MatchResult, List, ℕ, take, ◌++◌};
 ghost use Rattle.eventkey.specs.Spelling.{made};
 ghost use Rattle.eventkey.specs.Message.{message_cmp, is_before, is_same, Message, IsRanged};
 ghost use Rattle.eventkey.specs.declared.Signed.{Signed};

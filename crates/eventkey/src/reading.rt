@@ -1,6 +1,7 @@
 // Reading and writing from left to right, for bodies of several fields.
 
-ghost use Rattle.std.specs.Prelude.{◌≡◌, ◌<◌, ◌*◌, ◌++◌, length, option_map, List, Ok, None, OnOk, OnErr, vec_len, ℕ};
+ghost use Rattle.std.specs.Prelude.{◌≡◌, ◌<◌, ◌*◌, ◌++◌, length, option_map, List, Ok, None, OnOk};
+ghost use Rattle.std.specs.Prelude.{OnErr, vec_len, ℕ};
 ghost use Rattle.std.specs.List.{flat_map};
 ghost use Rattle.eventkey.specs.Message.{Message};
 ghost use Rattle.eventkey.specs.Reading.{Gives, items_at, number_at};

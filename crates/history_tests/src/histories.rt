@@ -1,6 +1,6 @@
-// Histories that keep the state words of one record in `K`, driven by a process that counts its messages: the state before
-// its first message is 0, before the second 1, and so on. A call that is refused for want of memory is made again, and
-// must then answer as if it had never been refused.
+// Histories that keep the state words of one record in `K`, driven by a process that counts its
+// messages: the state before its first message is 0, before the second 1, and so on. A call that is
+// refused for want of memory is made again, and must then answer as if it had never been refused.
 
 ghost use Rattle.std.specs.Prelude.{◌≡◌, ◌<◌, ◌≤◌, IfOk};
 
@@ -31,7 +31,8 @@ impl<const K: usize> std::marker::Model for Counting<K> {
 
     ghost view = { λ c. c.history };
 
-    ghost invariant = { λ c. LeadTo (ring_meaning c.ring.ring) c.history c.state × (1 < c.ring.ring.lps) × (1 ≤ K) };
+    ghost invariant = { λ c. LeadTo (ring_meaning c.ring.ring) c.history c.state
+        × (1 < c.ring.ring.lps) × (1 ≤ K) };
 }
 
 /// What can be told of a history: how many records it has, for how many it keeps the state words, and the time of the

@@ -1,5 +1,5 @@
-// Worked values of the input queue. A call that is refused for want of memory is made again, and must then answer as if it
-// had never been refused.
+// Worked values of the input queue. A call that is refused for want of memory is made again, and
+// must then answer as if it had never been refused.
 
 use crate::rows::{Row, messages, signed};
 use eventkey::{Message, Sign, Signed};
@@ -8,7 +8,8 @@ use std::alloc::AllocError;
 use std::process::Abort;
 use std::test::Fail;
 
-/// What is done with a queue: a message or an antimessage arrives, or the least message below an end, in ticks, is taken.
+/// What is done with a queue: a message or an antimessage arrives, or the least message below an
+/// end, in ticks, is taken.
 #[derive(Clone, Copy)]
 enum Call {
     Arrives(Signed),

@@ -215,8 +215,8 @@ fn an_antimessage_that_waits_counts_as_low(rt: HostRuntime) -> Result<(), Fail> 
     play(&rt, rt.alloc(), &mut node, &steps)
 }
 
-// Three processes with four messages. Then a straggler comes for process 0, the antimessage of what process 1 handled, and two
-// of the messages that went out.
+// Three processes with four messages. Then a straggler comes for process 0, the antimessage of what
+// process 1 handled, and two of the messages that went out.
 #[test]
 fn what_is_undone_and_done_again_goes_out_in_order(rt: HostRuntime) -> Result<(), Fail> {
     let (zero, again) = ((1, 0, 0, 0, 0, 0), (4, 0, 1, 0, 0, 0));

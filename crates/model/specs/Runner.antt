@@ -1,6 +1,7 @@
 -- What the plain runner of a simulation does, call by call (this project's profile).
 use Rattle.std.specs.List.{AllByRecursion as Every}
-use Rattle.std.specs.Prelude.{◌≡◌, ℕ, List, [], ◌∷◌, ◌++◌, ◌+◌, ◌^◌, ◌<◌, ◌≤◌, length, max, Some, Bool, false, nat_lt}
+use Rattle.std.specs.Prelude.{◌≡◌, ℕ, List, [], ◌∷◌, ◌++◌, ◌+◌, ◌^◌, ◌<◌, ◌≤◌, length, max, Some}
+use Rattle.std.specs.Prelude.{Bool, false, nat_lt}
 use Rattle.eventkey.specs.Bag.{IsAscending}
 use Rattle.eventkey.specs.Message.{IsAtMost, Message}
 use Rattle.model.specs.Meaning.{IsAddressed, Meaning}

@@ -1,6 +1,8 @@
 -- The sequential simulation: one loop that always handles the least pending message.
 use Rattle.std.specs.List.{AllByRecursion as Every}
-use Rattle.std.specs.Prelude.{ℕ, List, zero, suc, ◌+◌, [], ◌∷◌, ◌++◌, length, map, flat_map, get_or, set, ◌^◌, Bool, nat_lt, nat_le, ◌&&◌, Option, Some, None, if◌then◌else◌, ◌≡◌, ◌<◌, ◌≤◌}
+use Rattle.std.specs.Prelude.{ℕ, List, zero, suc, ◌+◌, [], ◌∷◌, ◌++◌, length, map, flat_map, get_or}
+use Rattle.std.specs.Prelude.{set, ◌^◌, Bool, nat_lt, nat_le, ◌&&◌, Option, Some, None}
+use Rattle.std.specs.Prelude.{if◌then◌else◌, ◌≡◌, ◌<◌, ◌≤◌}
 use Rattle.eventkey.specs.Bag.{IsAscending, add_all}
 use Rattle.eventkey.specs.Message.{Message}
 use Rattle.model.specs.Meaning.{IsAddressed, IsWords, Meaning, stamp}
@@ -47,7 +49,8 @@ handled m w x rest =
 -- the least pending message can be handled before this end
 abbrev pub can_handle : Meaning → ℕ → World → Message → Bool
 can_handle m end w x =
-    nat_lt x.time end && nat_le (number_of w x.to + length (m.sends x.to (state_of w x.to) x)) (2 ^ 63)
+    nat_lt x.time end
+    && nat_le (number_of w x.to + length (m.sends x.to (state_of w x.to) x)) (2 ^ 63)
 
 abbrev pub step_from : Meaning → ℕ → World → List Message → Option World
 step_from m end w [] = None

@@ -1,6 +1,7 @@
 // Laws of the sequential simulation, as contracts of calls that do nothing.
 
-ghost use Rattle.model.specs.Sequential.{EachWorldIsReached, OpeningIsUpto, RunsAreUpto, UptoGoesOn, UptoIsOne, UptoIsReachedFrom};
+ghost use Rattle.model.specs.Sequential.{EachWorldIsReached, OpeningIsUpto, RunsAreUpto};
+ghost use Rattle.model.specs.Sequential.{UptoGoesOn, UptoIsOne, UptoIsReachedFrom};
 
 /// The sequential simulation up to a time is one world, its log begins that of any later one, and
 /// steps lead from it there.

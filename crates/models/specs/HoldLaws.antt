@@ -33,7 +33,10 @@ hold_lawful h = record {
   identity_few = lit≤ tt;
   identity_words = (
     lit< tt,
-    (omega (arith, h.good.few_messages), (omega (arith, h.good.spread_fits), (omega (arith, h.good.seed_fits), tt))),
+    (
+      omega (arith, h.good.few_messages),
+      (omega (arith, h.good.spread_fits), (omega (arith, h.good.seed_fits), tt)),
+    ),
   );
   start_words = λ lp l. (lit≤ tt, (key_lt h.hold.seed lp h.hold.population, (lit< tt, tt)));
   start_few = λ lp l. rw (length-map, length-below h.hold.population) h.good.few_messages;
@@ -46,7 +49,8 @@ hold_lawful h = record {
   each = λ lp state x l words ranged. (
     record {
       delay = omega arith;
-      delay_fits = delay_lt h.hold.spread (word (hold_key state) lp 1) h.good.far h.good.spread_fits;
+      delay_fits = delay_lt h.hold.spread (word (hold_key state) lp 1) h.good.far
+          h.good.spread_fits;
       to = mod-lt (word (hold_key state) lp 0) h.good.some;
       a = ranged.a;
       b = mod-lt (x.b + 1) (lit< tt);

@@ -1,6 +1,7 @@
 -- A job shop (this project's profile): machines in a ring, each of which serves one job at a time, in
 -- the order in which jobs come, and sends it to the next machine.
-use Rattle.std.specs.Prelude.{ℕ, ◌+◌, ◌-◌, ◌*◌, ◌%◌, ◌^◌, ◌<◌, ◌≤◌, List, [], ◌∷◌, Bool, nat_lt, map, max, min, slice_index, if◌then◌else◌}
+use Rattle.std.specs.Prelude.{ℕ, ◌+◌, ◌-◌, ◌*◌, ◌%◌, ◌^◌, ◌<◌, ◌≤◌, List, [], ◌∷◌, Bool, nat_lt}
+use Rattle.std.specs.Prelude.{map, max, min, slice_index, if◌then◌else◌}
 use Rattle.eventkey.specs.Message.{Message}
 use Rattle.model.specs.Meaning.{Meaning}
 use Rattle.model.specs.World.{below}
@@ -99,6 +100,8 @@ shop_meaning s = record {
   start_state = λ lp. 0 ∷ 0 ∷ 0 ∷ 0 ∷ next_key s.seed lp 0 ∷ [];
   start_sends = λ lp. map (first_job s lp) (below s.jobs);
   next_state = λ lp state x.
-      if is_turned_away s lp state x.time then after_refusal lp state else after_service s lp state x.time;
-  sends = λ lp state x. if is_turned_away s lp state x.time then [] else passed_on s lp state x ∷ [];
+      if is_turned_away s lp state x.time then after_refusal lp state
+      else after_service s lp state x.time;
+  sends = λ lp state x. if is_turned_away s lp state x.time then []
+      else passed_on s lp state x ∷ [];
 }

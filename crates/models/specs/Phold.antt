@@ -1,6 +1,7 @@
 -- PHOLD (Fujimoto 1990), in this project's profile: each message that is handled sends one on, to a
 -- process and with a delay that are drawn.
-use Rattle.std.specs.Prelude.{ℕ, ◌+◌, ◌-◌, ◌*◌, ◌%◌, ◌^◌, ◌<◌, ◌≤◌, List, [], ◌∷◌, map, min, slice_index}
+use Rattle.std.specs.Prelude.{ℕ, ◌+◌, ◌-◌, ◌*◌, ◌%◌, ◌^◌, ◌<◌, ◌≤◌, List, [], ◌∷◌, map, min}
+use Rattle.std.specs.Prelude.{slice_index}
 use Rattle.eventkey.specs.Message.{Message}
 use Rattle.model.specs.Meaning.{Meaning}
 use Rattle.model.specs.World.{below}

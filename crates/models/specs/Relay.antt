@@ -1,4 +1,5 @@
--- Six processes that send each message on twice, soon and much later (this project's profile): to whom and when depends on what they were.
+-- Six processes that send each message on twice, soon and much later (this project's profile): to
+-- whom and when depends on what they were.
 use Rattle.std.specs.Prelude.{ℕ, ◌+◌, ◌*◌, ◌%◌, ◌^◌, ◌<◌, List, [], ◌∷◌, slice_index}
 use Rattle.std.proofs.Common.{arith, lit<, lit≤}
 use Rattle.std.proofs.Math.Nat.{mod-lt}
@@ -15,7 +16,12 @@ abbrev pub seen_after : List ℕ → Message → ℕ
 seen_after state x = ((seen state * 3) % 2 ^ 64 + x.time) % 2 ^ 64
 
 abbrev pub soon : ℕ → List ℕ → Message → Outgoing
-soon lp state x = record { to = (lp + seen state % 6) % 6; delay = 1 + seen state % 3; a = x.a; b = (x.b + seen state) % 2 ^ 64 }
+soon lp state x = record {
+  to = (lp + seen state % 6) % 6;
+  delay = 1 + seen state % 3;
+  a = x.a;
+  b = (x.b + seen state) % 2 ^ 64;
+}
 
 abbrev pub later : ℕ → List ℕ → Message → Outgoing
 later lp state x = record { to = (lp + 1) % 6; delay = 23; a = x.b; b = x.a }
@@ -38,8 +44,18 @@ relay_lawful = record {
   identity_words = tt;
   start_words = λ lp l. (lit≤ tt, (lit< tt, tt));
   start_few = λ lp l. lit≤ tt;
-  start = λ lp l. (record { delay = omega arith; delay_fits = omega arith; to = l; a = omega arith; b = lit< tt }, tt);
-  words = λ lp state x l words is. (lit≤ tt, (mod-lt ((seen state * 3) % 2 ^ 64 + x.time) (lit< tt), tt));
+  start = λ lp l. (
+    record {
+      delay = omega arith;
+      delay_fits = omega arith;
+      to = l;
+      a = omega arith;
+      b = lit< tt;
+    },
+    tt,
+  );
+  words = λ lp state x l words is.
+      (lit≤ tt, (mod-lt ((seen state * 3) % 2 ^ 64 + x.time) (lit< tt), tt));
   few = λ lp state x l words is. lit≤ tt;
   each = λ lp state x l words is. (
     record {
@@ -49,6 +65,15 @@ relay_lawful = record {
       a = is.a;
       b = mod-lt (x.b + seen state) (lit< tt);
     },
-    (record { delay = lit≤ tt; delay_fits = lit< tt; to = mod-lt (lp + 1) (lit≤ tt); a = is.b; b = is.a }, tt),
+    (
+      record {
+        delay = lit≤ tt;
+        delay_fits = lit< tt;
+        to = mod-lt (lp + 1) (lit≤ tt);
+        a = is.b;
+        b = is.a;
+      },
+      tt,
+    ),
   );
 }

@@ -1,6 +1,7 @@
 -- A job shop keeps the laws of a model.
 use Rattle.std.specs.List.{AllByRecursion as Every}
-use Rattle.std.specs.Prelude.{◌≡◌, ℕ, ◌+◌, ◌-◌, ◌*◌, ◌^◌, ◌<◌, ◌≤◌, List, [], ◌∷◌, false, length, if◌then◌else◌, slice_index}
+use Rattle.std.specs.Prelude.{◌≡◌, ℕ, ◌+◌, ◌-◌, ◌*◌, ◌^◌, ◌<◌, ◌≤◌, List, [], ◌∷◌, false, length}
+use Rattle.std.specs.Prelude.{if◌then◌else◌, slice_index}
 use Rattle.std.proofs.Common.{arith, lit<, lit≤, inl, inr}
 use Rattle.std.proofs.Math.Nat.{mod-lt, mul-le-mul_left}
 use Rattle.std.proofs.lemmas.Bool.{cases_Bool, ltb-false}
@@ -10,10 +11,12 @@ use Rattle.eventkey.specs.Message.{IsRanged, Message}
 use Rattle.model.proofs.Worlds.{Every-below, length-below}
 use Rattle.model.specs.Meaning.{IsLawful, IsSend, IsWords}
 use Rattle.model.specs.World.{below}
-use Rattle.models.specs.JobShop.{GoodShop, IsShop, Shop, after_refusal, after_service, ended, first_job, is_turned_away, passed_on, shop_key, shop_meaning}
+use Rattle.models.specs.JobShop.{GoodShop, IsShop, Shop, after_refusal, after_service, ended}
+use Rattle.models.specs.JobShop.{first_job, is_turned_away, passed_on, shop_key, shop_meaning}
 use Rattle.models.specs.WordLaws.{key_lt}
 
-first_lawful : (s : Shop) → IsShop s → (lp : ℕ) → lp < s.lps → (k : ℕ) → k < s.jobs → IsSend s.lps (first_job s lp k)
+first_lawful : (s : Shop) → IsShop s → (lp : ℕ) → lp < s.lps →
+    (k : ℕ) → k < s.jobs → IsSend s.lps (first_job s lp k)
 first_lawful s good lp l k b =
     let most : lp * s.jobs ≤ lp * 8 = mul-le-mul_left lp good.few_jobs in
     record {
@@ -32,27 +35,35 @@ refused_words lp state is = (
   lit≤ tt,
   (
     word_of_state state 0 is,
-    (word_of_state state 1 is, (word_of_state state 2 is, (omega arith, (key_lt (shop_key state) lp 1, tt)))),
+    (
+      word_of_state state 1 is,
+      (word_of_state state 2 is, (omega arith, (key_lt (shop_key state) lp 1, tt))),
+    ),
   ),
 )
 
-served_words : (s : Shop) (lp : ℕ) (state : List ℕ) (t : ℕ) → t < 2 ^ 41 → is_turned_away s lp state t ≡ false → IsWords state
+served_words : (s : Shop) (lp : ℕ) (state : List ℕ) (t : ℕ) → t < 2 ^ 41 →
+    is_turned_away s lp state t ≡ false → IsWords state
     → IsWords (after_service s lp state t)
 served_words s lp state t early stays is =
-    let soon : ended s lp state t - t ≤ 2 ^ 32 - 1 = ltb-false (2 ^ 32 - 1) (ended s lp state t - t) stays in
+    let soon : ended s lp state t - t ≤ 2 ^ 32 - 1 = ltb-false (2 ^ 32 - 1)
+    (ended s lp state t - t) stays in
     (lit≤ tt, (omega arith, (omega arith, (omega arith, (word_of_state state 3 is, (key_lt (shop_key state) lp 1, tt))))))
 
 next_words : (s : Shop) (lp : ℕ) (state : List ℕ) (t : ℕ) → t < 2 ^ 41 → IsWords state
-    → IsWords (if is_turned_away s lp state t then after_refusal lp state else after_service s lp state t)
+    → IsWords (if is_turned_away s lp state t then after_refusal lp state
+    else after_service s lp state t)
 next_words s lp state t early is = elim (cases_Bool (is_turned_away s lp state t)) [
   | inl e ↦ rw e (refused_words lp state is)
   | inr e ↦ rw e (served_words s lp state t early e is)
 ]
 
-passed_lawful : (s : Shop) → IsShop s → (lp : ℕ) (state : List ℕ) (x : Message) → IsRanged x → is_turned_away s lp state x.time ≡ false
+passed_lawful : (s : Shop) → IsShop s → (lp : ℕ) (state : List ℕ) (x : Message) → IsRanged x →
+    is_turned_away s lp state x.time ≡ false
     → IsSend s.lps (passed_on s lp state x)
 passed_lawful s good lp state x ranged stays =
-    let soon : ended s lp state x.time - x.time ≤ 2 ^ 32 - 1 = ltb-false (2 ^ 32 - 1) (ended s lp state x.time - x.time) stays in
+    let soon : ended s lp state x.time - x.time ≤ 2 ^ 32 - 1 = ltb-false (2 ^ 32 - 1)
+    (ended s lp state x.time - x.time) stays in
     record {
       delay = omega arith;
       delay_fits = omega arith;
@@ -61,14 +72,17 @@ passed_lawful s good lp state x ranged stays =
       b = mod-lt (x.b + 1) (lit< tt);
     }
 
-module _ (s : Shop) (good : IsShop s) (lp : ℕ) (state : List ℕ) (x : Message) (ranged : IsRanged x) where
-  few_sends : length (if is_turned_away s lp state x.time then [] else passed_on s lp state x ∷ []) ≤ 8
+module _ (s : Shop) (good : IsShop s) (lp : ℕ) (state : List ℕ) (x : Message)
+    (ranged : IsRanged x) where
+  few_sends : length (if is_turned_away s lp state x.time then []
+      else passed_on s lp state x ∷ []) ≤ 8
   few_sends = elim (cases_Bool (is_turned_away s lp state x.time)) [
     | inl e ↦ rw e (lit≤ tt)
     | inr e ↦ rw e (lit≤ tt)
   ]
 
-  each_send : Every (IsSend s.lps) (if is_turned_away s lp state x.time then [] else passed_on s lp state x ∷ [])
+  each_send : Every (IsSend s.lps) (if is_turned_away s lp state x.time then []
+      else passed_on s lp state x ∷ [])
   each_send = elim (cases_Bool (is_turned_away s lp state x.time)) [
     | inl e ↦ rw e tt
     | inr e ↦ rw e (passed_lawful s good lp state x ranged e, tt)
@@ -81,9 +95,13 @@ shop_lawful s = record {
   identity_few = lit≤ tt;
   identity_words = (
     lit< tt,
-    (omega (arith, s.good.few_jobs), (omega (arith, s.good.service_fits), (omega (arith, s.good.seed_fits), tt))),
+    (
+      omega (arith, s.good.few_jobs),
+      (omega (arith, s.good.service_fits), (omega (arith, s.good.seed_fits), tt)),
+    ),
   );
-  start_words = λ lp l. (lit≤ tt, (lit< tt, (lit< tt, (lit< tt, (lit< tt, (key_lt s.shop.seed lp 0, tt))))));
+  start_words = λ lp l.
+      (lit≤ tt, (lit< tt, (lit< tt, (lit< tt, (lit< tt, (key_lt s.shop.seed lp 0, tt))))));
   start_few = λ lp l. rw (length-map, length-below s.shop.jobs) s.good.few_jobs;
   start = λ lp l.
       Every-map (IsSend s.shop.lps) (first_job s.shop lp) (below s.shop.jobs)

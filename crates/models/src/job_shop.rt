@@ -12,13 +12,15 @@ use smallvec::SmallVec;
 use std::alloc::Global;
 use std::marker::Model;
 
-/// A job shop, a model of this project's own: machines in a ring, each of which serves one job at a time, in the order in
-/// which jobs come, for 1 to `service` ticks by a drawn word, and then sends it to the next machine.
+/// A job shop, a model of this project's own: machines in a ring, each of which serves one job at a
+/// time, in the order in which jobs come, for 1 to `service` ticks by a drawn word, and then sends
+/// it to the next machine.
 ///
-/// Each machine starts with `jobs` jobs, which come to it one a tick from time 1 on. The state is the time at which the
-/// machine is free, how many jobs it has served, how many ticks they waited in all, how many jobs it has turned away, and the
-/// key of the next words. A job that would leave more than 2^32 - 1 ticks after it came is turned away. A message's content
-/// is the job's number and how many machines have served it.
+/// Each machine starts with `jobs` jobs, which come to it one a tick from time 1 on. The state is
+/// the time at which the machine is free, how many jobs it has served, how many ticks they waited
+/// in all, how many jobs it has turned away, and the key of the next words. A job that would leave
+/// more than 2^32 - 1 ticks after it came is turned away. A message's content is the job's number
+/// and how many machines have served it.
 #[derive(Clone, Copy, Debug, PartialEq, Eq)]
 pub struct JobShop {
     lps: u32,
@@ -33,14 +35,23 @@ impl Model for JobShop {
 
     ghost Value = { GoodShop };
 
-    ghost view = { λ s. record { shop = record { lps = s.lps; jobs = s.jobs; service = s.service; seed = s.seed }; good = s.good } };
+    ghost view = { λ s. record {
+      shop = record { lps = s.lps; jobs = s.jobs; service = s.service; seed = s.seed };
+      good = s.good;
+    } };
 
-    ghost inverse = { λ v. record { lps = v.shop.lps; jobs = v.shop.jobs; service = v.shop.service; seed = v.shop.seed; good = v.good } };
+    ghost inverse = { λ v. record {
+      lps = v.shop.lps;
+      jobs = v.shop.jobs;
+      service = v.shop.service;
+      seed = v.shop.seed;
+      good = v.good;
+    } };
 }
 
 impl JobShop {
-    /// A job shop of `lps` machines, 1 to 1,024, with `jobs` jobs each, 1 to 8, that serves a job for 1 to `service` ticks,
-    /// `service` at least 1, with words that `seed`, below 2^63, begins.
+    /// A job shop of `lps` machines, 1 to 1,024, with `jobs` jobs each, 1 to 8, that serves a job
+    /// for 1 to `service` ticks, `service` at least 1, with words that `seed`, below 2^63, begins.
     pub fn new(lps: u32, jobs: u32, service: u32, seed: u64) -> JobShop
         requires some { 1 ≤ lps }
         requires few { lps ≤ 1024 }
@@ -144,7 +155,13 @@ impl Simulated for JobShop {
 
 impl Machine {
     fn of(words: &[u64]) -> Machine
-        ensures { result ≡ record { free_at = slice_index words.now 0; served = slice_index words.now 1; waited = slice_index words.now 2; turned_away = slice_index words.now 3; key = slice_index words.now 4 } }
+        ensures { result ≡ record {
+          free_at = slice_index words.now 0;
+          served = slice_index words.now 1;
+          waited = slice_index words.now 2;
+          turned_away = slice_index words.now 3;
+          key = slice_index words.now 4;
+        } }
     {
         let word = |i: usize| words.get(i).copied().unwrap_or(0);
         Machine {
@@ -157,7 +174,8 @@ impl Machine {
     }
 
     fn words(self, alloc: Global) -> Words
-        ensures { result.items ≡ self.free_at ∷ self.served ∷ self.waited ∷ self.turned_away ∷ self.key ∷ [] }
+        ensures { result.items ≡ self.free_at ∷ self.served ∷ self.waited ∷ self.turned_away
+            ∷ self.key ∷ [] }
     {
         let mut words = SmallVec::new(alloc);
         words.push_reserved(self.free_at);

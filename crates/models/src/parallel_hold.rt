@@ -12,18 +12,24 @@ use smallvec::SmallVec;
 use std::alloc::Global;
 use std::marker::Model;
 
-/// PHOLD (Fujimoto 1990), in this project's profile: each message that a process handles goes on to a process and with a
-/// delay that are drawn, so that as many messages are pending at each time.
+/// PHOLD (Fujimoto 1990), in this project's profile: each message that a process handles goes on to
+/// a process and with a delay that are drawn, so that as many messages are pending at each time.
 ///
-/// Each process starts with `population` messages to itself, with drawn delays. The state is the key of the next words and
-/// how many messages the process has handled; a message's content is its number and how often it was handled.
+/// Each process starts with `population` messages to itself, with drawn delays. The state is the
+/// key of the next words and how many messages the process has handled; a message's content is its
+/// number and how often it was handled.
 #[derive(Clone, Copy, Debug, PartialEq, Eq)]
 pub struct Phold {
     lps: u32,
     population: u32,
     spread: u32,
     seed: u64,
-    ghost good: { IsHold (record { lps = lps; population = population; spread = spread; seed = seed }) },
+    ghost good: { IsHold (record {
+      lps = lps;
+      population = population;
+      spread = spread;
+      seed = seed;
+    }) },
 }
 
 impl Model for Phold {
@@ -31,9 +37,18 @@ impl Model for Phold {
 
     ghost Value = { GoodHold };
 
-    ghost view = { λ h. record { hold = record { lps = h.lps; population = h.population; spread = h.spread; seed = h.seed }; good = h.good } };
+    ghost view = { λ h. record {
+      hold = record { lps = h.lps; population = h.population; spread = h.spread; seed = h.seed };
+      good = h.good;
+    } };
 
-    ghost inverse = { λ v. record { lps = v.hold.lps; population = v.hold.population; spread = v.hold.spread; seed = v.hold.seed; good = v.good } };
+    ghost inverse = { λ v. record {
+      lps = v.hold.lps;
+      population = v.hold.population;
+      spread = v.hold.spread;
+      seed = v.hold.seed;
+      good = v.good;
+    } };
 }
 
 impl Phold {
@@ -46,7 +61,12 @@ impl Phold {
         requires few_messages { population ≤ 8 }
         requires far { 1 ≤ spread }
         requires seed { seed < 2 ^ 63 }
-        ensures { result.hold ≡ record { lps = lps; population = population; spread = spread; seed = seed } }
+        ensures { result.hold ≡ record {
+          lps = lps;
+          population = population;
+          spread = spread;
+          seed = seed;
+        } }
     {
         Phold {
             lps,
@@ -59,7 +79,8 @@ impl Phold {
     /// What a process sends at its start.
     fn first_sends(&self, alloc: Global, lp: u32) -> Sends
         requires { lp < self.now.hold.lps }
-        ensures { result.items ≡ map (first_hold self.now.hold lp) (below self.now.hold.population) }
+        ensures { result.items
+            ≡ map (first_hold self.now.hold lp) (below self.now.hold.population) }
     {
         let mut sends = SmallVec::new(alloc);
         'sends: for k in 0..self.population {

@@ -28,9 +28,17 @@ impl Model for TokenRing {
 
     ghost Value = { GoodRing };
 
-    ghost view = { λ r. record { ring = record { lps = r.lps; hold = r.hold; tokens = r.tokens }; good = r.good } };
+    ghost view = { λ r. record {
+      ring = record { lps = r.lps; hold = r.hold; tokens = r.tokens };
+      good = r.good;
+    } };
 
-    ghost inverse = { λ v. record { lps = v.ring.lps; hold = v.ring.hold; tokens = v.ring.tokens; good = v.good } };
+    ghost inverse = { λ v. record {
+      lps = v.ring.lps;
+      hold = v.ring.hold;
+      tokens = v.ring.tokens;
+      good = v.good;
+    } };
 }
 
 impl TokenRing {

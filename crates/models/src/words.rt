@@ -6,8 +6,8 @@ ghost use Rattle.models.specs.Words.{next_key as key_after, word as drawn};
 use rand_core::Rng;
 use rand_pcg::Lcg64Xsh32;
 
-/// Word `j`, below 16, of a process with this key: the first word of a generator of its own, so that it is a function of
-/// the three numbers.
+/// Word `j`, below 16, of a process with this key: the first word of a generator of its own, so
+/// that it is a function of the three numbers.
 pub(crate) fn word(key: u64, lp: u32, j: u64) -> u32
     requires { j < 16 }
     ensures { result ≡ drawn key lp j }

@@ -1,22 +1,31 @@
 -- The laws of a running system, over every list of moves. Each holds for every meaning that keeps
 -- its laws.
 use Rattle.std.specs.List.{AllByRecursion as Every}
-use Rattle.std.specs.Prelude.{◌≡◌, ℕ, ◌^◌, ◌<◌, ◌≤◌, ◌+◌, ◌++◌, ◌&&◌, List, not, get_or, length, map, nat_lt, option_and_then, if◌then◌else◌, Err, Ok, Some, None, is_some, true}
+use Rattle.std.specs.Prelude.{◌≡◌, ℕ, ◌^◌, ◌<◌, ◌≤◌, ◌+◌, ◌++◌, ◌&&◌, List, not, get_or, length}
+use Rattle.std.specs.Prelude.{map, nat_lt, option_and_then, if◌then◌else◌, Err, Ok, Some, None}
+use Rattle.std.specs.Prelude.{is_some, true}
 use Rattle.eventkey.specs.Bag.{IsAscending}
 use Rattle.eventkey.specs.Message.{Message}
-use Rattle.gvt.specs.Ledger.{after_post, after_take, first_ledger, is_busy as is_ledger_busy, ledger_floor, least_floor, may_pick, nodes_of as ledger_nodes}
+use Rattle.gvt.specs.Ledger.{after_post, after_take, first_ledger, is_busy as is_ledger_busy}
+use Rattle.gvt.specs.Ledger.{ledger_floor, least_floor, may_pick, nodes_of as ledger_nodes}
 use Rattle.gvt.specs.Picks.{are_distinct, can_pick}
 use Rattle.model.specs.Meaning.{IsLawful, Meaning}
 use Rattle.model.specs.World.{IsUpto, World, below, number_of, opening, state_of}
-use Rattle.node.specs.Handling.{IsInRange as IsPartInRange, answer, ended, load_answer, refusal as refused_by}
+use Rattle.node.specs.Handling.{IsInRange as IsPartInRange, answer, ended, load_answer}
+use Rattle.node.specs.Handling.{refusal as refused_by}
 use Rattle.node.specs.Node.{Work, low_of, reply_of, work_here}
 use Rattle.node.specs.declared.NodeFault.TheVariants.{NumberLimit}
 use Rattle.node.specs.declared.Parcel.{Parcel}
 use Rattle.process.specs.Process.{number_after, state_after}
 use Rattle.protocol.specs.declared.Answer.{Answer}
-use Rattle.protocol.specs.declared.Answer.TheVariants.{AlreadyAt, Checkpointed, Committed, Posted, Taken}
-use Rattle.protocol.specs.Moves.{Busy, Move, NoSuchNode, NoSuchPick, Post, Run, Take, after_moves, after_runs, answer_of, commit, is_busy, merged, move, moves_made, picture_after_answer, picture_after_commit, picture_after_post, refusal, told_before, told_front}
-use Rattle.protocol.specs.Picture.{IsBalanced, IsPictureInRange, IsSeatedBy, IsToldTruly, Picture, gvt, lows_of, node_of, nodes_of, opened, told_by}
+use Rattle.protocol.specs.declared.Answer.TheVariants.{AlreadyAt, Checkpointed, Committed, Posted}
+use Rattle.protocol.specs.declared.Answer.TheVariants.{Taken}
+use Rattle.protocol.specs.Moves.{Busy, Move, NoSuchNode, NoSuchPick, Post, Run, Take, after_moves}
+use Rattle.protocol.specs.Moves.{after_runs, answer_of, commit, is_busy, merged, move, moves_made}
+use Rattle.protocol.specs.Moves.{picture_after_answer, picture_after_commit, picture_after_post}
+use Rattle.protocol.specs.Moves.{refusal, told_before, told_front}
+use Rattle.protocol.specs.Picture.{IsBalanced, IsPictureInRange, IsSeatedBy, IsToldTruly, Picture}
+use Rattle.protocol.specs.Picture.{gvt, lows_of, node_of, nodes_of, opened, told_by}
 use Rattle.protocol.specs.Replies.{names_there}
 use Rattle.protocol.specs.Sound.{GoesOnFrom, IsOpening, IsSystem}
 use Rattle.protocol.specs.Views.{ledger_of, load_of, node_view}

@@ -1,6 +1,8 @@
 -- The moves of a running system: post, take, commit and checkpoint (Jefferson 1985, with commits
 -- and a coordinator by this project's profile).
-use Rattle.std.specs.Prelude.{Bool, List, None, Option, Some, [], filter, get_or, flat_map, if◌then◌else◌, is_some, length, map, nat_lt, not, option_and_then, option_map, set, unwrap_or, ℕ, ◌&&◌, ◌++◌, ◌∷◌}
+use Rattle.std.specs.Prelude.{Bool, List, None, Option, Some, [], filter, get_or, flat_map}
+use Rattle.std.specs.Prelude.{if◌then◌else◌, is_some, length, map, nat_lt, not, option_and_then}
+use Rattle.std.specs.Prelude.{option_map, set, unwrap_or, ℕ, ◌&&◌, ◌++◌, ◌∷◌}
 use Rattle.eventkey.specs.Bag.{add_all, remove_all, remove_one}
 use Rattle.eventkey.specs.Message.{Message}
 use Rattle.gvt.specs.Ledger.{least_floor}
@@ -12,7 +14,8 @@ use Rattle.node.specs.declared.Parcel.{Parcel}
 use Rattle.process.specs.Process.{Process, fossils_of}
 use Rattle.process.specs.declared.Done.{Done}
 use Rattle.protocol.specs.declared.Answer.{Answer}
-use Rattle.protocol.specs.declared.Answer.TheVariants.{AlreadyAt, Checkpointed, Committed, Posted, Taken}
+use Rattle.protocol.specs.declared.Answer.TheVariants.{AlreadyAt, Checkpointed, Committed, Posted}
+use Rattle.protocol.specs.declared.Answer.TheVariants.{Taken}
 use Rattle.protocol.specs.Picture.{Picture, gvt, node_of, nodes_of, opened, sent_told}
 
 -- 1. Post

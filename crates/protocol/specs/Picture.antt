@@ -1,7 +1,8 @@
 -- A running system, as it is seen from outside: the committed front, and what each node has beyond
 -- it.
 use Rattle.std.specs.List.{AllByRecursion as Every}
-use Rattle.std.specs.Prelude.{List, None, Option, [], filter, flat_map, get_or, length, map, replicate, ℕ, ◌%◌, ◌/◌, ◌++◌, ◌+◌, ◌<◌, ◌==◌, ◌≡◌}
+use Rattle.std.specs.Prelude.{List, None, Option, [], filter, flat_map, get_or, length, map}
+use Rattle.std.specs.Prelude.{replicate, ℕ, ◌%◌, ◌/◌, ◌++◌, ◌+◌, ◌<◌, ◌==◌, ◌≡◌}
 use Rattle.eventkey.specs.Bag.{copies, least_time}
 use Rattle.eventkey.specs.Message.{IsRanged, Message}
 use Rattle.eventkey.specs.Signed.{of_sign}

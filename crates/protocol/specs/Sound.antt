@@ -6,7 +6,8 @@ use Rattle.eventkey.specs.declared.Signed.{Signed}
 use Rattle.model.specs.Meaning.{IsLawful, Meaning}
 use Rattle.model.specs.World.{IsUpto, World}
 use Rattle.node.specs.declared.Parcel.{Parcel}
-use Rattle.protocol.specs.Picture.{IsBalanced, IsPictureInRange, IsSeatedBy, IsToldTruly, Picture, gvt, nodes_of}
+use Rattle.protocol.specs.Picture.{IsBalanced, IsPictureInRange, IsSeatedBy, IsToldTruly, Picture}
+use Rattle.protocol.specs.Picture.{gvt, nodes_of}
 
 -- What holds of the parcel of a node: its messages are for processes of that node, and its floor
 -- lies between the node's and global virtual time.

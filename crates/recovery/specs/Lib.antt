@@ -1,4 +1,5 @@
--- For callers: the header of a disk, the bytes of a record and what it holds, replay, and the worlds for which records and disks stand
+-- For callers: the header of a disk, the bytes of a record and what it holds, replay, and the
+-- worlds for which records and disks stand
 pub mod Header
 pub mod Bodies
 pub mod Contents

@@ -1,5 +1,6 @@
-//! Runs a model on a disk in memory that stops at each of its writes in turn, or fails at each operation, crashes the disk,
-//! opens it over another number of nodes and goes on to the end, where the world must be that of the plain runner.
+//! Runs a model on a disk in memory that stops at each of its writes in turn, or fails at each
+//! operation, crashes the disk, opens it over another number of nodes and goes on to the end, where
+//! the world must be that of the plain runner.
 #![tactic(auto)]
 
 ghost use Rattle.std.specs.Prelude.{◌≡◌, ◌≤◌, ◌<◌, ◌^◌};

@@ -1,5 +1,6 @@
 -- What a model file says (this project's profile): a TOML table with exactly the keys of its model.
-use Rattle.std.specs.Prelude.{◌≡◌, ℕ, ◌*◌, ◌-◌, ◌^◌, List, ◌&&◌, suc, nat_le, Option, Some, None, if◌then◌else◌, ℤ, pos, negsuc, option_and_then, codes}
+use Rattle.std.specs.Prelude.{◌≡◌, ℕ, ◌*◌, ◌-◌, ◌^◌, List, ◌&&◌, suc, nat_le, Option, Some, None}
+use Rattle.std.specs.Prelude.{if◌then◌else◌, ℤ, pos, negsuc, option_and_then, codes}
 use Rattle.models.specs.JobShop.{Shop}
 use Rattle.models.specs.Phold.{Hold}
 use Rattle.models.specs.Ring.{Ring}

@@ -1,9 +1,11 @@
 // Reading model files.
 
-ghost use Rattle.std.specs.Prelude.{◌≡◌, ◌≢◌, ◌≤◌, ◌*◌, ◌-◌, ◌^◌, ℕ, Err, Some, None, codes, IfOk, IfSome, IsErr, IsNone, option_map, option_and_then};
+ghost use Rattle.std.specs.Prelude.{◌≡◌, ◌≢◌, ◌≤◌, ◌*◌, ◌-◌, ◌^◌, ℕ, Err, Some, None, codes, IfOk};
+ghost use Rattle.std.specs.Prelude.{IfSome, IsErr, IsNone, option_map, option_and_then};
 ghost use Rattle.toml.specs.Data.{as_integer, as_str, get_member, string};
 ghost use Rattle.toml.specs.View.{table_view};
-ghost use Rattle.texts.specs.ModelFile.{in_range, key_name, number_at, IsModelFile, IsHoldTable, IsRingTable, IsShopTable, IsTableOf};
+ghost use Rattle.texts.specs.ModelFile.{in_range, key_name, number_at, IsModelFile, IsHoldTable};
+ghost use Rattle.texts.specs.ModelFile.{IsRingTable, IsShopTable, IsTableOf};
 ghost use Rattle.models.specs.JobShop.{Shop};
 ghost use Rattle.models.specs.Phold.{Hold};
 ghost use Rattle.models.specs.Ring.{Ring};
@@ -110,15 +112,17 @@ impl Key {
 
 /// The model that a model file describes, and the virtual time, in ticks, at which its run ends.
 ///
-/// A model file is TOML with exactly the keys of its model, at top level. Each has `model`, which is `"ring"`, `"phold"` or
-/// `"jobshop"`, `lps` (1 to 1,024 processes) and `end` (1 to 2^40 ticks). A token ring also has `hold` (1 to 2^32 - 1 ticks)
-/// and `tokens` (1 to `8 * lps`), PHOLD `population` (1 to 8), `spread` (1 to 2^32 - 1 ticks) and `seed` (0 to 2^63 - 1), and
-/// a job shop `jobs` (1 to 8), `service` (1 to 2^32 - 1 ticks) and `seed`.
-/// Any other text is refused by `BadModel`, which tells the first mistake that was met, and `NoMemory` comes where memory
-/// runs out.
+/// A model file is TOML with exactly the keys of its model, at top level. Each has `model`, which
+/// is `"ring"`, `"phold"` or `"jobshop"`, `lps` (1 to 1,024 processes) and `end` (1 to 2^40 ticks).
+/// A token ring also has `hold` (1 to 2^32 - 1 ticks) and `tokens` (1 to `8 * lps`), PHOLD
+/// `population` (1 to 8), `spread` (1 to 2^32 - 1 ticks) and `seed` (0 to 2^63 - 1), and a job shop
+/// `jobs` (1 to 8), `service` (1 to 2^32 - 1 ticks) and `seed`. Any other text is refused by
+/// `BadModel`, which tells the first mistake that was met, and `NoMemory` comes where memory runs
+/// out.
 pub fn read_model(alloc: Global, text: &str) -> Result<(AnyModel, u64), ModelFault>
     ensures ok { IfOk result (λ file. IsModelFile text.now file.0 file.1) }
-    ensures bad { (mistake : Mistake) → result ≡ Err (ModelFault.BadModel mistake) → (model : AnyModel) (end : ℕ) → ¬ IsModelFile text.now model end }
+    ensures bad { (mistake : Mistake) → result ≡ Err (ModelFault.BadModel mistake) →
+        (model : AnyModel) (end : ℕ) → ¬ IsModelFile text.now model end }
     ensures some { IfOk result (λ file. 1 ≤ file.1) }
     ensures end { IfOk result (λ file. file.1 ≤ 2 ^ 40) }
 {
@@ -136,7 +140,8 @@ pub fn read_model(alloc: Global, text: &str) -> Result<(AnyModel, u64), ModelFau
 /// The model and the end of a table.
 fn model_of(table: &Table) -> Result<(AnyModel, u64), Mistake>
     ensures ok { IfOk result (λ file. IsTableOf (table_view table.now) file.0 file.1) }
-    ensures bad { IsErr result → (model : AnyModel) (end : ℕ) → ¬ IsTableOf (table_view table.now) model end }
+    ensures bad { IsErr result →
+        (model : AnyModel) (end : ℕ) → ¬ IsTableOf (table_view table.now) model end }
     ensures some { IfOk result (λ file. 1 ≤ file.1) }
     ensures end { IfOk result (λ file. file.1 ≤ 2 ^ 40) }
 {
@@ -159,7 +164,8 @@ fn model_of(table: &Table) -> Result<(AnyModel, u64), Mistake>
 
 /// The ticks at which a run ends.
 fn end_of(table: &Table) -> Result<u64, Mistake>
-    ensures ok { IfOk result (λ n. number_at (codes "end") 1 (2 ^ 40) (table_view table.now) ≡ Some n) }
+    ensures ok { IfOk result (λ n. number_at (codes "end") 1 (2 ^ 40) (table_view table.now)
+        ≡ Some n) }
     ensures err { IsErr result → number_at (codes "end") 1 (2 ^ 40) (table_view table.now) ≡ None }
     ensures some { IfOk result (λ n. 1 ≤ n) }
     ensures within { IfOk result (λ n. n ≤ 2 ^ 40) }
@@ -171,7 +177,8 @@ fn end_of(table: &Table) -> Result<u64, Mistake>
 fn ring_of(table: &Table) -> Result<(TokenRing, u64), Mistake>
     requires { get_member (codes "model") (table_view table.now) ≡ Some (string (codes "ring")) }
     ensures ok { IfOk result (λ file. IsRingTable (table_view table.now) file.0.ring file.1) }
-    ensures bad { IsErr result → (ring : Ring) (end : ℕ) → ¬ IsRingTable (table_view table.now) ring end }
+    ensures bad { IsErr result →
+        (ring : Ring) (end : ℕ) → ¬ IsRingTable (table_view table.now) ring end }
     ensures some { IfOk result (λ file. 1 ≤ file.1) }
     ensures end { IfOk result (λ file. file.1 ≤ 2 ^ 40) }
 {
@@ -189,7 +196,8 @@ fn ring_of(table: &Table) -> Result<(TokenRing, u64), Mistake>
 fn hold_of(table: &Table) -> Result<(Phold, u64), Mistake>
     requires { get_member (codes "model") (table_view table.now) ≡ Some (string (codes "phold")) }
     ensures ok { IfOk result (λ file. IsHoldTable (table_view table.now) file.0.hold file.1) }
-    ensures bad { IsErr result → (hold : Hold) (end : ℕ) → ¬ IsHoldTable (table_view table.now) hold end }
+    ensures bad { IsErr result →
+        (hold : Hold) (end : ℕ) → ¬ IsHoldTable (table_view table.now) hold end }
     ensures some { IfOk result (λ file. 1 ≤ file.1) }
     ensures end { IfOk result (λ file. file.1 ≤ 2 ^ 40) }
 {
@@ -211,7 +219,8 @@ fn hold_of(table: &Table) -> Result<(Phold, u64), Mistake>
 fn shop_of(table: &Table) -> Result<(JobShop, u64), Mistake>
     requires { get_member (codes "model") (table_view table.now) ≡ Some (string (codes "jobshop")) }
     ensures ok { IfOk result (λ file. IsShopTable (table_view table.now) file.0.shop file.1) }
-    ensures bad { IsErr result → (shop : Shop) (end : ℕ) → ¬ IsShopTable (table_view table.now) shop end }
+    ensures bad { IsErr result →
+        (shop : Shop) (end : ℕ) → ¬ IsShopTable (table_view table.now) shop end }
     ensures some { IfOk result (λ file. 1 ≤ file.1) }
     ensures end { IfOk result (λ file. file.1 ≤ 2 ^ 40) }
 {
@@ -231,7 +240,8 @@ fn shop_of(table: &Table) -> Result<(JobShop, u64), Mistake>
 
 /// The string at a key.
 fn string_at<'a>(table: &'a Table, key: &str) -> Option<&'a str>
-    ensures { option_map (λ s. s.now) result ≡ option_and_then as_str (get_member key.now (table_view table.now)) }
+    ensures { option_map (λ s. s.now) result
+        ≡ option_and_then as_str (get_member key.now (table_view table.now)) }
 {
     match table.get(key) {
         Some(value) => value.as_str(),
@@ -241,7 +251,8 @@ fn string_at<'a>(table: &'a Table, key: &str) -> Option<&'a str>
 
 /// The whole number at a key.
 fn integer_at(table: &Table, key: Key) -> Option<i64>
-    ensures { result ≡ option_and_then as_integer (get_member (key_name key) (table_view table.now)) }
+    ensures { result ≡ option_and_then as_integer
+        (get_member (key_name key) (table_view table.now)) }
 {
     match table.get(key.name()) {
         Some(value) => value.as_integer(),
@@ -251,7 +262,8 @@ fn integer_at(table: &Table, key: Key) -> Option<i64>
 
 /// The whole number at a key, from `least` to `most`.
 fn number_at(table: &Table, key: Key, least: u64, most: u64) -> Result<u64, Mistake>
-    ensures ok { IfOk result (λ n. number_at (key_name key) least most (table_view table.now) ≡ Some n) }
+    ensures ok { IfOk result (λ n. number_at (key_name key) least most (table_view table.now)
+        ≡ Some n) }
     ensures err { IsErr result → number_at (key_name key) least most (table_view table.now) ≡ None }
     ensures some { IfOk result (λ n. least ≤ n) }
     ensures within { IfOk result (λ n. n ≤ most) }

@@ -4,7 +4,8 @@ use Rattle.model.specs.Meaning.{Meaning}
 use Rattle.node.specs.Handling.{Node}
 use Rattle.node.specs.Kept.{HasHistories}
 use Rattle.wire.specs.Port.{PortState, Stage, nobody}
-use Rattle.wire.specs.Port.Stage.{Ended as AtEnd, Fresh as AtFirst, Idle as AtRest, Posted as AtWork}
+use Rattle.wire.specs.Port.Stage.{Ended as AtEnd, Fresh as AtFirst, Idle as AtRest}
+use Rattle.wire.specs.Port.Stage.{Posted as AtWork}
 use Rattle.wire.specs.declared.local.Held.{Held}
 use Rattle.wire.specs.declared.local.Held.TheVariants.{Ended, Fresh, Idle, Posted}
 

@@ -19,7 +19,8 @@ pub data Stage : Type 0 where
   Posted : Parcel → Stage
   Ended : Stage
 
--- What can be said of a port: where it stands, whether what it answers is what its node does, by which model, and that node.
+-- What can be said of a port: where it stands, whether what it answers is what its node does, by
+-- which model, and that node.
 pub record PortState : Type 0 where
   pub stage : Stage
   pub tells : Bool
@@ -40,7 +41,8 @@ pub record IsLoadInRange (load : Load) : Type 0 where
   pub floor : load.floor ≤ load.end
   pub parts : Every IsInRange load.parts
 
--- no fault of what is handed in: there was no memory, or the bytes were too many, or the way to the node ended for one of these causes
+-- no fault of what is handed in: there was no memory, or the bytes were too many, or the way to the
+-- node ended for one of these causes
 abbrev pub IsForWant : PortFault → Type 0
 IsForWant (Wire wire.NoMemory) = Unit {0}
 IsForWant (Wire wire.TooLong) = Unit {0}
@@ -54,7 +56,8 @@ pub record IsLoaded (load : Load) (old new : PortState) : Type 0 where
   pub node_is : new.node ≡ loaded_node old.meaning.lps load
 
 abbrev pub IsLoadFault : Load → PortState → PortFault → Type 0
-IsLoadFault load old fault = IsForWant fault ⊎ ((f : NodeFault) × (fault ≡ Peer f) × (load_refusal old.meaning.lps load ≡ Some f))
+IsLoadFault load old fault = IsForWant fault
+    ⊎ ((f : NodeFault) × (fault ≡ Peer f) × (load_refusal old.meaning.lps load ≡ Some f))
 
 -- a port that tells and was posted this parcel answers what its node does
 pub record IsTaken (parcel : Parcel) (old new : PortState) (reply : Reply) : Type 0 where
@@ -62,7 +65,8 @@ pub record IsTaken (parcel : Parcel) (old new : PortState) (reply : Reply) : Typ
   pub node_is : new.node ≡ (answer old.meaning old.node parcel).node
 
 abbrev pub IsTakeFault : Parcel → PortState → PortFault → Type 0
-IsTakeFault parcel old fault = IsForWant fault ⊎ ((f : NodeFault) × (fault ≡ Peer f) × ((answer old.meaning old.node parcel).result ≡ Err f))
+IsTakeFault parcel old fault = IsForWant fault
+    ⊎ ((f : NodeFault) × (fault ≡ Peer f) × ((answer old.meaning old.node parcel).result ≡ Err f))
 
 -- what is told of a port with no node
 abbrev pub nobody : Node

@@ -2,7 +2,8 @@
 
 ghost use Rattle.std.specs.Prelude.{◌≡◌, ◌≤◌, ◌^◌, true, IfErr, IfOk, OnErr, OnOk};
 ghost use Rattle.node.specs.declared.Parcel.{Parcel};
-ghost use Rattle.wire.specs.Port.{IsLoadFault, IsLoadInRange, IsLoaded, IsForWant, IsSamePort, IsTakeFault, IsTaken, PortState};
+ghost use Rattle.wire.specs.Port.{IsLoadFault, IsLoadInRange, IsLoaded, IsForWant, IsSamePort};
+ghost use Rattle.wire.specs.Port.{IsTakeFault, IsTaken, PortState};
 ghost use Rattle.wire.specs.Port.Stage.{Ended, Fresh, Idle, Posted};
 
 use node::{Load, NodeFault, Parcel, Reply};
@@ -91,8 +92,10 @@ pub trait Port {
         ensures idle { OnOk result ((state self.new).stage ≡ Idle) }
         ensures ended { OnErr result ((state self.new).stage ≡ Ended) }
         ensures same { IsSamePort (state self.old) (state self.new) }
-        ensures ok { (state self.old).tells ≡ true → OnOk result (IsLoaded load (state self.old) (state self.new)) }
-        ensures err { (state self.old).tells ≡ true → IfErr result (λ fault. IsLoadFault load (state self.old) fault) };
+        ensures ok { (state self.old).tells ≡ true →
+            OnOk result (IsLoaded load (state self.old) (state self.new)) }
+        ensures err { (state self.old).tells ≡ true →
+            IfErr result (λ fault. IsLoadFault load (state self.old) fault) };
 
     /// Hands the node a parcel.
     fn post(&mut self, parcel: Parcel) -> Result<(), PortFault>
@@ -101,7 +104,8 @@ pub trait Port {
         ensures posted { OnOk result ((state self.new).stage ≡ Posted parcel) }
         ensures ended { OnErr result ((state self.new).stage ≡ Ended) }
         ensures same { IsSamePort (state self.old) (state self.new) }
-        ensures ok { (state self.old).tells ≡ true → OnOk result ((state self.new).node ≡ (state self.old).node) }
+        ensures ok { (state self.old).tells ≡ true →
+            OnOk result ((state self.new).node ≡ (state self.old).node) }
         ensures err { (state self.old).tells ≡ true → IfErr result (λ fault. IsForWant fault) };
 
     /// Asks for the reply to the parcel. A port that tells answers what its node does with it.
@@ -110,6 +114,10 @@ pub trait Port {
         ensures idle { OnOk result ((state self.new).stage ≡ Idle) }
         ensures ended { OnErr result ((state self.new).stage ≡ Ended) }
         ensures same { IsSamePort (state self.old) (state self.new) }
-        ensures ok { (parcel : Parcel) → (state self.old).stage ≡ Posted parcel → (state self.old).tells ≡ true → IfOk result (λ reply. IsTaken parcel (state self.old) (state self.new) reply) }
-        ensures err { (parcel : Parcel) → (state self.old).stage ≡ Posted parcel → (state self.old).tells ≡ true → IfErr result (λ fault. IsTakeFault parcel (state self.old) fault) };
+        ensures ok { (parcel : Parcel) → (state self.old).stage ≡ Posted parcel →
+            (state self.old).tells ≡ true →
+            IfOk result (λ reply. IsTaken parcel (state self.old) (state self.new) reply) }
+        ensures err { (parcel : Parcel) → (state self.old).stage ≡ Posted parcel →
+            (state self.old).tells ≡ true →
+            IfErr result (λ fault. IsTakeFault parcel (state self.old) fault) };
 }

@@ -1,6 +1,7 @@
 use super::*;
 
-// A program may end at any moment, also between two writes of a sync. What it wrote to the file until then is in the file.
+// A program may end at any moment, also between two writes of a sync. What it wrote to the file
+// until then is in the file.
 
 /// A file whose program ends after so many writes.
 #[derive(Drop)]
@@ -42,7 +43,8 @@ impl OpenFile for Ending {
     }
 }
 
-/// Stores sectors 1, 3, 4 and 7, each filled with its number, in a new file of eight sectors, and ends after so many writes.
+/// Stores sectors 1, 3, 4 and 7, each filled with its number, in a new file of eight sectors, and
+/// ends after so many writes.
 fn store_and_end(rt: &HostRuntime, path: &PathBuf, writes: u64) -> Result<(), Fail> {
     let mut image = Image::blank(rt.alloc(), 8)?;
     for n in [1u8, 3, 4, 7] {

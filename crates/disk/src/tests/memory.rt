@@ -3,8 +3,9 @@ ghost use Rattle.std.specs.Prelude.{◌≡◌, length, IfOk};
 use super::*;
 use std::alloc::Global;
 
-// With ample memory each call here answers at once. `rt try --test --fail-alloc 1..` refuses each allocation in turn: the call
-// that meets it leaves all as it was, and the same call made again answers as it would have.
+// With ample memory each call here answers at once. `rt try --test --fail-alloc 1..` refuses each
+// allocation in turn: the call that meets it leaves all as it was, and the same call made again
+// answers as it would have.
 
 fn blank(alloc: Global) -> Result<MemDisk, AllocError> {
     match MemDisk::blank(alloc, 8) {

@@ -1,5 +1,5 @@
-// Runs of PHOLD and the job shop beside a plain program, which keeps a sorted list of what is pending and has each model
-// written once more.
+// Runs of PHOLD and the job shop beside a plain program, which keeps a sorted list of what is
+// pending and has each model written once more.
 
 use eventkey::Message;
 use model::World;

@@ -1,5 +1,5 @@
-// Ten thousand streams of hostile bytes, beside a decoder as plain as it can be had: it walks over a frame's numbers and keeps
-// nothing.
+// Ten thousand streams of hostile bytes, beside a decoder as plain as it can be had: it walks over
+// a frame's numbers and keeps nothing.
 
 use super::*;
 

@@ -1,7 +1,8 @@
 use super::*;
 
-// What is refused memory once leaves the ledger as it was, and the same call works then. With ample memory each call works at
-// once; `rt try --test --fail-alloc N` refuses the allocation of each number in turn.
+// What is refused memory once leaves the ledger as it was, and the same call works then. With ample
+// memory each call works at once; `rt try --test --fail-alloc N` refuses the allocation of each
+// number in turn.
 
 fn made(alloc: Global, lows: [Option<u64>; 2]) -> Result<Ledger, LedgerFault> {
     match two_nodes(alloc, 0, lows) {

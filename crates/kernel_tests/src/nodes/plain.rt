@@ -1,5 +1,6 @@
-// A node as plainly as it can be had: three lists a process in no order but that in which things came, and whatever is wanted is
-// found by looking at all of them. Nothing is let go: what was told is counted.
+// A node as plainly as it can be had: three lists a process in no order but that in which things
+// came, and whatever is wanted is found by looking at all of them. Nothing is let go: what was told
+// is counted.
 
 use super::*;
 use models::Relay;

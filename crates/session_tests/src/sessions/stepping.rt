@@ -112,7 +112,8 @@ fn the_last_sync_of_a_commit_fails(rt: HostRuntime) -> Result<(), Fail> {
     let alloc = rt.alloc();
     let ring = Ring;
     let image = formatted(alloc, &ring)?.crash(alloc, Torn::Old)?;
-    // The opening syncs and reads three sectors; the commit writes a data sector and the next gate, syncs, opens its gate, and syncs.
+    // The opening syncs and reads three sectors; the commit writes a data sector and the next gate,
+    // syncs, opens its gate, and syncs.
     let mut session = opened(alloc, &ring, failing(alloc, image, Some(8))?)?;
     session.drive(steps(alloc, 12)?.as_slice())?;
     let committed = stepped(&mut session, &Step::Commit);

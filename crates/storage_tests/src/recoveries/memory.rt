@@ -1,7 +1,8 @@
 use super::*;
 
-// What refuses memory once leaves the log as it was, and the same call works then. With ample memory each call answers at
-// once; `rt try --test --fail-alloc N` refuses the allocation of each number in turn.
+// What refuses memory once leaves the log as it was, and the same call works then. With ample
+// memory each call answers at once; `rt try --test --fail-alloc N` refuses the allocation of each
+// number in turn.
 
 fn is_of_memory(fault: &RecoveryFault) -> bool {
     matches!(

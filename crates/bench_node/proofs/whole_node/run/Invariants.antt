@@ -1,4 +1,4 @@
-use Rattle.std.proofs.Common.{◌≡◌, false}
+use Rattle.std.proofs.Common.{◌≡◌}
 use Rattle.bench_node.specs.Scatter.{scatter}
 use Rattle.node.specs.Kept.{HasHistories}
 use Rattle.bench_node.proofs.whole_node.run.Given as goal
