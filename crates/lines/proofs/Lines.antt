@@ -1,7 +1,7 @@
 -- What clap finds in a line of the program.
 use Rattle.std.specs.Borrow.{Bor}
 use Rattle.std.specs.Prelude.{◌≡◌, ◌⊎◌, ◌≤◌, ◌<◌, ◌^◌, ◌&&◌, ◌||◌, ℕ, Bool, true, false, List, [], ◌∷◌, Option, Some, None, Result, Ok, Err}
-use Rattle.std.specs.Prelude.{option_map, unwrap_or, find, nat_le, if◌then◌else◌}
+use Rattle.std.specs.Prelude.{IfOk, option_map, unwrap_or, find, nat_le, if◌then◌else◌}
 use Rattle.std.specs.Str.Parse.{ParsesUnsigned, digits_value, without_leading_plus}
 use Rattle.std.proofs.Common.{◌∙◌, refl, ap, ap₂, sym, inl, inr, arith}
 use Rattle.std.proofs.lemmas.Bool.{cases_Bool, le-leb, leb-true}
@@ -13,14 +13,14 @@ use Rattle.clap.specs.Faults.{is_simple_and_free}
 use Rattle.clap.specs.Matches.{ReadsOne}
 use Rattle.clap.specs.Simple.{argument_words, built, entered, is_simple, label_of, names_of, rows_at}
 use Rattle.clap.specs.ValueTests.{accepts}
-use Rattle.clap.specs.Words.{AddsSubcommand, App, Row, Text, app_of, found_of, rows_of, shape_of, subcommand_name_of, subcommand_of, subcommand_rows_of, with_subcommand}
+use Rattle.clap.specs.Words.{App, Row, Rule, Text, found_of, rows_of, rule_of, subcommand_name_of, subcommand_of, subcommand_rows_of, with_rule, with_subcommand}
 use Rattle.clap.specs.Walk.{answers_to, stop_after}
 use Rattle.clap.specs.declared.builder.command.Command.{Command}
-use Rattle.clap.specs.declared.builder.command.Command.TheViews.{out-Command}
+use Rattle.clap.specs.declared.builder.arg.Arg.{Arg}
 use Rattle.clap.specs.declared.builder.value_parser.ValueParser.TheVariants.{Unsigned}
 use Rattle.clap.specs.declared.parser.matches.ArgMatches.{ArgMatches}
 use Rattle.clap.specs.declared.parser.matches.ArgMatches.TheViews.{out-ArgMatches, out-SubCommand}
-use Rattle.lines.specs.Line.{is_named, number_of, program}
+use Rattle.lines.specs.Line.{AddsArgument, AddsCommand, IsApp, is_named, number_of, program}
 
 pub program_is_simple : is_simple program ≡ true
 unfolding clap_on_literals
@@ -77,14 +77,23 @@ pub now_or : (o : Option (Bor (List ℕ))) (d : Bor (List ℕ)) → (unwrap_or o
 now_or None d = refl
 now_or (Some s) d = refl
 
--- a command with one more subcommand
-pub grown : (old sub new : Command) (a b : App) → AddsSubcommand old sub new → (out-Command sub).has_globals ≡ false → app_of old ≡ a → app_of sub ≡ b
-    → app_of new ≡ with_subcommand a b.top
-grown old sub new a b h local e f = h.shape local ∙ ap (λ x. with_subcommand x (shape_of sub)) e ∙ ap (λ (x : App). with_subcommand a x.top) f
+module _ {E : Type 0} where
+  -- a command with one argument more, its own
+  pub argument_added : (command result : Result Command E) (argument : Arg) (app : App) (rule : Rule) → IfOk result (AddsArgument command argument) → IfOk command (IsApp app)
+      → rule_of argument ≡ rule → argument.global ≡ false → IfOk result (IsApp (with_rule app rule))
+  argument_added command (Err e) argument app rule adds is says local = tt
+  argument_added (Err e) (Ok new) argument app rule adds is says local = absurd adds
+  argument_added (Ok old) (Ok new) argument app rule adds is says local =
+      (adds.shape local ∙ ap₂ with_rule is.0 says, adds.globals ∙ ap₂ (λ (x : Bool) (y : Bool). x || y) is.1 local)
 
-pub plain_grown : (old sub new : Command) → AddsSubcommand old sub new → (out-Command old).has_globals ≡ false → (out-Command sub).has_globals ≡ false
-    → (out-Command new).has_globals ≡ false
-plain_grown old sub new h a b = h.globals ∙ ap₂ (λ (x : Bool) (y : Bool). x || y) a b
+  -- a program with one command more
+  pub command_added : (above command result : Result Command E) (app added : App) → IfOk result (AddsCommand above command) → IfOk above (IsApp app) → IfOk command (IsApp added)
+      → IfOk result (IsApp (with_subcommand app added.top))
+  command_added above command (Err e) app added adds is has = tt
+  command_added (Err e) command (Ok new) app added adds is has = absurd adds
+  command_added (Ok old) (Err e) (Ok new) app added adds is has = absurd adds
+  command_added (Ok old) (Ok sub) (Ok new) app added adds is has =
+      (adds.shape has.1 ∙ ap₂ (λ (a : App) (b : App). with_subcommand a b.top) is.0 has.0, adds.globals ∙ ap₂ (λ (x : Bool) (y : Bool). x || y) is.1 has.1)
 
 -- what is chosen of a number that was read
 abbrev pub chosen : ℕ → ℕ → Option ℕ → ℕ

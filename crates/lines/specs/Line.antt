@@ -1,10 +1,13 @@
 -- The command line of `timewarp` (this project's profile), in the words of clap: its commands, and
 -- what a line says.
-use Rattle.std.specs.Prelude.{◌≡◌, ◌⊎◌, ◌≤◌, ℕ, List, [], ◌∷◌, Option, Some, None, true, codes, unwrap_or}
-use Rattle.std.specs.Prelude.{if◌then◌else◌, ⊤}
+use Rattle.std.specs.Prelude.{◌≡◌, ◌⊎◌, ◌≤◌, ℕ, List, [], ◌∷◌, Option, Some, None, Result, IsOkAnd}
+use Rattle.std.specs.Prelude.{true, false, codes, unwrap_or, if◌then◌else◌, ⊤}
 use Rattle.std.specs.Str.Parse.{digits_value, without_leading_plus}
-use Rattle.clap.specs.Words.{App, Row, Rule, Text, first_of, new_app, new_rule, one_of, subcommand_of}
-use Rattle.clap.specs.Words.{with_rule, with_subcommand}
+use Rattle.clap.specs.declared.builder.arg.Arg.{Arg}
+use Rattle.clap.specs.declared.builder.command.Command.{Command}
+use Rattle.clap.specs.declared.builder.command.Command.TheViews.{out-Command}
+use Rattle.clap.specs.Words.{AddsArg, AddsSubcommand, App, Row, Rule, Text, app_of, first_of}
+use Rattle.clap.specs.Words.{new_app, new_rule, one_of, subcommand_of, with_rule, with_subcommand}
 use Rattle.clap.specs.ValueTests.{accepts}
 use Rattle.clap.specs.declared.builder.value_parser.ValueParser.TheVariants.{Unsigned}
 use Rattle.lines.specs.declared.line.Line.{Line}
@@ -63,6 +66,21 @@ program = with_subcommand (with_subcommand (with_subcommand (with_subcommand
     (on_disk (codes "log")).top) (on_disk (codes "show")).top) (on_model (codes "seq")).top)
     (on_model (codes "check")).top
 
+-- ---- building them
+
+-- the command reads words as this one, and its arguments are its own
+abbrev pub IsApp : App → Command → Type 0
+IsApp app command = (app_of command ≡ app) × ((out-Command command).has_globals ≡ false)
+
+-- a command that is there has one argument more
+abbrev pub AddsArgument : {E : Type 0} → Result Command E → Arg → Command → Type 0
+AddsArgument command argument new = IsOkAnd command (λ old. AddsArg old argument new)
+
+-- a program that is there has one command more, which is there too
+abbrev pub AddsCommand : {E : Type 0} → Result Command E → Result Command E → Command → Type 0
+AddsCommand program command new =
+    IsOkAnd program (λ old. IsOkAnd command (λ added. AddsSubcommand old added new))
+
 -- ---- what a line says
 
 -- the text of an argument
@@ -97,7 +115,8 @@ SaysRows (Run model disk nodes batch rounds) name rows = (name ≡ codes "run")
     × (rounds ≡ number_in (codes "rounds") 1 4294967295 rows)
 SaysRows (Log model disk) name rows = (name ≡ codes "log") × SaysDisk model.now disk.now rows
 SaysRows (Show model disk) name rows = (name ≡ codes "show") × SaysDisk model.now disk.now rows
-SaysRows (Seq model) name rows = (name ≡ codes "seq") × (model.now ≡ text_in (codes "MODEL") rows)
+SaysRows (Seq model) name rows =
+    (name ≡ codes "seq") × (model.now ≡ text_in (codes "MODEL") rows)
 SaysRows (Check model) name rows =
     (name ≡ codes "check") × (model.now ≡ text_in (codes "MODEL") rows)
 

@@ -3,7 +3,9 @@
 ghost use Rattle.std.specs.Prelude.{◌≡◌, false, true, IfOk};
 ghost use Rattle.clap.specs.Words.{app_of, rule_of};
 ghost use Rattle.clap.specs.declared.builder.command.Command.TheViews.{out-Command as fields_of};
-ghost use Rattle.lines.specs.Line.{new_command, number_option, on_disk, on_model, path_argument, program, run_command};
+ghost use Rattle.lines.specs.Line.{new_command, number_option, on_disk, on_model, path_argument};
+ghost use Rattle.lines.specs.Line.{program, run_command, without_commands};
+ghost use Rattle.lines.specs.Line.{AddsArgument, AddsCommand, IsApp};
 
 use clap::builder::ValueParser;
 use clap::{Arg, Command};
@@ -11,9 +13,20 @@ use std::alloc::{AllocError, Global};
 
 /// All commands.
 pub fn program<'a>(alloc: Global) -> Result<Command<'a>, AllocError>
-    ensures app { IfOk result (λ c. app_of c ≡ program) }
-    ensures plain { IfOk result (λ c. (fields_of c).has_globals ≡ false) }
+    ensures is { IfOk result (IsApp program) }
     ensures required { IfOk result (λ c. (fields_of c).subcommand_required ≡ true) }
+{
+    let program = with_command(Ok(without_commands(alloc)), new(alloc));
+    let program = with_command(program, run(alloc));
+    let program = with_command(program, on_disk(alloc, "log", LOG_ABOUT, LOG_HELP));
+    let program = with_command(program, on_disk(alloc, "show", SHOW_ABOUT, SHOW_HELP));
+    let program = with_command(program, on_model(alloc, "seq", SEQ_ABOUT, SEQ_HELP));
+    with_command(program, on_model(alloc, "check", CHECK_ABOUT, CHECK_HELP))
+}
+
+/// The program before it has its commands.
+fn without_commands<'a>(alloc: Global) -> Command<'a>
+    ensures { IsApp without_commands result }
 {
     Command::new(alloc, "timewarp")
         .about(
@@ -23,12 +36,6 @@ pub fn program<'a>(alloc: Global) -> Result<Command<'a>, AllocError>
         .subcommand_required(true)
         .arg_required_else_help(true)
         .disable_help_subcommand(true)
-        .subcommand(new(alloc)?)?
-        .subcommand(run(alloc)?)?
-        .subcommand(on_disk(alloc, "log", LOG_ABOUT, LOG_HELP)?)?
-        .subcommand(on_disk(alloc, "show", SHOW_ABOUT, SHOW_HELP)?)?
-        .subcommand(on_model(alloc, "seq", SEQ_ABOUT, SEQ_HELP)?)?
-        .subcommand(on_model(alloc, "check", CHECK_ABOUT, CHECK_HELP)?)
 }
 
 const PROGRAM_HELP: &str = "\
@@ -54,16 +61,15 @@ Faults:
 
 /// The command `new`.
 fn new<'a>(alloc: Global) -> Result<Command<'a>, AllocError>
-    ensures app { IfOk result (λ c. app_of c ≡ new_command) }
-    ensures plain { IfOk result (λ c. (fields_of c).has_globals ≡ false) }
+    ensures { IfOk result (IsApp new_command) }
 {
-    let sectors = number_option(alloc, "sectors", "4096", 8, 131_072).help(
-        "How many sectors of 512 bytes the disk has, 8 to 131072",
-    );
-    on_disk(alloc, "new", NEW_ABOUT, NEW_HELP)?.arg(sectors)
+    let sectors = number_option(alloc, "sectors", "4096", 8, 131_072, SECTORS_HELP);
+    with_argument(on_disk(alloc, "new", NEW_ABOUT, NEW_HELP), sectors)
 }
 
 const NEW_ABOUT: &str = "Makes a disk with an empty log for a model";
+
+const SECTORS_HELP: &str = "How many sectors of 512 bytes the disk has, 8 to 131072";
 
 const NEW_HELP: &str = "\
 A file that is there has to have the size that is asked for, and must not have a log.
@@ -73,25 +79,22 @@ Output:
 
 /// The command `run`.
 fn run<'a>(alloc: Global) -> Result<Command<'a>, AllocError>
-    ensures app { IfOk result (λ c. app_of c ≡ run_command) }
-    ensures plain { IfOk result (λ c. (fields_of c).has_globals ≡ false) }
+    ensures { IfOk result (IsApp run_command) }
 {
-    let nodes = number_option(alloc, "nodes", "1", 1, 64).help(
-        "How many nodes share the processes, 1 to 64",
-    );
-    let batch = number_option(alloc, "batch", "16", 1, 4_294_967_295).help(
-        "How many messages a node handles at a turn, 1 to 4294967295",
-    );
-    let rounds = number_option(alloc, "rounds", "1000000", 1, 4_294_967_295).help(
-        "After how many rounds the run stops, 1 to 4294967295",
-    );
-    on_disk(alloc, "run", RUN_ABOUT, RUN_HELP)?
-        .arg(nodes)?
-        .arg(batch)?
-        .arg(rounds)
+    let nodes = number_option(alloc, "nodes", "1", 1, 64, NODES_HELP);
+    let batch = number_option(alloc, "batch", "16", 1, 4_294_967_295, BATCH_HELP);
+    let rounds = number_option(alloc, "rounds", "1000000", 1, 4_294_967_295, ROUNDS_HELP);
+    let command = with_argument(on_disk(alloc, "run", RUN_ABOUT, RUN_HELP), nodes);
+    with_argument(with_argument(command, batch), rounds)
 }
 
 const RUN_ABOUT: &str = "Runs a model on its disk, from the last commit to its end";
+
+const NODES_HELP: &str = "How many nodes share the processes, 1 to 64";
+
+const BATCH_HELP: &str = "How many messages a node handles at a turn, 1 to 4294967295";
+
+const ROUNDS_HELP: &str = "After how many rounds the run stops, 1 to 4294967295";
 
 const RUN_HELP: &str = "\
 In a round each node has its turn, and what no rollback can reach any more is committed.
@@ -158,11 +161,12 @@ fn on_disk<'a>(
     about: &'a str,
     help: &'a str,
 ) -> Result<Command<'a>, AllocError>
-    ensures app { IfOk result (λ c. app_of c ≡ on_disk name.entry.now) }
-    ensures plain { IfOk result (λ c. (fields_of c).has_globals ≡ false) }
+    ensures { IfOk result (IsApp (on_disk name.entry.now)) }
 {
-    let disk = path(alloc, "DISK").help("The file of the disk");
-    on_model(alloc, name, about, help)?.arg(disk)
+    with_argument(
+        on_model(alloc, name, about, help),
+        path(alloc, "DISK", "The file of the disk"),
+    )
 }
 
 /// A command on a model file.
@@ -172,24 +176,43 @@ fn on_model<'a>(
     about: &'a str,
     help: &'a str,
 ) -> Result<Command<'a>, AllocError>
-    ensures app { IfOk result (λ c. app_of c ≡ on_model name.entry.now) }
-    ensures plain { IfOk result (λ c. (fields_of c).has_globals ≡ false) }
+    ensures { IfOk result (IsApp (on_model name.entry.now)) }
 {
-    let model = path(alloc, "MODEL").help(
-        "The model file: TOML with exactly the keys of its model (see 'seq --help')",
-    );
-    Command::new(alloc, name)
-        .about(about)
-        .after_help(help)
-        .arg(model)
+    let command = Command::new(alloc, name).about(about).after_help(help);
+    with_argument(Ok(command), path(alloc, "MODEL", MODEL_HELP))
+}
+
+const MODEL_HELP: &str =
+    "The model file: TOML with exactly the keys of its model (see 'seq --help')";
+
+/// A program with one command more, where both are there.
+///
+/// It takes both as their calls answer them, so that here alone a command is let go.
+fn with_command<'a>(
+    program: Result<Command<'a>, AllocError>,
+    command: Result<Command<'a>, AllocError>,
+) -> Result<Command<'a>, AllocError>
+    ensures { IfOk result (AddsCommand program.entry command.entry) }
+{
+    program?.subcommand(command?)
+}
+
+/// A command with one argument more, where it is there.
+fn with_argument<'a>(
+    command: Result<Command<'a>, AllocError>,
+    argument: Arg<'a>,
+) -> Result<Command<'a>, AllocError>
+    ensures { IfOk result (AddsArgument command.entry argument.entry) }
+{
+    command?.arg(argument)
 }
 
 /// A required argument, a path.
-fn path<'a>(alloc: Global, id: &'a str) -> Arg<'a>
+fn path<'a>(alloc: Global, id: &'a str, help: &'a str) -> Arg<'a>
     ensures rule { rule_of result ≡ path_argument id.entry.now }
     ensures local { result.global ≡ false }
 {
-    Arg::new(alloc, id).required(true)
+    Arg::new(alloc, id).required(true).help(help)
 }
 
 /// An option whose value is a number from `least` to `most`.
@@ -199,6 +222,7 @@ fn number_option<'a>(
     default: &'a str,
     least: u64,
     most: u64,
+    help: &'a str,
 ) -> Arg<'a>
     ensures rule { rule_of result ≡ number_option name.entry.now least most default.entry.now }
     ensures local { result.global ≡ false }
@@ -208,4 +232,5 @@ fn number_option<'a>(
         .value_name("N")
         .value_parser(ValueParser::unsigned(least, most))
         .default_value(default)
+        .help(help)
 }

@@ -7,7 +7,7 @@ use Rattle.lines.proofs.line.read_line.Goals as goal
 pub line_of-requires : goal.line_of-requires
 line_of-requires g c =
     let words = map g.S.AsStr.text c.args.words.now in
-    let e = c.in_ok-program.ensures.app in
+    let e = c.in_ok-program.ensures.is.0 in
     let rows = rows_of (found_of c.in-Some.values.now) in
     let found : subcommand_of program words ≡ Some (c.in-Some.name.now, rows) =
     sym (ap (λ a. subcommand_of a words) e) ∙ sym (c.in_ok-matches.ensures.matches (ap is_simple e ∙ program_is_simple)).1
@@ -17,7 +17,7 @@ line_of-requires g c =
 pub returns-clause-ok : goal.returns-clause-ok
 returns-clause-ok g c =
     let words = map g.S.AsStr.text c.args.words.now in
-    let e = c.in_ok-program.ensures.app in
+    let e = c.in_ok-program.ensures.is.0 in
     let rows = rows_of (found_of c.in-Some.values.now) in
     let found : subcommand_of program words ≡ Some (c.in-Some.name.now, rows) =
     sym (ap (λ a. subcommand_of a words) e) ∙ sym (c.in_ok-matches.ensures.matches (ap is_simple e ∙ program_is_simple)).1
@@ -26,5 +26,5 @@ returns-clause-ok g c =
 
 pub returns-clause-refused : goal.returns-clause-refused
 returns-clause-refused g c =
-    let e = c.in_ok-program.ensures.app in
+    let e = c.in_ok-program.ensures.is.0 in
     sym (ap (λ a. fault_of a (map g.S.AsStr.text c.args.words.now)) e) ∙ c.in_ok-matches.ensures.kinds (ap is_simple_and_free e ∙ program_is_free)

@@ -1,0 +1,9 @@
+use Rattle.lines.proofs.Lines.{argument_added}
+use Rattle.lines.proofs.grammar.run.Goals as goal
+
+pub returns : goal.returns
+returns c =
+    argument_added _ _ _ _ _ c.with_argument-2.ensures
+    (argument_added _ _ _ _ _ c.with_argument.ensures
+    (argument_added _ _ _ _ _ c.with_argument-command.ensures c.on_disk.ensures c.number_option-nodes.ensures.rule c.number_option-nodes.ensures.local)
+    c.number_option-batch.ensures.rule c.number_option-batch.ensures.local) c.number_option-rounds.ensures.rule c.number_option-rounds.ensures.local
