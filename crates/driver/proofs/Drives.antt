@@ -1,10 +1,10 @@
 -- Steps of a session, one after another.
-use Rattle.std.proofs.Common.{◌≡◌, ◌≤◌, ℕ, [], ◌∷◌, ◌++◌, arith, subst}
+use Rattle.std.proofs.Common.{◌≡◌, ◌≤◌, ℕ, List, [], ◌∷◌, ◌++◌, arith, refl, subst}
 use Rattle.coordinator.proofs.Driving.{crashed, joined, none_made, one_made}
 use Rattle.coordinator.specs.Crashes.{IsWritten}
 use Rattle.coordinator.specs.Session.{IsTold, Session, picture_of, running}
 use Rattle.disk.specs.Disk.{DiskState}
-use Rattle.driver.specs.Driver.{IsDriven, IsFinished, KeepsStanding}
+use Rattle.driver.specs.Driver.{IsDriven, IsDrivenBy, IsFinished, KeepsStanding}
 use Rattle.model.specs.Meaning.{Meaning}
 use Rattle.model.specs.World.{IsUpto}
 use Rattle.protocol.proofs.Runs.{fronts_open}
@@ -23,6 +23,27 @@ module _ {M P D : Type 0} (meaning : M → Meaning) (state : P → PortState) (d
       → (IsTold (running meaning state old) → IsWritten (meaning old.model) old.end old.front old.log → IsWritten (meaning old.model) old.end new.front new.log)
       → KeepsStanding meaning state disk old new → IsDriven meaning state disk old new
   one_step k answer old new same made written crashes = record { moves = k ∷ []; made = one_made meaning state disk k answer old new same made written crashes }
+
+  -- the same, with what holds of the steps
+  pub stood_by : (S : List Move → Type 0) (s : Session M P D) → S [] → IsDrivenBy meaning state disk S s s
+  stood_by S s none = record { moves = []; shape = none; made = none_made meaning state disk s }
+
+  pub one_step_by : (k : Move) (answer : Answer) (old new : Session M P D) → (new.model ≡ old.model) × (new.end ≡ old.end)
+      → (IsTold (running meaning state old) → IsMade k (running meaning state old) (running meaning state new) answer)
+      → (IsTold (running meaning state old) → IsWritten (meaning old.model) old.end old.front old.log → IsWritten (meaning old.model) old.end new.front new.log)
+      → KeepsStanding meaning state disk old new → IsDrivenBy meaning state disk (λ ks. ks ≡ k ∷ []) old new
+  one_step_by k answer old new same made written crashes = record { moves = k ∷ []; shape = refl; made = one_made meaning state disk k answer old new same made written crashes }
+
+  pub then_by : (S T U : List Move → Type 0) (old mid new : Session M P D) → ((ks ls : List Move) → S ks → T ls → U (ks ++ ls)) → IsDrivenBy meaning state disk S old mid → IsDrivenBy meaning state disk T mid new →
+      IsDrivenBy meaning state disk U old new
+  then_by S T U old mid new both first second = record {
+    moves = first.moves ++ second.moves;
+    shape = both first.moves second.moves first.shape second.shape;
+    made = joined meaning state disk first.moves second.moves old mid new first.made second.made;
+  }
+
+  pub driven_so : (S : List Move → Type 0) (old new : Session M P D) → IsDrivenBy meaning state disk S old new → IsDriven meaning state disk old new
+  driven_so S old new is = record { moves = is.moves; made = is.made }
 
   pub then_driven : (old mid new : Session M P D) → IsDriven meaning state disk old mid → IsDriven meaning state disk mid new → IsDriven meaning state disk old new
   then_driven old mid new first second = record {

@@ -1,3 +1,5 @@
 mod Drives
 mod Kept
 mod Ports
+mod Shapes
+mod Unfinished

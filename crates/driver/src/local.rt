@@ -1,8 +1,8 @@
 // Whole runs on a disk, over nodes in this program.
 
-ghost use Rattle.std.specs.Prelude.{◌≡◌, ◌<◌, ◌≤◌, ◌^◌, ℕ, IfOk, OnOk, length, map, replicate};
+ghost use Rattle.std.specs.Prelude.{◌≡◌, ◌<◌, ◌≤◌, ◌^◌, ℕ, IfErr, IfOk, IsErrOf, OnOk, length, map, replicate};
 ghost use Rattle.coordinator.specs.Crashes.{KeepsRecovery, Recovers};
-ghost use Rattle.driver.specs.Driver.{IsRunOf};
+ghost use Rattle.driver.specs.Driver.{IsRunOf, IsUnfinished};
 ghost use Rattle.wire.specs.Local.{state_of};
 ghost use Rattle.wire.specs.declared.local.Held.TheVariants.{Fresh};
 
@@ -53,6 +53,9 @@ pub fn run_local<M: Simulated, D: SectorDisk + Drop, W: Watch>(
     // All that is told is of the sequential simulation up to the end.
     ensures finished { IfOk result.told (λ told. IsRunOf (M.meaning model.now) end told.time told.events) }
     ensures count { IfOk result.told (λ told. length told.ran.items ≡ plan.nodes) }
+    // The rounds are the cause only where all of them are made, and the end is not reached.
+    ensures rounds { IsErrOf result.told RunFault.Rounds → IsUnfinished (M.meaning model.now) end
+        plan.nodes plan.batch plan.rounds (D.state disk).reads }
     // Whatever time the disk stands for at least, it does so at each moment of the run and after it, at
     // every exit; and after a run that came to its end, for the end.
     ensures crashes { (a : ℕ) → Recovers (M.meaning model.now) end a (D.state disk) →
@@ -100,8 +103,9 @@ pub fn local_ports<'m, M: Simulated>(
     model: &'m M,
     nodes: u32,
 ) -> Result<Vec<LocalPort<'m, M>>, RunFault>
-    ensures { IfOk result (λ ports. map (λ p. state_of (M.meaning p.model) p.held) ports.items
+    ensures ports { IfOk result (λ ports. map (λ p. state_of (M.meaning p.model) p.held) ports.items
         ≡ replicate nodes (state_of (M.meaning model.now) Fresh)) }
+    ensures want { IfErr result (λ fault. fault ≡ RunFault.NoMemory) }
 {
     let mut ports = Vec::new(alloc);
     'ports: for _ in 0..nodes {

@@ -1,7 +1,8 @@
 // Rounds of steps.
 
-ghost use Rattle.std.specs.Prelude.{◌≡◌, ◌<◌, ◌≤◌, IfOk, OnOk, IsErrOf, length};
-ghost use Rattle.driver.specs.Driver.{IsDriven, IsFinished, KeepsStanding};
+ghost use Rattle.std.specs.Prelude.{◌≡◌, ◌<◌, ◌≤◌, ℕ, IfOk, OnOk, IsErrOf, length};
+ghost use Rattle.driver.specs.Driver.{AreRounds, IsDriven, IsDrivenBy, IsFinished, IsRound};
+ghost use Rattle.driver.specs.Driver.{IsTurn, KeepsStanding};
 
 use crate::picks::places;
 use coordinator::{Answer, Session, SessionFault, Step};
@@ -61,11 +62,17 @@ pub fn run<M: Simulated, P: Port, D: SectorDisk, W: Watch>(
     // All is committed, by steps of the session alone.
     ensures ended { OnOk result (end ≤ session.new.front.time) }
     ensures driven { OnOk result (IsDriven M.meaning P.state D.state session.old session.new) }
+    ensures in_rounds { OnOk result ((rounds : ℕ) × (rounds ≤ plan.rounds)
+        × IsDrivenBy M.meaning P.state D.state (AreRounds plan.nodes plan.batch rounds)
+        session.old session.new) }
     ensures finished { session.old.end ≡ end →
         OnOk result (IsFinished M.meaning P.state end session.old session.new) }
     // At every exit a crash leaves what was committed.
     ensures crashes { KeepsStanding M.meaning P.state D.state session.old session.new }
     ensures rounds { IsErrOf result RunFault.Rounds → session.new.front.time < end }
+    ensures all_rounds { IsErrOf result RunFault.Rounds →
+        IsDrivenBy M.meaning P.state D.state (AreRounds plan.nodes plan.batch plan.rounds)
+        session.old session.new }
     ensures count { IfOk result (λ ran. length ran.items ≡ plan.nodes) }
 {
     let mut ran = Vec::new(alloc);
@@ -92,7 +99,8 @@ fn round<M: Simulated, P: Port, D: SectorDisk>(
     ran: &mut [u64],
 ) -> Result<(), RunFault>
     requires { length ran.old ≡ plan.nodes }
-    ensures driven { OnOk result (IsDriven M.meaning P.state D.state session.old session.new) }
+    ensures driven { OnOk result (IsDrivenBy M.meaning P.state D.state
+        (IsRound plan.nodes plan.batch) session.old session.new) }
     ensures crashes { KeepsStanding M.meaning P.state D.state session.old session.new }
     ensures rounds { IsErrOf result RunFault.Rounds → ⊥ }
 {
@@ -114,7 +122,8 @@ fn turn<M: Simulated, P: Port, D: SectorDisk>(
     plan: Plan,
 ) -> Result<u32, RunFault>
     requires { node < plan.nodes }
-    ensures driven { OnOk result (IsDriven M.meaning P.state D.state session.old session.new) }
+    ensures driven { OnOk result (IsDrivenBy M.meaning P.state D.state
+        (IsTurn plan.batch node) session.old session.new) }
     ensures crashes { KeepsStanding M.meaning P.state D.state session.old session.new }
     ensures rounds { IsErrOf result RunFault.Rounds → ⊥ }
 {

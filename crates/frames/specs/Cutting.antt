@@ -1,8 +1,9 @@
 -- A stream of bytes is cut from the left into frames (this project's profile).
 -- What stands in one frame's place, and what is behind it.
-use Rattle.std.specs.Prelude.{ℕ, ◌^◌, nat_lt, if◌then◌else◌, List, [], ◌∷◌, take, drop, length}
+use Rattle.std.specs.Prelude.{ℕ, ◌^◌, nat_lt, nat_le, nat_eq, ◌&&◌, if◌then◌else◌}
+use Rattle.std.specs.Prelude.{List, [], ◌∷◌, take, drop, length}
 use Rattle.std.specs.Prelude.{Option, Some, None, Result, Ok, Err}
-use Rattle.eventkey.specs.Reading.{number_at}
+use Rattle.eventkey.specs.Reading.{◌>>=◌, number_at}
 use Rattle.frames.specs.Bodies.{frame_in, kind_of}
 use Rattle.frames.specs.declared.Frame.{Frame}
 use Rattle.frames.specs.declared.Kind.{Kind}
@@ -54,3 +55,17 @@ opened_cut c = elim c.found [
 -- the frame that stands first in the bytes
 abbrev pub frame_cut : List ℕ → Cut Frame
 frame_cut bytes = opened_cut (cut bytes)
+
+-- the frame that all of the bytes are, its body not yet looked at
+unfoldable pub raw_in : List ℕ → Option Raw
+raw_in bytes = do
+  size ← number_at 4 bytes
+  number ← number_at 1 size.1
+  kind ← kind_of number.0
+  if nat_le size.0 (2 ^ 24) && nat_eq (length number.1) size.0 then
+      Some (record { kind = kind; body = number.1 })
+      else None
+
+-- the frame that all of the bytes spell
+abbrev pub whole_in : List ℕ → Option Frame
+whole_in bytes = raw_in bytes >>= (λ raw. frame_in raw.kind raw.body)

@@ -2,7 +2,7 @@
 use Rattle.std.specs.Prelude.{◌≡◌, ◌≤◌, ◌^◌, List, ℕ, ◌∷◌, ◌++◌, length, Ok, None, Some}
 use Rattle.eventkey.specs.Reading.{IsBytes}
 use Rattle.frames.specs.Bodies.{body_bytes, frame_bytes, frame_in, kind_in}
-use Rattle.frames.specs.Cutting.{frame_cut}
+use Rattle.frames.specs.Cutting.{frame_cut, whole_in}
 use Rattle.frames.specs.Ranges.{IsInRange}
 use Rattle.frames.specs.Streams.{Finds}
 use Rattle.frames.specs.declared.Frame.{Frame}
@@ -12,6 +12,11 @@ use Rattle.frames.specs.declared.Kind.{Kind}
 abbrev pub FramesAreReadBack : Type 0
 FramesAreReadBack = (f : Frame) (rest : List ℕ) → IsInRange f → length (body_bytes f) ≤ 2 ^ 24 →
     Finds (frame_cut (frame_bytes f ++ rest)) (Ok (Some f)) rest
+
+-- the same of bytes that are one frame and nothing more
+abbrev pub FramesAreReadWhole : Type 0
+FramesAreReadWhole =
+    (f : Frame) → IsInRange f → length (body_bytes f) ≤ 2 ^ 24 → whole_in (frame_bytes f) ≡ Some f
 
 -- a frame that was read is spelled so, lies in its ranges, and was not too long
 pub record IsSpelled (bytes : List ℕ) (f : Frame) (rest : List ℕ) : Type 0 where

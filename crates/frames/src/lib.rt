@@ -6,12 +6,14 @@ ghost use Rattle.std.specs.Prelude.{◌≡◌};
 mod laws;
 mod ranges;
 mod reading;
+mod single;
 mod stream;
 mod writing;
 
 pub use laws::{law_of_bodies, law_of_frames};
 use node::{Load, NodeFault, Parcel, Reply};
 pub use reading::{read_load, read_parcel};
+pub use single::{read_whole_frame, read_whole_raw};
 pub use stream::{MOST_BYTES, Raw, read_frame, read_raw};
 pub use writing::{encode_fault, encode_load, encode_parcel, encode_reply};
 

@@ -74,7 +74,7 @@ fn read_bytes<R: Read>(
 }
 
 /// The kind of this number.
-fn kind_of(number: u8) -> Option<Kind>
+pub(crate) fn kind_of(number: u8) -> Option<Kind>
     ensures { result ≡ kind_of number }
 {
     match number {

@@ -1,9 +1,10 @@
 -- What a node makes of a load and of a parcel comes back as its frame.
-use Rattle.std.proofs.Common.{◌≡◌, ℕ, ◌^◌, ◌⊎◌, Bool, true, false, List, [], length, Option, Some, None, Result, Ok, Err, inl, inr, refl, sym, ap, subst, ◌∙◌}
+use Rattle.std.proofs.Common.{◌≡◌, ℕ, ◌≤◌, ◌^◌, Bool, true, false, List, [], length, Option, Some, None, Result, Ok, Err, inl, inr, refl, sym, ap, subst, ◌∙◌}
 use Rattle.std.specs.Prelude.{IfErr, IfOk}
+use Rattle.std.specs.Result.{IsErrAnd}
 use Rattle.std.proofs.lemmas.Bool.{cases_lt, lt-ltb, le-ltb}
 use Rattle.model.specs.Meaning.{Meaning}
-use Rattle.node.specs.Handling.{Answer, Node, answer, load_answer, load_refusal, loaded_node, refusal}
+use Rattle.node.specs.Handling.{Node, answer, load_answer, load_refusal, loaded_node, refusal}
 use Rattle.node.specs.declared.Load.{Load}
 use Rattle.node.specs.declared.NodeFault.{NodeFault}
 use Rattle.node.specs.declared.NodeFault.TheVariants as node
@@ -20,25 +21,43 @@ use Rattle.serving.specs.Reactions.{Begins, Reaction, Reacts, RepliesInRange, an
 use Rattle.serving.specs.declared.reaction.Begun.{Begun}
 use Rattle.serving.specs.declared.reaction.Begun.TheVariants.{Loaded, Refused}
 use Rattle.serving.specs.declared.reaction.Response.{Response}
-use Rattle.wire.specs.Port.{IsForWant}
 use Rattle.wire.specs.declared.port.PortFault.{PortFault}
-use Rattle.wire.specs.declared.port.PortFault.TheVariants.{Peer}
-use Rattle.wire.specs.declared.port.WireFault.TheVariants.{TooLong}
-use Rattle.loopback.specs.Passing.{IsMade, IsRefusal, IsReplyBy}
+use Rattle.wire.specs.declared.port.PortFault.TheVariants.{BadReply, Closed, Peer, Wire}
+use Rattle.wire.specs.declared.port.WireFault.{WireFault}
+use Rattle.wire.specs.declared.port.WireFault.TheVariants.{BadBody, BadKind, Io, NoMemory, TooLong, Truncated}
+use Rattle.loopback.specs.Passing.{IsLoadCause, IsMade, IsReadOf, IsReplyBy, IsTakeCause}
 use Rattle.loopback.proofs.Reading.{load_within, parcel_within, spelled_as, spelled_fault}
 
--- 1. A refusal that was read
+-- 1. Faults of frames
 
--- a fault is for want alone, or one of a node, in the frame that was read
-abbrev IsReadOf : Frame → PortFault → Type 0
-IsReadOf f fault = IsRefusal (λ n. f ≡ frame.Fault n) fault
+-- where it is told that memory was refused
+pub told_so : {T : Type 0} (P : PortFault → Type 0) (r : Result T PortFault) (fault : PortFault) → IsErrAnd r (λ e. e ≡ fault) → fault ≡ Wire NoMemory → P (Wire NoMemory) → IfErr r P
+told_so P (Ok x) fault h e p = absurd h
+told_so P (Err f) fault h e p = subst P (sym (h ∙ e)) p
 
-passed : (Q : NodeFault → Type 0) (n : NodeFault) (fault : PortFault) → IsReadOf (frame.Fault n) fault → Q n ⊎ (n ≡ node.NoMemory) → IsRefusal Q fault
-passed Q n fault (inl want) q = inl want
-passed Q n fault (inr is) (inl q) = let same : n ≡ is.0 = (let e = is.2 in cc) in inr (n, is.1 ∙ ap Peer (sym same), q)
-passed Q n fault (inr is) (inr none) =
-    let same : n ≡ is.0 = (let e = is.2 in cc) in
-    inl (subst IsForWant (sym (is.1 ∙ ap Peer (sym same ∙ none))) tt)
+-- no refusal is read of a reply
+reply_fault : (P : PortFault → Type 0) (r : Reply) (fault : PortFault) → IsReadOf (frame.Reply r) fault → P (Wire NoMemory) → P fault
+reply_fault P r (Peer f) e none = absurd (cc)
+reply_fault P r (Wire NoMemory) e none = none
+reply_fault P r (Wire Truncated) e none = absurd e
+reply_fault P r (Wire TooLong) e none = absurd e
+reply_fault P r (Wire BadKind) e none = absurd e
+reply_fault P r (Wire BadBody) e none = absurd e
+reply_fault P r (Wire Io) e none = absurd e
+reply_fault P r Closed e none = absurd e
+reply_fault P r BadReply e none = absurd e
+
+-- a fault of a node that was read, of which this holds
+passed : (P : PortFault → Type 0) (n : NodeFault) (fault : PortFault) → IsReadOf (frame.Fault n) fault → P (Wire NoMemory) → P (Peer n) → P fault
+passed P n (Peer f) e none some = let same : n ≡ f = cc in subst (λ g. P (Peer g)) same some
+passed P n (Wire NoMemory) e none some = none
+passed P n (Wire Truncated) e none some = absurd e
+passed P n (Wire TooLong) e none some = absurd e
+passed P n (Wire BadKind) e none some = absurd e
+passed P n (Wire BadBody) e none some = absurd e
+passed P n (Wire Io) e none some = absurd e
+passed P n Closed e none some = absurd e
+passed P n BadReply e none some = absurd e
 
 -- 2. A load
 
@@ -73,30 +92,42 @@ module _ (lps : ℕ) (raw : Raw) (l : Load) where
       go false None e b = (let c = b ∙ ap begun_by (load_by_is false None e) in (e, cc))
 
   load_refused : (text : List ℕ) → frame_in raw.kind raw.body ≡ Some (frame.Load l) → Begins lps raw (Ok (Refused text)) →
-      (n : NodeFault) × IsSpelled text (frame.Fault n) [] × ((load_refusal lps l ≡ Some n) ⊎ (n ≡ node.NoMemory))
+      (n : NodeFault) × IsSpelled text (frame.Fault n) [] × IsLoadCause lps l (Peer n)
   load_refused text is h = let b = made_by (Refused text) is h in go b.0 (load_refusal lps l) refl b.1
     where
       go : (lacks : Bool) (o : Option NodeFault) → load_refusal lps l ≡ o → Refused text ≡ begun_by (load_at lacks lps l) →
-          (n : NodeFault) × IsSpelled text (frame.Fault n) [] × ((load_refusal lps l ≡ Some n) ⊎ (n ≡ node.NoMemory))
+          (n : NodeFault) × IsSpelled text (frame.Fault n) [] × IsLoadCause lps l (Peer n)
       go true (Some fault) e b = (let c = b ∙ ap begun_by (load_by_is true (Some fault) e) in (fault, spelled_fault text fault (cc), inl e))
-      go true None e b = (let c = b ∙ ap begun_by (load_by_is true None e) in (node.NoMemory, spelled_fault text node.NoMemory (cc), inr refl))
+      go true None e b = (let c = b ∙ ap begun_by (load_by_is true None e) in (node.NoMemory, spelled_fault text node.NoMemory (cc), inr (e, refl)))
       go false (Some fault) e b = (let c = b ∙ ap begun_by (load_by_is false (Some fault) e) in (fault, spelled_fault text fault (cc), inl e))
       go false None e b = absurd (let c = b ∙ ap begun_by (load_by_is false None e) in cc)
 
   pub load_fault : (text : List ℕ) (fault : PortFault) → frame_in raw.kind raw.body ≡ Some (frame.Load l) → Begins lps raw (Ok (Refused text)) →
-      ((f : Frame) → IsSpelled text f [] → IsReadOf f fault) → IsRefusal (λ n. load_refusal lps l ≡ Some n) fault
+      ((f : Frame) → IsSpelled text f [] → IsReadOf f fault) → IsLoadCause lps l fault
   load_fault text fault is h read =
       let r = load_refused text is h in
-      passed (λ (n : NodeFault). load_refusal lps l ≡ Some n) r.0 fault (read (frame.Fault r.0) r.1) r.2
+      passed (IsLoadCause lps l) r.0 fault (read (frame.Fault r.0) r.1) tt r.2
+
+  -- a refusal is read as no reply
+  pub load_reply : (text : List ℕ) (reply : Reply) → frame_in raw.kind raw.body ≡ Some (frame.Load l) → Begins lps raw (Ok (Refused text)) →
+      ((f : Frame) → IsSpelled text f [] → f ≡ frame.Reply reply) → ⊥
+  load_reply text reply is h read =
+      let r = load_refused text is h in
+      let e = read (frame.Fault r.0) r.1 in
+      cc
+
+  pub load_unmade : (fault : WireFault) → frame_in raw.kind raw.body ≡ Some (frame.Load l) → Begins lps raw (Err fault) → IsLoadCause lps l (Wire fault)
+  load_unmade fault is (lacks, inl e) = absurd (let other = e ∙ begun_of lacks is in cc)
+  load_unmade fault is (lacks, inr e) = let same : fault ≡ NoMemory = cc in subst (λ g. IsLoadCause lps l (Wire g)) (sym same) tt
 
 -- 3. A parcel
 
 -- what a frame says of an answer, and of the node then
-abbrev pub IsOutcome : Answer → Node → Frame → Type 0
-IsOutcome a new (frame.Reply r) = (a.result ≡ Ok r) × (new ≡ a.node)
-IsOutcome a new (frame.Fault n) = (a.result ≡ Err n) ⊎ (n ≡ node.NoMemory)
-IsOutcome a new (frame.Load l) = ⊥
-IsOutcome a new (frame.Parcel p) = ⊥
+abbrev pub IsOutcome : Meaning → Node → Parcel → Node → Frame → Type 0
+IsOutcome m old p new (frame.Reply r) = IsReplyBy (answer m old p) new r × (length (reply_bytes r) ≤ 2 ^ 24)
+IsOutcome m old p new (frame.Fault n) = IsTakeCause m old p (Peer n)
+IsOutcome m old p new (frame.Load l) = ⊥
+IsOutcome m old p new (frame.Parcel q) = ⊥
 
 module _ (m : Meaning) (old new : Node) (raw : Raw) (p : Parcel) where
   reaction_of : (lacks : Bool) → frame_in raw.kind raw.body ≡ Some (frame.Parcel p) → reaction lacks m old raw ≡ on_parcel lacks m old (Some p)
@@ -112,16 +143,16 @@ module _ (m : Meaning) (old new : Node) (raw : Raw) (p : Parcel) where
   refused_so : (fault : NodeFault) → refusal old p ≡ Some fault → (answer m old p).result ≡ Err fault
   refused_so fault e = rw (e, answer) refl
 
-  lacking_so : (n : NodeFault) (o : Option NodeFault) → refusal old p ≡ o → (answer_lacking old o).result ≡ Err n → ((answer m old p).result ≡ Err n) ⊎ (n ≡ node.NoMemory)
+  lacking_so : (n : NodeFault) (o : Option NodeFault) → refusal old p ≡ o → (answer_lacking old o).result ≡ Err n → IsTakeCause m old p (Peer n)
   lacking_so n (Some fault) e h = let same : fault ≡ n = cc in inl (refused_so fault e ∙ ap Err same)
-  lacking_so n None e h = inr (cc)
+  lacking_so n None e h = inr (e, cc)
 
-  fault_so : (lacks : Bool) (n : NodeFault) → (answer_at lacks m old p).result ≡ Err n → ((answer m old p).result ≡ Err n) ⊎ (n ≡ node.NoMemory)
+  fault_so : (lacks : Bool) (n : NodeFault) → (answer_at lacks m old p).result ≡ Err n → IsTakeCause m old p (Peer n)
   fault_so false n e = inl e
   fault_so true n e = lacking_so n (refusal old p) refl e
 
   abbrev Out : Response → Type 0
-  Out response = (f : Frame) × IsSpelled response.frame f [] × IsOutcome (answer m old p) new f
+  Out response = (f : Frame) × IsSpelled response.frame f [] × IsOutcome m old p new f
 
   replied_so : (lacks : Bool) (reply : Reply) (response : Response) → parcel_in raw.body ≡ Some p → (answer_at lacks m old p).result ≡ Ok reply → new ≡ (answer_at lacks m old p).node →
       RepliesInRange m old raw response → Ok response ≡ response_to (Ok reply) → Out response
@@ -133,7 +164,7 @@ module _ (m : Meaning) (old new : Node) (raw : Raw) (p : Parcel) where
         let c : Ok response ≡ Ok (record { frame = frame_bytes (frame.Reply reply); goes_on = true }) = rw t at is in
         let same : response ≡ record { frame = frame_bytes (frame.Reply reply); goes_on = true } = cc in
         let in_range = subst (λ (r : Result Reply NodeFault). IfOk r IsReply) e (range p body (ap (λ (r : Response). r.goes_on) same)) in
-        (frame.Reply reply, spelled_as response.frame (frame.Reply reply) (ap (λ (r : Response). r.frame) same) in_range short, (e, n))
+        (frame.Reply reply, spelled_as response.frame (frame.Reply reply) (ap (λ (r : Response). r.frame) same) in_range short, ((e, n), short))
   ]
 
   answered_so : (lacks : Bool) (r : Result Reply NodeFault) (response : Response) → parcel_in raw.body ≡ Some p → (answer_at lacks m old p).result ≡ r → new ≡ (answer_at lacks m old p).node →
@@ -149,30 +180,46 @@ module _ (m : Meaning) (old new : Node) (raw : Raw) (p : Parcel) where
       answered_so lacks (answer_at lacks m old p).result response (parcel_within raw.kind raw.body p is).1 refl (e.1 ∙ ap (λ (r : Reaction). r.node) of) range (e.0 ∙ ap (λ (r : Reaction). r.response) of)
   answered response is (lacks, inr e) range = absurd (cc)
 
-  outcome_reply : (f : Frame) (reply : Reply) → IsOutcome (answer m old p) new f → f ≡ frame.Reply reply → IsReplyBy (answer m old p) new reply
-  outcome_reply f reply h e = subst (IsOutcome (answer m old p) new) e h
+  outcome_reply : (f : Frame) (reply : Reply) → IsOutcome m old p new f → f ≡ frame.Reply reply → IsReplyBy (answer m old p) new reply × (length (reply_bytes reply) ≤ 2 ^ 24)
+  outcome_reply f reply h e = subst (IsOutcome m old p new) e h
 
-  outcome_fault : (f : Frame) (fault : PortFault) → IsOutcome (answer m old p) new f → IsReadOf f fault → IsRefusal (λ n. (answer m old p).result ≡ Err n) fault
-  outcome_fault (frame.Fault n) fault h read = passed (λ (n : NodeFault). (answer m old p).result ≡ Err n) n fault read h
-  outcome_fault (frame.Reply r) fault h (inl want) = inl want
-  outcome_fault (frame.Reply r) fault h (inr is) = absurd (let e = is.2 in cc)
+  outcome_fault : (f : Frame) (fault : PortFault) → IsOutcome m old p new f → IsReadOf f fault → IsTakeCause m old p fault
+  outcome_fault (frame.Fault n) fault h read = passed (IsTakeCause m old p) n fault read tt h
+  outcome_fault (frame.Reply r) fault h read = reply_fault (IsTakeCause m old p) r fault read tt
   outcome_fault (frame.Load l) fault h read = absurd h
   outcome_fault (frame.Parcel q) fault h read = absurd h
 
-  take_reply : (response : Response) (reply : Reply) → frame_in raw.kind raw.body ≡ Some (frame.Parcel p) → Reacts m old new raw (Ok response) → RepliesInRange m old raw response →
-      ((f : Frame) → IsSpelled response.frame f [] → f ≡ frame.Reply reply) → IsReplyBy (answer m old p) new reply
-  take_reply response reply is h range read = let out = answered response is h range in outcome_reply out.0 reply out.2 (read out.0 out.1)
-
-  take_fault : (response : Response) (fault : PortFault) → frame_in raw.kind raw.body ≡ Some (frame.Parcel p) → Reacts m old new raw (Ok response) → RepliesInRange m old raw response →
-      ((f : Frame) → IsSpelled response.frame f [] → IsReadOf f fault) → IsRefusal (λ n. (answer m old p).result ≡ Err n) fault
-  take_fault response fault is h range read = let out = answered response is h range in outcome_fault out.0 fault out.2 (read out.0 out.1)
-
   pub take_ok : (response : Response) (r : Result Reply PortFault) → frame_in raw.kind raw.body ≡ Some (frame.Parcel p) → Reacts m old new raw (Ok response) → RepliesInRange m old raw response →
-      ((f : Frame) → IsSpelled response.frame f [] → IfOk r (λ reply. f ≡ frame.Reply reply)) → IfOk r (λ reply. IsReplyBy (answer m old p) new reply)
-  take_ok response (Ok reply) is h range read = take_reply response reply is h range read
+      ((f : Frame) → IsSpelled response.frame f [] → IfOk r (λ reply. f ≡ frame.Reply reply)) → IfOk r (λ reply. IsReplyBy (answer m old p) new reply × (length (reply_bytes reply) ≤ 2 ^ 24))
+  take_ok response (Ok reply) is h range read = let out = answered response is h range in outcome_reply out.0 reply out.2 (read out.0 out.1)
   take_ok response (Err fault) is h range read = tt
 
   pub take_err : (response : Response) (r : Result Reply PortFault) → frame_in raw.kind raw.body ≡ Some (frame.Parcel p) → Reacts m old new raw (Ok response) → RepliesInRange m old raw response →
-      ((f : Frame) → IsSpelled response.frame f [] → IfErr r (λ fault. IsReadOf f fault)) → IfErr r (λ fault. IsRefusal (λ n. (answer m old p).result ≡ Err n) fault)
+      ((f : Frame) → IsSpelled response.frame f [] → IfErr r (λ fault. IsReadOf f fault)) → IfErr r (λ fault. IsTakeCause m old p fault)
   take_err response (Ok reply) is h range read = tt
-  take_err response (Err fault) is h range read = take_fault response fault is h range read
+  take_err response (Err fault) is h range read = let out = answered response is h range in outcome_fault out.0 fault out.2 (read out.0 out.1)
+
+  -- no frame came back
+  long_so : (lacks : Bool) (r : Result Reply NodeFault) (fault : WireFault) → (answer_at lacks m old p).result ≡ r → Err fault ≡ response_to r → IsTakeCause m old p (Wire fault)
+  long_so true (Ok reply) fault e is = absurd (not_lacking (refusal old p) reply e)
+  long_so false (Ok reply) fault e is = elim (cases_lt (2 ^ 24) (length (reply_bytes reply))) [
+    | inl long ↦
+        let t = lt-ltb (2 ^ 24) (length (reply_bytes reply)) long in
+        let c : Err fault ≡ Err TooLong = rw t at is in
+        let same : fault ≡ TooLong = cc in
+        subst (λ g. IsTakeCause m old p (Wire g)) (sym same) (record { reply = reply; is = e; long = long })
+    | inr short ↦ absurd (
+        let t = le-ltb (2 ^ 24) (length (reply_bytes reply)) short in
+        let c : Err fault ≡ Ok (record { frame = frame_bytes (frame.Reply reply); goes_on = true }) = rw t at is in
+        cc)
+  ]
+  long_so lacks (Err n) fault e is = absurd (cc)
+
+  pub take_unsent : (fault : WireFault) → frame_in raw.kind raw.body ≡ Some (frame.Parcel p) → Reacts m old new raw (Err fault) → IsTakeCause m old p (Wire fault)
+  take_unsent fault is (lacks, inl e) = long_so lacks (answer_at lacks m old p).result fault refl (e.0 ∙ ap (λ (r : Reaction). r.response) (reaction_of lacks is))
+  take_unsent fault is (lacks, inr e) = let same : fault ≡ NoMemory = cc in subst (λ g. IsTakeCause m old p (Wire g)) (sym same) tt
+
+-- both of two facts of an answer
+pub both_ok : (P Q : Reply → Type 0) (r : Result Reply PortFault) → IfOk r (λ reply. P reply × Q reply) → IfOk r P × IfOk r Q
+both_ok P Q (Ok reply) h = h
+both_ok P Q (Err fault) h = (tt, tt)

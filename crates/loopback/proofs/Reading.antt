@@ -1,23 +1,21 @@
 -- Bytes that are a frame are read back as it.
-use Rattle.std.proofs.Common.{◌≡◌, ℕ, ◌^◌, ◌≤◌, List, [], length, Option, Some, None, Result, Ok, Err, refl, sym, ap, subst, ◌∙◌, append-nil, arith}
+use Rattle.std.proofs.Common.{◌≡◌, ℕ, ◌^◌, ◌≤◌, List, [], length, Option, Some, None, refl, sym, ap, subst, ◌∙◌, append-nil, arith}
 use Rattle.node.specs.declared.Load.{Load}
 use Rattle.node.specs.declared.NodeFault.{NodeFault}
 use Rattle.node.specs.declared.Parcel.{Parcel}
-use Rattle.frames.proofs.Frames.{frames_are_read_back}
+use Rattle.eventkey.specs.Reading.{◌>>=◌}
+use Rattle.frames.proofs.Frames.{frames_are_read_back, frames_are_read_whole}
 use Rattle.frames.proofs.Whole.{length-fault}
 use Rattle.frames.specs.Bodies.{body_bytes, fault_in, frame_bytes, frame_in, load_in, parcel_in, reply_in, seen_as}
-use Rattle.frames.specs.Cutting.{Cut, cut, frame_cut, opened, opened_cut}
+use Rattle.frames.specs.Cutting.{Cut, frame_cut, raw_in, whole_in}
 use Rattle.frames.specs.Laws.{IsSpelled}
 use Rattle.frames.specs.Ranges.{IsInRange}
-use Rattle.frames.specs.Streams.{Finds, IsCutBy}
 use Rattle.frames.specs.declared.Frame.{Frame}
 use Rattle.frames.specs.declared.Frame.TheVariants as frame
 use Rattle.frames.specs.declared.Kind.{Kind}
 use Rattle.frames.specs.declared.Kind.TheVariants as kind
 use Rattle.frames.specs.declared.stream.Raw.{Raw}
 use Rattle.loopback.specs.Loop.{parcel_of, posted_in}
-use Rattle.wire.specs.declared.port.WireFault.{WireFault}
-use Rattle.wire.specs.declared.port.WireFault.TheVariants.{BadBody}
 
 -- 1. Bytes that are a frame
 
@@ -29,32 +27,31 @@ spelled_fault bytes n e = spelled_as bytes (frame.Fault n) e tt (omega (arith, l
 
 -- 2. What is read of them
 
-read_back : (bytes : List ℕ) (f : Frame) → IsSpelled bytes f [] → Finds (frame_cut bytes) (Ok (Some f)) []
-read_back bytes f is = subst (λ (b : List ℕ). Finds (frame_cut b) (Ok (Some f)) []) (sym is.spelled) (frames_are_read_back f [] is.in_range is.fits)
-
-found_back : (bytes : List ℕ) (f : Frame) → IsSpelled bytes f [] → (frame_cut bytes).found ≡ Ok (Some f)
-found_back bytes f is = ap (λ (c : Cut Frame). c.found) (read_back bytes f is)
+whole_is : (bytes : List ℕ) (f : Frame) → IsSpelled bytes f [] → whole_in bytes ≡ Some f
+whole_is bytes f is = ap whole_in (is.spelled ∙ append-nil (frame_bytes f)) ∙ frames_are_read_whole f is.in_range is.fits
 
 -- the frame itself
-pub got_back : (bytes rest : List ℕ) (got f : Frame) → IsCutBy frame_cut (Ok (Some got)) bytes rest → IsSpelled bytes f [] → f ≡ got
-got_back bytes rest got f h is =
-    let found : (frame_cut bytes).found ≡ Ok (Some got) = ap (λ (c : Cut Frame). c.found) h in
-    let back = found_back bytes f is in
-    cc
+pub got_back : (bytes : List ℕ) (got f : Frame) → Some got ≡ whole_in bytes → IsSpelled bytes f [] → f ≡ got
+got_back bytes got f e is = let back = whole_is bytes f is in cc
 
-opened_some : (o : Option Frame) (f : Frame) → (elim o as (λ _. Result (Option Frame) WireFault) [ Some g ↦ Ok (Some g) | None ↦ Err BadBody ]) ≡ Ok (Some f) → o ≡ Some f
-opened_some (Some g) f e = cc
-opened_some None f e = absurd (cc)
+pub not_none : (bytes : List ℕ) (f : Frame) → None ≡ whole_in bytes → IsSpelled bytes f [] → ⊥
+not_none bytes f e is = let none = e ∙ whole_is bytes f is in cc
 
 -- its kind and body
-pub raw_back : (bytes rest : List ℕ) (raw : Raw) (f : Frame) → IsCutBy cut (Ok (Some raw)) bytes rest → IsSpelled bytes f [] → frame_in raw.kind raw.body ≡ Some f
-raw_back bytes rest raw f h is =
-    let found : (frame_cut bytes).found ≡ opened raw = ap (λ (c : Cut Raw). (opened_cut c).found) h in
-    opened_some (frame_in raw.kind raw.body) f (sym found ∙ found_back bytes f is)
+abbrev seen : Option Raw → Option Frame
+seen o = o >>= (λ raw. frame_in raw.kind raw.body)
+
+pub raw_back : (bytes : List ℕ) (raw : Raw) (f : Frame) → Some raw ≡ raw_in bytes → IsSpelled bytes f [] → frame_in raw.kind raw.body ≡ Some f
+raw_back bytes raw f e is = ap seen e ∙ whole_is bytes f is
+
+pub no_raw : (bytes : List ℕ) (f : Frame) → None ≡ raw_in bytes → IsSpelled bytes f [] → ⊥
+no_raw bytes f e is = not_none bytes f (ap seen e) is
 
 -- a parcel that was posted
 pub posted_back : (bytes : List ℕ) (p : Parcel) → IsSpelled bytes (frame.Parcel p) [] → posted_in bytes ≡ p
-posted_back bytes p is = ap parcel_of (found_back bytes (frame.Parcel p) is)
+posted_back bytes p is =
+    let found = frames_are_read_back (frame.Parcel p) [] is.in_range is.fits in
+    ap (λ (b : List ℕ). parcel_of (frame_cut b).found) is.spelled ∙ ap (λ (c : Cut Frame). parcel_of c.found) found
 
 pub posted_spelled : (bytes : List ℕ) (p : Parcel) → IsSpelled bytes (frame.Parcel p) [] → IsSpelled bytes (frame.Parcel (posted_in bytes)) []
 posted_spelled bytes p is = subst (λ (q : Parcel). IsSpelled bytes (frame.Parcel q) []) (sym (posted_back bytes p is)) is

@@ -1,4 +1,3 @@
--- For callers: where a port stands, and the parcel that was posted.
-pub mod Loop
--- Inside: what comes back of what was sent.
-pub mod Passing
+-- For callers
+pub mod Loop  -- where a port stands, and the parcel that was posted
+pub mod Passing  -- why a call is refused, and what comes back of what was sent

@@ -1,10 +1,17 @@
 // A port to a node behind bytes in memory.
 
-ghost use Rattle.std.specs.Prelude.{◌≡◌, true};
-ghost use Rattle.loopback.specs.Loop.{state_of};
+ghost use Rattle.std.specs.Prelude.{◌≡◌, true, IfErr, IfOk, OnErr, OnOk, length, ◌≤◌, ◌^◌};
+ghost use Rattle.frames.specs.Bodies.{load_bytes, parcel_bytes, reply_bytes};
+ghost use Rattle.loopback.specs.Passing.{IsLoadCause, IsPostCause, IsTakeCause};
+ghost use Rattle.node.specs.declared.Parcel.{Parcel};
+ghost use Rattle.wire.specs.Port.{IsForWant, IsLoadFault, IsLoadInRange, IsLoaded, IsSamePort};
+ghost use Rattle.wire.specs.Port.{IsTakeFault, IsTaken};
+ghost use Rattle.wire.specs.Port.Stage.{Ended as AtEnd, Fresh as AtFirst};
+ghost use Rattle.wire.specs.Port.Stage.{Idle as AtRest, Posted as AtWork};
+ghost use Rattle.loopback.specs.Loop.{state_by, state_of};
 ghost use Rattle.loopback.specs.declared.port.Held.TheVariants.{Fresh};
 
-use crate::sending::{handled, loaded, refused};
+use crate::sending::{handled, loaded};
 use eventkey::Listed;
 use frames::encode_parcel;
 use model::Model as Simulated;
@@ -25,7 +32,9 @@ enum Held {
 /// A node behind bytes in memory: a load, a parcel, a reply and a refusal pass as the frames that a stream to another
 /// program has. The node handles a parcel when it is asked for the reply.
 ///
-/// Where a frame would have a body of more than 2^24 bytes, the call answers TooLong, and the port has ended.
+/// A call is refused for bytes that are too many, a body of more than 2^24 (`Wire(TooLong)`), for want of memory for a frame
+/// (`Wire(NoMemory)`), and as the node refuses (`Peer`), and for nothing else: bytes in memory do not fail. The port has
+/// ended then.
 pub struct LoopPort<'m, M: Simulated> {
     alloc: Global,
     model: &'m M,
@@ -71,7 +80,21 @@ impl<'m, M: Simulated> LoopPort<'m, M> {
 impl<'m, M: Simulated> Port for LoopPort<'m, M> {
     ghost state = { λ p. state_of (M.meaning p.model) p.held };
 
-    fn load(&mut self, load: Load) -> Result<(), PortFault> {
+    fn load(&mut self, load: Load) -> Result<(), PortFault>
+        requires fresh { (state_by M.meaning self.old).stage ≡ AtFirst }
+        requires range { IsLoadInRange load }
+        ensures idle { OnOk result ((state_by M.meaning self.new).stage ≡ AtRest) }
+        ensures ended { OnErr result ((state_by M.meaning self.new).stage ≡ AtEnd) }
+        ensures same { IsSamePort (state_by M.meaning self.old) (state_by M.meaning self.new) }
+        ensures ok { (state_by M.meaning self.old).tells ≡ true →
+            OnOk result (IsLoaded load (state_by M.meaning self.old) (state_by M.meaning self.new)) }
+        ensures err { (state_by M.meaning self.old).tells ≡ true →
+            IfErr result (λ fault. IsLoadFault load (state_by M.meaning self.old) fault) }
+
+        // TooLong exactly where the body is; else what the node refuses, or there was no memory.
+        ensures fits { OnOk result (length (load_bytes load) ≤ 2 ^ 24) }
+        ensures cause { IfErr result (IsLoadCause (M.meaning self.old.model).lps load) }
+    {
         match loaded(self.alloc, self.model, &load) {
             Ok(node) => {
                 self.held = Held::Idle(node);
@@ -84,7 +107,21 @@ impl<'m, M: Simulated> Port for LoopPort<'m, M> {
         }
     }
 
-    fn post(&mut self, parcel: Parcel) -> Result<(), PortFault> {
+    fn post(&mut self, parcel: Parcel) -> Result<(), PortFault>
+        requires idle { (state_by M.meaning self.old).stage ≡ AtRest }
+        requires range { parcel.floor ≤ 2 ^ 40 }
+        ensures posted { OnOk result ((state_by M.meaning self.new).stage ≡ AtWork parcel) }
+        ensures ended { OnErr result ((state_by M.meaning self.new).stage ≡ AtEnd) }
+        ensures same { IsSamePort (state_by M.meaning self.old) (state_by M.meaning self.new) }
+        ensures ok { (state_by M.meaning self.old).tells ≡ true →
+            OnOk result ((state_by M.meaning self.new).node ≡ (state_by M.meaning self.old).node) }
+        ensures err { (state_by M.meaning self.old).tells ≡ true →
+            IfErr result (λ fault. IsForWant fault) }
+
+        // TooLong exactly where the body is; else there was no memory.
+        ensures fits { OnOk result (length (parcel_bytes parcel) ≤ 2 ^ 24) }
+        ensures cause { IfErr result (IsPostCause parcel) }
+    {
         let Held::Idle(node) = std::mem::replace(&mut self.held, Held::Ended) else {
             return Err(PortFault::Closed);
         };
@@ -93,11 +130,30 @@ impl<'m, M: Simulated> Port for LoopPort<'m, M> {
                 self.held = Held::Posted(node, Listed::from_vec(frame));
                 Ok(())
             }
-            Err(fault) => Err(refused(fault)),
+            Err(fault) => Err(PortFault::Wire(fault)),
         }
     }
 
-    fn take(&mut self) -> Result<Reply, PortFault> {
+    fn take(&mut self) -> Result<Reply, PortFault>
+        requires posted { (parcel : Parcel) × ((state_by M.meaning self.old).stage ≡ AtWork parcel) }
+        ensures idle { OnOk result ((state_by M.meaning self.new).stage ≡ AtRest) }
+        ensures ended { OnErr result ((state_by M.meaning self.new).stage ≡ AtEnd) }
+        ensures same { IsSamePort (state_by M.meaning self.old) (state_by M.meaning self.new) }
+        ensures ok { (parcel : Parcel) →
+            (state_by M.meaning self.old).stage ≡ AtWork parcel →
+            (state_by M.meaning self.old).tells ≡ true → IfOk result (λ reply.
+            IsTaken parcel (state_by M.meaning self.old) (state_by M.meaning self.new) reply) }
+        ensures err { (parcel : Parcel) →
+            (state_by M.meaning self.old).stage ≡ AtWork parcel →
+            (state_by M.meaning self.old).tells ≡ true →
+            IfErr result (λ fault. IsTakeFault parcel (state_by M.meaning self.old) fault) }
+
+        // TooLong exactly where the reply's body is; else what the node refuses, or there was no memory.
+        ensures fits { IfOk result (λ reply. length (reply_bytes reply) ≤ 2 ^ 24) }
+        ensures cause { (parcel : Parcel) →
+            (state_by M.meaning self.old).stage ≡ AtWork parcel → IfErr result
+            (IsTakeCause (M.meaning self.old.model) (state_by M.meaning self.old).node parcel) }
+    {
         let Held::Posted(node, parcel) = std::mem::replace(&mut self.held, Held::Ended) else {
             return Err(PortFault::Closed);
         };

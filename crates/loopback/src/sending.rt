@@ -1,61 +1,54 @@
 // Frames on their way to a node and back.
 
-ghost use Rattle.std.specs.Prelude.{◌≡◌, [], Err, Some, IfErr, IfOk, false};
-ghost use Rattle.frames.specs.Bodies.{frame_in};
+ghost use Rattle.std.specs.Prelude.{◌≡◌, ◌≤◌, ◌^◌, [], Some, IfErr, IfOk, OnOk, false, length};
+ghost use Rattle.frames.specs.Bodies.{frame_in, load_bytes, reply_bytes};
 ghost use Rattle.frames.specs.Laws.{IsSpelled};
 ghost use Rattle.frames.specs.declared.Frame.{Frame};
 ghost use Rattle.frames.specs.declared.Frame.TheVariants as frame;
-ghost use Rattle.loopback.specs.Passing.{IsMade, IsRefusal, IsReplyBy};
-ghost use Rattle.node.specs.Handling.{answer, load_refusal};
+ghost use Rattle.loopback.specs.Passing.{IsLoadCause, IsMade, IsReadOf, IsReplyBy, IsTakeCause};
+ghost use Rattle.node.specs.Handling.{answer};
 ghost use Rattle.node.specs.Kept.{HasHistories};
 ghost use Rattle.node.specs.declared.Parcel.{Parcel};
-ghost use Rattle.wire.specs.Port.{IsForWant, IsLoadInRange};
+ghost use Rattle.wire.specs.Port.{IsLoadInRange};
+ghost use Rattle.wire.specs.declared.port.PortFault.TheVariants.{Wire};
+ghost use Rattle.wire.specs.declared.port.WireFault.TheVariants.{NoMemory};
 
-use frames::{Frame, Raw, encode_load, read_frame, read_raw};
+use frames::{Frame, Raw, encode_load, read_whole_frame, read_whole_raw};
 use model::Model as Simulated;
 use node::{Load, Node, Reply};
 use serving::{Begun, begin, react};
 use std::alloc::Global;
 use wire::{PortFault, WireFault};
 
-/// What a port answers where bytes were not sent or not read: want of memory, a body that is too long, or else that the
-/// way to the node has ended.
-pub(crate) fn refused(fault: WireFault) -> PortFault
-    ensures { IsForWant result }
-{
-    match fault {
-        WireFault::NoMemory | WireFault::TooLong => PortFault::Wire(fault),
-        _ => PortFault::Closed,
-    }
-}
-
-/// The frame that these bytes are, with a body that is not yet looked at.
+/// The frame that these bytes are, with a body that is not yet looked at. Where bytes are no frame, the way to the node
+/// has ended; of a frame that was sent that does not come.
 fn arrived(alloc: Global, bytes: &[u8]) -> Result<Raw, PortFault>
     ensures ok { (f : Frame) → IsSpelled bytes.now f [] →
         IfOk result (λ raw. frame_in raw.kind raw.body ≡ Some f) }
-    ensures err { IfErr result (λ fault. IsForWant fault) }
+    ensures err { (f : Frame) → IsSpelled bytes.now f [] →
+        IfErr result (λ fault. fault ≡ Wire NoMemory) }
 {
-    let mut rest = bytes;
-    match read_raw(alloc, &mut rest) {
+    match read_whole_raw(alloc, bytes) {
         Ok(Some(raw)) => Ok(raw),
         Ok(None) => Err(PortFault::Closed),
-        Err(fault) => Err(refused(fault)),
+        Err(_) => Err(PortFault::Wire(WireFault::NoMemory)),
     }
 }
 
-/// The reply in these bytes, or the refusal in them.
+/// The reply in these bytes, or the refusal in them. Where they are neither, the way to the node has ended.
 fn replied(alloc: Global, bytes: &[u8]) -> Result<Reply, PortFault>
     ensures ok { (f : Frame) → IsSpelled bytes.now f [] →
         IfOk result (λ reply. f ≡ frame.Reply reply) }
     ensures err { (f : Frame) → IsSpelled bytes.now f [] →
-        IfErr result (λ fault. IsRefusal (λ n. f ≡ frame.Fault n) fault) }
+        IfErr result (λ fault. IsReadOf f fault) }
 {
-    let mut rest = bytes;
-    match read_frame(alloc, &mut rest) {
+    match read_whole_frame(alloc, bytes) {
         Ok(Some(Frame::Reply(reply))) => Ok(reply),
         Ok(Some(Frame::Fault(fault))) => Err(PortFault::Peer(fault)),
-        Ok(_) => Err(PortFault::Closed),
-        Err(fault) => Err(refused(fault)),
+        Ok(Some(Frame::Load(_))) => Err(PortFault::Closed),
+        Ok(Some(Frame::Parcel(_))) => Err(PortFault::Closed),
+        Ok(None) => Err(PortFault::Closed),
+        Err(_) => Err(PortFault::Wire(WireFault::NoMemory)),
     }
 }
 
@@ -63,13 +56,13 @@ fn replied(alloc: Global, bytes: &[u8]) -> Result<Reply, PortFault>
 pub(crate) fn loaded<M: Simulated>(alloc: Global, model: &M, load: &Load) -> Result<Node, PortFault>
     requires { IsLoadInRange load.now }
     ensures ok { IfOk result (λ n. IsMade (M.meaning model.now).lps load.now n) }
+    ensures fits { OnOk result (length (load_bytes load.now) ≤ 2 ^ 24) }
     ensures histories { IfOk result (λ n. HasHistories (M.meaning model.now) n) }
-    ensures err { IfErr result (λ fault.
-        IsRefusal (λ n. load_refusal (M.meaning model.now).lps load.now ≡ Some n) fault) }
+    ensures err { IfErr result (λ fault. IsLoadCause (M.meaning model.now).lps load.now fault) }
 {
     let frame = match encode_load(alloc, load) {
         Ok(frame) => frame,
-        Err(fault) => return Err(refused(fault)),
+        Err(fault) => return Err(PortFault::Wire(fault)),
     };
     let raw = arrived(alloc, frame.as_slice())?;
     match begin(alloc, model, &raw) {
@@ -78,7 +71,7 @@ pub(crate) fn loaded<M: Simulated>(alloc: Global, model: &M, load: &Load) -> Res
             Ok(_) => Err(PortFault::Closed),
             Err(fault) => Err(fault),
         },
-        Err(fault) => Err(refused(fault)),
+        Err(fault) => Err(PortFault::Wire(fault)),
     }
 }
 
@@ -93,14 +86,16 @@ pub(crate) fn handled<M: Simulated>(
     requires histories { HasHistories (M.meaning model.now) node.old }
     ensures ok { (p : Parcel) → IsSpelled parcel.now (frame.Parcel p) [] →
         IfOk result (λ reply. IsReplyBy (answer (M.meaning model.now) node.old p) node.new reply) }
-    ensures err { (p : Parcel) → IsSpelled parcel.now (frame.Parcel p) [] → IfErr result (λ fault.
-        IsRefusal (λ n. (answer (M.meaning model.now) node.old p).result ≡ Err n) fault) }
+    ensures fits { (p : Parcel) → IsSpelled parcel.now (frame.Parcel p) [] →
+        IfOk result (λ reply. length (reply_bytes reply) ≤ 2 ^ 24) }
+    ensures err { (p : Parcel) → IsSpelled parcel.now (frame.Parcel p) [] →
+        IfErr result (λ fault. IsTakeCause (M.meaning model.now) node.old p fault) }
     ensures lps { node.new.spent ≡ false → (M.meaning model.now).lps ≡ node.new.lps }
     ensures histories { HasHistories (M.meaning model.now) node.new }
 {
     let raw = arrived(alloc, parcel)?;
     match react(alloc, model, node, &raw) {
         Ok(response) => replied(alloc, response.frame.as_slice()),
-        Err(fault) => Err(refused(fault)),
+        Err(fault) => Err(PortFault::Wire(fault)),
     }
 }

@@ -1,8 +1,13 @@
 // Whole sessions over nodes behind bytes.
 
-ghost use Rattle.std.specs.Prelude.{◌≡◌, ◌≤◌, ◌^◌, IfErr, IfOk, IsSome, None, length, map, take};
+ghost use Rattle.std.specs.Prelude.{◌≡◌, ◌<◌, ◌≤◌, ◌^◌, ℕ, IfErr, IfOk, IfSome, IsSome, None};
+ghost use Rattle.std.specs.Prelude.{length, map, replicate, take};
+ghost use Rattle.coordinator.specs.Crashes.{Recovers};
 ghost use Rattle.coordinator.specs.Headline.{IsResumed};
+ghost use Rattle.coordinator.specs.Opening.{IsForWantAtOpening, OpeningIsRefused};
 ghost use Rattle.coordinator.specs.Steps.{move_of};
+ghost use Rattle.loopback.specs.Loop.{state_of};
+ghost use Rattle.loopback.specs.declared.port.Held.TheVariants.{Fresh};
 ghost use Rattle.model.specs.World.{World};
 
 use crate::ports::loop_ports;
@@ -35,6 +40,16 @@ pub fn resume_behind_bytes<M: Simulated, D: SectorDisk + Drop>(
     ensures all { IfOk result (λ left. left.fault ≡ None →
         (left.done ≡ length steps.now) × IsSome left.time) }
     ensures refused { IfErr result (λ back. back ≡ disk) }
+
+    // Why no session was opened, and then none of its steps were made; where the disk stands for a world,
+    // only for want.
+    ensures opening { IfOk result (λ left. left.time ≡ None → (left.done ≡ 0) × IfSome left.fault
+        (OpeningIsRefused (M.meaning model.now) end (D.state disk).reads
+        (replicate nodes (state_of (M.meaning model.now) Fresh))
+        ((D.state disk).failures < (D.state left.disk).failures))) }
+    ensures want { (a : ℕ) → Recovers (M.meaning model.now) end a (D.state disk) →
+        IfOk result (λ left. left.time ≡ None → IfSome left.fault (λ fault. IsForWantAtOpening fault
+        ((D.state disk).failures < (D.state left.disk).failures))) }
 {
     match loop_ports(alloc, model, nodes) {
         Ok(ports) => Ok(resume(alloc, model, ports, disk, end, steps)),

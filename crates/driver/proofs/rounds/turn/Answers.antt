@@ -1,4 +1,8 @@
-use Rattle.driver.proofs.Drives.{driven_stands, one_step, then_driven, then_stands}
+use Rattle.std.proofs.Common.{◌≡◌, [], ◌∷◌}
+use Rattle.protocol.specs.Moves.Move.{Post, Take}
+use Rattle.driver.specs.Driver.{IsTurn}
+use Rattle.driver.proofs.Drives.{driven_stands, one_step, one_step_by, then_by, then_driven, then_stands}
+use Rattle.driver.proofs.Shapes.{post_and_take}
 use Rattle.driver.proofs.rounds.turn.Goals as goal
 
 pub returns-in_err-ran-clause-crashes : goal.returns-in_err-ran-clause-crashes
@@ -11,9 +15,10 @@ pub returns-in-Taken-clause-driven : goal.returns-in-Taken-clause-driven
 returns-in-Taken-clause-driven g c =
     let says = c.in_ok-step.ensures in
     let then = c.in_ok-ran.ensures in
-    let posted = one_step g.M.Model.meaning g.P.Port.state g.D.SectorDisk.state _ c.in_ok-step.field-0 c.args.session.now c.step.new.self says.same says.made says.written says.crashes in
-    let taken = one_step g.M.Model.meaning g.P.Port.state g.D.SectorDisk.state _ c.in_ok-ran.field-0 c.step.new.self c.step-2.new.self then.same then.made then.written then.crashes in
-    then_driven g.M.Model.meaning g.P.Port.state g.D.SectorDisk.state c.args.session.now c.step.new.self c.step-2.new.self posted taken
+    let posted = one_step_by g.M.Model.meaning g.P.Port.state g.D.SectorDisk.state (Post c.args.node c.from_vec.result c.args.plan.batch) c.in_ok-step.field-0 c.args.session.now c.step.new.self says.same says.made says.written says.crashes in
+    let taken = one_step_by g.M.Model.meaning g.P.Port.state g.D.SectorDisk.state (Take c.args.node) c.in_ok-ran.field-0 c.step.new.self c.step-2.new.self then.same then.made then.written then.crashes in
+    then_by g.M.Model.meaning g.P.Port.state g.D.SectorDisk.state (λ ks. ks ≡ Post c.args.node c.from_vec.result c.args.plan.batch ∷ []) (λ ks. ks ≡ Take c.args.node ∷ []) (IsTurn c.args.plan.batch c.args.node) c.args.session.now c.step.new.self c.step-2.new.self
+    (post_and_take c.args.plan.batch c.args.node c.from_vec.result) posted taken
 
 pub returns-in-Taken-clause-crashes : goal.returns-in-Taken-clause-crashes
 returns-in-Taken-clause-crashes g c =
@@ -27,9 +32,10 @@ pub returns-clause-driven : goal.returns-clause-driven
 returns-clause-driven g c =
     let says = c.in_ok-step.ensures in
     let then = c.in_ok-ran.ensures in
-    let posted = one_step g.M.Model.meaning g.P.Port.state g.D.SectorDisk.state _ c.in_ok-step.field-0 c.args.session.now c.step.new.self says.same says.made says.written says.crashes in
-    let taken = one_step g.M.Model.meaning g.P.Port.state g.D.SectorDisk.state _ c.in_ok-ran.field-0 c.step.new.self c.step-2.new.self then.same then.made then.written then.crashes in
-    then_driven g.M.Model.meaning g.P.Port.state g.D.SectorDisk.state c.args.session.now c.step.new.self c.step-2.new.self posted taken
+    let posted = one_step_by g.M.Model.meaning g.P.Port.state g.D.SectorDisk.state (Post c.args.node c.from_vec.result c.args.plan.batch) c.in_ok-step.field-0 c.args.session.now c.step.new.self says.same says.made says.written says.crashes in
+    let taken = one_step_by g.M.Model.meaning g.P.Port.state g.D.SectorDisk.state (Take c.args.node) c.in_ok-ran.field-0 c.step.new.self c.step-2.new.self then.same then.made then.written then.crashes in
+    then_by g.M.Model.meaning g.P.Port.state g.D.SectorDisk.state (λ ks. ks ≡ Post c.args.node c.from_vec.result c.args.plan.batch ∷ []) (λ ks. ks ≡ Take c.args.node ∷ []) (IsTurn c.args.plan.batch c.args.node) c.args.session.now c.step.new.self c.step-2.new.self
+    (post_and_take c.args.plan.batch c.args.node c.from_vec.result) posted taken
 
 pub returns-clause-crashes : goal.returns-clause-crashes
 returns-clause-crashes g c =

@@ -1,4 +1,4 @@
-use Rattle.frames.proofs.Frames.{frames_are_read_back, frames_are_spelled}
+use Rattle.frames.proofs.Frames.{frames_are_read_back, frames_are_read_whole, frames_are_spelled}
 use Rattle.frames.proofs.laws.law_of_frames.Goals as goal
 
 pub returns-clause-again : goal.returns-clause-again
@@ -6,3 +6,6 @@ returns-clause-again c = frames_are_read_back
 
 pub returns-clause-spelled : goal.returns-clause-spelled
 returns-clause-spelled c = frames_are_spelled
+
+pub returns-clause-whole : goal.returns-clause-whole
+returns-clause-whole c = frames_are_read_whole
