@@ -1,6 +1,7 @@
 // The ports of a session, one for each node.
 
-ghost use Rattle.std.specs.Prelude.{◌≡◌, ◌<◌, ◌≤◌, ◌^◌, ◌&&◌, true, map, set, length, nat_lt, OnOk, OnErr, IfOk, IfErr};
+ghost use Rattle.std.specs.Prelude.{◌≡◌, ◌<◌, ◌≤◌, ◌^◌, ◌&&◌, true, map, set, length, nat_lt, OnOk};
+ghost use Rattle.std.specs.Prelude.{OnErr, IfOk, IfErr};
 ghost use Rattle.std.specs.List.{list_all};
 ghost use Rattle.node.specs.declared.Parcel.{Parcel};
 ghost use Rattle.wire.specs.Port.{IsForWant, IsSamePort, IsTakeFault, IsTaken};
@@ -24,11 +25,17 @@ pub(crate) fn post<P: Port>(
     requires there { node < length ports.old.items }
     requires idle { (port_at (map P.state ports.old.items) node).stage ≡ Idle }
     requires range { parcel.floor ≤ 2 ^ 40 }
-    ensures others { map P.state ports.new.items ≡ set (map P.state ports.old.items) node (port_at (map P.state ports.new.items) node) }
-    ensures posted { OnOk result ((port_at (map P.state ports.new.items) node).stage ≡ Posted parcel) }
-    ensures same { IsSamePort (port_at (map P.state ports.old.items) node) (port_at (map P.state ports.new.items) node) }
-    ensures ok { (port_at (map P.state ports.old.items) node).tells ≡ true → OnOk result ((port_at (map P.state ports.new.items) node).node ≡ (port_at (map P.state ports.old.items) node).node) }
-    ensures err { (port_at (map P.state ports.old.items) node).tells ≡ true → IfErr result (λ fault. IsForWant fault) }
+    ensures others { map P.state ports.new.items ≡ set (map P.state ports.old.items) node
+        (port_at (map P.state ports.new.items) node) }
+    ensures posted { OnOk result ((port_at (map P.state ports.new.items) node).stage
+        ≡ Posted parcel) }
+    ensures same { IsSamePort (port_at (map P.state ports.old.items) node)
+        (port_at (map P.state ports.new.items) node) }
+    ensures ok { (port_at (map P.state ports.old.items) node).tells ≡ true → OnOk result
+        ((port_at (map P.state ports.new.items) node).node
+        ≡ (port_at (map P.state ports.old.items) node).node) }
+    ensures err { (port_at (map P.state ports.old.items) node).tells ≡ true → IfErr result
+        (λ fault. IsForWant fault) }
 {
     let port = &mut ports[node];
     port.post(parcel)
@@ -37,12 +44,20 @@ pub(crate) fn post<P: Port>(
 /// Asks the node at this place for its reply.
 pub(crate) fn take<P: Port>(ports: &mut Vec<P>, node: usize) -> Result<Reply, PortFault>
     requires there { node < length ports.old.items }
-    requires posted { (parcel : Parcel) × ((port_at (map P.state ports.old.items) node).stage ≡ Posted parcel) }
-    ensures others { map P.state ports.new.items ≡ set (map P.state ports.old.items) node (port_at (map P.state ports.new.items) node) }
+    requires posted { (parcel : Parcel) × ((port_at (map P.state ports.old.items) node).stage
+        ≡ Posted parcel) }
+    ensures others { map P.state ports.new.items ≡ set (map P.state ports.old.items) node
+        (port_at (map P.state ports.new.items) node) }
     ensures idle { OnOk result ((port_at (map P.state ports.new.items) node).stage ≡ Idle) }
-    ensures same { IsSamePort (port_at (map P.state ports.old.items) node) (port_at (map P.state ports.new.items) node) }
-    ensures ok { (parcel : Parcel) → (port_at (map P.state ports.old.items) node).stage ≡ Posted parcel → (port_at (map P.state ports.old.items) node).tells ≡ true → IfOk result (λ reply. IsTaken parcel (port_at (map P.state ports.old.items) node) (port_at (map P.state ports.new.items) node) reply) }
-    ensures err { (parcel : Parcel) → (port_at (map P.state ports.old.items) node).stage ≡ Posted parcel → (port_at (map P.state ports.old.items) node).tells ≡ true → IfErr result (λ fault. IsTakeFault parcel (port_at (map P.state ports.old.items) node) fault) }
+    ensures same { IsSamePort (port_at (map P.state ports.old.items) node)
+        (port_at (map P.state ports.new.items) node) }
+    ensures ok { (parcel : Parcel) → (port_at (map P.state ports.old.items) node).stage
+        ≡ Posted parcel → (port_at (map P.state ports.old.items) node).tells ≡ true → IfOk result
+        (λ reply. IsTaken parcel (port_at (map P.state ports.old.items) node)
+        (port_at (map P.state ports.new.items) node) reply) }
+    ensures err { (parcel : Parcel) → (port_at (map P.state ports.old.items) node).stage
+        ≡ Posted parcel → (port_at (map P.state ports.old.items) node).tells ≡ true → IfErr result
+        (λ fault. IsTakeFault parcel (port_at (map P.state ports.old.items) node) fault) }
 {
     let port = &mut ports[node];
     port.take()

@@ -1,9 +1,11 @@
 // Whole sessions, and the headline over any number of them.
 
-ghost use Rattle.std.specs.Prelude.{◌≡◌, ◌<◌, ◌≤◌, ◌^◌, ℕ, IfSome, IsSome, None, Some, length, map, take};
+ghost use Rattle.std.specs.Prelude.{◌≡◌, ◌<◌, ◌≤◌, ◌^◌, ℕ, IfSome, IsSome, None, Some, length, map};
+ghost use Rattle.std.specs.Prelude.{take};
 ghost use Rattle.coordinator.specs.Headline.{Headline, IsResumed};
 ghost use Rattle.coordinator.specs.Crashes.{Recovers};
-ghost use Rattle.coordinator.specs.Opening.{AllFresh, AllTell, IsForWantAtOpening, OpeningIsRefused};
+ghost use Rattle.coordinator.specs.Opening.{AllFresh, AllTell, IsForWantAtOpening};
+ghost use Rattle.coordinator.specs.Opening.{OpeningIsRefused};
 ghost use Rattle.coordinator.specs.Steps.{move_of};
 ghost use Rattle.model.specs.World.{World};
 

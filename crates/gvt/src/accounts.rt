@@ -1,6 +1,7 @@
 // The nodes' accounts: made, read and changed.
 
-ghost use Rattle.std.specs.Prelude.{◌≡◌, ◌<◌, Some, None, IfOk, length, map, option_map, set, is_some};
+ghost use Rattle.std.specs.Prelude.{◌≡◌, ◌<◌, Some, None, IfOk, length, map, option_map, set};
+ghost use Rattle.std.specs.Prelude.{is_some};
 ghost use Rattle.node.specs.declared.Parcel.{Parcel};
 ghost use Rattle.gvt.specs.Accounts.{floors_in, lows_in, parcel_at, parcels_in, with_node};
 
@@ -16,7 +17,8 @@ pub(crate) fn opened(
     floor: u64,
     lows: &[Option<u64>],
 ) -> Result<Vec<Account>, AllocError>
-    ensures { IfOk result (λ v. v.items ≡ map (λ low. record { posted = None; low = low; answered = floor }) lows.now) }
+    ensures { IfOk result (λ v. v.items ≡ map
+        (λ low. record { posted = None; low = low; answered = floor }) lows.now) }
 {
     lows.iter()
         .map(|low| Account {
@@ -41,7 +43,8 @@ fn kept(parcel: &Parcel) -> Posted
 /// Notes that this parcel is outstanding at a node.
 pub(crate) fn note_posted(accounts: &mut [Account], node: usize, parcel: &Parcel)
     requires { node < length accounts.old }
-    ensures parcels { parcels_in accounts.new ≡ set (parcels_in accounts.old) node (Some parcel.now) }
+    ensures parcels { parcels_in accounts.new ≡ set (parcels_in accounts.old) node
+        (Some parcel.now) }
     ensures lows { lows_in accounts.new ≡ lows_in accounts.old }
     ensures floors { floors_in accounts.new ≡ floors_in accounts.old }
 {

@@ -2,9 +2,11 @@
 //! (global virtual time: Jefferson 1985, Fujimoto 1990).
 #![tactic(auto)]
 
-ghost use Rattle.std.specs.Prelude.{◌≡◌, ◌<◌, ◌≤◌, ◌↔◌, ℕ, true, false, length, IfOk, OnOk, OnErr, IsErrOf, IsTrue, Some, None, get_or};
+ghost use Rattle.std.specs.Prelude.{◌≡◌, ◌<◌, ◌≤◌, ◌↔◌, ℕ, true, false, length, IfOk, OnOk, OnErr};
+ghost use Rattle.std.specs.Prelude.{IsErrOf, IsTrue, Some, None, get_or};
 ghost use Rattle.node.specs.declared.Parcel.{Parcel};
-ghost use Rattle.gvt.specs.Ledger.{Ledger, after_post, after_take, first_ledger, floor_of, is_busy, least_floor, may_pick, nodes_of, outstanding, parcel_of};
+ghost use Rattle.gvt.specs.Ledger.{Ledger, after_post, after_take, first_ledger, floor_of, is_busy};
+ghost use Rattle.gvt.specs.Ledger.{least_floor, may_pick, nodes_of, outstanding, parcel_of};
 ghost use Rattle.gvt.specs.declared.LedgerFault.TheVariants.{NoMemory};
 
 mod account;
@@ -168,9 +170,12 @@ impl Ledger {
         ensures parcel { IfOk result (λ parcel. parcel ≡ parcel_of self.old picks.now budget) }
         ensures posted { OnOk result (self.new ≡ after_post self.old node picks.now budget) }
         ensures no_such_node { IsErrOf result LedgerFault.NoSuchNode ↔ (nodes_of self.old ≤ node) }
-        ensures busy { IsErrOf result LedgerFault.Busy ↔ ((node < nodes_of self.old) × IsTrue (is_busy self.old node)) }
-        ensures no_such_pick { IsErrOf result LedgerFault.NoSuchPick ↔ ((node < nodes_of self.old) × (is_busy self.old node ≡ false) × (may_pick self.old node picks.now ≡ false)) }
-        ensures no_memory { IsErrOf result LedgerFault.NoMemory → (node < nodes_of self.old) × (is_busy self.old node ≡ false) × IsTrue (may_pick self.old node picks.now) }
+        ensures busy { IsErrOf result LedgerFault.Busy ↔ ((node < nodes_of self.old) × IsTrue
+            (is_busy self.old node)) }
+        ensures no_such_pick { IsErrOf result LedgerFault.NoSuchPick ↔ ((node < nodes_of self.old)
+            × (is_busy self.old node ≡ false) × (may_pick self.old node picks.now ≡ false)) }
+        ensures no_memory { IsErrOf result LedgerFault.NoMemory → (node < nodes_of self.old)
+            × (is_busy self.old node ≡ false) × IsTrue (may_pick self.old node picks.now) }
         ensures idle { IsErrOf result LedgerFault.Idle → ⊥ }
         ensures err { OnErr result (self.new ≡ self.old) }
     {
@@ -197,11 +202,15 @@ impl Ledger {
     /// It is refused, in this order, where no node has this number, where no parcel is outstanding there, and where
     /// memory is refused; then nothing changes.
     pub fn take(&mut self, node: u32, reply: &Reply) -> Result<(), LedgerFault>
-        ensures ok { (parcel : Parcel) → outstanding self.old node ≡ Some parcel → OnOk result (self.new ≡ after_take self.old node parcel reply.now) }
+        ensures ok { (parcel : Parcel) → outstanding self.old node ≡ Some parcel → OnOk result
+            (self.new ≡ after_take self.old node parcel reply.now) }
         ensures no_such_node { IsErrOf result LedgerFault.NoSuchNode ↔ (nodes_of self.old ≤ node) }
-        ensures idle { IsErrOf result LedgerFault.Idle ↔ ((node < nodes_of self.old) × (is_busy self.old node ≡ false)) }
-        ensures no_memory { IsErrOf result LedgerFault.NoMemory → (node < nodes_of self.old) × IsTrue (is_busy self.old node) }
-        ensures others { (IsErrOf result LedgerFault.Busy → ⊥) × (IsErrOf result LedgerFault.NoSuchPick → ⊥) }
+        ensures idle { IsErrOf result LedgerFault.Idle ↔ ((node < nodes_of self.old)
+            × (is_busy self.old node ≡ false)) }
+        ensures no_memory { IsErrOf result LedgerFault.NoMemory → (node < nodes_of self.old)
+            × IsTrue (is_busy self.old node) }
+        ensures others { (IsErrOf result LedgerFault.Busy → ⊥)
+            × (IsErrOf result LedgerFault.NoSuchPick → ⊥) }
         ensures err { OnErr result (self.new ≡ self.old) }
     {
         if node >= self.nodes {

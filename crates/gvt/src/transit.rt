@@ -1,6 +1,8 @@
 // The messages in transit, by place.
 
-ghost use Rattle.std.specs.Prelude.{◌≡◌, ◌++◌, ◌<◌, ◌≤◌, ◌↔◌, ℕ, [], length, take, get_or, replicate, false, ◌&&◌, OnOk, OnErr, IfOk, IfErr, IsErrOf, ◌⊎◌, IsTrue, slice_index, not};
+ghost use Rattle.std.specs.Prelude.{◌≡◌, ◌++◌, ◌<◌, ◌≤◌, ◌↔◌, ℕ, [], length, take, get_or};
+ghost use Rattle.std.specs.Prelude.{replicate, false, ◌&&◌, OnOk, OnErr, IfOk, IfErr, IsErrOf, ◌⊎◌};
+ghost use Rattle.std.specs.Prelude.{IsTrue, slice_index, not};
 ghost use Rattle.eventkey.specs.declared.Signed.{Signed};
 ghost use Rattle.gvt.specs.Marks.{unmarked};
 ghost use Rattle.gvt.specs.Picks.{are_distinct, can_pick, not_picked, picked};
@@ -84,8 +86,10 @@ impl Transit {
         requires { 0 < nodes }
         ensures taken { IfOk result (λ v. v.items ≡ picked self.old picks.now) }
         ensures left { OnOk result (self.new ≡ not_picked picks.now 0 self.old) }
-        ensures no_such_pick { IsErrOf result LedgerFault.NoSuchPick ↔ ((can_pick nodes node self.old picks.now && are_distinct picks.now) ≡ false) }
-        ensures faults { IfErr result (λ fault. (fault ≡ LedgerFault.NoSuchPick) ⊎ (fault ≡ LedgerFault.NoMemory)) }
+        ensures no_such_pick { IsErrOf result LedgerFault.NoSuchPick
+            ↔ ((can_pick nodes node self.old picks.now && are_distinct picks.now) ≡ false) }
+        ensures faults { IfErr result (λ fault. (fault ≡ LedgerFault.NoSuchPick)
+            ⊎ (fault ≡ LedgerFault.NoMemory)) }
         ensures err { OnErr result (self.new ≡ self.old) }
     {
         if picks.is_empty() {
@@ -113,7 +117,8 @@ fn mark(messages: &[Signed], marks: &mut [bool], nodes: u32, node: u32, picks: &
     requires some { 0 < nodes }
     requires clear { marks.old ≡ replicate (length messages.now) false }
     ensures good { result ≡ (can_pick nodes node messages.now picks.now && are_distinct picks.now) }
-    ensures marked { IsTrue result → unmarked marks.new messages.now ≡ not_picked picks.now 0 messages.now }
+    ensures marked { IsTrue result → unmarked marks.new messages.now
+        ≡ not_picked picks.now 0 messages.now }
 {
     for pick in picks {
         let place = *pick as usize;
@@ -137,9 +142,12 @@ fn chosen(
     requires some { 0 < nodes }
     requires clear { marks.old ≡ replicate (length messages.now) false }
     ensures taken { IfOk result (λ v. v.items ≡ picked messages.now picks.now) }
-    ensures marked { OnOk result (unmarked marks.new messages.now ≡ not_picked picks.now 0 messages.now) }
-    ensures no_such_pick { IsErrOf result LedgerFault.NoSuchPick ↔ ((can_pick nodes node messages.now picks.now && are_distinct picks.now) ≡ false) }
-    ensures faults { IfErr result (λ fault. (fault ≡ LedgerFault.NoSuchPick) ⊎ (fault ≡ LedgerFault.NoMemory)) }
+    ensures marked { OnOk result (unmarked marks.new messages.now
+        ≡ not_picked picks.now 0 messages.now) }
+    ensures no_such_pick { IsErrOf result LedgerFault.NoSuchPick
+        ↔ ((can_pick nodes node messages.now picks.now && are_distinct picks.now) ≡ false) }
+    ensures faults { IfErr result (λ fault. (fault ≡ LedgerFault.NoSuchPick)
+        ⊎ (fault ≡ LedgerFault.NoMemory)) }
 {
     if !mark(messages, marks, nodes, node, picks) {
         return Err(LedgerFault::NoSuchPick);

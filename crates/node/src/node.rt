@@ -1,6 +1,7 @@
 // A node between parcels.
 
-ghost use Rattle.std.specs.Prelude.{◌≡◌, ◌<◌, ◌≤◌, ◌^◌, ◌↔◌, ◌⊎◌, ◌==◌, Some, None, Err, IfOk, IfErr, IsTrue, length, map, nat_lt, not, true, false};
+ghost use Rattle.std.specs.Prelude.{◌≡◌, ◌<◌, ◌≤◌, ◌^◌, ◌↔◌, ◌⊎◌, ◌==◌, Some, None, Err, IfOk};
+ghost use Rattle.std.specs.Prelude.{IfErr, IsTrue, length, map, nat_lt, not, true, false};
 ghost use Rattle.std.specs.List.{AllByRecursion as Every};
 ghost use Rattle.node.specs.Handling.{IsInRange, own_lps};
 ghost use Rattle.node.specs.Kept.{HasHistories};
@@ -47,7 +48,8 @@ impl std::marker::Model for Node {
 }
 
 impl Node {
-    ghost use Rattle.node.specs.Handling.{IsAnswered, IsLimitedAtOnce, IsLoaded, IsReplyInRange, refusal};
+    ghost use Rattle.node.specs.Handling.{IsAnswered, IsLimitedAtOnce, IsLoaded, IsReplyInRange};
+    ghost use Rattle.node.specs.Handling.{refusal};
 
     /// The node of a model that a load tells of.
     ///
@@ -106,7 +108,8 @@ impl Node {
         requires histories { HasHistories (M.meaning model.now) self.old }
         ensures answered { IsAnswered (M.meaning model.now) parcel self.old self.new result }
         ensures range { IfOk result IsReplyInRange }
-        ensures limit { IsLimitedAtOnce (M.meaning model.now) parcel self.old → result ≡ Err NumberLimit }
+        ensures limit { IsLimitedAtOnce (M.meaning model.now) parcel self.old → result
+            ≡ Err NumberLimit }
         ensures lps { self.new.lps ≡ self.old.lps }
         ensures histories { HasHistories (M.meaning model.now) self.new }
     {
@@ -214,7 +217,8 @@ fn seat_all(
     requires own { Every (λ p. Every (λ x. x.to ≡ p.lp) p.pending) parts.items }
     requires late { Every (λ p. Every (λ x. floor ≤ x.time) p.pending) parts.items }
     ensures processes { IfOk result (λ seats. seats.0.items ≡ map (seat_of floor) parts.items) }
-    ensures standings { IfOk result (λ seats. seats.1 ≡ standings_of end (map (seat_of floor) parts.items)) }
+    ensures standings { IfOk result (λ seats. seats.1 ≡ standings_of end
+        (map (seat_of floor) parts.items)) }
     ensures memory { IfErr result (λ fault. fault ≡ NoMemory) }
 {
     let mut processes = Vec::with_capacity(alloc, parts.len())?;

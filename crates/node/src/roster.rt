@@ -1,12 +1,16 @@
 // The processes of a node, and what is known of them without a visit.
 
-ghost use Rattle.std.specs.Prelude.{◌≡◌, ◌≤◌, ◌<◌, ◌+◌, ◌++◌, ◌⊎◌, ℕ, Option, Some, None, Err, [], IsOk, OnOk, OnErr, IfOk, IfErr, MatchOption, get_or, length, set, true, false};
+ghost use Rattle.std.specs.Prelude.{◌≡◌, ◌≤◌, ◌<◌, ◌+◌, ◌++◌, ◌⊎◌, ℕ, Option, Some, None, Err, []};
+ghost use Rattle.std.specs.Prelude.{IsOk, OnOk, OnErr, IfOk, IfErr, MatchOption, get_or, length};
+ghost use Rattle.std.specs.Prelude.{set, true, false};
 ghost use Rattle.std.specs.List.{AllByRecursion as Every};
 ghost use Rattle.process.specs.Process.{fossils_of, has_room, nobody, release};
 ghost use Rattle.process.specs.View.{IsDoneInRange};
 ghost use Rattle.node.specs.Handling.{IsReplyInRange, after, first_fault, is_own};
-ghost use Rattle.node.specs.Node.{deliver_here, deliver_one_here, here, reply_of, run_here, run_one_here, start};
-ghost use Rattle.node.specs.Roster.{Fails, IsModelled, IsReady, IsStaffed, IsWorked, at_floor, node_of, place_of, processes_of, work_of};
+ghost use Rattle.node.specs.Node.{deliver_here, deliver_one_here, here, reply_of, run_here};
+ghost use Rattle.node.specs.Node.{run_one_here, start};
+ghost use Rattle.node.specs.Roster.{Fails, IsModelled, IsReady, IsStaffed, IsWorked, at_floor};
+ghost use Rattle.node.specs.Roster.{node_of, place_of, processes_of, work_of};
 ghost use Rattle.node.specs.Tournament.{least_among};
 ghost use Rattle.node.specs.declared.NodeFault.TheVariants.{NoMemory, NumberLimit};
 
@@ -71,7 +75,8 @@ impl Roster {
         ensures modelled { OnOk result
             (Every (IsModelled (M.meaning model.now)) self.new.processes.items) }
         ensures place { place_of self.new ≡ place_of self.old }
-        ensures work { (ran : ℕ) → OnOk result (work_of self.new out.new.items ran ≡ deliver_one_here self.old.nodes delivery.now (work_of self.old out.old.items ran)) }
+        ensures work { (ran : ℕ) → OnOk result (work_of self.new out.new.items ran
+            ≡ deliver_one_here self.old.nodes delivery.now (work_of self.old out.old.items ran)) }
         ensures memory { IfErr result (λ fault. fault ≡ NoMemory) }
     {
         let place = (delivery.message.to() / self.nodes) as usize;
@@ -96,7 +101,8 @@ impl Roster {
         ensures modelled { OnOk result
             (Every (IsModelled (M.meaning model.now)) self.new.processes.items) }
         ensures place { place_of self.new ≡ place_of self.old }
-        ensures work { (ran : ℕ) → OnOk result (work_of self.new out.new.items ran ≡ deliver_here self.old.nodes deliveries.now (work_of self.old out.old.items ran)) }
+        ensures work { (ran : ℕ) → OnOk result (work_of self.new out.new.items ran
+            ≡ deliver_here self.old.nodes deliveries.now (work_of self.old out.old.items ran)) }
         ensures memory { IfErr result (λ fault. fault ≡ NoMemory) }
         ensures none { deliveries.now ≡ [] → IsOk result }
     {
@@ -121,10 +127,17 @@ impl Roster {
         ensures modelled { OnOk result
             (Every (IsModelled (M.meaning model.now)) self.new.processes.items) }
         ensures place { place_of self.new ≡ place_of self.old }
-        ensures work { (ran : ℕ) → OnOk result (work_of self.new out.new.items (ran + 1) ≡ run_one_here (M.meaning model.now) self.old.nodes message.now (work_of self.old out.old.items ran)) }
-        ensures room { (ran : ℕ) → OnOk result (has_room (M.meaning model.now) message.now (here self.old.nodes (work_of self.old out.old.items ran) message.now.to) ≡ true) }
-        ensures causes { (ran : ℕ) → IfErr result (λ fault. (fault ≡ NoMemory) ⊎ ((fault ≡ NumberLimit) × (has_room (M.meaning model.now) message.now (here self.old.nodes (work_of self.old out.old.items ran) message.now.to) ≡ false))) }
-        ensures limit { (ran : ℕ) → has_room (M.meaning model.now) message.now (here self.old.nodes (work_of self.old out.old.items ran) message.now.to) ≡ false → result ≡ Err NumberLimit }
+        ensures work { (ran : ℕ) → OnOk result (work_of self.new out.new.items (ran + 1)
+            ≡ run_one_here (M.meaning model.now) self.old.nodes message.now
+            (work_of self.old out.old.items ran)) }
+        ensures room { (ran : ℕ) → OnOk result (has_room (M.meaning model.now) message.now
+            (here self.old.nodes (work_of self.old out.old.items ran) message.now.to) ≡ true) }
+        ensures causes { (ran : ℕ) → IfErr result (λ fault. (fault ≡ NoMemory)
+            ⊎ ((fault ≡ NumberLimit) × (has_room (M.meaning model.now) message.now
+            (here self.old.nodes (work_of self.old out.old.items ran) message.now.to) ≡ false))) }
+        ensures limit { (ran : ℕ) → has_room (M.meaning model.now) message.now (here self.old.nodes
+            (work_of self.old out.old.items ran) message.now.to) ≡ false → result
+            ≡ Err NumberLimit }
     {
         let place = (message.to() / self.nodes) as usize;
         let process = &mut self.processes[place];
@@ -148,9 +161,14 @@ impl Roster {
         ensures modelled { OnOk result
             (Every (IsModelled (M.meaning model.now)) self.new.processes.items) }
         ensures place { place_of self.new ≡ place_of self.old }
-        ensures work { IfOk result (λ ran. run_here (M.meaning model.now) self.old.end self.old.nodes budget (work_of self.old out.old.items 0) ≡ Some (work_of self.new out.new.items ran)) }
-        ensures causes { IfErr result (λ fault. (fault ≡ NoMemory) ⊎ ((fault ≡ NumberLimit) × (run_here (M.meaning model.now) self.old.end self.old.nodes budget (work_of self.old out.old.items 0) ≡ None))) }
-        ensures limit { 0 < budget → run_here (M.meaning model.now) self.old.end self.old.nodes 1 (work_of self.old out.old.items 0) ≡ None → result ≡ Err NumberLimit }
+        ensures work { IfOk result (λ ran. run_here
+            (M.meaning model.now) self.old.end self.old.nodes budget
+            (work_of self.old out.old.items 0) ≡ Some (work_of self.new out.new.items ran)) }
+        ensures causes { IfErr result (λ fault. (fault ≡ NoMemory) ⊎ ((fault ≡ NumberLimit)
+            × (run_here (M.meaning model.now) self.old.end self.old.nodes budget
+            (work_of self.old out.old.items 0) ≡ None))) }
+        ensures limit { 0 < budget → run_here (M.meaning model.now) self.old.end self.old.nodes 1
+            (work_of self.old out.old.items 0) ≡ None → result ≡ Err NumberLimit }
     {
         for ran in 0..budget {
             let Some(message) = self.standings.least().next else {
@@ -169,16 +187,22 @@ impl Roster {
         floor: u64,
         fossils: &mut Vec<Done>,
     ) -> Result<(), NodeFault>
-        requires staffed { IsStaffed (at_floor floor (place_of self.old)) self.old.processes.items self.old.standings }
+        requires staffed { IsStaffed (at_floor floor
+            (place_of self.old)) self.old.processes.items self.old.standings }
         requires modelled { Every (IsModelled (M.meaning model.now)) self.old.processes.items }
         requires there { place < length self.old.processes.items }
-        ensures staffed { OnOk result (IsStaffed (at_floor floor (place_of self.old)) self.new.processes.items self.new.standings) }
+        ensures staffed { OnOk result (IsStaffed (at_floor floor
+            (place_of self.old)) self.new.processes.items self.new.standings) }
         ensures modelled { OnOk result
             (Every (IsModelled (M.meaning model.now)) self.new.processes.items) }
         ensures place { place_of self.new ≡ place_of self.old }
-        ensures processes { OnOk result (processes_of self.new.processes.items ≡ set (processes_of self.old.processes.items) place (release floor (get_or (processes_of self.old.processes.items) place nobody))) }
-        ensures fossils { OnOk result (fossils.new.items ≡ fossils.old.items ++ fossils_of floor (get_or (processes_of self.old.processes.items) place nobody)) }
-        ensures range { Every IsDoneInRange fossils.old.items → OnOk result (Every IsDoneInRange fossils.new.items) }
+        ensures processes { OnOk result (processes_of self.new.processes.items
+            ≡ set (processes_of self.old.processes.items) place (release floor
+            (get_or (processes_of self.old.processes.items) place nobody))) }
+        ensures fossils { OnOk result (fossils.new.items ≡ fossils.old.items ++ fossils_of floor
+            (get_or (processes_of self.old.processes.items) place nobody)) }
+        ensures range { Every IsDoneInRange fossils.old.items → OnOk result
+            (Every IsDoneInRange fossils.new.items) }
         ensures memory { IfErr result (λ fault. fault ≡ NoMemory) }
     {
         let process = &mut self.processes[place];
@@ -196,8 +220,10 @@ impl Roster {
         ensures ready { OnOk result (IsReady self.new) }
         ensures modelled { OnOk result
             (Every (IsModelled (M.meaning model.now)) self.new.processes.items) }
-        ensures node { OnOk result (node_of false self.new ≡ after floor (work_of self.old [] 0) (node_of false self.old)) }
-        ensures fossils { IfOk result (λ fossils. fossils.items ≡ (reply_of floor (work_of self.old [] 0)).fossils) }
+        ensures node { OnOk result (node_of false self.new ≡ after floor (work_of self.old [] 0)
+            (node_of false self.old)) }
+        ensures fossils { IfOk result (λ fossils. fossils.items
+            ≡ (reply_of floor (work_of self.old [] 0)).fossils) }
         ensures range { IfOk result (λ fossils. Every IsDoneInRange fossils.items) }
         ensures place { OnErr result (place_of self.new ≡ place_of self.old) }
         ensures memory { IfErr result (λ fault. fault ≡ NoMemory) }
@@ -225,11 +251,15 @@ impl Roster {
         ensures ready { OnOk result (IsReady self.new) }
         ensures modelled { OnOk result
             (Every (IsModelled (M.meaning model.now)) self.new.processes.items) }
-        ensures handled { IfOk result (λ reply. IsWorked (M.meaning model.now) parcel (node_of false self.old) (node_of false self.new) reply) }
+        ensures handled { IfOk result (λ reply. IsWorked (M.meaning model.now) parcel
+            (node_of false self.old) (node_of false self.new) reply) }
         ensures range { IfOk result IsReplyInRange }
         ensures place { OnErr result (place_of self.new ≡ place_of self.old) }
-        ensures failed { IfErr result (λ fault. Fails (M.meaning model.now) parcel (node_of false self.old) fault) }
-        ensures limit { parcel.deliver ≡ [] → 0 < parcel.budget → run_here (M.meaning model.now) self.old.end self.old.nodes 1 (start (processes_of self.old.processes.items)) ≡ None → result ≡ Err NumberLimit }
+        ensures failed { IfErr result (λ fault. Fails (M.meaning model.now) parcel
+            (node_of false self.old) fault) }
+        ensures limit { parcel.deliver ≡ [] → 0 < parcel.budget → run_here
+            (M.meaning model.now) self.old.end self.old.nodes 1
+            (start (processes_of self.old.processes.items)) ≡ None → result ≡ Err NumberLimit }
     {
         let Parcel {
             deliver,

@@ -1,6 +1,7 @@
 // The least of what stands of many processes, known at any time.
 
-ghost use Rattle.std.specs.Prelude.{◌≡◌, ◌<◌, ◌≤◌, ◌^◌, ℕ, length, set, get_or, replicate, true, false, IfOk, MatchOption};
+ghost use Rattle.std.specs.Prelude.{◌≡◌, ◌<◌, ◌≤◌, ◌^◌, ℕ, length, set, get_or, replicate, true};
+ghost use Rattle.std.specs.Prelude.{false, IfOk, MatchOption};
 ghost use Rattle.node.specs.Seats.{is_due};
 
 use crate::standing::Standing;
@@ -90,7 +91,8 @@ impl Tournament {
     /// The first leaf whose oldest time is below the floor, in ticks, if there is one. It takes no memory, and costs the
     /// logarithm of the leaves.
     pub(crate) fn first_due(&self, floor: u64) -> Option<usize>
-        ensures { MatchOption result (IsQuiet floor self.now (length self.now)) (λ due. IsFirstDue floor self.now due) }
+        ensures { MatchOption result (IsQuiet floor self.now (length self.now))
+            (λ due. IsFirstDue floor self.now due) }
     {
         let mut cell = 1;
         if !self.cells[cell].is_due(floor) {

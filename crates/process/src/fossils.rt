@@ -1,7 +1,8 @@
 // What is told of handlings that no rollback reaches any more.
 
 ghost use Rattle.std.specs.Prelude.{◌≡◌, ◌++◌, IfOk, OnOk};
-ghost use Rattle.queues.specs.Record.{AreHandlings, handled_before, handled_from, number_before, state_before};
+ghost use Rattle.queues.specs.Record.{AreHandlings, handled_before, handled_from, number_before};
+ghost use Rattle.queues.specs.Record.{state_before};
 ghost use Rattle.process.specs.Process.{told};
 
 use crate::Done;
@@ -63,7 +64,8 @@ fn before_first(
     state: &State,
     number: u64,
 ) -> Result<(State, u64), AllocError>
-    ensures { IfOk result (λ before. (before.0 ≡ state_before history.now state.now) × (before.1 ≡ number_before history.now number)) }
+    ensures { IfOk result (λ before. (before.0 ≡ state_before history.now state.now)
+        × (before.1 ≡ number_before history.now number)) }
 {
     match history.first() {
         Some(next) => Ok((copy_of(alloc, &next.before)?, next.number_before)),

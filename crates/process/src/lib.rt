@@ -2,7 +2,11 @@
 #![tactic(auto)]
 
 ghost use Rattle.std.specs.Prelude.{◌≡◌};
-ghost use Rattle.process.specs.Told.{HistoriesAreKept, TellingIsTrue, ArrivalIsTold, ArrivalIsBalanced, ArrivalTakesBack, ArrivalLooksAhead, HandlingIsTold, HandlingIsBalanced, TellingIsTold, TellingIsBalanced, RollbacksStayAbove, FossilsAreFinal, ReleasesAreUnseen};
+ghost use Rattle.process.specs.Told.{HistoriesAreKept, TellingIsTrue, ArrivalIsTold};
+ghost use Rattle.process.specs.Told.{ArrivalIsBalanced, ArrivalTakesBack, ArrivalLooksAhead};
+ghost use Rattle.process.specs.Told.{HandlingIsTold, HandlingIsBalanced, TellingIsTold};
+ghost use Rattle.process.specs.Told.{TellingIsBalanced, RollbacksStayAbove, FossilsAreFinal};
+ghost use Rattle.process.specs.Told.{ReleasesAreUnseen};
 ghost use Rattle.process.specs.View.{HistoriesBegin};
 ghost use Rattle.process.specs.declared.ProcessFault.TheVariants.{NoMemory};
 

@@ -1,14 +1,19 @@
 // A logical process.
 
-ghost use Rattle.std.specs.Prelude.{◌≡◌, ◌≢◌, ◌↔◌, ◌<◌, ◌≤◌, ◌+◌, ◌++◌, ◌^◌, ◌==◌, ◌&&◌, ◌⊎◌, [], List, ℕ, length, map, not, nat_lt, true, false, Ok, Err, None, IfOk, IfErr, IfSome, OnOk, OnErr, IsTrue};
+ghost use Rattle.std.specs.Prelude.{◌≡◌, ◌≢◌, ◌↔◌, ◌<◌, ◌≤◌, ◌+◌, ◌++◌, ◌^◌, ◌==◌, ◌&&◌, ◌⊎◌, []};
+ghost use Rattle.std.specs.Prelude.{List, ℕ, length, map, not, nat_lt, true, false, Ok, Err, None};
+ghost use Rattle.std.specs.Prelude.{IfOk, IfErr, IfSome, OnOk, OnErr, IsTrue};
 ghost use Rattle.std.specs.List.{AllByRecursion as Every};
 ghost use Rattle.model.specs.Meaning.{Meaning};
 ghost use Rattle.queues.specs.Queue.{first_before, first_time};
 ghost use Rattle.queues.specs.Record.{first_handled};
-ghost use Rattle.process.specs.Process.{arrive, fossils_of, number_after, release, state_after, taken_back};
+ghost use Rattle.process.specs.Process.{arrive, fossils_of, number_after, release, state_after};
+ghost use Rattle.process.specs.Process.{taken_back};
 ghost use Rattle.process.specs.Told.{IsHistory, IsToldFold};
-ghost use Rattle.process.specs.View.{HasDone, HasRun, IsDoneInRange, IsRefused, IsSound, LacksRoom, has_early, has_foreign, loaded};
-ghost use Rattle.process.specs.declared.ProcessFault.TheVariants.{BelowFloor, NoMemory, NotMine, NumberLimit, Spent};
+ghost use Rattle.process.specs.View.{HasDone, HasRun, IsDoneInRange, IsRefused, IsSound, LacksRoom};
+ghost use Rattle.process.specs.View.{has_early, has_foreign, loaded};
+ghost use Rattle.process.specs.declared.ProcessFault.TheVariants.{BelowFloor, NoMemory, NotMine};
+ghost use Rattle.process.specs.declared.ProcessFault.TheVariants.{NumberLimit, Spent};
 
 use crate::fossils::tell;
 use crate::sends::{append, stamped, take_back_sends};
@@ -80,7 +85,8 @@ impl Process {
         requires number { number ≤ 2 ^ 63 }
         ensures loaded { IfOk result (λ p. p ≡ record { lp = lp; floor = floor; spent = false; process = loaded words.items number pending.items }) }
         ensures not_mine { (result ≡ Err NotMine) ↔ (has_foreign lp pending.items ≡ true) }
-        ensures below_floor { (result ≡ Err BelowFloor) ↔ ((has_foreign lp pending.items ≡ false) × (has_early floor pending.items ≡ true)) }
+        ensures below_floor { (result ≡ Err BelowFloor) ↔ ((has_foreign lp pending.items ≡ false)
+            × (has_early floor pending.items ≡ true)) }
         ensures unlimited { result ≢ Err NumberLimit }
         ensures unspent { result ≢ Err Spent }
         ensures done { (m : Meaning) → IfOk result (λ p. HasDone m p words.items number) }
@@ -182,18 +188,24 @@ impl Process {
         requires lp { self.old.lp < (M.meaning model.now).lps }
         requires history { self.old.spent ≡ false →
             IsHistory (M.meaning model.now) self.old.lp self.old.process }
-        ensures delivered { OnOk result (self.new ≡ record self.old { process = arrive signed self.old.process }) }
-        ensures out { OnOk result (out.new.items ≡ out.old.items ++ taken_back signed self.old.process) }
+        ensures delivered { OnOk result (self.new
+            ≡ record self.old { process = arrive signed self.old.process }) }
+        ensures out { OnOk result (out.new.items ≡ out.old.items
+            ++ taken_back signed self.old.process) }
         ensures spent { (result ≡ Err Spent) ↔ (self.old.spent ≡ true) }
-        ensures not_mine { (result ≡ Err NotMine) ↔ ((self.old.spent ≡ false) × (signed.message.to ≢ self.old.lp)) }
-        ensures below_floor { (result ≡ Err BelowFloor) ↔ ((self.old.spent ≡ false) × (signed.message.to ≡ self.old.lp) × (signed.message.time < self.old.floor)) }
+        ensures not_mine { (result ≡ Err NotMine) ↔ ((self.old.spent ≡ false)
+            × (signed.message.to ≢ self.old.lp)) }
+        ensures below_floor { (result ≡ Err BelowFloor) ↔ ((self.old.spent ≡ false)
+            × (signed.message.to ≡ self.old.lp) × (signed.message.time < self.old.floor)) }
         ensures unlimited { result ≢ Err NumberLimit }
         ensures lp { self.new.lp ≡ self.old.lp }
         ensures floor { self.new.floor ≡ self.old.floor }
-        ensures done { (m : Meaning) (state : List ℕ) (number : ℕ) → HasDone m self.old state number → OnOk result (HasDone m self.new state number) }
+        ensures done { (m : Meaning) (state : List ℕ) (number : ℕ) →
+            HasDone m self.old state number → OnOk result (HasDone m self.new state number) }
         ensures history { self.new.spent ≡ false →
             IsHistory (M.meaning model.now) self.new.lp self.new.process }
-        ensures refused { IfErr result (λ fault. IsRefused fault self.old self.new out.old.items out.new.items) }
+        ensures refused { IfErr result (λ fault.
+            IsRefused fault self.old self.new out.old.items out.new.items) }
     {
         if self.spent {
             return Err(ProcessFault::Spent);
@@ -253,21 +265,28 @@ impl Process {
     ) -> Result<bool, ProcessFault>
         requires lp { self.old.lp < (M.meaning model.now).lps }
         requires end { end ≤ 2 ^ 40 }
-        ensures ran { result ≡ Ok true → HasRun (M.meaning model.now) end self.old self.new out.old.items out.new.items }
-        ensures idle { (result ≡ Ok false) ↔ ((self.old.spent ≡ false) × (first_before end self.old.process.waiting ≡ None)) }
-        ensures idle_unchanged { result ≡ Ok false → (self.new ≡ self.old) × (out.new.items ≡ out.old.items) }
+        ensures ran { result ≡ Ok true → HasRun
+            (M.meaning model.now) end self.old self.new out.old.items out.new.items }
+        ensures idle { (result ≡ Ok false) ↔ ((self.old.spent ≡ false)
+            × (first_before end self.old.process.waiting ≡ None)) }
+        ensures idle_unchanged { result ≡ Ok false → (self.new ≡ self.old) × (out.new.items
+            ≡ out.old.items) }
         ensures spent { (result ≡ Err Spent) ↔ (self.old.spent ≡ true) }
-        ensures limit { (result ≡ Err NumberLimit) ↔ ((self.old.spent ≡ false) × LacksRoom (M.meaning model.now) end self.old.process) }
+        ensures limit { (result ≡ Err NumberLimit) ↔ ((self.old.spent ≡ false) × LacksRoom
+            (M.meaning model.now) end self.old.process) }
         ensures mine { result ≢ Err NotMine }
         ensures from_floor { result ≢ Err BelowFloor }
         ensures lp { self.new.lp ≡ self.old.lp }
         ensures floor { self.new.floor ≡ self.old.floor }
-        ensures done { (state : List ℕ) (number : ℕ) → HasDone (M.meaning model.now) self.old state number → OnOk result (HasDone (M.meaning model.now) self.new state number) }
+        ensures done { (state : List ℕ) (number : ℕ) → HasDone
+            (M.meaning model.now) self.old state number → OnOk result
+            (HasDone (M.meaning model.now) self.new state number) }
         ensures history { (self.old.spent ≡ false →
             IsHistory (M.meaning model.now) self.old.lp self.old.process) →
             self.new.spent ≡ false →
             IsHistory (M.meaning model.now) self.new.lp self.new.process }
-        ensures refused { IfErr result (λ fault. IsRefused fault self.old self.new out.old.items out.new.items) }
+        ensures refused { IfErr result (λ fault.
+            IsRefused fault self.old self.new out.old.items out.new.items) }
     {
         if self.spent {
             return Err(ProcessFault::Spent);
@@ -319,14 +338,19 @@ impl Process {
         requires history { self.old.spent ≡ false →
             IsHistory (M.meaning model.now) self.old.lp self.old.process }
         requires floor { self.old.floor ≤ floor }
-        ensures fossils { IfOk result (λ fossils. fossils.items ≡ fossils_of floor self.old.process) }
-        ensures collected { OnOk result (self.new ≡ record self.old { floor = floor; process = release floor self.old.process }) }
+        ensures fossils { IfOk result (λ fossils. fossils.items
+            ≡ fossils_of floor self.old.process) }
+        ensures collected { OnOk result (self.new
+            ≡ record self.old { floor = floor; process = release floor self.old.process }) }
         ensures spent { (result ≡ Err Spent) ↔ (self.old.spent ≡ true) }
         ensures causes { IfErr result (λ fault. (fault ≡ Spent) ⊎ (fault ≡ NoMemory)) }
         ensures lp { self.new.lp ≡ self.old.lp }
         ensures floor { OnErr result (self.new.floor ≡ self.old.floor) }
         ensures range { IfOk result (λ fossils. Every IsDoneInRange fossils.items) }
-        ensures done { (m : Meaning) (state : List ℕ) (number : ℕ) → HasDone m self.old state number → IfOk result (λ fossils. IsToldFold m self.old.lp state number fossils.items × HasDone m self.new (state_after fossils.items state) (number_after fossils.items number)) }
+        ensures done { (m : Meaning) (state : List ℕ) (number : ℕ) →
+            HasDone m self.old state number → IfOk result
+            (λ fossils. IsToldFold m self.old.lp state number fossils.items × HasDone m self.new
+            (state_after fossils.items state) (number_after fossils.items number)) }
         ensures history { self.new.spent ≡ false →
             IsHistory (M.meaning model.now) self.new.lp self.new.process }
         ensures refused { IfErr result (λ fault. IsRefused fault self.old self.new [] []) }
@@ -347,8 +371,10 @@ impl Process {
         requires history { self.old.spent ≡ false →
             IsHistory (M.meaning model.now) self.old.lp self.old.process }
         requires floor { self.old.floor ≤ floor }
-        ensures fossils { OnOk result (fossils.new.items ≡ fossils.old.items ++ fossils_of floor self.old.process) }
-        ensures collected { OnOk result (self.new ≡ record self.old { floor = floor; process = release floor self.old.process }) }
+        ensures fossils { OnOk result (fossils.new.items ≡ fossils.old.items
+            ++ fossils_of floor self.old.process) }
+        ensures collected { OnOk result (self.new
+            ≡ record self.old { floor = floor; process = release floor self.old.process }) }
         ensures spent { (result ≡ Err Spent) ↔ (self.old.spent ≡ true) }
         ensures causes { IfErr result (λ fault. (fault ≡ Spent) ⊎ (fault ≡ NoMemory)) }
         ensures lp { self.new.lp ≡ self.old.lp }

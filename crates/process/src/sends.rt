@@ -1,6 +1,7 @@
 // What handlings send, and how it is taken back.
 
-ghost use Rattle.std.specs.Prelude.{◌≡◌, ◌<◌, ◌≤◌, ◌+◌, ◌++◌, ◌^◌, List, length, map, IfOk, OnOk, OnErr};
+ghost use Rattle.std.specs.Prelude.{◌≡◌, ◌<◌, ◌≤◌, ◌+◌, ◌++◌, ◌^◌, List, length, map, IfOk, OnOk};
+ghost use Rattle.std.specs.Prelude.{OnErr};
 ghost use Rattle.eventkey.specs.Signed.{minus};
 ghost use Rattle.eventkey.specs.declared.Signed.{Signed};
 ghost use Rattle.model.specs.Meaning.{stamp as stamped_all};
@@ -39,7 +40,8 @@ pub(crate) fn append(
     sign: Sign,
     messages: &[Message],
 ) -> Result<(), AllocError>
-    ensures out { OnOk result (out.new.items ≡ out.old.items ++ map (λ m. record { sign = sign; message = m }) messages.now) }
+    ensures out { OnOk result (out.new.items ≡ out.old.items ++ map
+        (λ m. record { sign = sign; message = m }) messages.now) }
     ensures unchanged { OnErr result (out.new.items ≡ out.old.items) }
 {
     out.reserve(messages.len())?;

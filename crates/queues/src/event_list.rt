@@ -1,6 +1,7 @@
 // What waits at a process.
 
-ghost use Rattle.std.specs.Prelude.{◌≡◌, ◌<◌, ◌^◌, [], length, vec_len, vec_capacity, slice_get, IfSome, OnOk, OnErr};
+ghost use Rattle.std.specs.Prelude.{◌≡◌, ◌<◌, ◌^◌, [], length, vec_len, vec_capacity, slice_get};
+ghost use Rattle.std.specs.Prelude.{IfSome, OnOk, OnErr};
 ghost use Rattle.eventkey.specs.Bag.{IsAscending, add, is_among, remove_one};
 ghost use Rattle.queues.specs.Queue.{first_time};
 ghost use Rattle.queues.specs.Split.{IsSplit, both};
@@ -144,7 +145,8 @@ fn take_out(near: &mut Vec<Message>, far: &mut Bag, message: &Message) -> bool
     requires { IsSplit near.old.items far.old }
     ensures split { IsSplit near.new.items far.new }
     ensures answer { result ≡ is_among message.now (both near.old.items far.old) }
-    ensures taken { both near.new.items far.new ≡ remove_one message.now (both near.old.items far.old) }
+    ensures taken { both near.new.items far.new ≡ remove_one message.now
+        (both near.old.items far.old) }
 {
     match find(near.as_slice(), message) {
         Some(place) => {

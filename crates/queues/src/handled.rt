@@ -1,10 +1,13 @@
 // The history of a logical process.
 
-ghost use Rattle.std.specs.Prelude.{◌≡◌, ◌<◌, ◌≤◌, ◌+◌, ◌*◌, ◌/◌, ◌++◌, ◌∷◌, [], length, IfOk, OnOk, OnErr, Some, take, drop, nat_le, nat_lt, vec_len, vec_capacity};
+ghost use Rattle.std.specs.Prelude.{◌≡◌, ◌<◌, ◌≤◌, ◌+◌, ◌*◌, ◌/◌, ◌++◌, ◌∷◌, [], length, IfOk};
+ghost use Rattle.std.specs.Prelude.{OnOk, OnErr, Some, take, drop, nat_le, nat_lt, vec_len};
+ghost use Rattle.std.specs.Prelude.{vec_capacity};
 ghost use Rattle.std.specs.Option.{option_copied};
 ghost use Rattle.std.specs.List.{filter, slice_get};
 ghost use Rattle.queues.specs.Queue.{but_last, last_of};
-ghost use Rattle.queues.specs.Record.{AreHandlings, IsFirstTaken, handled_before, handled_from, messages, number_before, sends, state_before};
+ghost use Rattle.queues.specs.Record.{AreHandlings, IsFirstTaken, handled_before, handled_from};
+ghost use Rattle.queues.specs.Record.{messages, number_before, sends, state_before};
 ghost use Rattle.eventkey.specs.Bag.{IsAscending};
 
 use crate::Record;

@@ -1,9 +1,11 @@
 // The input queue of a logical process.
 
-ghost use Rattle.std.specs.Prelude.{◌≡◌, ◌<◌, ◌≤◌, ◌+◌, ◌++◌, [], length, nat_lt, ◌^◌, Ok, None, IfOk, IfSome, OnOk, OnErr};
+ghost use Rattle.std.specs.Prelude.{◌≡◌, ◌<◌, ◌≤◌, ◌+◌, ◌++◌, [], length, nat_lt, ◌^◌, Ok, None};
+ghost use Rattle.std.specs.Prelude.{IfOk, IfSome, OnOk, OnErr};
 ghost use Rattle.eventkey.specs.Bag.{add_all};
 ghost use Rattle.eventkey.specs.Signed.{minus, plus};
-ghost use Rattle.queues.specs.Queue.{IsInOrder, arrival, arrived, first_before, first_time, released, taken};
+ghost use Rattle.queues.specs.Queue.{IsInOrder, arrival, arrived, first_before, first_time};
+ghost use Rattle.queues.specs.Queue.{released, taken};
 
 use crate::bag::Bag;
 use crate::event_list::EventList;
@@ -59,7 +61,8 @@ impl InputQueue {
     /// The queue in which these messages wait, in whatever order they are handed in. It is refused only for want of
     /// memory.
     pub fn of_waiting(alloc: Global, messages: Vec<Message>) -> Result<InputQueue, AllocError>
-        ensures { IfOk result (λ q. q ≡ record { done = []; waiting = add_all messages.items []; antis = [] }) }
+        ensures { IfOk result (λ q. q
+            ≡ record { done = []; waiting = add_all messages.items []; antis = [] }) }
     {
         let mut waiting = EventList::new(alloc);
         for place in 0..messages.len() {

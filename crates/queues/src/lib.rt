@@ -1,7 +1,8 @@
 //! The queues of a logical process (Jefferson 1985): its input queue, and the history of what it handled.
 #![tactic(auto)]
 
-ghost use Rattle.queues.specs.Queue.{QueuesArriveByCases, QueuesStayApart, QueuesStayInOrder, QueuesCount, ArrivalsTellBack, back_of};
+ghost use Rattle.queues.specs.Queue.{QueuesArriveByCases, QueuesStayApart, QueuesStayInOrder};
+ghost use Rattle.queues.specs.Queue.{QueuesCount, ArrivalsTellBack, back_of};
 ghost use Rattle.queues.specs.Record.{HandlingsAreKept, RecordsPart};
 ghost use Rattle.std.specs.Prelude.{◌≡◌};
 
