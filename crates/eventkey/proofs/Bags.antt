@@ -2,26 +2,17 @@
 -- it shows a total order whose equals are equal, and which goes by time first.
 use Rattle.std.proofs.Common.{◌≡◌, refl, Ordering, Less, Equal, Greater, ℕ, ◌<◌, sym, nat_cmp, arith, true, false, is_eq, is_lt, ap, ◌↔◌, ◌∙◌, ◌≤◌, inl, inr, ◌⊎◌, ◌+◌, List, [], ◌∷◌, ◌++◌, subst, zero, suc, length, get_or, Contains, ap₂, flat_map, set, min}
 use Rattle.std.proofs.lemmas.Bool.{false≢true, true≢false, both_ways, false_from_ne_true, cases_lt, cases_Bool, cond_both}
-use Rattle.std.proofs.lemmas.Cmp.{nat_cmp_total, on_total, then_total, ranked, by_ranked, tied_itself}
+use Rattle.std.proofs.lemmas.Cmp.{ranked, by_ranked, tied_itself}
 use Rattle.std.proofs.lemmas.List.Concat.{flat_map-append}
 use Rattle.std.proofs.lemmas.List.Elements.{recursion_from_All, All-contains_itself}
-use Rattle.std.specs.Cmp.{IsTotalOrder}
 use Rattle.std.specs.List.{AllByRecursion as Every}
 use Rattle.std.specs.Ordering.{ordering_then, MatchOrdering, ordering_reverse}
 use Rattle.eventkey.specs.Laws.{MessagesAreOrdered}
 use Rattle.eventkey.specs.Bag.{IsAscending, add, add_all, copies, least_time, one_if_same, remove_all, remove_one}
+use Rattle.eventkey.specs.Order.{messages_are_total}
 use Rattle.eventkey.specs.Message.{IsAtMost, Message, is_before, is_same, message_cmp}
 
 -- 1. The order
-
-message_total : IsTotalOrder message_cmp
-unfolding message_cmp
-message_total =
-    then_total (on_total (λ (x : Message). x.time) nat_cmp_total)
-    (then_total (on_total (λ (x : Message). x.from) nat_cmp_total)
-    (then_total (on_total (λ (x : Message). x.number) nat_cmp_total)
-    (then_total (on_total (λ (x : Message). x.to) nat_cmp_total)
-    (then_total (on_total (λ (x : Message). x.a) nat_cmp_total) (on_total (λ (x : Message). x.b) nat_cmp_total)))))
 
 then_equal : (o p : Ordering) → ordering_then o p ≡ Equal → (o ≡ Equal) × (p ≡ Equal)
 then_equal Less p e = absurd (cc)
@@ -56,8 +47,8 @@ cmp_earlier x y h = rw (nat_cmp_less x.time y.time h)
 
 pub messages_are_ordered : MessagesAreOrdered
 messages_are_ordered = record {
-  total = message_total;
-  exact = λ x y. (cmp_equal x y, λ e. rw (← e) (tied_itself message_total x));
+  total = messages_are_total;
+  exact = λ x y. (cmp_equal x y, λ e. rw (← e) (tied_itself messages_are_total x));
   by_time = cmp_earlier;
 }
 
@@ -79,7 +70,7 @@ neither_way Equal e f = refl
 neither_way Greater e f = absurd (true≢false f)
 
 pub is_same_itself : (x : Message) → is_same x x ≡ true
-is_same_itself x = ap is_eq (tied_itself message_total x)
+is_same_itself x = ap is_eq (tied_itself messages_are_total x)
 
 pub same_from_is_same : (x y : Message) → is_same x y ≡ true → x ≡ y
 same_from_is_same x y e = cmp_equal x y (from_Equal (message_cmp x y) e)
@@ -88,15 +79,15 @@ pub is_same_iff : (x y : Message) → (is_same x y ≡ true) ↔ (x ≡ y)
 is_same_iff x y = (same_from_is_same x y, λ e. rw (← e) (is_same_itself x))
 
 pub is_before_itself : (x : Message) → is_before x x ≡ false
-is_before_itself x = ap is_lt (tied_itself message_total x)
+is_before_itself x = ap is_lt (tied_itself messages_are_total x)
 
 pub is_before_trans : (x y z : Message) → is_before x y ≡ true → is_before y z ≡ true → is_before x z ≡ true
-is_before_trans x y z e f = ap is_lt (message_total.trans x y z (from_Less _ e) (from_Less _ f))
+is_before_trans x y z e f = ap is_lt (messages_are_total.trans x y z (from_Less _ e) (from_Less _ f))
 
 -- of two messages that are each at most the other
 pub same_from_at_most : (x y : Message) → IsAtMost x y → IsAtMost y x → x ≡ y
 same_from_at_most x y e f =
-    cmp_equal x y (neither_way (message_cmp x y) f (ap is_lt (sym (message_total.antisymm y x)) ∙ e))
+    cmp_equal x y (neither_way (message_cmp x y) f (ap is_lt (sym (messages_are_total.antisymm y x)) ∙ e))
 
 pub at_most_from_before : (x y : Message) → is_before x y ≡ true → IsAtMost x y
 at_most_from_before x y e = false_from_ne_true (is_before y x) (λ f. both_ways (is_before x x) (is_before_itself x) (is_before_trans x y x e f))

@@ -1,5 +1,6 @@
 -- For callers: messages and antimessages, their order, and bags of them
 pub mod Message
+pub mod Order
 pub mod Signed
 pub mod Bag
 -- For callers: bytes, and reading them from left to right

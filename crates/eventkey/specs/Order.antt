@@ -1,0 +1,40 @@
+-- The order of messages is one by which they can be sorted: it is total, and it ties just those
+-- that `==` holds of.
+use Rattle.std.proofs.Common.{◌∙◌}
+use Rattle.std.specs.Cmp.{IsTotalOrder, both_tied, nat_cmp_total, on_total, then_total}
+use Rattle.std.specs.Cmp.{unsigned_ties}
+use Rattle.std.specs.Ordering.{eq_by_cmp, nat_cmp}
+use Rattle.std.specs.Prelude.{◌≡◌, Bool, ◌&&◌, ◌==◌, true, false, refl}
+use Rattle.eventkey.specs.Message.{Message, message_cmp}
+
+pub messages_are_total : IsTotalOrder message_cmp
+unfolding message_cmp
+messages_are_total =
+    then_total (on_total (λ (x : Message). x.time) nat_cmp_total)
+    (then_total (on_total (λ (x : Message). x.from) nat_cmp_total)
+    (then_total (on_total (λ (x : Message). x.number) nat_cmp_total)
+    (then_total (on_total (λ (x : Message). x.to) nat_cmp_total)
+    (then_total (on_total (λ (x : Message). x.a) nat_cmp_total)
+    (on_total (λ (x : Message). x.b) nat_cmp_total)))))
+
+-- two tests may be made in either order, whatever comes after them
+swapped : (n o after : Bool) → (o && (n && after)) ≡ (n && (o && after))
+swapped false false after = refl
+swapped false true after = refl
+swapped true false after = refl
+swapped true true after = refl
+
+-- `==` tests the fields in the order in which they are declared
+pub messages_are_tied : (x y : Message) →
+    ((x.time == y.time) && ((x.from == y.from) && ((x.to == y.to)
+    && ((x.number == y.number) && ((x.a == y.a) && (x.b == y.b))))))
+    ≡ eq_by_cmp message_cmp x y
+unfolding message_cmp
+messages_are_tied x y =
+    both_tied _ _ (nat_cmp x.time y.time) _ (unsigned_ties x.time y.time)
+    (both_tied _ _ (nat_cmp x.from y.from) _ (unsigned_ties x.from y.from)
+    (swapped (x.number == y.number) (x.to == y.to) ((x.a == y.a) && (x.b == y.b))
+    ∙ both_tied _ _ (nat_cmp x.number y.number) _ (unsigned_ties x.number y.number)
+    (both_tied _ _ (nat_cmp x.to y.to) _ (unsigned_ties x.to y.to)
+    (both_tied _ _ (nat_cmp x.a y.a) (nat_cmp x.b y.b) (unsigned_ties x.a y.a)
+    (unsigned_ties x.b y.b)))))
