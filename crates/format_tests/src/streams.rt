@@ -2,7 +2,7 @@
 
 use eventkey::{Listed, Message, Sign, Signed};
 use frames::{Frame, encode_fault, encode_load, encode_parcel, encode_reply, read_frame, read_raw};
-use model::{State, Words};
+use model::{Sent, State, Words};
 use node::{Load, NodeFault, Parcel, Part, Reply};
 use process::Done;
 use std::alloc::Global;
@@ -116,11 +116,9 @@ fn signed(alloc: Global, sign: Sign) -> Result<Listed<Signed>, Fail> {
 }
 
 fn laden(alloc: Global) -> Result<Reply, Fail> {
-    let mut sent = Vec::new(alloc);
-    sent.push(message()?)?;
     let done = Done {
         message: Message::new(1, 0, 0, 0, 0, 0)?,
-        sent: Listed::from_vec(sent),
+        sent: Sent::from_slice(alloc, &[message()?])?,
         after: words(alloc, 1),
         number_after: 2,
     };

@@ -4,8 +4,8 @@
 
 ghost use Rattle.std.specs.Prelude.{◌≡◌, ◌<◌, ◌≤◌, IfOk};
 
-use eventkey::{KeyFault, Listed, Message};
-use model::{Model as Simulated, State, Words};
+use eventkey::{KeyFault, Message};
+use model::{Model as Simulated, Sent, State, Words};
 use models::TokenRing;
 use queues::{History, Record};
 use std::alloc::{AllocError, Global};
@@ -86,11 +86,17 @@ impl<const K: usize> Counting<K> {
             .ring
             .handle(self.alloc, 1, self.state.words(), &message);
         let before = Words::from_slice(self.alloc, self.state.words().as_slice())?;
+        // None, one and two in turn.
+        let sent = match number_before % 3 {
+            0 => Sent::from_slice(self.alloc, &[])?,
+            1 => Sent::from_slice(self.alloc, &[message])?,
+            _ => Sent::from_slice(self.alloc, &[message, message])?,
+        };
         self.history.push(Record {
             message,
             before: State::from_words(before),
             number_before,
-            sent: Listed::from_vec(Vec::new(self.alloc)),
+            sent,
         })?;
         self.state = State::from_words(words);
         Ok(())
@@ -137,7 +143,7 @@ fn are_after(records: &[Record], count: u64) -> bool {
             sent,
         } = record;
         let told = (message.time(), *number_before, sent.as_slice().len());
-        if told != (next.saturating_add(1), next, 0)
+        if told != (next.saturating_add(1), next, (next % 3) as usize)
             || before.words().as_slice() != [next].as_slice()
         {
             return false;

@@ -8,11 +8,13 @@ ghost use Rattle.model.specs.Meaning.{Meaning, IsLawful, IsWords, stamped};
 mod laws;
 mod pending;
 mod runner;
+mod sent;
 mod state;
 
 use eventkey::Message;
 pub use laws::{law_of_runs, law_of_sequential_simulation, law_of_worlds};
 pub use runner::{World, WorldParts};
+pub use sent::Sent;
 use smallvec::SmallVec;
 pub use state::State;
 use std::alloc::Global;

@@ -16,7 +16,7 @@ pub(crate) fn tell<M: Simulated>(
     alloc: Global,
     model: &M,
     floor: u64,
-    history: &mut History<8>,
+    history: &mut History<1>,
     state: &State,
     number: u64,
     fossils: &mut Vec<Done>,
@@ -60,7 +60,7 @@ pub(crate) fn tell<M: Simulated>(
 /// State words and send number before these handlings, or these where there are none.
 fn before_first(
     alloc: Global,
-    history: &History<8>,
+    history: &History<1>,
     state: &State,
     number: u64,
 ) -> Result<(State, u64), AllocError>

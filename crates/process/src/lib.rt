@@ -14,9 +14,9 @@ mod fossils;
 mod logical;
 mod sends;
 
-use eventkey::{Listed, Message};
+use eventkey::Message;
 pub use logical::Process;
-use model::State;
+use model::{Sent, State};
 use std::alloc::{AllocError, AllocFailed};
 use thiserror::Error;
 
@@ -62,7 +62,7 @@ pub struct Done {
     /// The message that was handled.
     pub message: Message,
     /// The messages that the handling sent, in the order of sending.
-    pub sent: Listed<Message>,
+    pub sent: Sent,
     /// The state words after it.
     pub after: State,
     /// The send number after it.

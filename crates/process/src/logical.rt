@@ -16,10 +16,10 @@ ghost use Rattle.process.specs.declared.ProcessFault.TheVariants.{BelowFloor, No
 ghost use Rattle.process.specs.declared.ProcessFault.TheVariants.{NumberLimit, Spent};
 
 use crate::fossils::tell;
-use crate::sends::{append, stamped, take_back_sends};
+use crate::sends::{append, take_back_sends};
 use crate::{Done, ProcessFault};
-use eventkey::{Listed, Message, Sign, Signed};
-use model::{Model as Simulated, State, Words};
+use eventkey::{Message, Sign, Signed};
+use model::{Model as Simulated, Sent, State, Words};
 use queues::{History, InputQueue, Record};
 use std::alloc::Global;
 use std::mem;
@@ -34,7 +34,7 @@ pub struct Process {
     floor: u64,
     spent: bool,
     queue: InputQueue,
-    history: History<8>,
+    history: History<1>,
     state: State,
     number: u64,
 }
@@ -304,7 +304,7 @@ impl Process {
         if count > Process::NUMBER_LIMIT - self.number {
             return Err(ProcessFault::NumberLimit);
         }
-        let sent = stamped(
+        let sent = Sent::stamped(
             self.alloc,
             self.lp,
             message.time(),
@@ -318,7 +318,7 @@ impl Process {
             message,
             before,
             number_before: self.number,
-            sent: Listed::from_vec(sent),
+            sent,
         })?;
         self.number += count;
         self.spent = false;

@@ -1,38 +1,15 @@
 // What handlings send, and how it is taken back.
 
-ghost use Rattle.std.specs.Prelude.{◌≡◌, ◌<◌, ◌≤◌, ◌+◌, ◌++◌, ◌^◌, List, length, map, IfOk, OnOk};
+ghost use Rattle.std.specs.Prelude.{◌≡◌, ◌≤◌, ◌++◌, List, length, map, OnOk};
 ghost use Rattle.std.specs.Prelude.{OnErr};
 ghost use Rattle.eventkey.specs.Signed.{minus};
 ghost use Rattle.eventkey.specs.declared.Signed.{Signed};
-ghost use Rattle.model.specs.Meaning.{stamp as stamped_all};
 ghost use Rattle.queues.specs.Queue.{last_of};
 ghost use Rattle.queues.specs.Record.{sent_in};
 
 use eventkey::{Message, Sign, Signed};
-use model::Outgoing;
 use queues::History;
 use std::alloc::{AllocError, Global};
-
-/// The messages that a handling at this time makes of its sends, numbered from `number` on.
-pub(crate) fn stamped(
-    alloc: Global,
-    lp: u32,
-    time: u64,
-    number: u64,
-    sends: &[Outgoing],
-) -> Result<Vec<Message>, AllocError>
-    requires time { time < 2 ^ 40 }
-    requires room { number + length sends.now ≤ 2 ^ 63 }
-    ensures { IfOk result (λ sent. sent.items ≡ stamped_all lp time number sends.now) }
-{
-    let mut sent = Vec::with_capacity(alloc, sends.len())?;
-    let mut next = number;
-    for outgoing in sends {
-        sent.push(model::stamp(lp, time, next, outgoing))?;
-        next += 1;
-    }
-    Ok(sent)
-}
 
 /// Appends these messages with this sign. Where memory is wanted nothing is appended.
 pub(crate) fn append(
@@ -58,7 +35,7 @@ pub(crate) fn append(
 /// Appends the antimessages of all that was sent in the last `count` handlings, those of the earliest first. Where memory is
 /// wanted some of them are appended.
 pub(crate) fn take_back_sends(
-    history: &History<8>,
+    history: &History<1>,
     count: usize,
     out: &mut Vec<Signed>,
 ) -> Result<(), AllocError>

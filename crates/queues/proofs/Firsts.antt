@@ -56,6 +56,11 @@ first_before_is end (y ∷ ys) x e = elim (cases_Bool (nat_lt y.time end)) [
   | inr t ↦ absurd (let now = rw t at e in none-some x now)
 ]
 
+pub first_gone : (end : ℕ) (xs : List Message) (x : Message) → first_before end xs ≡ Some x → drop 1 xs ≡ remove_one x xs
+first_gone end xs x e =
+    let is = first_before_is end xs x e in
+    rw is.1 (sym (remove_first x is.0))
+
 pub taken_is : (end : ℕ) (q new : Queue) (x : Message) → first_before end q.waiting ≡ Some x → new.done ≡ q.done ++ x ∷ [] → new.waiting ≡ remove_one x q.waiting → new.antis ≡ q.antis → new ≡ taken end q
 taken_is end q new x e d w a = rw (e, taken) (same_queue new _ d w a)
 

@@ -1,6 +1,6 @@
 // What waits at a process.
 
-ghost use Rattle.std.specs.Prelude.{◌≡◌, ◌<◌, ◌^◌, [], length, vec_len, vec_capacity, slice_get};
+ghost use Rattle.std.specs.Prelude.{◌≡◌, ◌<◌, ◌^◌, [], length, drop, vec_len, vec_capacity, slice_get};
 ghost use Rattle.std.specs.Prelude.{IfSome, OnOk, OnErr};
 ghost use Rattle.eventkey.specs.Bag.{IsAscending, add, is_among, remove_one};
 ghost use Rattle.queues.specs.Queue.{first_time};
@@ -79,6 +79,17 @@ impl EventList {
             }
             None => None,
         }
+    }
+
+    /// Takes the least message out, if one waits. It takes no memory.
+    pub fn take_first(&mut self) -> Option<Message>
+        ensures least { result ≡ slice_get self.old 0 }
+        ensures left { self.new ≡ drop 1 self.old }
+    {
+        let least = self.near.pop()?;
+        refill(&mut self.near, &mut self.far);
+        self.len -= 1;
+        Some(least)
     }
 
     /// One more message waits. It is refused only for want of memory, and then nothing is changed.

@@ -89,7 +89,7 @@ impl<const K: usize> History<K> {
         self.records.first()
     }
 
-    /// The messages that the record at this place sent.
+    /// The messages that the record at this place sent; the place is below the number of records.
     pub fn sent(&self, at: usize) -> &[Message]
         requires { at < length self.now }
         ensures { slice_get (sends self.now) at ≡ Some result.now }

@@ -179,7 +179,7 @@ impl InputQueue {
             return Ok(None);
         };
         self.done.push_back(message)?;
-        self.waiting.remove(&message);
+        self.waiting.take_first();
         Ok(Some(message))
     }
 

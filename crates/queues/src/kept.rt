@@ -4,19 +4,22 @@ ghost use Rattle.std.specs.Prelude.{◌≡◌, ◌<◌, ◌≤◌, length, is_so
 ghost use Rattle.queues.specs.Record.{left_by};
 
 use crate::Record;
-use eventkey::{Listed, Message};
-use model::{Model as Simulated, State};
+use eventkey::Message;
+use model::{Model as Simulated, Sent, State, Words};
+use smallvec::SmallVec;
 use std::alloc::{AllocError, Global};
 use std::snapshot::Snapshot;
+
+/// State words that are kept: two lie in the value itself, more in an allocation of their length.
+type Saved = SmallVec<u64, 2>;
 
 /// A record with or without its state words, seen as the whole record and whether it has them.
 #[derive(Drop)]
 pub(crate) struct Kept {
     message: Message,
     number_before: u64,
-    sent: Listed<Message>,
-    // Boxed, so that a record without them is small.
-    words: Option<Box<State>>,
+    sent: Sent,
+    words: Option<Saved>,
     // The state words before it, for clauses alone.
     before: Snapshot<State>,
 }
@@ -37,7 +40,7 @@ impl std::marker::Model for Kept {
       is_some k.words,
     ) };
 
-    ghost invariant = { λ k. IfSome k.words (λ words. words.value ≡ k.before.value) };
+    ghost invariant = { λ k. IfSome k.words (λ words. words.items ≡ k.before.value) };
 }
 
 impl Kept {
@@ -53,7 +56,7 @@ impl Kept {
         } = whole;
         let known = Snapshot::of(&before);
         let words = if saved {
-            Some(Box::new(alloc, before)?)
+            Some(Saved::from_slice(alloc, before.words().as_slice())?)
         } else {
             None
         };
@@ -88,12 +91,12 @@ impl Kept {
     }
 
     /// The state words before it, if it has them.
-    pub fn words(&self) -> Option<&State>
+    pub fn words(&self) -> Option<&[u64]>
         ensures saved { is_some result ≡ self.now.1 }
-        ensures words { IfSome result (λ state. state.now ≡ self.now.0.before) }
+        ensures words { IfSome result (λ words. words.now ≡ self.now.0.before) }
     {
         match &self.words {
-            Some(words) => Some(&**words),
+            Some(words) => Some(words.as_slice()),
             None => None,
         }
     }
@@ -114,7 +117,11 @@ impl Kept {
             ..
         } = self;
         let before = match words {
-            Some(words) => Box::into_inner(words),
+            Some(words) => match Words::from_slice(alloc, words.as_slice()) {
+                Ok(before) => State::from_words(before),
+                // It takes no memory, since there are at most 16.
+                Err(_) => previous.handled(alloc, model),
+            },
             None => previous.handled(alloc, model),
         };
         Record {

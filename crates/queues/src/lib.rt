@@ -15,10 +15,10 @@ mod input;
 mod kept;
 mod sparse;
 
-use eventkey::{Listed, Message};
+use eventkey::Message;
 pub use handled::History;
 pub use input::InputQueue;
-use model::State;
+use model::{Sent, State};
 
 /// One message handled: what the process was before it, and the messages that it sent.
 #[derive(Drop)]
@@ -30,7 +30,7 @@ pub struct Record {
     /// The send number before it.
     pub number_before: u64,
     /// The messages that the handling sent, in the order of sending.
-    pub sent: Listed<Message>,
+    pub sent: Sent,
 }
 
 /// What became of a message or an antimessage that arrived.

@@ -21,8 +21,9 @@ use std::mem;
 #[derive(Drop)]
 pub(crate) struct SparseRecords {
     alloc: Global,
-    first: Option<Record>,
+    // Before the first record, so that what each arrival asks of both lies side by side.
     later: VecDeque<Kept>,
+    first: Option<Record>,
 }
 
 impl std::marker::Model for SparseRecords {
@@ -200,8 +201,8 @@ impl SparseRecords {
         requires handlings { AreHandlings (M.meaning model.now) self.now.records }
         ensures { IfOk result (λ words. words.items ≡ state_before (drop at self.now.records) []) }
     {
-        if let Some(state) = self.kept_words(at) {
-            return Words::from_slice(self.alloc, state.words().as_slice());
+        if let Some(words) = self.kept_words(at) {
+            return Words::from_slice(self.alloc, words);
         }
         let before = self.words_before(model, at - 1)?;
         let message = self.message(at - 1);
@@ -210,14 +211,14 @@ impl SparseRecords {
     }
 
     /// The state words before a record, if they are kept.
-    fn kept_words(&self, at: usize) -> Option<&State>
+    fn kept_words(&self, at: usize) -> Option<&[u64]>
         requires { at < length self.now.records }
-        ensures words { IfSome result (λ state.
-            state.now ≡ state_before (drop at self.now.records) []) }
+        ensures words { IfSome result (λ words.
+            words.now ≡ state_before (drop at self.now.records) []) }
         ensures first { result ≡ None → 0 < at }
     {
         if at == 0 {
-            return Some(&self.first.as_ref()?.before);
+            return Some(self.first.as_ref()?.before.words().as_slice());
         }
         self.later[at - 1].words()
     }

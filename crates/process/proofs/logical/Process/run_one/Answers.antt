@@ -21,7 +21,7 @@ abbrev new_of : (g : given.Over) → goal.Joined-sends-6 g → Process
 new_of g c = (left_of g c).process
 
 abbrev record_of : (g : given.Over) → goal.Joined-sends-6 g → Record
-record_of g c = record { message = c.in-Some.message; before = c.replace-before.result; number_before = c.self.inside.number; sent = c.from_vec.result }
+record_of g c = record { message = c.in-Some.message; before = c.replace-before.result; number_before = c.self.inside.number; sent = c.in_ok-sent.sent }
 
 first_is : (g : given.Over) (c : goal.Joined-sends-6 g) → first_before c.args.end (view_of c.self.inside).process.waiting ≡ Some c.in-Some.message
 first_is g c = ap (λ (v : ProcessView). first_before c.args.end v.process.waiting) c.self.view_is ∙ (sym c.next.ensures ∙ c.in-Some.is)
@@ -36,7 +36,7 @@ state_is : (g : given.Over) (c : goal.Joined-sends-6 g) → c.replace-before.new
 state_is g c =
     c.replace-before.ensures.after ∙ (c.from_words.ensures ∙ (c.handle-words.ensures.state ∙ ap (λ (u : List ℕ). (g.M.Model.meaning c.args.model.now).next_state c.self.inside.lp u c.in-Some.message) c.words-2.ensures))
 
-sent_is : (g : given.Over) (c : goal.Joined-sends-6 g) → c.in_ok-sent.sent.items ≡ (handling_of (g.M.Model.meaning c.args.model.now) c.self.inside.lp c.in-Some.message (view_of c.self.inside).process).sent
+sent_is : (g : given.Over) (c : goal.Joined-sends-6 g) → c.in_ok-sent.sent ≡ (handling_of (g.M.Model.meaning c.args.model.now) c.self.inside.lp c.in-Some.message (view_of c.self.inside).process).sent
 sent_is g c =
     c.in_ok-sent.ensures
     ∙ (ap (stamp c.self.inside.lp c.time.result c.self.inside.number) (c.as_slice.ensures ∙ sends_is g c)
@@ -45,7 +45,7 @@ sent_is g c =
 record_is : (g : given.Over) (c : goal.Joined-sends-6 g) → record_of g c ≡ handling_of (g.M.Model.meaning c.args.model.now) c.self.inside.lp c.in-Some.message (view_of c.self.inside).process
 record_is g c =
     let before = c.replace-before.ensures.value in
-    let sent = c.from_vec.ensures ∙ sent_is g c in
+    let sent = sent_is g c in
     λ i. record { message = c.in-Some.message; before = before i; number_before = c.self.inside.number; sent = sent i }
 
 new_is : (g : given.Over) (c : goal.Joined-sends-6 g) → new_of g c ≡ handle (g.M.Model.meaning c.args.model.now) c.self.inside.lp c.in-Some.message (view_of c.self.inside).process
@@ -79,7 +79,7 @@ returns-clause-ran g c = λ _.
     let now : left_of g c ≡ record v { process = handle m v.lp c.in-Some.message v.process } =
     λ i. record { lp = v.lp; floor = v.floor; spent = spent i; process = is i } in
     let out : c.append.new.out.items ≡ c.args.out.now.items ++ map plus (handling_of m v.lp c.in-Some.message v.process).sent =
-    c.in_ok-append.ensures.out ∙ ap (λ (xs : List Message). c.args.out.now.items ++ map plus xs) (c.as_slice-2.ensures.value ∙ sent_is g c) in
+    c.in_ok-append.ensures.out ∙ ap (λ (xs : List Message). c.args.out.now.items ++ map plus xs) (c.as_slice-2.ensures ∙ sent_is g c) in
     let ran : HasRun m c.args.end v (left_of g c) c.args.out.now.items c.append.new.out.items =
     record { message = c.in-Some.message; next = first_is g c; process = now; out = out } in
     subst (λ (w : ProcessView). HasRun m c.args.end w (left_of g c) c.args.out.now.items c.append.new.out.items) c.self.view_is ran

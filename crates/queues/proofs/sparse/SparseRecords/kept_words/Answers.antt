@@ -10,4 +10,4 @@ returns-clause-words c =
     let kept = kept_at c.self.inside.first c.self.inside.later.items c.args.at c.index.result.now c.self.invariant c.if-at-eq0.false c.index.ensures (omega (arith, long, c.requires)) in
     let words : state_before (drop c.args.at c.args.self.now.records) [] ≡ c.index.result.now.0.before =
     ap (λ (s : SparseRecords). state_before (drop c.args.at s.records) []) (sym c.self.view_is) ∙ kept.words in
-    rw words c.words.ensures.words
+    rw words c.words-2.ensures.words
