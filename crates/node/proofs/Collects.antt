@@ -1,8 +1,8 @@
 -- A node lets go of what is below the floor, at the processes that have something there.
-use Rattle.std.proofs.Common.{◌≡◌, ℕ, zero, suc, ◌+◌, ◌<◌, Bool, true, false, cond, List, [], ◌∷◌, ◌++◌, length, get_or, map, set, append_assoc, refl, sym, subst, ◌∙◌, ap, arith}
+use Rattle.std.proofs.Common.{◌≡◌, ℕ, zero, suc, ◌+◌, ◌<◌, ◌≤◌, Bool, true, false, List, [], ◌∷◌, ◌++◌, length, get_or, map, set, append_assoc, refl, sym, inl, inr, subst, ◌∙◌, ap, arith}
 use Rattle.std.specs.Prelude.{flat_map, nat_lt}
-use Rattle.std.proofs.lemmas.Bool.{cond-false, cond-true, cond_both}
-use Rattle.std.proofs.lemmas.List.{append-nil, get_or-map, length-map, map-set}
+use Rattle.std.proofs.lemmas.Bool.{cases_eq, cond-false, cond_both}
+use Rattle.std.proofs.lemmas.List.{append-nil, get_or-map, get_or-set_other, get_or-set_same, length-map, length-set, map-set}
 use Rattle.eventkey.proofs.Lists.{Every-get_or}
 use Rattle.eventkey.specs.Message.{Message}
 use Rattle.process.specs.Process.{Process, fossils_of, nobody, release, told}
@@ -43,9 +43,6 @@ rests : (floor : ℕ) (hs : List Record) → is_due floor (first_handled (handle
 rests floor [] = refl
 rests floor (h ∷ hs) = cond_both (nat_lt h.message.time floor) (handled_from floor hs) (h ∷ hs) (λ (rs : List Record). is_due floor (first_handled rs) ≡ false) (λ _. rests floor hs) (λ e. e)
 
-one_less : (a b n : ℕ) → a ≡ 0 → b ≡ 1 → a + n < b + n
-one_less a b n e f = omega arith
-
 -- 2. Of the processes of a node those that have something there let go of it, one after the other.
 
 module _ (floor : ℕ) where
@@ -54,18 +51,6 @@ module _ (floor : ℕ) where
 
   abbrev pub with_released : List Process → ℕ → List Process
   with_released qs i = set qs i (release floor (get_or qs i nobody))
-
-  -- so many have something there
-  abbrev pub due_count : List Process → ℕ
-  due_count [] = 0
-  due_count (q ∷ qs) = cond (is_due floor (first_handled q.done)) 1 0 + due_count qs
-
-  one_fewer : (qs : List Process) (i : ℕ) → i < length qs → IsDueAt qs i true → due_count (with_released qs i) < due_count qs
-  one_fewer [] i l e = absurd (omega arith)
-  one_fewer (q ∷ qs) zero l e =
-      one_less (cond (is_due floor (first_handled (handled_from floor q.done))) 1 0) (cond (is_due floor (first_handled q.done)) 1 0) (due_count qs)
-      (cond-false (is_due floor (first_handled (handled_from floor q.done))) 1 0 (rests floor q.done)) (cond-true (is_due floor (first_handled q.done)) 1 0 e)
-  one_fewer (q ∷ qs) (suc i) l e = let rest = one_fewer qs i (omega arith) e in omega arith
 
   same_released : (qs : List Process) (i : ℕ) → map (λ (q : Process). release floor q) (with_released qs i) ≡ map (λ (q : Process). release floor q) qs
   same_released [] i = refl
@@ -115,9 +100,9 @@ module _ {p : Place} {seats : List ProcessView} {standings : List Standing} (h :
   due_process : {floor : ℕ} (due : ℕ) → IsFirstDue floor standings due → due < length (processes_of seats)
   due_process due first = let inside = due_seat due first in let same = length-map seats (λ (v : ProcessView). v.process) in omega arith
 
-  pub fewer_due : {floor : ℕ} (due : ℕ) (now : List Process) → IsFirstDue floor standings due → now ≡ with_released floor (processes_of seats) due → due_count floor now < due_count floor (processes_of seats)
-  fewer_due {floor} due now first is =
-      subst (λ (qs : List Process). due_count floor qs < due_count floor (processes_of seats)) (sym is) (one_fewer floor (processes_of seats) due (due_process due first) (due_there floor due true first.due))
+  -- where none before this place has anything there and this one has, it is the first
+  pub first_due : {floor : ℕ} (place : ℕ) → place < length seats → is_due floor (get_or standings place absent).oldest ≡ true → IsQuiet floor standings place → IsFirstDue floor standings place
+  first_due place l due quiet = record { inside = (let same = length-standings p seats standings h in omega arith); due = due; first = quiet }
 
   pub one_more_collected : {floor : ℕ} {before : List Process} {fossils : List Done} (due : ℕ) (now : List Process) (more : List Done) → IsCollected floor before (processes_of seats) fossils → IsFirstDue floor standings due →
       now ≡ with_released floor (processes_of seats) due → more ≡ fossils ++ fossils_of floor (get_or (processes_of seats) due nobody) → IsCollected floor before now more
@@ -134,6 +119,32 @@ module _ {p : Place} {seats : List ProcessView} {standings : List Standing} (h :
             ∙ so.fossils_are;
       }
 
+  pub count_again : (floor place : ℕ) (seats' : List ProcessView) → processes_of seats' ≡ with_released floor (processes_of seats) place → length seats' ≡ length seats
+  count_again floor place seats' is =
+      sym (length-map seats' (λ (v : ProcessView). v.process))
+      ∙ ap length is
+      ∙ length-set (processes_of seats) place (release floor (get_or (processes_of seats) place nobody))
+      ∙ length-map seats (λ (v : ProcessView). v.process)
+
+  pub quiet_all : (floor count : ℕ) → length seats ≤ count → IsQuiet floor standings count → IsQuiet floor standings (length standings)
+  quiet_all floor count most quiet k l = let same = length-standings p seats standings h in quiet k (omega arith)
+
+  -- a process that let go has nothing there
+  pub quiet_again : (floor place : ℕ) (p' : Place) (seats' : List ProcessView) (standings' : List Standing) → place < length seats → IsQuiet floor standings place → IsStaffed p' seats' standings' →
+      processes_of seats' ≡ with_released floor (processes_of seats) place → IsQuiet floor standings' (place + 1)
+  quiet_again floor place p' seats' standings' inside quiet h' is k l =
+      let qs : List Process = processes_of seats in
+      let q : Process = release floor (get_or qs place nobody) in
+      let same = length-map seats (λ (v : ProcessView). v.process) in
+      ap (is_due floor) (ap (λ (xs : List Standing). (get_or xs k absent).oldest) h'.known ∙ oldest_at p'.end seats' k)
+      ∙ ap (λ (xs : List Process). is_due floor (first_handled (get_or xs k nobody).done)) is
+      ∙ elim (cases_eq k place) [
+        | inl e ↦ ap (λ (j : ℕ). is_due floor (first_handled (get_or (set qs place q) j nobody).done)) e
+            ∙ ap (λ (r : Process). is_due floor (first_handled r.done)) (get_or-set_same qs place q nobody (omega arith))
+            ∙ rests floor (get_or qs place nobody).done
+        | inr e ↦ ap (λ (r : Process). is_due floor (first_handled r.done)) (get_or-set_other qs place k q nobody e) ∙ due_there floor k false (quiet k (omega arith))
+      ]
+
   pub all_collected : {floor : ℕ} {before : List Process} {fossils : List Done} → IsCollected floor before (processes_of seats) fossils → IsQuiet floor standings (length standings) →
       (processes_of seats ≡ map (λ (q : Process). release floor q) before) × (fossils ≡ flat_map (λ (q : Process). fossils_of floor q) before)
   all_collected {floor} {before} {fossils} so quiet =
@@ -143,6 +154,12 @@ module _ {p : Place} {seats : List ProcessView} {standings : List Standing} (h :
         sym none.0 ∙ so.processes,
         sym (append-nil fossils) ∙ ap (λ (ds : List Done). fossils ++ ds) (sym none.1) ∙ so.fossils_are,
       )
+
+pub quiet_with : (floor place : ℕ) (standings : List Standing) → is_due floor (get_or standings place absent).oldest ≡ false → IsQuiet floor standings place → IsQuiet floor standings (place + 1)
+quiet_with floor place standings e quiet k l = elim (cases_eq k place) [
+  | inl f ↦ ap (λ (j : ℕ). is_due floor (get_or standings j absent).oldest) f ∙ e
+  | inr f ↦ quiet k (omega arith)
+]
 
 pub node_collected : (floor : ℕ) (p p' : Place) (before now : List Process) → p' ≡ p → now ≡ map (λ (q : Process). release floor q) before → node_at (at_floor floor p') now ≡ after floor (working before [] 0) (node_at p before)
 node_collected floor p p' before now same is = ap (λ (k : Place). node_at (at_floor floor k) now) same ∙ ap (node_at (at_floor floor p)) is

@@ -3,7 +3,6 @@ pub mod Lesser
 pub mod Owns
 pub mod Seats
 pub mod Tournaments
-pub mod Searches
 pub mod Turns
 pub mod Runs
 pub mod Lows

@@ -1,5 +1,5 @@
 -- The least time of what waits at a node, as its tournament tells it.
-use Rattle.std.proofs.Common.{◌≡◌, ℕ, List, [], ◌∷◌, ◌++◌, Some, refl, sym, ◌∙◌, ap}
+use Rattle.std.proofs.Common.{◌≡◌, ℕ, List, [], ◌∷◌, ◌++◌, Option, Some, refl, sym, ◌∙◌, ap}
 use Rattle.std.specs.Prelude.{flat_map}
 use Rattle.std.proofs.lemmas.List.{append-nil}
 use Rattle.eventkey.proofs.Bags.{least_time-append, least_time-min}
@@ -24,5 +24,5 @@ least_low end (q ∷ seats) =
     ap (earliest (first_time (q.process.waiting ++ q.process.antis))) (least_low end seats)
     ∙ sym (first_time-append (q.process.waiting ++ q.process.antis) (flat_map (λ (p : Process). p.waiting ++ p.antis) (processes_of seats)))
 
-pub low_told : (p : Place) (seats : List ProcessView) (standings : List Standing) (least : Standing) → IsStaffed p seats standings → least ≡ least_among standings → least.low ≡ low_of (processes_of seats)
-low_told p seats standings least h is = ap (λ (s : Standing). s.low) (is ∙ ap least_among h.known) ∙ least_low p.end seats
+pub low_told : (p : Place) (seats : List ProcessView) (standings : List Standing) (low : Option ℕ) → IsStaffed p seats standings → low ≡ (least_among standings).low → low ≡ low_of (processes_of seats)
+low_told p seats standings low h is = is ∙ ap (λ (xs : List Standing). (least_among xs).low) h.known ∙ least_low p.end seats

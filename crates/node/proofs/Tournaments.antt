@@ -1,210 +1,286 @@
--- The root of a tournament is the least of its leaves, and replaying the matches above a leaf keeps it one.
-use Rattle.std.proofs.Common.{◌≡◌, ◌≢◌, ℕ, zero, suc, ◌+◌, ◌*◌, ◌/◌, ◌<◌, ◌≤◌, ◌^◌, List, [], ◌∷◌, length, drop, get_or, set, ◌++◌, ◌-◌, take, replicate, refl, sym, subst, ◌∙◌, ap, arith, inl, inr}
+-- The winner at the root of a tournament has the message that comes first, and replaying the matches above a leaf keeps it so.
+use Rattle.std.proofs.Common.{◌≡◌, ◌≢◌, ◌⊎◌, ℕ, zero, suc, ◌+◌, ◌*◌, ◌/◌, ◌<◌, ◌≤◌, ◌^◌, List, [], ◌∷◌, length, get_or, set, ◌++◌, ◌-◌, take, replicate, refl, sym, subst, ◌∙◌, ap, arith, inl, inr, Option, None}
 use Rattle.std.proofs.lemmas.Bool.{cases_eq}
-use Rattle.std.proofs.lemmas.List.{get_or-set_other, get_or-set_same, length-set, drop-set-lt, drop-set-add, drop-replicate, get_or-drop, get_or_default, length-replicate}
-use Rattle.std.proofs.Math.Nat.{pow-succ'}
-use Rattle.std.proofs.Math.Seq.{take-nil, take-set-lt}
+use Rattle.std.proofs.lemmas.List.{get_or-set_other, get_or-set_same, length-set, get_or_default, length-replicate}
+use Rattle.std.proofs.Math.Seq.{take-nil}
+use Rattle.eventkey.specs.Message.{Message}
+use Rattle.node.specs.Node.{lesser}
 use Rattle.node.specs.declared.standing.Standing.{Standing}
-use Rattle.node.specs.Tournament.{HasWinner, IsLowInRange, IsTournament, absent, least_among, meet}
-use Rattle.node.proofs.Lesser.{low_fits, meet_absent, meet_assoc, meet_comm}
+use Rattle.node.specs.Tournament.{HasWon, IsBelow, IsLowInRange, IsTournament, absent, least_among, next_at, up, winner_next}
+use Rattle.node.proofs.Lesser.{lesser_assoc, lesser_comm, lesser_none}
 
--- the least of so many cells from this one on
-abbrev least_from : List Standing → ℕ → ℕ → Standing
-least_from cells start zero = absent
-least_from cells start (suc n) = meet (get_or cells start absent) (least_from cells (start + 1) n)
+-- 1. The root
 
-least_from-last : (cells : List Standing) (start n : ℕ) → least_from cells start (suc n) ≡ meet (least_from cells start n) (get_or cells (start + n) absent)
-least_from-last cells start zero = meet_absent (get_or cells start absent) ∙ ap (λ k. get_or cells k absent) (omega arith)
-least_from-last cells start (suc n) =
-    ap (meet (get_or cells start absent)) (least_from-last cells (start + 1) n)
-    ∙ sym (meet_assoc (get_or cells start absent) (least_from cells (start + 1) n) (get_or cells (start + 1 + n) absent))
-    ∙ ap (λ k. meet (least_from cells start (suc n)) (get_or cells k absent)) (omega arith)
+abbrev Won : (ℕ → Option Message) → ℕ → Type 0
+Won f k = f k ≡ lesser (f (2 * k)) (f (2 * k + 1))
 
--- one match down: the winner k leaves the window, the two that it beat join it
-least_from-down : (cells : List Standing) (k : ℕ) → HasWinner cells (suc k) → least_from cells (suc k) (suc k) ≡ least_from cells (suc (suc k)) (suc (suc k))
-least_from-down cells k won =
+-- the first message at so many cells from this one on
+abbrev least_from : (ℕ → Option Message) → ℕ → ℕ → Option Message
+least_from f start zero = None
+least_from f start (suc n) = lesser (f start) (least_from f (start + 1) n)
+
+least_from-last : (f : ℕ → Option Message) (start n : ℕ) → least_from f start (suc n) ≡ lesser (least_from f start n) (f (start + n))
+least_from-last f start zero = lesser_none (f start) ∙ ap f {x = start} {y = start + 0} (omega arith)
+least_from-last f start (suc n) =
+    ap (lesser (f start)) (least_from-last f (start + 1) n)
+    ∙ sym (lesser_assoc (f start) (least_from f (start + 1) n) (f (start + 1 + n)))
+    ∙ ap (λ (k : ℕ). lesser (least_from f start (suc n)) (f k)) {x = start + 1 + n} {y = start + suc n} (omega arith)
+
+-- one match down: the winner leaves the window, the two that it beat join it
+least_from-down : (f : ℕ → Option Message) (k : ℕ) → Won f (suc k) → least_from f (suc k) (suc k) ≡ least_from f (suc (suc k)) (suc (suc k))
+least_from-down f k won =
     let start : ℕ = suc k + 1 in
-    let rest : Standing = least_from cells start k in
-    let left : Standing = get_or cells (2 * suc k) absent in
-    let right : Standing = get_or cells (2 * suc k + 1) absent in
-    let two : least_from cells start (suc (suc k)) ≡ meet (meet rest left) right =
-    least_from-last cells start (suc k)
-    ∙ ap (λ (m : Standing). meet m (get_or cells (start + suc k) absent)) (least_from-last cells start k)
-    ∙ ap (λ j. meet (meet rest (get_or cells j absent)) (get_or cells (start + suc k) absent)) (omega arith)
-    ∙ ap (λ j. meet (meet rest left) (get_or cells j absent)) (omega arith)
+    let rest : Option Message = least_from f start k in
+    let left : Option Message = f (2 * suc k) in
+    let right : Option Message = f (2 * suc k + 1) in
+    let two : least_from f start (suc (suc k)) ≡ lesser (lesser rest left) right =
+    least_from-last f start (suc k)
+    ∙ ap (λ (m : Option Message). lesser m (f (start + suc k))) (least_from-last f start k)
+    ∙ ap (λ (j : ℕ). lesser (lesser rest (f j)) (f (start + suc k))) {x = start + k} {y = 2 * suc k} (omega arith)
+    ∙ ap (λ (j : ℕ). lesser (lesser rest left) (f j)) {x = start + suc k} {y = 2 * suc k + 1} (omega arith)
     in
-    ap (λ (m : Standing). meet m rest) won
-    ∙ meet_comm (meet left right) rest
-    ∙ sym (meet_assoc rest left right)
+    ap (λ (m : Option Message). lesser m rest) won
+    ∙ lesser_comm (lesser left right) rest
+    ∙ sym (lesser_assoc rest left right)
     ∙ sym two
-    ∙ ap (λ j. least_from cells j (suc (suc k))) (omega arith)
+    ∙ ap (λ (j : ℕ). least_from f j (suc (suc k))) {x = start} {y = suc (suc k)} (omega arith)
 
-root_at : (cells : List Standing) (k leaves : ℕ) → ((j : ℕ) → 1 ≤ j → j < leaves → HasWinner cells j) → suc k ≤ leaves → least_from cells 1 1 ≡ least_from cells (suc k) (suc k)
-root_at cells zero leaves h few = refl
-root_at cells (suc k) leaves h few = root_at cells k leaves h (omega arith) ∙ least_from-down cells k (h (suc k) (omega arith) (omega arith))
+root_at : (f : ℕ → Option Message) (k leaves : ℕ) → ((j : ℕ) → 1 ≤ j → j < leaves → Won f j) → suc k ≤ leaves → least_from f 1 1 ≡ least_from f (suc k) (suc k)
+root_at f zero leaves h few = refl
+root_at f (suc k) leaves h few = root_at f k leaves h (omega arith) ∙ least_from-down f k (h (suc k) (omega arith) (omega arith))
 
-shift : (x : Standing) (cells : List Standing) (start n : ℕ) → least_from (x ∷ cells) (suc start) n ≡ least_from cells start n
-shift x cells start zero = refl
-shift x cells start (suc n) = ap (λ k. meet (get_or cells start absent) (least_from (x ∷ cells) k n)) (omega arith) ∙ ap (meet (get_or cells start absent)) (shift x cells (start + 1) n)
+root_for : (f : ℕ → Option Message) (leaves : ℕ) → ((j : ℕ) → 1 ≤ j → j < leaves → Won f j) → 1 ≤ leaves → f 1 ≡ least_from f leaves leaves
+root_for f zero h some = absurd (omega arith)
+root_for f (suc n) h some = sym (lesser_none (f 1)) ∙ root_at f n (suc n) h (omega arith)
 
-least_from-drop : (cells : List Standing) (start n : ℕ) → start + n ≡ length cells → least_from cells start n ≡ least_among (drop start cells)
-least_from-drop [] zero zero h = refl
-least_from-drop [] zero (suc n) h = absurd (omega arith)
-least_from-drop [] (suc start) n h = absurd (omega arith)
-least_from-drop (x ∷ cells) zero zero h = absurd (omega arith)
-least_from-drop (x ∷ cells) zero (suc n) h = ap (λ k. meet x (least_from (x ∷ cells) k n)) (omega arith) ∙ ap (meet x) (shift x cells 0 n ∙ least_from-drop cells 0 n (omega arith))
-least_from-drop (x ∷ cells) (suc start) n h = shift x cells start n ∙ least_from-drop cells start n (omega arith)
+leaves_least : (f : ℕ → Option Message) (xs : List Standing) (start : ℕ) → ((p : ℕ) → p < length xs → f (start + p) ≡ next_at xs p) → least_from f start (length xs) ≡ (least_among xs).next
+leaves_least f [] start h = refl
+leaves_least f (x ∷ xs) start h =
+    ap (λ (m : Option Message). lesser m (least_from f (start + 1) (length xs))) (ap f {x = start} {y = start + 0} (omega arith) ∙ h zero (omega arith))
+    ∙ ap (lesser x.next) (leaves_least f xs (start + 1) (λ p l. ap f {x = start + 1 + p} {y = start + suc p} (omega arith) ∙ h (suc p) (omega arith)))
 
--- where nothing stands behind so many, the least of all is the least of these
-least_among-none : (xs : List Standing) → ((k : ℕ) → get_or xs k absent ≡ absent) → least_among xs ≡ absent
-least_among-none [] h = refl
-least_among-none (x ∷ xs) h = ap (λ (m : Standing). meet m (least_among xs)) (h zero) ∙ ap (meet absent) (least_among-none xs (λ k. h (suc k)))
+up_most : (levels k : ℕ) → up levels k ≤ k
+up_most zero k = omega arith
+up_most (suc levels) k = let less = up_most levels k in omega arith
 
-least_among-take : (n : ℕ) (xs : List Standing) → ((k : ℕ) → n ≤ k → get_or xs k absent ≡ absent) → least_among xs ≡ least_among (take n xs)
-least_among-take zero xs h = least_among-none xs (λ k. h k (omega arith))
-least_among-take (suc n) [] h = refl
-least_among-take (suc n) (x ∷ xs) h = ap (meet x) (least_among-take n xs (λ k l. h (suc k) (omega arith)))
+up_one : (levels k : ℕ) → up (suc levels) k ≡ up levels (k / 2)
+up_one zero k = refl
+up_one (suc levels) k = ap (λ (j : ℕ). j / 2) (up_one levels k)
 
-power_some : (levels : ℕ) → 1 ≤ 2 ^ levels
-power_some zero = omega arith
-power_some (suc levels) = let some = power_some levels in let next = pow-succ' 2 levels in omega arith
+own_from : (levels leaves place cell : ℕ) → place < leaves → up levels (leaves + place) ≡ cell → leaves ≤ cell → place ≡ cell - leaves
+own_from zero leaves place cell there e l = omega arith
+own_from (suc levels) leaves place cell there e l = absurd (let most = up_most levels (leaves + place) in omega arith)
 
-pub width_some : (leaves width : ℕ) (cells : List Standing) → IsTournament leaves width cells → 1 ≤ width
-width_some leaves width cells h = let is = h.whole.1 in let some = power_some h.whole.0 in omega arith
+-- at a leaf's own cell stands its place
+own_place : (leaves place cell : ℕ) → IsBelow leaves place cell → leaves ≤ cell → place ≡ cell - leaves
+own_place leaves place cell h l = own_from h.levels leaves place cell h.there h.above l
 
--- the root of a tournament is the least of its leaves
-pub root_is_least : (leaves width : ℕ) (cells : List Standing) → IsTournament leaves width cells → get_or cells 1 absent ≡ least_among (take leaves (drop width cells))
-root_is_least leaves zero cells h = absurd (let some = width_some leaves zero cells h in omega arith)
-root_is_least leaves (suc n) cells h =
-    sym (meet_absent (get_or cells 1 absent))
-    ∙ root_at cells n (suc n) h.winners (omega arith)
-    ∙ least_from-drop cells (suc n) (suc n) (let size = h.size in omega arith)
-    ∙ least_among-take leaves (drop (suc n) cells) (λ k l. get_or-drop (suc n) cells k absent ∙ h.rest (suc n + k) (omega arith))
+pub root_is_least : (leaves : List Standing) (winners : List ℕ) → IsTournament leaves winners → 1 ≤ length leaves → winner_next leaves winners 1 ≡ (least_among leaves).next
+root_is_least leaves winners h some =
+    let n : ℕ = length leaves in
+    root_for (winner_next leaves winners) n h.won some
+    ∙ leaves_least (winner_next leaves winners) leaves n (λ p l. ap (next_at leaves) (own_place n (get_or winners (n + p) 0) (n + p) (h.below (n + p) (omega arith) (omega arith)) (omega arith) ∙ omega arith))
 
--- while the matches above a cell are replayed: all but its own are won
-pub record IsReplaying (leaves width : ℕ) (cells : List Standing) (cell : ℕ) (wanted : List Standing) : Type 0 where
-  pub size : length cells ≡ 2 * width
-  pub few : width < 2 ^ 33
-  pub whole : (levels : ℕ) × (width ≡ 2 ^ levels)
-  pub within : leaves ≤ width
+-- 2. Matches played again
+
+-- while the matches above a cell are played again: all but those above it are won
+pub record IsReplaying (leaves : List Standing) (winners : List ℕ) (cell : ℕ) : Type 0 where
+  pub size : length winners ≡ 2 * length leaves
+  pub few : length leaves < 2 ^ 32
   pub some : 1 ≤ cell
-  pub inside : cell < 2 * width
-  pub winners : (k : ℕ) → 1 ≤ k → k < width → k ≢ cell / 2 → HasWinner cells k
-  pub leaves_are : take leaves (drop width cells) ≡ wanted
-  pub lows : (k : ℕ) → IsLowInRange (get_or cells k absent)
-  pub rest : (k : ℕ) → width + leaves ≤ k → get_or cells k absent ≡ absent
+  pub inside : cell < 2 * length leaves
+  pub below : (k : ℕ) → 1 ≤ k → k < 2 * length leaves → IsBelow (length leaves) (get_or winners k 0) k
+  pub won : (k : ℕ) → 1 ≤ k → k < length leaves → ((levels : ℕ) → up (suc levels) cell ≢ k) → HasWon leaves winners k
+  pub lows : (k : ℕ) → IsLowInRange (get_or leaves k absent)
 
-lows_set : (cells : List Standing) (i : ℕ) (x : Standing) → IsLowInRange x → ((k : ℕ) → IsLowInRange (get_or cells k absent)) → (k : ℕ) → IsLowInRange (get_or (set cells i x) k absent)
+pub lows_set : (leaves : List Standing) (i : ℕ) (x : Standing) → IsLowInRange x → ((k : ℕ) → IsLowInRange (get_or leaves k absent)) → (k : ℕ) → IsLowInRange (get_or (set leaves i x) k absent)
 lows_set [] i x h f k = f k
 lows_set (c ∷ cs) zero x h f zero = h
 lows_set (c ∷ cs) zero x h f (suc k) = f (suc k)
 lows_set (c ∷ cs) (suc i) x h f zero = f zero
 lows_set (c ∷ cs) (suc i) x h f (suc k) = lows_set cs i x h (λ j. f (suc j)) k
 
--- a cell changes and neither it nor its two matter to this match
-other_match : (cells : List Standing) (k cell : ℕ) (x : Standing) → k ≢ cell → 2 * k ≢ cell → 2 * k + 1 ≢ cell → HasWinner cells k → HasWinner (set cells cell x) k
-other_match cells k cell x a b c h = rw (get_or-set_other cells cell k x absent a, get_or-set_other cells cell (2 * k) x absent b, get_or-set_other cells cell (2 * k + 1) x absent c) h
+-- a leaf that changes is the winner at no cell that is not above it
+not_there : (leaves leaf place cell : ℕ) → IsBelow leaves place cell → ((levels : ℕ) → up levels (leaves + leaf) ≢ cell) → place ≢ leaf
+not_there leaves leaf place cell h none e = none h.levels (ap (λ (p : ℕ). up h.levels (leaves + p)) (sym e) ∙ h.above)
 
-pub replay_begins : (leaves width : ℕ) (cells : List Standing) (leaf : ℕ) (x : Standing) → IsTournament leaves width cells → leaf < leaves → IsLowInRange x →
-    IsReplaying leaves width (set cells (width + leaf) x) (width + leaf) (set (take leaves (drop width cells)) leaf x)
-replay_begins leaves width cells leaf x h l fits =
+other_next : (leaves : List Standing) (leaf place : ℕ) (x : Standing) → place ≢ leaf → next_at (set leaves leaf x) place ≡ next_at leaves place
+other_next leaves leaf place x other = ap (λ (s : Standing). s.next) (get_or-set_other leaves leaf place x absent other)
+
+pub replay_begins : (leaves : List Standing) (winners : List ℕ) (leaf : ℕ) (x : Standing) → IsTournament leaves winners → leaf < length leaves → IsLowInRange x →
+    IsReplaying (set leaves leaf x) winners (length leaves + leaf)
+replay_begins leaves winners leaf x h l fits =
+    let n : ℕ = length leaves in
+    let same : length (set leaves leaf x) ≡ n = length-set leaves leaf x in
     let size = h.size in
-    let within = h.within in
+    let few = h.few in
+    let still : (k : ℕ) → 1 ≤ k → k < 2 * n → ((levels : ℕ) → up levels (n + leaf) ≢ k) → winner_next (set leaves leaf x) winners k ≡ winner_next leaves winners k =
+    λ k a b none. other_next leaves leaf (get_or winners k 0) x (not_there n leaf (get_or winners k 0) k (h.below k a b) none)
+    in
     record {
-      size = length-set cells (width + leaf) x ∙ h.size;
-      few = h.few;
-      whole = h.whole;
-      within = h.within;
-      some = (let some = width_some leaves width cells h in omega arith);
+      size = omega arith;
+      few = omega arith;
+      some = omega arith;
       inside = omega arith;
-      winners = λ k a b c. other_match cells k (width + leaf) x (omega arith) (λ e. c (omega arith)) (λ e. c (omega arith)) (h.winners k a b);
-      leaves_are = ap (take leaves) (drop-set-add width cells leaf x) ∙ take-set-lt leaves (drop width cells) leaf x l;
-      lows = lows_set cells (width + leaf) x fits h.lows;
-      rest = λ k a. get_or-set_other cells (width + leaf) k x absent (omega arith) ∙ h.rest k a;
+      below = λ k a b. subst (λ (m : ℕ). IsBelow m (get_or winners k 0) k) (sym same) (h.below k a (omega arith));
+      won = λ k a b none.
+          still k a (omega arith) (λ levels. not_at n leaf k levels none (omega arith))
+          ∙ h.won k a (omega arith)
+          ∙ sym (ap (λ (m : Option Message). lesser m (winner_next (set leaves leaf x) winners (2 * k + 1))) (still (2 * k) (omega arith) (omega arith) (λ levels e. none levels (let two = e in omega arith)))
+          ∙ ap (lesser (winner_next leaves winners (2 * k))) (still (2 * k + 1) (omega arith) (omega arith) (λ levels e. none levels (let two = e in omega arith))));
+      lows = lows_set leaves leaf x fits h.lows;
     }
+  where
+    not_at : (n leaf k levels : ℕ) → ((j : ℕ) → up (suc j) (n + leaf) ≢ k) → k < n → up levels (n + leaf) ≢ k
+    not_at n leaf k zero none l e = omega arith
+    not_at n leaf k (suc levels) none l e = none levels e
 
-pub replay_goes_on : (leaves width : ℕ) (cells : List Standing) (cell : ℕ) (wanted : List Standing) → 1 < cell → IsReplaying leaves width cells cell wanted →
-    IsReplaying leaves width (set cells (cell / 2) (meet (get_or cells (2 * (cell / 2)) absent) (get_or cells (2 * (cell / 2) + 1) absent))) (cell / 2) wanted
-replay_goes_on leaves width cells cell wanted many h =
-    let k : ℕ = cell / 2 in
-    let x : Standing = meet (get_or cells (2 * k) absent) (get_or cells (2 * k + 1) absent) in
+-- a leaf below a cell is below the one above that
+pub below_up : (leaves place cell above : ℕ) → IsBelow leaves place cell → cell / 2 ≡ above → IsBelow leaves place above
+below_up leaves place cell above h e = record { there = h.there; levels = suc h.levels; above = ap (λ (k : ℕ). k / 2) h.above ∙ e }
+
+pub replay_goes_on : (leaves : List Standing) (winners : List ℕ) (cell place : ℕ) → 1 < cell → IsReplaying leaves winners cell →
+    (place ≡ get_or winners (2 * (cell / 2)) 0) ⊎ (place ≡ get_or winners (2 * (cell / 2) + 1) 0) →
+    next_at leaves place ≡ lesser (winner_next leaves winners (2 * (cell / 2))) (winner_next leaves winners (2 * (cell / 2) + 1)) →
+    IsReplaying leaves (set winners (cell / 2) place) (cell / 2)
+replay_goes_on leaves winners cell place many h either first =
+    let n : ℕ = length leaves in
+    let c : ℕ = cell / 2 in
     let inside = h.inside in
     let size = h.size in
-    let at : k < width = omega arith in
-    let one : 1 ≤ k = omega arith in
+    let at : c < n = omega arith in
+    let one : 1 ≤ c = omega arith in
+    let still : (k : ℕ) → k ≢ c → winner_next leaves (set winners c place) k ≡ winner_next leaves winners k =
+    λ k other. ap (next_at leaves) (get_or-set_other winners c k place 0 other)
+    in
+    let here : winner_next leaves (set winners c place) c ≡ next_at leaves place = ap (next_at leaves) (get_or-set_same winners c place 0 (omega arith)) in
+    let match : (k : ℕ) → 1 ≤ k → 2 * k ≢ c → 2 * k + 1 ≢ c → winner_next leaves (set winners c place) k ≡ lesser (winner_next leaves winners (2 * k)) (winner_next leaves winners (2 * k + 1)) → HasWon leaves (set winners c place) k =
+    λ k a left right e. e ∙ sym (ap (λ (m : Option Message). lesser m (winner_next leaves (set winners c place) (2 * k + 1))) (still (2 * k) left) ∙ ap (lesser (winner_next leaves winners (2 * k))) (still (2 * k + 1) right))
+    in
     record {
-      size = length-set cells k x ∙ h.size;
+      size = length-set winners c place ∙ h.size;
       few = h.few;
-      whole = h.whole;
-      within = h.within;
       some = one;
       inside = omega arith;
-      winners = λ j a b c. elim (cases_eq j k) [
-        | inl e ↦ (let P : ℕ → Type 0 = λ i. HasWinner (set cells k x) i in subst P (sym e)
-            (get_or-set_same cells k x absent (omega arith)
-            ∙ sym (ap (λ (m : Standing). meet m (get_or (set cells k x) (2 * k + 1) absent)) (get_or-set_other cells k (2 * k) x absent (omega arith))
-            ∙ ap (meet (get_or cells (2 * k) absent)) (get_or-set_other cells k (2 * k + 1) x absent (omega arith)))))
-        | inr e ↦ other_match cells j k x e (λ f. c (omega arith)) (λ f. c (omega arith)) (h.winners j a b e)
+      below = λ k a b. elim (cases_eq k c) [
+        | inl e ↦ subst (λ (j : ℕ). IsBelow n (get_or (set winners c place) j 0) j) (sym e)
+            (subst (λ (p : ℕ). IsBelow n p c) (sym (get_or-set_same winners c place 0 (omega arith))) (elim either [
+              | inl f ↦ subst (λ (p : ℕ). IsBelow n p c) (sym f) (below_up n (get_or winners (2 * c) 0) (2 * c) c (h.below (2 * c) (omega arith) (omega arith)) (omega arith))
+              | inr f ↦ subst (λ (p : ℕ). IsBelow n p c) (sym f) (below_up n (get_or winners (2 * c + 1) 0) (2 * c + 1) c (h.below (2 * c + 1) (omega arith) (omega arith)) (omega arith))
+            ]))
+        | inr e ↦ subst (λ (p : ℕ). IsBelow n p k) (sym (get_or-set_other winners c k place 0 e)) (h.below k a b)
       ];
-      leaves_are = ap (take leaves) (drop-set-lt width cells k x at) ∙ h.leaves_are;
-      lows = lows_set cells k x (low_fits (get_or cells (2 * k) absent) (get_or cells (2 * k + 1) absent) (h.lows (2 * k)) (h.lows (2 * k + 1))) h.lows;
-      rest = λ j a. get_or-set_other cells k j x absent (omega arith) ∙ h.rest j a;
+      won = λ k a b none. elim (cases_eq k c) [
+        | inl e ↦ (let P : ℕ → Type 0 = λ j. HasWon leaves (set winners c place) j in subst P (sym e) (match c one (λ f. omega arith) (λ f. omega arith) (here ∙ first)))
+        | inr e ↦ match k a (λ f. none 0 (omega arith)) (λ f. none 0 (omega arith)) (still k e ∙ h.won k a b (λ levels f. not_above cell k levels none e f))
+      ];
+      lows = h.lows;
+    }
+  where
+    not_above : (cell k levels : ℕ) → ((j : ℕ) → up (suc j) (cell / 2) ≢ k) → k ≢ cell / 2 → up (suc levels) cell ≢ k
+    not_above cell k zero none other f = other (sym f)
+    not_above cell k (suc levels) none other f = none levels (sym (up_one (suc levels) cell) ∙ f)
+
+none_above_root : (levels : ℕ) → up (suc levels) 1 ≡ 0
+none_above_root levels = let most = up_most levels 1 in omega arith
+
+pub replay_ends : (leaves : List Standing) (winners : List ℕ) (cell : ℕ) → cell ≤ 1 → IsReplaying leaves winners cell → IsTournament leaves winners
+replay_ends leaves winners cell last h =
+    let some = h.some in
+    let root : cell ≡ 1 = omega arith in
+    record {
+      size = h.size;
+      few = h.few;
+      below = h.below;
+      won = λ k a b. h.won k a b (λ levels e. let none = none_above_root levels in let same = ap (λ (c : ℕ). up (suc levels) c) root ∙ none in omega arith);
+      lows = h.lows;
     }
 
-pub replay_ends : (leaves width : ℕ) (cells : List Standing) (cell : ℕ) (wanted : List Standing) → cell ≤ 1 → IsReplaying leaves width cells cell wanted → IsTournament leaves width cells
-replay_ends leaves width cells cell wanted one h =
-    record { size = h.size; few = h.few; whole = h.whole; within = h.within; winners = λ k a b. h.winners k a b (omega arith); lows = h.lows; rest = h.rest }
-
--- where the winner of the next match is what it was, no other match is to be replayed
-pub replay_stops : (leaves width : ℕ) (cells : List Standing) (cell : ℕ) (wanted : List Standing) → HasWinner cells (cell / 2) → IsReplaying leaves width cells cell wanted → IsTournament leaves width cells
-replay_stops leaves width cells cell wanted won h = record {
-  size = h.size;
-  few = h.few;
-  whole = h.whole;
-  within = h.within;
-  winners = λ k a b. elim (cases_eq k (cell / 2)) [
-    | inl e ↦ (let P : ℕ → Type 0 = HasWinner cells in subst P (sym e) won)
-    | inr e ↦ h.winners k a b e
-  ];
-  lows = h.lows;
-  rest = h.rest;
-}
+-- a leaf changes, and its next message stays
+pub same_matches : (leaves : List Standing) (winners : List ℕ) (leaf : ℕ) (x : Standing) → IsTournament leaves winners → leaf < length leaves → IsLowInRange x → x.next ≡ next_at leaves leaf →
+    IsTournament (set leaves leaf x) winners
+same_matches leaves winners leaf x h l fits keeps =
+    let same : length (set leaves leaf x) ≡ length leaves = length-set leaves leaf x in
+    let size = h.size in
+    let few = h.few in
+    let still : (place : ℕ) → next_at (set leaves leaf x) place ≡ next_at leaves place = λ place. elim (cases_eq place leaf) [
+      | inl e ↦ ap (next_at (set leaves leaf x)) e ∙ ap (λ (s : Standing). s.next) (get_or-set_same leaves leaf x absent l) ∙ keeps ∙ ap (next_at leaves) (sym e)
+      | inr e ↦ other_next leaves leaf place x e
+    ] in
+    record {
+      size = omega arith;
+      few = omega arith;
+      below = λ k a b. subst (λ (m : ℕ). IsBelow m (get_or winners k 0) k) (sym same) (h.below k a (omega arith));
+      won = λ k a b.
+          still (get_or winners k 0)
+          ∙ h.won k a (omega arith)
+          ∙ sym (ap (λ (m : Option Message). lesser m (winner_next (set leaves leaf x) winners (2 * k + 1))) (still (get_or winners (2 * k) 0))
+          ∙ ap (lesser (winner_next leaves winners (2 * k))) (still (get_or winners (2 * k + 1) 0)));
+      lows = lows_set leaves leaf x fits h.lows;
+    }
 
 -- an element that is there is what an index reads, whatever stands for those that aren't
-pub cell_at : (cells : List Standing) (k : ℕ) (x : Standing) → x ≡ get_or cells k x → k < length cells → x ≡ get_or cells k absent
-cell_at cells k x e h = e ∙ get_or_default cells k x absent h
+pub leaf_at : (leaves : List Standing) (k : ℕ) (x : Standing) → x ≡ get_or leaves k x → k < length leaves → x ≡ get_or leaves k absent
+leaf_at leaves k x e h = e ∙ get_or_default leaves k x absent h
 
--- a vector that was empty and grew to so many
-pub grown : (count : ℕ) (before after : List Standing) (len : ℕ) → before ≡ [] → len ≡ 0 → after ≡ take count before ++ replicate (count - len) absent → after ≡ replicate count absent
-grown count before after len e l h =
-    h
-    ∙ ap (λ (xs : List Standing). take count xs ++ replicate (count - len) absent) e
-    ∙ ap (λ (xs : List Standing). xs ++ replicate (count - len) absent) (take-nil count)
-    ∙ ap (λ n. replicate n absent) (omega arith)
+pub place_at : (winners : List ℕ) (k x : ℕ) → x ≡ get_or winners k x → k < length winners → x ≡ get_or winners k 0
+place_at winners k x e h = e ∙ get_or_default winners k x 0 h
 
-take-replicate : (n count : ℕ) → n ≤ count → take n (replicate count absent) ≡ replicate n absent
-take-replicate zero count l = refl
-take-replicate (suc n) zero l = absurd (omega arith)
-take-replicate (suc n) (suc count) l = ap (λ (xs : List Standing). absent ∷ xs) (take-replicate n count (omega arith))
+-- 3. A tournament where nothing stands
+
+-- the cells from this one on name leaves below them
+pub record IsSeeded (leaves cell : ℕ) (winners : List ℕ) : Type 0 where
+  pub size : length winners ≡ 2 * leaves
+  pub most : cell ≤ 2 * leaves
+  pub below : (k : ℕ) → cell ≤ k → k < 2 * leaves → IsBelow leaves (get_or winners k 0) k
+
+pub seeded_none : (leaves : ℕ) (winners : List ℕ) → length winners ≡ 2 * leaves → IsSeeded leaves (2 * leaves) winners
+seeded_none leaves winners size = record { size = size; most = omega arith; below = λ k a b. absurd (omega arith) }
+
+pub seeded_with : (leaves cell place : ℕ) (winners : List ℕ) → suc cell ≤ 2 * leaves → IsSeeded leaves (suc cell) winners → IsBelow leaves place cell → IsSeeded leaves cell (set winners cell place)
+seeded_with leaves cell place winners many h is =
+    let size = h.size in
+    record {
+      size = length-set winners cell place ∙ h.size;
+      most = omega arith;
+      below = λ k a b. elim (cases_eq k cell) [
+        | inl e ↦ subst (λ (j : ℕ). IsBelow leaves (get_or (set winners cell place) j 0) j) (sym e) (subst (λ (p : ℕ). IsBelow leaves p cell) (sym (get_or-set_same winners cell place 0 (omega arith))) is)
+        | inr e ↦ subst (λ (p : ℕ). IsBelow leaves p k) (sym (get_or-set_other winners cell k place 0 e)) (h.below k (omega arith) b)
+      ];
+    }
+
+-- a leaf at its own cell
+pub own_below : (leaves cell : ℕ) → leaves ≤ cell → cell < 2 * leaves → IsBelow leaves (cell - leaves) cell
+own_below leaves cell from before = record { there = omega arith; levels = 0; above = omega arith }
+
+-- the winner of the left one of two cells
+pub left_below : (leaves cell : ℕ) (winners : List ℕ) → 1 ≤ cell → cell < leaves → IsSeeded leaves (suc cell) winners → IsBelow leaves (get_or winners (2 * cell) 0) cell
+left_below leaves cell winners some inside h = below_up leaves (get_or winners (2 * cell) 0) (2 * cell) cell (h.below (2 * cell) (omega arith) (omega arith)) (omega arith)
 
 none_at : (count k : ℕ) → get_or (replicate count absent) k absent ≡ absent
 none_at zero k = refl
 none_at (suc count) zero = refl
 none_at (suc count) (suc k) = none_at count k
 
-pub leaves_of_grown : (leaves width : ℕ) (cells : List Standing) → leaves ≤ width → cells ≡ replicate (2 * width) absent → take leaves (drop width cells) ≡ replicate leaves absent
-leaves_of_grown leaves width cells l h =
-    ap (λ (xs : List Standing). take leaves (drop width xs)) h
-    ∙ ap (take leaves) (drop-replicate width (2 * width) absent ∙ ap (λ n. replicate n absent) {x = 2 * width - width} {y = width} (omega arith))
-    ∙ take-replicate leaves width l
+pub seeded_is_tournament : (leaves cell : ℕ) (standings : List Standing) (winners : List ℕ) → leaves < 2 ^ 32 → cell ≤ 1 → standings ≡ replicate leaves absent → IsSeeded leaves cell winners → IsTournament standings winners
+seeded_is_tournament leaves cell standings winners few last is h =
+    let same : length (replicate leaves absent) ≡ leaves = length-replicate leaves absent in
+    let size = h.size in
+    let none : (place : ℕ) → next_at (replicate leaves absent) place ≡ None = λ place. ap (λ (s : Standing). s.next) (none_at leaves place) in
+    subst (λ (xs : List Standing). IsTournament xs winners) (sym is) (record {
+      size = omega arith;
+      few = omega arith;
+      below = λ k a b. subst (λ (m : ℕ). IsBelow m (get_or winners k 0) k) (sym same) (h.below k (omega arith) (omega arith));
+      won = λ k a b.
+          none (get_or winners k 0)
+          ∙ sym (ap (λ (m : Option Message). lesser m (winner_next (replicate leaves absent) winners (2 * k + 1))) (none (get_or winners (2 * k) 0)) ∙ none (get_or winners (2 * k + 1) 0));
+      lows = λ k. subst IsLowInRange (sym (none_at leaves k)) tt;
+    })
 
-pub grown_is_tournament : (leaves width : ℕ) (cells : List Standing) → leaves ≤ width → width < 2 ^ 33 → ((levels : ℕ) × (width ≡ 2 ^ levels)) → cells ≡ replicate (2 * width) absent → IsTournament leaves width cells
-grown_is_tournament leaves width cells within few whole h = subst (IsTournament leaves width) (sym h) (record {
-  size = length-replicate (2 * width) absent;
-  few = few;
-  whole = whole;
-  within = within;
-  winners = λ k a b. none_at (2 * width) k ∙ sym (ap (λ (m : Standing). meet m (get_or (replicate (2 * width) absent) (2 * k + 1) absent)) (none_at (2 * width) (2 * k)) ∙ ap (meet absent) (none_at (2 * width) (2 * k + 1)));
-  lows = λ k. subst IsLowInRange (sym (none_at (2 * width) k)) tt;
-  rest = λ k a. none_at (2 * width) k;
-})
+-- a vector that was empty and grew to so many
+pub grown : {A : Type 0} (x : A) (count : ℕ) (before after : List A) (len : ℕ) → before ≡ [] → len ≡ 0 → after ≡ take count before ++ replicate (count - len) x → after ≡ replicate count x
+grown {A} x count before after len e l h =
+    h
+    ∙ ap (λ (xs : List A). take count xs ++ replicate (count - len) x) e
+    ∙ ap (λ (xs : List A). xs ++ replicate (count - len) x) (take-nil count)
+    ∙ ap (λ n. replicate n x) (omega arith)

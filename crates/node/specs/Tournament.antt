@@ -1,9 +1,10 @@
--- A tournament (Knuth, The Art of Computer Programming 3, tree selection): the cells of a tree that knows the least of its leaves.
-use Rattle.std.specs.Prelude.{ℕ, List, [], ◌∷◌, None, true, false, IfSome, length, take, drop, get_or, ◌+◌, ◌*◌, ◌≡◌, ◌≤◌, ◌<◌, ◌^◌}
+-- A tournament (Knuth, The Art of Computer Programming 3, tree selection): leaves, and a tree of
+-- the places of those that won, so that the leaf whose message comes first is known at any time.
+use Rattle.std.specs.Prelude.{ℕ, List, [], ◌∷◌, Option, None, true, false, IfSome, length, get_or, ◌+◌, ◌*◌, ◌/◌, ◌≡◌, ◌≤◌, ◌<◌, ◌^◌, zero, suc}
+use Rattle.eventkey.specs.Message.{Message}
 use Rattle.node.specs.Node.{earliest, lesser}
 use Rattle.node.specs.Seats.{is_due}
 use Rattle.node.specs.declared.standing.Standing.{Standing}
-use Rattle.node.specs.declared.tournament.Tournament.TheInside.{Inside}
 
 -- where nothing stands
 abbrev pub absent : Standing
@@ -11,7 +12,11 @@ absent = record { next = None; low = None; oldest = None }
 
 -- the lesser of two standings, part by part
 abbrev pub meet : Standing → Standing → Standing
-meet a b = record { next = lesser a.next b.next; low = earliest a.low b.low; oldest = earliest a.oldest b.oldest }
+meet a b = record {
+  next = lesser a.next b.next;
+  low = earliest a.low b.low;
+  oldest = earliest a.oldest b.oldest;
+}
 
 -- the least of these standings, part by part
 abbrev pub least_among : List Standing → Standing
@@ -22,20 +27,40 @@ least_among (x ∷ xs) = meet x (least_among xs)
 abbrev pub IsLowInRange : Standing → Type 0
 IsLowInRange s = IfSome s.low (λ time. time < 2 ^ 41)
 
--- cell k won the match of the cells 2 k and 2 k + 1
-abbrev pub HasWinner : List Standing → ℕ → Type 0
-HasWinner cells k = get_or cells k absent ≡ meet (get_or cells (2 * k) absent) (get_or cells (2 * k + 1) absent)
+-- the next message of the leaf at a place
+abbrev pub next_at : List Standing → ℕ → Option Message
+next_at leaves place = (get_or leaves place absent).next
 
--- Cell 1 is the root, the cells from width on are the last row, and each cell above it won its match. The first cells of
--- that row are the leaves, and at the others nothing stands.
-pub record IsTournament (leaves width : ℕ) (cells : List Standing) : Type 0 where
-  pub size : length cells ≡ 2 * width
-  pub few : width < 2 ^ 33
-  pub whole : (levels : ℕ) × (width ≡ 2 ^ levels)
-  pub within : leaves ≤ width
-  pub winners : (k : ℕ) → 1 ≤ k → k < width → HasWinner cells k
-  pub lows : (k : ℕ) → IsLowInRange (get_or cells k absent)
-  pub rest : (k : ℕ) → width + leaves ≤ k → get_or cells k absent ≡ absent
+-- the next message of the winner at a cell
+abbrev pub winner_next : List Standing → List ℕ → ℕ → Option Message
+winner_next leaves winners cell = next_at leaves (get_or winners cell 0)
+
+-- the winner at cell k won the match of those at the cells 2 k and 2 k + 1
+abbrev pub HasWon : List Standing → List ℕ → ℕ → Type 0
+HasWon leaves winners k =
+    winner_next leaves winners k
+    ≡ lesser (winner_next leaves winners (2 * k)) (winner_next leaves winners (2 * k + 1))
+
+-- the cell that is so many levels above a cell
+abbrev pub up : ℕ → ℕ → ℕ
+up zero k = k
+up (suc levels) k = up levels k / 2
+
+-- the leaf at this place, of so many, stands at this cell or below it
+pub record IsBelow (leaves place cell : ℕ) : Type 0 where
+  pub there : place < leaves
+  pub levels : ℕ
+  pub above : up levels (leaves + place) ≡ cell
+
+-- Cell 1 is the root. The cells from the number of leaves on are the leaves' own, and at each cell
+-- before them that one has won of the two below it whose next message comes first.
+pub record IsTournament (leaves : List Standing) (winners : List ℕ) : Type 0 where
+  pub size : length winners ≡ 2 * length leaves
+  pub few : length leaves < 2 ^ 32
+  pub below :
+      (k : ℕ) → 1 ≤ k → k < 2 * length leaves → IsBelow (length leaves) (get_or winners k 0) k
+  pub won : (k : ℕ) → 1 ≤ k → k < length leaves → HasWon leaves winners k
+  pub lows : (k : ℕ) → IsLowInRange (get_or leaves k absent)
 
 -- at none of the first so many anything is due
 abbrev pub IsQuiet : ℕ → List Standing → ℕ → Type 0
@@ -46,6 +71,3 @@ pub record IsFirstDue (floor : ℕ) (xs : List Standing) (at : ℕ) : Type 0 whe
   pub inside : at < length xs
   pub due : is_due floor (get_or xs at absent).oldest ≡ true
   pub first : IsQuiet floor xs at
-
-abbrev pub leaves_of : Inside → List Standing
-leaves_of t = take t.leaves (drop t.width t.cells.items)

@@ -102,7 +102,8 @@ impl Node {
     /// was. After want of memory, and after NumberLimit, the node is spent. The number limit may be met after memory is
     /// wanted, but not where the parcel delivers nothing and the first message has no room.
     ///
-    /// It costs the deliveries, the handlings and the handlings let go, each with the logarithm of the node's processes.
+    /// It costs the deliveries and the handlings, each with the logarithm of the node's processes,
+    /// the handlings let go, and one pass over what stands of the processes.
     pub fn handle<M: Simulated>(&mut self, model: &M, parcel: Parcel) -> Result<Reply, NodeFault>
         requires lps { self.old.spent ≡ false → (M.meaning model.now).lps ≡ self.old.lps }
         requires histories { HasHistories (M.meaning model.now) self.old }

@@ -22,7 +22,8 @@ use model::Model as Simulated;
 use process::{Done, Process};
 use std::alloc::Global;
 
-/// The processes of one node, process lp at place lp / nodes, and the tournament of what stands of them.
+/// The processes of one node, process lp at place lp / nodes, and the tournament of what stands of
+/// them.
 #[derive(Drop)]
 pub(crate) struct Roster {
     pub alloc: Global,
@@ -171,7 +172,7 @@ impl Roster {
             (work_of self.old out.old.items 0) ≡ None → result ≡ Err NumberLimit }
     {
         for ran in 0..budget {
-            let Some(message) = self.standings.least().next else {
+            let Some(message) = self.standings.next() else {
                 return Ok(ran);
             };
             self.run_one(model, &message, out)?;
@@ -212,8 +213,15 @@ impl Roster {
         Ok(())
     }
 
-    /// Takes what is below the floor, in ticks, out of all processes. It visits only those that have something there.
-    fn collect<M: Simulated>(&mut self, model: &M, floor: u64) -> Result<Vec<Done>, NodeFault>
+    /// Takes what is below the floor, in ticks, out of all processes. It visits only those that
+    /// have something there, and goes once over what stands of all. The list that it answers has
+    /// room for so many from the start.
+    fn collect<M: Simulated>(
+        &mut self,
+        model: &M,
+        floor: u64,
+        room: usize,
+    ) -> Result<Vec<Done>, NodeFault>
         requires ready { IsReady self.old }
         requires modelled { Every (IsModelled (M.meaning model.now)) self.old.processes.items }
         requires floor { self.old.floor ≤ floor }
@@ -228,9 +236,12 @@ impl Roster {
         ensures place { OnErr result (place_of self.new ≡ place_of self.old) }
         ensures memory { IfErr result (λ fault. fault ≡ NoMemory) }
     {
-        let mut fossils = Vec::new(self.alloc);
-        while let Some(due) = self.standings.first_due(floor) {
-            self.collect_at(model, due, floor, &mut fossils)?;
+        let mut fossils = Vec::with_capacity(self.alloc, room)?;
+        for place in 0..self.processes.len() {
+            if !self.standings.is_due(place, floor) {
+                continue;
+            }
+            self.collect_at(model, place, floor, &mut fossils)?;
         }
         self.floor = floor;
         Ok(fossils)
@@ -266,13 +277,14 @@ impl Roster {
             budget,
             floor,
         } = parcel;
-        let mut out = Vec::new(self.alloc);
+        // In the long run as much goes out as comes in, and as much is told as is handled.
+        let mut out = Vec::with_capacity(self.alloc, deliver.as_slice().len())?;
         self.deliver_all(model, deliver.as_slice(), &mut out)?;
         let ran = self.run(model, budget, &mut out)?;
-        let fossils = self.collect(model, floor)?;
+        let fossils = self.collect(model, floor, ran as usize)?;
         Ok(Reply {
             out: Listed::from_vec(out),
-            low: self.standings.least().low,
+            low: self.standings.low(),
             fossils: Listed::from_vec(fossils),
             ran,
         })

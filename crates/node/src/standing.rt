@@ -1,15 +1,16 @@
-// What a node keeps of each process beside it, so that it visits only processes with which there is something to do.
+// What a node keeps of each process beside it, so that it visits only processes with which there is
+// something to do.
 
 ghost use Rattle.std.specs.Prelude.{◌≡◌, ◌<◌, ◌^◌, ◌↔◌, IfSome, IsTrue};
-ghost use Rattle.node.specs.Node.{earliest, lesser};
+ghost use Rattle.node.specs.Node.{earliest};
 ghost use Rattle.node.specs.Seats.{is_due, standing_of};
-ghost use Rattle.node.specs.Tournament.{IsLowInRange, meet};
+ghost use Rattle.node.specs.Tournament.{IsLowInRange};
 
 use eventkey::Message;
 use process::Process;
 
-/// What stands of a process, or of several: the least of each part.
-#[derive(Clone, Copy, PartialEq, Eq)]
+/// What stands of a process.
+#[derive(Clone, Copy)]
 pub(crate) struct Standing {
     /// The next message before the end.
     pub next: Option<Message>,
@@ -27,7 +28,8 @@ impl Standing {
         oldest: None,
     };
 
-    /// What stands of a process whose messages are handled before the end, in ticks. It takes no memory.
+    /// What stands of a process whose messages are handled before the end, in ticks. It takes no
+    /// memory.
     pub(crate) fn of(process: &Process, end: u64) -> Standing
         ensures standing { result ≡ standing_of end process.now }
         ensures range { IsLowInRange result }
@@ -49,38 +51,16 @@ impl Standing {
         }
     }
 
-    /// Whether all parts are the same.
-    pub(crate) fn is_same(&self, other: &Standing) -> bool
-        ensures { IsTrue result ↔ (self.now ≡ other.now) }
+    /// Whether the next message is that of another standing.
+    pub(crate) fn has_next_of(&self, other: &Standing) -> bool
+        ensures { IsTrue result ↔ (self.now.next ≡ other.now.next) }
     {
-        *self == *other
-    }
-
-    /// The lesser of two standings, part by part.
-    pub(crate) fn meet(&self, other: &Standing) -> Standing
-        ensures { result ≡ meet self.now other.now }
-    {
-        Standing {
-            next: earlier(self.next, other.next),
-            low: earliest(self.low, other.low),
-            oldest: earliest(self.oldest, other.oldest),
-        }
-    }
-}
-
-/// The message that comes first.
-fn earlier(one: Option<Message>, other: Option<Message>) -> Option<Message>
-    ensures { result ≡ lesser one other }
-{
-    match (one, other) {
-        (Some(x), Some(y)) => if y.is_before(&x) { Some(y) } else { Some(x) },
-        (Some(x), None) => Some(x),
-        (None, rest) => rest,
+        self.next == other.next
     }
 }
 
 /// The lesser of two times, where each may be missing.
-fn earliest(one: Option<u64>, other: Option<u64>) -> Option<u64>
+pub(crate) fn earliest(one: Option<u64>, other: Option<u64>) -> Option<u64>
     ensures { result ≡ earliest one other }
 {
     match (one, other) {

@@ -1,20 +1,23 @@
-// The least of what stands of many processes, known at any time.
+// What stands of many processes, and which of them has the message that comes first.
 
-ghost use Rattle.std.specs.Prelude.{◌≡◌, ◌<◌, ◌≤◌, ◌^◌, ℕ, length, set, get_or, replicate, true};
-ghost use Rattle.std.specs.Prelude.{false, IfOk, MatchOption};
+ghost use Rattle.std.specs.Prelude.{◌≡◌, ◌<◌, ◌≤◌, ◌^◌, ◌⊎◌, ℕ, length, set, get_or, replicate};
+ghost use Rattle.std.specs.Prelude.{IfOk, IfSome};
+ghost use Rattle.node.specs.Node.{lesser};
 ghost use Rattle.node.specs.Seats.{is_due};
+ghost use Rattle.node.specs.Tournament.{next_at};
 
-use crate::standing::Standing;
+use crate::standing::{Standing, earliest};
+use eventkey::Message;
 use std::alloc::{AllocError, Global};
 
-/// A tree of matches: its leaves are the standings of processes, and each cell above them has the lesser of the two below
-/// it, part by part, so that a change of one leaf plays one match a level again. Its last row is a power of two wide, so
-/// that the leaves below a cell stand side by side.
+/// The standings of processes, its leaves, and a tree of matches between them. A cell of the tree
+/// names the place of a leaf: the last cells are the leaves' own, and each cell above them has the
+/// winner of the two below it, the one whose next message comes first. So a match reads two places
+/// and compares two messages, and a leaf that changes plays one match a level again.
 #[derive(Drop)]
 pub(crate) struct Tournament {
-    leaves: usize,
-    width: usize,
-    cells: Vec<Standing>,
+    leaves: Vec<Standing>,
+    winners: Vec<u32>,
 }
 
 impl std::marker::Model for Tournament {
@@ -23,101 +26,106 @@ impl std::marker::Model for Tournament {
 
     ghost Value = { List Standing };
 
-    ghost use Rattle.node.specs.Tournament.{leaves_of, IsTournament};
+    ghost use Rattle.node.specs.Tournament.{IsTournament};
 
-    ghost view = { leaves_of };
+    ghost view = { λ t. t.leaves.items };
 
-    ghost invariant = { λ t. IsTournament t.leaves t.width t.cells.items };
+    ghost invariant = { λ t. IsTournament t.leaves.items t.winners.items };
 }
 
 impl Tournament {
-    ghost use Rattle.node.specs.Tournament.{IsFirstDue, IsLowInRange, IsQuiet, absent, least_among};
+    ghost use Rattle.node.specs.Tournament.{IsLowInRange, absent, least_among};
 
     /// A tournament of so many leaves, at none of which anything stands.
     pub(crate) fn new(alloc: Global, leaves: usize) -> Result<Tournament, AllocError>
         requires { leaves < 2 ^ 32 }
         ensures { IfOk result (λ t. t ≡ replicate leaves absent) }
     {
-        let width = width_for(leaves);
-        let mut cells = Vec::new(alloc);
-        cells.resize(2 * width, Standing::ABSENT)?;
+        let mut standings = Vec::new(alloc);
+        standings.resize(leaves, Standing::ABSENT)?;
+        let mut winners = Vec::new(alloc);
+        winners.resize(2 * leaves, 0)?;
+        // Where nothing stands, either one may have won.
+        let mut cell = 2 * leaves;
+        while cell > 1 {
+            cell -= 1;
+            let winner = if cell < leaves {
+                winners[2 * cell]
+            } else {
+                (cell - leaves) as u32
+            };
+            winners[cell] = winner;
+        }
         Ok(Tournament {
-            leaves,
-            width,
-            cells,
+            leaves: standings,
+            winners,
         })
     }
 
-    /// Gives a leaf another standing. It takes no memory, and costs the logarithm of the leaves at the most.
+    /// Gives a leaf another standing. It takes no memory, and costs the logarithm of the leaves at
+    /// the most.
     pub(crate) fn set(&mut self, leaf: usize, standing: Standing)
         requires inside { leaf < length self.old }
         requires range { IsLowInRange standing }
         ensures { self.new ≡ set self.old leaf standing }
     {
-        // Most deliveries change nothing here.
-        if standing.is_same(&self.cells[self.width + leaf]) {
+        let keeps_next = standing.has_next_of(&self.leaves[leaf]);
+        self.leaves[leaf] = standing;
+        // Matches are about the next message alone, and most deliveries leave it.
+        if keeps_next {
             return;
         }
-        self.replay(leaf, standing);
-    }
-
-    // Plays the matches above a leaf again.
-    fn replay(&mut self, leaf: usize, standing: Standing)
-        requires inside { leaf < length self.old }
-        requires range { IsLowInRange standing }
-        ensures { self.new ≡ set self.old leaf standing }
-    {
-        let mut cell = self.width + leaf;
-        self.cells[cell] = standing;
+        let mut cell = self.leaves.len() + leaf;
         while cell > 1 {
             cell /= 2;
-            let winner = self.cells[2 * cell].meet(&self.cells[2 * cell + 1]);
-            // Where the winner stays what it was, so do all above it.
-            if winner.is_same(&self.cells[cell]) {
-                return;
-            }
-            self.cells[cell] = winner;
+            let (left, right) = (self.winners[2 * cell], self.winners[2 * cell + 1]);
+            self.winners[cell] = winner(&self.leaves, left, right);
         }
     }
 
-    /// The least of all leaves, part by part. It takes no memory.
-    pub(crate) fn least(&self) -> Standing
-        ensures least { result ≡ least_among self.now }
-        ensures range { IsLowInRange result }
+    /// The message that comes first of the next ones of all leaves. It takes no memory, and costs
+    /// the same however many leaves there are.
+    pub(crate) fn next(&self) -> Option<Message>
+        ensures { result ≡ (least_among self.now).next }
     {
-        self.cells[1]
-    }
-
-    /// The first leaf whose oldest time is below the floor, in ticks, if there is one. It takes no memory, and costs the
-    /// logarithm of the leaves.
-    pub(crate) fn first_due(&self, floor: u64) -> Option<usize>
-        ensures { MatchOption result (IsQuiet floor self.now (length self.now))
-            (λ due. IsFirstDue floor self.now due) }
-    {
-        let mut cell = 1;
-        if !self.cells[cell].is_due(floor) {
+        if self.leaves.is_empty() {
             return None;
         }
-        while cell < self.width {
-            cell *= 2;
-            if !self.cells[cell].is_due(floor) {
-                cell += 1;
-            }
+        self.leaves[self.winners[1] as usize].next
+    }
+
+    /// The least time of what waits at any leaf. It takes no memory, and costs the leaves.
+    pub(crate) fn low(&self) -> Option<u64>
+        ensures low { result ≡ (least_among self.now).low }
+        ensures range { IfSome result (λ time. time < 2 ^ 41) }
+    {
+        let mut low = None;
+        for standing in &self.leaves {
+            low = earliest(low, standing.low);
         }
-        Some(cell - self.width)
+        low
+    }
+
+    /// Whether the oldest time at a leaf is below the floor, in ticks. It takes no memory.
+    pub(crate) fn is_due(&self, leaf: usize, floor: u64) -> bool
+        requires { leaf < length self.now }
+        ensures { result ≡ is_due floor (get_or self.now leaf absent).oldest }
+    {
+        self.leaves[leaf].is_due(floor)
     }
 }
 
-/// The least power of two that is not below so many leaves.
-fn width_for(leaves: usize) -> usize
-    requires { leaves < 2 ^ 32 }
-    ensures within { leaves ≤ result }
-    ensures few { result < 2 ^ 33 }
-    ensures whole { (levels : ℕ) × (result ≡ 2 ^ levels) }
+/// Of two leaves, by their places, the one whose next message comes first.
+fn winner(leaves: &[Standing], left: u32, right: u32) -> u32
+    requires left { left < length leaves.now }
+    requires right { right < length leaves.now }
+    ensures either { (result ≡ left) ⊎ (result ≡ right) }
+    ensures first { next_at leaves.now result ≡ lesser (next_at leaves.now left)
+        (next_at leaves.now right) }
 {
-    let mut width = 1;
-    while width < leaves {
-        width *= 2;
+    match (&leaves[left as usize].next, &leaves[right as usize].next) {
+        (Some(x), Some(y)) => if y.is_before(x) { right } else { left },
+        (Some(_), None) => left,
+        (None, _) => right,
     }
-    width
 }

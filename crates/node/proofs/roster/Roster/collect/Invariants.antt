@@ -1,18 +1,18 @@
-use Rattle.std.proofs.Common.{◌≡◌}
+use Rattle.std.proofs.Common.{◌≡◌, length}
 use Rattle.std.specs.List.{AllByRecursion as Every}
 use Rattle.process.specs.View.{IsDoneInRange}
-use Rattle.node.proofs.Collects.{IsCollected, due_count}
+use Rattle.node.proofs.Collects.{IsCollected}
 use Rattle.node.specs.Roster.{IsModelled, IsStaffed, at_floor, place_of, processes_of}
+use Rattle.node.specs.Tournament.{IsQuiet}
 use Rattle.node.proofs.roster.Roster.collect.Given as goal
 
-abbrev pub invariant-loop-due : goal.invariant-loop-due
-invariant-loop-due g l = record {
+abbrev pub invariant-loop-place : goal.invariant-loop-place
+invariant-loop-place g l = record {
   staffed : IsStaffed (at_floor l.floor (place_of l.self)) l.self.processes.items l.self.standings;
   modelled : Every (IsModelled (g.M.Model.meaning l.model)) l.self.processes.items;
+  count : length l.self.processes.items ≡ length l.fn.self.processes.items;
   place_is : place_of l.self ≡ place_of l.fn.self;
   collected : IsCollected l.floor (processes_of l.fn.self.processes.items) (processes_of l.self.processes.items) l.fossils.items;
+  quiet : IsQuiet l.floor l.self.standings l.place;
   range : Every IsDoneInRange l.fossils.items;
 }
-
-abbrev pub decreases-loop-due : goal.decreases-loop-due
-decreases-loop-due g l = due_count l.floor (processes_of l.self.processes.items)

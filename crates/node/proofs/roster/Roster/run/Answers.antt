@@ -1,5 +1,4 @@
 use Rattle.std.proofs.Common.{◌∙◌, ◌+◌, Err, ap, sym, arith, inl, inr}
-use Rattle.node.specs.declared.standing.Standing.{Standing}
 use Rattle.std.proofs.lemmas.Result.{err_from_is_err_and}
 use Rattle.node.proofs.Runs.{begun_more, lacks_at_first, not_idle, run_fails, run_goes_on, run_stops, same_err}
 use Rattle.node.specs.Roster.{place_of, work_of}
@@ -8,7 +7,7 @@ use Rattle.node.proofs.roster.Roster.run.Goals as goal
 pub returns-in_default-clause-work : goal.returns-in_default-clause-work
 returns-in_default-clause-work g c =
     run_stops (g.M.Model.meaning c.args.model.now) (place_of c.loop-ran.self) (place_of c.args.self.now) c.loop-ran.self.processes.items c.loop-ran.self.standings c.loop-ran.invariant.place c.loop-ran.invariant.ready c.args.budget c.loop-ran.ran c.loop-ran.out.items _
-    (ap (λ (s : Standing). s.next) (sym c.least.ensures.least) ∙ c.in_default.is) c.loop-ran.invariant.work
+    (sym c.next.ensures ∙ c.in_default.is) c.loop-ran.invariant.work
 
 pub returns-in_err-run_one-clause-causes : goal.returns-in_err-run_one-clause-causes
 returns-in_err-run_one-clause-causes g c =
@@ -18,7 +17,7 @@ returns-in_err-run_one-clause-causes g c =
       | inr e ↦ inr (
         e.0,
         run_fails (g.M.Model.meaning c.args.model.now) (place_of c.loop-ran.self) (place_of c.args.self.now) c.loop-ran.self.processes.items c.loop-ran.self.standings c.loop-ran.invariant.place c.loop-ran.invariant.ready c.args.budget c.loop-ran.ran c.loop-ran.out.items _
-            c.in-Some.message c.loop-ran-test.true (ap (λ (s : Standing). s.next) (sym c.least.ensures.least) ∙ c.in-Some.is) e.1 c.loop-ran.invariant.work,
+            c.in-Some.message c.loop-ran-test.true (sym c.next.ensures ∙ c.in-Some.is) e.1 c.loop-ran.invariant.work,
       )
     ])
 
@@ -29,21 +28,21 @@ loop-ran-preserved g c = record {
   place = c.in_ok-run_one.ensures.place ∙ c.loop-ran.invariant.place;
   begun =
       begun_more (g.M.Model.meaning c.args.model.now) (place_of c.loop-ran.self) (place_of c.args.self.now) c.loop-ran.self.processes.items c.loop-ran.self.standings c.loop-ran.invariant.place c.loop-ran.invariant.ready c.loop-ran.ran c.loop-ran.out.items _
-      c.loop-ran.invariant.begun c.in-Some.message (work_of c.run_one.new.self c.run_one.new.out.items (c.loop-ran.ran + 1)) (ap (λ (s : Standing). s.next) (sym c.least.ensures.least) ∙ c.in-Some.is) (c.in_ok-run_one.ensures.room c.loop-ran.ran);
+      c.loop-ran.invariant.begun c.in-Some.message (work_of c.run_one.new.self c.run_one.new.out.items (c.loop-ran.ran + 1)) (sym c.next.ensures ∙ c.in-Some.is) (c.in_ok-run_one.ensures.room c.loop-ran.ran);
   work =
       run_goes_on (g.M.Model.meaning c.args.model.now) (place_of c.loop-ran.self) (place_of c.args.self.now) c.loop-ran.self.processes.items c.loop-ran.self.standings c.loop-ran.invariant.place c.loop-ran.invariant.ready c.args.budget c.loop-ran.ran c.loop-ran.out.items _
-      c.in-Some.message (work_of c.run_one.new.self c.run_one.new.out.items (c.loop-ran.ran + 1)) c.loop-ran-test.true (ap (λ (s : Standing). s.next) (sym c.least.ensures.least) ∙ c.in-Some.is) (c.in_ok-run_one.ensures.room c.loop-ran.ran) (c.in_ok-run_one.ensures.work c.loop-ran.ran) c.loop-ran.invariant.work;
+      c.in-Some.message (work_of c.run_one.new.self c.run_one.new.out.items (c.loop-ran.ran + 1)) c.loop-ran-test.true (sym c.next.ensures ∙ c.in-Some.is) (c.in_ok-run_one.ensures.room c.loop-ran.ran) (c.in_ok-run_one.ensures.work c.loop-ran.ran) c.loop-ran.invariant.work;
 }
 
 pub returns-in_default-clause-limit : goal.returns-in_default-clause-limit
 returns-in_default-clause-limit g c some none =
     absurd (not_idle (g.M.Model.meaning c.args.model.now) (place_of c.loop-ran.self) (place_of c.args.self.now) c.loop-ran.self.processes.items c.loop-ran.self.standings c.loop-ran.invariant.place c.loop-ran.invariant.ready c.loop-ran.ran c.loop-ran.out.items _
-    c.loop-ran.invariant.begun (ap (λ (s : Standing). s.next) (sym c.least.ensures.least) ∙ c.in_default.is) none)
+    c.loop-ran.invariant.begun (sym c.next.ensures ∙ c.in_default.is) none)
 
 pub returns-in_err-run_one-clause-limit : goal.returns-in_err-run_one-clause-limit
 returns-in_err-run_one-clause-limit g c some none =
     let lacks = lacks_at_first (g.M.Model.meaning c.args.model.now) (place_of c.loop-ran.self) (place_of c.args.self.now) c.loop-ran.self.processes.items c.loop-ran.self.standings c.loop-ran.invariant.place c.loop-ran.invariant.ready c.loop-ran.ran c.loop-ran.out.items _
-    c.loop-ran.invariant.begun c.in-Some.message (ap (λ (s : Standing). s.next) (sym c.least.ensures.least) ∙ c.in-Some.is) none in
+    c.loop-ran.invariant.begun c.in-Some.message (sym c.next.ensures ∙ c.in-Some.is) none in
     let limit = c.in_err-run_one.ensures.limit c.loop-ran.ran lacks in
     let p = err_from_is_err_and c.from_residual.result c.from_residual.ensures.1 in
     rw (p.1, p.2) (ap Err (same_err limit))

@@ -1,28 +1,44 @@
-use Rattle.std.proofs.Common.{◌≡◌, ℕ, ◌+◌, length, set, get_or, List, ap, sym, ◌∙◌, arith}
-use Rattle.std.proofs.lemmas.List.{set-get_or}
-use Rattle.node.specs.Tournament.{absent}
+use Rattle.std.proofs.Common.{◌≡◌, ◌<◌, ℕ, ◌*◌, ◌+◌, ◌/◌, length, set, get_or, List, ap, sym, subst, ◌∙◌, arith, inl, inr}
+use Rattle.node.specs.Node.{lesser}
+use Rattle.node.specs.Tournament.{next_at, winner_next}
 use Rattle.node.specs.declared.standing.Standing.{Standing}
-use Rattle.node.proofs.Searches.{leaf_at, leaf_count, row_of}
-use Rattle.node.proofs.Tournaments.{cell_at}
+use Rattle.node.proofs.Tournaments.{IsReplaying, place_at, replay_begins, replay_ends, replay_goes_on}
 use Rattle.node.proofs.tournament.Tournament.set.Goals as goal
 
-pub index-requires : goal.index-requires
-index-requires c =
-    let size = c.self.invariant.size in
-    let most = c.self.invariant.within in
-    let seen : length c.args.self.now ≡ c.self.inside.leaves = ap length (sym c.self.view_is) ∙ leaf_count 0 c.self.inside.leaves c.self.inside.width c.self.inside.cells.items c.self.invariant in
-    omega arith
+pub loop-cell-init : goal.loop-cell-init
+loop-cell-init c =
+    let leaves : List Standing = c.self.inside.leaves.items in
+    let same : length leaves + c.args.leaf ≡ c.len.result + c.args.leaf = let count = c.self.inside.leaves.ok in let len = c.len.ensures in omega arith in
+    let there : c.args.leaf < length leaves = let inside = c.requires.inside in let seen = ap length c.self.view_is in omega arith in
+    record {
+      leaves_are = ap (λ (xs : List Standing). set xs c.args.leaf c.args.standing) c.self.view_is;
+      replaying = subst (IsReplaying (set leaves c.args.leaf c.args.standing) c.self.inside.winners.items) same
+          (replay_begins leaves c.self.inside.winners.items c.args.leaf c.args.standing c.self.invariant there c.requires.range);
+    }
 
-pub returns-then-is_same : goal.returns-then-is_same
-returns-then-is_same c =
-    let leaves : ℕ = c.self.inside.leaves in
-    let width : ℕ = c.self.inside.width in
-    let cells : List Standing = c.self.inside.cells.items in
-    let row = row_of 0 leaves width cells c.self.invariant in
-    let size = c.self.invariant.size in
-    let most = c.self.invariant.within in
-    let seen : length c.args.self.now ≡ leaves = ap length (sym c.self.view_is) ∙ leaf_count 0 leaves width cells c.self.invariant in
-    let there : get_or row c.args.leaf absent ≡ c.args.standing =
-    leaf_at 0 leaves width cells c.self.invariant c.args.leaf (omega arith)
-    ∙ (sym (cell_at cells (width + c.args.leaf) c.index.result.now c.index.ensures (omega arith)) ∙ sym (c.is_same.ensures.0 c.if-is_same.true)) in
-    sym (set-get_or c.args.self.now c.args.leaf absent) ∙ ap (set c.args.self.now c.args.leaf) (ap (λ (xs : List Standing). get_or xs c.args.leaf absent) (sym c.self.view_is) ∙ there)
+pub invariant_of-self-in-loop-cell : goal.invariant_of-self-in-loop-cell
+invariant_of-self-in-loop-cell c = replay_ends _ _ c.loop-cell.cell c.loop-cell-test.false c.loop-cell.invariant.replaying
+
+pub loop-cell-preserved : goal.loop-cell-preserved
+loop-cell-preserved c =
+    let leaves : List Standing = c.loop-cell.self-inside.leaves.items in
+    let winners : List ℕ = c.loop-cell.self-inside.winners.items in
+    let cell : ℕ = c.loop-cell.cell in
+    let i = c.loop-cell.invariant.replaying in
+    let size = i.size in
+    let inside = i.inside in
+    let left : c.index-in-loop-cell.result.now ≡ get_or winners (2 * (cell / 2)) 0 = place_at winners (2 * (cell / 2)) c.index-in-loop-cell.result.now c.index-in-loop-cell.ensures (omega arith) in
+    let right : c.index-in-loop-cell-2.result.now ≡ get_or winners (2 * (cell / 2) + 1) 0 = place_at winners (2 * (cell / 2) + 1) c.index-in-loop-cell-2.result.now c.index-in-loop-cell-2.ensures (omega arith) in
+    let first : next_at leaves c.winner.result ≡ lesser (winner_next leaves winners (2 * (cell / 2))) (winner_next leaves winners (2 * (cell / 2) + 1)) =
+    ap (λ (xs : List Standing). next_at xs c.winner.result) (sym c.deref.ensures.value)
+    ∙ c.winner.ensures.first
+    ∙ ap (λ (xs : List Standing). lesser (next_at xs c.index-in-loop-cell.result.now) (next_at xs c.index-in-loop-cell-2.result.now)) c.deref.ensures.value
+    ∙ ap (λ (p : ℕ). lesser (next_at leaves p) (next_at leaves c.index-in-loop-cell-2.result.now)) left
+    ∙ ap (λ (p : ℕ). lesser (winner_next leaves winners (2 * (cell / 2))) (next_at leaves p)) right
+    in
+    record {
+      leaves_are = c.loop-cell.invariant.leaves_are;
+      replaying = replay_goes_on leaves winners cell c.winner.result c.loop-cell-test.true i
+          (elim c.winner.ensures.either [ inl e ↦ inl (e ∙ left) | inr e ↦ inr (e ∙ right) ])
+          first;
+    }

@@ -1,0 +1,22 @@
+use Rattle.std.proofs.Common.{◌≡◌, ◌<◌, ◌≤◌, ℕ, length, get_or, List, ◌∙◌, ap, subst, sym, arith, inl, inr}
+use Rattle.std.proofs.lemmas.Bool.{cases_lt, eqb-false}
+use Rattle.node.proofs.Tournaments.{leaf_at, place_at, root_is_least}
+use Rattle.node.specs.Tournament.{least_among, next_at}
+use Rattle.node.specs.declared.standing.Standing.{Standing}
+use Rattle.node.proofs.tournament.Tournament.next.Goals as goal
+
+pub returns : goal.returns
+returns c =
+    let leaves : List Standing = c.self.inside.leaves.items in
+    let winners : List ℕ = c.self.inside.winners.items in
+    let size = c.self.invariant.size in
+    let some : 1 ≤ length leaves = let count = c.self.inside.leaves.ok in elim (cases_lt 0 (length leaves)) [
+      | inl l ↦ l
+      | inr l ↦ absurd (eqb-false c.self.inside.leaves.len 0 (sym c.is_empty.ensures ∙ c.if-is_empty.false) (omega arith))
+    ] in
+    let place : c.index.result.now ≡ get_or winners 1 0 = place_at winners 1 c.index.result.now c.index.ensures (omega arith) in
+    let there : c.index.result.now < length leaves = subst (λ (p : ℕ). p < length leaves) (sym place) (c.self.invariant.below 1 (omega arith) (omega arith)).there in
+    ap (λ (s : Standing). s.next) (leaf_at leaves c.index.result.now c.index-2.result.now c.index-2.ensures there)
+    ∙ ap (next_at leaves) place
+    ∙ root_is_least leaves winners c.self.invariant some
+    ∙ ap (λ (xs : List Standing). (least_among xs).next) c.self.view_is
