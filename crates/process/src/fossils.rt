@@ -5,9 +5,9 @@ ghost use Rattle.queues.specs.Record.{AreHandlings, handled_before, handled_from
 ghost use Rattle.queues.specs.Record.{state_before};
 ghost use Rattle.process.specs.Process.{told};
 
-use crate::Done;
+use crate::{Done, Handled};
 use model::{Model as Simulated, State, Words};
-use queues::{History, Record};
+use queues::Record;
 use std::alloc::{AllocError, Global};
 
 /// Takes the handlings below the floor, in ticks, out of a history, where this state and this send number came after all of
@@ -16,7 +16,7 @@ pub(crate) fn tell<M: Simulated>(
     alloc: Global,
     model: &M,
     floor: u64,
-    history: &mut History<1>,
+    history: &mut Handled,
     state: &State,
     number: u64,
     fossils: &mut Vec<Done>,
@@ -60,7 +60,7 @@ pub(crate) fn tell<M: Simulated>(
 /// State words and send number before these handlings, or these where there are none.
 fn before_first(
     alloc: Global,
-    history: &History<1>,
+    history: &Handled,
     state: &State,
     number: u64,
 ) -> Result<(State, u64), AllocError>

@@ -17,8 +17,12 @@ mod sends;
 use eventkey::Message;
 pub use logical::Process;
 use model::{Sent, State};
+use queues::History;
 use std::alloc::{AllocError, AllocFailed};
 use thiserror::Error;
+
+/// What a process handled. State words are kept for one handling in eight, and the others are rebuilt by going forward.
+pub(crate) type Handled = History<8>;
 
 /// Why a process refuses a call.
 #[derive(Clone, Copy, Debug, PartialEq, Eq, Error)]

@@ -17,10 +17,10 @@ ghost use Rattle.process.specs.declared.ProcessFault.TheVariants.{NumberLimit, S
 
 use crate::fossils::tell;
 use crate::sends::{append, take_back_sends};
-use crate::{Done, ProcessFault};
+use crate::{Done, Handled, ProcessFault};
 use eventkey::{Message, Sign, Signed};
 use model::{Model as Simulated, Sent, State, Words};
-use queues::{History, InputQueue, Record};
+use queues::{InputQueue, Record};
 use std::alloc::Global;
 use std::mem;
 
@@ -34,7 +34,7 @@ pub struct Process {
     floor: u64,
     spent: bool,
     queue: InputQueue,
-    history: History<1>,
+    history: Handled,
     state: State,
     number: u64,
 }
@@ -104,7 +104,7 @@ impl Process {
             floor,
             spent: false,
             queue: InputQueue::of_waiting(alloc, pending)?,
-            history: History::new(alloc),
+            history: Handled::new(alloc),
             state: State::from_words(words),
             number,
         })

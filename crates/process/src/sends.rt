@@ -7,8 +7,8 @@ ghost use Rattle.eventkey.specs.declared.Signed.{Signed};
 ghost use Rattle.queues.specs.Queue.{last_of};
 ghost use Rattle.queues.specs.Record.{sent_in};
 
+use crate::Handled;
 use eventkey::{Message, Sign, Signed};
-use queues::History;
 use std::alloc::{AllocError, Global};
 
 /// Appends these messages with this sign. Where memory is wanted nothing is appended.
@@ -35,7 +35,7 @@ pub(crate) fn append(
 /// Appends the antimessages of all that was sent in the last `count` handlings, those of the earliest first. Where memory is
 /// wanted some of them are appended.
 pub(crate) fn take_back_sends(
-    history: &History<1>,
+    history: &Handled,
     count: usize,
     out: &mut Vec<Signed>,
 ) -> Result<(), AllocError>
