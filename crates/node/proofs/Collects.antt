@@ -16,8 +16,18 @@ use Rattle.node.proofs.Deliveries.{node_at, working}
 use Rattle.node.specs.Handling.{after}
 use Rattle.node.specs.Roster.{IsSeated, IsStaffed, Place, at_floor, processes_of}
 use Rattle.node.specs.Seats.{is_due, standing_of, standings_of}
-use Rattle.node.specs.Tournament.{IsFirstDue, IsQuiet, absent}
+use Rattle.node.specs.Tournament.{absent}
 use Rattle.node.specs.declared.standing.Standing.{Standing}
+
+-- at none of the first so many anything is due
+abbrev pub IsQuiet : ℕ → List Standing → ℕ → Type 0
+IsQuiet floor xs to = (k : ℕ) → k < to → is_due floor (get_or xs k absent).oldest ≡ false
+
+-- the first at which something is due
+pub record IsFirstDue (floor : ℕ) (xs : List Standing) (at : ℕ) : Type 0 where
+  pub inside : at < length xs
+  pub due : is_due floor (get_or xs at absent).oldest ≡ true
+  pub first : IsQuiet floor xs at
 
 -- 1. A process with nothing below the floor
 

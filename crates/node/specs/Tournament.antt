@@ -1,9 +1,8 @@
 -- A tournament (Knuth, The Art of Computer Programming 3, tree selection): leaves, and a tree of
 -- the places of those that won, so that the leaf whose message comes first is known at any time.
-use Rattle.std.specs.Prelude.{ℕ, List, [], ◌∷◌, Option, None, true, false, IfSome, length, get_or, ◌+◌, ◌*◌, ◌/◌, ◌≡◌, ◌≤◌, ◌<◌, ◌^◌, zero, suc}
+use Rattle.std.specs.Prelude.{ℕ, List, [], ◌∷◌, Option, None, IfSome, length, get_or, ◌+◌, ◌*◌, ◌/◌, ◌≡◌, ◌≤◌, ◌<◌, ◌^◌, zero, suc}
 use Rattle.eventkey.specs.Message.{Message}
 use Rattle.node.specs.Node.{earliest, lesser}
-use Rattle.node.specs.Seats.{is_due}
 use Rattle.node.specs.declared.standing.Standing.{Standing}
 
 -- where nothing stands
@@ -61,13 +60,3 @@ pub record IsTournament (leaves : List Standing) (winners : List ℕ) : Type 0 w
       (k : ℕ) → 1 ≤ k → k < 2 * length leaves → IsBelow (length leaves) (get_or winners k 0) k
   pub won : (k : ℕ) → 1 ≤ k → k < length leaves → HasWon leaves winners k
   pub lows : (k : ℕ) → IsLowInRange (get_or leaves k absent)
-
--- at none of the first so many anything is due
-abbrev pub IsQuiet : ℕ → List Standing → ℕ → Type 0
-IsQuiet floor xs to = (k : ℕ) → k < to → is_due floor (get_or xs k absent).oldest ≡ false
-
--- the first at which something is due
-pub record IsFirstDue (floor : ℕ) (xs : List Standing) (at : ℕ) : Type 0 where
-  pub inside : at < length xs
-  pub due : is_due floor (get_or xs at absent).oldest ≡ true
-  pub first : IsQuiet floor xs at

@@ -1,7 +1,6 @@
 use Rattle.std.proofs.Common.{◌<◌, ◌≤◌, ◌∙◌, length, subst, sym, arith}
-use Rattle.node.proofs.Collects.{all_collected, first_due, node_collected, count_again, one_more_collected, quiet_again, quiet_all}
+use Rattle.node.proofs.Collects.{IsFirstDue, IsQuiet, all_collected, first_due, node_collected, count_again, one_more_collected, quiet_again, quiet_all}
 use Rattle.node.specs.Roster.{IsStaffed, Place, at_floor, place_of, processes_of}
-use Rattle.node.specs.Tournament.{IsFirstDue, IsQuiet}
 use Rattle.node.proofs.roster.Roster.collect.Given.{Over}
 use Rattle.node.proofs.roster.Roster.collect.Goals as goal
 

@@ -1,9 +1,8 @@
 use Rattle.std.proofs.Common.{◌≡◌, length}
 use Rattle.std.specs.List.{AllByRecursion as Every}
 use Rattle.process.specs.View.{IsDoneInRange}
-use Rattle.node.proofs.Collects.{IsCollected}
+use Rattle.node.proofs.Collects.{IsCollected, IsQuiet}
 use Rattle.node.specs.Roster.{IsModelled, IsStaffed, at_floor, place_of, processes_of}
-use Rattle.node.specs.Tournament.{IsQuiet}
 use Rattle.node.proofs.roster.Roster.collect.Given as goal
 
 abbrev pub invariant-loop-place : goal.invariant-loop-place
