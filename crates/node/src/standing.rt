@@ -30,6 +30,7 @@ impl Standing {
 
     /// What stands of a process whose messages are handled before the end, in ticks. It takes no
     /// memory.
+    #[inline(always)]
     pub(crate) fn of(process: &Process, end: u64) -> Standing
         ensures standing { result ≡ standing_of end process.now }
         ensures range { IsLowInRange result }
@@ -52,6 +53,7 @@ impl Standing {
     }
 
     /// Whether the next message is that of another standing.
+    #[inline(always)]
     pub(crate) fn has_next_of(&self, other: &Standing) -> bool
         ensures { IsTrue result ↔ (self.now.next ≡ other.now.next) }
     {

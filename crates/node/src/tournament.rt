@@ -64,6 +64,7 @@ impl Tournament {
 
     /// Gives a leaf another standing. It takes no memory, and costs the logarithm of the leaves at
     /// the most.
+    #[inline(always)]
     pub(crate) fn set(&mut self, leaf: usize, standing: Standing)
         requires inside { leaf < length self.old }
         requires range { IsLowInRange standing }

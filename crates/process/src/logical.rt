@@ -20,9 +20,8 @@ use crate::sends::{append, take_back_sends};
 use crate::{Done, Handled, ProcessFault};
 use eventkey::{Message, Sign, Signed};
 use model::{Model as Simulated, Sent, State, Words};
-use queues::{InputQueue, Record};
+use queues::InputQueue;
 use std::alloc::Global;
-use std::mem;
 
 /// A logical process (Jefferson 1985): its input queue, the history of what it handled, its state words and its send
 /// number. After want of memory, and at the limit of the send number, it is spent.
@@ -313,13 +312,9 @@ impl Process {
         )?;
         append(out, Sign::Plus, sent.as_slice())?;
         self.queue.take_next(end)?;
-        let before = mem::replace(&mut self.state, State::from_words(words));
-        self.history.push(Record {
-            message,
-            before,
-            number_before: self.number,
-            sent,
-        })?;
+        self.history
+            .push_handling(message, &self.state, self.number, sent)?;
+        self.state = State::from_words(words);
         self.number += count;
         self.spent = false;
         Ok(true)

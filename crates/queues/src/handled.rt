@@ -13,7 +13,7 @@ ghost use Rattle.eventkey.specs.Bag.{IsAscending};
 use crate::Record;
 use crate::sparse::SparseRecords;
 use eventkey::Message;
-use model::{Model as Simulated, State};
+use model::{Model as Simulated, Sent, State};
 use std::alloc::{AllocError, Global};
 
 /// What a logical process handled, in the order of handling: its state queue and its output queue in one (Jefferson
@@ -102,8 +102,34 @@ impl<const K: usize> History<K> {
         ensures pushed { OnOk result (self.new ≡ self.old ++ last ∷ []) }
         ensures unchanged { OnErr result (self.new ≡ self.old) }
     {
+        let Record {
+            message,
+            before,
+            number_before,
+            sent,
+        } = last;
+        self.push_handling(message, &before, number_before, sent)
+    }
+
+    /// The same for the record of these parts. Its state words are lent, and copied only where they are kept.
+    pub fn push_handling(
+        &mut self,
+        message: Message,
+        before: &State,
+        number_before: u64,
+        sent: Sent,
+    ) -> Result<(), AllocError>
+        ensures pushed { OnOk result (self.new ≡ self.old ++ record {
+          message = message;
+          before = before.now;
+          number_before = number_before;
+          sent = sent;
+        } ∷ []) }
+        ensures unchanged { OnErr result (self.new ≡ self.old) }
+    {
         let place = (self.place + self.records.len()) % K;
-        self.records.push(last, place == 0)
+        self.records
+            .push(message, before, number_before, sent, place == 0)
     }
 
     /// Takes the last `count` records out and answers them in their order. It is refused only for want

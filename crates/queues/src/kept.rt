@@ -44,17 +44,26 @@ impl std::marker::Model for Kept {
 }
 
 impl Kept {
-    /// This record, with its state words or without.
-    pub fn of(alloc: Global, whole: Record, saved: bool) -> Result<Kept, AllocError>
-        ensures { IfOk result (λ kept. kept ≡ (whole, saved)) }
+    /// The record of these parts, with its state words or without.
+    pub fn of(
+        alloc: Global,
+        message: Message,
+        before: &State,
+        number_before: u64,
+        sent: Sent,
+        saved: bool,
+    ) -> Result<Kept, AllocError>
+        ensures { IfOk result (λ kept. kept ≡ (
+          record {
+            message = message;
+            before = before.now;
+            number_before = number_before;
+            sent = sent;
+          },
+          saved,
+        )) }
     {
-        let Record {
-            message,
-            before,
-            number_before,
-            sent,
-        } = whole;
-        let known = Snapshot::of(&before);
+        let known = Snapshot::of(before);
         let words = if saved {
             Some(Saved::from_slice(alloc, before.words().as_slice())?)
         } else {

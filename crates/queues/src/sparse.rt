@@ -11,7 +11,7 @@ ghost use Rattle.queues.specs.Kept.{saved_in};
 use crate::Record;
 use crate::kept::Kept;
 use eventkey::Message;
-use model::{Model as Simulated, State, Words};
+use model::{Model as Simulated, Sent, State, Words};
 use std::alloc::{AllocError, Global};
 use std::collections::VecDeque;
 use std::mem;
@@ -133,18 +133,36 @@ impl SparseRecords {
 
     /// One more record, at the end, with its state words where it is to be saved or is the first. It
     /// is refused only for want of memory, and then nothing is changed.
-    pub fn push(&mut self, last: Record, save: bool) -> Result<(), AllocError>
+    pub fn push(
+        &mut self,
+        message: Message,
+        before: &State,
+        number_before: u64,
+        sent: Sent,
+        save: bool,
+    ) -> Result<(), AllocError>
         ensures pushed { OnOk result (self.new ≡ record {
-          records = self.old.records ++ last ∷ [];
+          records = self.old.records ++ record {
+            message = message;
+            before = before.now;
+            number_before = number_before;
+            sent = sent;
+          } ∷ [];
           saved = saved_with self.old.records self.old.saved save;
         }) }
         ensures unchanged { OnErr result (self.new ≡ self.old) }
     {
         if self.first.is_none() {
-            self.first = Some(last);
+            let words = Words::from_slice(self.alloc, before.words().as_slice())?;
+            self.first = Some(Record {
+                message,
+                before: State::from_words(words),
+                number_before,
+                sent,
+            });
             return Ok(());
         }
-        let kept = Kept::of(self.alloc, last, save)?;
+        let kept = Kept::of(self.alloc, message, before, number_before, sent, save)?;
         self.later.push_back(kept)?;
         Ok(())
     }

@@ -15,13 +15,13 @@ use Rattle.process.proofs.logical.Process.run_one.Goals as goal
 
 -- the process as the code leaves it, and the record that it adds
 abbrev left_of : (g : given.Over) → goal.Joined-sends-6 g → ProcessView
-left_of g c = view_of (record { alloc = c.self.inside.alloc; lp = c.self.inside.lp; floor = c.self.inside.floor; spent = false; queue = c.take_next.new.self; history = c.push.new.self; state = c.replace-before.new.dest; number = c.self.inside.number + c.len-count.result })
+left_of g c = view_of (record { alloc = c.self.inside.alloc; lp = c.self.inside.lp; floor = c.self.inside.floor; spent = false; queue = c.take_next.new.self; history = c.push_handling.new.self; state = c.from_words.result; number = c.self.inside.number + c.len-count.result })
 
 abbrev new_of : (g : given.Over) → goal.Joined-sends-6 g → Process
 new_of g c = (left_of g c).process
 
 abbrev record_of : (g : given.Over) → goal.Joined-sends-6 g → Record
-record_of g c = record { message = c.in-Some.message; before = c.replace-before.result; number_before = c.self.inside.number; sent = c.in_ok-sent.sent }
+record_of g c = record { message = c.in-Some.message; before = c.self.inside.state; number_before = c.self.inside.number; sent = c.in_ok-sent.sent }
 
 first_is : (g : given.Over) (c : goal.Joined-sends-6 g) → first_before c.args.end (view_of c.self.inside).process.waiting ≡ Some c.in-Some.message
 first_is g c = ap (λ (v : ProcessView). first_before c.args.end v.process.waiting) c.self.view_is ∙ (sym c.next.ensures ∙ c.in-Some.is)
@@ -32,9 +32,9 @@ sends_is g c = c.handle-words.ensures.sends ∙ ap (λ (u : List ℕ). (g.M.Mode
 count_is : (g : given.Over) (c : goal.Joined-sends-6 g) → c.len-count.result ≡ length ((g.M.Model.meaning c.args.model.now).sends c.self.inside.lp c.self.inside.state c.in-Some.message)
 count_is g c = c.len-count.ensures.value ∙ ap length (sends_is g c)
 
-state_is : (g : given.Over) (c : goal.Joined-sends-6 g) → c.replace-before.new.dest ≡ (g.M.Model.meaning c.args.model.now).next_state c.self.inside.lp c.self.inside.state c.in-Some.message
+state_is : (g : given.Over) (c : goal.Joined-sends-6 g) → c.from_words.result ≡ (g.M.Model.meaning c.args.model.now).next_state c.self.inside.lp c.self.inside.state c.in-Some.message
 state_is g c =
-    c.replace-before.ensures.after ∙ (c.from_words.ensures ∙ (c.handle-words.ensures.state ∙ ap (λ (u : List ℕ). (g.M.Model.meaning c.args.model.now).next_state c.self.inside.lp u c.in-Some.message) c.words-2.ensures))
+    (c.from_words.ensures ∙ (c.handle-words.ensures.state ∙ ap (λ (u : List ℕ). (g.M.Model.meaning c.args.model.now).next_state c.self.inside.lp u c.in-Some.message) c.words-2.ensures))
 
 sent_is : (g : given.Over) (c : goal.Joined-sends-6 g) → c.in_ok-sent.sent ≡ (handling_of (g.M.Model.meaning c.args.model.now) c.self.inside.lp c.in-Some.message (view_of c.self.inside).process).sent
 sent_is g c =
@@ -44,15 +44,14 @@ sent_is g c =
 
 record_is : (g : given.Over) (c : goal.Joined-sends-6 g) → record_of g c ≡ handling_of (g.M.Model.meaning c.args.model.now) c.self.inside.lp c.in-Some.message (view_of c.self.inside).process
 record_is g c =
-    let before = c.replace-before.ensures.value in
     let sent = sent_is g c in
-    λ i. record { message = c.in-Some.message; before = before i; number_before = c.self.inside.number; sent = sent i }
+    λ i. record { message = c.in-Some.message; before = c.self.inside.state; number_before = c.self.inside.number; sent = sent i }
 
 new_is : (g : given.Over) (c : goal.Joined-sends-6 g) → new_of g c ≡ handle (g.M.Model.meaning c.args.model.now) c.self.inside.lp c.in-Some.message (view_of c.self.inside).process
 new_is g c =
     let whole = c.self.invariant c.if-self.false in
     handled_is c.self.inside.queue (view_of c.self.inside).process whole.0 refl refl (g.M.Model.meaning c.args.model.now) c.self.inside.lp c.args.end c.in-Some.message (first_is g c) (new_of g c) c.take_next.new.self
-    c.in_ok-take_next.ensures.taken (record_of g c) (record_is g c) c.in_ok-push.ensures.pushed refl refl (state_is g c) (ap (λ (n : ℕ). c.self.inside.number + n) (count_is g c))
+    c.in_ok-take_next.ensures.taken (record_of g c) (record_is g c) c.in_ok-push_handling.ensures.pushed refl refl (state_is g c) (ap (λ (n : ℕ). c.self.inside.number + n) (count_is g c))
 
 pub invariant_of-self-2 : goal.invariant_of-self-2
 invariant_of-self-2 g c = λ _.
@@ -65,7 +64,7 @@ invariant_of-self-2 g c = λ _.
     let few = count_is g c in
     let room : v.process.number + length (m.sends v.lp v.process.state c.in-Some.message) ≤ 2 ^ 63 = omega arith in (
       handled_done c.self.inside.queue v.process whole.0 refl refl m v.lp c.args.end c.in-Some.message (first_is g c) (new_of g c) c.take_next.new.self
-          c.in_ok-take_next.ensures.taken (record_of g c) (record_is g c) c.in_ok-push.ensures.pushed refl refl (state_is g c) (ap (λ (n : ℕ). c.self.inside.number + n) (count_is g c)),
+          c.in_ok-take_next.ensures.taken (record_of g c) (record_is g c) c.in_ok-push_handling.ensures.pushed refl refl (state_is g c) (ap (λ (n : ℕ). c.self.inside.number + n) (count_is g c)),
       subst (λ (q : Process). IsSound (record { lp = v.lp; floor = v.floor; spent = false; process = q })) (sym (new_is g c))
           (handled_sound m c.args.end c.in-Some.message false v (g.met.M.Model.lawful c.args.model.now) here words c.ranged.ensures (first_is g c) room whole.1),
     )

@@ -1,5 +1,5 @@
 use Rattle.queues.proofs.Spaced.{spaced_push}
-use Rattle.queues.proofs.handled.History.push.Goals as goal
+use Rattle.queues.proofs.handled.History.push_handling.Goals as goal
 
 pub invariant_of-self : goal.invariant_of-self
 invariant_of-self g c =
