@@ -176,11 +176,14 @@ impl SparseRecords {
           saved = drop 1 self.old.saved;
         } }
     {
-        let first = self.first.take()?;
-        if let Some(next) = self.later.pop_front() {
-            self.first = Some(next.into_record(self.alloc, model, &first));
-        }
-        Some(first)
+        let next = match self.later.pop_front() {
+            Some(next) => {
+                let first = self.first.as_ref()?;
+                Some(next.into_record(self.alloc, model, first))
+            }
+            None => None,
+        };
+        mem::replace(&mut self.first, next)
     }
 
     /// Takes out all but the first `kept` records. It is refused only for want of memory, and then
