@@ -1,4 +1,4 @@
--- Steps of a session, one after another.
+-- Steps of a session, one after another, and what holds of them.
 use Rattle.std.proofs.Common.{◌≡◌, ◌≤◌, ℕ, List, [], ◌∷◌, ◌++◌, arith, refl, subst}
 use Rattle.coordinator.proofs.Driving.{crashed, joined, none_made, one_made}
 use Rattle.coordinator.specs.Crashes.{IsWritten}
@@ -14,20 +14,11 @@ use Rattle.coordinator.specs.Steps.{IsMade}
 use Rattle.wire.specs.Port.{PortState}
 
 module _ {M P D : Type 0} (meaning : M → Meaning) (state : P → PortState) (disk : D → DiskState) where
-  pub stood : (s : Session M P D) → IsDriven meaning state disk s s
-  stood s = record { moves = []; made = none_made meaning state disk s }
-
-  -- a step that is made
-  pub one_step : (k : Move) (answer : Answer) (old new : Session M P D) → (new.model ≡ old.model) × (new.end ≡ old.end)
-      → (IsTold (running meaning state old) → IsMade k (running meaning state old) (running meaning state new) answer)
-      → (IsTold (running meaning state old) → IsWritten (meaning old.model) old.end old.front old.log → IsWritten (meaning old.model) old.end new.front new.log)
-      → KeepsStanding meaning state disk old new → IsDriven meaning state disk old new
-  one_step k answer old new same made written crashes = record { moves = k ∷ []; made = one_made meaning state disk k answer old new same made written crashes }
-
-  -- the same, with what holds of the steps
+  -- no step
   pub stood_by : (S : List Move → Type 0) (s : Session M P D) → S [] → IsDrivenBy meaning state disk S s s
   stood_by S s none = record { moves = []; shape = none; made = none_made meaning state disk s }
 
+  -- a step that is made
   pub one_step_by : (k : Move) (answer : Answer) (old new : Session M P D) → (new.model ≡ old.model) × (new.end ≡ old.end)
       → (IsTold (running meaning state old) → IsMade k (running meaning state old) (running meaning state new) answer)
       → (IsTold (running meaning state old) → IsWritten (meaning old.model) old.end old.front old.log → IsWritten (meaning old.model) old.end new.front new.log)
@@ -44,12 +35,6 @@ module _ {M P D : Type 0} (meaning : M → Meaning) (state : P → PortState) (d
 
   pub driven_so : (S : List Move → Type 0) (old new : Session M P D) → IsDrivenBy meaning state disk S old new → IsDriven meaning state disk old new
   driven_so S old new is = record { moves = is.moves; made = is.made }
-
-  pub then_driven : (old mid new : Session M P D) → IsDriven meaning state disk old mid → IsDriven meaning state disk mid new → IsDriven meaning state disk old new
-  then_driven old mid new first second = record {
-    moves = first.moves ++ second.moves;
-    made = joined meaning state disk first.moves second.moves old mid new first.made second.made;
-  }
 
   pub driven_stands : (old new : Session M P D) → IsDriven meaning state disk old new → KeepsStanding meaning state disk old new
   driven_stands old new is = is.made.crashes

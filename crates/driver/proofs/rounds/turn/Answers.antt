@@ -1,15 +1,15 @@
 use Rattle.std.proofs.Common.{◌≡◌, [], ◌∷◌}
 use Rattle.protocol.specs.Moves.Move.{Post, Take}
 use Rattle.driver.specs.Driver.{IsTurn}
-use Rattle.driver.proofs.Drives.{driven_stands, one_step, one_step_by, then_by, then_driven, then_stands}
+use Rattle.driver.proofs.Drives.{driven_so, driven_stands, one_step_by, then_by, then_stands}
 use Rattle.driver.proofs.Shapes.{post_and_take}
 use Rattle.driver.proofs.rounds.turn.Goals as goal
 
 pub returns-in_err-ran-clause-crashes : goal.returns-in_err-ran-clause-crashes
 returns-in_err-ran-clause-crashes g c =
     let says = c.in_ok-step.ensures in
-    let posted = one_step g.M.Model.meaning g.P.Port.state g.D.SectorDisk.state _ c.in_ok-step.field-0 c.args.session.now c.step.new.self says.same says.made says.written says.crashes in
-    then_stands g.M.Model.meaning g.P.Port.state g.D.SectorDisk.state c.args.session.now c.step.new.self c.step-2.new.self posted c.in_err-ran.ensures.crashes
+    let posted = one_step_by g.M.Model.meaning g.P.Port.state g.D.SectorDisk.state _ c.in_ok-step.field-0 c.args.session.now c.step.new.self says.same says.made says.written says.crashes in
+    then_stands g.M.Model.meaning g.P.Port.state g.D.SectorDisk.state c.args.session.now c.step.new.self c.step-2.new.self (driven_so g.M.Model.meaning g.P.Port.state g.D.SectorDisk.state _ c.args.session.now c.step.new.self posted) c.in_err-ran.ensures.crashes
 
 pub returns-in-Taken-clause-driven : goal.returns-in-Taken-clause-driven
 returns-in-Taken-clause-driven g c =
@@ -22,11 +22,8 @@ returns-in-Taken-clause-driven g c =
 
 pub returns-in-Taken-clause-crashes : goal.returns-in-Taken-clause-crashes
 returns-in-Taken-clause-crashes g c =
-    let says = c.in_ok-step.ensures in
-    let then = c.in_ok-ran.ensures in
-    let posted = one_step g.M.Model.meaning g.P.Port.state g.D.SectorDisk.state _ c.in_ok-step.field-0 c.args.session.now c.step.new.self says.same says.made says.written says.crashes in
-    let taken = one_step g.M.Model.meaning g.P.Port.state g.D.SectorDisk.state _ c.in_ok-ran.field-0 c.step.new.self c.step-2.new.self then.same then.made then.written then.crashes in
-    driven_stands g.M.Model.meaning g.P.Port.state g.D.SectorDisk.state c.args.session.now c.step-2.new.self (then_driven g.M.Model.meaning g.P.Port.state g.D.SectorDisk.state c.args.session.now c.step.new.self c.step-2.new.self posted taken)
+    driven_stands g.M.Model.meaning g.P.Port.state g.D.SectorDisk.state c.args.session.now c.step-2.new.self
+    (driven_so g.M.Model.meaning g.P.Port.state g.D.SectorDisk.state _ c.args.session.now c.step-2.new.self (returns-in-Taken-clause-driven g c))
 
 pub returns-clause-driven : goal.returns-clause-driven
 returns-clause-driven g c =
@@ -39,8 +36,5 @@ returns-clause-driven g c =
 
 pub returns-clause-crashes : goal.returns-clause-crashes
 returns-clause-crashes g c =
-    let says = c.in_ok-step.ensures in
-    let then = c.in_ok-ran.ensures in
-    let posted = one_step g.M.Model.meaning g.P.Port.state g.D.SectorDisk.state _ c.in_ok-step.field-0 c.args.session.now c.step.new.self says.same says.made says.written says.crashes in
-    let taken = one_step g.M.Model.meaning g.P.Port.state g.D.SectorDisk.state _ c.in_ok-ran.field-0 c.step.new.self c.step-2.new.self then.same then.made then.written then.crashes in
-    driven_stands g.M.Model.meaning g.P.Port.state g.D.SectorDisk.state c.args.session.now c.step-2.new.self (then_driven g.M.Model.meaning g.P.Port.state g.D.SectorDisk.state c.args.session.now c.step.new.self c.step-2.new.self posted taken)
+    driven_stands g.M.Model.meaning g.P.Port.state g.D.SectorDisk.state c.args.session.now c.step-2.new.self
+    (driven_so g.M.Model.meaning g.P.Port.state g.D.SectorDisk.state _ c.args.session.now c.step-2.new.self (returns-clause-driven g c))
