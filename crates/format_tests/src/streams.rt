@@ -1,7 +1,10 @@
 // Worked frames, byte for byte, and streams that are none.
 
 use eventkey::{Listed, Message, Sign, Signed};
-use frames::{Frame, encode_fault, encode_load, encode_parcel, encode_reply, read_frame, read_raw};
+use frames::{
+    Frame, Kind, encode_fault, encode_load, encode_parcel, encode_reply, read_frame, read_raw,
+    read_whole_frame, read_whole_raw,
+};
 use model::{Sent, State, Words};
 use node::{Load, NodeFault, Parcel, Part, Reply};
 use process::Done;
@@ -200,6 +203,43 @@ fn frames_are_read_to_their_last_byte(rt: HostRuntime) -> Result<(), Fail> {
         for size in [1, 7, 4096] {
             read_twice(&rt, rt.alloc(), frame, size)?;
         }
+    }
+    Ok(())
+}
+
+/// These bytes are read as one whole frame of this kind, and are none with their last byte missing or with a byte more.
+fn read_whole(rt: &impl Abort, alloc: Global, frame: &[u8], kind: Kind) -> Result<(), Fail> {
+    let Some(raw) = read_whole_raw(alloc, frame)? else {
+        return Err(Fail::new("the bytes are a frame"));
+    };
+    assert_eq!(rt; raw.kind, kind);
+    assert_eq!(rt; Some(raw.body.as_slice()), frame.get(5..));
+    let Some(read) = read_whole_frame(alloc, frame)? else {
+        return Err(Fail::new("the bytes spell a frame"));
+    };
+    assert_eq!(rt; spelled(alloc, &read)?.as_slice(), frame);
+    let mut longer = Vec::new(alloc);
+    longer.extend_from_slice(frame)?;
+    longer.push(0)?;
+    let shorter = frame.split_at(frame.len().saturating_sub(1)).0;
+    for bytes in [shorter, longer.as_slice()] {
+        assert!(rt; read_whole_raw(alloc, bytes)?.is_none());
+        assert!(rt; read_whole_frame(alloc, bytes)?.is_none());
+    }
+    Ok(())
+}
+
+#[test]
+fn a_whole_frame_has_no_byte_less_or_more(rt: HostRuntime) -> Result<(), Fail> {
+    let frames: [(&[u8], Kind); 5] = [
+        (&LOAD, Kind::Load),
+        (&PARCEL, Kind::Parcel),
+        (&REPLY, Kind::Reply),
+        (&LADEN, Kind::Reply),
+        (&FAULT, Kind::Fault),
+    ];
+    for (frame, kind) in frames {
+        read_whole(&rt, rt.alloc(), frame, kind)?;
     }
     Ok(())
 }
