@@ -5,7 +5,7 @@ use frames::{
     Frame, Kind, encode_fault, encode_load, encode_parcel, encode_reply, read_frame, read_raw,
     read_whole_frame, read_whole_raw,
 };
-use model::{Sent, State, Words};
+use model::{SavedState, Sent, State, Words};
 use node::{Load, NodeFault, Parcel, Part, Reply};
 use process::Done;
 use std::alloc::Global;
@@ -122,7 +122,7 @@ fn laden(alloc: Global) -> Result<Reply, Fail> {
     let done = Done {
         message: Message::new(1, 0, 0, 0, 0, 0)?,
         sent: Sent::from_slice(alloc, &[message()?])?,
-        after: words(alloc, 1),
+        after: SavedState::from_slice(alloc, &[1])?,
         number_after: 2,
     };
     let mut fossils = Vec::new(alloc);

@@ -37,7 +37,7 @@ fn part_ranged(part: &Part)
     ensures { IsInRange part.now → length (part_bytes part.now) ≤ 2 ^ 24 → IsPart part.now }
 {
     let _lp = part.lp;
-    ranged(part.words.words());
+    ranged(part.words.words().as_slice());
     messages_ranged(part.pending.as_slice());
 }
 
@@ -72,7 +72,7 @@ fn done_ranged(done: &Done)
 {
     done.message.ranged();
     messages_ranged(done.sent.as_slice());
-    ranged(done.after.words());
+    ranged(done.after.as_slice());
 }
 
 /// Handlings that are told.

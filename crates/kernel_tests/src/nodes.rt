@@ -109,7 +109,7 @@ fn is_fossil(fossil: &Done, wanted: &Fossil) -> bool {
     let (handled, sent, count, number) = *wanted;
     row(&fossil.message) == handled
         && are(fossil.sent.as_slice(), &[sent])
-        && fossil.after.words().as_slice() == [count].as_slice()
+        && fossil.after.as_slice() == [count].as_slice()
         && fossil.number_after == number
 }
 

@@ -8,12 +8,14 @@ ghost use Rattle.model.specs.Meaning.{Meaning, IsLawful, IsWords, stamped};
 mod laws;
 mod pending;
 mod runner;
+mod saved;
 mod sent;
 mod state;
 
 use eventkey::Message;
 pub use laws::{law_of_runs, law_of_sequential_simulation, law_of_worlds};
 pub use runner::{World, WorldParts};
+pub use saved::SavedState;
 pub use sent::Sent;
 use smallvec::SmallVec;
 pub use state::State;
@@ -94,12 +96,6 @@ pub fn stamp(lp: u32, time: u64, number: u64, outgoing: &Outgoing) -> Message
 }
 
 /// Answers nothing: the contract says that the words are numbers of 64 bits.
-pub fn ranged(words: &Words)
-    ensures { All (λ w. w < 2 ^ 64) words.now.items }
-{
-    each_ranged(words.as_slice());
-}
-
-fn each_ranged(words: &[u64])
+pub fn ranged(words: &[u64])
     ensures { All (λ w. w < 2 ^ 64) words.now }
 {}

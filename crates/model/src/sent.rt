@@ -1,6 +1,6 @@
 // What one handling sent.
 
-ghost use Rattle.std.specs.Prelude.{◌≡◌, ◌<◌, ◌≤◌, ◌+◌, ◌^◌, length, IfOk};
+ghost use Rattle.std.specs.Prelude.{◌≡◌, ◌<◌, ◌≤◌, ◌+◌, ◌^◌, length, IfOk, IsOk};
 ghost use Rattle.model.specs.Meaning.{stamp as stamped_all};
 
 use crate::{Outgoing, stamp};
@@ -33,7 +33,8 @@ impl std::marker::Model for Sent {
 impl Sent {
     /// Copies of these messages. It takes no memory for one.
     pub fn from_slice(alloc: Global, messages: &[Message]) -> Result<Sent, AllocError>
-        ensures { IfOk result (λ sent. sent ≡ messages.now) }
+        ensures ok { IfOk result (λ sent. sent ≡ messages.now) }
+        ensures succeeds { length messages.now ≤ 1 → IsOk result }
     {
         let messages = SmallVec::from_slice(alloc, messages)?;
         Ok(Sent { messages })

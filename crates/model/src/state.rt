@@ -1,4 +1,4 @@
-// A saved state of a process.
+// A state of a process.
 
 ghost use Rattle.std.specs.Prelude.{◌≡◌};
 
@@ -47,25 +47,4 @@ impl State {
         let State { words } = self;
         words
     }
-}
-
-impl PartialEq for State {
-    ghost use Rattle.std.specs.Prelude.{nat_eq};
-    ghost use Rattle.std.specs.Cmp.Lexicographic.{pointwise, lists_per};
-    ghost use Rattle.std.specs.Cmp.Lexicographic.{nat_list_eq_equiv};
-    ghost use Rattle.std.specs.Cmp.{partial_equiv_from_equiv};
-
-    ghost eq = { pointwise nat_eq };
-
-    ghost laws = { partial_equiv_from_equiv nat_list_eq_equiv };
-
-    fn eq(&self, other: &State) -> bool {
-        self.words.as_slice() == other.words.as_slice()
-    }
-}
-
-impl Eq for State {
-    ghost use Rattle.std.specs.Cmp.Lexicographic.{nat_list_eq_equiv};
-
-    ghost laws = { nat_list_eq_equiv };
 }

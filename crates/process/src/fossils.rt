@@ -6,7 +6,7 @@ ghost use Rattle.queues.specs.Record.{state_before};
 ghost use Rattle.process.specs.Process.{told};
 
 use crate::{Done, Handled};
-use model::{Model as Simulated, State, Words};
+use model::{Model as Simulated, SavedState, State};
 use queues::Record;
 use std::alloc::{AllocError, Global};
 
@@ -38,10 +38,11 @@ pub(crate) fn tell<M: Simulated>(
     } = first;
     // The state before a handling is the state after the one before it.
     while let Some(next) = history.release_first(model, floor) {
+        let after = SavedState::from_slice(alloc, next.before.words().as_slice())?;
         fossils.push(Done {
             message,
             sent,
-            after: next.before,
+            after,
             number_after: next.number_before,
         })?;
         message = next.message;
@@ -63,20 +64,14 @@ fn before_first(
     history: &Handled,
     state: &State,
     number: u64,
-) -> Result<(State, u64), AllocError>
+) -> Result<(SavedState, u64), AllocError>
     ensures { IfOk result (λ before. (before.0 ≡ state_before history.now state.now)
         × (before.1 ≡ number_before history.now number)) }
 {
-    match history.first() {
-        Some(next) => Ok((copy_of(alloc, &next.before)?, next.number_before)),
-        None => Ok((copy_of(alloc, state)?, number)),
-    }
-}
-
-/// The same state words.
-fn copy_of(alloc: Global, state: &State) -> Result<State, AllocError>
-    ensures { IfOk result (λ copy. copy ≡ state.now) }
-{
-    let words = Words::from_slice(alloc, state.words().as_slice())?;
-    Ok(State::from_words(words))
+    let (state, number) = match history.first() {
+        Some(next) => (&next.before, next.number_before),
+        None => (state, number),
+    };
+    let words = SavedState::from_slice(alloc, state.words().as_slice())?;
+    Ok((words, number))
 }

@@ -16,7 +16,7 @@ mod sends;
 
 use eventkey::Message;
 pub use logical::Process;
-use model::{Sent, State};
+use model::{SavedState, Sent};
 use queues::History;
 use std::alloc::{AllocError, AllocFailed};
 use thiserror::Error;
@@ -68,7 +68,7 @@ pub struct Done {
     /// The messages that the handling sent, in the order of sending.
     pub sent: Sent,
     /// The state words after it.
-    pub after: State,
+    pub after: SavedState,
     /// The send number after it.
     pub number_after: u64,
 }

@@ -295,7 +295,7 @@ impl Process {
         };
         // What the model's laws ask.
         message.ranged();
-        model::ranged(self.state.words());
+        model::ranged(self.state.words().as_slice());
         let (words, sends) = model.handle(self.alloc, self.lp, self.state.words(), &message);
         let count = sends.len() as u64;
         // Until all is done: want of memory may come halfway.

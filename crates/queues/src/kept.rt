@@ -5,13 +5,9 @@ ghost use Rattle.queues.specs.Record.{left_by};
 
 use crate::Record;
 use eventkey::Message;
-use model::{Model as Simulated, Sent, State, Words};
-use smallvec::SmallVec;
+use model::{Model as Simulated, SavedState, Sent, State, Words};
 use std::alloc::{AllocError, Global};
 use std::snapshot::Snapshot;
-
-/// State words that are kept: two lie in the value itself, more in an allocation of their length.
-type Saved = SmallVec<u64, 2>;
 
 /// A record with or without its state words, seen as the whole record and whether it has them.
 #[derive(Drop)]
@@ -19,7 +15,7 @@ pub(crate) struct Kept {
     message: Message,
     number_before: u64,
     sent: Sent,
-    words: Option<Saved>,
+    words: Option<SavedState>,
     // The state words before it, for clauses alone.
     before: Snapshot<State>,
 }
@@ -40,7 +36,7 @@ impl std::marker::Model for Kept {
       is_some k.words,
     ) };
 
-    ghost invariant = { λ k. IfSome k.words (λ words. words.items ≡ k.before.value) };
+    ghost invariant = { λ k. IfSome k.words (λ words. words ≡ k.before.value) };
 }
 
 impl Kept {
@@ -65,7 +61,7 @@ impl Kept {
     {
         let known = Snapshot::of(before);
         let words = if saved {
-            Some(Saved::from_slice(alloc, before.words().as_slice())?)
+            Some(SavedState::from_slice(alloc, before.words().as_slice())?)
         } else {
             None
         };

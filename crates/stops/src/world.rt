@@ -2,7 +2,7 @@
 
 use coordinator::FrontView;
 use eventkey::Message;
-use model::{State, Words, WorldParts};
+use model::{SavedState, Words, WorldParts};
 
 /// Whether the front is the world of the plain run.
 pub fn is_front(plain: &WorldParts, front: FrontView<'_>) -> bool {
@@ -14,12 +14,12 @@ pub fn is_front(plain: &WorldParts, front: FrontView<'_>) -> bool {
 }
 
 /// Whether these are the same words of the same processes.
-fn same_states(states: &[State], words: &[Words]) -> bool {
+fn same_states(states: &[SavedState], words: &[Words]) -> bool {
     if states.len() != words.len() {
         return false;
     }
     for (lp, state) in states.iter().enumerate() {
-        if state.words().as_slice() != words[lp].as_slice() {
+        if state.as_slice() != words[lp].as_slice() {
             return false;
         }
     }

@@ -3,7 +3,7 @@
 use commitlog::{Log, LogFault, format};
 use disk::{DiskFault, MemDisk, Plan, SectorDisk, Torn};
 use eventkey::{Listed, Message};
-use model::{State, Words, WorldFault};
+use model::{SavedState, WorldFault};
 use models::TokenRing;
 use recovery::{Front, RecoveryFault, encode_events, events_length, header, recover};
 use std::alloc::{AllocError, Global};
@@ -88,7 +88,7 @@ fn log_of_all(alloc: Global) -> Result<Log<MemDisk>, Fail> {
 fn front_at_the_end(alloc: Global) -> Result<Front, Fail> {
     let mut states = Vec::new(alloc);
     for count in [2, 2, 1] {
-        states.push(State::from_words(Words::from_slice(alloc, &[count])?))?;
+        states.push(SavedState::from_slice(alloc, &[count])?)?;
     }
     Ok(Front {
         g: END,

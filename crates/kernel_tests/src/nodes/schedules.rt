@@ -52,7 +52,7 @@ struct Schedule {
 fn is_as_plain(fossil: &Done, plain: &PlainFossil) -> bool {
     fossil.message == plain.message
         && fossil.sent.as_slice() == plain.sent.as_slice()
-        && fossil.after.words().as_slice() == [plain.after].as_slice()
+        && fossil.after.as_slice() == [plain.after].as_slice()
         && fossil.number_after == plain.number_after
 }
 

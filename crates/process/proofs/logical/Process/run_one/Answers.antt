@@ -39,7 +39,7 @@ state_is g c =
 sent_is : (g : given.Over) (c : goal.Joined-sends-6 g) → c.in_ok-sent.sent ≡ (handling_of (g.M.Model.meaning c.args.model.now) c.self.inside.lp c.in-Some.message (view_of c.self.inside).process).sent
 sent_is g c =
     c.in_ok-sent.ensures
-    ∙ (ap (stamp c.self.inside.lp c.time.result c.self.inside.number) (c.as_slice.ensures ∙ sends_is g c)
+    ∙ (ap (stamp c.self.inside.lp c.time.result c.self.inside.number) (c.as_slice-2.ensures ∙ sends_is g c)
     ∙ ap (λ (t : ℕ). stamp c.self.inside.lp t c.self.inside.number ((g.M.Model.meaning c.args.model.now).sends c.self.inside.lp c.self.inside.state c.in-Some.message)) c.time.ensures)
 
 record_is : (g : given.Over) (c : goal.Joined-sends-6 g) → record_of g c ≡ handling_of (g.M.Model.meaning c.args.model.now) c.self.inside.lp c.in-Some.message (view_of c.self.inside).process
@@ -59,7 +59,7 @@ invariant_of-self-2 g c = λ _.
     let v = view_of c.self.inside in
     let whole = c.self.invariant c.if-self.false in
     let here : v.lp < m.lps = subst (λ (w : ProcessView). w.lp < m.lps) (sym c.self.view_is) c.requires.lp in
-    let words : IsWords v.process.state = (whole.1.few, recursion_from_All (λ (w : ℕ). w < 2 ^ 64) v.process.state (subst (λ (ws : List ℕ). All (λ (w : ℕ). w < 2 ^ 64) ws) c.words.ensures c.ranged-2.ensures)) in
+    let words : IsWords v.process.state = (whole.1.few, recursion_from_All (λ (w : ℕ). w < 2 ^ 64) v.process.state (subst (λ (ws : List ℕ). All (λ (w : ℕ). w < 2 ^ 64) ws) (c.as_slice.ensures ∙ c.words.ensures) c.ranged-2.ensures)) in
     let fits = whole.1.number in
     let few = count_is g c in
     let room : v.process.number + length (m.sends v.lp v.process.state c.in-Some.message) ≤ 2 ^ 63 = omega arith in (
@@ -78,7 +78,7 @@ returns-clause-ran g c = λ _.
     let now : left_of g c ≡ record v { process = handle m v.lp c.in-Some.message v.process } =
     λ i. record { lp = v.lp; floor = v.floor; spent = spent i; process = is i } in
     let out : c.append.new.out.items ≡ c.args.out.now.items ++ map plus (handling_of m v.lp c.in-Some.message v.process).sent =
-    c.in_ok-append.ensures.out ∙ ap (λ (xs : List Message). c.args.out.now.items ++ map plus xs) (c.as_slice-2.ensures ∙ sent_is g c) in
+    c.in_ok-append.ensures.out ∙ ap (λ (xs : List Message). c.args.out.now.items ++ map plus xs) (c.as_slice-3.ensures ∙ sent_is g c) in
     let ran : HasRun m c.args.end v (left_of g c) c.args.out.now.items c.append.new.out.items =
     record { message = c.in-Some.message; next = first_is g c; process = now; out = out } in
     subst (λ (w : ProcessView). HasRun m c.args.end w (left_of g c) c.args.out.now.items c.append.new.out.items) c.self.view_is ran
