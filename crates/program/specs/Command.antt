@@ -1,6 +1,6 @@
 -- What the program prints (this project's profile).
 use Rattle.std.specs.Io.KnownBytes.{Appends}
-use Rattle.std.specs.Prelude.{◌≡◌, ◌≤◌, ℕ, List, ◌++◌, Option, length}
+use Rattle.std.specs.Prelude.{◌≡◌, ◌≤◌, ℕ, List, [], ◌++◌, Option, codes, decimal, length}
 use Rattle.commands.specs.Commands.{formatted_text, ran_text}
 use Rattle.commands.specs.declared.fault.CommandFault.{CommandFault}
 use Rattle.commands.specs.declared.fault.CommandFault.TheVariants as on_disk
@@ -21,6 +21,7 @@ use Rattle.program.specs.declared.fault.Fault.{Fault}
 use Rattle.program.specs.declared.fault.Fault.TheVariants.{BadModel, NoMemory}
 use Rattle.program.specs.declared.fault.Fault.TheVariants as fault
 use Rattle.models.specs.declared.any_model.AnyModel.{AnyModel}
+use Rattle.models.specs.declared.any_model.AnyModel.TheVariants.{JobShop, Phold, TokenRing}
 
 -- the log, then the world
 abbrev pub run_text : World → List ℕ
@@ -110,9 +111,32 @@ pub record IsWhole (text : List ℕ) : Type 0 where
   pub upto : IsUpto (any_meaning model) end end world
   pub is : text ≡ run_text world
 
--- there is something to say of a file where it is a model file
+-- a line `key: value`, and what follows it
+abbrev pub line_then : List ℕ → ℕ → List ℕ → List ℕ
+line_then key value rest = key ++ (codes ": " ++ (decimal value ++ (codes "\n" ++ rest)))
+
+-- the values that each model file has after the name of its model, and those of this model
+abbrev pub values_then : ℕ → ℕ → List ℕ → List ℕ
+values_then lps end rest = line_then (codes "lps") lps (line_then (codes "end") end rest)
+
+-- that a file is a model file, and its values
+abbrev pub checked_text : AnyModel → ℕ → List ℕ
+checked_text (TokenRing r) end =
+    codes "ok\nmodel: ring\n" ++ values_then r.ring.lps end
+    (line_then (codes "hold") r.ring.hold (line_then (codes "tokens") r.ring.tokens []))
+checked_text (Phold h) end =
+    codes "ok\nmodel: phold\n" ++ values_then h.hold.lps end
+    (line_then (codes "population") h.hold.population
+    (line_then (codes "spread") h.hold.spread (line_then (codes "seed") h.hold.seed [])))
+checked_text (JobShop s) end =
+    codes "ok\nmodel: jobshop\n" ++ values_then s.shop.lps end
+    (line_then (codes "jobs") s.shop.jobs
+    (line_then (codes "service") s.shop.service (line_then (codes "seed") s.shop.seed [])))
+
+-- the values of the model file that the source is
 abbrev pub IsChecked : List ℕ → List ℕ → Type 0
 IsChecked source text = (model : AnyModel) × (end : ℕ) × IsModelFile source model end
+    × (text ≡ checked_text model end)
 
 -- of the text of some file
 abbrev pub IsSomeChecked : List ℕ → Type 0

@@ -2,19 +2,19 @@
 
 ghost use Rattle.std.specs.IoError.{error_kind};
 ghost use Rattle.std.specs.Prelude.{◌≡◌, ◌≤◌, ◌^◌, ◌≢◌, ◌⊎◌, ℕ, List, Err, length};
-ghost use Rattle.std.specs.Prelude.{IfOk, IsOkUnless, MatchResult, OnErr, OnOk};
+ghost use Rattle.std.specs.Prelude.{IfOk, IsOkUnless, MatchResult, OnErr, OnOk, string_bytes};
 ghost use Rattle.std.specs.Str.{IsUtf8};
 ghost use Rattle.eventkey.specs.Writing.{Writes};
 ghost use Rattle.models.specs.declared.any_model.AnyModel.{AnyModel};
 ghost use Rattle.texts.specs.ModelFile.{IsModelFile};
-ghost use Rattle.program.specs.Command.{run_text, Begins, IsChecked, IsSomeChecked, IsWhole, Prints};
-ghost use Rattle.program.specs.Command.{PrintsBeginning, PrintsRun};
+ghost use Rattle.program.specs.Command.{checked_text, run_text, Begins, IsChecked, IsSomeChecked};
+ghost use Rattle.program.specs.Command.{IsWhole, Prints, PrintsBeginning, PrintsRun};
 ghost use Rattle.program.specs.declared.fault.Fault.TheVariants.{Output};
 
 use crate::fault::Fault;
 use commands::Simulated;
 use model::{Model as Modelled, World, WorldFault};
-use models::AnyModel;
+use models::{AnyModel, JobShop, Phold, TokenRing};
 use std::alloc::{AllocError, Global};
 use std::fs;
 use std::io::{Error as IoError, ErrorKind, Write};
@@ -121,20 +121,51 @@ fn write_whole<O: Write>(text: &str, out: &mut O) -> Result<(), Fault>
 }
 
 /// That a model file is one, and its values.
-fn values(alloc: Global, model: &AnyModel, end: u64) -> Result<String, AllocError> {
-    let (name, keys) = match model {
-        AnyModel::TokenRing(_) => ("ring", ["hold", "tokens"].as_slice()),
-        AnyModel::Phold(_) => ("phold", ["population", "spread", "seed"].as_slice()),
-        AnyModel::JobShop(_) => ("jobshop", ["jobs", "service", "seed"].as_slice()),
-    };
-    let lps = model.lps();
-    let numbers = model.identity(alloc);
-    let mut text = format!(in alloc; "ok\nmodel: {name}\nlps: {lps}\nend: {end}\n")?;
-    // The first word of an identity is the kind of the model.
-    for (key, number) in keys.iter().zip(numbers.as_slice().iter().skip(1)) {
-        text.push_str(format!(in alloc; "{key}: {number}\n")?.as_str())?;
+fn values(alloc: Global, model: &AnyModel, end: u64) -> Result<String, AllocError>
+    ensures { IfOk result (λ text. string_bytes text ≡ checked_text model.now end) }
+{
+    match model {
+        AnyModel::TokenRing(ring) => ring_values(alloc, ring, end),
+        AnyModel::Phold(hold) => hold_values(alloc, hold, end),
+        AnyModel::JobShop(shop) => shop_values(alloc, shop, end),
     }
-    Ok(text)
+}
+
+/// The values of a token ring. The first word of an identity is the kind of the model.
+fn ring_values(alloc: Global, ring: &TokenRing, end: u64) -> Result<String, AllocError>
+    ensures { IfOk result (λ text. string_bytes text ≡ checked_text (AnyModel.TokenRing ring.now) end) }
+{
+    let lps = ring.lps();
+    let words = ring.identity(alloc);
+    let words = words.as_slice();
+    let (hold, tokens) = (words[1], words[2]);
+    format!(in alloc; "ok\nmodel: ring\nlps: {lps}\nend: {end}\nhold: {hold}\ntokens: {tokens}\n")
+}
+
+/// The values of PHOLD.
+fn hold_values(alloc: Global, hold: &Phold, end: u64) -> Result<String, AllocError>
+    ensures { IfOk result (λ text. string_bytes text ≡ checked_text (AnyModel.Phold hold.now) end) }
+{
+    let lps = hold.lps();
+    let words = hold.identity(alloc);
+    let words = words.as_slice();
+    let (population, spread, seed) = (words[1], words[2], words[3]);
+    format!(in alloc;
+        "ok\nmodel: phold\nlps: {lps}\nend: {end}\npopulation: {population}\nspread: {spread}\nseed: {seed}\n"
+    )
+}
+
+/// The values of a job shop.
+fn shop_values(alloc: Global, shop: &JobShop, end: u64) -> Result<String, AllocError>
+    ensures { IfOk result (λ text. string_bytes text ≡ checked_text (AnyModel.JobShop shop.now) end) }
+{
+    let lps = shop.lps();
+    let words = shop.identity(alloc);
+    let words = words.as_slice();
+    let (jobs, service, seed) = (words[1], words[2], words[3]);
+    format!(in alloc;
+        "ok\nmodel: jobshop\nlps: {lps}\nend: {end}\njobs: {jobs}\nservice: {service}\nseed: {seed}\n"
+    )
 }
 
 /// The model that a file describes, and its end.
