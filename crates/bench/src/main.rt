@@ -73,7 +73,10 @@ fn main(rt: HostRuntime) -> Result<(), Failure> {
     };
     let bytes = fs::read(&rt, path).map_err(|_| Failure::Usage)?;
     let text = str::from_utf8(bytes.as_slice()).map_err(|_| Failure::Usage)?;
-    let (model, end) = read_model(rt.alloc(), text).map_err(Failure::Model)?;
+    let (model, end) = match read_model::<AnyModel>(rt.alloc(), text) {
+        Ok(file) => file,
+        Err(fault) => return Err(Failure::Model(fault)),
+    };
     let mut world = simulated(rt.alloc(), &model, end).map_err(Failure::World)?;
     let digest = digest_of(&mut world);
     let last = world.log().last().map_or(0, |m| m.to());

@@ -1,15 +1,21 @@
 -- What the commands on a disk print (this project's profile).
 use Rattle.std.specs.Io.KnownBytes.{Appends}
-use Rattle.std.specs.Prelude.{◌≡◌, ◌≤◌, ◌⊎◌, ℕ, List, ◌++◌, Option, codes, decimal, flat_map, get_or, length}
+use Rattle.std.specs.Prelude.{◌≡◌, ◌≤◌, ◌⊎◌, ℕ, List, [], ◌++◌, Option, codes, decimal, flat_map, get_or, length, slice_index_or}
 use Rattle.commands.specs.declared.fault.CommandFault.{CommandFault}
 use Rattle.commands.specs.declared.fault.CommandFault.TheVariants.{Log, NoMemory, Output, Recovery, Rounds, Session}
 use Rattle.commitlog.specs.Faults.{FormatIsRefused, OpenIsRefused}
-use Rattle.commitlog.specs.Records.{IsBlank}
+use Rattle.commitlog.specs.Records.{IsBlank, IsFormatted}
+use Rattle.commitlog.specs.declared.fault.LogFault.TheVariants as log
+use Rattle.coordinator.specs.Opening.{IsAtFault}
+use Rattle.disk.specs.declared.disk.DiskFault.TheVariants.{Device}
 use Rattle.driver.specs.declared.rounds.RunFault.{RunFault}
 use Rattle.driver.specs.declared.rounds.RunFault.TheVariants as run
 use Rattle.model.specs.Meaning.{Meaning}
 use Rattle.model.specs.World.{IsUpto, World, below}
+use Rattle.recovery.specs.Header.{header_bytes, header_of}
 use Rattle.recovery.specs.Stands.{Stands}
+use Rattle.recovery.specs.declared.RecoveryFault.{RecoveryFault}
+use Rattle.recovery.specs.declared.RecoveryFault.TheVariants as recovery
 use Rattle.eventkey.specs.Writing.{TakesBeginning}
 
 -- 1. Texts
@@ -80,13 +86,24 @@ MakingIsRefused (Log fault) image failed = FormatIsRefused fault image failed
 MakingIsRefused Output image failed = Unit {0}
 MakingIsRefused fault image failed = ⊥
 
+-- Why no world is recovered from the log of an image: want of memory, a device that failed, a header
+-- of another model or end, or the first record that is at fault.
+abbrev pub IsNotRecovered : Meaning → ℕ → List (List ℕ) → RecoveryFault → Type 0
+IsNotRecovered m end image recovery.NoMemory = Unit {0}
+IsNotRecovered m end image (recovery.Log log.NoMemory) = Unit {0}
+IsNotRecovered m end image (recovery.Log (log.Disk Device)) = Unit {0}
+IsNotRecovered m end image (recovery.Log fault) = ⊥
+IsNotRecovered m end image recovery.OtherModel =
+    IsFormatted image × (slice_index_or image 1 [] ≡ header_bytes (header_of m end) → ⊥)
+IsNotRecovered m end image fault = IsAtFault m end image fault
+
 -- Why what is committed is not written. Whether the device has failed is not told any more, since
 -- the disk is let go of.
-abbrev pub LookingIsRefused : CommandFault → List (List ℕ) → Type 0
-LookingIsRefused (Log fault) image = OpenIsRefused fault image (Unit {0})
-LookingIsRefused (Recovery fault) image = Unit {0}
-LookingIsRefused Output image = Unit {0}
-LookingIsRefused fault image = ⊥
+abbrev pub LookingIsRefused : Meaning → ℕ → CommandFault → List (List ℕ) → Type 0
+LookingIsRefused m end (Log fault) image = OpenIsRefused fault image (Unit {0})
+LookingIsRefused m end (Recovery fault) image = IsNotRecovered m end image fault
+LookingIsRefused m end Output image = Unit {0}
+LookingIsRefused m end fault image = ⊥
 
 -- a command's own name for why a run stopped
 abbrev pub of_run : RunFault → CommandFault

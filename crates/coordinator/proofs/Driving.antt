@@ -1,20 +1,22 @@
 -- Lists of steps, one after another.
-use Rattle.std.proofs.Common.{Err, List, Result, [], ◌∷◌, ◌++◌, ◌+◌, ◌<◌, Some, ap, arith, false, get_or, length, map, refl, suc, subst, sym, take, true, ℕ, ◌≡◌, ◌∙◌}
+use Rattle.std.proofs.Common.{Err, IfOk, List, Ok, OnOk, Result, inl, inr, [], ◌∷◌, ◌++◌, ◌+◌, ◌<◌, Some, ap, arith, false, get_or, length, map, refl, suc, subst, sym, take, true, ℕ, ◌≡◌, ◌∙◌}
 use Rattle.std.proofs.Math.Seq.{take-suc}
+use Rattle.std.proofs.lemmas.Bool.{cases_Bool}
 use Rattle.std.proofs.lemmas.List.{map-append}
 use Rattle.disk.specs.Disk.{DiskState}
 use Rattle.disk.specs.Laws.{followed, weaker}
 use Rattle.model.specs.Meaning.{Meaning}
-use Rattle.protocol.proofs.Runs.{moves_made_join}
+use Rattle.protocol.proofs.Runs.{moves_are_sound, moves_made_are_sound, moves_made_join}
 use Rattle.protocol.specs.Moves.{Move, moves_made}
+use Rattle.protocol.specs.Sound.{GoesOnFrom}
 use Rattle.protocol.specs.declared.Answer.{Answer}
 use Rattle.recovery.proofs.Images.{stands_at_least_earlier}
 use Rattle.recovery.specs.Stands.{StandsAtLeast}
 use Rattle.wire.specs.Port.{PortState}
 use Rattle.coordinator.proofs.Committing.{stays}
 use Rattle.coordinator.specs.Crashes.{IsWritten, KeepsRecovery, Recovers}
-use Rattle.coordinator.specs.Drives.{Goes}
-use Rattle.coordinator.specs.Session.{IsTold, Session, picture_of, running}
+use Rattle.coordinator.specs.Drives.{AreSteps, Goes, IsStep, StepsAreMade}
+use Rattle.coordinator.specs.Session.{IsTold, Running, Session, picture_of, running}
 use Rattle.coordinator.specs.Steps.{HasCause, IsMade, IsStepped, first_refusal, leaves_all, move_of}
 use Rattle.coordinator.specs.declared.SessionFault.{SessionFault}
 use Rattle.coordinator.specs.declared.Step.{Step}
@@ -89,6 +91,37 @@ module _ {M P D : Type 0} (meaning : M → Meaning) (state : P → PortState) (d
     crashes = crashes;
   }
 
+  -- what it says
+  pub one_done : (step : Step) (answer : Answer) (old new : Session M P D) → (new.model ≡ old.model) × (new.end ≡ old.end)
+      → (IsTold (running meaning state old) → IsMade (move_of step) (running meaning state old) (running meaning state new) answer)
+      → ((f : SessionFault) → old.spent ≡ false → first_refusal old.end (move_of step) (picture_of (running meaning state old)) ≡ Some f → ◌≡◌ {A = Result Answer SessionFault} (Ok answer) (Err f))
+      → new.spent ≡ false → old.spent ≡ false → IsStepped (move_of step) (running meaning state old) (running meaning state new) new.spent (Ok answer)
+  one_done step answer old new same made refused usable unspent = record {
+    made = made;
+    refused = λ f is. refused f unspent is;
+    cause = tt;
+    unchanged = tt;
+    spends = tt;
+    usable = usable;
+    meaning_is = ap meaning same.0;
+    end_is = same.1;
+  }
+
+  -- one step more
+  pub steps-more : (xs : List Step) (x : Step) (answer : Answer) (old mid new : Session M P D) → AreSteps meaning state disk xs old mid → IsStep meaning state disk x mid new (Ok answer)
+      → AreSteps meaning state disk (xs ++ x ∷ []) old new
+  steps-more [] x answer old mid new first is = (new, answer, subst (λ (s : Session M P D). IsStep meaning state disk x s new (Ok answer)) first is, refl)
+  steps-more (y ∷ ys) x answer old mid new first is = (first.0, first.1, first.2, steps-more ys x answer first.0 mid new first.3 is)
+
+  -- a step that is refused and leaves the session usable leaves what is written
+  pub still-written : (ks : List Move) (fault : SessionFault) (old mid new : Session M P D) → Goes meaning state disk ks old mid → (leaves_all fault ≡ true → new ≡ mid)
+      → (leaves_all fault ≡ false → (new.front ≡ mid.front) × (new.spent ≡ true)) → IsTold (running meaning state old) → IsWritten (meaning old.model) old.end old.front old.log → new.spent ≡ false
+      → IsWritten (meaning old.model) old.end new.front new.log
+  still-written ks fault old mid new first unchanged spends told is unspent = elim (cases_Bool (leaves_all fault)) [
+    | inl leaves ↦ subst (λ (s : Session M P D). IsWritten (meaning old.model) old.end s.front s.log) (sym (unchanged leaves)) (first.written told is)
+    | inr ends ↦ (let spent = (spends ends).1 in absurd (cc))
+  ]
+
   -- a step that is not
   pub one_refused : (k : Move) (fault : SessionFault) (old new : Session M P D) → old.spent ≡ false → (new.model ≡ old.model) × (new.end ≡ old.end)
       → ((f : SessionFault) → first_refusal old.end k (picture_of (running meaning state old)) ≡ Some f → ◌≡◌ {A = Result Answer SessionFault} (Err fault) (Err f))
@@ -104,6 +137,20 @@ module _ {M P D : Type 0} (meaning : M → Meaning) (state : P → PortState) (d
     meaning_is = ap meaning same.0;
     end_is = same.1;
   }
+
+-- the later picture goes on from the earlier one
+pub goes-on : (k : Move) (old new : Running) (result : Result Answer SessionFault) → (IsTold old → IfOk result (λ answer. IsMade k old new answer)) → IsTold old
+    → OnOk result (GoesOnFrom old.end (picture_of old) (picture_of new))
+goes-on k old new (Ok answer) made told = (moves_are_sound old.meaning old.end k (picture_of old) (picture_of new) told.system (made told).move_is).1
+goes-on k old new (Err fault) made told = tt
+
+pub all-go-on : (ks : List Move) (old new : Running) → (IsTold old → StepsAreMade ks old new) → IsTold old → GoesOnFrom old.end (picture_of old) (picture_of new)
+all-go-on ks old new made told = (moves_made_are_sound old.meaning old.end ks (picture_of old) (picture_of new) told.system (made told).moves_are).goes_on
+
+pub steps-taken : (steps : List Step) (k : ℕ) (x : Step) → k < length steps → x ≡ get_or steps k x → take (k + 1) steps ≡ take k steps ++ x ∷ []
+steps-taken steps k x there is =
+    let e : k + 1 ≡ suc k = omega arith in
+    ap (λ (n : ℕ). take n steps) e ∙ take-suc steps k x there ∙ ap (λ (s : Step). take k steps ++ s ∷ []) (sym is)
 
 pub moves-taken : (steps : List Step) (k : ℕ) (x : Step) → k < length steps → x ≡ get_or steps k x → map move_of (take (k + 1) steps) ≡ map move_of (take k steps) ++ move_of x ∷ []
 moves-taken steps k x there is =

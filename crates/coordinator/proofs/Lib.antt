@@ -6,6 +6,7 @@ mod Posting
 mod Taking
 pub mod Driving
 mod Refusals
+mod Logging
 mod Loading
 mod Begun
 mod Histories

@@ -1,30 +1,36 @@
 -- A whole session: what is opened, what is driven, what is left.
-use Rattle.std.proofs.Common.{Bool, List, None, Some, ap, arith, length, map, take, inl, inr, refl, subst, sym, ℕ, ◌≡◌, ◌∙◌}
+use Rattle.std.proofs.Common.{Bool, List, None, Some, ap, arith, length, map, take, inl, inr, refl, subst, sym, ℕ, ◌≡◌, ◌≤◌, ◌∙◌}
 use Rattle.std.proofs.lemmas.Bool.{cases_Bool}
 use Rattle.std.proofs.lemmas.List.{take_all}
 use Rattle.disk.specs.Disk.{DiskState}
 use Rattle.model.specs.Meaning.{Meaning}
 use Rattle.model.specs.World.{IsUpto, World}
-use Rattle.protocol.proofs.Runs.{moves_made_are_sound}
+use Rattle.protocol.proofs.Runs.{fronts_open, moves_made_are_sound}
 use Rattle.protocol.specs.Moves.{Move, moves_made}
 use Rattle.protocol.specs.Picture.{Picture, opened}
 use Rattle.protocol.specs.Sound.{IsSystem}
 use Rattle.recovery.specs.Replay.{IsReplayedTo}
-use Rattle.coordinator.proofs.Driving.{followed_by}
+use Rattle.coordinator.proofs.Driving.{followed_by, same_fault}
 use Rattle.commitlog.specs.Log.{Opened}
 use Rattle.coordinator.specs.Crashes.{IsWritten, KeepsRecovery, Recovers}
 use Rattle.coordinator.specs.Drives.{IsStopped, StepsAreMade}
 use Rattle.coordinator.specs.Headline.{IsResumed}
-use Rattle.coordinator.specs.Session.{IsTold, Running, picture_of}
+use Rattle.coordinator.specs.Session.{IsTold, Running, Session, picture_of}
 use Rattle.coordinator.specs.Steps.{leaves_all, move_of}
 use Rattle.coordinator.specs.declared.DriveFault.{DriveFault}
+use Rattle.coordinator.specs.declared.SessionFault.TheVariants.{Spent}
+use Rattle.wire.specs.Port.{PortState}
 use Rattle.coordinator.specs.declared.Step.{Step}
 
 -- a session that was stopped has the front that it had after the steps that were made
-pub stopped-front : (steps : List Step) (old new : Running) (spent : Bool) (stop : DriveFault) (stopped : IsStopped steps old new spent stop) → new.front ≡ stopped.made.front
-stopped-front steps old new spent stop stopped = elim (cases_Bool (leaves_all stop.fault)) [
-  | inl leaves ↦ ap (λ (r : Running). r.front) (stopped.refused.unchanged leaves).0
-  | inr spends ↦ (stopped.refused.spends spends).0
+pub stopped-front : {M P D : Type 0} (meaning : M → Meaning) (state : P → PortState) (disk : D → DiskState) (steps : List Step) (old new : Session M P D) (stop : DriveFault) (stopped : IsStopped meaning state disk steps old new stop)
+    → new.front ≡ stopped.made.front
+stopped-front meaning state disk steps old new stop stopped = elim (cases_Bool (leaves_all stop.fault)) [
+  | inl leaves ↦ ap (λ s. s.front) (stopped.refused.unchanged leaves)
+  | inr spends ↦ elim (cases_Bool stopped.made.spent) [
+    | inl spent ↦ (let e = same_fault stop.fault Spent (stopped.refused.spent.1 spent) in let f = ap leaves_all e in absurd (cc))
+    | inr unspent ↦ ((stopped.refused.stepped unspent).spends spends).0
+  ]
 ]
 
 -- what is said of a disk by a session's own model and end
@@ -55,6 +61,9 @@ module _ (m : Meaning) (end nodes : ℕ) (v first : World) (disk mid : DiskState
   upto : (made : Running) → StepsAreMade moves begun made → IsUpto m end made.front.time made.front
   upto made steps = (moves_made_are_sound m end moves (opened m.lps nodes first) (picture_of made) system (moved made steps)).system.sound.front
 
+  soon : (made : Running) → StepsAreMade moves begun made → made.front.time ≤ end
+  soon made steps = (fronts_open m end 1 (picture_of made) (moves_made_are_sound m end moves (opened m.lps nodes first) (picture_of made) system (moved made steps)).system (omega arith)).soon
+
   pub resumed : (made : Running) (last : World) (new : DiskState) → StepsAreMade moves begun made → last ≡ made.front → (Recovers m end first.time mid → KeepsRecovery m end first.time last.time mid new)
       → IsResumed m end nodes moves v disk new (Some last.time)
   resumed made last new steps last_is driven = record {
@@ -63,7 +72,7 @@ module _ (m : Meaning) (end nodes : ℕ) (v first : World) (disk mid : DiskState
     driven = λ w is. let same : last ≡ w = cc in record { first = first; replayed = replayed; last = picture_of made; moved = moved made steps; front_is = sym same ∙ last_is };
     kept = record {
       crashes = λ recovers. let keeps = opened_kept recovers in followed_by m end v.time first.time last.time disk mid new keeps (driven keeps.now_on);
-      front = λ w is. let same : made.front ≡ w = (let e : last ≡ w = cc in sym last_is ∙ e) in subst (λ (x : World). IsUpto m end x.time x) same (upto made steps);
+      front = λ w is. let same : made.front ≡ w = (let e : last ≡ w = cc in sym last_is ∙ e) in subst (λ (x : World). IsUpto m end x.time x × (x.time ≤ end)) same (upto made steps, soon made steps);
     };
   }
 

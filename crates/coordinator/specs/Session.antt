@@ -3,7 +3,7 @@ use Rattle.std.specs.List.{AllByRecursion as Every}
 use Rattle.std.specs.Prelude.{Bool, List, None, Option, Some, [], false, get_or, length, map, true, ℕ, ◌<◌, ◌^◌, ◌≡◌, ◌≤◌}
 use Rattle.commitlog.specs.Log.{Opened}
 use Rattle.eventkey.specs.Bag.{IsAscending}
-use Rattle.gvt.specs.Ledger.{Ledger}
+use Rattle.gvt.specs.Ledger.{Ledger, nodes_of}
 use Rattle.model.specs.Meaning.{Meaning}
 use Rattle.model.specs.World.{World}
 use Rattle.node.specs.declared.Parcel.{Parcel}
@@ -25,6 +25,11 @@ pub record Session (M P D : Type 0) : Type 0 where
   pub ports : List P
   pub log : Opened D
   pub spent : Bool
+
+-- it has as many nodes and ports as before
+pub record HasSameNodes {M P D : Type 0} (old new : Session M P D) : Type 0 where
+  pub nodes : nodes_of new.ledger ≡ nodes_of old.ledger
+  pub ports : length new.ports ≡ length old.ports
 
 -- the same but for the log, as its model and its ports tell of themselves
 pub record Running : Type 0 where

@@ -1,16 +1,22 @@
--- What a step does, what it answers, and why it is refused.
-use Rattle.std.specs.Prelude.{Bool, IfErr, IfOk, None, OnOk, Option, Result, Some, Err, false, if◌then◌else◌, length, nat_lt, not, true, ℕ, ◌&&◌, ◌*◌, ◌+◌, ◌^◌, ◌≡◌, ◌⊎◌}
+-- What a step does, what it answers, what it appends, and why it is refused.
+use Rattle.std.specs.Prelude.{Bool, IfErr, IfOk, IsErrOf, List, None, OnOk, Option, Result, Some, Err, [], false, if◌then◌else◌, length, nat_lt, not, true, ℕ, ◌&&◌, ◌*◌, ◌++◌, ◌+◌, ◌<◌, ◌^◌, ◌∷◌, ◌≡◌, ◌≤◌, ◌⊎◌}
+use Rattle.commitlog.specs.Records.{HasRoom, entry_with}
+use Rattle.commitlog.specs.declared.records.Entry.{Entry}
+use Rattle.disk.specs.Disk.{DiskState}
 use Rattle.gvt.specs.Ledger.{least_floor}
+use Rattle.model.specs.Meaning.{Meaning}
 use Rattle.gvt.specs.Picks.{are_distinct, can_pick}
 use Rattle.node.specs.declared.NodeFault.TheVariants as node
-use Rattle.protocol.specs.Moves.{Move, answer_of, is_busy, move, refusal, told_before}
+use Rattle.protocol.specs.Moves.{Move, answer_of, is_busy, merged, move, refusal, told_before}
 use Rattle.protocol.specs.Moves.Move.{Checkpoint as CheckpointMove, Commit as CommitMove, Post as PostMove, Take as TakeMove}
 use Rattle.protocol.specs.Moves.Refusal.{NumberLimit as NumberLimitRefusal}
 use Rattle.protocol.specs.Picture.{Picture, nodes_of}
-use Rattle.wire.specs.Port.{IsForWant}
+use Rattle.protocol.specs.Sound.{GoesOnFrom}
+use Rattle.recovery.specs.Bodies.{events_body}
+use Rattle.wire.specs.Port.{IsForWant, PortState}
 use Rattle.wire.specs.declared.port.PortFault.{PortFault}
 use Rattle.wire.specs.declared.port.PortFault.TheVariants.{Peer}
-use Rattle.coordinator.specs.Session.{IsTold, Running, picture_of}
+use Rattle.coordinator.specs.Session.{IsTold, Running, Session, picture_of, running}
 use Rattle.protocol.specs.declared.Answer.{Answer}
 use Rattle.coordinator.specs.declared.SessionFault.{SessionFault}
 use Rattle.coordinator.specs.declared.SessionFault.TheVariants.{Busy, Disk, Full, Idle, NoMemory, NoSuchNode, NoSuchPick, NumberLimit, Port, Recovery, Spent, TooLong}
@@ -29,6 +35,11 @@ next_time end p = least_floor end p.floors
 
 abbrev pub next_events : ℕ → Picture → ℕ
 next_events end p = length (told_before (next_time end p) p.gathered)
+
+-- and the record that it would append: that floor, and those events in the order of the simulation
+abbrev pub next_record : ℕ → Picture → Entry
+next_record end p =
+    let c = next_time end p in entry_with 1 (events_body c (merged c p.gathered))
 
 -- The step is the move of the picture, from told to told, and answers its numbers.
 pub record IsMade (k : Move) (old new : Running) (answer : Answer) : Type 0 where
@@ -95,3 +106,27 @@ pub record IsStepped (k : Move) (old new : Running) (spent : Bool)
   pub usable : OnOk result (spent ≡ false)
   pub meaning_is : new.meaning ≡ old.meaning
   pub end_is : new.end ≡ old.end
+
+module _ {M P D : Type 0} (meaning : M → Meaning) (state : P → PortState) (disk : D → DiskState) where
+  -- the disk of a session has room for the record that a commit would append
+  abbrev pub HasRoomToCommit : Session M P D → Type 0
+  HasRoomToCommit s =
+      let events = next_events s.end (picture_of (running meaning state s)) in
+      HasRoom s.log.records (12 + 40 * events) (length (disk s.log.disk).reads)
+
+  -- What a step does to the log and its disk: a commit that gets on appends exactly one record,
+  -- where there was room, and no other step touches the log.
+  pub record IsLogged (k : Move) (old new : Session M P D)
+      (result : Result Answer SessionFault) : Type 0 where
+    pub stays : (k ≡ CommitMove → ⊥) → new.log ≡ old.log
+    pub appended : k ≡ CommitMove →
+        old.front.time < next_time old.end (picture_of (running meaning state old)) →
+        OnOk result ((new.log.records ≡
+        old.log.records ++ next_record old.end (picture_of (running meaning state old)) ∷ [])
+        × HasRoomToCommit old)
+    pub full : IsErrOf result Full → HasRoomToCommit old → ⊥
+    pub failed : IsErrOf result Disk → HasRoomToCommit old
+        × ((disk old.log.disk).failures < (disk new.log.disk).failures)
+    pub no_failure : (disk old.log.disk).failures < (disk new.log.disk).failures →
+        IsErrOf result Disk
+    pub failures : (disk old.log.disk).failures ≤ (disk new.log.disk).failures

@@ -25,6 +25,7 @@ pub(crate) fn post<P: Port>(
     requires there { node < length ports.old.items }
     requires idle { (port_at (map P.state ports.old.items) node).stage ≡ Idle }
     requires range { parcel.floor ≤ 2 ^ 40 }
+    ensures many { length ports.new.items ≡ length ports.old.items }
     ensures others { map P.state ports.new.items ≡ set (map P.state ports.old.items) node
         (port_at (map P.state ports.new.items) node) }
     ensures posted { OnOk result ((port_at (map P.state ports.new.items) node).stage
@@ -46,6 +47,7 @@ pub(crate) fn take<P: Port>(ports: &mut Vec<P>, node: usize) -> Result<Reply, Po
     requires there { node < length ports.old.items }
     requires posted { (parcel : Parcel) × ((port_at (map P.state ports.old.items) node).stage
         ≡ Posted parcel) }
+    ensures many { length ports.new.items ≡ length ports.old.items }
     ensures others { map P.state ports.new.items ≡ set (map P.state ports.old.items) node
         (port_at (map P.state ports.new.items) node) }
     ensures idle { OnOk result ((port_at (map P.state ports.new.items) node).stage ≡ Idle) }

@@ -22,13 +22,13 @@ use Rattle.clap.specs.declared.parser.matches.ArgMatches.{ArgMatches}
 use Rattle.clap.specs.declared.parser.matches.ArgMatches.TheViews.{out-ArgMatches, out-SubCommand}
 use Rattle.lines.specs.Line.{AddsArgument, AddsCommand, IsApp, is_named, number_of, program}
 
-pub program_is_simple : is_simple program ≡ true
+pub program_is_simple : (called : Text) → is_simple (program called) ≡ true
 unfolding clap_on_literals
-program_is_simple = refl
+program_is_simple called = refl
 
-pub program_is_free : is_simple_and_free program ≡ true
+pub program_is_free : (called : Text) → is_simple_and_free (program called) ≡ true
 unfolding clap_on_literals
-program_is_free = refl
+program_is_free called = refl
 
 module _ {X N R : Type 0} (f : X → N) (g : X → R) where
   -- a name and rows that are found apart are found together
@@ -58,9 +58,9 @@ found_among test f (x ∷ xs) y h = elim (cases_Bool (test x)) [
 ]
 
 -- there are no other commands
-entered_named : (stop : Option (Text × List Text)) (found : Text × List Row) → entered (built program) stop ≡ Some found → is_named found.0
-entered_named None found h = cc
-entered_named (Some p) found h = elim (found_among (λ s. answers_to p.0 (label_of s)) (λ s. rows_at s p.1) (built program).subs found h) [
+entered_named : (called : Text) (stop : Option (Text × List Text)) (found : Text × List Row) → entered (built (program called)) stop ≡ Some found → is_named found.0
+entered_named called None found h = cc
+entered_named called (Some p) found h = elim (found_among (λ s. answers_to p.0 (label_of s)) (λ s. rows_at s p.1) (built (program called)).subs found h) [
   | inl e ↦ inl (sym (ap (λ r. r.0) e))
   | inr (inl e) ↦ inr (inl (sym (ap (λ r. r.0) e)))
   | inr (inr (inl e)) ↦ inr (inr (inl (sym (ap (λ r. r.0) e))))
@@ -70,8 +70,8 @@ entered_named (Some p) found h = elim (found_among (λ s. answers_to p.0 (label_
   | inr (inr (inr (inr (inr (inr e))))) ↦ absurd e
 ]
 
-pub only_named : (words : List Text) (name : Text) (rows : List Row) → subcommand_of program words ≡ Some (name, rows) → is_named name
-only_named words name rows h = entered_named (stop_after (built program).top.rules (names_of (built program)) (argument_words program words)) (name, rows) h
+pub only_named : (called : Text) (words : List Text) (name : Text) (rows : List Row) → subcommand_of (program called) words ≡ Some (name, rows) → is_named name
+only_named called words name rows h = entered_named called (stop_after (built (program called)).top.rules (names_of (built (program called))) (argument_words (program called) words)) (name, rows) h
 
 pub now_or : (o : Option (Bor (List ℕ))) (d : Bor (List ℕ)) → (unwrap_or o d).now ≡ unwrap_or (option_map (λ s. s.now) o) d.now
 now_or None d = refl

@@ -1,4 +1,4 @@
--- The command line of `timewarp` (this project's profile), in the words of clap: its commands, and
+-- The command line of a program (this project's profile), in the words of clap: its commands, and
 -- what a line says.
 use Rattle.std.specs.Prelude.{◌≡◌, ◌⊎◌, ◌≤◌, ℕ, List, [], ◌∷◌, Option, Some, None, Result, IsOkAnd}
 use Rattle.std.specs.Prelude.{true, false, codes, unwrap_or, if◌then◌else◌, ⊤}
@@ -51,18 +51,19 @@ run_command = with_rule (with_rule
     (number_option (codes "rounds") 1 4294967295 (codes "1000000"))
 
 -- a command has to be named; there is no command `help`
-abbrev pub without_commands : App
-without_commands = record (new_app (codes "timewarp")) {
-  top = record (new_app (codes "timewarp")).top {
+abbrev pub without_commands : Text → App
+without_commands called = record (new_app called) {
+  top = record (new_app called).top {
     subcommand_required = true;
     arg_required_else_help = true;
     disable_help_subcommand = true;
   };
 }
 
-abbrev pub program : App
-program = with_subcommand (with_subcommand (with_subcommand (with_subcommand
-    (with_subcommand (with_subcommand without_commands new_command.top) run_command.top)
+-- the program of this name
+abbrev pub program : Text → App
+program called = with_subcommand (with_subcommand (with_subcommand (with_subcommand
+    (with_subcommand (with_subcommand (without_commands called) new_command.top) run_command.top)
     (on_disk (codes "log")).top) (on_disk (codes "show")).top) (on_model (codes "seq")).top)
     (on_model (codes "check")).top
 
@@ -120,11 +121,12 @@ SaysRows (Seq model) name rows =
 SaysRows (Check model) name rows =
     (name ≡ codes "check") × (model.now ≡ text_in (codes "MODEL") rows)
 
--- the line has the subcommand that clap finds in the words, and its values
-pub record Says (words : List Text) (line : Line) : Type 0 where
+-- the line has the subcommand that clap finds in the words of the program of this name, and its
+-- values
+pub record Says (called : Text) (words : List Text) (line : Line) : Type 0 where
   pub name : Text
   pub rows : List Row
-  pub found : subcommand_of program words ≡ Some (name, rows)
+  pub found : subcommand_of (program called) words ≡ Some (name, rows)
   pub values : SaysRows line name rows
 
 -- the numbers of a line lie in their ranges

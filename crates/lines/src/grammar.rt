@@ -11,45 +11,63 @@ use clap::builder::ValueParser;
 use clap::{Arg, Command};
 use std::alloc::{AllocError, Global};
 
+/// What the help of a program says that is its own.
+#[derive(Clone, Copy)]
+pub struct Texts<'a> {
+    /// The program's name.
+    pub name: &'a str,
+    /// What follows its list of commands, as `program_help` writes it.
+    pub help: &'a str,
+    /// What follows the arguments of `seq`, as `seq_help` writes it.
+    pub seq_help: &'a str,
+}
+
 /// All commands.
-pub fn program<'a>(alloc: Global) -> Result<Command<'a>, AllocError>
-    ensures is { IfOk result (IsApp program) }
+pub fn program<'a>(alloc: Global, texts: Texts<'a>) -> Result<Command<'a>, AllocError>
+    ensures is { IfOk result (IsApp (program texts.entry.name.now)) }
     ensures required { IfOk result (λ c. (fields_of c).subcommand_required ≡ true) }
 {
-    let program = with_command(Ok(without_commands(alloc)), new(alloc));
+    let Texts {
+        name,
+        help,
+        seq_help,
+    } = texts;
+    let program = with_command(Ok(without_commands(alloc, name, help)), new(alloc));
     let program = with_command(program, run(alloc));
     let program = with_command(program, on_disk(alloc, "log", LOG_ABOUT, LOG_HELP));
     let program = with_command(program, on_disk(alloc, "show", SHOW_ABOUT, SHOW_HELP));
-    let program = with_command(program, on_model(alloc, "seq", SEQ_ABOUT, SEQ_HELP));
+    let program = with_command(program, on_model(alloc, "seq", SEQ_ABOUT, seq_help));
     with_command(program, on_model(alloc, "check", CHECK_ABOUT, CHECK_HELP))
 }
 
 /// The program before it has its commands.
-fn without_commands<'a>(alloc: Global) -> Command<'a>
-    ensures { IsApp without_commands result }
+fn without_commands<'a>(alloc: Global, name: &'a str, help: &'a str) -> Command<'a>
+    ensures { IsApp (without_commands name.entry.now) result }
 {
-    Command::new(alloc, "timewarp")
+    Command::new(alloc, name)
         .about(
             "Simulates logical processes that send one another messages stamped with virtual times",
         )
-        .after_help(PROGRAM_HELP)
+        .after_help(help)
         .subcommand_required(true)
         .arg_required_else_help(true)
         .disable_help_subcommand(true)
 }
 
-const PROGRAM_HELP: &str = "\
-Virtual times are whole ticks. Models are described by TOML files, as examples/ring.toml.
+/// What follows a program's list of commands, with its name and the path of a model file.
+pub fn program_help(alloc: Global, name: &str, example: &str) -> Result<String, AllocError> {
+    format!(in alloc; "\
+Virtual times are whole ticks. Models are described by TOML files, as {example}.
 A disk is a file, which 'new' makes. A run that is killed goes on from its last commit when
 'run' is called again, with any number of nodes.
 
 Exit status:
   0  done
-  1  a fault, told on standard error after 'timewarp: '
+  1  a fault, told on standard error after '{name}: '
   2  a mistake in the command line, or help
 
 Faults:
-  BadModel     the file is no model file ('timewarp check' tells why)
+  BadModel     the file is no model file ('{name} check' tells why)
   File         a file cannot be read, or is no disk, or one of another size
   Log ..       the disk: NotBlank (it has a log), NotFormatted, Corrupt, Disk ..
   Recovery ..  the disk is of another simulation (OtherModel), or is damaged
@@ -57,7 +75,8 @@ Faults:
   Rounds       all rounds of a run are made, and it is not at its end
   World ..     'seq' stops: NoMemory, or NumberLimit past 2^63 messages of one process
   NoMemory     memory ran out elsewhere
-  Output       standard output refused a write";
+  Output       standard output refused a write")
+}
 
 /// The command `new`.
 fn new<'a>(alloc: Global) -> Result<Command<'a>, AllocError>
@@ -121,31 +140,17 @@ Output, all numbers decimal:
 const SEQ_ABOUT: &str =
     "Runs a model to its end, one event at a time, and prints its log and its final world";
 
-const SEQ_HELP: &str = "\
-Each model has these keys:
-  model       \"ring\", \"phold\" or \"jobshop\"
-  lps         processes, 1 to 1024
-  end         ticks at which the run ends, 1 to 1099511627776
-
-A token ring hands tokens round, and has also:
-  hold        ticks for which a process holds a token, 1 to 4294967295
-  tokens      1 to 8 times lps
-
-PHOLD sends each message on to a drawn process, and has also:
-  population  messages that each process starts with, 1 to 8
-  spread      the greatest delay in ticks, 1 to 4294967295
-  seed        what begins the drawn words, 0 to 9223372036854775807
-
-A job shop hands jobs from machine to machine, and has also:
-  jobs        jobs that each machine starts with, 1 to 8
-  service     the most ticks for which a machine serves a job, 1 to 4294967295
-  seed        what begins the drawn words, 0 to 9223372036854775807
+/// What follows the arguments of `seq`, with a text about the keys of a model file.
+pub fn seq_help(alloc: Global, keys: &str) -> Result<String, AllocError> {
+    format!(in alloc; "\
+{keys}
 
 Output, all numbers decimal:
   TIME FROM NUMBER TO A B          each event that was handled
   virtual time TIME                ticks
   lp LP sent NUMBER state WORDS    each process
-  pending TIME FROM NUMBER TO A B  each message that is not handled";
+  pending TIME FROM NUMBER TO A B  each message that is not handled")
+}
 
 const CHECK_ABOUT: &str = "Says whether a file is a model file, or what is wrong with it";
 

@@ -4,7 +4,7 @@ ghost use Rattle.std.specs.Prelude.{◌≡◌, ◌≤◌, map, IfOk};
 ghost use Rattle.clap.specs.Words.{fault_of, found_of, rows_of, FailsBy};
 ghost use Rattle.lines.specs.Line.{is_named, number_in, program, text_in, IsRanged, Says, SaysRows};
 
-use crate::grammar::program;
+use crate::grammar::{Texts, program};
 use clap::{ArgMatches, Error};
 use std::alloc::Global;
 use std::convert::AsStr;
@@ -60,16 +60,21 @@ pub enum Line<'a> {
     },
 }
 
-/// The command that a line's words name, and its values. The first word is the program's own name.
+/// The command that a line's words name, and its values. The first word is the program's own name, and `texts` is of its help.
 ///
 /// Where there is none, the answer is `clap`'s error: its text tells the user what is wrong, or is the help that was
 /// asked for. `clap` also answers by an error where memory runs out.
-pub fn read_line<'a, S: AsStr>(alloc: Global, words: &'a [S]) -> Result<Line<'a>, Error>
-    ensures ok { IfOk result (Says (map S.text words.entry.now)) }
+pub fn read_line<'a, S: AsStr>(
+    alloc: Global,
+    texts: Texts<'a>,
+    words: &'a [S],
+) -> Result<Line<'a>, Error>
+    ensures ok { IfOk result (Says texts.entry.name.now (map S.text words.entry.now)) }
     ensures ranged { IfOk result IsRanged }
-    ensures refused { FailsBy (fault_of program (map S.text words.entry.now)) result }
+    ensures refused { FailsBy (fault_of (program texts.entry.name.now) (map S.text words.entry.now))
+        result }
 {
-    let matches = program(alloc)?.try_get_matches_from(words)?;
+    let matches = program(alloc, texts)?.try_get_matches_from(words)?;
     match matches.subcommand() {
         Some((name, values)) => Ok(line_of(name, values)),
         None => unreachable!(),

@@ -6,3 +6,5 @@ pub mod Runner
 -- Inside: what contracts see of a world, and how the runner keeps what is pending
 pub mod Inside
 pub mod Pending
+pub mod Ticks
+pub mod Slots

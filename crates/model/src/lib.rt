@@ -11,6 +11,7 @@ mod runner;
 mod saved;
 mod sent;
 mod state;
+mod ticks;
 
 use eventkey::Message;
 pub use laws::{law_of_runs, law_of_sequential_simulation, law_of_worlds};

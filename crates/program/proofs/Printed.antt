@@ -5,10 +5,9 @@ use Rattle.commands.specs.Commands.{BeginsCommitted, BeginsRan, PrintsCommitted,
 use Rattle.commands.specs.declared.fault.CommandFault.{CommandFault}
 use Rattle.commands.specs.declared.fault.CommandFault.TheVariants as on_disk
 use Rattle.model.specs.World.{World}
-use Rattle.models.specs.Any.{any_meaning}
-use Rattle.models.specs.declared.any_model.AnyModel.{AnyModel}
+use Rattle.model.specs.Meaning.{Meaning}
 use Rattle.texts.specs.ModelFile.{IsModelFile}
-use Rattle.program.specs.Command.{Begins, IsCommitted, IsRan, IsWhole, Prints, PrintsBeginning, PrintsRun, run_text}
+use Rattle.program.specs.Command.{Begins, Describes, IsCommitted, IsRan, IsWhole, Prints, PrintsBeginning, PrintsRun, run_text}
 use Rattle.program.specs.declared.fault.Fault.{Fault}
 use Rattle.program.specs.declared.fault.Fault.TheVariants as fault
 
@@ -52,9 +51,9 @@ module _ {T A B : Type 0} where
   on_fault (Err (fault.Mistake f)) h k = inl (k (fault.Mistake f) refl (λ e. cc))
   on_fault (Err fault.NoMemory) h k = inl (k fault.NoMemory refl (λ e. cc))
 
-module _ {old new : Option (List ℕ)} where
-  module _ (source : List ℕ) (model : AnyModel) (end : ℕ) (file : IsModelFile source model end) where
-    pub ran_printed : (nodes : ℕ) → PrintsRan (any_meaning model) end nodes old new → Prints (IsRan nodes) old new
+module _ {M : Type 0} (meaning : M → Meaning) (says : Describes M) {old new : Option (List ℕ)} where
+  module _ (source : List ℕ) (model : M) (end : ℕ) (file : IsModelFile says source model end) where
+    pub ran_printed : (nodes : ℕ) → PrintsRan (meaning model) end nodes old new → Prints (IsRan meaning says nodes) old new
     ran_printed nodes p = (
       ran_text p.ran end (length p.world.log),
       record {
@@ -71,7 +70,7 @@ module _ {old new : Option (List ℕ)} where
       p.printed,
     )
 
-    pub ran_begun : (nodes : ℕ) → BeginsRan (any_meaning model) end nodes old new → Begins (IsRan nodes) old new
+    pub ran_begun : (nodes : ℕ) → BeginsRan (meaning model) end nodes old new → Begins (IsRan meaning says nodes) old new
     ran_begun nodes p = (
       ran_text p.ran end (length p.world.log),
       record {
@@ -88,7 +87,7 @@ module _ {old new : Option (List ℕ)} where
       p.part,
     )
 
-    pub committed_printed : (image : List (List ℕ)) (shown : World → List ℕ) → PrintsCommitted (any_meaning model) end image shown old new → Prints (IsCommitted shown) old new
+    pub committed_printed : (image : List (List ℕ)) (shown : World → List ℕ) → PrintsCommitted (meaning model) end image shown old new → Prints (IsCommitted meaning says shown) old new
     committed_printed image shown p = (
       shown p.world,
       record {
@@ -106,7 +105,7 @@ module _ {old new : Option (List ℕ)} where
       p.printed,
     )
 
-    pub committed_begun : (image : List (List ℕ)) (shown : World → List ℕ) → BeginsCommitted (any_meaning model) end image shown old new → Begins (IsCommitted shown) old new
+    pub committed_begun : (image : List (List ℕ)) (shown : World → List ℕ) → BeginsCommitted (meaning model) end image shown old new → Begins (IsCommitted meaning says shown) old new
     committed_begun image shown p = (
       shown p.world,
       record {
@@ -124,8 +123,8 @@ module _ {old new : Option (List ℕ)} where
       p.part,
     )
 
-  pub whole_printed : (source : List ℕ) → PrintsRun source old new → Prints IsWhole old new
+  pub whole_printed : (source : List ℕ) → PrintsRun meaning says source old new → Prints (IsWhole meaning says) old new
   whole_printed source p = (run_text p.world, record { source = source; model = p.model; end = p.end; world = p.world; file = p.file; upto = p.upto; is = refl }, p.printed)
 
-  pub whole_begun : (source : List ℕ) → PrintsBeginning source old new → Begins IsWhole old new
+  pub whole_begun : (source : List ℕ) → PrintsBeginning meaning says source old new → Begins (IsWhole meaning says) old new
   whole_begun source p = (run_text p.world, record { source = source; model = p.model; end = p.end; world = p.world; file = p.file; upto = p.upto; is = refl }, p.part)

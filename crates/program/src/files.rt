@@ -2,10 +2,9 @@
 
 ghost use Rattle.std.specs.IoError.{error_kind};
 ghost use Rattle.std.specs.Prelude.{◌≡◌, ◌≤◌, ◌^◌, ◌≢◌, ◌⊎◌, ℕ, List, Err, length};
-ghost use Rattle.std.specs.Prelude.{IfOk, IsOkUnless, MatchResult, OnErr, OnOk, string_bytes};
+ghost use Rattle.std.specs.Prelude.{IfOk, IsOkUnless, MatchResult, OnErr, OnOk};
 ghost use Rattle.std.specs.Str.{IsUtf8};
 ghost use Rattle.eventkey.specs.Writing.{Writes};
-ghost use Rattle.models.specs.declared.any_model.AnyModel.{AnyModel};
 ghost use Rattle.texts.specs.ModelFile.{IsModelFile};
 ghost use Rattle.program.specs.Command.{checked_text, run_text, Begins, IsChecked, IsSomeChecked};
 ghost use Rattle.program.specs.Command.{IsWhole, Prints, PrintsBeginning, PrintsRun};
@@ -13,57 +12,65 @@ ghost use Rattle.program.specs.declared.fault.Fault.TheVariants.{Output};
 
 use crate::fault::Fault;
 use commands::Simulated;
-use model::{Model as Modelled, World, WorldFault};
-use models::{AnyModel, JobShop, Phold, TokenRing};
-use std::alloc::{AllocError, Global};
+use model::{World, WorldFault};
+use std::alloc::Global;
 use std::fs;
-use std::io::{Error as IoError, ErrorKind, Write};
+use std::io::{Error as IoError, ErrorKind, Result as IoResult, Write};
 use std::rt::Files;
-use texts::{Mistake, ModelFault, read_model, write_log, write_text, write_world};
+use texts::{Described, Mistake, ModelFault, read_model, write_log, write_text, write_world};
 
 /// Runs the model of a file by the plain runner.
-pub(crate) fn seq_of<R, O>(rt: &R, model: &str, out: &mut O) -> Result<(), Fault>
+pub(crate) fn seq_of<M, R, O>(rt: &R, model: &str, out: &mut O) -> Result<(), Fault>
 where
+    M: Described,
     R: Files + AllocGlobal,
     O: Write,
-    ensures ok { OnOk result (Prints IsWhole (O.contents out.old) (O.contents out.new)) }
+    ensures ok { OnOk result
+        (Prints (IsWhole M.meaning M.says) (O.contents out.old) (O.contents out.new)) }
     ensures err { OnErr result ((out.new ≡ out.old)
-        ⊎ Begins IsWhole (O.contents out.old) (O.contents out.new)) }
+        ⊎ Begins (IsWhole M.meaning M.says) (O.contents out.old) (O.contents out.new)) }
 {
     let bytes = fs::read(rt, model).map_err(unreadable)?;
     let text = text_of(bytes.as_slice()).map_err(ModelFault::BadModel)?;
-    seq(rt.alloc(), text, out)
+    seq::<M, O>(rt.alloc(), text, out)
 }
 
 /// Says whether a file is a model file.
-pub(crate) fn check_of<R, O>(rt: &R, model: &str, out: &mut O) -> Result<(), Fault>
+pub(crate) fn check_of<M, R, O>(rt: &R, model: &str, out: &mut O) -> Result<(), Fault>
 where
+    M: Described,
     R: Files + AllocGlobal,
     O: Write,
-    ensures ok { OnOk result (Prints IsSomeChecked (O.contents out.old) (O.contents out.new)) }
+    ensures ok { OnOk result
+        (Prints (IsSomeChecked M.says M.shows) (O.contents out.old) (O.contents out.new)) }
     ensures err { OnErr result ((out.new ≡ out.old)
-        ⊎ Begins IsSomeChecked (O.contents out.old) (O.contents out.new)) }
+        ⊎ Begins (IsSomeChecked M.says M.shows) (O.contents out.old) (O.contents out.new)) }
 {
     let bytes = fs::read(rt, model).map_err(unreadable)?;
     let text = text_of(bytes.as_slice()).map_err(Fault::Mistake)?;
-    check(rt.alloc(), text, out)
+    check::<M, O>(rt.alloc(), text, out)
 }
 
 /// Runs the model of a model file to its end by the plain runner, and writes the log and then the world.
 ///
 /// The faults come in this order: `BadModel` where the text is no model file, or `NoMemory` where memory runs out in
 /// reading it; `World` of the runner; `Output` where the writer refuses. Before the last nothing is written.
-pub fn seq<O: Write>(alloc: Global, text: &str, out: &mut O) -> Result<(), Fault>
-    ensures ok { OnOk result (PrintsRun text.now (O.contents out.old) (O.contents out.new)) }
+pub fn seq<M: Described, O: Write>(
+    alloc: Global,
+    text: &str,
+    out: &mut O,
+) -> Result<(), Fault>
+    ensures ok { OnOk result
+        (PrintsRun M.meaning M.says text.now (O.contents out.old) (O.contents out.new)) }
     ensures bad { result ≡ Err Fault.BadModel →
-        (model : AnyModel) (end : ℕ) → ¬ IsModelFile text.now model end }
+        (model : M) (end : ℕ) → ¬ IsModelFile M.says text.now model end }
     ensures world { (fault : WorldFault) → result ≡ Err (Fault.World fault) →
-        (model : AnyModel) × (end : ℕ) × IsModelFile text.now model end }
+        (model : M) × (end : ℕ) × IsModelFile M.says text.now model end }
     ensures output { result ≡ Err Fault.Output →
-        PrintsBeginning text.now (O.contents out.old) (O.contents out.new) }
+        PrintsBeginning M.meaning M.says text.now (O.contents out.old) (O.contents out.new) }
     ensures unwritten { (fault : Fault) → result ≡ Err fault → fault ≢ Output → out.new ≡ out.old }
 {
-    let (model, end) = read_model(alloc, text)?;
+    let (model, end): (M, u64) = read_model(alloc, text)?;
     let mut world = World::open(alloc, &model, end)?;
     world.run_to(&model, end)?;
     write_run(world, out)
@@ -88,21 +95,25 @@ fn write_run<O: Write>(world: World, out: &mut O) -> Result<(), Fault>
     Ok(())
 }
 
-/// Says whether a text is a model file: writes `ok`, and a line `key: value` for the model's name and each number.
+/// Says whether a text is a model file: writes `ok`, and what the model shows of its values.
 ///
 /// The faults come in this order: `Mistake` where the text is no model file, or `NoMemory` where memory runs out;
 /// `Output` where the writer refuses. Before the last nothing is written.
-pub fn check<O: Write>(alloc: Global, text: &str, out: &mut O) -> Result<(), Fault>
+pub fn check<M: Described, O: Write>(
+    alloc: Global,
+    text: &str,
+    out: &mut O,
+) -> Result<(), Fault>
     ensures ok { OnOk result
-        (Prints (IsChecked text.now) (O.contents out.old) (O.contents out.new)) }
+        (Prints (IsChecked M.says M.shows text.now) (O.contents out.old) (O.contents out.new)) }
     ensures wrong { (mistake : Mistake) → result ≡ Err (Fault.Mistake mistake) →
-        (model : AnyModel) (end : ℕ) → ¬ IsModelFile text.now model end }
+        (model : M) (end : ℕ) → ¬ IsModelFile M.says text.now model end }
     ensures err { OnErr result ((out.new ≡ out.old)
-        ⊎ Begins (IsChecked text.now) (O.contents out.old) (O.contents out.new)) }
+        ⊎ Begins (IsChecked M.says M.shows text.now) (O.contents out.old) (O.contents out.new)) }
 {
-    match read_model(alloc, text) {
+    match read_model::<M>(alloc, text) {
         Ok((model, end)) => {
-            let values = values(alloc, &model, end)?;
+            let values = model.values(alloc, end)?;
             write_whole(values.as_str(), out)
         }
         Err(ModelFault::BadModel(mistake)) => Err(Fault::Mistake(mistake)),
@@ -110,67 +121,31 @@ pub fn check<O: Write>(alloc: Global, text: &str, out: &mut O) -> Result<(), Fau
     }
 }
 
-/// Writes a text, and flushes the writer.
-fn write_whole<O: Write>(text: &str, out: &mut O) -> Result<(), Fault>
-    ensures written { Writes (O.contents out.old) (O.contents out.new) result text.now }
+/// Writes that a file is a model file, and its values, and flushes the writer.
+fn write_whole<O: Write>(values: &str, out: &mut O) -> Result<(), Fault>
+    ensures written { Writes (O.contents out.old) (O.contents out.new) result
+        (checked_text values.now) }
     ensures fault { IsOkUnless result Output }
 {
-    write_text(text, out)?;
+    write_checked(values, out)?;
     out.flush()?;
     Ok(())
 }
 
-/// That a model file is one, and its values.
-fn values(alloc: Global, model: &AnyModel, end: u64) -> Result<String, AllocError>
-    ensures { IfOk result (λ text. string_bytes text ≡ checked_text model.now end) }
+/// Writes that a file is a model file, and its values.
+fn write_checked<O: Write>(values: &str, out: &mut O) -> IoResult<()>
+    ensures { Writes (O.contents out.old) (O.contents out.new) result (checked_text values.now) }
 {
-    match model {
-        AnyModel::TokenRing(ring) => ring_values(alloc, ring, end),
-        AnyModel::Phold(hold) => hold_values(alloc, hold, end),
-        AnyModel::JobShop(shop) => shop_values(alloc, shop, end),
-    }
-}
-
-/// The values of a token ring. The first word of an identity is the kind of the model.
-fn ring_values(alloc: Global, ring: &TokenRing, end: u64) -> Result<String, AllocError>
-    ensures { IfOk result (λ text. string_bytes text ≡ checked_text (AnyModel.TokenRing ring.now) end) }
-{
-    let lps = ring.lps();
-    let words = ring.identity(alloc);
-    let words = words.as_slice();
-    let (hold, tokens) = (words[1], words[2]);
-    format!(in alloc; "ok\nmodel: ring\nlps: {lps}\nend: {end}\nhold: {hold}\ntokens: {tokens}\n")
-}
-
-/// The values of PHOLD.
-fn hold_values(alloc: Global, hold: &Phold, end: u64) -> Result<String, AllocError>
-    ensures { IfOk result (λ text. string_bytes text ≡ checked_text (AnyModel.Phold hold.now) end) }
-{
-    let lps = hold.lps();
-    let words = hold.identity(alloc);
-    let words = words.as_slice();
-    let (population, spread, seed) = (words[1], words[2], words[3]);
-    format!(in alloc;
-        "ok\nmodel: phold\nlps: {lps}\nend: {end}\npopulation: {population}\nspread: {spread}\nseed: {seed}\n"
-    )
-}
-
-/// The values of a job shop.
-fn shop_values(alloc: Global, shop: &JobShop, end: u64) -> Result<String, AllocError>
-    ensures { IfOk result (λ text. string_bytes text ≡ checked_text (AnyModel.JobShop shop.now) end) }
-{
-    let lps = shop.lps();
-    let words = shop.identity(alloc);
-    let words = words.as_slice();
-    let (jobs, service, seed) = (words[1], words[2], words[3]);
-    format!(in alloc;
-        "ok\nmodel: jobshop\nlps: {lps}\nend: {end}\njobs: {jobs}\nservice: {service}\nseed: {seed}\n"
-    )
+    write_text("ok\n", out)?;
+    write_text(values, out)
 }
 
 /// The model that a file describes, and its end.
-pub(crate) fn simulated<R: Files + AllocGlobal>(rt: &R, path: &str) -> Result<Simulated, Fault>
-    ensures file { IfOk result (λ of. (text : List ℕ) × IsModelFile text of.model of.end) }
+pub(crate) fn simulated<M, R>(rt: &R, path: &str) -> Result<Simulated<M>, Fault>
+where
+    M: Described,
+    R: Files + AllocGlobal,
+    ensures file { IfOk result (λ of. (text : List ℕ) × IsModelFile M.says text of.model of.end) }
     ensures some { IfOk result (λ of. 1 ≤ of.end) }
     ensures short { IfOk result (λ of. of.end ≤ 2 ^ 40) }
 {

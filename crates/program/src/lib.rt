@@ -1,13 +1,15 @@
-//! The program `timewarp`, over any files and writers: what it does with the words of its command line.
+//! The program `timewarp`, over any kind of model, files and writers: what it does with the words of its command line.
 #![tactic(auto)]
 
 mod disks;
 mod fault;
 mod files;
 mod progress;
+mod starting;
 mod status;
 
 pub use fault::Fault;
 pub use files::{check, seq};
 pub use progress::{Progress, Shown};
-pub use status::{answer, command, refuse_words, tell, words};
+pub use starting::start;
+pub use status::{About, answer, command, refuse_words, tell, words};

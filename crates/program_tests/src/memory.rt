@@ -1,10 +1,12 @@
 // Want of memory is told by its name, and a second try then answers as if there had been none. This shows where one
 // allocation fails; with ample memory the first try succeeds.
 
+use crate::reading::TEXTS;
 use crate::running::{RING, RING_TEXT, Told, run, temporary};
 use clap::error::ErrorKind;
 use lines::{Line, read_line};
 use model::WorldFault;
+use models::AnyModel;
 use program::{Fault, seq};
 use std::alloc::Global;
 use std::fs::{self, File};
@@ -13,7 +15,7 @@ use std::test::Fail;
 
 /// Whether the line runs `ring.toml`, or its error's kind.
 fn runs_ring(alloc: Global, words: &[&str]) -> Result<bool, ErrorKind> {
-    match read_line(alloc, words) {
+    match read_line(alloc, TEXTS, words) {
         Ok(line) => Ok(line == Line::Seq { model: "ring.toml" }),
         Err(error) => Err(error.kind()),
     }
@@ -31,7 +33,7 @@ fn a_line_is_read_at_a_second_try(rt: HostRuntime) {
 
 /// Runs the ring.
 fn run_ring(alloc: Global, out: &mut Vec<u8>) -> Result<(), Fault> {
-    seq(alloc, RING, out)
+    seq::<AnyModel, _>(alloc, RING, out)
 }
 
 #[test]

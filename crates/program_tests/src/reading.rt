@@ -1,15 +1,21 @@
 // Command lines.
 
 use clap::error::ErrorKind;
-use lines::{Line, read_line};
+use lines::{Line, Texts, read_line};
 use std::alloc::Global;
 
+pub const TEXTS: Texts<'static> = Texts {
+    name: "timewarp",
+    help: "",
+    seq_help: "",
+};
+
 fn is_read_as(alloc: Global, words: &[&str], want: Line<'_>) -> bool {
-    read_line(alloc, words).is_ok_and(|line| line == want)
+    read_line(alloc, TEXTS, words).is_ok_and(|line| line == want)
 }
 
 fn is_refused_as(alloc: Global, words: &[&str], want: ErrorKind) -> bool {
-    read_line(alloc, words).is_err_and(|error| error.kind() == want)
+    read_line(alloc, TEXTS, words).is_err_and(|error| error.kind() == want)
 }
 
 /// The words of a line, and what it asks for.

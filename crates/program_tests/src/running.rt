@@ -1,13 +1,21 @@
 // Commands with writers in memory, and files for them. None of these calls has a contract, so that the tests are proved
 // without those of the program.
 
-use program::{Shown, command};
+use models::AnyModel;
+use program::{About, Shown, command};
 use std::env;
 use std::fs::{self, File};
 use std::io::Write;
 use std::path::PathBuf;
 use std::rt::{Clock, Env, Files};
 use std::test::Fail;
+use texts::ANY_MODEL_KEYS;
+
+pub const ABOUT: About<'static> = About {
+    name: "timewarp",
+    example: "examples/ring.toml",
+    keys: ANY_MODEL_KEYS,
+};
 
 pub const RING: &str = "model = \"ring\"\nlps = 3\nend = 10\nhold = 2\ntokens = 1\n";
 
@@ -40,7 +48,7 @@ where
     E: Write,
 {
     let mut unseen = Shown::on(rt, None::<Vec<u8>>);
-    command(rt, words, &mut unseen, out, err)
+    command::<AnyModel, _, _, _, _, _>(rt, ABOUT, words, &mut unseen, out, err)
 }
 
 /// Runs a command with two writers that need no more memory.

@@ -10,7 +10,7 @@ use std::alloc::Global;
 use std::fs::File;
 use std::rt::{Clock, Files};
 use std::test::Fail;
-use texts::{Key, Mistake};
+use texts::Mistake;
 
 const RING_ONE_TEXT: &str = "\
 virtual time 1
@@ -229,7 +229,7 @@ fn mistakes_and_help_are_told(rt: HostRuntime) -> Result<(), Fail> {
 /// Whether a fault is told by this text, with status 1.
 fn is_told_as(alloc: Global, fault: Fault, text: &str) -> bool {
     let mut err = Vec::new(alloc);
-    tell(fault, &mut err) == 1 && err.as_slice() == text.as_bytes()
+    tell("timewarp", fault, &mut err) == 1 && err.as_slice() == text.as_bytes()
 }
 
 #[test]
@@ -256,7 +256,7 @@ fn faults_are_told_by_their_names(rt: HostRuntime) {
         ),
         (Fault::Rounds, "timewarp: Rounds\n"),
         (
-            Fault::Mistake(Mistake::Missing(Key::Hold)),
+            Fault::Mistake(Mistake::Missing("hold")),
             "timewarp: hold: missing\n",
         ),
         (Fault::NoMemory, "timewarp: NoMemory\n"),

@@ -57,7 +57,7 @@ fn words_are_texts(rt: HostRuntime) -> Result<(), Fail> {
 /// Whether words that could not be read are told by this text and with this status.
 fn is_told_as(alloc: Global, error: Error, status: u8, text: &str) -> Result<bool, Fail> {
     let mut err = Vec::with_capacity(alloc, 512)?;
-    Ok(refuse_words(error, &mut err) == status && err.as_slice() == text.as_bytes())
+    Ok(refuse_words("timewarp", error, &mut err) == status && err.as_slice() == text.as_bytes())
 }
 
 #[test]

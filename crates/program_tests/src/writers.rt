@@ -1,6 +1,7 @@
 // Writers that refuse.
 
 use crate::running::{RING, RING_TEXT, Told, run_to, temporary};
+use models::AnyModel;
 use program::{seq, tell};
 use std::alloc::{AllocError, Global};
 use std::fs::{self, File};
@@ -80,9 +81,9 @@ where
     O: Write,
 {
     match source {
-        Source::Text(text) => match seq(rt.alloc(), text, out) {
+        Source::Text(text) => match seq::<AnyModel, _>(rt.alloc(), text, out) {
             Ok(()) => 0,
-            Err(fault) => tell(fault, err),
+            Err(fault) => tell("timewarp", fault, err),
         },
         Source::Path(path) => run_to(rt, &["timewarp", "seq", path], out, err),
     }

@@ -345,7 +345,10 @@ fn main(rt: HostRuntime) -> Result<(), Failure> {
     };
     let bytes = fs::read(&rt, path).map_err(|_| Failure::Usage)?;
     let text = str::from_utf8(bytes.as_slice()).map_err(|_| Failure::Usage)?;
-    let (model, end) = read_model(alloc, text).map_err(Failure::Model)?;
+    let (model, end) = match read_model::<AnyModel>(alloc, text) {
+        Ok(file) => file,
+        Err(fault) => return Err(Failure::Model(fault)),
+    };
     let plain = plain_world(alloc, &model, end)?.into_parts();
     let formatted = formatted(alloc, &model, end, sectors)?;
     let of = Simulated {

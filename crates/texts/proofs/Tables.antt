@@ -7,7 +7,8 @@ use Rattle.models.specs.declared.any_model.AnyModel.TheVariants.{JobShop, Phold,
 use Rattle.toml.proofs.Views.{Entry}
 use Rattle.toml.specs.Data.{Data, Members, as_str, get_member, string}
 use Rattle.toml.specs.View.{members_view}
-use Rattle.texts.specs.ModelFile.{IsShopTable, IsTableOf, key_count}
+use Rattle.texts.specs.AnyModel.{IsShopTable, IsTableOf}
+use Rattle.texts.specs.ModelFile.{key_count}
 
 -- how many keys a table has
 pub key_count-entries : (entries : List Entry) → key_count (members_view entries) ≡ length entries

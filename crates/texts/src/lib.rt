@@ -1,8 +1,10 @@
 //! Texts that a user reads and writes: logs, worlds, and model files.
 #![tactic(auto)]
 
+mod any_model;
 mod model_file;
 mod text;
 
-pub use model_file::{Key, Mistake, ModelFault, read_model};
+pub use any_model::ANY_MODEL_KEYS;
+pub use model_file::{Described, Mistake, ModelFault, number_at, only, read_model, string_at};
 pub use text::{write_log, write_number, write_text, write_world};

@@ -1,18 +1,17 @@
 //! `timewarp`: simulates logical processes that send one another messages stamped with virtual times.
 #![tactic(auto)]
 
-use program::{Fault, Shown, answer, tell, words};
-use std::io::{self, BufWriter, IsTerminal};
+use models::AnyModel;
+use program::About;
 use std::process::ExitCode;
+use texts::ANY_MODEL_KEYS;
+
+const ABOUT: About<'static> = About {
+    name: "timewarp",
+    example: "examples/ring.toml",
+    keys: ANY_MODEL_KEYS,
+};
 
 fn main(rt: HostRuntime) -> ExitCode {
-    let mut err = rt.stderr();
-    let Ok(mut out) = BufWriter::new(rt.alloc(), io::writer(&rt)) else {
-        return ExitCode::from(tell(Fault::NoMemory, &mut err));
-    };
-    let terminal = rt.stderr().is_terminal().then(|| rt.stderr());
-    let mut progress = Shown::on(&rt, terminal);
-    let status = answer(&rt, words(&rt), &mut progress, &mut out, &mut err);
-    progress.clear();
-    ExitCode::from(status)
+    ExitCode::from(program::start::<AnyModel, _, _>(&rt, ABOUT, rt.stderr()))
 }

@@ -1,12 +1,17 @@
 -- A port to a node in this program.
-use Rattle.std.specs.Prelude.{false, true, ◌≡◌}
+use Rattle.std.specs.Prelude.{Err, None, Some, false, true, ℕ, ◌≡◌, ◌⊎◌}
 use Rattle.model.specs.Meaning.{Meaning}
-use Rattle.node.specs.Handling.{Node}
+use Rattle.node.specs.Handling.{Node, answer, load_refusal, refusal}
 use Rattle.node.specs.Kept.{HasHistories}
+use Rattle.node.specs.declared.Load.{Load}
+use Rattle.node.specs.declared.NodeFault.TheVariants as node
+use Rattle.node.specs.declared.Parcel.{Parcel}
 use Rattle.wire.specs.Port.{PortState, Stage, nobody}
 use Rattle.wire.specs.Port.Stage.{Ended as AtEnd, Fresh as AtFirst, Idle as AtRest}
 use Rattle.wire.specs.Port.Stage.{Posted as AtWork}
 use Rattle.wire.specs.declared.local.Held.{Held}
+use Rattle.wire.specs.declared.port.PortFault.{PortFault}
+use Rattle.wire.specs.declared.port.PortFault.TheVariants.{Peer}
 use Rattle.wire.specs.declared.local.Held.TheVariants.{Ended, Fresh, Idle, Posted}
 
 -- the model of a port, and its node
@@ -28,6 +33,22 @@ node_of Ended = nobody
 
 abbrev pub state_of : Meaning → Held → PortState
 state_of m held = record { stage = stage_of held; tells = true; meaning = m; node = node_of held }
+
+-- the same of a port
+abbrev pub state_by : {M : Type 0} → (M → Meaning) → Local M → PortState
+state_by meaning port = state_of (meaning port.model) port.held
+
+-- why a load is refused: as the node refuses it, or where it does not, for want of memory
+abbrev pub IsLoadCause : ℕ → Load → PortFault → Type 0
+IsLoadCause lps load (Peer n) =
+    (load_refusal lps load ≡ Some n) ⊎ ((load_refusal lps load ≡ None) × (n ≡ node.NoMemory))
+IsLoadCause lps load fault = ⊥
+
+-- the same of a parcel
+abbrev pub IsTakeCause : Meaning → Node → Parcel → PortFault → Type 0
+IsTakeCause m n parcel (Peer f) =
+    ((answer m n parcel).result ≡ Err f) ⊎ ((refusal n parcel ≡ None) × (f ≡ node.NoMemory))
+IsTakeCause m n parcel fault = ⊥
 
 -- its node is one of this model, and has handled what it does
 abbrev pub IsOfModel : Meaning → Held → Type 0

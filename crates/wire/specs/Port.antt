@@ -9,7 +9,7 @@ use Rattle.node.specs.declared.NodeFault.TheVariants as node
 use Rattle.node.specs.declared.Parcel.{Parcel}
 use Rattle.node.specs.declared.Reply.{Reply}
 use Rattle.wire.specs.declared.port.PortFault.{PortFault}
-use Rattle.wire.specs.declared.port.PortFault.TheVariants.{Closed, Peer, Wire}
+use Rattle.wire.specs.declared.port.PortFault.TheVariants.{Peer, Wire}
 use Rattle.wire.specs.declared.port.WireFault.TheVariants as wire
 
 -- Where a port stands: nothing is loaded yet, it waits for a parcel, it was posted one, or a call of it was refused.
@@ -41,13 +41,11 @@ pub record IsLoadInRange (load : Load) : Type 0 where
   pub floor : load.floor ≤ load.end
   pub parts : Every IsInRange load.parts
 
--- no fault of what is handed in: there was no memory, or the bytes were too many, or the way to the
--- node ended for one of these causes
+-- no fault of what is handed in: there was no memory, or the bytes were too many
 abbrev pub IsForWant : PortFault → Type 0
 IsForWant (Wire wire.NoMemory) = Unit {0}
 IsForWant (Wire wire.TooLong) = Unit {0}
 IsForWant (Peer node.NoMemory) = Unit {0}
-IsForWant Closed = Unit {0}
 IsForWant fault = ⊥
 
 -- a load through a port that tells: it is what a node makes of it

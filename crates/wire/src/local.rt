@@ -1,7 +1,12 @@
 // A port to a node in this program.
 
-ghost use Rattle.std.specs.Prelude.{◌≡◌, true};
-ghost use Rattle.wire.specs.Local.{state_of};
+ghost use Rattle.node.specs.declared.Parcel.{Parcel};
+ghost use Rattle.std.specs.Prelude.{◌≡◌, ◌≤◌, ◌^◌, true, IfErr, IfOk, IsOk, OnErr, OnOk};
+ghost use Rattle.wire.specs.Local.{IsLoadCause, IsTakeCause, state_by, state_of};
+ghost use Rattle.wire.specs.Port.{IsForWant, IsLoadFault, IsLoadInRange, IsLoaded, IsSamePort};
+ghost use Rattle.wire.specs.Port.{IsTakeFault, IsTaken};
+ghost use Rattle.wire.specs.Port.Stage.{Ended as AtEnd, Fresh as AtFirst};
+ghost use Rattle.wire.specs.Port.Stage.{Idle as AtRest, Posted as AtWork};
 ghost use Rattle.wire.specs.declared.local.Held.TheVariants.{Fresh};
 
 use crate::port::{Port, PortFault};
@@ -65,7 +70,20 @@ impl<'m, M: Simulated> LocalPort<'m, M> {
 impl<'m, M: Simulated> Port for LocalPort<'m, M> {
     ghost state = { λ p. state_of (M.meaning p.model) p.held };
 
-    fn load(&mut self, load: Load) -> Result<(), PortFault> {
+    fn load(&mut self, load: Load) -> Result<(), PortFault>
+        requires fresh { (state_by M.meaning self.old).stage ≡ AtFirst }
+        requires range { IsLoadInRange load }
+        ensures idle { OnOk result ((state_by M.meaning self.new).stage ≡ AtRest) }
+        ensures ended { OnErr result ((state_by M.meaning self.new).stage ≡ AtEnd) }
+        ensures same { IsSamePort (state_by M.meaning self.old) (state_by M.meaning self.new) }
+        ensures ok { (state_by M.meaning self.old).tells ≡ true →
+            OnOk result (IsLoaded load (state_by M.meaning self.old) (state_by M.meaning self.new)) }
+        ensures err { (state_by M.meaning self.old).tells ≡ true →
+            IfErr result (λ fault. IsLoadFault load (state_by M.meaning self.old) fault) }
+
+        // As the node refuses, or there was no memory, and for nothing else.
+        ensures cause { IfErr result (IsLoadCause (M.meaning self.old.model).lps load) }
+    {
         match Node::load(self.alloc, self.model, load) {
             Ok(node) => {
                 self.held = Held::Idle(node);
@@ -78,7 +96,20 @@ impl<'m, M: Simulated> Port for LocalPort<'m, M> {
         }
     }
 
-    fn post(&mut self, parcel: Parcel) -> Result<(), PortFault> {
+    fn post(&mut self, parcel: Parcel) -> Result<(), PortFault>
+        requires idle { (state_by M.meaning self.old).stage ≡ AtRest }
+        requires range { parcel.floor ≤ 2 ^ 40 }
+        ensures posted { OnOk result ((state_by M.meaning self.new).stage ≡ AtWork parcel) }
+        ensures ended { OnErr result ((state_by M.meaning self.new).stage ≡ AtEnd) }
+        ensures same { IsSamePort (state_by M.meaning self.old) (state_by M.meaning self.new) }
+        ensures ok { (state_by M.meaning self.old).tells ≡ true →
+            OnOk result ((state_by M.meaning self.new).node ≡ (state_by M.meaning self.old).node) }
+        ensures err { (state_by M.meaning self.old).tells ≡ true →
+            IfErr result (λ fault. IsForWant fault) }
+
+        // A parcel is never refused.
+        ensures always { IsOk result }
+    {
         let Held::Idle(node) = std::mem::replace(&mut self.held, Held::Ended) else {
             return Err(PortFault::Closed);
         };
@@ -86,7 +117,25 @@ impl<'m, M: Simulated> Port for LocalPort<'m, M> {
         Ok(())
     }
 
-    fn take(&mut self) -> Result<Reply, PortFault> {
+    fn take(&mut self) -> Result<Reply, PortFault>
+        requires posted { (parcel : Parcel) × ((state_by M.meaning self.old).stage ≡ AtWork parcel) }
+        ensures idle { OnOk result ((state_by M.meaning self.new).stage ≡ AtRest) }
+        ensures ended { OnErr result ((state_by M.meaning self.new).stage ≡ AtEnd) }
+        ensures same { IsSamePort (state_by M.meaning self.old) (state_by M.meaning self.new) }
+        ensures ok { (parcel : Parcel) →
+            (state_by M.meaning self.old).stage ≡ AtWork parcel →
+            (state_by M.meaning self.old).tells ≡ true → IfOk result (λ reply.
+            IsTaken parcel (state_by M.meaning self.old) (state_by M.meaning self.new) reply) }
+        ensures err { (parcel : Parcel) →
+            (state_by M.meaning self.old).stage ≡ AtWork parcel →
+            (state_by M.meaning self.old).tells ≡ true →
+            IfErr result (λ fault. IsTakeFault parcel (state_by M.meaning self.old) fault) }
+
+        // As the node refuses, or there was no memory, and for nothing else.
+        ensures cause { (parcel : Parcel) →
+            (state_by M.meaning self.old).stage ≡ AtWork parcel → IfErr result
+            (IsTakeCause (M.meaning self.old.model) (state_by M.meaning self.old).node parcel) }
+    {
         let Held::Posted(node, parcel) = std::mem::replace(&mut self.held, Held::Ended) else {
             return Err(PortFault::Closed);
         };

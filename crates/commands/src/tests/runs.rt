@@ -69,7 +69,7 @@ const ONE_ROUND: Plan = Plan {
 };
 
 /// The ring, a token held for so many ticks.
-fn ring(hold: u32) -> Simulated
+fn ring(hold: u32) -> Simulated<AnyModel>
     requires { 1 ≤ hold }
     ensures { result.end ≡ 10 }
 {
@@ -80,7 +80,7 @@ fn ring(hold: u32) -> Simulated
 }
 
 /// A disk of so many sectors with an empty log.
-fn formatted(alloc: Global, of: &Simulated, sectors: u32) -> Result<MemDisk, Fail> {
+fn formatted(alloc: Global, of: &Simulated<AnyModel>, sectors: u32) -> Result<MemDisk, Fail> {
     let mut disk = MemDisk::blank(alloc, sectors)?;
     let mut out = Vec::new(alloc);
     new(alloc, of, &mut disk, &mut out)?;

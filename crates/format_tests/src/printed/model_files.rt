@@ -2,7 +2,7 @@
 
 use models::{AnyModel, JobShop, Phold, TokenRing};
 use std::test::Fail;
-use texts::{Key, Mistake, ModelFault, read_model};
+use texts::{Mistake, ModelFault, read_model};
 
 const RING: &str = "model = \"ring\"\nlps = 3\nend = 10\nhold = 2\ntokens = 1\n";
 
@@ -10,7 +10,7 @@ const RING: &str = "model = \"ring\"\nlps = 3\nend = 10\nhold = 2\ntokens = 1\n"
 fn a_ring_is_read_in_any_order(rt: HostRuntime) -> Result<(), Fail> {
     let text =
         "# a comment\ntokens = 24\nend = 1_099_511_627_776\nmodel = 'ring'\nhold = 0xFFFF_FFFF\nlps = 3\n";
-    let (model, end) = read_model(rt.alloc(), text)?;
+    let (model, end) = read_model::<AnyModel>(rt.alloc(), text)?;
     assert!(rt; model == AnyModel::TokenRing(TokenRing::new(3, 4294967295, 24)));
     assert_eq!(rt; end, 1099511627776);
     Ok(())
@@ -73,7 +73,7 @@ fn a_mistake_is_told_in_plain_words(rt: HostRuntime) -> Result<(), Fail> {
     ];
     for (start, want) in texts {
         let text = format!(in rt.alloc(); "{start}{rest}")?;
-        let Err(ModelFault::BadModel(mistake)) = read_model(rt.alloc(), text.as_str()) else {
+        let Err(ModelFault::BadModel(mistake)) = read_model::<AnyModel>(rt.alloc(), text.as_str()) else {
             return Err("a mistake".into());
         };
         let told = format!(in rt.alloc(); "{mistake}")?;
@@ -83,21 +83,7 @@ fn a_mistake_is_told_in_plain_words(rt: HostRuntime) -> Result<(), Fail> {
 }
 
 #[test]
-fn each_key_is_told_as_it_is_spelled(rt: HostRuntime) -> Result<(), Fail> {
-    for (key, name) in [
-        (Key::Lps, "lps"),
-        (Key::End, "end"),
-        (Key::Hold, "hold"),
-        (Key::Tokens, "tokens"),
-        (Key::Population, "population"),
-        (Key::Spread, "spread"),
-        (Key::Jobs, "jobs"),
-        (Key::Service, "service"),
-        (Key::Seed, "seed"),
-    ] {
-        let told = format!(in rt.alloc(); "{key}")?;
-        assert_eq!(rt; told.as_str(), name);
-    }
+fn faults_are_told_by_their_names(rt: HostRuntime) -> Result<(), Fail> {
     for (fault, name) in [
         (ModelFault::BadModel(Mistake::Toml), "BadModel"),
         (ModelFault::NoMemory, "NoMemory"),
@@ -166,7 +152,7 @@ fn other_texts_are_no_model(rt: HostRuntime) {
         "model = \"ring\nlps = 3\nend = 10\nhold = 2\ntokens = 1\n",
     ];
     for text in texts {
-        let read = read_model(rt.alloc(), text);
+        let read = read_model::<AnyModel>(rt.alloc(), text);
         assert!(rt; read.is_err_and(|fault| is_bad(&fault)), "{text}");
     }
 }
@@ -185,12 +171,12 @@ fn a_model_is_read_at_a_second_try(rt: HostRuntime) {
 #[test]
 fn a_bad_model_is_refused_at_a_second_try(rt: HostRuntime) {
     let text = "model = \"ring\"\nlps = 0\nend = 10\nhold = 2\ntokens = 1\n";
-    let mut read = read_model(rt.alloc(), text);
+    let mut read = read_model::<AnyModel>(rt.alloc(), text);
     if read == Err(ModelFault::NoMemory) {
-        read = read_model(rt.alloc(), text);
+        read = read_model::<AnyModel>(rt.alloc(), text);
     }
     let mistake = Mistake::Outside {
-        key: Key::Lps,
+        key: "lps",
         found: 0,
         least: 1,
         most: 1024,

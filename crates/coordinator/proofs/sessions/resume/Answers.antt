@@ -28,10 +28,10 @@ returns-in-Err-drive-clause-kept g c = λ tell v.
     let told = c.in-Ok.ensures.told tell in
     let model_is = ap g.M.Model.meaning c.in-Ok.ensures.same.0 in
     let end_is = c.in-Ok.ensures.same.1 in
-    let stopped = c.in-Err-drive.ensures.stopped c.in-Ok.ensures.same.2 in
+    let stopped = c.in-Err-drive.ensures.stopped in
     rw (c.left-in-Err-drive.ensures)
     (resumed (g.M.Model.meaning c.args.model.now) c.args.end (length c.args.ports.items) v c.in-Ok.session.front (g.D.SectorDisk.state c.args.disk) (g.D.SectorDisk.state c.in-Ok.session.log.disk)
     c.in-Ok.ensures.replayed (c.in-Ok.ensures.crashes v.time) (running g.M.Model.meaning g.P.Port.state c.in-Ok.session) model_is end_is told.0 told.1 (map move_of (take c.in-Err-drive.field-0.done c.args.steps.now))
-    stopped.made c.drive.new.self.front (g.D.SectorDisk.state c.drive.new.self.log.disk)
-    (stopped.moves told.0) (stopped-front _ _ _ _ _ stopped)
+    (running g.M.Model.meaning g.P.Port.state stopped.made) c.drive.new.self.front (g.D.SectorDisk.state c.drive.new.self.log.disk)
+    (stopped.moves told.0) (stopped-front _ _ _ _ _ _ _ stopped)
     (driven-on _ _ _ _ c.in-Ok.session.front c.drive.new.self.front c.in-Ok.session.log _ _ model_is end_is (c.drive.ensures.crashes told.0) c.in-Ok.ensures.written))

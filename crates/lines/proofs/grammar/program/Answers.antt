@@ -12,7 +12,7 @@ returns-clause-is c =
     (command_added _ _ _ _ _ c.with_command-program-4.ensures
     (command_added _ _ _ _ _ c.with_command-program-3.ensures
     (command_added _ _ _ _ _ c.with_command-program-2.ensures
-    (command_added (Ok c.without_commands.result) _ _ without_commands _ c.with_command-program.ensures c.without_commands.ensures c.new.ensures)
+    (command_added (Ok c.without_commands.result) _ _ (without_commands c.args.texts.name.now) _ c.with_command-program.ensures c.without_commands.ensures c.new.ensures)
     c.run.ensures) c.on_disk.ensures) c.on_disk-2.ensures) c.on_model.ensures) c.on_model-2.ensures
 
 pub returns-clause-required : goal.returns-clause-required

@@ -9,22 +9,22 @@ line_of-requires g c =
     let words = map g.S.AsStr.text c.args.words.now in
     let e = c.in_ok-program.ensures.is.0 in
     let rows = rows_of (found_of c.in-Some.values.now) in
-    let found : subcommand_of program words ≡ Some (c.in-Some.name.now, rows) =
-    sym (ap (λ a. subcommand_of a words) e) ∙ sym (c.in_ok-matches.ensures.matches (ap is_simple e ∙ program_is_simple)).1
+    let found : subcommand_of (program c.args.texts.name.now) words ≡ Some (c.in-Some.name.now, rows) =
+    sym (ap (λ a. subcommand_of a words) e) ∙ sym (c.in_ok-matches.ensures.matches (ap is_simple e ∙ program_is_simple c.args.texts.name.now)).1
     ∙ subcommand_found c.in_ok-matches.matches c.in-Some.name.now rows c.in-Some.ensures.name c.in-Some.ensures.rows in
-    only_named words c.in-Some.name.now rows found
+    only_named c.args.texts.name.now words c.in-Some.name.now rows found
 
 pub returns-clause-ok : goal.returns-clause-ok
 returns-clause-ok g c =
     let words = map g.S.AsStr.text c.args.words.now in
     let e = c.in_ok-program.ensures.is.0 in
     let rows = rows_of (found_of c.in-Some.values.now) in
-    let found : subcommand_of program words ≡ Some (c.in-Some.name.now, rows) =
-    sym (ap (λ a. subcommand_of a words) e) ∙ sym (c.in_ok-matches.ensures.matches (ap is_simple e ∙ program_is_simple)).1
+    let found : subcommand_of (program c.args.texts.name.now) words ≡ Some (c.in-Some.name.now, rows) =
+    sym (ap (λ a. subcommand_of a words) e) ∙ sym (c.in_ok-matches.ensures.matches (ap is_simple e ∙ program_is_simple c.args.texts.name.now)).1
     ∙ subcommand_found c.in_ok-matches.matches c.in-Some.name.now rows c.in-Some.ensures.name c.in-Some.ensures.rows in
     record { name = c.in-Some.name.now; rows = rows; found = found; values = c.line_of.ensures.says }
 
 pub returns-clause-refused : goal.returns-clause-refused
 returns-clause-refused g c =
     let e = c.in_ok-program.ensures.is.0 in
-    sym (ap (λ a. fault_of a (map g.S.AsStr.text c.args.words.now)) e) ∙ c.in_ok-matches.ensures.kinds (ap is_simple_and_free e ∙ program_is_free)
+    sym (ap (λ a. fault_of a (map g.S.AsStr.text c.args.words.now)) e) ∙ c.in_ok-matches.ensures.kinds (ap is_simple_and_free e ∙ program_is_free c.args.texts.name.now)

@@ -1,15 +1,16 @@
-use Rattle.std.proofs.Common.{inr, ◌∙◌}
+use Rattle.std.proofs.Common.{ap, inr, ◌∙◌}
+use Rattle.program.specs.Command.{checked_text}
 use Rattle.program.proofs.Printed.{on_err}
 use Rattle.program.proofs.Runs.{on_ok}
 use Rattle.program.proofs.files.check.Goals as goal
 
 pub returns-in_ok-values-in-Ok-clause-ok : goal.returns-in_ok-values-in-Ok-clause-ok
 returns-in_ok-values-in-Ok-clause-ok g c =
-    on_ok c.write_whole.result (λ a. (c.as_str.result.now, (c.in-Ok.model, c.in-Ok.end, c.in-Ok.ensures.ok, c.as_str.ensures.value ∙ c.in_ok-values-in-Ok.ensures), a)) c.write_whole.ensures.written.all
+    on_ok c.write_whole.result (λ a. (checked_text c.as_str.result.now, (c.in-Ok.model, c.in-Ok.end, c.in-Ok.ensures.ok, ap checked_text (c.as_str.ensures.value ∙ c.in_ok-values-in-Ok.ensures)), a)) c.write_whole.ensures.written.all
 
 pub returns-in_ok-values-in-Ok-clause-err : goal.returns-in_ok-values-in-Ok-clause-err
 returns-in_ok-values-in-Ok-clause-err g c =
-    on_err c.write_whole.result (λ a. inr (c.as_str.result.now, (c.in-Ok.model, c.in-Ok.end, c.in-Ok.ensures.ok, c.as_str.ensures.value ∙ c.in_ok-values-in-Ok.ensures), a)) c.write_whole.ensures.written.part
+    on_err c.write_whole.result (λ a. inr (checked_text c.as_str.result.now, (c.in-Ok.model, c.in-Ok.end, c.in-Ok.ensures.ok, ap checked_text (c.as_str.ensures.value ∙ c.in_ok-values-in-Ok.ensures)), a)) c.write_whole.ensures.written.part
 
 pub returns-in-Err-BadModel-clause-wrong : goal.returns-in-Err-BadModel-clause-wrong
 returns-in-Err-BadModel-clause-wrong g c = λ mistake e.

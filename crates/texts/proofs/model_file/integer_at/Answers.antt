@@ -4,10 +4,10 @@ use Rattle.texts.proofs.model_file.integer_at.Goals as goal
 
 pub returns-in-Some : goal.returns-in-Some
 returns-in-Some c =
-    let found = table_get c.get.result c.name.result.now c.args.table.now.entries c.get.ensures.value in
-    c.as_integer.ensures ∙ rw (← rw (c.in-Some.is, c.name.ensures) at found) refl
+    let found = table_get c.get.result c.args.key.now c.args.table.now.entries c.get.ensures.value in
+    c.as_integer.ensures ∙ rw (← rw c.in-Some.is at found) refl
 
 pub returns-in-None : goal.returns-in-None
 returns-in-None c =
-    let found = table_get c.get.result c.name.result.now c.args.table.now.entries c.get.ensures.value in
-    rw (← rw (c.in-None.is, c.name.ensures) at found) refl
+    let found = table_get c.get.result c.args.key.now c.args.table.now.entries c.get.ensures.value in
+    rw (← rw c.in-None.is at found) refl

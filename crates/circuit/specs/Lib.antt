@@ -1,0 +1,3 @@
+pub mod Circuit  -- what a circuit does
+pub mod CircuitLaws  -- that it keeps the laws of a model
+pub mod CircuitFile  -- what its model file says

@@ -1,0 +1,229 @@
+// A circuit as a model.
+
+ghost use Rattle.std.specs.Prelude.{◌≡◌, ℕ, IsTrue, ◌<◌, ◌≤◌, ◌*◌, ◌+◌, ◌^◌, ◌↔◌, length};
+ghost use Rattle.std.specs.Prelude.{IfSome, IsNone, slice_index, map, take, drop};
+ghost use Rattle.circuit.specs.Circuit.{IsGate, IsNetlist, IsWire, along, changed, gate_at, gate_in};
+ghost use Rattle.circuit.specs.Circuit.{circuit_meaning, netlist_of, output_of, pin_after};
+ghost use Rattle.circuit.specs.Circuit.{wire_at, wires_of};
+ghost use Rattle.circuit.specs.CircuitLaws.{circuit_lawful};
+
+use crate::parts::{Gate, Wire};
+use eventkey::Message;
+use model::{Model as Simulated, Outgoing, Sends, Words};
+use smallvec::SmallVec;
+use std::alloc::Global;
+
+/// A circuit of gates, each of which is a process. Its state is its three pins, its output, and how often that changed.
+///
+/// A message gives the value `b mod 2` to pin `a`. An output that changes goes along each wire of its gate.
+#[derive(Drop)]
+pub struct Circuit {
+    gates: Vec<Gate>,
+    wires: Vec<Wire>,
+    digest: u64,
+    ghost good: { IsNetlist (netlist_of gates.items wires.items digest) },
+}
+
+impl Circuit {
+    /// The circuit of these gates and wires: 1 to 1,024 gates, none with more than 8 wires, delays of at least 1, wires
+    /// only to gates that are there. `None` for others.
+    pub fn new(gates: Vec<Gate>, wires: Vec<Wire>) -> Option<Circuit>
+        ensures some { IfSome result (λ c.
+            (c.gates.items ≡ gates.items) × (c.wires.items ≡ wires.items)) }
+        ensures none { IsNone result → (digest : ℕ) →
+            ¬ IsNetlist (netlist_of gates.items wires.items digest) }
+    {
+        let count = gates.len();
+        if count < 1 || count > 1024 {
+            return None;
+        }
+        if !are_gates(gates.as_slice(), wires.len()) || !are_wires(wires.as_slice(), count) {
+            return None;
+        }
+        let digest = digest(gates.as_slice(), wires.as_slice());
+        Some(Circuit {
+            gates,
+            wires,
+            digest,
+        })
+    }
+
+    /// The gates.
+    pub(crate) fn gates(&self) -> &[Gate]
+        ensures { result.now ≡ self.now.gates.items }
+    {
+        self.gates.as_slice()
+    }
+
+    /// The wires.
+    pub(crate) fn wires(&self) -> &[Wire]
+        ensures { result.now ≡ self.now.wires.items }
+    {
+        self.wires.as_slice()
+    }
+
+    /// The output of gate `lp` for three bits.
+    fn output(&self, lp: u32, p: u64, q: u64, r: u64) -> u64
+        requires there { lp < length self.now.gates.items }
+        requires p { p < 2 }
+        requires q { q < 2 }
+        requires r { r < 2 }
+        ensures { result ≡ output_of (gate_at (netlist_of self.now.gates.items self.now.wires.items
+            self.now.digest) lp) p q r }
+    {
+        u64::from((self.gates[lp as usize].table >> (p + 2 * q + 4 * r)) % 2)
+    }
+
+    /// The wires of gate `lp`.
+    fn wires_of(&self, lp: u32) -> &[Wire]
+        requires { lp < length self.now.gates.items }
+        ensures wires { result.now ≡ wires_of (netlist_of self.now.gates.items self.now.wires.items
+            self.now.digest) lp }
+        ensures few { length result.now ≤ 8 }
+    {
+        let gate = self.gates[lp as usize];
+        let first = gate.first as usize;
+        &self.wires[first..first + gate.count as usize]
+    }
+
+    /// What gate `lp` sends where its output was `was` and is `value`.
+    fn sends(&self, alloc: Global, lp: u32, was: u64, value: u64) -> Sends
+        requires { lp < length self.now.gates.items }
+        ensures { result.items ≡ changed (netlist_of self.now.gates.items self.now.wires.items
+            self.now.digest) lp was value }
+    {
+        let mut sends = SmallVec::new(alloc);
+        if was != value {
+            let delay = self.gates[lp as usize].delay;
+            'sends: for wire in self.wires_of(lp) {
+                sends.push_reserved(Outgoing {
+                    to: wire.to,
+                    delay,
+                    a: u64::from(wire.pin),
+                    b: value,
+                });
+            }
+        }
+        sends
+    }
+}
+
+/// Whether a gate has a delay, and its wires lie in a list of so many.
+fn is_gate(gate: Gate, wires: usize) -> bool
+    ensures { IsTrue result ↔ IsGate wires gate }
+{
+    gate.delay >= 1 && gate.count <= 8 && gate.first as usize + gate.count as usize <= wires
+}
+
+/// Whether all gates have a delay, and wires in a list of so many.
+fn are_gates(gates: &[Gate], wires: usize) -> bool
+    ensures { IsTrue result ↔
+        ((i : ℕ) → i < length gates.now → IsGate wires (gate_in gates.now i)) }
+{
+    for i in 0..gates.len() {
+        if !is_gate(gates[i], wires) {
+            return false;
+        }
+    }
+    true
+}
+
+/// Whether a wire leads to a gate, of which there are so many.
+fn is_wire(wire: Wire, gates: usize) -> bool
+    ensures { IsTrue result ↔ IsWire gates wire }
+{
+    (wire.to as usize) < gates
+}
+
+/// Whether wires lead only to gates, of which there are so many.
+fn are_wires(wires: &[Wire], gates: usize) -> bool
+    ensures { IsTrue result ↔
+        ((i : ℕ) → i < length wires.now → IsWire gates (wire_at wires.now i)) }
+{
+    for i in 0..wires.len() {
+        if !is_wire(wires[i], gates) {
+            return false;
+        }
+    }
+    true
+}
+
+/// A number that tells a netlist from others.
+fn digest(gates: &[Gate], wires: &[Wire]) -> u64 {
+    let mut digest = gates.len() as u64;
+    for gate in gates {
+        for number in [gate.table, gate.delay, gate.first, gate.count] {
+            digest = mixed(digest, number);
+        }
+    }
+    for wire in wires {
+        digest = mixed(mixed(digest, wire.to), wire.pin);
+    }
+    digest
+}
+
+fn mixed(digest: u64, number: u32) -> u64 {
+    (digest ^ u64::from(number)).wrapping_mul(0x100_0000_01b3)
+}
+
+/// The value at pin `k` after a message.
+fn pin_after(state: &[u64], message: &Message, k: usize) -> u64
+    ensures value { result ≡ pin_after state.now message.now k }
+    ensures bit { result < 2 }
+{
+    let value = if message.a() == k as u64 {
+        message.b()
+    } else {
+        state.get(k).copied().unwrap_or(0)
+    };
+    value % 2
+}
+
+impl Simulated for Circuit {
+    ghost meaning = { λ c. circuit_meaning (netlist_of c.gates.items c.wires.items c.digest) };
+
+    ghost lawful = { λ c. circuit_lawful (netlist_of c.gates.items c.wires.items c.digest) c.good };
+
+    fn lps(&self) -> u32 {
+        self.gates.len() as u32
+    }
+
+    fn identity(&self, alloc: Global) -> SmallVec<u64, 8> {
+        let mut words = SmallVec::new(alloc);
+        words.push_reserved(100);
+        words.push_reserved(self.digest);
+        words
+    }
+
+    fn start(&self, alloc: Global, lp: u32) -> (Words, Sends) {
+        let value = self.output(lp, 0, 0, 0);
+        let mut words = SmallVec::new(alloc);
+        words.push_reserved(0);
+        words.push_reserved(0);
+        words.push_reserved(0);
+        words.push_reserved(value);
+        words.push_reserved(0);
+        (words, self.sends(alloc, lp, 0, value))
+    }
+
+    fn handle(&self, alloc: Global, lp: u32, state: &Words, message: &Message) -> (Words, Sends) {
+        let state = state.as_slice();
+        let p = pin_after(state, message, 0);
+        let q = pin_after(state, message, 1);
+        let r = pin_after(state, message, 2);
+        let was = state.get(3).copied().unwrap_or(0);
+        let toggles = state.get(4).copied().unwrap_or(0);
+        let value = self.output(lp, p, q, r);
+        let mut words = SmallVec::new(alloc);
+        words.push_reserved(p);
+        words.push_reserved(q);
+        words.push_reserved(r);
+        words.push_reserved(value);
+        words.push_reserved(if was == value {
+            toggles
+        } else {
+            toggles.saturating_add(1)
+        });
+        (words, self.sends(alloc, lp, was, value))
+    }
+}

@@ -1,0 +1,10 @@
+//! Digital circuits of gates with delays, as a model: each gate is a logical process.
+#![tactic(auto)]
+
+mod circuit;
+mod circuit_file;
+mod parts;
+
+pub use circuit::Circuit;
+pub use circuit_file::CIRCUIT_KEYS;
+pub use parts::{Gate, Wire};

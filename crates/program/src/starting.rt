@@ -1,0 +1,34 @@
+// The program's beginning and end.
+
+ghost use Rattle.std.specs.Prelude.{◌≤◌};
+
+use crate::fault::Fault;
+use crate::progress::Shown;
+use crate::status::{About, answer, tell, words};
+use std::fs::File;
+use std::io::{self, BufWriter, IsTerminal, Print, Write};
+use std::rt::{Env, Files};
+use std::time::Clock;
+use texts::Described;
+
+/// Does what the words of the command line ask for, over models of kind `M`, and answers the exit
+/// status: all that a program's `main` has to do.
+///
+/// What is asked for is printed. Told on `err` is what goes wrong, and on a terminal how far a run
+/// has come.
+pub fn start<M, R, E>(rt: &R, about: About<'_>, mut err: E) -> u8
+where
+    M: Described,
+    R: Env + Files<File = File> + Clock + Print + AllocGlobal,
+    E: Write + IsTerminal + Copy,
+    ensures { result ≤ 2 }
+{
+    let Ok(mut out) = BufWriter::new(rt.alloc(), io::writer(rt)) else {
+        return tell(about.name, Fault::NoMemory, &mut err);
+    };
+    let terminal = if err.is_terminal() { Some(err) } else { None };
+    let mut progress = Shown::on(rt, terminal);
+    let status = answer::<M, _, _, _, _>(rt, about, words(rt), &mut progress, &mut out, &mut err);
+    progress.clear();
+    status
+}
