@@ -56,7 +56,8 @@ fn without_commands<'a>(alloc: Global, name: &'a str, help: &'a str) -> Command<
 
 /// What follows a program's list of commands, with its name and the path of a model file.
 pub fn program_help(alloc: Global, name: &str, example: &str) -> Result<String, AllocError> {
-    format!(in alloc; "\
+    format!(in alloc;
+        "\
 Virtual times are whole ticks. Models are described by TOML files, as {example}.
 A disk is a file, which 'new' makes. A run that is killed goes on from its last commit when
 'run' is called again, with any number of nodes.
@@ -75,7 +76,8 @@ Faults:
   Rounds       all rounds of a run are made, and it is not at its end
   World ..     'seq' stops: NoMemory, or NumberLimit past 2^63 messages of one process
   NoMemory     memory ran out elsewhere
-  Output       standard output refused a write")
+  Output       standard output refused a write"
+    )
 }
 
 /// The command `new`.
@@ -142,14 +144,16 @@ const SEQ_ABOUT: &str =
 
 /// What follows the arguments of `seq`, with a text about the keys of a model file.
 pub fn seq_help(alloc: Global, keys: &str) -> Result<String, AllocError> {
-    format!(in alloc; "\
+    format!(in alloc;
+        "\
 {keys}
 
 Output, all numbers decimal:
   TIME FROM NUMBER TO A B          each event that was handled
   virtual time TIME                ticks
   lp LP sent NUMBER state WORDS    each process
-  pending TIME FROM NUMBER TO A B  each message that is not handled")
+  pending TIME FROM NUMBER TO A B  each message that is not handled"
+    )
 }
 
 const CHECK_ABOUT: &str = "Says whether a file is a model file, or what is wrong with it";

@@ -55,11 +55,7 @@ where
 ///
 /// The faults come in this order: `BadModel` where the text is no model file, or `NoMemory` where memory runs out in
 /// reading it; `World` of the runner; `Output` where the writer refuses. Before the last nothing is written.
-pub fn seq<M: Described, O: Write>(
-    alloc: Global,
-    text: &str,
-    out: &mut O,
-) -> Result<(), Fault>
+pub fn seq<M: Described, O: Write>(alloc: Global, text: &str, out: &mut O) -> Result<(), Fault>
     ensures ok { OnOk result
         (PrintsRun M.meaning M.says text.now (O.contents out.old) (O.contents out.new)) }
     ensures bad { result ≡ Err Fault.BadModel →
@@ -99,11 +95,7 @@ fn write_run<O: Write>(world: World, out: &mut O) -> Result<(), Fault>
 ///
 /// The faults come in this order: `Mistake` where the text is no model file, or `NoMemory` where memory runs out;
 /// `Output` where the writer refuses. Before the last nothing is written.
-pub fn check<M: Described, O: Write>(
-    alloc: Global,
-    text: &str,
-    out: &mut O,
-) -> Result<(), Fault>
+pub fn check<M: Described, O: Write>(alloc: Global, text: &str, out: &mut O) -> Result<(), Fault>
     ensures ok { OnOk result
         (Prints (IsChecked M.says M.shows text.now) (O.contents out.old) (O.contents out.new)) }
     ensures wrong { (mistake : Mistake) → result ≡ Err (Fault.Mistake mistake) →

@@ -73,7 +73,8 @@ fn a_mistake_is_told_in_plain_words(rt: HostRuntime) -> Result<(), Fail> {
     ];
     for (start, want) in texts {
         let text = format!(in rt.alloc(); "{start}{rest}")?;
-        let Err(ModelFault::BadModel(mistake)) = read_model::<AnyModel>(rt.alloc(), text.as_str()) else {
+        let Err(ModelFault::BadModel(mistake)) = read_model::<AnyModel>(rt.alloc(), text.as_str())
+        else {
             return Err("a mistake".into());
         };
         let told = format!(in rt.alloc(); "{mistake}")?;
