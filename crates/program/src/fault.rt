@@ -50,6 +50,32 @@ pub enum Fault {
     Output,
 }
 
+impl Fault {
+    /// What a user can do about it, in a line that a terminal shows after the fault; none where the
+    /// fault says enough.
+    pub fn advice(self) -> Option<&'static str> {
+        match self {
+            Fault::BadModel => Some("the command `check` says what is wrong with the model file"),
+            Fault::File => Some(
+                "see that both files are there and may be read, that the disk has 8 to 131072 \
+                 sectors of 512 bytes (with `new` as many as asked for), and that no other run has it",
+            ),
+            Fault::Log(LogFault::NotBlank) => Some("the disk has a log already, which `new` keeps"),
+            Fault::Log(LogFault::NotFormatted) => Some("`new` makes a log on a disk"),
+            Fault::Recovery(RecoveryFault::OtherModel)
+            | Fault::Session(SessionFault::Recovery(RecoveryFault::OtherModel)) => {
+                Some("the disk was made for another model, or for another end")
+            }
+            Fault::Session(SessionFault::Full) => Some(
+                "the disk has no room for the next commit: what is committed stays; a larger \
+                 --batch takes fewer commits, and `new` makes a larger disk (--sectors)",
+            ),
+            Fault::Rounds => Some("what is committed stays: run it again, with more --rounds"),
+            _ => None,
+        }
+    }
+}
+
 impl From<ModelFault> for Fault {
     ghost from_gives = { λ fault e. e ≡ of_model fault };
 

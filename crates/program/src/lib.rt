@@ -10,6 +10,6 @@ mod status;
 
 pub use fault::Fault;
 pub use files::{check, seq};
-pub use progress::{Progress, Shown};
+pub use progress::{Progress, TerminalProgress};
 pub use starting::start;
 pub use status::{About, answer, command, refuse_words, tell, words};

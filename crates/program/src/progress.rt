@@ -1,19 +1,26 @@
 // How far a run has come, as a terminal shows it.
 
+use crate::fault::Fault;
 use driver::Watch;
 use std::io::Write;
 use std::time::{Clock, Duration};
 
-/// Is told of a run: first at which tick it ends, and then how far it has come.
+/// Is told of a run: first at which tick it ends, then how far it has come, and what went wrong.
 pub trait Progress: Watch {
     /// A run begins that ends at this tick.
     fn begin(&mut self, end: u64);
+
+    /// Something else is about to be printed: what is shown of the run is taken away.
+    fn clear(&mut self);
+
+    /// A command has failed, and its fault is told.
+    fn failed(&mut self, fault: Fault);
 }
 
-/// Shows on one line of a terminal how far a run has come, at most twice a second, and shows nothing where there is no
-/// terminal.
+/// Shows on one line of a terminal how far a run has come, at most twice a second, and after a fault
+/// what to do about it. It shows nothing where there is no terminal.
 #[derive(Drop)]
-pub struct Shown<'c, C, T> {
+pub struct TerminalProgress<'c, C, T> {
     clock: &'c C,
     terminal: Option<T>,
     end: u64,
@@ -23,10 +30,10 @@ pub struct Shown<'c, C, T> {
     is_written: bool,
 }
 
-impl<'c, C: Clock, T: Write> Shown<'c, C, T> {
+impl<'c, C: Clock, T: Write> TerminalProgress<'c, C, T> {
     /// What is shown on this terminal, if there is one.
-    pub fn on(clock: &'c C, terminal: Option<T>) -> Shown<'c, C, T> {
-        Shown {
+    pub fn on(clock: &'c C, terminal: Option<T>) -> TerminalProgress<'c, C, T> {
+        TerminalProgress {
             clock,
             terminal,
             end: 0,
@@ -35,20 +42,15 @@ impl<'c, C: Clock, T: Write> Shown<'c, C, T> {
             is_written: false,
         }
     }
-
-    /// Clears the line, where one was written.
-    pub fn clear(&mut self) {
-        if self.is_written {
-            if let Some(terminal) = &mut self.terminal {
-                let _ = terminal.write_all(b"\r\x1b[K");
-                let _ = terminal.flush();
-            }
-        }
-    }
 }
 
-impl<C: Clock, T: Write> Watch for Shown<'_, C, T> {
+impl<C: Clock, T: Write> Watch for TerminalProgress<'_, C, T> {
     fn committed(&mut self, time: u64, events: usize) {
+        if time >= self.end {
+            // the run is over, and what it prints comes next
+            self.clear();
+            return;
+        }
         let Some(terminal) = &mut self.terminal else {
             return;
         };
@@ -79,8 +81,24 @@ impl<C: Clock, T: Write> Watch for Shown<'_, C, T> {
     }
 }
 
-impl<C: Clock, T: Write> Progress for Shown<'_, C, T> {
+impl<C: Clock, T: Write> Progress for TerminalProgress<'_, C, T> {
     fn begin(&mut self, end: u64) {
         self.end = end;
+    }
+
+    fn clear(&mut self) {
+        if self.is_written {
+            self.is_written = false;
+            if let Some(terminal) = &mut self.terminal {
+                let _ = terminal.write_all(b"\r\x1b[K");
+                let _ = terminal.flush();
+            }
+        }
+    }
+
+    fn failed(&mut self, fault: Fault) {
+        if let (Some(terminal), Some(advice)) = (&mut self.terminal, fault.advice()) {
+            let _ = writeln!(terminal, "{advice}");
+        }
     }
 }

@@ -3,7 +3,7 @@
 ghost use Rattle.std.specs.Prelude.{◌≤◌};
 
 use crate::fault::Fault;
-use crate::progress::Shown;
+use crate::progress::TerminalProgress;
 use crate::status::{About, answer, tell, words};
 use std::fs::File;
 use std::io::{self, BufWriter, IsTerminal, Print, Write};
@@ -27,8 +27,9 @@ where
         return tell(about.name, Fault::NoMemory, &mut err);
     };
     let terminal = if err.is_terminal() { Some(err) } else { None };
-    let mut progress = Shown::on(rt, terminal);
+    let mut progress = TerminalProgress::on(rt, terminal);
     let status = answer::<M, _, _, _, _>(rt, about, words(rt), &mut progress, &mut out, &mut err);
-    progress.clear();
+    // each command flushes what it writes: what is left was refused, and is not tried again
+    let (_writer, _left) = out.into_parts();
     status
 }

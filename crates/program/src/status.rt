@@ -43,7 +43,8 @@ pub fn words<R: Env + AllocGlobal>(rt: &R) -> IoResult<Vec<String>> {
 ///
 /// The status is 0 where all is done, 1 where a fault is told on `err` as the program's name, `: ` and its text, and 2 where the
 /// words are no command or ask for help, with `clap`'s text on `err`. What is asked for is written to `out`, which is
-/// flushed at the end. A run tells `progress` how far it has come.
+/// flushed at the end. A run tells `progress` how far it has come, and so does each command of its fault,
+/// after that is told.
 pub fn command<M, R, S, P, O, E>(
     rt: &R,
     about: About<'_>,
@@ -90,7 +91,12 @@ where
     };
     match run::<M, R, P, O>(rt, line, progress, out) {
         Ok(()) => 0,
-        Err(fault) => tell(about.name, fault, err),
+        Err(fault) => {
+            progress.clear();
+            let status = tell(about.name, fault, err);
+            progress.failed(fault);
+            status
+        }
     }
 }
 

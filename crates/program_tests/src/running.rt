@@ -2,7 +2,7 @@
 // without those of the program.
 
 use models::AnyModel;
-use program::{About, Shown, command};
+use program::{About, TerminalProgress, command};
 use std::env;
 use std::fs::{self, File};
 use std::io::Write;
@@ -47,7 +47,7 @@ where
     O: Write,
     E: Write,
 {
-    let mut unseen = Shown::on(rt, None::<Vec<u8>>);
+    let mut unseen = TerminalProgress::on(rt, None::<Vec<u8>>);
     command::<AnyModel, _, _, _, _, _>(rt, ABOUT, words, &mut unseen, out, err)
 }
 

@@ -1,7 +1,8 @@
 // What a terminal shows of a run.
 
+use coordinator::SessionFault;
 use driver::Watch;
-use program::{Progress, Shown};
+use program::{Fault, Progress, TerminalProgress};
 use std::io::Result as IoResult;
 use std::test::Fail;
 use std::time::{Clock, Duration};
@@ -30,7 +31,7 @@ fn a_run_is_shown_twice_a_second_and_then_cleared(rt: HostRuntime) -> Result<(),
         looks: std::cell::Cell::new(0),
     };
     let mut terminal = Vec::with_capacity(rt.alloc(), 512)?;
-    let mut shown = Shown::on(&clock, Some(&mut terminal));
+    let mut shown = TerminalProgress::on(&clock, Some(&mut terminal));
     shown.begin(1000);
     for commit in 0..7 {
         shown.committed(100 * commit, 30 * commit as usize);
@@ -42,9 +43,47 @@ fn a_run_is_shown_twice_a_second_and_then_cleared(rt: HostRuntime) -> Result<(),
           \r60% of 1000 ticks, 180 events committed, 150 a second\x1b[K\r\x1b[K"
             .as_slice()
     );
-    let mut shown = Shown::on(&clock, None::<Vec<u8>>);
+    let mut shown = TerminalProgress::on(&clock, None::<Vec<u8>>);
     shown.begin(10);
     shown.committed(10, 5);
     shown.clear();
+    shown.failed(Fault::File);
+    Ok(())
+}
+
+#[test]
+fn what_is_shown_of_a_run_is_gone_at_its_end(rt: HostRuntime) -> Result<(), Fail> {
+    let clock = Ticking {
+        looks: std::cell::Cell::new(0),
+    };
+    let mut terminal = Vec::with_capacity(rt.alloc(), 512)?;
+    let mut shown = TerminalProgress::on(&clock, Some(&mut terminal));
+    shown.begin(400);
+    for commit in 0..5 {
+        shown.committed(100 * commit, 30 * commit as usize);
+    }
+    shown.clear();
+    assert_eq!(rt;
+        terminal.as_slice(),
+        b"\r75% of 400 ticks, 90 events committed, 150 a second\x1b[K\r\x1b[K".as_slice()
+    );
+    Ok(())
+}
+
+#[test]
+fn a_terminal_shows_what_to_do_about_a_fault(rt: HostRuntime) -> Result<(), Fail> {
+    let clock = Ticking {
+        looks: std::cell::Cell::new(0),
+    };
+    let mut terminal = Vec::with_capacity(rt.alloc(), 512)?;
+    let mut shown = TerminalProgress::on(&clock, Some(&mut terminal));
+    shown.failed(Fault::Output);
+    shown.failed(Fault::Session(SessionFault::Full));
+    assert_eq!(rt;
+        terminal.as_slice(),
+        b"the disk has no room for the next commit: what is committed stays; a larger \
+          --batch takes fewer commits, and `new` makes a larger disk (--sectors)\n"
+            .as_slice()
+    );
     Ok(())
 }
