@@ -1,5 +1,6 @@
-//! Runs a workload of 8,192 pending messages up to an end in ticks, plainly or on one node of all 1,024 processes, and
-//! prints what that came to. What times it stands outside: this program's output is the same at each run.
+//! Runs a workload of 8,192 pending messages up to an end in ticks, plainly or on one node of all
+//! 1,024 processes, and prints what that came to. What times it stands outside: this program's
+//! output is the same at each run.
 #![tactic(auto)]
 
 ghost use Rattle.std.specs.Prelude.{◌≤◌, ◌^◌, IfOk};

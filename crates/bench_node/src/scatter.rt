@@ -11,8 +11,8 @@ use std::alloc::Global;
 /// How many messages each process starts with.
 pub const POPULATION: u64 = 8;
 
-/// Each message that is handled sends one on, to a process and with a delay that a step of a generator draws from its
-/// content.
+/// Each message that is handled sends one on, to a process and with a delay that a step of a
+/// generator draws from its content.
 #[derive(Drop)]
 pub struct Scatter {
     pub lps: u32,

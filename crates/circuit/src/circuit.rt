@@ -13,9 +13,11 @@ use model::{Model as Simulated, Outgoing, Sends, Words};
 use smallvec::SmallVec;
 use std::alloc::Global;
 
-/// A circuit of gates, each of which is a process. Its state is its three pins, its output, and how often that changed.
+/// A circuit of gates, each of which is a process. Its state is its three pins, its output, and how
+/// often that changed.
 ///
-/// A message gives the value `b mod 2` to pin `a`. An output that changes goes along each wire of its gate.
+/// A message gives the value `b mod 2` to pin `a`. An output that changes goes along each wire of
+/// its gate.
 #[derive(Drop)]
 pub struct Circuit {
     gates: Vec<Gate>,
@@ -25,8 +27,8 @@ pub struct Circuit {
 }
 
 impl Circuit {
-    /// The circuit of these gates and wires: 1 to 1,024 gates, none with more than 8 wires, delays of at least 1, wires
-    /// only to gates that are there. `None` for others.
+    /// The circuit of these gates and wires: 1 to 1,024 gates, none with more than 8 wires, delays
+    /// of at least 1, wires only to gates that are there. `None` for others.
     pub fn new(gates: Vec<Gate>, wires: Vec<Wire>) -> Option<Circuit>
         ensures some { IfSome result (λ c.
             (c.gates.items ≡ gates.items) × (c.wires.items ≡ wires.items)) }

@@ -80,14 +80,15 @@ IsBlankOrStands m end w image = IsBlank image ⊎ Stands m end image w
 
 -- 4. Faults
 
--- Why no log is made, or nothing is told of it. `failed` says that the device has failed in the call.
+-- Why no log is made, or nothing is told of it. `failed` says that the device has failed in the
+-- call.
 abbrev pub MakingIsRefused : CommandFault → List (List ℕ) → Type 0 → Type 0
 MakingIsRefused (Log fault) image failed = FormatIsRefused fault image failed
 MakingIsRefused Output image failed = Unit {0}
 MakingIsRefused fault image failed = ⊥
 
--- Why no world is recovered from the log of an image: want of memory, a device that failed, a header
--- of another model or end, or the first record that is at fault.
+-- Why no world is recovered from the log of an image: want of memory, a device that failed, a
+-- header of another model or end, or the first record that is at fault.
 abbrev pub IsNotRecovered : Meaning → ℕ → List (List ℕ) → RecoveryFault → Type 0
 IsNotRecovered m end image recovery.NoMemory = Unit {0}
 IsNotRecovered m end image (recovery.Log log.NoMemory) = Unit {0}

@@ -1,4 +1,5 @@
-//! The commands on a disk: make an empty log for a simulation, run it to its end, and print what is committed.
+//! The commands on a disk: make an empty log for a simulation, run it to its end, and print what is
+//! committed.
 #![tactic(auto)]
 
 mod commands;

@@ -21,7 +21,8 @@ pub fn write_formatted<O: Write>(sectors: u32, out: &mut O) -> Result<(), Comman
     Ok(())
 }
 
-/// Writes what a run has to tell: how many messages each node handled, and what is committed. Flushes the writer.
+/// Writes what a run has to tell: how many messages each node handled, and what is committed.
+/// Flushes the writer.
 pub fn write_ran<O: Write>(
     ran: &[u64],
     time: u64,

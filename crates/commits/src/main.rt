@@ -1,5 +1,6 @@
-//! Appends records to the log of a disk over a file, and prints the number of each one once it is there.
-//! The file is made, with as many sectors as are asked for, where it is not there yet, and then has an empty log.
+//! Appends records to the log of a disk over a file, and prints the number of each one once it is
+//! there. The file is made, with as many sectors as are asked for, where it is not there yet, and
+//! then has an empty log.
 //!
 //! What times it or ends it stands outside: `benchmarks/commits` and `tools/kill-writers`.
 #![tactic(auto)]

@@ -14,8 +14,8 @@ use Rattle.wire.specs.Port.Stage.{Fresh, Idle, Posted}
 use Rattle.protocol.specs.Sound.{IsSystem}
 use Rattle.protocol.specs.Views.{node_view}
 
--- What callers see of a session. What its model means, what its ports have of their nodes and what a
--- crash may leave of its disk are ghosts of those values.
+-- What callers see of a session. What its model means, what its ports have of their nodes and what
+-- a crash may leave of its disk are ghosts of those values.
 pub record Session (M P D : Type 0) : Type 0 where
   pub model : M
   pub end : ℕ

@@ -1,4 +1,5 @@
-//! Sessions: the coordinator of a running simulation, which commits what no rollback reaches to a log on a disk.
+//! Sessions: the coordinator of a running simulation, which commits what no rollback reaches to a
+//! log on a disk.
 #![tactic(auto)]
 
 mod batch;
@@ -19,7 +20,8 @@ use wire::PortFault;
 /// One step of a session.
 #[derive(Drop)]
 pub enum Step {
-    /// The messages at these places of transit are posted to a node, which may handle so many messages.
+    /// The messages at these places of transit are posted to a node, which may handle so many
+    /// messages.
     Post {
         node: u32,
         picks: Listed<u32>,
@@ -45,7 +47,8 @@ pub enum SessionFault {
     /// No node has this number.
     #[error("NoSuchNode")]
     NoSuchNode,
-    /// A pick is no place of transit, or has a message for another node, or names the same place as another pick.
+    /// A pick is no place of transit, or has a message for another node, or names the same place as
+    /// another pick.
     #[error("NoSuchPick")]
     NoSuchPick,
     /// The record does not fit on the disk.

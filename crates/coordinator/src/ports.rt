@@ -65,7 +65,8 @@ pub(crate) fn take<P: Port>(ports: &mut Vec<P>, node: usize) -> Result<Reply, Po
     port.take()
 }
 
-/// Whether all that a node's reply names is there, and the handlings that it tells are of its own processes.
+/// Whether all that a node's reply names is there, and the handlings that it tells are of its own
+/// processes.
 pub(crate) fn is_good(reply: &Reply, lps: u32, nodes: usize, node: usize) -> bool
     requires { 0 < nodes }
     ensures { result ≡ names_there lps nodes node reply.now }
@@ -88,7 +89,8 @@ fn are_there(sent: &[Message], lps: u32) -> bool
     sent.iter().all(|message| message.to() < lps)
 }
 
-/// Whether this handling is of a process of this node, and what it sent for processes that are there.
+/// Whether this handling is of a process of this node, and what it sent for processes that are
+/// there.
 fn is_told_there(done: &Done, lps: u32, nodes: usize, node: usize) -> bool
     requires { 0 < nodes }
     ensures { result ≡ is_told_there lps nodes node done.now }
@@ -97,7 +99,8 @@ fn is_told_there(done: &Done, lps: u32, nodes: usize, node: usize) -> bool
     to < lps && to as usize % nodes == node && are_there(done.sent.as_slice(), lps)
 }
 
-/// Whether these handlings are all of processes of this node, and what they sent for processes that are there.
+/// Whether these handlings are all of processes of this node, and what they sent for processes that
+/// are there.
 fn are_told_there(fossils: &[Done], lps: u32, nodes: usize, node: usize) -> bool
     requires { 0 < nodes }
     ensures { result ≡ list_all (is_told_there lps nodes node) fossils.now }

@@ -28,10 +28,12 @@ pub struct Resumed<D: SectorDisk> {
     pub fault: Option<SessionFault>,
 }
 
-/// Opens a session on a disk, makes these steps, up to the first that is refused, and hands the disk back.
+/// Opens a session on a disk, makes these steps, up to the first that is refused, and hands the
+/// disk back.
 ///
-/// The disk was formatted for this model and this end, in ticks; there are 1 to 64 ports, through which nothing was loaded
-/// yet: there may be as many as one likes each time. It costs what [`Session::open`] and the steps cost.
+/// The disk was formatted for this model and this end, in ticks; there are 1 to 64 ports, through
+/// which nothing was loaded yet: there may be as many as one likes each time. It costs what
+/// [`Session::open`] and the steps cost.
 pub fn resume<M: Simulated, P: Port + Drop, D: SectorDisk>(
     alloc: Global,
     model: &M,
@@ -100,13 +102,14 @@ fn left<M: Simulated, P: Port + Drop, D: SectorDisk>(
     }
 }
 
-/// For every model that keeps its laws, every number of nodes, every list of session steps and every stop before or within
-/// any sector write, opening the disk again gives the states, pending messages and event log of the sequential simulation
-/// up to a virtual time no lower than the last one acknowledged, and whatever is committed from there on is what that same
-/// sequential simulation does next.
+/// For every model that keeps its laws, every number of nodes, every list of session steps and
+/// every stop before or within any sector write, opening the disk again gives the states, pending
+/// messages and event log of the sequential simulation up to a virtual time no lower than the last
+/// one acknowledged, and whatever is committed from there on is what that same sequential
+/// simulation does next.
 ///
-/// It does nothing: it is the law that joins what [`resume`], [`Session::open`], [`Session::step`] and [`Session::drive`]
-/// say of one call, over any history of calls and stops.
+/// It does nothing: it is the law that joins what [`resume`], [`Session::open`], [`Session::step`]
+/// and [`Session::drive`] say of one call, over any history of calls and stops.
 pub fn headline()
     ensures { Headline }
 {}

@@ -29,7 +29,8 @@ pub record IsSpan (first end : ℕ) (loose : List Bool) : Type 0 where
   pub within : end ≤ length loose
   pub spans : (n : ℕ) → slice_index_or loose n false ≡ true → (first ≤ n) × (n < end)
 
--- A crash may leave this image: any 512 bytes in each loose sector, and what a read gives in each other one.
+-- A crash may leave this image: any 512 bytes in each loose sector, and what a read gives in each
+-- other one.
 pub record MayLeave (reads : List (List ℕ)) (loose : List Bool)
     (image : List (List ℕ)) : Type 0 where
   pub sectors : length image ≡ length reads
@@ -57,7 +58,8 @@ moment disk = length disk.past
 abbrev pub standing_of : List (List ℕ) → List Bool → Standing
 standing_of reads loose = record { reads = reads; loose = loose }
 
--- A crash at some moment from t on may have left this image, where the disk stood so at the moments up to the latest.
+-- A crash at some moment from t on may have left this image, where the disk stood so at the moments
+-- up to the latest.
 abbrev pub LeftIn : List Standing → ℕ → List (List ℕ) → Type 0
 LeftIn [] t image = ⊥
 LeftIn (stood ∷ before) t image = ((t ≤ length before) × MayLeave stood.reads stood.loose image)
@@ -67,7 +69,8 @@ LeftIn (stood ∷ before) t image = ((t ≤ length before) × MayLeave stood.rea
 unfoldable pub left_since : DiskState → ℕ → List (List ℕ) → Type 0
 left_since disk t image = LeftIn (standing_of disk.reads disk.loose ∷ disk.past) t image
 
--- Time goes on: a crash since t can have left just what it might have left before, or what it may leave now.
+-- Time goes on: a crash since t can have left just what it might have left before, or what it may
+-- leave now.
 pub record Elapses (old new : DiskState) : Type 0 where
   pub later : moment old ≤ moment new
   pub nothing_else : (t : ℕ) (image : List (List ℕ)) → t ≤ moment old → left_since new t image →

@@ -3,7 +3,8 @@ use Rattle.std.specs.Prelude.{◌≡◌, ◌<◌, ◌≤◌, ℕ, Bool, true, fa
 use Rattle.std.specs.Prelude.{slice_index_or}
 use Rattle.disk.specs.Disk.{IsDisk, Standing, DiskState}
 
--- what a read gives, which sectors are loose, how it stood at the moments before, and how often the file has failed
+-- what a read gives, which sectors are loose, how it stood at the moments before, and how often the
+-- file has failed
 pub record FileState : Type 0 where
   pub reads : List (List ℕ)
   pub loose : List Bool
@@ -19,7 +20,8 @@ disk_of_file disk = record {
   failures = disk.failures;
 }
 
--- how many sectors a file may have that is opened as a disk of so many: those, or 8 to 131,072 where none are given
+-- how many sectors a file may have that is opened as a disk of so many: those, or 8 to 131,072
+-- where none are given
 abbrev pub MayHave : Option ℕ → ℕ → Type 0
 MayHave None count = (8 ≤ count) × (count ≤ 131072)
 MayHave (Some sectors) count = count ≡ sectors

@@ -25,7 +25,8 @@ abbrev pub is_at : Option ℕ → ℕ → Bool
 is_at None number = false
 is_at (Some planned) number = eqb planned number
 
--- whether the operation that comes now fails, if it is no write: the number planned, and each one after the stop
+-- whether the operation that comes now fails, if it is no write: the number planned, and each one
+-- after the stop
 abbrev pub fails : Counts → Bool
 fails now = now.stopped || is_at now.plan.fail now.operations
 

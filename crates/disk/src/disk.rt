@@ -20,8 +20,9 @@ pub enum DiskFault {
 
 /// A disk of sectors of 512 bytes, numbered from 0.
 ///
-/// A sector that was written since the last successful sync is loose: a crash may leave any 512 bytes in it.
-/// In each other sector a crash leaves what a read gives. (This project's profile of a disk.)
+/// A sector that was written since the last successful sync is loose: a crash may leave any 512
+/// bytes in it. In each other sector a crash leaves what a read gives. (This project's profile of a
+/// disk.)
 pub trait SectorDisk {
     /// What a read of each sector gives, which sectors are loose, how this was at each moment
     /// before now, and how often the device has failed.

@@ -6,7 +6,8 @@ ghost use Rattle.disk.specs.Disk.{Standing, standing_of};
 use crate::image::Image;
 use std::marker::Model;
 
-/// What a read gave and which sectors were loose at each moment before now, the latest first. It takes no memory.
+/// What a read gave and which sectors were loose at each moment before now, the latest first. It
+/// takes no memory.
 #[derive(Drop)]
 pub struct History {
     pub ghost past: { List Standing },

@@ -5,7 +5,8 @@ ghost use Rattle.disk.specs.Disk.{image_of, IsFirm, IsSector, IsSpan};
 
 use std::alloc::{AllocError, Global};
 
-/// The sectors, whether each is loose, and a span in which all loose ones lie: a sync looks at those of the span alone.
+/// The sectors, whether each is loose, and a span in which all loose ones lie: a sync looks at
+/// those of the span alone.
 #[derive(Drop)]
 pub struct Image {
     pub sectors: Vec<[u8; 512]>,

@@ -22,8 +22,8 @@ pub enum Torn {
     Fill(u8),
 }
 
-/// A disk in memory. Its calls fail by a [`Plan`], and [`crash`](MemDisk::crash) gives what a power cut would leave.
-/// It takes all its memory when it is made.
+/// A disk in memory. Its calls fail by a [`Plan`], and [`crash`](MemDisk::crash) gives what a power
+/// cut would leave. It takes all its memory when it is made.
 pub struct MemDisk {
     image: Image,
     synced: Vec<[u8; 512]>,

@@ -4,8 +4,9 @@ ghost use Rattle.std.specs.Prelude.{◌≡◌};
 use crate::tally::Tally;
 use std::marker::Model;
 
-/// Which operations of a [`MemDisk`](crate::MemDisk) answer `Device`. The operations are its reads, writes and syncs.
-/// A call that answers `NoSuchSector` is no operation. A failure has no effect on what a read gives.
+/// Which operations of a [`MemDisk`](crate::MemDisk) answer `Device`. The operations are its reads,
+/// writes and syncs. A call that answers `NoSuchSector` is no operation. A failure has no effect on
+/// what a read gives.
 #[derive(Clone, Copy, Debug, Default, PartialEq, Eq)]
 pub struct Plan {
     /// The operation of this number fails, counted from 0.
@@ -14,7 +15,8 @@ pub struct Plan {
     pub stop: Option<u64>,
 }
 
-/// The plan, and how far the disk has come in it. The counts stay at the largest number when they get there.
+/// The plan, and how far the disk has come in it. The counts stay at the largest number when they
+/// get there.
 #[derive(Drop)]
 pub struct Schedule {
     plan: Plan,

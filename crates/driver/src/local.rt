@@ -36,8 +36,9 @@ pub struct Ran<D> {
 /// Runs a simulation on its disk over 1 to 64 nodes in this program, from where the disk stands to
 /// `end`, the tick at which it ends, 1 to 2^40, and hands the disk back.
 ///
-/// The faults are those of the session's opening and steps (`Session`), of the rounds (`Rounds`), and
-/// `NoMemory` where memory is refused. What was committed stands on the disk, whatever is answered.
+/// The faults are those of the session's opening and steps (`Session`), of the rounds (`Rounds`),
+/// and `NoMemory` where memory is refused. What was committed stands on the disk, whatever is
+/// answered.
 pub fn run_local<M: Simulated, D: SectorDisk + Drop, W: Watch>(
     alloc: Global,
     model: &M,
@@ -56,8 +57,8 @@ pub fn run_local<M: Simulated, D: SectorDisk + Drop, W: Watch>(
     // The rounds are the cause only where all of them are made, and the end is not reached.
     ensures rounds { IsErrOf result.told RunFault.Rounds → IsUnfinished (M.meaning model.now) end
         plan.nodes plan.batch plan.rounds (D.state disk).reads }
-    // Whatever time the disk stands for at least, it does so at each moment of the run and after it, at
-    // every exit; and after a run that came to its end, for the end.
+    // Whatever time the disk stands for at least, it does so at each moment of the run and after
+    // it, at every exit; and after a run that came to its end, for the end.
     ensures crashes { (a : ℕ) → Recovers (M.meaning model.now) end a (D.state disk) →
         KeepsRecovery (M.meaning model.now) end a a (D.state disk) (D.state result.disk) }
     ensures committed { OnOk result.told (Recovers (M.meaning model.now) end end (D.state result.disk)) }

@@ -6,8 +6,8 @@ ghost use Rattle.driver.specs.Driver.{places_for};
 use eventkey::Signed;
 use std::alloc::{AllocError, Global};
 
-/// The places in transit of what is for the processes of a node, ascending: all of them that 32 bits
-/// can number. It costs one pass over transit.
+/// The places in transit of what is for the processes of a node, ascending: all of them that 32
+/// bits can number. It costs one pass over transit.
 pub(crate) fn places(
     alloc: Global,
     transit: &[Signed],

@@ -44,8 +44,8 @@ pub trait Watch {
     fn committed(&mut self, time: u64, events: usize);
 }
 
-/// Drives a session until all is committed up to `end` ticks, the end of its simulation, and answers
-/// how many messages each node handled, as its replies told.
+/// Drives a session until all is committed up to `end` ticks, the end of its simulation, and
+/// answers how many messages each node handled, as its replies told.
 ///
 /// A round gives each node its turn, from node 0 up: all that is in transit for it is posted, it
 /// handles so many messages, and its reply is taken. Then one commit is made. What is refused first
@@ -90,8 +90,8 @@ pub fn run<M: Simulated, P: Port, D: SectorDisk, W: Watch>(
     Ok(ran)
 }
 
-/// Gives each node its turn, and commits. There is a count for each node, to which what it handled is
-/// added.
+/// Gives each node its turn, and commits. There is a count for each node, to which what it handled
+/// is added.
 fn round<M: Simulated, P: Port, D: SectorDisk>(
     alloc: Global,
     session: &mut Session<'_, M, P, D>,

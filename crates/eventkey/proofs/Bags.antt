@@ -1,5 +1,5 @@
--- The order of messages, and bags of them. Nothing but the first part knows the fields of a message:
--- it shows a total order whose equals are equal, and which goes by time first.
+-- The order of messages, and bags of them. Nothing but the first part knows the fields of a
+-- message: it shows a total order whose equals are equal, and which goes by time first.
 use Rattle.std.proofs.Common.{◌≡◌, refl, Ordering, Less, Equal, Greater, ℕ, ◌<◌, sym, nat_cmp, arith, true, false, is_eq, is_lt, ap, ◌↔◌, ◌∙◌, ◌≤◌, inl, inr, ◌⊎◌, ◌+◌, List, [], ◌∷◌, ◌++◌, subst, zero, suc, length, get_or, Contains, ap₂, flat_map, set, min}
 use Rattle.std.proofs.lemmas.Bool.{false≢true, true≢false, both_ways, false_from_ne_true, cases_lt, cases_Bool, cond_both}
 use Rattle.std.proofs.lemmas.Cmp.{ranked, by_ranked, tied_itself}

@@ -1,4 +1,5 @@
--- The readers of whole messages, and the reads at fixed places. Nothing here knows the fields of a message.
+-- The readers of whole messages, and the reads at fixed places. Nothing here knows the fields of a
+-- message.
 use Rattle.std.specs.Prelude.{nat_lt, nat_eq, IfOk, Result, Ok, Err}
 use Rattle.std.proofs.Common.{◌≡◌, ℕ, suc, ◌+◌, ◌-◌, ◌*◌, ◌^◌, ◌≤◌, cond, Bool, true, false, List, [], ◌∷◌, ◌++◌, length, take, drop, Option, Some, None, refl, sym, ap, ap₂, subst, ◌∙◌, arith, inl, inr, eqb-true}
 use Rattle.std.proofs.lemmas.Bool.{cases_lt, cases_Bool, lt-ltb, le-ltb}

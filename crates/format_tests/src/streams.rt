@@ -179,7 +179,8 @@ fn spelled(alloc: Global, frame: &Frame) -> Result<Vec<u8>, WireFault> {
     }
 }
 
-/// Two frames of these bytes one behind the other are read, each to its last byte, in pieces of so many bytes.
+/// Two frames of these bytes one behind the other are read, each to its last byte, in pieces of so
+/// many bytes.
 fn read_twice(rt: &impl Abort, alloc: Global, frame: &[u8], size: usize) -> Result<(), Fail> {
     let mut bytes = Vec::new(alloc);
     bytes.extend_from_slice(frame)?;
@@ -207,7 +208,8 @@ fn frames_are_read_to_their_last_byte(rt: HostRuntime) -> Result<(), Fail> {
     Ok(())
 }
 
-/// These bytes are read as one whole frame of this kind, and are none with their last byte missing or with a byte more.
+/// These bytes are read as one whole frame of this kind, and are none with their last byte missing
+/// or with a byte more.
 fn read_whole(rt: &impl Abort, alloc: Global, frame: &[u8], kind: Kind) -> Result<(), Fail> {
     let Some(raw) = read_whole_raw(alloc, frame)? else {
         return Err(Fail::new("the bytes are a frame"));

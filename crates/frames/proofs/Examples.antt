@@ -1,4 +1,5 @@
--- The definitions, computed: what stands in a frame's place, and the frames of a ring of three processes.
+-- The definitions, computed: what stands in a frame's place, and the frames of a ring of three
+-- processes.
 use Rattle.std.proofs.Common.{◌≡◌, List, ℕ, [], ◌∷◌, ◌++◌, refl, Some, Ok}
 use Rattle.byteorder.specs.Endian.{big_bytes}
 use Rattle.eventkey.specs.Reading.{number_at, items_at}

@@ -3,7 +3,8 @@
 ghost use Rattle.frames.specs.Laws.{BodiesAreSpelled, FramesAreReadBack, FramesAreReadWhole};
 ghost use Rattle.frames.specs.Laws.{FramesAreSpelled, NoByteIsLeftOver};
 
-/// Each frame has one spelling: what is written is read back, whatever follows, and what is read is spelled so.
+/// Each frame has one spelling: what is written is read back, whatever follows, and what is read is
+/// spelled so.
 pub fn law_of_frames()
     ensures again { FramesAreReadBack }
     ensures whole { FramesAreReadWhole }

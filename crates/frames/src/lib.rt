@@ -1,4 +1,5 @@
-//! Frames of bytes between a session and its nodes (this project's profile): the length of a body, its kind, the body.
+//! Frames of bytes between a session and its nodes (this project's profile): the length of a body,
+//! its kind, the body.
 #![tactic(auto)]
 
 ghost use Rattle.std.specs.Prelude.{◌≡◌};

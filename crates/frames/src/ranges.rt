@@ -1,4 +1,5 @@
-// What an encoder accepts lies in the ranges of its frame. These calls answer nothing: their contracts say it.
+// What an encoder accepts lies in the ranges of its frame. These calls answer nothing: their
+// contracts say it.
 
 ghost use Rattle.std.specs.Prelude.{◌≤◌, ◌<◌, ◌^◌, length};
 ghost use Rattle.std.specs.List.{AllByRecursion as Every};

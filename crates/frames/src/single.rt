@@ -9,8 +9,8 @@ use crate::stream::{MOST_BYTES, Raw, kind_of};
 use eventkey::{Listed, read_u8, read_u32};
 use std::alloc::{AllocError, Global};
 
-/// The frame that all of the bytes are, with a body that is not yet looked at, or `None` where they are none. No
-/// reader stands between, so it fails for want of memory alone. It copies the body.
+/// The frame that all of the bytes are, with a body that is not yet looked at, or `None` where they
+/// are none. No reader stands between, so it fails for want of memory alone. It copies the body.
 #[tactic(auto, unfolding(crate::specs::Cutting::raw_in))]
 pub fn read_whole_raw(alloc: Global, bytes: &[u8]) -> Result<Option<Raw>, AllocError>
     ensures { IfOk result (λ raw. raw ≡ raw_in bytes.now) }

@@ -52,7 +52,8 @@ fn fill<R: Read>(reader: &mut R, buffer: &mut [u8]) -> io::Result<usize>
     Err(io::Error::from(ErrorKind::TimedOut))
 }
 
-/// Reads so many bytes; `None` where the input ends before. The memory that it takes grows with the bytes that come.
+/// Reads so many bytes; `None` where the input ends before. The memory that it takes grows with the
+/// bytes that come.
 fn read_bytes<R: Read>(
     alloc: Global,
     reader: &mut R,
@@ -86,10 +87,11 @@ pub(crate) fn kind_of(number: u8) -> Option<Kind>
     }
 }
 
-/// Reads one frame, and not a byte more, and leaves its body as it is. `None` where the input has ended.
+/// Reads one frame, and not a byte more, and leaves its body as it is. `None` where the input has
+/// ended.
 ///
-/// TooLong for a body of more than 2^24 bytes, before the kind is read; else BadKind for a kind that is none, before the
-/// body is read; else Truncated where the input ends within the frame.
+/// TooLong for a body of more than 2^24 bytes, before the kind is read; else BadKind for a kind
+/// that is none, before the body is read; else Truncated where the input ends within the frame.
 pub fn read_raw<R: Read>(alloc: Global, reader: &mut R) -> Result<Option<Raw>, WireFault>
     ensures { OnBytes (R.remaining reader.old) (R.remaining reader.new) (IsCutBy cut result) }
 {
@@ -124,10 +126,11 @@ pub fn read_raw<R: Read>(alloc: Global, reader: &mut R) -> Result<Option<Raw>, W
 
 /// Reads one frame, and not a byte more. `None` where the input has ended.
 ///
-/// TooLong for a body of more than 2^24 bytes, before the kind is read; else BadKind for a kind that is none, before the
-/// body is read; else Truncated where the input ends within the frame; else BadBody where the body is not of its kind.
-/// Io where the reader fails, and NoMemory where memory is refused: some bytes of the frame are taken then. The memory for a
-/// body grows with the bytes that come, not with the length that is stated.
+/// TooLong for a body of more than 2^24 bytes, before the kind is read; else BadKind for a kind
+/// that is none, before the body is read; else Truncated where the input ends within the frame;
+/// else BadBody where the body is not of its kind. Io where the reader fails, and NoMemory where
+/// memory is refused: some bytes of the frame are taken then. The memory for a body grows with the
+/// bytes that come, not with the length that is stated.
 pub fn read_frame<R: Read>(alloc: Global, reader: &mut R) -> Result<Option<Frame>, WireFault>
     ensures { OnBytes (R.remaining reader.old) (R.remaining reader.new) (IsCutBy frame_cut result) }
 {

@@ -18,7 +18,8 @@ module _ {X : Type 0} where
   unmarked-append (true ∷ bs) cs (x ∷ xs) ys e = unmarked-append bs cs xs ys (omega arith)
   unmarked-append (false ∷ bs) cs (x ∷ xs) ys e = ap (λ (zs : List X). x ∷ zs) (unmarked-append bs cs xs ys (omega arith))
 
-  -- xs became ys: what has no mark of the first i of xs stands in the first k places of ys, and from i on ys is as xs
+  -- xs became ys: what has no mark of the first i of xs stands in the first k places of ys, and
+  -- from i on ys is as xs
   pub record IsKeptInPlace (marks : List Bool) (xs ys : List X) (k i : ℕ) : Type 0 where
     pub front : take k ys ≡ unmarked (take i marks) (take i xs)
     pub rest : drop i ys ≡ drop i xs

@@ -1,4 +1,5 @@
--- One pass over transit: what has no mark moves to the front, the marks are cleared, and the least time is found.
+-- One pass over transit: what has no mark moves to the front, the marks are cleared, and the least
+-- time is found.
 use Rattle.std.proofs.Common.{ℕ, zero, suc, ◌≡◌, ◌+◌, ◌≤◌, ◌<◌, List, [], ◌∷◌, ◌++◌, Bool, true, false, Option, None, Some, length, take, drop, get_or, set, replicate, refl, ap, ◌∙◌, sym, arith}
 use Rattle.std.proofs.lemmas.List.{length-replicate, length-take, take_all, take_more_set}
 use Rattle.eventkey.specs.declared.Signed.{Signed}

@@ -1,5 +1,5 @@
--- The ledger of a running system: what travels, what the nodes told last, and the floor that follows
--- (global virtual time: Jefferson 1985, Fujimoto 1990).
+-- The ledger of a running system: what travels, what the nodes told last, and the floor that
+-- follows (global virtual time: Jefferson 1985, Fujimoto 1990).
 use Rattle.std.specs.Prelude.{ℕ, List, [], ◌∷◌, min, Option, Some, None, ◌++◌, map, flat_map, Bool, is_some, get_or, set, length, ◌&&◌, replicate}
 use Rattle.eventkey.specs.Bag.{least_time}
 use Rattle.eventkey.specs.declared.Signed.{Signed}

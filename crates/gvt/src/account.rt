@@ -8,7 +8,8 @@ use crate::times::least_of;
 use node::Parcel;
 use std::snapshot::Snapshot;
 
-/// What is kept of a parcel that its node has not answered yet. The parcel itself is handed out: only clauses see it here.
+/// What is kept of a parcel that its node has not answered yet. The parcel itself is handed out:
+/// only clauses see it here.
 #[derive(Drop)]
 pub(crate) struct Posted {
     pub parcel: Snapshot<Parcel>,

@@ -84,7 +84,8 @@ impl Account {
         }
     }
 
-    /// This floor of other nodes, in ticks, with the node's low and what its outstanding parcel delivers.
+    /// This floor of other nodes, in ticks, with the node's low and what its outstanding parcel
+    /// delivers.
     pub(crate) fn lowers(&self, floor: u64) -> u64
         ensures { result ≡ with_node floor self.now }
     {

@@ -1,5 +1,5 @@
-//! The ledger of a running simulation: what travels between its nodes, and the floor below which no rollback goes
-//! (global virtual time: Jefferson 1985, Fujimoto 1990).
+//! The ledger of a running simulation: what travels between its nodes, and the floor below which no
+//! rollback goes (global virtual time: Jefferson 1985, Fujimoto 1990).
 #![tactic(auto)]
 
 ghost use Rattle.std.specs.Prelude.{◌≡◌, ◌<◌, ◌≤◌, ◌↔◌, ℕ, true, false, length, IfOk, OnOk, OnErr};
@@ -36,7 +36,8 @@ pub enum LedgerFault {
     /// No node has this number.
     #[error("NoSuchNode")]
     NoSuchNode,
-    /// A pick is no place of transit, or has a message for another node, or names the same place as another pick.
+    /// A pick is no place of transit, or has a message for another node, or names the same place as
+    /// another pick.
     #[error("NoSuchPick")]
     NoSuchPick,
     /// Memory was refused.
@@ -62,8 +63,8 @@ impl<T: Drop> From<AllocFailed<T>> for LedgerFault {
 
 /// What travels between the nodes, what each node told last, and the floor that follows from both.
 ///
-/// Contracts see it as the record of its end, its transit, and for each node its outstanding parcel, its last low and
-/// the floor of the parcel that it answered last.
+/// Contracts see it as the record of its end, its transit, and for each node its outstanding
+/// parcel, its last low and the floor of the parcel that it answered last.
 pub struct Ledger {
     end: u64,
     nodes: u32,
@@ -99,9 +100,9 @@ impl Model for Ledger {
 impl Ledger {
     /// A ledger of so many nodes, over which nothing travels yet.
     ///
-    /// No time counts past `end`, in ticks. Each node starts with `floor` as the floor that it answered last, in ticks,
-    /// and with its entry of `lows`: the least time, in ticks, of what waits at it, none where nothing does.
-    /// It is refused for memory alone.
+    /// No time counts past `end`, in ticks. Each node starts with `floor` as the floor that it
+    /// answered last, in ticks, and with its entry of `lows`: the least time, in ticks, of what
+    /// waits at it, none where nothing does. It is refused for memory alone.
     pub fn new(
         alloc: Global,
         nodes: u32,
@@ -136,8 +137,9 @@ impl Ledger {
         self.accounts[node as usize].is_busy()
     }
 
-    /// The floor, in ticks: the least of the end, the times in transit, the times in outstanding parcels and the lows
-    /// that the nodes told last. It takes no memory, and its cost is that of one pass over the nodes.
+    /// The floor, in ticks: the least of the end, the times in transit, the times in outstanding
+    /// parcels and the lows that the nodes told last. It takes no memory, and its cost is that of
+    /// one pass over the nodes.
     pub fn floor(&self) -> u64
         ensures { result ≡ floor_of self.now }
     {
@@ -148,7 +150,8 @@ impl Ledger {
         floor
     }
 
-    /// The least of the end and of the floors of the parcels that the nodes answered last, in ticks. It takes no memory.
+    /// The least of the end and of the floors of the parcels that the nodes answered last, in
+    /// ticks. It takes no memory.
     pub fn least_answered(&self) -> u64
         ensures { result ≡ least_floor self.now.end self.now.floors }
     {
@@ -159,13 +162,14 @@ impl Ledger {
         least
     }
 
-    /// Takes the messages at these places of transit out of it, as the parcel that the node is to handle, with at most
-    /// `budget` messages to be handled and the floor that held before.
+    /// Takes the messages at these places of transit out of it, as the parcel that the node is to
+    /// handle, with at most `budget` messages to be handled and the floor that held before.
     ///
-    /// The parcel has them in the order of the picks, and the others keep their order. It is refused, in this order,
-    /// where no node has this number, where a parcel is outstanding there, where a pick is no place of transit, has a
-    /// message for another node or comes twice, and where memory is refused; then nothing changes. Its cost is that of
-    /// the picks and of the nodes, and where there are picks, of one pass over transit.
+    /// The parcel has them in the order of the picks, and the others keep their order. It is
+    /// refused, in this order, where no node has this number, where a parcel is outstanding there,
+    /// where a pick is no place of transit, has a message for another node or comes twice, and
+    /// where memory is refused; then nothing changes. Its cost is that of the picks and of the
+    /// nodes, and where there are picks, of one pass over transit.
     pub fn post(&mut self, node: u32, picks: &[u32], budget: u32) -> Result<Parcel, LedgerFault>
         ensures parcel { IfOk result (λ parcel. parcel ≡ parcel_of self.old picks.now budget) }
         ensures posted { OnOk result (self.new ≡ after_post self.old node picks.now budget) }
@@ -196,11 +200,11 @@ impl Ledger {
         Ok(parcel)
     }
 
-    /// Notes the node's reply to its outstanding parcel: what it sent joins transit's end, and its low and the floor of
-    /// that parcel are the last ones.
+    /// Notes the node's reply to its outstanding parcel: what it sent joins transit's end, and its
+    /// low and the floor of that parcel are the last ones.
     ///
-    /// It is refused, in this order, where no node has this number, where no parcel is outstanding there, and where
-    /// memory is refused; then nothing changes.
+    /// It is refused, in this order, where no node has this number, where no parcel is outstanding
+    /// there, and where memory is refused; then nothing changes.
     pub fn take(&mut self, node: u32, reply: &Reply) -> Result<(), LedgerFault>
         ensures ok { (parcel : Parcel) → outstanding self.old node ≡ Some parcel → OnOk result
             (self.new ≡ after_take self.old node parcel reply.now) }

@@ -74,7 +74,8 @@ impl Transit {
         Ok(())
     }
 
-    /// Takes out the messages at these places, in the order of the picks; the others keep their order.
+    /// Takes out the messages at these places, in the order of the picks; the others keep their
+    /// order.
     ///
     /// Its cost is that of the picks, and where there are any, of one pass over what is in transit.
     pub(crate) fn pick(
@@ -112,7 +113,8 @@ impl Transit {
     }
 }
 
-/// Marks the picked places, as far as each has a message for the node and is picked once. Whether all are so.
+/// Marks the picked places, as far as each has a message for the node and is picked once. Whether
+/// all are so.
 fn mark(messages: &[Signed], marks: &mut [bool], nodes: u32, node: u32, picks: &[u32]) -> bool
     requires some { 0 < nodes }
     requires clear { marks.old ≡ replicate (length messages.now) false }
@@ -168,8 +170,8 @@ fn copied(alloc: Global, messages: &[Signed], picks: &[u32]) -> Result<Vec<Signe
     Ok(picked)
 }
 
-/// Moves the messages with no mark to the front, in their order, and clears the marks. Their number, and their least time in
-/// ticks, if there are any.
+/// Moves the messages with no mark to the front, in their order, and clears the marks. Their
+/// number, and their least time in ticks, if there are any.
 fn sweep(messages: &mut [Signed], marks: &mut [bool]) -> (usize, Option<u64>)
     requires { length marks.old ≡ length messages.old }
     ensures within { result.0 ≤ length messages.old }
@@ -192,8 +194,8 @@ fn sweep(messages: &mut [Signed], marks: &mut [bool]) -> (usize, Option<u64>)
     (kept, least)
 }
 
-/// Takes out the messages with a mark; the others keep their order, and have clear marks. Their least time, in ticks, if there
-/// are any.
+/// Takes out the messages with a mark; the others keep their order, and have clear marks. Their
+/// least time, in ticks, if there are any.
 fn drop_marked(messages: &mut Vec<Signed>, marks: &mut Vec<bool>) -> Option<u64>
     requires { length marks.old.items ≡ length messages.old.items }
     ensures left { messages.new.items ≡ unmarked marks.old.items messages.old.items }

@@ -35,8 +35,8 @@ impl<const K: usize> std::marker::Model for Counting<K> {
         × (1 < c.ring.ring.lps) × (1 ≤ K) };
 }
 
-/// What can be told of a history: how many records it has, for how many it keeps the state words, and the time of the
-/// first.
+/// What can be told of a history: how many records it has, for how many it keeps the state words,
+/// and the time of the first.
 type Look = (usize, usize, Option<u64>);
 
 impl<const K: usize> Counting<K> {
@@ -154,7 +154,8 @@ fn are_after(records: &[Record], count: u64) -> bool {
 }
 
 impl<const K: usize> Counting<K> {
-    /// Handles messages until there are so many records, each again where memory was refused, which changed nothing.
+    /// Handles messages until there are so many records, each again where memory was refused, which
+    /// changed nothing.
     fn fill(&mut self, rt: &impl Abort, len: usize) -> Result<(), Fail> {
         for _ in self.history.len()..len {
             let message = self.next()?;

@@ -1,4 +1,5 @@
-// Nodes at work on a ring of three processes, which hands a token on after two ticks, up to time 10.
+// Nodes at work on a ring of three processes, which hands a token on after two ticks, up to time
+// 10.
 
 ghost use Rattle.std.specs.Prelude.{◌≡◌, ◌<◌, ◌≤◌, ◌^◌, IfOk};
 ghost use Rattle.std.specs.List.{AllByRecursion as Every};
@@ -98,11 +99,12 @@ fn load(alloc: Global, node: u32, nodes: u32, seats: &[Seat]) -> Result<Tried<To
 /// A parcel as a test names it: what is delivered, the budget, and the floor in ticks.
 type Posted<'a> = (&'a [(Sign, Row)], u32, u64);
 
-/// A fossil as a test wants it: the message, the one message that it made the process send, the process's count of
-/// messages and the number of its next send.
+/// A fossil as a test wants it: the message, the one message that it made the process send, the
+/// process's count of messages and the number of its next send.
 type Fossil = (Row, Row, u64, u64);
 
-/// A reply as a test wants it: what goes out, the low, how many messages were handled, and the fossils.
+/// A reply as a test wants it: what goes out, the low, how many messages were handled, and the
+/// fossils.
 type Wanted<'a> = (&'a [(Sign, Row)], Option<u64>, u32, &'a [Fossil]);
 
 fn is_fossil(fossil: &Done, wanted: &Fossil) -> bool {

@@ -26,8 +26,8 @@ impl std::marker::Model for Turning {
     ghost invariant = { λ t. length t.world.world.states ≡ t.ring.ring.lps };
 }
 
-/// What is told of a ring: the time, how many messages were handled, the send numbers, the counts, and the time and the
-/// receiver of the token.
+/// What is told of a ring: the time, how many messages were handled, the send numbers, the counts,
+/// and the time and the receiver of the token.
 type Told = [u64; 10];
 
 /// The token's messages, as they are handled.
@@ -67,7 +67,8 @@ impl Turning {
         self.world.run_to(&self.ring, time)
     }
 
-    /// The message that one step handles, asked for again where memory is refused, which changes nothing.
+    /// The message that one step handles, asked for again where memory is refused, which changes
+    /// nothing.
     fn step_at_last(&mut self) -> Result<Option<Row>, WorldFault> {
         let before = self.told();
         let handled = match self.step() {

@@ -1,4 +1,5 @@
-//! The command line of a program over models of any kind: which command its words name, and with which values.
+//! The command line of a program over models of any kind: which command its words name, and with
+//! which values.
 #![tactic(auto)]
 
 mod grammar;

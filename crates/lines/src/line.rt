@@ -60,10 +60,11 @@ pub enum Line<'a> {
     },
 }
 
-/// The command that a line's words name, and its values. The first word is the program's own name, and `texts` is of its help.
+/// The command that a line's words name, and its values. The first word is the program's own name,
+/// and `texts` is of its help.
 ///
-/// Where there is none, the answer is `clap`'s error: its text tells the user what is wrong, or is the help that was
-/// asked for. `clap` also answers by an error where memory runs out.
+/// Where there is none, the answer is `clap`'s error: its text tells the user what is wrong, or is
+/// the help that was asked for. `clap` also answers by an error where memory runs out.
 pub fn read_line<'a, S: AsStr>(
     alloc: Global,
     texts: Texts<'a>,

@@ -51,7 +51,8 @@ state_of m held = record { stage = stage_of held; tells = true; meaning = m; nod
 abbrev pub state_by : {M : Type 0} → (M → Meaning) → Loop M → PortState
 state_by meaning port = state_of (meaning port.model) port.held
 
--- its node is one of this model and has handled what it does, and the bytes are the frame of a parcel, and nothing else
+-- its node is one of this model and has handled what it does, and the bytes are the frame of a
+-- parcel, and nothing else
 abbrev pub IsOfModel : Meaning → Held → Type 0
 IsOfModel m (Idle node) = (node.spent ≡ false) × (node.lps ≡ m.lps) × HasHistories m node
 IsOfModel m (Posted node bytes) =

@@ -15,8 +15,8 @@ use Rattle.wire.specs.declared.port.WireFault.TheVariants as wire
 
 -- 1. Why a call is refused
 
--- A load: its bytes are too many, or memory was refused to the frames. A node is refused memory only
--- where it does not refuse the load.
+-- A load: its bytes are too many, or memory was refused to the frames. A node is refused memory
+-- only where it does not refuse the load.
 abbrev pub IsLoadCause : ℕ → Load → PortFault → Type 0
 IsLoadCause lps load (Wire wire.TooLong) = 2 ^ 24 < length (load_bytes load)
 IsLoadCause lps load (Wire wire.NoMemory) = Unit {0}

@@ -29,12 +29,12 @@ enum Held {
     Ended,
 }
 
-/// A node behind bytes in memory: a load, a parcel, a reply and a refusal pass as the frames that a stream to another
-/// program has. The node handles a parcel when it is asked for the reply.
+/// A node behind bytes in memory: a load, a parcel, a reply and a refusal pass as the frames that a
+/// stream to another program has. The node handles a parcel when it is asked for the reply.
 ///
-/// A call is refused for bytes that are too many, a body of more than 2^24 (`Wire(TooLong)`), for want of memory for a frame
-/// (`Wire(NoMemory)`), and as the node refuses (`Peer`), and for nothing else: bytes in memory do not fail. The port has
-/// ended then.
+/// A call is refused for bytes that are too many, a body of more than 2^24 (`Wire(TooLong)`), for
+/// want of memory for a frame (`Wire(NoMemory)`), and as the node refuses (`Peer`), and for nothing
+/// else: bytes in memory do not fail. The port has ended then.
 pub struct LoopPort<'m, M: Simulated> {
     alloc: Global,
     model: &'m M,
@@ -148,7 +148,8 @@ impl<'m, M: Simulated> Port for LoopPort<'m, M> {
             (state_by M.meaning self.old).tells ≡ true →
             IfErr result (λ fault. IsTakeFault parcel (state_by M.meaning self.old) fault) }
 
-        // TooLong exactly where the reply's body is; else what the node refuses, or there was no memory.
+        // TooLong exactly where the reply's body is; else what the node refuses, or there was no
+        // memory.
         ensures fits { IfOk result (λ reply. length (reply_bytes reply) ≤ 2 ^ 24) }
         ensures cause { (parcel : Parcel) →
             (state_by M.meaning self.old).stage ≡ AtWork parcel → IfErr result

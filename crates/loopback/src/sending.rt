@@ -20,8 +20,8 @@ use serving::{Begun, begin, react};
 use std::alloc::Global;
 use wire::{PortFault, WireFault};
 
-/// The frame that these bytes are, with a body that is not yet looked at. Where bytes are no frame, the way to the node
-/// has ended; of a frame that was sent that does not come.
+/// The frame that these bytes are, with a body that is not yet looked at. Where bytes are no frame,
+/// the way to the node has ended; of a frame that was sent that does not come.
 fn arrived(alloc: Global, bytes: &[u8]) -> Result<Raw, PortFault>
     ensures ok { (f : Frame) → IsSpelled bytes.now f [] →
         IfOk result (λ raw. frame_in raw.kind raw.body ≡ Some f) }
@@ -35,7 +35,8 @@ fn arrived(alloc: Global, bytes: &[u8]) -> Result<Raw, PortFault>
     }
 }
 
-/// The reply in these bytes, or the refusal in them. Where they are neither, the way to the node has ended.
+/// The reply in these bytes, or the refusal in them. Where they are neither, the way to the node
+/// has ended.
 fn replied(alloc: Global, bytes: &[u8]) -> Result<Reply, PortFault>
     ensures ok { (f : Frame) → IsSpelled bytes.now f [] →
         IfOk result (λ reply. f ≡ frame.Reply reply) }

@@ -165,7 +165,8 @@ reaches_more m bound (suc n) old mid new r s = (r.0, r.1, reaches_more m bound n
 pub run_more : (m : Meaning) (bound : ℕ) (old mid new : World) → IsRun m bound old mid → step m bound mid ≡ Some new → IsRun m bound old new
 run_more m bound old mid new r s = record { steps = suc r.steps; reached = reaches_more m bound r.steps old mid new r.reached s }
 
--- How much there is to do below the bound: a message makes at most eight others, each of a later time.
+-- How much there is to do below the bound: a message makes at most eight others, each of a later
+-- time.
 unfoldable pub weight : ℕ → List Message → ℕ
 weight bound [] = 0
 weight bound (x ∷ xs) = 9 ^ (bound - x.time) + weight bound xs

@@ -1,4 +1,5 @@
--- What steps of the sequential simulation keep of the log and the numbers, and that they lead from one world up to some time to each later one.
+-- What steps of the sequential simulation keep of the log and the numbers, and that they lead from
+-- one world up to some time to each later one.
 use Rattle.std.specs.Prelude.{nat_lt, nat_le}
 use Rattle.std.proofs.Common.{◌≡◌, ℕ, zero, suc, ◌+◌, ◌-◌, ◌^◌, ◌<◌, ◌≤◌, max, true, List, [], ◌∷◌, ◌++◌, length, Some, None, refl, sym, ap, subst, ◌∙◌, arith}
 use Rattle.std.specs.List.{AllByRecursion as Every}

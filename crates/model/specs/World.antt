@@ -75,8 +75,8 @@ pub record IsWorld (lps : ℕ) (w : World) : Type 0 where
 abbrev pub at_time : ℕ → World → World
 at_time g w = record w { time = g }
 
--- The sequential simulation up to g: all before g is in the log, and nothing before g is left. It is
--- meant for g at most the end: past the end there is one only where nothing is left before g.
+-- The sequential simulation up to g: all before g is in the log, and nothing before g is left. It
+-- is meant for g at most the end: past the end there is one only where nothing is left before g.
 pub record IsUpto (m : Meaning) (end g : ℕ) (w : World) : Type 0 where
   pub steps : ℕ
   pub reached : Reaches m end steps (opening m) (at_time 0 w)

@@ -5,8 +5,9 @@ ghost use Rattle.std.specs.Prelude.{◌≡◌, ◌≤◌, length, IfOk, IsOk};
 use smallvec::SmallVec;
 use std::alloc::{AllocError, Global};
 
-/// State words that take the memory that they need, which contracts see as the list of them. Most models have one or two:
-/// they lie in the value itself, and more lie in an allocation of their length.
+/// State words that take the memory that they need, which contracts see as the list of them. Most
+/// models have one or two: they lie in the value itself, and more lie in an allocation of their
+/// length.
 pub struct SavedState {
     words: SmallVec<u64, 2>,
 }

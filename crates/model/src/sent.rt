@@ -8,8 +8,8 @@ use eventkey::Message;
 use smallvec::SmallVec;
 use std::alloc::{AllocError, Global};
 
-/// The messages that one handling sent, in the order of sending, which contracts see as the list of them. Most models send
-/// one: it lies in the value itself, and more lie in an allocation.
+/// The messages that one handling sent, in the order of sending, which contracts see as the list of
+/// them. Most models send one: it lies in the value itself, and more lie in an allocation.
 pub struct Sent {
     messages: SmallVec<Message, 1>,
 }
@@ -40,8 +40,8 @@ impl Sent {
         Ok(Sent { messages })
     }
 
-    /// The messages that process `lp` makes of its sends in a handling at this time in ticks, below 2^40, numbered from
-    /// `number` on. It takes no memory for one.
+    /// The messages that process `lp` makes of its sends in a handling at this time in ticks, below
+    /// 2^40, numbered from `number` on. It takes no memory for one.
     pub fn stamped(
         alloc: Global,
         lp: u32,

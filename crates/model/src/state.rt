@@ -4,8 +4,8 @@ ghost use Rattle.std.specs.Prelude.{◌≡◌};
 
 use crate::Words;
 
-/// State words that contracts see as the list of them, so that a struct with such a field is seen as
-/// plain data.
+/// State words that contracts see as the list of them, so that a struct with such a field is seen
+/// as plain data.
 pub struct State {
     words: Words,
 }

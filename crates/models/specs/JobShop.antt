@@ -1,5 +1,5 @@
--- A job shop (this project's profile): machines in a ring, each of which serves one job at a time, in
--- the order in which jobs come, and sends it to the next machine.
+-- A job shop (this project's profile): machines in a ring, each of which serves one job at a time,
+-- in the order in which jobs come, and sends it to the next machine.
 use Rattle.std.specs.Prelude.{ℕ, ◌+◌, ◌-◌, ◌*◌, ◌%◌, ◌^◌, ◌<◌, ◌≤◌, List, [], ◌∷◌, Bool, nat_lt}
 use Rattle.std.specs.Prelude.{map, max, min, slice_index, if◌then◌else◌}
 use Rattle.eventkey.specs.Message.{Message}

@@ -1,4 +1,5 @@
--- A ring of processes that hand tokens round (this project's profile). Each process counts the tokens that reach it.
+-- A ring of processes that hand tokens round (this project's profile). Each process counts the
+-- tokens that reach it.
 use Rattle.std.specs.List.{filter}
 use Rattle.std.specs.Prelude.{ℕ, ◌+◌, ◌-◌, ◌*◌, ◌%◌, ◌^◌, ◌<◌, ◌≤◌, ◌==◌, List, [], ◌∷◌, map, min}
 use Rattle.std.specs.Prelude.{slice_index}
@@ -34,7 +35,8 @@ tokens_at lps tokens lp = filter (λ j. j % lps == lp) (below tokens)
 abbrev pub first_send : ℕ → ℕ → Outgoing
 first_send lp j = record { to = lp; delay = 1; a = j; b = 0 }
 
--- the count, in which a missing word counts as 0, goes up by one and stays at the greatest number of 64 bits
+-- the count, in which a missing word counts as 0, goes up by one and stays at the greatest number
+-- of 64 bits
 abbrev pub counted : List ℕ → ℕ
 counted state = min (slice_index state 0 + 1) (2 ^ 64 - 1)
 

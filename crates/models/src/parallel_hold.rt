@@ -52,8 +52,8 @@ impl Model for Phold {
 }
 
 impl Phold {
-    /// PHOLD of `lps` processes, 1 to 1,024, with `population` messages each, 1 to 8, delays of 1 to `spread` ticks,
-    /// `spread` at least 1, and words that `seed`, below 2^63, begins.
+    /// PHOLD of `lps` processes, 1 to 1,024, with `population` messages each, 1 to 8, delays of 1
+    /// to `spread` ticks, `spread` at least 1, and words that `seed`, below 2^63, begins.
     pub fn new(lps: u32, population: u32, spread: u32, seed: u64) -> Phold
         requires some { 1 ≤ lps }
         requires few { lps ≤ 1024 }

@@ -7,11 +7,11 @@ use model::{Model as Simulated, Outgoing, Sends, Words};
 use smallvec::SmallVec;
 use std::alloc::Global;
 
-/// Six processes, each of which sends a message on twice: soon, to whom its state says, and 23 ticks later. Each
-/// starts with one message to itself.
+/// Six processes, each of which sends a message on twice: soon, to whom its state says, and 23
+/// ticks later. Each starts with one message to itself.
 ///
-/// A model of this project's own, for tests: the one word of a state depends on the order of the messages, and the
-/// sends depend on the state, so that a wrong rollback shows in what is sent.
+/// A model of this project's own, for tests: the one word of a state depends on the order of the
+/// messages, and the sends depend on the state, so that a wrong rollback shows in what is sent.
 #[derive(Clone, Copy, Debug, Drop, PartialEq, Eq)]
 pub struct Relay;
 

@@ -12,9 +12,9 @@ use std::marker::Model;
 
 /// A ring of processes that hand tokens round: a model of this project's own.
 ///
-/// Token `j` starts at process `j mod lps`, at time 1. A process that is handed a token counts it, holds it for
-/// `hold` ticks and hands it to the next process, the last to the first. The state is the count, and a message's
-/// content is the token's number and how often it was handed on.
+/// Token `j` starts at process `j mod lps`, at time 1. A process that is handed a token counts it,
+/// holds it for `hold` ticks and hands it to the next process, the last to the first. The state is
+/// the count, and a message's content is the token's number and how often it was handed on.
 #[derive(Clone, Copy, Debug, PartialEq, Eq)]
 pub struct TokenRing {
     lps: u32,
@@ -42,8 +42,8 @@ impl Model for TokenRing {
 }
 
 impl TokenRing {
-    /// A ring of `lps` processes, 1 to 1,024, that hold a token for `hold` ticks, at least 1, with `tokens` tokens,
-    /// 1 to `8 * lps`.
+    /// A ring of `lps` processes, 1 to 1,024, that hold a token for `hold` ticks, at least 1, with
+    /// `tokens` tokens, 1 to `8 * lps`.
     pub fn new(lps: u32, hold: u32, tokens: u32) -> TokenRing
         requires some { 1 ≤ lps }
         requires few { lps ≤ 1024 }

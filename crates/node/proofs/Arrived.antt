@@ -1,4 +1,5 @@
--- One message that arrives at one process: what holds of all messages there, and of those that go out.
+-- One message that arrives at one process: what holds of all messages there, and of those that go
+-- out.
 use Rattle.std.proofs.Common.{◌++◌}
 use Rattle.std.proofs.lemmas.Bool.{cond_both}
 use Rattle.std.proofs.lemmas.List.{map-append}
@@ -28,7 +29,8 @@ settle_parts Minus m k P p w a =
     cond_both (is_among m k.waiting) (record k { waiting = remove_one m k.waiting }) (record k { antis = add m k.antis }) (λ (r : Queue). Every P r.waiting × Every P r.antis)
     (λ _. (Every-remove_one P m k.waiting w, a)) (λ _. (w, Every-add P m k.antis p a))
 
--- what holds of the message, of all that is not before it, and of what waited, holds of what waits afterwards
+-- what holds of the message, of all that is not before it, and of what waited, holds of what waits
+-- afterwards
 pub arrived_parts : (s : Signed) (k : Queue) (P : Message → Type 0) → IsAscending k.done → ((x : Message) → IsAtMost s.message x → P x) → P s.message → Every P k.waiting → Every P k.antis →
     Every P (arrived s k).waiting × Every P (arrived s k).antis
 arrived_parts s k P up later p w a =

@@ -1,4 +1,5 @@
--- What the processes of a node have handled is what the model does: when it is loaded, and after each call of one of them.
+-- What the processes of a node have handled is what the model does: when it is loaded, and after
+-- each call of one of them.
 use Rattle.std.proofs.Common.{ℕ, ◌<◌, ◌≡◌, ◌/◌, ◌∙◌, List, [], ◌∷◌, length, refl, ap, zero, suc, subst, Bool, None, Some, cond, inl, inr, get_or, false, map, sym, set}
 use Rattle.std.proofs.lemmas.Bool.{cases_Bool, cond-true}
 use Rattle.std.proofs.lemmas.List.{get_or-map, get_or_default}

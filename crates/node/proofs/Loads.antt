@@ -1,4 +1,5 @@
--- What a load has to be: tests that go through lists one by one, and the processes of a node as a progression.
+-- What a load has to be: tests that go through lists one by one, and the processes of a node as a
+-- progression.
 use Rattle.std.proofs.Common.{◌≡◌, ℕ, zero, suc, ◌+◌, ◌*◌, ◌<◌, ◌≤◌, List, [], ◌∷◌, ◌++◌, length, get_or, map, drop, set, ◌-◌, ◌^◌, replicate, Some, None, Ok, Err, refl, sym, subst, ◌∙◌, ap, arith, inl, inr}
 use Rattle.std.specs.List.{AllByRecursion as Every, list_any}
 use Rattle.std.proofs.Math.Nat.{mul-le-mul_left}

@@ -1,4 +1,5 @@
--- The winner at the root of a tournament has the message that comes first, and replaying the matches above a leaf keeps it so.
+-- The winner at the root of a tournament has the message that comes first, and replaying the
+-- matches above a leaf keeps it so.
 use Rattle.std.proofs.Common.{◌≡◌, ◌≢◌, ◌⊎◌, ℕ, zero, suc, ◌+◌, ◌*◌, ◌/◌, ◌<◌, ◌≤◌, ◌^◌, List, [], ◌∷◌, length, get_or, set, ◌++◌, ◌-◌, take, replicate, refl, sym, subst, ◌∙◌, ap, arith, inl, inr, Option, None}
 use Rattle.std.proofs.lemmas.Bool.{cases_eq}
 use Rattle.std.proofs.lemmas.List.{get_or-set_other, get_or-set_same, length-set, get_or_default, length-replicate}

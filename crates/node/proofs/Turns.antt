@@ -1,4 +1,5 @@
--- A node's turns: which process has the least message, what its handling makes of the node, and all turns together.
+-- A node's turns: which process has the least message, what its handling makes of the node, and all
+-- turns together.
 use Rattle.std.proofs.Common.{◌≡◌, ℕ, suc, ◌+◌, ◌/◌, ◌%◌, ◌<◌, true, false, Bool, List, [], ◌∷◌, ◌++◌, length, get_or, map, set, Option, Some, None, refl, sym, subst, ◌∙◌, ap, arith, inl, inr}
 use Rattle.std.specs.Prelude.{nat_lt, ◌⊎◌}
 use Rattle.std.specs.List.{AllByRecursion as Every}

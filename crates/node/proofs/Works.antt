@@ -1,4 +1,5 @@
--- A node at work on a parcel: its processes are told truly all along, what it sends is not before what it was handed, and each message is accounted for.
+-- A node at work on a parcel: its processes are told truly all along, what it sends is not before
+-- what it was handed, and each message is accounted for.
 use Rattle.std.proofs.Common.{ℕ, ◌<◌, ◌≤◌, ◌≡◌, ◌+◌, ◌*◌, ◌/◌, ◌%◌, ◌^◌, ◌++◌, ◌∙◌, List, [], ◌∷◌, flat_map, length, refl, ap, inl, inr, arith, ◌⊎◌, Option, Some, None, zero, suc, subst, get_or, true, cond, map, sym, set, length-set, get_or-set_same, get_or-set_other}
 use Rattle.std.proofs.lemmas.Bool.{cond_both, cases_eq, ltb-true, leb-true}
 use Rattle.std.proofs.lemmas.List.{length-map, map-append}

@@ -1,4 +1,5 @@
--- A node between parcels: what it is handed at first, what it refuses, and what it is after a parcel (this project's profile).
+-- A node between parcels: what it is handed at first, what it refuses, and what it is after a
+-- parcel (this project's profile).
 use Rattle.std.specs.List.{AllByRecursion as Every, list_any}
 use Rattle.std.specs.Cmp.Lexicographic.{pointwise}
 use Rattle.std.specs.Prelude.{ℕ, Bool, List, [], ◌∷◌, Option, Some, None, Result, Ok, Err, IfSome, map, filter, true, false, not, nat_eq, nat_lt, ◌&&◌, ◌||◌, if◌then◌else◌, ◌≡◌, ◌<◌, ◌≤◌, ◌⊎◌, ◌^◌, length}
@@ -40,7 +41,8 @@ pub record IsInRange (p : Part) : Type 0 where
 abbrev pub is_own_load : ℕ → Load → Bool
 is_own_load lps load = pointwise nat_eq (map (λ (p : Part). p.lp) load.parts) (own_lps load.nodes load.node lps)
 
--- why a load is refused, if it is: for what is not the node's or not for the process of its part, or for what is pending before the floor
+-- why a load is refused, if it is: for what is not the node's or not for the process of its part,
+-- or for what is pending before the floor
 abbrev pub load_refusal : ℕ → Load → Option NodeFault
 load_refusal lps load =
     if not (is_own_load lps load) || list_any (λ (p : Part). has_foreign p.lp p.pending) load.parts then Some NotMine
@@ -112,8 +114,8 @@ IsAnswered m parcel old new result =
     ((result ≡ (answer m old parcel).result) × (new ≡ (answer m old parcel).node))
     ⊎ ((refusal old parcel ≡ None) × (result ≡ Err NoMemory) × (new ≡ ended old))
 
--- A parcel delivers nothing, and the first message that the node would handle has no room for its send numbers: to see
--- this takes no memory.
+-- A parcel delivers nothing, and the first message that the node would handle has no room for its
+-- send numbers: to see this takes no memory.
 pub record IsLimitedAtOnce (m : Meaning) (parcel : Parcel) (n : Node) : Type 0 where
   pub accepted : refusal n parcel ≡ None
   pub empty : parcel.deliver ≡ []

@@ -1,4 +1,5 @@
--- What a node keeps of its processes while it handles a parcel: they are told truly, nothing before a time comes into being, and each message is accounted for.
+-- What a node keeps of its processes while it handles a parcel: they are told truly, nothing before
+-- a time comes into being, and each message is accounted for.
 use Rattle.std.specs.List.{AllByRecursion as Every}
 use Rattle.std.specs.Prelude.{ℕ, ◌%◌, ◌+◌, ◌++◌, ◌/◌, ◌<◌, ◌≡◌, ◌≤◌, ◌^◌, List, Some, flat_map, get_or, length, map}
 use Rattle.eventkey.specs.Bag.{copies}
@@ -47,20 +48,23 @@ pub record HasRanged (q : Process) : Type 0 where
   pub antis : Every IsRanged q.antis
   pub sent : Every IsRanged (sent_by q)
 
--- The processes of a node: each is told truly, its messages are in their ranges, and none waits before low.
+-- The processes of a node: each is told truly, its messages are in their ranges, and none waits
+-- before low.
 pub record IsKept (m : Meaning) (nodes node floor low : ℕ) (past : Past) (qs : List Process) : Type 0 where
   pub size : length qs ≡ length (own_lps nodes node m.lps)
   pub told : (lp : ℕ) → lp < m.lps → lp % nodes ≡ node → IsTold m lp past.time (past.state lp) (past.number lp) floor (past.told lp) (own nodes qs lp)
   pub ranged : Every HasRanged qs
   pub late : Every (λ (q : Process). Every (λ (x : Message). low ≤ x.time) (q.waiting ++ q.antis)) qs
 
--- a message or an antimessage under way: for a process that exists, in its ranges, and not before low
+-- a message or an antimessage under way: for a process that exists, in its ranges, and not before
+-- low
 pub record IsUnderWay (lps low : ℕ) (s : Signed) : Type 0 where
   pub late : low ≤ s.message.time
   pub there : s.message.to < lps
   pub ranged : IsRanged s.message
 
--- What a node makes of what is delivered to it: its processes stay so, what it sends is not before low, and each message is accounted for.
+-- What a node makes of what is delivered to it: its processes stay so, what it sends is not before
+-- low, and each message is accounted for.
 pub record IsWorkKept (m : Meaning) (nodes node floor low : ℕ) (past : Past) (deliver : List Signed) (qs : List Process) (w : Work) : Type 0 where
   pub kept : IsKept m nodes node floor low past w.processes
   pub out : Every (IsUnderWay m.lps low) w.out
@@ -81,7 +85,8 @@ WorkIsKept = (m : Meaning) (end nodes node floor low : ℕ) (past : Past) (parce
 abbrev pub told_too : ℕ → ℕ → List Process → Past → Past
 told_too nodes floor qs past = record past { told = λ (lp : ℕ). past.told lp ++ fossils_of floor (own nodes qs lp) }
 
--- A node that tells what is below a floor that nothing is before, and lets go of it, keeps its processes so.
+-- A node that tells what is below a floor that nothing is before, and lets go of it, keeps its
+-- processes so.
 abbrev pub ReleasingIsKept : Type 0
 ReleasingIsKept = (m : Meaning) (nodes node floor floor' low : ℕ) (past : Past) (qs : List Process) → node < nodes → past.time ≤ floor → floor ≤ floor' → floor' ≤ low →
     IsKept m nodes node floor low past qs → IsKept m nodes node floor' low (told_too nodes floor' qs past) (map (λ (q : Process). release floor' q) qs)

@@ -1,4 +1,5 @@
--- A node at work on its own processes: deliveries, turns, collection. Process lp is its number lp / nodes.
+-- A node at work on its own processes: deliveries, turns, collection. Process lp is its number lp /
+-- nodes.
 use Rattle.std.specs.Prelude.{ℕ, List, [], ◌∷◌, Option, Some, None, ◌++◌, flat_map, ◌%◌, Bool, nat_eq, if◌then◌else◌, ◌/◌, get_or, ◌+◌, set, map, nat_lt, zero, suc, min}
 use Rattle.eventkey.specs.Message.{Message, is_before}
 use Rattle.eventkey.specs.Signed.{plus}
@@ -19,7 +20,8 @@ earliest None y = y
 earliest (Some x) None = Some x
 earliest (Some x) (Some y) = Some (min x y)
 
--- A node at work: all processes (it changes its own), what it sent so far, and how many messages it handled
+-- A node at work: all processes (it changes its own), what it sent so far, and how many messages it
+-- handled
 pub record Work : Type 0 where
   pub processes : List Process
   pub out : List Signed
@@ -41,7 +43,8 @@ abbrev pub lesser : Option Message → Option Message → Option Message
 lesser None y = y
 lesser (Some x) y = lesser_with x y
 
--- A node handles a parcel: all deliveries in order, then the turns, then it collects what is below the floor
+-- A node handles a parcel: all deliveries in order, then the turns, then it collects what is below
+-- the floor
 abbrev pub start : List Process → Work
 start qs = record { processes = qs; out = []; ran = 0 }
 

@@ -1,4 +1,5 @@
--- How the roster of a node stands: its processes, each at its place, and the tournament of what is known of them.
+-- How the roster of a node stands: its processes, each at its place, and the tournament of what is
+-- known of them.
 use Rattle.std.specs.List.{AllByRecursion as Every}
 use Rattle.std.specs.Prelude.{ℕ, Bool, false, List, [], Some, None, map, if◌then◌else◌, ◌≡◌, ◌≤◌, ◌<◌, ◌⊎◌, ◌^◌}
 use Rattle.eventkey.specs.Message.{Message}

@@ -6,7 +6,8 @@ use Rattle.queues.specs.Record.{first_handled}
 use Rattle.node.specs.declared.Part.{Part}
 use Rattle.node.specs.declared.standing.Standing.{Standing}
 
--- what stands of a process: its next message, the least time that waits, and the time of its first handling
+-- what stands of a process: its next message, the least time that waits, and the time of its first
+-- handling
 abbrev pub standing_of : ℕ → ProcessView → Standing
 standing_of end q = record {
   next = first_before end q.process.waiting;

@@ -46,8 +46,8 @@ pub struct Load {
     pub parts: Listed<Part>,
 }
 
-/// What a node is posted: messages and antimessages for its processes, how many messages it may handle, and the floor
-/// below which it lets go of what it handled.
+/// What a node is posted: messages and antimessages for its processes, how many messages it may
+/// handle, and the floor below which it lets go of what it handled.
 #[derive(Drop)]
 pub struct Parcel {
     /// In the order in which they arrive.
@@ -63,7 +63,8 @@ pub struct Parcel {
 pub struct Reply {
     /// The messages and antimessages that it sent, in the order in which they were made.
     pub out: Listed<Signed>,
-    /// The least time, in ticks, of what waits at the node, antimessages too; none where nothing does.
+    /// The least time, in ticks, of what waits at the node, antimessages too; none where nothing
+    /// does.
     pub low: Option<u64>,
     /// The handlings below the floor, by process ascending, each process's in order.
     pub fossils: Listed<Done>,
@@ -74,7 +75,8 @@ pub struct Reply {
 /// Why a node refuses a load or a parcel.
 #[derive(Clone, Copy, Debug, PartialEq, Eq, Error)]
 pub enum NodeFault {
-    /// Something is for a process of another node, or the parts of a load are not the node's processes, ascending.
+    /// Something is for a process of another node, or the parts of a load are not the node's
+    /// processes, ascending.
     #[error("NotMine")]
     NotMine,
     /// A message or an antimessage has a time before the node's floor.
@@ -124,15 +126,15 @@ impl From<ProcessFault> for NodeFault {
     }
 }
 
-/// What a node keeps of its processes: while it handles a parcel whose messages are not before a time, and when it lets
-/// go of what it tells.
+/// What a node keeps of its processes: while it handles a parcel whose messages are not before a
+/// time, and when it lets go of what it tells.
 pub fn law_of_work()
     ensures kept { WorkIsKept }
     ensures released { ReleasingIsKept }
 {}
 
-/// What the processes of a node have handled is what the model does: when it is loaded, and so after any parcels, since
-/// `Node::handle` keeps it.
+/// What the processes of a node have handled is what the model does: when it is loaded, and so
+/// after any parcels, since `Node::handle` keeps it.
 pub fn law_of_histories()
     ensures { HistoriesBegin }
 {}

@@ -17,8 +17,8 @@ use model::Model as Simulated;
 use process::Process;
 use std::alloc::Global;
 
-/// Some logical processes of a simulation: all those whose number leaves the node's number, divided by how many nodes
-/// there are.
+/// Some logical processes of a simulation: all those whose number leaves the node's number, divided
+/// by how many nodes there are.
 pub struct Node {
     spent: bool,
     roster: Roster,
@@ -53,8 +53,9 @@ impl Node {
 
     /// The node of a model that a load tells of.
     ///
-    /// NotMine where the parts are not exactly the node's processes, ascending, or where a message is pending for another
-    /// process than its part's; else BelowFloor where a message is pending before the floor.
+    /// NotMine where the parts are not exactly the node's processes, ascending, or where a message
+    /// is pending for another process than its part's; else BelowFloor where a message is pending
+    /// before the floor.
     pub fn load<M: Simulated>(alloc: Global, model: &M, load: Load) -> Result<Node, NodeFault>
         requires node { load.node < load.nodes }
         requires nodes { load.nodes ≤ 64 }
@@ -94,13 +95,15 @@ impl Node {
         })
     }
 
-    /// Handles a parcel: all deliveries in their order, then up to its budget of messages, each time the least one of the
-    /// whole node below the end, then it collects what is below the parcel's floor.
+    /// Handles a parcel: all deliveries in their order, then up to its budget of messages, each
+    /// time the least one of the whole node below the end, then it collects what is below the
+    /// parcel's floor.
     ///
-    /// Spent where the node is; FloorFell where the parcel's floor is before the node's; else the fault of the first
-    /// delivery that has one: NotMine, or BelowFloor by the floor that the node had before. These leave the node as it
-    /// was. After want of memory, and after NumberLimit, the node is spent. The number limit may be met after memory is
-    /// wanted, but not where the parcel delivers nothing and the first message has no room.
+    /// Spent where the node is; FloorFell where the parcel's floor is before the node's; else the
+    /// fault of the first delivery that has one: NotMine, or BelowFloor by the floor that the node
+    /// had before. These leave the node as it was. After want of memory, and after NumberLimit, the
+    /// node is spent. The number limit may be met after memory is wanted, but not where the parcel
+    /// delivers nothing and the first message has no room.
     ///
     /// It costs the deliveries and the handlings, each with the logarithm of the node's processes,
     /// the handlings let go, and one pass over what stands of the processes.

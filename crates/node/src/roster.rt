@@ -180,7 +180,8 @@ impl Roster {
         Ok(budget)
     }
 
-    /// Takes what is below the floor, in ticks, out of the process at this place, to the end of `fossils`.
+    /// Takes what is below the floor, in ticks, out of the process at this place, to the end of
+    /// `fossils`.
     fn collect_at<M: Simulated>(
         &mut self,
         model: &M,
@@ -247,8 +248,8 @@ impl Roster {
         Ok(fossils)
     }
 
-    /// Handles a parcel: all deliveries in their order, then up to its budget of messages, then it collects what is below
-    /// the parcel's floor.
+    /// Handles a parcel: all deliveries in their order, then up to its budget of messages, then it
+    /// collects what is below the parcel's floor.
     pub(crate) fn handle<M: Simulated>(
         &mut self,
         model: &M,

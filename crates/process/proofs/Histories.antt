@@ -1,4 +1,5 @@
--- Handlings that are what the model does: parts of them, one more of them, and what is told of them.
+-- Handlings that are what the model does: parts of them, one more of them, and what is told of
+-- them.
 use Rattle.std.proofs.Common.{◌≡◌, ℕ, ◌+◌, ◌++◌, [], ◌∷◌, List, length, map, flat_map, ap, ◌^◌, ◌<◌, ◌≤◌, ◌∙◌, refl, sym, subst, arith}
 use Rattle.std.specs.List.{AllByRecursion as Every}
 use Rattle.eventkey.specs.Message.{Message}

@@ -1,4 +1,5 @@
--- One logical process (Jefferson 1985): how it takes an arrival, handles a message, and lets go of what no rollback reaches.
+-- One logical process (Jefferson 1985): how it takes an arrival, handles a message, and lets go of
+-- what no rollback reaches.
 use Rattle.process.specs.declared.Done.{Done}
 use Rattle.std.specs.Prelude.{ℕ, List, map, ◌+◌, [], ◌∷◌, ◌++◌, length, ◌^◌, Bool, nat_le}
 use Rattle.eventkey.specs.Bag.{remove_one}

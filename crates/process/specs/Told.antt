@@ -36,11 +36,13 @@ IsToldFold m lp state number (d ∷ ds) =
     × (d.number_after ≤ 2 ^ 63)
     × IsToldFold m lp d.after d.number_after ds
 
--- The handlings that a process has are what the model does, from the state and the number before the first of them.
+-- The handlings that a process has are what the model does, from the state and the number before
+-- the first of them.
 abbrev pub IsHistory : Meaning → ℕ → Process → Type 0
 IsHistory m lp q = IsFold m lp (state_before q.done q.state) (number_before q.done q.number) q.done q.state q.number
 
--- What process lp told and what it has is true, where it has this state and number at the front's time, and its node this floor.
+-- What process lp told and what it has is true, where it has this state and number at the front's
+-- time, and its node this floor.
 pub record IsTold (m : Meaning) (lp time : ℕ) (state : List ℕ) (number floor : ℕ) (told : List Done) (q : Process) : Type 0 where
   pub told_fold : IsToldFold m lp state number told
   pub history : IsHistory m lp q
@@ -70,7 +72,8 @@ HistoriesAreKept = (m : Meaning) (lp : ℕ) (q : Process) → IsHistory m lp q �
     × ((x : Message) → q.number + length (m.sends lp q.state x) ≤ 2 ^ 63 → IsHistory m lp (handle m lp x q))
     × ((floor : ℕ) → IsHistory m lp (release floor q))
 
--- What it tells is what the model does from the state before its history on, and leaves it where what it keeps begins.
+-- What it tells is what the model does from the state before its history on, and leaves it where
+-- what it keeps begins.
 abbrev pub TellingIsTrue : Type 0
 TellingIsTrue = (m : Meaning) (lp floor : ℕ) (q : Process) → IsHistory m lp q →
     IsToldFold m lp (state_before q.done q.state) (number_before q.done q.number) (fossils_of floor q)
@@ -124,7 +127,8 @@ abbrev pub RollbacksStayAbove : Type 0
 RollbacksStayAbove = (floor : ℕ) (s : Signed) (q : Process) → IsAscending (messages q.done) → floor ≤ s.message.time →
     Every (λ (h : Record). floor ≤ h.message.time) (last_of (back s (queue_of q)) q.done)
 
--- So what is told of the handlings before a floor is final: neither an arrival nor a handling from there on changes it.
+-- So what is told of the handlings before a floor is final: neither an arrival nor a handling from
+-- there on changes it.
 abbrev pub FossilsAreFinal : Type 0
 FossilsAreFinal = (floor : ℕ) (q : Process) → IsAscending (messages q.done) →
     ((s : Signed) → floor ≤ s.message.time → fossils_of floor (arrive s q) ≡ fossils_of floor q)

@@ -1,4 +1,5 @@
--- What a caller sees of a logical process, and what its calls answer and leave (this project's profile).
+-- What a caller sees of a logical process, and what its calls answer and leave (this project's
+-- profile).
 use Rattle.std.specs.List.{AllByRecursion as Every, list_any}
 use Rattle.std.specs.Prelude.{not, nat_lt, ◌==◌, ℕ, Bool, false, true, List, [], ◌++◌, map, Some, length, ◌≡◌, ◌≤◌, ◌^◌}
 use Rattle.eventkey.specs.Bag.{add_all}
@@ -15,7 +16,8 @@ use Rattle.process.specs.declared.Done.{Done}
 use Rattle.process.specs.declared.ProcessFault.{ProcessFault}
 use Rattle.process.specs.declared.ProcessFault.TheVariants.{BelowFloor, NoMemory, NotMine, NumberLimit, Spent}
 
--- a process, its number, the floor before which it takes nothing, and whether it has ended at want of memory or at the number limit
+-- a process, its number, the floor before which it takes nothing, and whether it has ended at want
+-- of memory or at the number limit
 pub record ProcessView : Type 0 where
   pub lp : ℕ
   pub floor : ℕ
@@ -34,7 +36,8 @@ pub record IsSound (v : ProcessView) : Type 0 where
   pub number_before : Every (λ (h : Record). h.number_before ≤ 2 ^ 63) v.process.done
   pub few_sent : Every (λ (h : Record). length h.sent ≤ 8) v.process.done
 
--- What the process has done is what the model does, from this state and send number on to those that it has.
+-- What the process has done is what the model does, from this state and send number on to those
+-- that it has.
 abbrev pub HasDone : Meaning → ProcessView → List ℕ → ℕ → Type 0
 HasDone m v state number = IsFold m v.lp state number v.process.done v.process.state v.process.number
 
@@ -59,7 +62,8 @@ has_foreign lp xs = list_any (λ (x : Message). not (x.to == lp)) xs
 abbrev pub has_early : ℕ → List Message → Bool
 has_early floor xs = list_any (λ (x : Message). nat_lt x.time floor) xs
 
--- A refused call: what was handed in is no more than added to, and either the process has ended or nothing changed
+-- A refused call: what was handed in is no more than added to, and either the process has ended or
+-- nothing changed
 abbrev pub IsRefused : ProcessFault → ProcessView → ProcessView → List Signed → List Signed → Type 0
 IsRefused NotMine old new before after = (new ≡ old) × (after ≡ before)
 IsRefused BelowFloor old new before after = (new ≡ old) × (after ≡ before)
@@ -74,7 +78,8 @@ pub record HasRun (m : Meaning) (end : ℕ) (old new : ProcessView) (before afte
   pub process : new ≡ record old { process = handle m old.lp message old.process }
   pub out : after ≡ before ++ map plus (handling_of m old.lp message old.process).sent
 
--- the least waiting message below the end cannot be handled, since the send number would pass its limit
+-- the least waiting message below the end cannot be handled, since the send number would pass its
+-- limit
 pub record LacksRoom (m : Meaning) (end : ℕ) (q : Process) : Type 0 where
   pub message : Message
   pub next : first_before end q.waiting ≡ Some message

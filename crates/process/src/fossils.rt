@@ -10,8 +10,9 @@ use model::{Model as Simulated, SavedState, State};
 use queues::Record;
 use std::alloc::{AllocError, Global};
 
-/// Takes the handlings below the floor, in ticks, out of a history, where this state and this send number came after all of
-/// it, and tells of them at the end of `fossils`. Each is moved once. Where memory is wanted some of them are told.
+/// Takes the handlings below the floor, in ticks, out of a history, where this state and this send
+/// number came after all of it, and tells of them at the end of `fossils`. Each is moved once.
+/// Where memory is wanted some of them are told.
 pub(crate) fn tell<M: Simulated>(
     alloc: Global,
     model: &M,

@@ -1,4 +1,5 @@
-//! One logical process (Jefferson 1985): it handles its messages in order, and takes back what came too early.
+//! One logical process (Jefferson 1985): it handles its messages in order, and takes back what came
+//! too early.
 #![tactic(auto)]
 
 ghost use Rattle.std.specs.Prelude.{◌≡◌};
@@ -21,7 +22,8 @@ use queues::History;
 use std::alloc::{AllocError, AllocFailed};
 use thiserror::Error;
 
-/// What a process handled. State words are kept for one handling in eight, and the others are rebuilt by going forward.
+/// What a process handled. State words are kept for one handling in eight, and the others are
+/// rebuilt by going forward.
 pub(crate) type Handled = History<8>;
 
 /// Why a process refuses a call.
@@ -73,7 +75,8 @@ pub struct Done {
     pub number_after: u64,
 }
 
-/// The history of a process is what its model does: when it is loaded, and whatever happens to it then, in any order.
+/// The history of a process is what its model does: when it is loaded, and whatever happens to it
+/// then, in any order.
 pub fn law_of_histories()
     ensures begin { HistoriesBegin }
     ensures kept { HistoriesAreKept }
@@ -100,7 +103,8 @@ pub fn law_of_telling()
     ensures balanced { TellingIsBalanced }
 {}
 
-/// What no rollback reaches: the handlings before a floor, where nothing arrives before it any more.
+/// What no rollback reaches: the handlings before a floor, where nothing arrives before it any
+/// more.
 pub fn law_of_rollbacks()
     ensures above { RollbacksStayAbove }
     ensures fossils { FossilsAreFinal }

@@ -23,8 +23,9 @@ use model::{Model as Simulated, Sent, State, Words};
 use queues::InputQueue;
 use std::alloc::Global;
 
-/// A logical process (Jefferson 1985): its input queue, the history of what it handled, its state words and its send
-/// number. After want of memory, and at the limit of the send number, it is spent.
+/// A logical process (Jefferson 1985): its input queue, the history of what it handled, its state
+/// words and its send number. After want of memory, and at the limit of the send number, it is
+/// spent.
 ///
 /// No rollback takes back a handling below the floor, since what arrives is not below it.
 pub struct Process {
@@ -69,9 +70,10 @@ impl Process {
     /// The greatest send number.
     pub const NUMBER_LIMIT: u64 = 1 << 63;
 
-    /// The process number `lp` in the state of these words, whose next send has this number, and for which these
-    /// messages wait, in whatever order they are handed in. NotMine where one of them is for another process; else
-    /// BelowFloor where the time of one is below the floor, in ticks.
+    /// The process number `lp` in the state of these words, whose next send has this number, and
+    /// for which these messages wait, in whatever order they are handed in. NotMine where one of
+    /// them is for another process; else BelowFloor where the time of one is below the floor, in
+    /// ticks.
     pub fn load(
         alloc: Global,
         lp: u32,
@@ -109,8 +111,8 @@ impl Process {
         })
     }
 
-    /// Answers nothing: the contract says that a process that is not spent has its lists in order, its messages its
-    /// own, and its numbers in their ranges.
+    /// Answers nothing: the contract says that a process that is not spent has its lists in order,
+    /// its messages its own, and its numbers in their ranges.
     pub fn sound(&self)
         ensures { self.now.spent ≡ false → IsSound self.now }
     {
@@ -173,11 +175,13 @@ impl Process {
         self.queue.antis_len()
     }
 
-    /// A message or an antimessage arrives. What it undoes is taken back: state and send number are again those from
-    /// before it, and the antimessages of its sends are appended to `out`, those of the earliest handling first.
+    /// A message or an antimessage arrives. What it undoes is taken back: state and send number are
+    /// again those from before it, and the antimessages of its sends are appended to `out`, those
+    /// of the earliest handling first.
     ///
-    /// Spent where the process is; NotMine where the message is for another process; BelowFloor where its time is
-    /// below the floor, whatever its sign. These change nothing; want of memory leaves the process spent.
+    /// Spent where the process is; NotMine where the message is for another process; BelowFloor
+    /// where its time is below the floor, whatever its sign. These change nothing; want of memory
+    /// leaves the process spent.
     pub fn deliver<M: Simulated>(
         &mut self,
         model: &M,
@@ -233,7 +237,8 @@ impl Process {
         self.queue.next(end)
     }
 
-    /// The least time, in ticks, of what waits, antimessages too; none where nothing does. It takes no memory.
+    /// The least time, in ticks, of what waits, antimessages too; none where nothing does. It takes
+    /// no memory.
     pub fn low(&self) -> Option<u64>
         ensures low { result ≡ first_time (self.now.process.waiting ++ self.now.process.antis) }
         ensures range { IfSome result (λ time. time < 2 ^ 41) }
@@ -241,7 +246,8 @@ impl Process {
         self.queue.low()
     }
 
-    /// The time, in ticks, of the earliest handling that the process keeps; none where it keeps none. It takes no memory.
+    /// The time, in ticks, of the earliest handling that the process keeps; none where it keeps
+    /// none. It takes no memory.
     pub fn oldest(&self) -> Option<u64>
         ensures { result ≡ first_handled self.now.process.done }
     {
@@ -251,11 +257,11 @@ impl Process {
         }
     }
 
-    /// Handles the least waiting message, if its time is below `end`, in ticks, and appends what it sends to `out`.
-    /// It answers whether there was one.
+    /// Handles the least waiting message, if its time is below `end`, in ticks, and appends what it
+    /// sends to `out`. It answers whether there was one.
     ///
-    /// Spent where the process is. NumberLimit where the sends would take the send number past its limit: then, and
-    /// after want of memory, the process is spent.
+    /// Spent where the process is. NumberLimit where the sends would take the send number past its
+    /// limit: then, and after want of memory, the process is spent.
     pub fn run_one<M: Simulated>(
         &mut self,
         model: &M,
@@ -320,8 +326,8 @@ impl Process {
         Ok(true)
     }
 
-    /// Takes the handlings below the floor, in ticks, out and answers them in their order, each with what the process
-    /// was after it. The floor is then the process's.
+    /// Takes the handlings below the floor, in ticks, out and answers them in their order, each
+    /// with what the process was after it. The floor is then the process's.
     ///
     /// Spent where the process is, which changes nothing; want of memory leaves the process spent.
     pub fn collect<M: Simulated>(
@@ -355,7 +361,8 @@ impl Process {
         Ok(fossils)
     }
 
-    /// The same, but the handlings go straight to the end of `fossils`; at want of memory some of them may be there.
+    /// The same, but the handlings go straight to the end of `fossils`; at want of memory some of
+    /// them may be there.
     pub fn collect_into<M: Simulated>(
         &mut self,
         model: &M,

@@ -32,8 +32,8 @@ pub(crate) fn append(
     Ok(())
 }
 
-/// Appends the antimessages of all that was sent in the last `count` handlings, those of the earliest first. Where memory is
-/// wanted some of them are appended.
+/// Appends the antimessages of all that was sent in the last `count` handlings, those of the
+/// earliest first. Where memory is wanted some of them are appended.
 pub(crate) fn take_back_sends(
     history: &Handled,
     count: usize,

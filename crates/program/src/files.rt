@@ -51,10 +51,12 @@ where
     check::<M, O>(rt.alloc(), text, out)
 }
 
-/// Runs the model of a model file to its end by the plain runner, and writes the log and then the world.
+/// Runs the model of a model file to its end by the plain runner, and writes the log and then the
+/// world.
 ///
-/// The faults come in this order: `BadModel` where the text is no model file, or `NoMemory` where memory runs out in
-/// reading it; `World` of the runner; `Output` where the writer refuses. Before the last nothing is written.
+/// The faults come in this order: `BadModel` where the text is no model file, or `NoMemory` where
+/// memory runs out in reading it; `World` of the runner; `Output` where the writer refuses. Before
+/// the last nothing is written.
 pub fn seq<M: Described, O: Write>(alloc: Global, text: &str, out: &mut O) -> Result<(), Fault>
     ensures ok { OnOk result
         (PrintsRun M.meaning M.says text.now (O.contents out.old) (O.contents out.new)) }
@@ -93,8 +95,8 @@ fn write_run<O: Write>(world: World, out: &mut O) -> Result<(), Fault>
 
 /// Says whether a text is a model file: writes `ok`, and what the model shows of its values.
 ///
-/// The faults come in this order: `Mistake` where the text is no model file, or `NoMemory` where memory runs out;
-/// `Output` where the writer refuses. Before the last nothing is written.
+/// The faults come in this order: `Mistake` where the text is no model file, or `NoMemory` where
+/// memory runs out; `Output` where the writer refuses. Before the last nothing is written.
 pub fn check<M: Described, O: Write>(alloc: Global, text: &str, out: &mut O) -> Result<(), Fault>
     ensures ok { OnOk result
         (Prints (IsChecked M.says M.shows text.now) (O.contents out.old) (O.contents out.new)) }

@@ -1,4 +1,5 @@
-//! The program `timewarp`, over any kind of model, files and writers: what it does with the words of its command line.
+//! The program `timewarp`, over any kind of model, files and writers: what it does with the words
+//! of its command line.
 #![tactic(auto)]
 
 mod disks;

@@ -17,8 +17,8 @@ pub trait Progress: Watch {
     fn failed(&mut self, fault: Fault);
 }
 
-/// Shows on one line of a terminal how far a run has come, at most twice a second, and after a fault
-/// what to do about it. It shows nothing where there is no terminal.
+/// Shows on one line of a terminal how far a run has come, at most twice a second, and after a
+/// fault what to do about it. It shows nothing where there is no terminal.
 #[derive(Drop)]
 pub struct TerminalProgress<'c, C, T> {
     clock: &'c C,

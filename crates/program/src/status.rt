@@ -32,19 +32,19 @@ pub struct About<'a> {
     pub keys: &'a str,
 }
 
-/// The words of the command line, the program's own name first. One that is no UTF-8 is an error of the kind
-/// `InvalidData`.
+/// The words of the command line, the program's own name first. One that is no UTF-8 is an error of
+/// the kind `InvalidData`.
 pub fn words<R: Env + AllocGlobal>(rt: &R) -> IoResult<Vec<String>> {
     Ok(env::args(rt)?.collect(rt.alloc())?)
 }
 
-/// Does what the words ask for, of which the first is the program's own name, and answers the exit status. Models are of
-/// kind `M`.
+/// Does what the words ask for, of which the first is the program's own name, and answers the exit
+/// status. Models are of kind `M`.
 ///
-/// The status is 0 where all is done, 1 where a fault is told on `err` as the program's name, `: ` and its text, and 2 where the
-/// words are no command or ask for help, with `clap`'s text on `err`. What is asked for is written to `out`, which is
-/// flushed at the end. A run tells `progress` how far it has come, and so does each command of its fault,
-/// after that is told.
+/// The status is 0 where all is done, 1 where a fault is told on `err` as the program's name, `: `
+/// and its text, and 2 where the words are no command or ask for help, with `clap`'s text on `err`.
+/// What is asked for is written to `out`, which is flushed at the end. A run tells `progress` how
+/// far it has come, and so does each command of its fault, after that is told.
 pub fn command<M, R, S, P, O, E>(
     rt: &R,
     about: About<'_>,
@@ -100,7 +100,8 @@ where
     }
 }
 
-/// What the program does with the words of its command line, or with why they could not be read. Answers the exit status.
+/// What the program does with the words of its command line, or with why they could not be read.
+/// Answers the exit status.
 pub fn answer<M, R, P, O, E>(
     rt: &R,
     about: About<'_>,
@@ -190,7 +191,8 @@ fn refuse_line<E: Write>(name: &str, error: LineError, err: &mut E) -> u8
 
 /// Tells on `err` why the words of the command line could not be read, and answers the exit status.
 ///
-/// A word that is no UTF-8 is a mistake in the line, as those that `clap` finds. Else memory ran out.
+/// A word that is no UTF-8 is a mistake in the line, as those that `clap` finds. Else memory ran
+/// out.
 pub fn refuse_words<E: Write>(name: &str, error: IoError, err: &mut E) -> u8
     ensures usage { error_kind error ≡ ErrorKind.InvalidData → result ≡ 2 }
     ensures memory { error_kind error ≢ ErrorKind.InvalidData → result ≡ 1 }

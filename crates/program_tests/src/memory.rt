@@ -1,5 +1,5 @@
-// Want of memory is told by its name, and a second try then answers as if there had been none. This shows where one
-// allocation fails; with ample memory the first try succeeds.
+// Want of memory is told by its name, and a second try then answers as if there had been none. This
+// shows where one allocation fails; with ample memory the first try succeeds.
 
 use crate::reading::TEXTS;
 use crate::running::{RING, RING_TEXT, Told, run, temporary};

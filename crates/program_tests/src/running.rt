@@ -1,5 +1,5 @@
-// Commands with writers in memory, and files for them. None of these calls has a contract, so that the tests are proved
-// without those of the program.
+// Commands with writers in memory, and files for them. None of these calls has a contract, so that
+// the tests are proved without those of the program.
 
 use models::AnyModel;
 use program::{About, TerminalProgress, command};

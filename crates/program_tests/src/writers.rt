@@ -89,7 +89,8 @@ where
     }
 }
 
-/// Runs a model with a writer that refuses the call number `fail`. Answers whether it refused, and what was told.
+/// Runs a model with a writer that refuses the call number `fail`. Answers whether it refused, and
+/// what was told.
 fn seq_refused<R>(rt: &R, source: Source<'_>, fail: usize) -> Result<(bool, Told), Fail>
 where
     R: Files<File = File> + Clock + AllocGlobal,

@@ -1,4 +1,5 @@
--- A commit: along the merged messages, each is the least pending one, and its process told it first.
+-- A commit: along the merged messages, each is the least pending one, and its process told it
+-- first.
 use Rattle.std.proofs.Common.{◌≡◌, ℕ, List, [], ◌∷◌, refl, inl, inr, arith, nat_lt, ◌<◌, ◌≤◌, ◌+◌, flat_map, ap, ap₂, ◌∙◌, length, subst, ◌^◌, true, ◌++◌, sym, Some, None, get_or-set_same, get_or-set_other, nat_le, lt-ltb, le-leb, ◌==◌}
 use Rattle.std.proofs.lemmas.Bool.{cases_lt, cases_eq, and_from, cond-true}
 use Rattle.std.specs.List.{AllByRecursion as Every}

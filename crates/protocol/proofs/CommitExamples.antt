@@ -11,7 +11,8 @@ use Rattle.protocol.specs.Moves.{commit, picture_after_commit, told_front}
 abbrev still : Process
 still = record { done = []; waiting = []; antis = []; state = 0 ∷ []; number = 0 }
 
--- process 1 handled the message of time 5, and process 2 that of time 7, which it was sent by process 1
+-- process 1 handled the message of time 5, and process 2 that of time 7, which it was sent by
+-- process 1
 abbrev of_one : Done
 of_one = record { message = msg 5 0 0 1 0 1; sent = msg 7 1 0 2 0 2 ∷ []; after = 1 ∷ []; number_after = 1 }
 

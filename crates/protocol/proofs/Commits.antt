@@ -1,4 +1,5 @@
--- A commit of what was told: the front is the sequential simulation, and it is known by what was told alone.
+-- A commit of what was told: the front is the sequential simulation, and it is known by what was
+-- told alone.
 use Rattle.std.proofs.Common.{◌≡◌, ℕ, zero, suc, ◌+◌, ◌%◌, ◌<◌, ◌≤◌, ◌^◌, List, [], ◌∷◌, ◌++◌, map, flat_map, length, get_or, min, refl, sym, ap, ◌∙◌, subst, arith, nat_lt, not, ◌==◌, ◌/◌, mod-lt, append_assoc, append-nil, lt-ltb, Some}
 use Rattle.std.proofs.lemmas.Bool.{cond-true, cond_both, ltb-true}
 use Rattle.std.proofs.lemmas.Option.{same_Some}
@@ -231,7 +232,8 @@ pub sound_commit : (m : Meaning) (end : ℕ) (p p' : Picture) → IsSystem m end
 sound_commit m end p p' system e =
     subst (λ (q : Picture). IsSoundPicture m end q × (gvt end p ≤ gvt end q)) (same_Some (picture_after_commit m end p) p' e) (sound_committed m end p system)
 
--- a commit writes the next events of the sequential simulation: what was told below the new time, in message order
+-- a commit writes the next events of the sequential simulation: what was told below the new time,
+-- in message order
 pub commits_tell : CommitsTellTheNextEvents
 commits_tell m end p system less =
     let c = least_floor end p.floors in

@@ -1,4 +1,5 @@
--- The definitions at work: what a process, a node and a whole system of a token ring do, by computing.
+-- The definitions at work: what a process, a node and a whole system of a token ring do, by
+-- computing.
 use Rattle.std.proofs.Common.{◌≡◌, ℕ, ◌+◌, ◌%◌, List, [], ◌∷◌, refl, get_or, cond, eqb, Some}
 use Rattle.eventkey.specs.Message.{Message, message_cmp}
 use Rattle.eventkey.specs.Signed.{plus, minus}

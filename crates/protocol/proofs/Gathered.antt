@@ -1,4 +1,5 @@
--- What was told, in one list: the part of one process, the part before a time, and the list without the first that a process told.
+-- What was told, in one list: the part of one process, the part before a time, and the list without
+-- the first that a process told.
 use Rattle.std.proofs.Common.{◌≡◌, ℕ, ◌+◌, ◌<◌, ◌≤◌, Bool, true, false, not, List, [], ◌∷◌, ◌++◌, filter, refl, sym, ap, ◌∙◌, subst, arith, nat_lt, ◌==◌, inl, inr, set, get_or, length, length-set, get_or-set_same, get_or-set_other, lt-ltb, ltb-true, ltb-false}
 use Rattle.std.proofs.lemmas.Bool.{cases_Bool, cases_eq, cond_both, cond-true, cond-false, both_ways, eq-eqb, ne_eqb, not_from_true}
 use Rattle.std.proofs.lemmas.List.Concat.{flat_map-append}

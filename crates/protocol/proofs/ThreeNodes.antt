@@ -1,5 +1,6 @@
--- A session of three nodes, by computing: a token ring of three processes, one a node, hold 2, two tokens, end 10. A
--- straggler comes to node 2, which rolls back and cancels what it sent, and what no rollback reaches is committed.
+-- A session of three nodes, by computing: a token ring of three processes, one a node, hold 2, two
+-- tokens, end 10. A straggler comes to node 2, which rolls back and cancels what it sent, and what
+-- no rollback reaches is committed.
 use Rattle.std.proofs.Common.{◌≡◌, List, [], ◌∷◌, None, Option, Some, refl, cond, nat_lt}
 use Rattle.std.specs.Prelude.{unwrap_or}
 use Rattle.eventkey.specs.Message.{Message, message_cmp}

@@ -1,4 +1,5 @@
--- Messages by their times: the time and the ascending list of its messages, in the order of the times.
+-- Messages by their times: the time and the ascending list of its messages, in the order of the
+-- times.
 use Rattle.std.specs.List.{AllByRecursion as Every}
 use Rattle.std.specs.Prelude.{ℕ, List, [], ◌∷◌, ◌++◌, reverse, length, ◌≡◌, ◌<◌, ◌+◌}
 use Rattle.eventkey.specs.Bag.{IsAscending, add}

@@ -1,4 +1,5 @@
--- The input queue of a process (Jefferson 1985): what an arrival undoes, meets or leaves, and its five cases.
+-- The input queue of a process (Jefferson 1985): what an arrival undoes, meets or leaves, and its
+-- five cases.
 use Rattle.std.specs.List.{AllByRecursion as Every, filter}
 use Rattle.std.specs.Prelude.{ℕ, List, [], ◌∷◌, ◌++◌, length, if◌then◌else◌, nat_le, nat_lt, ◌+◌, ◌≡◌, ◌≤◌, true, false, Option, Some, None}
 use Rattle.eventkey.specs.Bag.{IsAscending, add, add_all, copies, is_among, least_time, remove_one}

@@ -1,4 +1,5 @@
--- A message handled, and lists of such (the state queue and the output queue of a process, in one: Jefferson 1985).
+-- A message handled, and lists of such (the state queue and the output queue of a process, in one:
+-- Jefferson 1985).
 use Rattle.queues.specs.declared.Record.{Record}
 use Rattle.std.specs.List.{filter}
 use Rattle.std.specs.Prelude.{ℕ, List, [], ◌∷◌, ◌++◌, if◌then◌else◌, nat_le, nat_lt, flat_map, map, length, ◌≡◌, ◌<◌, ◌≤◌, ⊤, Option, Some, None}
@@ -66,7 +67,8 @@ abbrev pub IsFirstTaken : ℕ → List Record → List Record → Option Record 
 IsFirstTaken c old new None = (handled_before c old ≡ []) × (new ≡ old)
 IsFirstTaken c old new (Some h) = (old ≡ h ∷ new) × (h.message.time < c)
 
--- Where the messages ascend, those first records are all records before the time, and the others all records from it on.
+-- Where the messages ascend, those first records are all records before the time, and the others
+-- all records from it on.
 abbrev pub RecordsPart : Type 0
 RecordsPart = (c : ℕ) (hs : List Record) → IsAscending (messages hs) →
     (handled_before c hs ≡ filter (λ (h : Record). nat_lt h.message.time c) hs) × (handled_from c hs ≡ filter (λ (h : Record). nat_le c h.message.time) hs)

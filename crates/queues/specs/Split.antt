@@ -1,4 +1,5 @@
--- An ascending list in two parts: the least messages at hand, greatest first, and the bag of the others.
+-- An ascending list in two parts: the least messages at hand, greatest first, and the bag of the
+-- others.
 use Rattle.std.specs.Prelude.{List, ◌++◌, ◌<◌, length, reverse}
 use Rattle.eventkey.specs.Bag.{IsAscending}
 use Rattle.eventkey.specs.Message.{Message}

@@ -40,8 +40,8 @@ pub(crate) fn holds(ascending: &VecDeque<Message>, message: &Message) -> bool
     kept > 0 && ascending[kept - 1].is_same(message)
 }
 
-/// The last `count` done messages wait again. It is refused only for want of memory, and then what was put in is taken
-/// out again.
+/// The last `count` done messages wait again. It is refused only for want of memory, and then what
+/// was put in is taken out again.
 pub(crate) fn wait_again(
     done: &VecDeque<Message>,
     waiting: &mut EventList,

@@ -14,9 +14,9 @@ use std::alloc::{AllocError, Global};
 /// How many messages are at hand at the most, so that one more moves few of them.
 const AT_HAND: usize = 32;
 
-/// The messages that wait, seen as the ascending list of them. The least ones are at hand in one piece of memory, since
-/// they are handled next; where more than `AT_HAND` wait, the others are in a bag, and what one more costs is the
-/// logarithm of their times.
+/// The messages that wait, seen as the ascending list of them. The least ones are at hand in one
+/// piece of memory, since they are handled next; where more than `AT_HAND` wait, the others are in
+/// a bag, and what one more costs is the logarithm of their times.
 #[derive(Drop)]
 pub(crate) struct EventList {
     // Greatest first, so that the least is taken at the end.
@@ -136,8 +136,8 @@ fn put_in(near: &mut Vec<Message>, far: &mut Bag, message: Message) -> Result<()
     Ok(())
 }
 
-/// Where enough messages are at hand, the greatest of them goes to the others. It is refused only for want of memory, and
-/// then it stays.
+/// Where enough messages are at hand, the greatest of them goes to the others. It is refused only
+/// for want of memory, and then it stays.
 fn make_room(near: &mut Vec<Message>, far: &mut Bag) -> Result<(), AllocError>
     requires { IsSplit near.old.items far.old }
     ensures split { IsSplit near.new.items far.new }

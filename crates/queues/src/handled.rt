@@ -16,15 +16,15 @@ use eventkey::Message;
 use model::{Model as Simulated, Sent, State};
 use std::alloc::{AllocError, Global};
 
-/// What a logical process handled, in the order of handling: its state queue and its output queue in one (Jefferson
-/// 1985), seen as the list of records.
+/// What a logical process handled, in the order of handling: its state queue and its output queue
+/// in one (Jefferson 1985), seen as the list of records.
 ///
 /// State words are kept for the first record and for one in any `K` in a row, `K` from 1 to 64. The
 /// others are rebuilt by going forward with the model (infrequent state saving: Fujimoto 1990).
 pub struct History<const K: usize> {
     alloc: Global,
-    /// The place of the first record, below `K`: a record after it keeps its words where its place is
-    /// 0, and the places go round.
+    /// The place of the first record, below `K`: a record after it keeps its words where its place
+    /// is 0, and the places go round.
     place: usize,
     records: SparseRecords,
 }
@@ -97,7 +97,8 @@ impl<const K: usize> History<K> {
         self.records.sent(at)
     }
 
-    /// One more record, at the end. It is refused only for want of memory, and then the history is unchanged.
+    /// One more record, at the end. It is refused only for want of memory, and then the history is
+    /// unchanged.
     pub fn push(&mut self, last: Record) -> Result<(), AllocError>
         ensures pushed { OnOk result (self.new ≡ self.old ++ last ∷ []) }
         ensures unchanged { OnErr result (self.new ≡ self.old) }
@@ -111,7 +112,8 @@ impl<const K: usize> History<K> {
         self.push_handling(message, &before, number_before, sent)
     }
 
-    /// The same for the record of these parts. Its state words are lent, and copied only where they are kept.
+    /// The same for the record of these parts. Its state words are lent, and copied only where they
+    /// are kept.
     pub fn push_handling(
         &mut self,
         message: Message,
@@ -132,9 +134,9 @@ impl<const K: usize> History<K> {
             .push(message, before, number_before, sent, place == 0)
     }
 
-    /// Takes the last `count` records out and answers them in their order. It is refused only for want
-    /// of memory, and then the history is unchanged. It takes at most `count` and `K` handlings; none,
-    /// and no memory, where `count` is 0.
+    /// Takes the last `count` records out and answers them in their order. It is refused only for
+    /// want of memory, and then the history is unchanged. It takes at most `count` and `K`
+    /// handlings; none, and no memory, where `count` is 0.
     pub fn take_back<M: Simulated>(
         &mut self,
         model: &M,
@@ -157,9 +159,9 @@ impl<const K: usize> History<K> {
         Ok(undone)
     }
 
-    /// Lets go of the last `count` records, and puts state words and send number back to those before them: a rollback
-    /// (Jefferson 1985). It is refused only for want of memory, and then nothing is changed. It takes at most `K` handlings;
-    /// none, and no memory, where `count` is 0.
+    /// Lets go of the last `count` records, and puts state words and send number back to those
+    /// before them: a rollback (Jefferson 1985). It is refused only for want of memory, and then
+    /// nothing is changed. It takes at most `K` handlings; none, and no memory, where `count` is 0.
     pub fn roll_back<M: Simulated>(
         &mut self,
         model: &M,
@@ -188,9 +190,10 @@ impl<const K: usize> History<K> {
         Ok(())
     }
 
-    /// Takes out the first records, as long as their messages are below the floor, in ticks, and answers them in their
-    /// order: where the records ascend, all that are below it. It is refused only for want of memory, and then the history
-    /// is unchanged. It costs what it takes out, and takes at most as many handlings.
+    /// Takes out the first records, as long as their messages are below the floor, in ticks, and
+    /// answers them in their order: where the records ascend, all that are below it. It is refused
+    /// only for want of memory, and then the history is unchanged. It costs what it takes out, and
+    /// takes at most as many handlings.
     pub fn release<M: Simulated>(
         &mut self,
         model: &M,

@@ -14,9 +14,9 @@ use eventkey::{Message, Sign, Signed};
 use std::alloc::{AllocError, Global};
 use std::collections::VecDeque;
 
-/// The input queue of a logical process (Jefferson 1985), seen as three ascending lists: the messages done, those
-/// that wait to be handled, none less than the last one done, and the antimessages that wait for their message. No
-/// antimessage stands with its message.
+/// The input queue of a logical process (Jefferson 1985), seen as three ascending lists: the
+/// messages done, those that wait to be handled, none less than the last one done, and the
+/// antimessages that wait for their message. No antimessage stands with its message.
 pub struct InputQueue {
     // Let go of at the beginning, put back at the end.
     done: VecDeque<Message>,
@@ -58,8 +58,8 @@ impl InputQueue {
         }
     }
 
-    /// The queue in which these messages wait, in whatever order they are handed in. It is refused only for want of
-    /// memory.
+    /// The queue in which these messages wait, in whatever order they are handed in. It is refused
+    /// only for want of memory.
     pub fn of_waiting(alloc: Global, messages: Vec<Message>) -> Result<InputQueue, AllocError>
         ensures { IfOk result (λ q. q
             ≡ record { done = []; waiting = add_all messages.items []; antis = [] }) }
@@ -103,8 +103,9 @@ impl InputQueue {
         self.antis.len()
     }
 
-    /// A message or an antimessage arrives: done messages that come after it wait again, and it meets its opposite or
-    /// stays for it. It is refused only for want of memory, and then the queue is unchanged.
+    /// A message or an antimessage arrives: done messages that come after it wait again, and it
+    /// meets its opposite or stays for it. It is refused only for want of memory, and then the
+    /// queue is unchanged.
     pub fn arrive(&mut self, signed: Signed) -> Result<Arrival, AllocError>
         ensures answer { IfOk result (λ a. a ≡ arrival signed self.old) }
         ensures arrived { OnOk result (self.new ≡ arrived signed self.old) }
@@ -167,8 +168,8 @@ impl InputQueue {
         }
     }
 
-    /// The least waiting message, if its time is below `end`, in ticks: it is done now. It is refused only for want of
-    /// memory, and then the queue is unchanged.
+    /// The least waiting message, if its time is below `end`, in ticks: it is done now. It is
+    /// refused only for want of memory, and then the queue is unchanged.
     pub fn take_next(&mut self, end: u64) -> Result<Option<Message>, AllocError>
         ensures answer { IfOk result (λ next. next ≡ first_before end self.old.waiting) }
         ensures taken { OnOk result (self.new ≡ taken end self.old) }
@@ -195,7 +196,8 @@ impl InputQueue {
         done::let_go(&mut self.done, count);
     }
 
-    /// The least time, in ticks, of what waits, antimessages too; none where nothing does. It takes no memory.
+    /// The least time, in ticks, of what waits, antimessages too; none where nothing does. It takes
+    /// no memory.
     pub fn low(&self) -> Option<u64>
         ensures low { result ≡ first_time (self.now.waiting ++ self.now.antis) }
         ensures range { IfSome result (λ time. time < 2 ^ 41) }

@@ -1,4 +1,5 @@
-//! The queues of a logical process (Jefferson 1985): its input queue, and the history of what it handled.
+//! The queues of a logical process (Jefferson 1985): its input queue, and the history of what it
+//! handled.
 #![tactic(auto)]
 
 ghost use Rattle.queues.specs.Queue.{QueuesArriveByCases, QueuesStayApart, QueuesStayInOrder};
@@ -56,8 +57,9 @@ impl Arrival {
     }
 }
 
-/// The laws of arrivals at an input queue: the five cases, that no antimessage comes to stand with its message, that
-/// the lists stay in order, and the count of each message before and after; and what a time parts.
+/// The laws of arrivals at an input queue: the five cases, that no antimessage comes to stand with
+/// its message, that the lists stay in order, and the count of each message before and after; and
+/// what a time parts.
 pub fn law_of_queues()
     ensures cases { QueuesArriveByCases }
     ensures apart { QueuesStayApart }
@@ -67,8 +69,8 @@ pub fn law_of_queues()
     ensures parts { RecordsPart }
 {}
 
-/// The law of histories: what a model handled stays so, whatever happens to a history, so that its state words can be
-/// rebuilt.
+/// The law of histories: what a model handled stays so, whatever happens to a history, so that its
+/// state words can be rebuilt.
 pub fn law_of_records()
     ensures kept { HandlingsAreKept }
 {}

@@ -131,8 +131,8 @@ impl SparseRecords {
         }
     }
 
-    /// One more record, at the end, with its state words where it is to be saved or is the first. It
-    /// is refused only for want of memory, and then nothing is changed.
+    /// One more record, at the end, with its state words where it is to be saved or is the first.
+    /// It is refused only for want of memory, and then nothing is changed.
     pub fn push(
         &mut self,
         message: Message,
@@ -187,8 +187,8 @@ impl SparseRecords {
     }
 
     /// Takes out all but the first `kept` records. It is refused only for want of memory, and then
-    /// nothing is changed. It takes as many handlings as records up to the cut are without state words
-    /// in a row.
+    /// nothing is changed. It takes as many handlings as records up to the cut are without state
+    /// words in a row.
     pub fn split_off<M: Simulated>(
         &mut self,
         model: &M,

@@ -16,11 +16,11 @@ use disk::SectorDisk;
 use model::Model as Simulated;
 use std::alloc::Global;
 
-/// Opens a session over 1 to 64 nodes behind bytes in memory, makes these steps, up to the first that is refused, and hands the
-/// disk back. All that a node is told and answers passes as frames.
+/// Opens a session over 1 to 64 nodes behind bytes in memory, makes these steps, up to the first
+/// that is refused, and hands the disk back. All that a node is told and answers passes as frames.
 ///
-/// The disk was formatted for this model and this end, in ticks. Where memory is refused for the ports the disk is handed
-/// back as it was.
+/// The disk was formatted for this model and this end, in ticks. Where memory is refused for the
+/// ports the disk is handed back as it was.
 pub fn resume_behind_bytes<M: Simulated, D: SectorDisk + Drop>(
     alloc: Global,
     model: &M,
@@ -41,8 +41,8 @@ pub fn resume_behind_bytes<M: Simulated, D: SectorDisk + Drop>(
         (left.done ≡ length steps.now) × IsSome left.time) }
     ensures refused { IfErr result (λ back. back ≡ disk) }
 
-    // Why no session was opened, and then none of its steps were made; where the disk stands for a world,
-    // only for want.
+    // Why no session was opened, and then none of its steps were made; where the disk stands for a
+    // world, only for want.
     ensures opening { IfOk result (λ left. left.time ≡ None → (left.done ≡ 0) × IfSome left.fault
         (OpeningIsRefused (M.meaning model.now) end (D.state disk).reads
         (replicate nodes (state_of (M.meaning model.now) Fresh))

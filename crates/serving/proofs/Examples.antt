@@ -15,7 +15,8 @@ use Rattle.wire.specs.declared.port.WireFault.TheVariants.{BadBody, BadKind, Too
 abbrev first : Message
 first = record { time = 1; from = 0; number = 0; to = 0; a = 0; b = 0 }
 
--- the load of node 0, a parcel of no deliveries, the reply to it, and the refusal of a message before the floor
+-- the load of node 0, a parcel of no deliveries, the reply to it, and the refusal of a message
+-- before the floor
 abbrev load : List ℕ
 load =
     0 ∷ 0 ∷ 0 ∷ 93 ∷ 1 ∷ (big_bytes 4 0 ++ big_bytes 4 3 ++ big_bytes 8 10 ++ big_bytes 8 0 ++ big_bytes 4 1

@@ -25,7 +25,8 @@ abbrev pub lacks_first : Bool → Lacks → ℕ → Bool
 lacks_first b lacks zero = b
 lacks_first b lacks (suc turn) = lacks turn
 
--- What was served so far: whatever the node lacks from here on, what is served of all the bytes is that, and then what is served of the rest.
+-- What was served so far: whatever the node lacks from here on, what is served of all the bytes is
+-- that, and then what is served of the rest.
 pub record SoFar (m : Meaning) (limit done : ℕ) (start now : Node) (old new : Option (List ℕ)) (bytes rest : List ℕ) : Type 0 where
   pub text : List ℕ
   pub appended : Appends old new text

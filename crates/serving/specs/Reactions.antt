@@ -1,5 +1,5 @@
--- One frame's place in a node's loop (this project's profile): what the loop does with a frame whose
--- body is not yet looked at.
+-- One frame's place in a node's loop (this project's profile): what the loop does with a frame
+-- whose body is not yet looked at.
 use Rattle.std.specs.Prelude.{ℕ, ◌^◌, Bool, true, false, nat_lt, if◌then◌else◌, ◌≡◌, ◌⊎◌, length, List}
 use Rattle.std.specs.Prelude.{Option, Some, None, Result, Ok, Err, IfOk}
 use Rattle.model.specs.Meaning.{Meaning}

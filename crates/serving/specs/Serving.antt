@@ -1,5 +1,5 @@
--- The served text (this project's profile): what a node's loop writes and answers, as one function of
--- the model, the limit and the bytes.
+-- The served text (this project's profile): what a node's loop writes and answers, as one function
+-- of the model, the limit and the bytes.
 use Rattle.std.specs.Prelude.{ℕ, zero, suc, ◌+◌, Bool, if◌then◌else◌, List, [], ◌++◌}
 use Rattle.std.specs.Prelude.{Option, Some, None, Result, Ok, Err}
 use Rattle.model.specs.Meaning.{Meaning}
@@ -14,8 +14,8 @@ use Rattle.wire.specs.declared.port.WireFault.{WireFault}
 
 -- 1. One turn of the loop
 
--- what is written, the node with which the loop goes on (none where it ends there) or the fault that
--- stands there, and the bytes behind it
+-- what is written, the node with which the loop goes on (none where it ends there) or the fault
+-- that stands there, and the bytes behind it
 pub record Turn : Type 0 where
   pub text : List ℕ
   pub result : Result (Option Node) WireFault

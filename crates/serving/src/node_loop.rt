@@ -62,13 +62,15 @@ fn serve_parcels<M: Simulated, R: Read, W: Write>(
     Ok(limit)
 }
 
-/// Serves a node of this model to a stream of frames: first a load, then parcels, each of which is answered by a reply,
-/// `limit` at the most. It ends where the stream ends between frames, where the node refuses (the refusal is written), and
-/// after the last reply. It answers how many replies it wrote, all of them taken by the writer, which it does not flush.
+/// Serves a node of this model to a stream of frames: first a load, then parcels, each of which is
+/// answered by a reply, `limit` at the most. It ends where the stream ends between frames, where
+/// the node refuses (the refusal is written), and after the last reply. It answers how many replies
+/// it wrote, all of them taken by the writer, which it does not flush.
 ///
-/// Truncated, TooLong, BadKind and BadBody where the stream has such a fault before any such end, TooLong also for a reply
-/// of more than 2^24 bytes: all replies before it are written then. Io where the reader or the writer fails, NoMemory where
-/// memory is refused for a frame: a beginning of the text is written then. One frame is held at a time.
+/// Truncated, TooLong, BadKind and BadBody where the stream has such a fault before any such end,
+/// TooLong also for a reply of more than 2^24 bytes: all replies before it are written then. Io
+/// where the reader or the writer fails, NoMemory where memory is refused for a frame: a beginning
+/// of the text is written then. One frame is held at a time.
 pub fn serve<M: Simulated, R: Read, W: Write>(
     alloc: Global,
     model: &M,

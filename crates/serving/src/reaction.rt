@@ -34,8 +34,8 @@ pub enum Begun {
 
 /// Makes the node of the frame of a load.
 ///
-/// BadKind for a frame of another kind, else BadBody for a body that is no load; NoMemory where memory is refused for the
-/// load or for the frame of the node's refusal.
+/// BadKind for a frame of another kind, else BadBody for a body that is no load; NoMemory where
+/// memory is refused for the load or for the frame of the node's refusal.
 pub fn begin<M: Simulated>(alloc: Global, model: &M, raw: &Raw) -> Result<Begun, WireFault>
     ensures begins { Begins (M.meaning model.now).lps raw.now result }
     ensures lps { IfOk result (λ begun. HasProcesses (M.meaning model.now).lps begun) }
@@ -58,8 +58,9 @@ pub fn begin<M: Simulated>(alloc: Global, model: &M, raw: &Raw) -> Result<Begun,
 
 /// Lets the node handle the frame of a parcel.
 ///
-/// BadKind for a frame of another kind, else BadBody for a body that is no parcel, else TooLong for a reply of more than
-/// 2^24 bytes; NoMemory where memory is refused for the parcel or for the response.
+/// BadKind for a frame of another kind, else BadBody for a body that is no parcel, else TooLong for
+/// a reply of more than 2^24 bytes; NoMemory where memory is refused for the parcel or for the
+/// response.
 pub fn react<M: Simulated>(
     alloc: Global,
     model: &M,

@@ -1,4 +1,5 @@
-// A ring of three processes on three nodes, each behind a stream: the rounds of a whole run, byte for byte, and streams that end early.
+// A ring of three processes on three nodes, each behind a stream: the rounds of a whole run, byte
+// for byte, and streams that end early.
 
 ghost use Rattle.process.specs.Ring.{ring_lawful, ring_meaning};
 
@@ -243,8 +244,8 @@ fn an_empty_stream_and_a_parcel_first(rt: HostRuntime) {
     assert_eq!(rt; left, STREAM_0.len() - LOAD - PARCEL);
 }
 
-/// The load of node 0 and its first parcel, and then these bytes: the answer, what is written behind the first reply, and how
-/// many bytes are left unread.
+/// The load of node 0 and its first parcel, and then these bytes: the answer, what is written
+/// behind the first reply, and how many bytes are left unread.
 fn served_after(
     rt: &impl Abort,
     alloc: Global,
@@ -264,7 +265,8 @@ fn served_after(
 fn a_fault_comes_after_all_replies_before_it(rt: HostRuntime) -> Result<(), Fail> {
     let cases: [(&[u8], WireFault, usize); 7] = [
         (&[1, 0, 0, 1, 2, 9], WireFault::TooLong, 2),
-        // A body of 2^24 bytes, of which one comes: `tools/largest-blocks` looks at what is asked for.
+        // A body of 2^24 bytes, of which one comes: `tools/largest-blocks` looks at what is asked
+        // for.
         (&[1, 0, 0, 0, 2, 9], WireFault::Truncated, 0),
         (&[0, 0, 0, 16, 2, 0, 0], WireFault::Truncated, 0),
         (&[0, 0, 0, 1, 4, 7], WireFault::BadKind, 0),

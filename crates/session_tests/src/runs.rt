@@ -31,7 +31,8 @@ const PLAN: Plan = Plan {
     rounds: 100,
 };
 
-/// A run of one token round three processes, two ticks at each, up to time 10, on a disk of so many sectors.
+/// A run of one token round three processes, two ticks at each, up to time 10, on a disk of so many
+/// sectors.
 fn run_on(
     alloc: Global,
     sectors: u32,

@@ -1,4 +1,5 @@
-// Sessions over a token ring of three processes that hold each of two tokens two ticks, up to time 10.
+// Sessions over a token ring of three processes that hold each of two tokens two ticks, up to time
+// 10.
 
 ghost use Rattle.std.specs.Prelude.{◌≡◌, length, map, IfOk};
 ghost use Rattle.coordinator.specs.Opening.{AllFresh};

@@ -295,7 +295,8 @@ fn stops(alloc: Global, of: &Simulated, way: Way, at: At) -> Result<u64, Failure
     Ok(u64::MAX)
 }
 
-/// Stops runs over so many nodes, resumed over so many, in each way, prints how often, and answers the sum.
+/// Stops runs over so many nodes, resumed over so many, in each way, prints how often, and answers
+/// the sum.
 fn all_ways(
     rt: &HostRuntime,
     alloc: Global,

@@ -1,4 +1,5 @@
-//! `timewarp`: simulates logical processes that send one another messages stamped with virtual times.
+//! `timewarp`: simulates logical processes that send one another messages stamped with virtual
+//! times.
 #![tactic(auto)]
 
 use models::AnyModel;

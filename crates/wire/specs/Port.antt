@@ -12,7 +12,8 @@ use Rattle.wire.specs.declared.port.PortFault.{PortFault}
 use Rattle.wire.specs.declared.port.PortFault.TheVariants.{Peer, Wire}
 use Rattle.wire.specs.declared.port.WireFault.TheVariants as wire
 
--- Where a port stands: nothing is loaded yet, it waits for a parcel, it was posted one, or a call of it was refused.
+-- Where a port stands: nothing is loaded yet, it waits for a parcel, it was posted one, or a call
+-- of it was refused.
 pub data Stage : Type 0 where
   Fresh : Stage
   Idle : Stage

@@ -80,9 +80,11 @@ pub enum PortFault {
     BadReply,
 }
 
-/// The way to one node. It is loaded once and first, and then posted a parcel and asked for the reply, in turn.
+/// The way to one node. It is loaded once and first, and then posted a parcel and asked for the
+/// reply, in turn.
 pub trait Port {
-    /// Where it stands, whether what it answers is what its node does, by which model, and that node.
+    /// Where it stands, whether what it answers is what its node does, by which model, and that
+    /// node.
     ghost state: { Self → PortState };
 
     /// Makes the node of a load.

@@ -1,4 +1,5 @@
-// Whole runs of a token ring: three processes hand one token round, two ticks at each, up to time 10.
+// Whole runs of a token ring: three processes hand one token round, two ticks at each, up to time
+// 10.
 
 ghost use Rattle.std.specs.Prelude.{◌≡◌, ◌<◌, ◌≤◌};
 
@@ -96,7 +97,8 @@ fn copy(alloc: Global, disk: &MemDisk, stop: Option<u64>) -> Result<MemDisk, Fai
     Ok(MemDisk::of(alloc, image, Faults { fail: None, stop })?)
 }
 
-/// Whether a run on a new disk ends so, and `log` and then `show` print this text of the disk that it leaves.
+/// Whether a run on a new disk ends so, and `log` and then `show` print this text of the disk that
+/// it leaves.
 fn ends_so(
     alloc: Global,
     sectors: u32,

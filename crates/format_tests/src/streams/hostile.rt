@@ -205,7 +205,8 @@ fn noise(alloc: Global, random: &mut Random) -> Result<Vec<u8>, Fail> {
     Ok(bytes)
 }
 
-/// The first frame is read as the plain decoder judges it, and a frame that is read is spelled as it was.
+/// The first frame is read as the plain decoder judges it, and a frame that is read is spelled as
+/// it was.
 fn compare(rt: &impl Abort, alloc: Global, bytes: &[u8], size: usize) -> Result<(), Fail> {
     let mut reader = Pieces::of(bytes, size);
     let read = read_frame(alloc, &mut reader);

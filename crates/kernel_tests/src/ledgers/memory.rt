@@ -11,7 +11,8 @@ fn made(alloc: Global, lows: [Option<u64>; 2]) -> Result<Ledger, LedgerFault> {
     }
 }
 
-// What a ledger shows: how much travels, the first and the last of it, the floor and the least floor answered.
+// What a ledger shows: how much travels, the first and the last of it, the floor and the least
+// floor answered.
 type Shown = (usize, Option<Signed>, Option<Signed>, u64, u64);
 
 fn shown(ledger: &Ledger) -> Shown {

@@ -238,7 +238,8 @@ fn lot(alloc: Global, seed: u64, nodes: u32, parcels: u32) -> Result<Option<u64>
     Ok(Some(schedule.undone))
 }
 
-/// Schedules of so many nodes, by several lots: all replies are the same, and there was much to take back.
+/// Schedules of so many nodes, by several lots: all replies are the same, and there was much to
+/// take back.
 fn agree_by_lot(rt: &impl Abort, alloc: Global, nodes: u32) -> Result<(), Fail>
     requires { nodes ≤ 64 }
 {

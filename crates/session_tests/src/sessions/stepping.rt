@@ -65,7 +65,8 @@ fn travels(session: &Local<'_>, transit: &[(Sign, [u64; 6])]) -> bool {
         .eq(transit.iter().copied())
 }
 
-/// Makes the step of the table at this place, and answers whether it answers what stands there, with that in transit.
+/// Makes the step of the table at this place, and answers whether it answers what stands there,
+/// with that in transit.
 fn is_made_as_written(
     alloc: Global,
     session: &mut Local<'_>,

@@ -5,7 +5,8 @@ use Rattle.queues.specs.Record.{AreHandlings, handled_before, handled_from, numb
 use Rattle.queues.specs.declared.Record.{Record}
 use Rattle.process.proofs.fossils.tell.Given as goal
 
--- the handling of this message, which sent these, and those after it: what was before the first of them is not told
+-- the handling of this message, which sent these, and those after it: what was before the first of
+-- them is not told
 abbrev with_first : Message → List Message → List Record → List Record
 with_first message sent rest = record { message = message; before = []; number_before = 0; sent = sent } ∷ rest
 
