@@ -1,0 +1,79 @@
+// Networks as model files describe them.
+
+ghost use Rattle.std.specs.Prelude.{◌≡◌, ◌≤◌, ◌^◌, ℕ, IfOk, IsErr};
+ghost use Rattle.network.specs.Network.{Torus};
+ghost use Rattle.network.specs.NetworkFile.{IsNetworkTable, network_text};
+ghost use Rattle.toml.specs.View.{table_view};
+
+use crate::network::Network;
+use model::Model as Simulated;
+use std::alloc::{AllocError, Global};
+use texts::{Described, Mistake, ModelFault, number_at, only};
+use toml::Table;
+
+/// What the help of a program says of the keys of a network's model file.
+pub const NETWORK_KEYS: &str = "\
+A network is a torus of switches, each being a process, and has these keys:
+  end         ticks at which the run ends, 1 to 1099511627776
+  width       switches in a row, 1 to 1024
+  height      rows, 1 to 1024 / width
+  service     ticks for which a switch serves a packet, 1 to 4294967295
+  wire        ticks that a packet takes to the next switch, 0 to 4294967295
+  gap         the most ticks between two packets of a switch's source, 1 to 4294967295
+  seed        what begins the drawn words, 0 to 9223372036854775807
+  work        words that each handling draws for nothing, 0 to 4294967295";
+
+impl Described for Network {
+    ghost says = { λ table n end. IsNetworkTable table n.torus end };
+
+    ghost shows = { λ n end. network_text n.torus end };
+
+    fn describe(_alloc: Global, table: &Table) -> Result<(Network, u64), ModelFault> {
+        match network_of(table) {
+            Ok(file) => Ok(file),
+            Err(mistake) => Err(ModelFault::BadModel(mistake)),
+        }
+    }
+
+    fn values(&self, alloc: Global, end: u64) -> Result<String, AllocError> {
+        // The first word of an identity is the kind of the model.
+        let words = self.identity(alloc);
+        let words = words.as_slice();
+        let (width, height, service, wire) = (words[1], words[2], words[3], words[4]);
+        let (gap, seed, work) = (words[5], words[6], words[7]);
+        format!(in alloc;
+            "end: {end}\nwidth: {width}\nheight: {height}\nservice: {service}\nwire: {wire}\ngap: {gap}\nseed: {seed}\nwork: {work}\n"
+        )
+    }
+}
+
+/// The network and the end of a table.
+fn network_of(table: &Table) -> Result<(Network, u64), Mistake>
+    ensures ok { IfOk result (λ file. IsNetworkTable (table_view table.now) file.0.torus file.1) }
+    ensures bad { IsErr result →
+        (torus : Torus) (end : ℕ) → ¬ IsNetworkTable (table_view table.now) torus end }
+    ensures some { IfOk result (λ file. 1 ≤ file.1) }
+    ensures end { IfOk result (λ file. file.1 ≤ 2 ^ 40) }
+{
+    let end = number_at(table, "end", 1, 1 << 40)?;
+    let width = number_at(table, "width", 1, 1024)?;
+    let height = number_at(table, "height", 1, 1024 / width)?;
+    let service = number_at(table, "service", 1, u64::from(u32::MAX))?;
+    let wire = number_at(table, "wire", 0, u64::from(u32::MAX))?;
+    let gap = number_at(table, "gap", 1, u64::from(u32::MAX))?;
+    let seed = number_at(table, "seed", 0, u64::MAX >> 1)?;
+    let work = number_at(table, "work", 0, u64::from(u32::MAX))?;
+    only(table, 8)?;
+    Ok((
+        Network::new(
+            width as u32,
+            height as u32,
+            service as u32,
+            wire as u32,
+            gap as u32,
+            seed,
+            work as u32,
+        ),
+        end,
+    ))
+}
