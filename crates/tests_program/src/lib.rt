@@ -3,6 +3,8 @@
 #![tactic(auto)]
 
 #[cfg(test)]
+mod fault_names;
+#[cfg(test)]
 mod memory;
 #[cfg(test)]
 mod reading;
