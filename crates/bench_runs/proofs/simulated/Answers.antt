@@ -1,7 +1,7 @@
 use Rattle.std.proofs.Common.{length, subst, sym, ◌≡◌}
 use Rattle.model.proofs.Worlds.{opening_IsWorld}
 use Rattle.models.specs.Any.{any_lawful, any_meaning}
-use Rattle.bench.proofs.simulated.Goals as goal
+use Rattle.bench_runs.proofs.simulated.Goals as goal
 
 pub run_to-requires : goal.run_to-requires
 run_to-requires c =

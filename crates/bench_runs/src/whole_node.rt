@@ -1,13 +1,11 @@
-// One node that runs all processes of a workload, parcel by parcel.
+// One node that runs all processes of a model, parcel by parcel.
 
-ghost use Rattle.std.specs.Prelude.{◌≡◌, ◌≤◌, ◌^◌, IfOk};
-ghost use Rattle.bench_node.specs.Scatter.{scatter};
+ghost use Rattle.std.specs.Prelude.{◌≡◌, ◌<◌, ◌≤◌, ◌^◌, IfOk};
 ghost use Rattle.node.specs.Handling.{IsInRange};
 ghost use Rattle.node.specs.Kept.{HasHistories};
 
-use crate::scatter::{POPULATION, Scatter};
 use eventkey::{Listed, Sign, Signed};
-use model::{Model as Simulated, State, Words};
+use model::{Model as Simulated, State};
 use node::{Load, Node, NodeFault, Parcel, Part, Reply};
 use std::alloc::{AllocError, Global};
 
@@ -23,9 +21,9 @@ pub struct Outcome {
     pub ran: u64,
 }
 
-/// Runs the workload up to the end, in ticks, on one node: each parcel delivers what the one before
-/// it sent, and its floor is the least time of all that was under way then.
-pub fn run(alloc: Global, model: &Scatter, end: u64) -> Result<Outcome, NodeFault>
+/// Runs the model up to the end, in ticks, on one node: each parcel delivers what the one before it
+/// sent, and its floor is the least time of all that was under way then.
+pub fn run<M: Simulated>(alloc: Global, model: &M, end: u64) -> Result<Outcome, NodeFault>
     requires { end ≤ 2 ^ 40 }
 {
     let mut node = loaded(alloc, model, end)?;
@@ -65,27 +63,28 @@ fn floor_after(reply: &Reply, end: u64) -> u64 {
 }
 
 /// A process for which nothing waits, after what it sent at the start.
-fn part(alloc: Global, lp: u32) -> Part
+fn part<M: Simulated>(alloc: Global, model: &M, lp: u32) -> Part
+    requires { lp < (M.meaning model.now).lps }
     ensures { IsInRange result }
 {
+    let (words, sends) = model.start(alloc, lp);
     Part {
         lp,
-        number: POPULATION,
-        words: State::from_words(Words::new(alloc)),
+        number: sends.len() as u64,
+        words: State::from_words(words),
         pending: Listed::from_vec(Vec::new(alloc)),
     }
 }
 
 /// The node of all processes, for which nothing waits yet.
-fn loaded(alloc: Global, model: &Scatter, end: u64) -> Result<Node, NodeFault>
+fn loaded<M: Simulated>(alloc: Global, model: &M, end: u64) -> Result<Node, NodeFault>
     requires { end ≤ 2 ^ 40 }
-    ensures lps { IfOk result (λ node. node.lps ≡ model.now.lps) }
-    ensures histories { IfOk result (λ node.
-        HasHistories (scatter model.now.lps model.now.spread) node) }
+    ensures lps { IfOk result (λ node. node.lps ≡ (M.meaning model.now).lps) }
+    ensures histories { IfOk result (λ node. HasHistories (M.meaning model.now) node) }
 {
     let mut parts = Vec::new(alloc);
-    for lp in 0..model.lps {
-        parts.push(part(alloc, lp))?;
+    for lp in 0..model.lps() {
+        parts.push(part(alloc, model, lp))?;
     }
     let load = Load {
         node: 0,
@@ -98,17 +97,14 @@ fn loaded(alloc: Global, model: &Scatter, end: u64) -> Result<Node, NodeFault>
 }
 
 /// What all processes send at the start.
-fn opening(alloc: Global, model: &Scatter) -> Result<Vec<Signed>, AllocError> {
+fn opening<M: Simulated>(alloc: Global, model: &M) -> Result<Vec<Signed>, AllocError> {
     let mut opening = Vec::new(alloc);
-    for lp in 0..model.lps {
+    for lp in 0..model.lps() {
         let (_, sends) = model.start(alloc, lp);
-        for number in 0..POPULATION {
-            let Some(outgoing) = sends.as_slice().get(number as usize) else {
-                break;
-            };
+        for (number, outgoing) in sends.as_slice().iter().enumerate() {
             opening.push(Signed {
                 sign: Sign::Plus,
-                message: model::stamp(lp, 0, number, outgoing),
+                message: model::stamp(lp, 0, number as u64, outgoing),
             })?;
         }
     }
