@@ -4,7 +4,7 @@ ghost use Rattle.std.specs.Prelude.{◌≡◌, IfOk, map, replicate};
 ghost use Rattle.loopback.specs.Loop.{state_of};
 ghost use Rattle.loopback.specs.declared.port.Held.TheVariants.{Fresh};
 
-use loopback::LoopPort;
+use crate::port::LoopPort;
 use model::Model as Simulated;
 use std::alloc::{AllocFailed, Global};
 
