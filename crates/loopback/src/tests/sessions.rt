@@ -7,9 +7,7 @@ ghost use Rattle.wire.specs.Local.{state_of};
 
 use crate::{LoopPort, loop_ports, resume_behind_bytes};
 use commitlog::{Log, format};
-use coordinator::{
-    Answer, DriveFault, FrontView, NotOpened, Resumed, Session, SessionFault, Step,
-};
+use coordinator::{Answer, DriveFault, FrontView, NotOpened, Resumed, Session, SessionFault, Step};
 use disk::{MemDisk, SectorDisk};
 use eventkey::{Listed, Message, Sign, Signed};
 use model::Model as Simulated;
@@ -22,6 +20,7 @@ use wire::{LocalPort, Port};
 const END: u64 = 10;
 
 type Behind<'m, M> = Session<'m, M, LoopPort<'m, M>, MemDisk>;
+
 type Here<'m, M> = Session<'m, M, LocalPort<'m, M>, MemDisk>;
 
 fn ring() -> TokenRing {
@@ -47,10 +46,7 @@ fn behind_bytes<M: Simulated>(
 }
 
 /// Fresh ports, one for each of three nodes in this program.
-fn ports_here<M: Simulated>(
-    alloc: Global,
-    model: &M,
-) -> Result<Vec<LocalPort<'_, M>>, AllocError>
+fn ports_here<M: Simulated>(alloc: Global, model: &M) -> Result<Vec<LocalPort<'_, M>>, AllocError>
     ensures { IfOk result (λ ports. (length ports.items ≡ 3)
         × AllFresh (map (λ p. state_of (M.meaning p.model) p.held) ports.items)) }
 {
@@ -101,11 +97,17 @@ enum Move {
 type Travelling = (Sign, [u64; 6]);
 
 const AT_3: Travelling = (Sign::Plus, [3, 0, 1, 1, 0, 1]);
+
 const AT_3_LATER: Travelling = (Sign::Plus, [3, 1, 1, 2, 1, 1]);
+
 const AT_5: Travelling = (Sign::Plus, [5, 1, 2, 2, 0, 2]);
+
 const AT_5_AGAIN: Travelling = (Sign::Plus, [5, 2, 0, 0, 1, 2]);
+
 const AT_7: Travelling = (Sign::Plus, [7, 2, 0, 0, 0, 3]);
+
 const NOT_AT_7: Travelling = (Sign::Minus, [7, 2, 0, 0, 0, 3]);
+
 const AT_7_AGAIN: Travelling = (Sign::Plus, [7, 2, 1, 0, 0, 3]);
 
 /// A step, what it answers, what travels afterwards, and the floor then.
@@ -117,28 +119,35 @@ struct Row(
 );
 
 const POSTED_AT_1: Result<Answer, SessionFault> = Ok(Answer::Posted { floor: 1 });
+
 const POSTED_AT_3: Result<Answer, SessionFault> = Ok(Answer::Posted { floor: 3 });
+
 const POSTED_AT_5: Result<Answer, SessionFault> = Ok(Answer::Posted { floor: 5 });
+
 const RAN_ONE: Result<Answer, SessionFault> = Ok(Answer::Taken {
     ran: 1,
     out: 1,
     fossils: 0,
 });
+
 const RAN_ONE_AND_TOLD: Result<Answer, SessionFault> = Ok(Answer::Taken {
     ran: 1,
     out: 1,
     fossils: 1,
 });
+
 const ROLLED_BACK: Result<Answer, SessionFault> = Ok(Answer::Taken {
     ran: 2,
     out: 3,
     fossils: 0,
 });
+
 const TOLD_ALONE: Result<Answer, SessionFault> = Ok(Answer::Taken {
     ran: 0,
     out: 0,
     fossils: 1,
 });
+
 const COMMITTED: Result<Answer, SessionFault> = Ok(Answer::Committed { g: 3, events: 2 });
 
 /// Thirteen steps that are made, with a straggler at node 2, and refused ones between them.
@@ -147,8 +156,18 @@ const ROWS: [Row; 19] = [
     Row(Move::Post(0, &[], 1), Err(SessionFault::Busy), &[], 1),
     Row(Move::Take(1), Err(SessionFault::Idle), &[], 1),
     Row(Move::Take(0), RAN_ONE, &[AT_3], 1),
-    Row(Move::Post(2, &[0], 1), Err(SessionFault::NoSuchPick), &[AT_3], 1),
-    Row(Move::Post(3, &[], 1), Err(SessionFault::NoSuchNode), &[AT_3], 1),
+    Row(
+        Move::Post(2, &[0], 1),
+        Err(SessionFault::NoSuchPick),
+        &[AT_3],
+        1,
+    ),
+    Row(
+        Move::Post(3, &[], 1),
+        Err(SessionFault::NoSuchNode),
+        &[AT_3],
+        1,
+    ),
     Row(Move::Post(1, &[], 1), POSTED_AT_1, &[AT_3], 1),
     Row(Move::Take(1), RAN_ONE, &[AT_3, AT_3_LATER], 3),
     Row(Move::Post(1, &[0], 1), POSTED_AT_3, &[AT_3_LATER], 3),
@@ -156,12 +175,32 @@ const ROWS: [Row; 19] = [
     Row(Move::Post(2, &[1], 1), POSTED_AT_3, &[AT_3_LATER], 3),
     Row(Move::Take(2), RAN_ONE, &[AT_3_LATER, AT_7], 3),
     Row(Move::Post(2, &[0], 2), POSTED_AT_3, &[AT_7], 3),
-    Row(Move::Take(2), ROLLED_BACK, &[AT_7, NOT_AT_7, AT_5_AGAIN, AT_7_AGAIN], 5),
-    Row(Move::Post(0, &[1, 0], 0), POSTED_AT_5, &[AT_5_AGAIN, AT_7_AGAIN], 5),
+    Row(
+        Move::Take(2),
+        ROLLED_BACK,
+        &[AT_7, NOT_AT_7, AT_5_AGAIN, AT_7_AGAIN],
+        5,
+    ),
+    Row(
+        Move::Post(0, &[1, 0], 0),
+        POSTED_AT_5,
+        &[AT_5_AGAIN, AT_7_AGAIN],
+        5,
+    ),
     Row(Move::Take(0), TOLD_ALONE, &[AT_5_AGAIN, AT_7_AGAIN], 5),
     Row(Move::Commit, COMMITTED, &[AT_5_AGAIN, AT_7_AGAIN], 5),
-    Row(Move::Commit, Ok(Answer::AlreadyAt { g: 3 }), &[AT_5_AGAIN, AT_7_AGAIN], 5),
-    Row(Move::Take(0), Err(SessionFault::Idle), &[AT_5_AGAIN, AT_7_AGAIN], 5),
+    Row(
+        Move::Commit,
+        Ok(Answer::AlreadyAt { g: 3 }),
+        &[AT_5_AGAIN, AT_7_AGAIN],
+        5,
+    ),
+    Row(
+        Move::Take(0),
+        Err(SessionFault::Idle),
+        &[AT_5_AGAIN, AT_7_AGAIN],
+        5,
+    ),
 ];
 
 fn step_of(alloc: Global, made: Move) -> Result<Step, AllocError> {
@@ -214,11 +253,7 @@ fn is_at_three(front: &FrontView<'_>) -> bool {
             .map(fields)
             .eq([[1, 0, 0, 0, 0, 0], [1, 1, 0, 1, 1, 0]])
         && front.numbers == [2, 2, 0].as_slice()
-        && front
-            .pending
-            .iter()
-            .map(fields)
-            .eq([AT_3.1, AT_3_LATER.1])
+        && front.pending.iter().map(fields).eq([AT_3.1, AT_3_LATER.1])
 }
 
 fn are_equal(front: &FrontView<'_>, other: &FrontView<'_>) -> bool {
@@ -262,7 +297,7 @@ fn a_list_of_steps_ends_as_over_nodes_in_this_program(rt: HostRuntime) -> Result
     assert!(rt; behind.transit() == here.transit());
     assert!(rt; is_at_three(&behind.front()));
     assert!(rt; are_equal(&behind.front(), &here.front()));
-    // The ninth of them, a parcel for a node that is not idle, when all are made again.
+    // A commit with nothing to commit, twice, a parcel, and a reply that no node owes.
     let mut again = made_steps(alloc, &ROWS[16..18])?;
     again.push(Step::Post {
         node: 1,
@@ -277,54 +312,6 @@ fn a_list_of_steps_ends_as_over_nodes_in_this_program(rt: HostRuntime) -> Result
     assert_eq!(rt; driven(&mut behind, again.as_slice()), refused);
     assert_eq!(rt; driven(&mut here, again.as_slice()), refused);
     assert!(rt; are_equal(&behind.front(), &here.front()));
-    Ok(())
-}
-
-/// A round: what travels to each node is posted to it with this budget, its reply is taken, and
-/// what no rollback reaches is committed.
-fn round<M: Simulated, P: Port, D: SectorDisk>(
-    alloc: Global,
-    session: &mut Session<'_, M, P, D>,
-    budget: u32,
-) -> Result<(), SessionFault> {
-    for node in 0..3 {
-        let mut picks = Vec::new(alloc);
-        for (place, signed) in (0..).zip(session.transit()) {
-            if signed.message.to() % 3 == node {
-                picks.push(place)?;
-            }
-        }
-        let post = Step::Post {
-            node,
-            picks: Listed::from_vec(picks),
-            budget,
-        };
-        session.step(&post)?;
-        session.step(&Step::Take { node })?;
-    }
-    session.step(&Step::Commit)?;
-    Ok(())
-}
-
-#[test]
-fn whole_runs_are_the_same(rt: HostRuntime) -> Result<(), Fail> {
-    let alloc = rt.alloc();
-    let ring = ring();
-    let mut world = World::new(alloc, &ring, END)?;
-    world.run_to(&ring, END)?;
-    for budget in [1, 2, 16] {
-        let mut behind = behind_bytes(alloc, &ring, formatted(alloc, &ring)?)?;
-        let mut here = in_this_program(alloc, &ring, formatted(alloc, &ring)?)?;
-        for _ in 0..30 {
-            round(alloc, &mut behind, budget)?;
-            round(alloc, &mut here, budget)?;
-            assert!(rt; behind.transit() == here.transit());
-            assert!(rt; are_equal(&behind.front(), &here.front()));
-        }
-        let front = behind.front();
-        assert_eq!(rt; front.time, END);
-        assert_eq!(rt; front.log.len(), 10);
-    }
     Ok(())
 }
 
