@@ -93,24 +93,28 @@ fn frames_are_at_the_other_end_before_a_reply_is_taken(rt: HostRuntime) -> Resul
     let mut loaded = [0; 98];
     far.read_exact(&mut loaded)?;
     assert_eq!(rt; loaded, LOAD);
-    for _ in 0..3 {
-        port.post(parcel(rt.alloc()))?;
-        let mut posted = [0; 21];
-        far.read_exact(&mut posted)?;
-        assert_eq!(rt; posted, PARCEL);
-        far.write_all(&REPLY)?;
-        let reply = port.take()?;
-        assert_eq!(rt; reply.ran, 1);
-        assert_eq!(rt; reply.low, None);
-        let sent: Vec<u64> = reply
-            .out
-            .as_slice()
-            .iter()
-            .map(|x| x.message.time())
-            .collect(rt.alloc())?;
-        assert_eq!(rt; sent.as_slice(), [3].as_slice());
-        assert_eq!(rt; reply.fossils.as_slice().len(), 0);
-    }
+    port.post(parcel(rt.alloc()))?;
+    let mut posted = [0; 21];
+    far.read_exact(&mut posted)?;
+    assert_eq!(rt; posted, PARCEL);
+    far.write_all(&REPLY)?;
+    let reply = port.take()?;
+    assert_eq!(rt; reply.ran, 1);
+    assert_eq!(rt; reply.low, None);
+    assert_eq!(rt; reply.fossils.as_slice().len(), 0);
+    let sent: Vec<u64> = reply
+        .out
+        .as_slice()
+        .iter()
+        .map(|x| x.message.time())
+        .collect(rt.alloc())?;
+    assert_eq!(rt; sent.as_slice(), [3].as_slice());
+    port.post(parcel(rt.alloc()))?;
+    let mut again = [0; 21];
+    far.read_exact(&mut again)?;
+    assert_eq!(rt; again, PARCEL);
+    far.write_all(&REPLY)?;
+    assert_eq!(rt; port.take()?.ran, 1);
     Ok(())
 }
 
