@@ -1,5 +1,5 @@
--- Lists of steps, one after another.
-use Rattle.std.proofs.Common.{Err, IfOk, List, Ok, OnOk, Result, inl, inr, [], ◌∷◌, ◌++◌, ◌+◌, ◌<◌, Some, ap, arith, false, get_or, length, map, refl, suc, subst, sym, take, true, ℕ, ◌≡◌, ◌∙◌}
+-- A step, and lists of steps, one after another.
+use Rattle.std.proofs.Common.{Err, IfErr, IfOk, IsErrOf, inl, inr, List, Ok, OnOk, Result, [], ◌∷◌, ◌++◌, ◌+◌, ◌<◌, Some, ap, arith, false, get_or, length, map, refl, suc, subst, sym, take, true, ℕ, ◌≡◌, ◌≤◌, ◌∙◌, ◌↔◌}
 use Rattle.std.proofs.Math.Seq.{take-suc}
 use Rattle.std.proofs.lemmas.Bool.{cases_Bool}
 use Rattle.std.proofs.lemmas.List.{map-append}
@@ -8,17 +8,20 @@ use Rattle.disk.specs.Laws.{followed, weaker}
 use Rattle.model.specs.Meaning.{Meaning}
 use Rattle.protocol.proofs.Runs.{moves_are_sound, moves_made_are_sound, moves_made_join}
 use Rattle.protocol.specs.Moves.{Move, moves_made}
+use Rattle.protocol.specs.Moves.Move.{Commit as CommitMove}
 use Rattle.protocol.specs.Sound.{GoesOnFrom}
 use Rattle.protocol.specs.declared.Answer.{Answer}
+use Rattle.protocol.specs.declared.Answer.TheVariants.{AlreadyAt}
 use Rattle.recovery.proofs.Images.{stands_at_least_earlier}
 use Rattle.recovery.specs.Stands.{StandsAtLeast}
 use Rattle.wire.specs.Port.{PortState}
 use Rattle.coordinator.proofs.Committing.{stays}
-use Rattle.coordinator.specs.Crashes.{IsWritten, KeepsRecovery, Recovers}
+use Rattle.coordinator.specs.Crashes.{IsWritten, KeepsRecovery, KeepsStanding, Recovers, StaysWritten, SurvivesCrashes}
 use Rattle.coordinator.specs.Drives.{AreSteps, Goes, IsStep, StepsAreMade}
-use Rattle.coordinator.specs.Session.{IsTold, Running, Session, picture_of, running}
-use Rattle.coordinator.specs.Steps.{HasCause, IsMade, IsStepped, first_refusal, leaves_all, move_of}
+use Rattle.coordinator.specs.Session.{HasSameNodes, IsTold, Running, Session, picture_of, running}
+use Rattle.coordinator.specs.Steps.{HasCause, IsLogged, IsMade, IsStepped, leaves_all, move_of, next_time}
 use Rattle.coordinator.specs.declared.SessionFault.{SessionFault}
+use Rattle.coordinator.specs.declared.SessionFault.TheVariants.{Disk, Full, Spent}
 use Rattle.coordinator.specs.declared.Step.{Step}
 
 pub followed_by : (m : Meaning) (end a b c : ℕ) (old mid new : DiskState) → KeepsRecovery m end a b old mid → KeepsRecovery m end b c mid new → KeepsRecovery m end a c old new
@@ -29,8 +32,18 @@ followed_by m end a b c old mid new first second = record {
   later = omega (arith, first.later, second.later);
 }
 
+-- the later picture goes on from the earlier one
+pub goes-on : (k : Move) (old new : Running) (result : Result Answer SessionFault) → (IsTold old → IfOk result (λ answer. IsMade k old new answer)) → IsTold old
+    → OnOk result (GoesOnFrom old.end (picture_of old) (picture_of new))
+goes-on k old new (Ok answer) made told = (moves_are_sound old.meaning old.end k (picture_of old) (picture_of new) told.system (made told).move_is).1
+goes-on k old new (Err fault) made told = tt
+
+pub same_fault : (f g : SessionFault) → ◌≡◌ {A = Result Answer SessionFault} (Err f) (Err g) → f ≡ g
+same_fault f g e = cc
+
 module _ {M P D : Type 0} (meaning : M → Meaning) (state : P → PortState) (disk : D → DiskState) where
-  carry : (Q : M → ℕ → Type 0) (x y : M) (e f : ℕ) → y ≡ x → f ≡ e → Q y f → Q x e
+  -- what holds by a session's model and end holds by those that are the same
+  pub carry : (Q : M → ℕ → Type 0) (x y : M) (e f : ℕ) → y ≡ x → f ≡ e → Q y f → Q x e
   carry Q x y e f model_is end_is q = subst (λ (k : ℕ). Q x k) end_is (subst (λ (z : M). Q z f) model_is q)
 
   pub none_made : (s : Session M P D) → Goes meaning state disk [] s s
@@ -43,11 +56,7 @@ module _ {M P D : Type 0} (meaning : M → Meaning) (state : P → PortState) (d
   }
 
   -- a step more, made or not
-  pub crashed : (ks : List Move) (old mid new : Session M P D) → Goes meaning state disk ks old mid
-      → (IsTold (running meaning state mid) → IsWritten (meaning mid.model) mid.end mid.front mid.log → Recovers (meaning mid.model) mid.end mid.front.time (disk mid.log.disk)
-      → KeepsRecovery (meaning mid.model) mid.end mid.front.time new.front.time (disk mid.log.disk) (disk new.log.disk))
-      → IsTold (running meaning state old) → IsWritten (meaning old.model) old.end old.front old.log → Recovers (meaning old.model) old.end old.front.time (disk old.log.disk)
-      → KeepsRecovery (meaning old.model) old.end old.front.time new.front.time (disk old.log.disk) (disk new.log.disk)
+  pub crashed : (ks : List Move) (old mid new : Session M P D) → Goes meaning state disk ks old mid → SurvivesCrashes meaning state disk mid new → SurvivesCrashes meaning state disk old new
   crashed ks old mid new first second told is recovers =
       let before = first.crashes told is recovers in
       followed_by (meaning old.model) old.end old.front.time mid.front.time new.front.time (disk old.log.disk) (disk mid.log.disk) (disk new.log.disk) before
@@ -55,6 +64,22 @@ module _ {M P D : Type 0} (meaning : M → Meaning) (state : P → PortState) (d
       (second (first.made told).told
       (carry (λ (x : M) (e : ℕ). IsWritten (meaning x) e mid.front mid.log) mid.model old.model mid.end old.end (sym first.model_is) (sym first.end_is) (first.written told is))
       (carry (λ (x : M) (e : ℕ). Recovers (meaning x) e mid.front.time (disk mid.log.disk)) mid.model old.model mid.end old.end (sym first.model_is) (sym first.end_is) before.now_on)))
+
+  then_written : (ks : List Move) (old mid new : Session M P D) → Goes meaning state disk ks old mid → StaysWritten meaning state mid new → StaysWritten meaning state old new
+  then_written ks old mid new first second told is =
+      carry (λ (x : M) (e : ℕ). IsWritten (meaning x) e new.front new.log) old.model mid.model old.end mid.end first.model_is first.end_is
+      (second (first.made told).told
+      (carry (λ (x : M) (e : ℕ). IsWritten (meaning x) e mid.front mid.log) mid.model old.model mid.end old.end (sym first.model_is) (sym first.end_is) (first.written told is)))
+
+  -- moves that were made, and then what keeps the records standing
+  pub then_keeps : (ks : List Move) (old mid new : Session M P D) → Goes meaning state disk ks old mid → KeepsStanding meaning state disk mid new → KeepsStanding meaning state disk old new
+  then_keeps ks old mid new first second = record {
+    written = λ unspent. then_written ks old mid new first (second.written unspent);
+    crashes = crashed ks old mid new first second.crashes;
+  }
+
+  pub goes_keeps : (ks : List Move) (old new : Session M P D) → Goes meaning state disk ks old new → KeepsStanding meaning state disk old new
+  goes_keeps ks old new goes = record { written = λ unspent. goes.written; crashes = goes.crashes }
 
   pub joined : (ks ls : List Move) (old mid new : Session M P D) → Goes meaning state disk ks old mid → Goes meaning state disk ls mid new → Goes meaning state disk (ks ++ ls) old new
   joined ks ls old mid new first second = record {
@@ -69,42 +94,18 @@ module _ {M P D : Type 0} (meaning : M → Meaning) (state : P → PortState) (d
               (carry (λ (x : M) (e : ℕ). moves_made (meaning x) e ls (picture_of (running meaning state mid)) ≡ Some (picture_of (running meaning state new))) old.model mid.model old.end mid.end first.model_is first.end_is more.moves_are);
           told = more.told;
         };
-    written = λ told is.
-        carry (λ (x : M) (e : ℕ). IsWritten (meaning x) e new.front new.log) old.model mid.model old.end mid.end first.model_is first.end_is
-        (second.written (first.made told).told
-        (carry (λ (x : M) (e : ℕ). IsWritten (meaning x) e mid.front mid.log) mid.model old.model mid.end old.end (sym first.model_is) (sym first.end_is) (first.written told is)));
+    written = then_written ks old mid new first second.written;
     crashes = crashed ks old mid new first second.crashes;
   }
 
   -- a step that is made
-  pub one_made : (k : Move) (answer : Answer) (old new : Session M P D) → (new.model ≡ old.model) × (new.end ≡ old.end)
-      → (IsTold (running meaning state old) → IsMade k (running meaning state old) (running meaning state new) answer)
-      → (IsTold (running meaning state old) → IsWritten (meaning old.model) old.end old.front old.log → IsWritten (meaning old.model) old.end new.front new.log)
-      → (IsTold (running meaning state old) → IsWritten (meaning old.model) old.end old.front old.log → Recovers (meaning old.model) old.end old.front.time (disk old.log.disk)
-      → KeepsRecovery (meaning old.model) old.end old.front.time new.front.time (disk old.log.disk) (disk new.log.disk))
-      → Goes meaning state disk (k ∷ []) old new
-  one_made k answer old new same made written crashes = record {
-    model_is = same.0;
-    end_is = same.1;
-    made = λ told. let is = made told in record { moves_are = rw (is.move_is) refl; told = is.told };
-    written = written;
-    crashes = crashes;
-  }
-
-  -- what it says
-  pub one_done : (step : Step) (answer : Answer) (old new : Session M P D) → (new.model ≡ old.model) × (new.end ≡ old.end)
-      → (IsTold (running meaning state old) → IsMade (move_of step) (running meaning state old) (running meaning state new) answer)
-      → ((f : SessionFault) → old.spent ≡ false → first_refusal old.end (move_of step) (picture_of (running meaning state old)) ≡ Some f → ◌≡◌ {A = Result Answer SessionFault} (Ok answer) (Err f))
-      → new.spent ≡ false → old.spent ≡ false → IsStepped (move_of step) (running meaning state old) (running meaning state new) new.spent (Ok answer)
-  one_done step answer old new same made refused usable unspent = record {
-    made = made;
-    refused = λ f is. refused f unspent is;
-    cause = tt;
-    unchanged = tt;
-    spends = tt;
-    usable = usable;
-    meaning_is = ap meaning same.0;
-    end_is = same.1;
+  pub one_made : (step : Step) (answer : Answer) (old new : Session M P D) → IsStep meaning state disk step old new (Ok answer) → Goes meaning state disk (move_of step ∷ []) old new
+  one_made step answer old new is = record {
+    model_is = is.same.0;
+    end_is = is.same.1;
+    made = λ told. let made = is.made told in record { moves_are = rw (made.move_is) refl; told = made.told };
+    written = is.keeps.written is.usable;
+    crashes = is.keeps.crashes;
   }
 
   -- one step more
@@ -113,36 +114,104 @@ module _ {M P D : Type 0} (meaning : M → Meaning) (state : P → PortState) (d
   steps-more [] x answer old mid new first is = (new, answer, subst (λ (s : Session M P D). IsStep meaning state disk x s new (Ok answer)) first is, refl)
   steps-more (y ∷ ys) x answer old mid new first is = (first.0, first.1, first.2, steps-more ys x answer first.0 mid new first.3 is)
 
-  -- a step that is refused and leaves the session usable leaves what is written
-  pub still-written : (ks : List Move) (fault : SessionFault) (old mid new : Session M P D) → Goes meaning state disk ks old mid → (leaves_all fault ≡ true → new ≡ mid)
-      → (leaves_all fault ≡ false → (new.front ≡ mid.front) × (new.spent ≡ true)) → IsTold (running meaning state old) → IsWritten (meaning old.model) old.end old.front old.log → new.spent ≡ false
-      → IsWritten (meaning old.model) old.end new.front new.log
-  still-written ks fault old mid new first unchanged spends told is unspent = elim (cases_Bool (leaves_all fault)) [
-    | inl leaves ↦ subst (λ (s : Session M P D). IsWritten (meaning old.model) old.end s.front s.log) (sym (unchanged leaves)) (first.written told is)
+  -- a step that is made, or refused without spending the session, leaves its records standing
+  still_written : (old new : Session M P D) (result : Result Answer SessionFault) → OnOk result (StaysWritten meaning state old new) → IfErr result (λ fault. leaves_all fault ≡ true → new ≡ old)
+      → IfErr result (λ fault. leaves_all fault ≡ false → (new.front ≡ old.front) × (new.spent ≡ true)) → new.spent ≡ false → StaysWritten meaning state old new
+  still_written old new (Ok answer) written unchanged spends unspent = written
+  still_written old new (Err fault) written unchanged spends unspent = λ told is. elim (cases_Bool (leaves_all fault)) [
+    | inl leaves ↦ subst (λ (s : Session M P D). IsWritten (meaning old.model) old.end s.front s.log) (sym (unchanged leaves)) is
     | inr ends ↦ (let spent = (spends ends).1 in absurd (cc))
   ]
 
-  -- a step that is not
-  pub one_refused : (k : Move) (fault : SessionFault) (old new : Session M P D) → old.spent ≡ false → (new.model ≡ old.model) × (new.end ≡ old.end)
-      → ((f : SessionFault) → first_refusal old.end k (picture_of (running meaning state old)) ≡ Some f → ◌≡◌ {A = Result Answer SessionFault} (Err fault) (Err f))
-      → HasCause k (running meaning state old) fault → (leaves_all fault ≡ true → new ≡ old) → (leaves_all fault ≡ false → (new.front ≡ old.front) × (new.spent ≡ true))
-      → IsStepped k (running meaning state old) (running meaning state new) new.spent (Err fault)
-  one_refused k fault old new unspent same refused cause unchanged spends = record {
-    made = λ told. tt;
-    refused = refused;
-    cause = cause;
-    unchanged = λ leaves. let is = unchanged leaves in (ap (running meaning state) is, ap (λ (s : Session M P D). s.spent) is ∙ unspent);
-    spends = spends;
-    usable = tt;
-    meaning_is = ap meaning same.0;
-    end_is = same.1;
+  not_spent : (k : Move) (old : Running) (result : Result Answer SessionFault) → IfErr result (λ fault. HasCause k old fault) → IsErrOf result Spent → ⊥
+  not_spent k old (Ok answer) cause e = absurd (cc)
+  not_spent k old (Err fault) cause e = subst (λ (f : SessionFault). HasCause k old f) (same_fault fault Spent e) cause
+
+  -- what is said of a step of a session that is not spent
+  pub is_step : (step : Step) (old new : Session M P D) (result : Result Answer SessionFault) → old.spent ≡ false
+      → IsStepped (move_of step) (running meaning state old) (running meaning state new) new.spent result
+      → IfErr result (λ fault. leaves_all fault ≡ true → new ≡ old)
+      → (move_of step ≡ CommitMove → next_time old.end (picture_of (running meaning state old)) ≤ old.front.time → (result ≡ Ok (AlreadyAt old.front.time)) × (new ≡ old))
+      → IsLogged meaning state disk (move_of step) old new result → OnOk result (StaysWritten meaning state old new) → SurvivesCrashes meaning state disk old new
+      → (new.model ≡ old.model) × (new.end ≡ old.end) → HasSameNodes old new → IsStep meaning state disk step old new result
+  is_step step old new result unspent stepped unchanged already logged written crashes same nodes = record {
+    made = stepped.made;
+    goes_on = goes-on (move_of step) (running meaning state old) (running meaning state new) result stepped.made;
+    refused = λ fault un is. stepped.refused fault is;
+    cause = λ un. stepped.cause;
+    already = λ un. already;
+    logged = logged;
+    keeps = record { written = still_written old new result written unchanged stepped.spends; crashes = crashes };
+    unchanged = unchanged;
+    spends = stepped.spends;
+    usable = stepped.usable;
+    spent = (λ e. absurd (not_spent (move_of step) (running meaning state old) result stepped.cause e), λ spent. absurd (cc));
+    same = same;
+    nodes = nodes;
   }
 
--- the later picture goes on from the earlier one
-pub goes-on : (k : Move) (old new : Running) (result : Result Answer SessionFault) → (IsTold old → IfOk result (λ answer. IsMade k old new answer)) → IsTold old
-    → OnOk result (GoesOnFrom old.end (picture_of old) (picture_of new))
-goes-on k old new (Ok answer) made told = (moves_are_sound old.meaning old.end k (picture_of old) (picture_of new) told.system (made told).move_is).1
-goes-on k old new (Err fault) made told = tt
+  -- where the log is left, nothing of it is said but that
+  untouched : (k : Move) (old new : Session M P D) (result : Result Answer SessionFault) → (k ≡ CommitMove → ⊥) → new.log ≡ old.log → IfErr result (λ fault. HasCause k (running meaning state old) fault)
+      → IsLogged meaning state disk k old new result
+  untouched k old new (Ok answer) other log cause = record {
+    stays = λ o. log;
+    appended = λ is less. absurd (other is);
+    full = λ e room. absurd (cc);
+    failed = λ e. absurd (cc);
+    no_failure = λ less. (let same = ap (λ l. (disk l.disk).failures) log in absurd (omega (arith, less, same)));
+    failures = (let same = ap (λ l. (disk l.disk).failures) log in omega (arith, same));
+  }
+  untouched k old new (Err fault) other log cause = record {
+    stays = λ o. log;
+    appended = λ is less. absurd (other is);
+    full = λ e room. absurd (other (subst (λ (f : SessionFault). HasCause k (running meaning state old) f) (same_fault fault Full e) cause).0);
+    failed = λ e. absurd (other (subst (λ (f : SessionFault). HasCause k (running meaning state old) f) (same_fault fault Disk e) cause).0);
+    no_failure = λ less. (let same = ap (λ l. (disk l.disk).failures) log in absurd (omega (arith, less, same)));
+    failures = (let same = ap (λ l. (disk l.disk).failures) log in omega (arith, same));
+  }
+
+  stays-written : (old new : Session M P D) (result : Result Answer SessionFault) → new.log ≡ old.log → new.front ≡ old.front → OnOk result (StaysWritten meaning state old new)
+  stays-written old new (Ok answer) log front = λ told is. rw (log, front) is
+  stays-written old new (Err fault) log front = tt
+
+  -- a step that leaves the log and the front
+  pub aside : (step : Step) (old new : Session M P D) (result : Result Answer SessionFault) → old.spent ≡ false → (move_of step ≡ CommitMove → ⊥)
+      → IsStepped (move_of step) (running meaning state old) (running meaning state new) new.spent result
+      → IfErr result (λ fault. leaves_all fault ≡ true → new ≡ old)
+      → new.log ≡ old.log → new.front ≡ old.front → (new.model ≡ old.model) × (new.end ≡ old.end) → HasSameNodes old new → IsStep meaning state disk step old new result
+  aside step old new result unspent other stepped unchanged log front same nodes =
+      is_step step old new result unspent stepped unchanged (λ is. absurd (other is)) (untouched (move_of step) old new result other log stepped.cause)
+      (stays-written old new result log front)
+      (λ told is recovers. rw (log, front) (stays (meaning old.model) old.end old.front.time (disk old.log.disk) recovers))
+      same nodes
+
+  -- a spent session refuses, and stays as it is
+  pub spent_step : (step : Step) (old : Session M P D) → old.spent ≡ true → IsStep meaning state disk step old old (Err Spent)
+  spent_step step old spent = record {
+    made = λ told. tt;
+    goes_on = λ told. tt;
+    refused = λ fault un is. absurd (cc);
+    cause = λ un. absurd (cc);
+    already = λ un is le. absurd (cc);
+    logged = record {
+      stays = λ other. refl;
+      appended = λ is less. tt;
+      full = λ e room. absurd (cc);
+      failed = λ e. absurd (cc);
+      no_failure = λ less. absurd (omega (arith, less));
+      failures = omega arith;
+    };
+    keeps = record {
+      written = λ un. absurd (cc);
+      crashes = λ told is recovers. stays (meaning old.model) old.end old.front.time (disk old.log.disk) recovers;
+    };
+    unchanged = λ leaves. refl;
+    spends = λ ends. absurd (cc);
+    usable = tt;
+    spent = (λ e. spent, λ e. refl);
+    same = (refl, refl);
+    nodes = record { nodes = refl; ports = refl };
+  }
 
 pub all-go-on : (ks : List Move) (old new : Running) → (IsTold old → StepsAreMade ks old new) → IsTold old → GoesOnFrom old.end (picture_of old) (picture_of new)
 all-go-on ks old new made told = (moves_made_are_sound old.meaning old.end ks (picture_of old) (picture_of new) told.system (made told).moves_are).goes_on
@@ -159,6 +228,3 @@ moves-taken steps k x there is =
     ∙ ap (map move_of) (take-suc steps k x there)
     ∙ map-append move_of (take k steps) (get_or steps k x ∷ [])
     ∙ ap (λ (s : Step). map move_of (take k steps) ++ move_of s ∷ []) (sym is)
-
-pub same_fault : (f g : SessionFault) → ◌≡◌ {A = Result Answer SessionFault} (Err f) (Err g) → f ≡ g
-same_fault f g e = cc

@@ -5,6 +5,7 @@ mod PortStates
 mod Posting
 mod Taking
 pub mod Driving
+mod GoingOn
 mod Refusals
 mod Logging
 mod Loading

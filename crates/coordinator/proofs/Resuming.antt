@@ -27,10 +27,7 @@ pub stopped-front : {M P D : Type 0} (meaning : M → Meaning) (state : P → Po
     → new.front ≡ stopped.made.front
 stopped-front meaning state disk steps old new stop stopped = elim (cases_Bool (leaves_all stop.fault)) [
   | inl leaves ↦ ap (λ s. s.front) (stopped.refused.unchanged leaves)
-  | inr spends ↦ elim (cases_Bool stopped.made.spent) [
-    | inl spent ↦ (let e = same_fault stop.fault Spent (stopped.refused.spent.1 spent) in let f = ap leaves_all e in absurd (cc))
-    | inr unspent ↦ ((stopped.refused.stepped unspent).spends spends).0
-  ]
+  | inr spends ↦ (stopped.refused.spends spends).0
 ]
 
 -- what is said of a disk by a session's own model and end

@@ -67,7 +67,7 @@ pub(crate) fn take<P: Port>(ports: &mut Vec<P>, node: usize) -> Result<Reply, Po
 
 /// Whether all that a node's reply names is there, and the handlings that it tells are of its own
 /// processes.
-pub(crate) fn is_good(reply: &Reply, lps: u32, nodes: usize, node: usize) -> bool
+pub(crate) fn names_valid_processes(reply: &Reply, lps: u32, nodes: usize, node: usize) -> bool
     requires { 0 < nodes }
     ensures { result ≡ names_there lps nodes node reply.now }
 {

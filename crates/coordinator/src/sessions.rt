@@ -2,7 +2,7 @@
 
 ghost use Rattle.std.specs.Prelude.{◌≡◌, ◌<◌, ◌≤◌, ◌^◌, ℕ, IfSome, IsSome, None, Some, length, map};
 ghost use Rattle.std.specs.Prelude.{take};
-ghost use Rattle.coordinator.specs.Headline.{Headline, IsResumed};
+ghost use Rattle.coordinator.specs.Headline.{Headline, IsResumed, SessionsGoOn};
 ghost use Rattle.coordinator.specs.Crashes.{Recovers};
 ghost use Rattle.coordinator.specs.Opening.{AllFresh, AllTell, IsForWantAtOpening};
 ghost use Rattle.coordinator.specs.Opening.{OpeningIsRefused};
@@ -108,8 +108,18 @@ fn left<M: Simulated, P: Port + Drop, D: SectorDisk>(
 /// one acknowledged, and whatever is committed from there on is what that same sequential
 /// simulation does next.
 ///
-/// It does nothing: it is the law that joins what [`resume`], [`Session::open`], [`Session::step`]
-/// and [`Session::drive`] say of one call, over any history of calls and stops.
+/// The function has no effect. Its contract is the law that follows from what [`resume`],
+/// [`Session::open`], [`Session::step`] and [`Session::drive`] say of one call, over any history of
+/// calls and stops.
 pub fn headline()
     ensures { Headline }
+{}
+
+/// A session that is driven again and again, whatever it is refused on the way, is one call of a
+/// history of the [`headline`]: from the disk on which it was opened to the disk that it leaves.
+///
+/// The function has no effect. Its contract is the law that follows from what [`Session::open`] and
+/// [`Session::drive`] say; a step is a list of one.
+pub fn law_of_sessions<M: Simulated, P: Port, D: SectorDisk>()
+    ensures { SessionsGoOn M.meaning P.state D.state }
 {}

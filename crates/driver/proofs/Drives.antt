@@ -1,16 +1,18 @@
 -- Steps of a session, one after another, and what holds of them.
-use Rattle.std.proofs.Common.{◌≡◌, ◌≤◌, ℕ, List, [], ◌∷◌, ◌++◌, arith, refl, subst}
-use Rattle.coordinator.proofs.Driving.{crashed, joined, none_made, one_made}
-use Rattle.coordinator.specs.Crashes.{IsWritten}
-use Rattle.coordinator.specs.Session.{IsTold, Session, picture_of, running}
+use Rattle.std.proofs.Common.{◌≡◌, ◌≤◌, ℕ, List, Ok, [], ◌∷◌, ◌++◌, arith, refl, subst}
+use Rattle.coordinator.proofs.Driving.{goes_keeps, joined, none_made, one_made, then_keeps}
+use Rattle.coordinator.specs.Crashes.{KeepsStanding}
+use Rattle.coordinator.specs.Drives.{IsStep}
+use Rattle.coordinator.specs.Session.{Session, picture_of, running}
 use Rattle.disk.specs.Disk.{DiskState}
-use Rattle.driver.specs.Driver.{IsDriven, IsDrivenBy, IsFinished, KeepsStanding}
+use Rattle.driver.specs.Driver.{IsDriven, IsDrivenBy, IsFinished}
 use Rattle.model.specs.Meaning.{Meaning}
 use Rattle.model.specs.World.{IsUpto}
 use Rattle.protocol.proofs.Runs.{fronts_open}
 use Rattle.protocol.specs.Moves.{Move}
 use Rattle.protocol.specs.declared.Answer.{Answer}
-use Rattle.coordinator.specs.Steps.{IsMade}
+use Rattle.coordinator.specs.Steps.{move_of}
+use Rattle.coordinator.specs.declared.Step.{Step}
 use Rattle.wire.specs.Port.{PortState}
 
 module _ {M P D : Type 0} (meaning : M → Meaning) (state : P → PortState) (disk : D → DiskState) where
@@ -19,11 +21,8 @@ module _ {M P D : Type 0} (meaning : M → Meaning) (state : P → PortState) (d
   stood_by S s none = record { moves = []; shape = none; made = none_made meaning state disk s }
 
   -- a step that is made
-  pub one_step_by : (k : Move) (answer : Answer) (old new : Session M P D) → (new.model ≡ old.model) × (new.end ≡ old.end)
-      → (IsTold (running meaning state old) → IsMade k (running meaning state old) (running meaning state new) answer)
-      → (IsTold (running meaning state old) → IsWritten (meaning old.model) old.end old.front old.log → IsWritten (meaning old.model) old.end new.front new.log)
-      → KeepsStanding meaning state disk old new → IsDrivenBy meaning state disk (λ ks. ks ≡ k ∷ []) old new
-  one_step_by k answer old new same made written crashes = record { moves = k ∷ []; shape = refl; made = one_made meaning state disk k answer old new same made written crashes }
+  pub one_step_by : (step : Step) (answer : Answer) (old new : Session M P D) → IsStep meaning state disk step old new (Ok answer) → IsDrivenBy meaning state disk (λ ks. ks ≡ move_of step ∷ []) old new
+  one_step_by step answer old new is = record { moves = move_of step ∷ []; shape = refl; made = one_made meaning state disk step answer old new is }
 
   pub then_by : (S T U : List Move → Type 0) (old mid new : Session M P D) → ((ks ls : List Move) → S ks → T ls → U (ks ++ ls)) → IsDrivenBy meaning state disk S old mid → IsDrivenBy meaning state disk T mid new →
       IsDrivenBy meaning state disk U old new
@@ -37,10 +36,10 @@ module _ {M P D : Type 0} (meaning : M → Meaning) (state : P → PortState) (d
   driven_so S old new is = record { moves = is.moves; made = is.made }
 
   pub driven_stands : (old new : Session M P D) → IsDriven meaning state disk old new → KeepsStanding meaning state disk old new
-  driven_stands old new is = is.made.crashes
+  driven_stands old new is = goes_keeps meaning state disk is.moves old new is.made
 
   pub then_stands : (old mid new : Session M P D) → IsDriven meaning state disk old mid → KeepsStanding meaning state disk mid new → KeepsStanding meaning state disk old new
-  then_stands old mid new first second = crashed meaning state disk first.moves old mid new first.made second
+  then_stands old mid new first second = then_keeps meaning state disk first.moves old mid new first.made second
 
   -- a front that has come to the end is the sequential simulation up to the end
   pub finished : (end : ℕ) (old new : Session M P D) → old.end ≡ end → IsDriven meaning state disk old new → end ≤ new.front.time → IsFinished meaning state end old new

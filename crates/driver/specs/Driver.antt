@@ -2,7 +2,6 @@
 use Rattle.std.specs.Prelude.{ℕ, zero, suc, List, [], ◌∷◌, ◌++◌, ◌+◌, ◌<◌, if◌then◌else◌, ◌≡◌, length}
 use Rattle.coordinator.specs.Drives.{Goes}
 use Rattle.coordinator.specs.Headline.{IsDriven as IsDrivenFrom}
-use Rattle.coordinator.specs.Crashes.{IsWritten, KeepsRecovery, Recovers}
 use Rattle.coordinator.specs.Session.{IsTold, Session, running}
 use Rattle.disk.specs.Disk.{DiskState}
 use Rattle.eventkey.specs.declared.Signed.{Signed}
@@ -53,16 +52,6 @@ module _ {M P D : Type 0} (meaning : M → Meaning) (state : P → PortState) wh
     pub moves : List Move
     pub shape : Shape moves
     pub made : Goes meaning state disk moves old new
-
-  -- A crash at any moment leaves what stands at least at the time of the front before, and a crash
-  -- now what stands at least at that of the front now.
-  abbrev pub KeepsStanding : (D → DiskState) → Session M P D → Session M P D → Type 0
-  KeepsStanding disk old new =
-      IsTold (running meaning state old) →
-      IsWritten (meaning old.model) old.end old.front old.log →
-      Recovers (meaning old.model) old.end old.front.time (disk old.log.disk) →
-      KeepsRecovery (meaning old.model) old.end old.front.time new.front.time
-      (disk old.log.disk) (disk new.log.disk)
 
   -- over ports that tell, the front is the sequential simulation up to the end
   abbrev pub IsFinished : ℕ → Session M P D → Session M P D → Type 0

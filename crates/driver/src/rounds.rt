@@ -2,7 +2,8 @@
 
 ghost use Rattle.std.specs.Prelude.{◌≡◌, ◌<◌, ◌≤◌, ℕ, IfOk, OnOk, IsErrOf, length};
 ghost use Rattle.driver.specs.Driver.{AreRounds, IsDriven, IsDrivenBy, IsFinished, IsRound};
-ghost use Rattle.driver.specs.Driver.{IsTurn, KeepsStanding};
+ghost use Rattle.driver.specs.Driver.{IsTurn};
+ghost use Rattle.coordinator.specs.Crashes.{KeepsStanding};
 
 use crate::picks::places;
 use coordinator::{Answer, Session, SessionFault, Step};
@@ -67,8 +68,8 @@ pub fn run<M: Simulated, P: Port, D: SectorDisk, W: Watch>(
         session.old session.new) }
     ensures finished { session.old.end ≡ end →
         OnOk result (IsFinished M.meaning P.state end session.old session.new) }
-    // At every exit a crash leaves what was committed.
-    ensures crashes { KeepsStanding M.meaning P.state D.state session.old session.new }
+    // At every exit the records stand for what was committed, whatever crashes.
+    ensures keeps { KeepsStanding M.meaning P.state D.state session.old session.new }
     ensures rounds { IsErrOf result RunFault.Rounds → session.new.front.time < end }
     ensures all_rounds { IsErrOf result RunFault.Rounds →
         IsDrivenBy M.meaning P.state D.state (AreRounds plan.nodes plan.batch plan.rounds)
@@ -101,7 +102,7 @@ fn round<M: Simulated, P: Port, D: SectorDisk>(
     requires { length ran.old ≡ plan.nodes }
     ensures driven { OnOk result (IsDrivenBy M.meaning P.state D.state
         (IsRound plan.nodes plan.batch) session.old session.new) }
-    ensures crashes { KeepsStanding M.meaning P.state D.state session.old session.new }
+    ensures keeps { KeepsStanding M.meaning P.state D.state session.old session.new }
     ensures rounds { IsErrOf result RunFault.Rounds → ⊥ }
 {
     'nodes: for node in 0..plan.nodes {
@@ -124,7 +125,7 @@ fn turn<M: Simulated, P: Port, D: SectorDisk>(
     requires { node < plan.nodes }
     ensures driven { OnOk result (IsDrivenBy M.meaning P.state D.state
         (IsTurn plan.batch node) session.old session.new) }
-    ensures crashes { KeepsStanding M.meaning P.state D.state session.old session.new }
+    ensures keeps { KeepsStanding M.meaning P.state D.state session.old session.new }
     ensures rounds { IsErrOf result RunFault.Rounds → ⊥ }
 {
     let picks = places(alloc, session.transit(), node, plan.nodes)?;

@@ -8,4 +8,5 @@ mod reaction;
 mod tests;
 
 pub use node_loop::serve;
+pub use output::write_all;
 pub use reaction::{Begun, Response, begin, react};

@@ -169,6 +169,27 @@ fn frames_are_spelled(rt: HostRuntime) -> Result<(), Fail> {
     Ok(())
 }
 
+/// Each fault of a node, and the number by which its frame tells it.
+const FAULTS: [(NodeFault, u8); 6] = [
+    (NodeFault::NotMine, 1),
+    (NodeFault::BelowFloor, 2),
+    (NodeFault::NoMemory, 3),
+    (NodeFault::NumberLimit, 4),
+    (NodeFault::Spent, 5),
+    (NodeFault::FloorFell, 6),
+];
+
+#[test]
+fn each_fault_of_a_node_has_its_number(rt: HostRuntime) -> Result<(), Fail> {
+    for (fault, number) in FAULTS {
+        let frame = [0, 0, 0, 1, 4, number];
+        let spelled = encode_fault(rt.alloc(), fault)?;
+        assert_eq!(rt; spelled.as_slice(), frame.as_slice());
+        read_twice(&rt, rt.alloc(), &frame, 4)?;
+    }
+    Ok(())
+}
+
 /// The bytes of a frame.
 fn spelled(alloc: Global, frame: &Frame) -> Result<Vec<u8>, WireFault> {
     match frame {

@@ -3,6 +3,10 @@
 #![tactic(auto)]
 
 #[cfg(test)]
+mod disks;
+#[cfg(test)]
+mod fault_names;
+#[cfg(test)]
 mod memory;
 #[cfg(test)]
 mod reading;

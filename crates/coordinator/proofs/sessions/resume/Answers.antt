@@ -21,7 +21,7 @@ returns-in-Ok-drive-clause-kept g c = λ tell v.
     c.in-Ok.ensures.replayed (c.in-Ok.ensures.crashes v.time) (running g.M.Model.meaning g.P.Port.state c.in-Ok.session) model_is end_is told.0 told.1 (map move_of (take c.in-Ok-drive.done c.args.steps.now))
     (running g.M.Model.meaning g.P.Port.state c.drive.new.self) c.drive.new.self.front (g.D.SectorDisk.state c.drive.new.self.log.disk)
     (made-all c.in-Ok-drive.done c.args.steps.now _ _ c.in-Ok-drive.ensures.count (c.in-Ok-drive.ensures.made told.0)) refl
-    (driven-on _ _ _ _ c.in-Ok.session.front c.drive.new.self.front c.in-Ok.session.log _ _ model_is end_is (c.drive.ensures.crashes told.0) c.in-Ok.ensures.written))
+    (driven-on _ _ _ _ c.in-Ok.session.front c.drive.new.self.front c.in-Ok.session.log _ _ model_is end_is (c.drive.ensures.keeps.crashes told.0) c.in-Ok.ensures.written))
 
 pub returns-in-Err-drive-clause-kept : goal.returns-in-Err-drive-clause-kept
 returns-in-Err-drive-clause-kept g c = λ tell v.
@@ -34,4 +34,4 @@ returns-in-Err-drive-clause-kept g c = λ tell v.
     c.in-Ok.ensures.replayed (c.in-Ok.ensures.crashes v.time) (running g.M.Model.meaning g.P.Port.state c.in-Ok.session) model_is end_is told.0 told.1 (map move_of (take c.in-Err-drive.field-0.done c.args.steps.now))
     (running g.M.Model.meaning g.P.Port.state stopped.made) c.drive.new.self.front (g.D.SectorDisk.state c.drive.new.self.log.disk)
     (stopped.moves told.0) (stopped-front _ _ _ _ _ _ _ stopped)
-    (driven-on _ _ _ _ c.in-Ok.session.front c.drive.new.self.front c.in-Ok.session.log _ _ model_is end_is (c.drive.ensures.crashes told.0) c.in-Ok.ensures.written))
+    (driven-on _ _ _ _ c.in-Ok.session.front c.drive.new.self.front c.in-Ok.session.log _ _ model_is end_is (c.drive.ensures.keeps.crashes told.0) c.in-Ok.ensures.written))

@@ -37,7 +37,7 @@ returns-clause-crashes g c = λ a recovers.
     let told = (opened.told (all_tell m c.args.plan.nodes _ c.in-Ok.ensures.ports)).0 in
     rw c.into_disk.ensures
     (keeps m c.args.end c.in-Ok-open.session.front c.run.new.session.front (g.D.SectorDisk.state c.args.disk) (g.D.SectorDisk.state c.in-Ok-open.session.log.disk) (g.D.SectorDisk.state c.run.new.session.log.disk)
-    (driven-on _ _ _ _ c.in-Ok-open.session.front c.run.new.session.front c.in-Ok-open.session.log _ _ (ap g.M.Model.meaning opened.same.0) opened.same.1 (c.run.ensures.crashes told) opened.written)
+    (driven-on _ _ _ _ c.in-Ok-open.session.front c.run.new.session.front c.in-Ok-open.session.log _ _ (ap g.M.Model.meaning opened.same.0) opened.same.1 (c.run.ensures.keeps.crashes told) opened.written)
     a (opened.crashes a recovers))
 
 pub returns-clause-committed : goal.returns-clause-committed
@@ -48,7 +48,7 @@ returns-clause-committed g c = elim c.match-run.branch [
       let told = (opened.told (all_tell m c.args.plan.nodes _ c.in-Ok.ensures.ports)).0 in
       rw (w.told-is, c.into_disk.ensures)
       (comes_to m c.args.end c.in-Ok-open.session.front c.run.new.session.front (g.D.SectorDisk.state c.args.disk) (g.D.SectorDisk.state c.in-Ok-open.session.log.disk) (g.D.SectorDisk.state c.run.new.session.log.disk)
-      (driven-on _ _ _ _ c.in-Ok-open.session.front c.run.new.session.front c.in-Ok-open.session.log _ _ (ap g.M.Model.meaning opened.same.0) opened.same.1 (c.run.ensures.crashes told) opened.written)
+      (driven-on _ _ _ _ c.in-Ok-open.session.front c.run.new.session.front c.in-Ok-open.session.log _ _ (ap g.M.Model.meaning opened.same.0) opened.same.1 (c.run.ensures.keeps.crashes told) opened.written)
       c.args.end w.in-Ok-run.ensures.ended opened.exactly)
   | in-Err-run w ↦ rw w.told-is tt
 ]

@@ -14,8 +14,8 @@ as_long n new old whole same =
 pub rounds-init : goal.rounds-init
 rounds-init g c = record { made = omega arith; driven = stood_by g.M.Model.meaning g.P.Port.state g.D.SectorDisk.state (AreRounds c.args.plan.nodes c.args.plan.batch 0) c.args.session.now refl; count = search rules }
 
-pub returns-in_err-round-clause-crashes : goal.returns-in_err-round-clause-crashes
-returns-in_err-round-clause-crashes g c = then_stands g.M.Model.meaning g.P.Port.state g.D.SectorDisk.state c.args.session.now c.rounds.session c.round.new.session (driven_so g.M.Model.meaning g.P.Port.state g.D.SectorDisk.state _ c.args.session.now c.rounds.session c.rounds.invariant.driven) c.in_err-round.ensures.crashes
+pub returns-in_err-round-clause-keeps : goal.returns-in_err-round-clause-keeps
+returns-in_err-round-clause-keeps g c = then_stands g.M.Model.meaning g.P.Port.state g.D.SectorDisk.state c.args.session.now c.rounds.session c.round.new.session (driven_so g.M.Model.meaning g.P.Port.state g.D.SectorDisk.state _ c.args.session.now c.rounds.session c.rounds.invariant.driven) c.in_err-round.ensures.keeps
 
 pub rounds-preserved : goal.rounds-preserved
 rounds-preserved g c = record {

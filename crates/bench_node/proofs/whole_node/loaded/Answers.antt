@@ -1,5 +1,0 @@
-use Rattle.bench_node.proofs.Loads.{loaded_lps}
-use Rattle.bench_node.proofs.whole_node.loaded.Goals as goal
-
-pub returns-clause-lps : goal.returns-clause-lps
-returns-clause-lps c = loaded_lps _ _ _ c.load.ensures.loaded

@@ -1,6 +1,0 @@
-use Rattle.std.specs.List.{AllByRecursion as Every}
-use Rattle.node.specs.Handling.{IsInRange}
-use Rattle.bench_node.proofs.whole_node.loaded.Given as goal
-
-abbrev pub invariant-loop-lp : goal.invariant-loop-lp
-invariant-loop-lp l = Every IsInRange l.parts.items

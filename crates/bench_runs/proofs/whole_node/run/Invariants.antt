@@ -1,0 +1,9 @@
+use Rattle.std.proofs.Common.{◌≡◌}
+use Rattle.node.specs.Kept.{HasHistories}
+use Rattle.bench_runs.proofs.whole_node.run.Given as goal
+
+abbrev pub invariant-loop : goal.invariant-loop
+invariant-loop g l = record {
+  lps : (g.M.Model.meaning l.model).lps ≡ l.node.lps;
+  histories : HasHistories (g.M.Model.meaning l.model) l.node;
+}

@@ -1,0 +1,129 @@
+//! Runs the model of a model file to its end. Plainly, it prints how many events that made, where
+//! the last one went, and a digest of the world; on one node of all processes, how many events the
+//! node let go of, and how many messages it handled. What times it stands outside: this program's
+//! output is the same at each run.
+#![tactic(auto)]
+
+ghost use Rattle.std.specs.Prelude.{◌≤◌, ◌^◌, IfOk};
+
+mod whole_node;
+
+use eventkey::Message;
+use model::{World, WorldFault};
+use models::AnyModel;
+use node::NodeFault;
+use std::alloc::Global;
+use std::{env, fs, io};
+use texts::{ModelFault, read_model};
+use thiserror::Error;
+use whole_node::Outcome;
+
+/// Why there is nothing to print.
+#[derive(Debug, Drop, Error)]
+enum Failure {
+    #[error("usage: bench_runs MODEL [node], MODEL the path of a model file")]
+    Usage,
+    #[error("{0}")]
+    Model(ModelFault),
+    #[error("World {0}")]
+    World(WorldFault),
+    #[error("Node {0}")]
+    Node(NodeFault),
+    #[error("{0}")]
+    Output(io::Error),
+}
+
+/// The model of a file, run to its end.
+fn simulated(alloc: Global, model: &AnyModel, end: u64) -> Result<World, WorldFault>
+    requires some { 1 ≤ end }
+    requires end { end ≤ 2 ^ 40 }
+{
+    let mut world = World::open(alloc, model, end)?;
+    world.run_to(model, end)?;
+    Ok(world)
+}
+
+/// A digest with one more number in it.
+fn with(digest: u64, number: u64) -> u64 {
+    (digest ^ number).wrapping_mul(1099511628211)
+}
+
+/// A digest with a message in it.
+fn with_message(digest: u64, x: &Message) -> u64 {
+    let digest = with(with(digest, x.time()), u64::from(x.from()));
+    let digest = with(with(digest, x.number()), u64::from(x.to()));
+    with(with(digest, x.a()), x.b())
+}
+
+/// A digest of the states, the send numbers and the pending messages.
+fn digest_of(world: &mut World) -> u64 {
+    let mut digest = 14695981039346656037;
+    for state in world.states() {
+        for word in state.as_slice() {
+            digest = with(digest, *word);
+        }
+    }
+    for number in world.numbers() {
+        digest = with(digest, *number);
+    }
+    for x in world.pending() {
+        digest = with_message(digest, x);
+    }
+    digest
+}
+
+/// What the command line asks for.
+#[derive(Drop)]
+struct Task {
+    model: AnyModel,
+    /// The end, in ticks.
+    end: u64,
+    /// Whether a node runs the model.
+    by_node: bool,
+}
+
+/// The words after the program's name: the path of a model file, and whether a node is to run.
+fn task_of(rt: &HostRuntime) -> Result<Task, Failure>
+    ensures range { IfOk result (λ task. (1 ≤ task.end) × (task.end ≤ 2 ^ 40)) }
+{
+    let mut words = env::args(rt).map_err(|_| Failure::Usage)?;
+    let _program = words.next();
+    let Some(path) = words.next() else {
+        return Err(Failure::Usage);
+    };
+    let by_node = match words.next() {
+        None => false,
+        Some(word) if word.as_str() == "node" => true,
+        Some(_) => return Err(Failure::Usage),
+    };
+    let bytes = fs::read(rt, path).map_err(|_| Failure::Usage)?;
+    let text = str::from_utf8(bytes.as_slice()).map_err(|_| Failure::Usage)?;
+    match read_model::<AnyModel>(rt.alloc(), text) {
+        Ok((model, end)) => Ok(Task {
+            model,
+            end,
+            by_node,
+        }),
+        Err(fault) => Err(Failure::Model(fault)),
+    }
+}
+
+fn main(rt: HostRuntime) -> Result<(), Failure> {
+    let task = match task_of(&rt) {
+        Ok(task) => task,
+        Err(failure) => return Err(failure),
+    };
+    if task.by_node {
+        let run = whole_node::run(rt.alloc(), &task.model, task.end);
+        let Outcome { committed, ran } = run.map_err(Failure::Node)?;
+        println!(rt; "committed {committed} ran {ran}").map_err(Failure::Output)?;
+        return Ok(());
+    }
+    let mut world = simulated(rt.alloc(), &task.model, task.end).map_err(Failure::World)?;
+    let digest = digest_of(&mut world);
+    let last = world.log().last().map_or(0, |m| m.to());
+    println!(rt; "events {} last {last} world {digest}", world.log().len()).map_err(
+        Failure::Output,
+    )?;
+    Ok(())
+}

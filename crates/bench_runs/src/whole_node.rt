@@ -1,0 +1,112 @@
+// One node that runs all processes of a model, parcel by parcel.
+
+ghost use Rattle.std.specs.Prelude.{◌≡◌, ◌<◌, ◌≤◌, ◌^◌, IfOk};
+ghost use Rattle.node.specs.Handling.{IsInRange};
+ghost use Rattle.node.specs.Kept.{HasHistories};
+
+use eventkey::{Listed, Sign, Signed};
+use model::{Model as Simulated, State};
+use node::{Load, Node, NodeFault, Parcel, Part, Reply};
+use std::alloc::{AllocError, Global};
+
+/// How many messages the node handles in a parcel at the most.
+const BUDGET: u32 = 16;
+
+/// What a run came to.
+#[derive(Drop)]
+pub struct Outcome {
+    /// How many handlings the node let go of.
+    pub committed: u64,
+    /// How many messages it handled, those that it took back again too.
+    pub ran: u64,
+}
+
+/// Runs the model up to the end, in ticks, on one node: each parcel delivers what the one before it
+/// sent, and its floor is the least time of all that was under way then.
+pub fn run<M: Simulated>(alloc: Global, model: &M, end: u64) -> Result<Outcome, NodeFault>
+    requires { end ≤ 2 ^ 40 }
+{
+    let mut node = loaded(alloc, model, end)?;
+    let mut deliver = Listed::from_vec(opening(alloc, model)?);
+    let mut floor = 0;
+    let mut outcome = Outcome {
+        committed: 0,
+        ran: 0,
+    };
+    for _ in 0..u64::MAX {
+        let parcel = Parcel {
+            deliver,
+            budget: BUDGET,
+            floor,
+        };
+        let reply = node.handle(model, parcel)?;
+        outcome.committed = outcome
+            .committed
+            .saturating_add(reply.fossils.as_slice().len() as u64);
+        outcome.ran = outcome.ran.saturating_add(u64::from(reply.ran));
+        if floor >= end {
+            break;
+        }
+        floor = floor_after(&reply, end);
+        deliver = reply.out;
+    }
+    Ok(outcome)
+}
+
+/// The least of the end and of the times of what waits and of what was sent, in ticks.
+fn floor_after(reply: &Reply, end: u64) -> u64 {
+    let mut floor = end.min(reply.low.unwrap_or(end));
+    for sent in reply.out.as_slice() {
+        floor = floor.min(sent.message.time());
+    }
+    floor
+}
+
+/// A process for which nothing waits, after what it sent at the start.
+fn part<M: Simulated>(alloc: Global, model: &M, lp: u32) -> Part
+    requires { lp < (M.meaning model.now).lps }
+    ensures { IsInRange result }
+{
+    let (words, sends) = model.start(alloc, lp);
+    Part {
+        lp,
+        number: sends.len() as u64,
+        words: State::from_words(words),
+        pending: Listed::from_vec(Vec::new(alloc)),
+    }
+}
+
+/// The node of all processes, for which nothing waits yet.
+fn loaded<M: Simulated>(alloc: Global, model: &M, end: u64) -> Result<Node, NodeFault>
+    requires { end ≤ 2 ^ 40 }
+    ensures lps { IfOk result (λ node. node.lps ≡ (M.meaning model.now).lps) }
+    ensures histories { IfOk result (λ node. HasHistories (M.meaning model.now) node) }
+{
+    let mut parts = Vec::new(alloc);
+    for lp in 0..model.lps() {
+        parts.push(part(alloc, model, lp))?;
+    }
+    let load = Load {
+        node: 0,
+        nodes: 1,
+        end,
+        floor: 0,
+        parts: Listed::from_vec(parts),
+    };
+    Node::load(alloc, model, load)
+}
+
+/// What all processes send at the start.
+fn opening<M: Simulated>(alloc: Global, model: &M) -> Result<Vec<Signed>, AllocError> {
+    let mut opening = Vec::new(alloc);
+    for lp in 0..model.lps() {
+        let (_, sends) = model.start(alloc, lp);
+        for (number, outgoing) in sends.as_slice().iter().enumerate() {
+            opening.push(Signed {
+                sign: Sign::Plus,
+                message: model::stamp(lp, 0, number as u64, outgoing),
+            })?;
+        }
+    }
+    Ok(opening)
+}

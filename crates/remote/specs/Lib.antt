@@ -1,1 +1,0 @@
--- What is said of these sessions is said by the crates below.

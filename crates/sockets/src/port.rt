@@ -1,0 +1,173 @@
+// A port to a node behind a stream to another program.
+
+ghost use Rattle.std.specs.Io.KnownBytes.{Appends};
+ghost use Rattle.std.specs.Prelude.{◌≡◌, ◌≤◌, ◌^◌, true, IfErr, IfOk, OnErr, OnOk, length};
+ghost use Rattle.frames.specs.Bodies.{frame_bytes, load_bytes, parcel_bytes};
+ghost use Rattle.frames.specs.Streams.{OnBytes};
+ghost use Rattle.frames.specs.declared.Frame.TheVariants as frame;
+ghost use Rattle.node.specs.declared.Parcel.{Parcel};
+ghost use Rattle.sockets.specs.Socket.{IsSendCause, IsTakenFrom, state_of};
+ghost use Rattle.sockets.specs.declared.port.Held.TheVariants.{Fresh};
+ghost use Rattle.wire.specs.Port.{IsForWant, IsLoadFault, IsLoadInRange, IsLoaded, IsSamePort};
+ghost use Rattle.wire.specs.Port.{IsTakeFault, IsTaken};
+ghost use Rattle.wire.specs.Port.Stage.{Ended as AtEnd, Fresh as AtFirst};
+ghost use Rattle.wire.specs.Port.Stage.{Idle as AtRest, Posted as AtWork};
+
+use frames::{Frame, encode_load, encode_parcel, read_frame};
+use node::{Load, Parcel, Reply};
+use serving::write_all;
+use std::alloc::Global;
+use std::io::{Read, Write};
+use std::marker::Model;
+use std::snapshot::Snapshot;
+use wire::{Port, PortFault, WireFault};
+
+/// Where a port stands. Of the parcel that was posted only clauses know.
+#[derive(Drop)]
+enum Held {
+    Fresh,
+    Idle,
+    Posted(Snapshot<Parcel>),
+    Ended,
+}
+
+/// A node behind a stream to another program, such as a `UnixStream` (this project's profile of
+/// ports). Nothing is known of that program: it may answer anything that a frame can say, so the
+/// port tells nothing of its node, and a session over it promises safety alone.
+///
+/// `load` and `post` have written their whole frame when they answer `Ok`, by writes of the stream
+/// alone, and do not flush it. A stream that buffers what is written has to be flushed by its own
+/// means, or both ends wait for ever. A call may wait as long as the stream's reads and writes do.
+///
+/// A call is refused with `Wire(TooLong)` where the frame's body has more than 2^24 bytes, with
+/// `Wire(NoMemory)`, and with `Wire(Io)` where the stream fails. `take` also with `Peer`, which
+/// carries the node's own refusal, with `Wire(BadKind)`, `Wire(BadBody)` and `Wire(Truncated)`
+/// where no reply stands first in the stream, and with `Closed` where the stream ends between two
+/// frames. After any refusal the port has ended.
+pub struct SocketPort<S: Read + Write> {
+    alloc: Global,
+    stream: S,
+    held: Held,
+}
+
+impl<S: Read + Write + Drop> Drop for SocketPort<S> {
+    fn drop(self) {
+        let SocketPort {
+            alloc: _,
+            stream: _,
+            held: _,
+        } = self;
+    }
+}
+
+impl<S: Read + Write> Model for SocketPort<S> {
+    ghost use Rattle.sockets.specs.Socket.{Socket};
+
+    ghost Value = { Socket S };
+
+    ghost view = { λ p. record { stream = p.stream; held = p.held } };
+}
+
+impl<S: Read + Write> SocketPort<S> {
+    /// A port to the program at the other end of this stream, through which nothing is loaded yet.
+    /// It takes no memory.
+    pub fn new(alloc: Global, stream: S) -> SocketPort<S>
+        ensures { result ≡ record { stream = stream; held = Fresh } }
+    {
+        SocketPort {
+            alloc,
+            stream,
+            held: Held::Fresh,
+        }
+    }
+}
+
+impl<S: Read + Write> Port for SocketPort<S> {
+    ghost state = { λ p. state_of p.held };
+
+    fn load(&mut self, load: Load) -> Result<(), PortFault>
+        requires fresh { (state_of self.old.held).stage ≡ AtFirst }
+        requires range { IsLoadInRange load }
+        ensures idle { OnOk result ((state_of self.new.held).stage ≡ AtRest) }
+        ensures ended { OnErr result ((state_of self.new.held).stage ≡ AtEnd) }
+        ensures same { IsSamePort (state_of self.old.held) (state_of self.new.held) }
+        ensures ok { (state_of self.old.held).tells ≡ true →
+            OnOk result (IsLoaded load (state_of self.old.held) (state_of self.new.held)) }
+        ensures err { (state_of self.old.held).tells ≡ true →
+            IfErr result (λ fault. IsLoadFault load (state_of self.old.held) fault) }
+        ensures written { OnOk result (Appends (S.contents self.old.stream)
+            (S.contents self.new.stream) (frame_bytes (frame.Load load))) }
+        ensures fits { OnOk result (length (load_bytes load) ≤ 2 ^ 24) }
+        ensures cause { IfErr result (IsSendCause (length (load_bytes load))) }
+    {
+        self.held = Held::Ended;
+        match encode_load(self.alloc, &load) {
+            Ok(frame) => match write_all(frame.as_slice(), &mut self.stream) {
+                Ok(()) => {
+                    self.held = Held::Idle;
+                    Ok(())
+                }
+                Err(_) => Err(PortFault::Wire(WireFault::Io)),
+            },
+            Err(fault) => Err(PortFault::Wire(fault)),
+        }
+    }
+
+    fn post(&mut self, parcel: Parcel) -> Result<(), PortFault>
+        requires idle { (state_of self.old.held).stage ≡ AtRest }
+        requires range { parcel.floor ≤ 2 ^ 40 }
+        ensures posted { OnOk result ((state_of self.new.held).stage ≡ AtWork parcel) }
+        ensures ended { OnErr result ((state_of self.new.held).stage ≡ AtEnd) }
+        ensures same { IsSamePort (state_of self.old.held) (state_of self.new.held) }
+        ensures ok { (state_of self.old.held).tells ≡ true →
+            OnOk result ((state_of self.new.held).node ≡ (state_of self.old.held).node) }
+        ensures err { (state_of self.old.held).tells ≡ true →
+            IfErr result (λ fault. IsForWant fault) }
+        ensures written { OnOk result (Appends (S.contents self.old.stream)
+            (S.contents self.new.stream) (frame_bytes (frame.Parcel parcel))) }
+        ensures fits { OnOk result (length (parcel_bytes parcel) ≤ 2 ^ 24) }
+        ensures cause { IfErr result (IsSendCause (length (parcel_bytes parcel))) }
+    {
+        self.held = Held::Ended;
+        match encode_parcel(self.alloc, &parcel) {
+            Ok(frame) => match write_all(frame.as_slice(), &mut self.stream) {
+                Ok(()) => {
+                    self.held = Held::Posted(Snapshot::of(&parcel));
+                    Ok(())
+                }
+                Err(_) => Err(PortFault::Wire(WireFault::Io)),
+            },
+            Err(fault) => Err(PortFault::Wire(fault)),
+        }
+    }
+
+    fn take(&mut self) -> Result<Reply, PortFault>
+        requires posted { (parcel : Parcel) × ((state_of self.old.held).stage ≡ AtWork parcel) }
+        ensures idle { OnOk result ((state_of self.new.held).stage ≡ AtRest) }
+        ensures ended { OnErr result ((state_of self.new.held).stage ≡ AtEnd) }
+        ensures same { IsSamePort (state_of self.old.held) (state_of self.new.held) }
+        ensures ok { (parcel : Parcel) →
+            (state_of self.old.held).stage ≡ AtWork parcel →
+            (state_of self.old.held).tells ≡ true → IfOk result (λ reply.
+            IsTaken parcel (state_of self.old.held) (state_of self.new.held) reply) }
+        ensures err { (parcel : Parcel) →
+            (state_of self.old.held).stage ≡ AtWork parcel →
+            (state_of self.old.held).tells ≡ true →
+            IfErr result (λ fault. IsTakeFault parcel (state_of self.old.held) fault) }
+        ensures told { OnBytes (S.remaining self.old.stream) (S.remaining self.new.stream)
+            (IsTakenFrom result) }
+    {
+        self.held = Held::Ended;
+        match read_frame(self.alloc, &mut self.stream) {
+            Ok(Some(Frame::Reply(reply))) => {
+                self.held = Held::Idle;
+                Ok(reply)
+            }
+            Ok(Some(Frame::Fault(fault))) => Err(PortFault::Peer(fault)),
+            Ok(Some(Frame::Load(_))) => Err(PortFault::Wire(WireFault::BadKind)),
+            Ok(Some(Frame::Parcel(_))) => Err(PortFault::Wire(WireFault::BadKind)),
+            Ok(None) => Err(PortFault::Closed),
+            Err(fault) => Err(PortFault::Wire(fault)),
+        }
+    }
+}
