@@ -4,13 +4,15 @@ ghost use Rattle.std.specs.Prelude.{◌≡◌, ◌≤◌, ◌<◌, ◌*◌, ◌/
 ghost use Rattle.network.specs.Network.{IsTorus, Torus, after_packet, network_meaning, next_switch};
 ghost use Rattle.network.specs.Network.{onward, packet_of, switches, toward, waked};
 ghost use Rattle.network.specs.NetworkLaws.{network_lawful};
+ghost use Rattle.network.specs.NetworkFile.{network_text};
+ghost use Rattle.std.specs.Prelude.{IfOk, string_bytes};
 
 use crate::parts::{Packet, Switch};
 use crate::words::{next_key, word, worked};
 use eventkey::Message;
 use model::{Model as Simulated, Outgoing, Sends, Words};
 use smallvec::SmallVec;
-use std::alloc::Global;
+use std::alloc::{AllocError, Global};
 use std::marker::Model;
 
 /// Switches on a torus, each with a source of packets to drawn destinations.
@@ -110,6 +112,17 @@ impl Network {
             seed,
             work,
         }
+    }
+
+    /// The values of its model file, a line each.
+    pub(crate) fn values(&self, alloc: Global, end: u64) -> Result<String, AllocError>
+        ensures { IfOk result (λ text. string_bytes text ≡ network_text self.now.torus end) }
+    {
+        let (width, height, service, wire) = (self.width, self.height, self.service, self.wire);
+        let (gap, seed, work) = (self.gap, self.seed, self.work);
+        format!(in alloc;
+            "end: {end}\nwidth: {width}\nheight: {height}\nservice: {service}\nwire: {wire}\ngap: {gap}\nseed: {seed}\nwork: {work}\n"
+        )
     }
 
     /// How many switches there are.

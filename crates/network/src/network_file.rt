@@ -6,7 +6,6 @@ ghost use Rattle.network.specs.NetworkFile.{IsNetworkTable, network_text};
 ghost use Rattle.toml.specs.View.{table_view};
 
 use crate::network::Network;
-use model::Model as Simulated;
 use std::alloc::{AllocError, Global};
 use texts::{Described, Mistake, ModelFault, number_at, only};
 use toml::Table;
@@ -36,16 +35,12 @@ impl Described for Network {
     }
 
     fn values(&self, alloc: Global, end: u64) -> Result<String, AllocError> {
-        // The first word of an identity is the kind of the model.
-        let words = self.identity(alloc);
-        let words = words.as_slice();
-        let (width, height, service, wire) = (words[1], words[2], words[3], words[4]);
-        let (gap, seed, work) = (words[5], words[6], words[7]);
-        format!(in alloc;
-            "end: {end}\nwidth: {width}\nheight: {height}\nservice: {service}\nwire: {wire}\ngap: {gap}\nseed: {seed}\nwork: {work}\n"
-        )
+        self.values(alloc, end)
     }
 }
+
+/// The greatest number of ticks, or of words, that a key says.
+const MOST: u64 = (1 << 32) - 1;
 
 /// The network and the end of a table.
 fn network_of(table: &Table) -> Result<(Network, u64), Mistake>
@@ -58,11 +53,11 @@ fn network_of(table: &Table) -> Result<(Network, u64), Mistake>
     let end = number_at(table, "end", 1, 1 << 40)?;
     let width = number_at(table, "width", 1, 1024)?;
     let height = number_at(table, "height", 1, 1024 / width)?;
-    let service = number_at(table, "service", 1, u64::from(u32::MAX))?;
-    let wire = number_at(table, "wire", 0, u64::from(u32::MAX))?;
-    let gap = number_at(table, "gap", 1, u64::from(u32::MAX))?;
+    let service = number_at(table, "service", 1, MOST)?;
+    let wire = number_at(table, "wire", 0, MOST)?;
+    let gap = number_at(table, "gap", 1, MOST)?;
     let seed = number_at(table, "seed", 0, u64::MAX >> 1)?;
-    let work = number_at(table, "work", 0, u64::from(u32::MAX))?;
+    let work = number_at(table, "work", 0, MOST)?;
     only(table, 8)?;
     Ok((
         Network::new(

@@ -28,7 +28,7 @@ pub(crate) fn worked(count: u32, lp: u32, scratch: u64) -> u64
     ensures { result ≡ words_on count lp scratch }
 {
     let mut last = scratch;
-    for _ in 0..count {
+    'words: for _done in 0..count {
         last = u64::from(word(last, lp, 0));
     }
     last

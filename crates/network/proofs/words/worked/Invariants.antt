@@ -2,5 +2,5 @@ use Rattle.std.proofs.Common.{◌≡◌}
 use Rattle.network.specs.Words.{worked}
 use Rattle.network.proofs.words.worked.Given as goal
 
-abbrev pub invariant-loop : goal.invariant-loop
-invariant-loop l = l.last ≡ worked l.index l.lp l.scratch
+abbrev pub invariant-words : goal.invariant-words
+invariant-words l = l.last ≡ worked l._done l.lp l.scratch
