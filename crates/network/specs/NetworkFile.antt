@@ -17,13 +17,14 @@ pub record IsNetworkTable (table : Members) (n : Torus) (end : ℕ) : Type 0 whe
   pub work : number_at (codes "work") 0 (2 ^ 32 - 1) table ≡ Some n.work
   pub only : key_count table ≡ 8
 
--- its values
-abbrev pub network_text : Torus → ℕ → List ℕ
-network_text n end = line_then (codes "end") end
-    (line_then (codes "width") n.width
-    (line_then (codes "height") n.height
-    (line_then (codes "service") n.service
+-- the values of what goes on in it, and all its values
+abbrev pub rates_text : Torus → List ℕ
+rates_text n = line_then (codes "service") n.service
     (line_then (codes "wire") n.wire
     (line_then (codes "gap") n.gap
     (line_then (codes "seed") n.seed
-    (line_then (codes "work") n.work [])))))))
+    (line_then (codes "work") n.work []))))
+
+abbrev pub network_text : Torus → ℕ → List ℕ
+network_text n end = line_then (codes "end") end
+    (line_then (codes "width") n.width (line_then (codes "height") n.height (rates_text n)))

@@ -4,7 +4,7 @@ ghost use Rattle.std.specs.Prelude.{◌≡◌, ◌≤◌, ◌<◌, ◌*◌, ◌/
 ghost use Rattle.network.specs.Network.{IsTorus, Torus, after_packet, network_meaning, next_switch};
 ghost use Rattle.network.specs.Network.{onward, packet_of, switches, toward, waked};
 ghost use Rattle.network.specs.NetworkLaws.{network_lawful};
-ghost use Rattle.network.specs.NetworkFile.{network_text};
+ghost use Rattle.network.specs.NetworkFile.{network_text, rates_text};
 ghost use Rattle.std.specs.Prelude.{IfOk, string_bytes};
 
 use crate::parts::{Packet, Switch};
@@ -118,10 +118,19 @@ impl Network {
     pub(crate) fn values(&self, alloc: Global, end: u64) -> Result<String, AllocError>
         ensures { IfOk result (λ text. string_bytes text ≡ network_text self.now.torus end) }
     {
-        let (width, height, service, wire) = (self.width, self.height, self.service, self.wire);
-        let (gap, seed, work) = (self.gap, self.seed, self.work);
+        let rates = self.rates(alloc)?;
+        let (width, height) = (self.width, self.height);
+        format!(in alloc; "end: {end}\nwidth: {width}\nheight: {height}\n{rates}")
+    }
+
+    /// Those of what goes on in it.
+    fn rates(&self, alloc: Global) -> Result<String, AllocError>
+        ensures { IfOk result (λ text. string_bytes text ≡ rates_text self.now.torus) }
+    {
+        let (service, wire, gap) = (self.service, self.wire, self.gap);
+        let (seed, work) = (self.seed, self.work);
         format!(in alloc;
-            "end: {end}\nwidth: {width}\nheight: {height}\nservice: {service}\nwire: {wire}\ngap: {gap}\nseed: {seed}\nwork: {work}\n"
+            "service: {service}\nwire: {wire}\ngap: {gap}\nseed: {seed}\nwork: {work}\n"
         )
     }
 
