@@ -142,8 +142,8 @@ next_lt : (n : Torus) → IsTorus n → (at to : ℕ) → at < switches n → ne
 next_lt n good at to there =
     let row : at / n.width < n.height = (div-lt_iff_lt-mul good.some_columns).1 there in
     elim (at % n.width == to % n.width) as (λ b. cond b
-        (toward n.height (at / n.width) (to / n.width) * n.width + at % n.width)
-        (at / n.width * n.width + toward n.width (at % n.width) (to % n.width)) < switches n) [
+    (toward n.height (at / n.width) (to / n.width) * n.width + at % n.width)
+    (at / n.width * n.width + toward n.width (at % n.width) (to % n.width)) < switches n) [
       | true ↦ place_lt n.height n.width (toward n.height (at / n.width) (to / n.width)) (at % n.width)
           (toward_lt n.height (at / n.width) (to / n.width) good.some_rows) (mod-lt at good.some_columns)
       | false ↦ place_lt n.height n.width (at / n.width) (toward n.width (at % n.width) (to % n.width))
@@ -210,7 +210,7 @@ each_sent : (n : Torus) → IsTorus n → (lp : ℕ) (s : Switch) (x : Message) 
 each_sent n good lp s x there ranged =
     let p : Packet = packet_of n lp s.key x in
     let rest : Every (IsSend (switches n)) (listed (onward n lp s p x.time)) =
-        onward_lawful n good lp s p x.time there (packet_there n good lp s.key x (omega arith)) (packet_born n lp s.key x ranged) in
+    onward_lawful n good lp s p x.time there (packet_there n good lp s.key x (omega arith)) (packet_born n lp s.key x ranged) in
     cond_both (is_wake x) (waked n lp s.key ∷ listed (onward n lp s p x.time)) (listed (onward n lp s p x.time))
     (Every (IsSend (switches n))) (λ _. (waked_lawful n good lp s.key there, rest)) (λ _. rest)
 
