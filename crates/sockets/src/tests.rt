@@ -138,11 +138,9 @@ fn what_is_no_reply_is_refused(rt: HostRuntime) -> Result<(), Fail> {
         let answer = answered(rt, bytes)?;
         assert_eq!(rt; answer, Err(PortFault::Wire(WireFault::BadKind)));
     }
-    let mut cut = 1;
-    while cut < REPLY.len() {
+    for cut in 1..REPLY.len() {
         let answer = answered(rt, &REPLY[..cut])?;
         assert_eq!(rt; answer, Err(PortFault::Wire(WireFault::Truncated)));
-        cut += 1;
     }
     let long = answered(rt, &[1, 0, 0, 1])?;
     assert_eq!(rt; long, Err(PortFault::Wire(WireFault::TooLong)));

@@ -1,21 +1,54 @@
 // A node of a ring of three processes behind bytes: a round of a run, and refusals.
 
 ghost use Rattle.std.specs.Prelude.{◌≡◌, ◌≤◌, ◌^◌, IfOk, OnOk};
+ghost use Rattle.process.specs.Ring.{ring_lawful, ring_meaning};
 ghost use Rattle.wire.specs.Port.{IsLoadInRange};
 ghost use Rattle.wire.specs.Port.Stage.{Idle};
 
 use crate::LoopPort;
 use eventkey::{Listed, Message, Sign, Signed};
-use model::{State, Words};
-use models::TokenRing;
+use model::{Model as Simulated, Outgoing, Sends, State, Words};
 use node::{Load, NodeFault, Parcel, Part, Reply};
+use smallvec::SmallVec;
 use std::alloc::Global;
 use std::test::Fail;
 use wire::{Port, PortFault};
 
-/// A ring of three processes, two ticks at each, with one token.
-fn ring() -> TokenRing {
-    TokenRing::new(3, 2, 1)
+#[derive(Drop)]
+struct Ring;
+
+impl Simulated for Ring {
+    ghost meaning = { λ _. ring_meaning };
+
+    ghost lawful = { λ _. ring_lawful };
+
+    fn lps(&self) -> u32 {
+        3
+    }
+
+    fn identity(&self, alloc: Global) -> SmallVec<u64, 8> {
+        SmallVec::new(alloc)
+    }
+
+    fn start(&self, alloc: Global, _lp: u32) -> (Words, Sends) {
+        let mut words = Words::new(alloc);
+        words.push_reserved(0);
+        (words, Sends::new(alloc))
+    }
+
+    fn handle(&self, alloc: Global, lp: u32, state: &Words, message: &Message) -> (Words, Sends) {
+        let count = state.as_slice().first().copied().unwrap_or(0);
+        let mut words = Words::new(alloc);
+        words.push_reserved(count.saturating_add(1));
+        let mut sends = Sends::new(alloc);
+        sends.push_reserved(Outgoing {
+            to: (lp + 1) % 3,
+            delay: 2,
+            a: message.a(),
+            b: message.b().wrapping_add(1),
+        });
+        (words, sends)
+    }
 }
 
 /// Node 0 of three, with the token of the ring, told to be process `lp`.
@@ -58,8 +91,7 @@ fn round<P: Port>(port: &mut P, alloc: Global, floor: u64) -> Result<Reply, Port
 
 #[test]
 fn a_round_of_a_run(rt: HostRuntime) -> Result<(), Fail> {
-    let ring = ring();
-    let mut port = LoopPort::new(rt.alloc(), &ring);
+    let mut port = LoopPort::new(rt.alloc(), &Ring);
     port.load(load(rt.alloc(), 0)?)?;
     let reply = round(&mut port, rt.alloc(), 1)?;
     let sent = Signed {
@@ -73,11 +105,10 @@ fn a_round_of_a_run(rt: HostRuntime) -> Result<(), Fail> {
 
 #[test]
 fn refusals_of_the_node_come_back(rt: HostRuntime) -> Result<(), Fail> {
-    let ring = ring();
-    let mut port = LoopPort::new(rt.alloc(), &ring);
+    let mut port = LoopPort::new(rt.alloc(), &Ring);
     let refused = port.load(load(rt.alloc(), 1)?);
     assert_eq!(rt; refused, Err(PortFault::Peer(NodeFault::NotMine)));
-    let mut port = LoopPort::new(rt.alloc(), &ring);
+    let mut port = LoopPort::new(rt.alloc(), &Ring);
     port.load(load(rt.alloc(), 0)?)?;
     let _ = round(&mut port, rt.alloc(), 1)?;
     let refused = round(&mut port, rt.alloc(), 0);
