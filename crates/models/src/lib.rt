@@ -13,3 +13,4 @@ pub use job_shop::JobShop;
 pub use parallel_hold::Phold;
 pub use relay::Relay;
 pub use ring::TokenRing;
+pub use words::{next_key, word};

@@ -8,7 +8,8 @@ use Rattle.std.specs.Prelude.{slice_index}
 use Rattle.eventkey.specs.Message.{Message}
 use Rattle.model.specs.Meaning.{Meaning}
 use Rattle.model.specs.declared.Outgoing.{Outgoing}
-use Rattle.network.specs.Words.{next_key, word, worked}
+use Rattle.models.specs.Words.{next_key, word}
+use Rattle.network.specs.Words.{worked}
 use Rattle.network.specs.declared.parts.Packet.{Packet}
 use Rattle.network.specs.declared.parts.Switch.{Switch}
 

@@ -15,8 +15,9 @@ use Rattle.network.specs.Network.{GoodTorus, IsTorus, Torus, after_delivery, aft
 use Rattle.network.specs.Network.{after_service, drawn, handled, hop, is_dropped, is_wake, listed}
 use Rattle.network.specs.Network.{network_meaning, next_switch, onward, packet_of, queue, sent}
 use Rattle.network.specs.Network.{served_at, switch_of, switches, toward, waked, words_of}
-use Rattle.network.specs.WordLaws.{key_lt, word_lt, worked_lt}
-use Rattle.network.specs.Words.{next_key, word, worked}
+use Rattle.models.specs.WordLaws.{key_lt, word_lt}
+use Rattle.models.specs.Words.{next_key, word}
+use Rattle.network.specs.Words.{worked, worked_lt}
 use Rattle.network.specs.declared.parts.Packet.{Packet}
 use Rattle.network.specs.declared.parts.Switch.{Switch}
 

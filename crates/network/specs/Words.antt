@@ -1,22 +1,14 @@
--- The words that a switch draws: each is the first word of a generator of its own, PCG's XSH RR 64/32
--- (O'Neill 2014), so that a handling is a function of its arguments.
-use Rattle.std.specs.Prelude.{ℕ, zero, suc, ◌+◌, ◌*◌, ◌^◌}
-use Rattle.rand_pcg.specs.Lcg.{increment_of, started}
-use Rattle.rand_pcg.specs.Pcg.{multiplier_64, pcg32}
-
--- the first word of the generator with this key, in this stream
-unfoldable pub first_word : ℕ → ℕ → ℕ
-first_word key stream = (pcg32 (started 64 multiplier_64 key (increment_of 64 stream))).0
-
--- word j of switch lp, by its key
-abbrev pub word : ℕ → ℕ → ℕ → ℕ
-word key lp j = first_word key (16 * lp + j)
-
--- the key after it: words j and j + 1, side by side
-abbrev pub next_key : ℕ → ℕ → ℕ → ℕ
-next_key key lp j = word key lp j * 2 ^ 32 + word key lp (j + 1)
+-- Words that a switch draws for nothing.
+use Rattle.std.specs.Prelude.{ℕ, zero, suc, ◌+◌, ◌*◌, ◌^◌, ◌<◌}
+use Rattle.std.proofs.Common.{arith}
+use Rattle.models.specs.Words.{word}
+use Rattle.models.specs.WordLaws.{word_lt}
 
 -- so many words in a row, each of them the key of the next
 abbrev pub worked : ℕ → ℕ → ℕ → ℕ
 worked zero lp scratch = scratch
 worked (suc n) lp scratch = word (worked n lp scratch) lp 0
+
+pub worked_lt : (count lp scratch : ℕ) → scratch < 2 ^ 64 → worked count lp scratch < 2 ^ 64
+worked_lt zero lp scratch fits = fits
+worked_lt (suc n) lp scratch fits = omega (arith, word_lt (worked n lp scratch) (16 * lp + 0))

@@ -8,9 +8,10 @@ ghost use Rattle.network.specs.NetworkFile.{network_text, rates_text};
 ghost use Rattle.std.specs.Prelude.{IfOk, string_bytes};
 
 use crate::parts::{Packet, Switch};
-use crate::words::{next_key, word, worked};
+use crate::words::worked;
 use eventkey::Message;
 use model::{Model as Simulated, Outgoing, Sends, Words};
+use models::{next_key, word};
 use smallvec::SmallVec;
 use std::alloc::{AllocError, Global};
 use std::marker::Model;
