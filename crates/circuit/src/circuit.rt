@@ -22,16 +22,18 @@ use std::alloc::Global;
 pub struct Circuit {
     gates: Vec<Gate>,
     wires: Vec<Wire>,
+    names: Vec<String>,
     digest: u64,
     ghost good: { IsNetlist (netlist_of gates.items wires.items digest) },
 }
 
 impl Circuit {
     /// The circuit of these gates and wires: 1 to 1,024 gates, none with more than 8 wires, delays
-    /// of at least 1, wires only to gates that are there. `None` for others.
-    pub fn new(gates: Vec<Gate>, wires: Vec<Wire>) -> Option<Circuit>
-        ensures some { IfSome result (λ c.
-            (c.gates.items ≡ gates.items) × (c.wires.items ≡ wires.items)) }
+    /// of at least 1, wires only to gates that are there. `None` for others. The names are those of
+    /// the gates in a wave; a gate whose name is empty or missing has none.
+    pub fn new(gates: Vec<Gate>, wires: Vec<Wire>, names: Vec<String>) -> Option<Circuit>
+        ensures some { IfSome result (λ c. (c.gates.items ≡ gates.items)
+            × (c.wires.items ≡ wires.items) × (c.names.items ≡ names.items)) }
         ensures none { IsNone result → (digest : ℕ) →
             ¬ IsNetlist (netlist_of gates.items wires.items digest) }
     {
@@ -46,6 +48,7 @@ impl Circuit {
         Some(Circuit {
             gates,
             wires,
+            names,
             digest,
         })
     }
@@ -62,6 +65,13 @@ impl Circuit {
         ensures { result.now ≡ self.now.wires.items }
     {
         self.wires.as_slice()
+    }
+
+    /// The names of the gates.
+    pub(crate) fn names(&self) -> &[String]
+        ensures { result.now ≡ self.now.names.items }
+    {
+        self.names.as_slice()
     }
 
     /// The output of gate `lp` for three bits.

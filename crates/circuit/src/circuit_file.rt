@@ -1,7 +1,9 @@
 // Circuits as model files describe them.
 
-ghost use Rattle.std.specs.Prelude.{◌≡◌, codes, option_and_then, option_map, IfOk};
-ghost use Rattle.circuit.specs.CircuitFile.{all_of, circuit_text, gate_of, list_at, wire_of};
+ghost use Rattle.std.specs.Prelude.{◌≡◌, codes, map, option_and_then, option_map, string_bytes, IfOk};
+ghost use Rattle.std.specs.List.{list_all};
+ghost use Rattle.circuit.specs.CircuitFile.{all_of, circuit_text, gate_of, is_name, is_printable};
+ghost use Rattle.circuit.specs.CircuitFile.{list_at, name_in, name_of, wire_of};
 ghost use Rattle.circuit.specs.CircuitFile.{IsCircuitTable};
 ghost use Rattle.toml.specs.Data.{as_array, as_table, get_member};
 ghost use Rattle.toml.specs.View.{array_view, items_view, table_view, view};
@@ -17,7 +19,8 @@ pub const CIRCUIT_KEYS: &str = "\
 A circuit has these keys, each gate being a process:
   end         ticks at which the run ends, 1 to 1099511627776
   gates       1 to 1024 tables { table = T, delay = D, first = F, count = C }: the output for each
-              of the eight inputs, the delay in ticks, and which of the wires are the gate's
+              of the eight inputs, the delay in ticks, and which of the wires are the gate's; a
+              gate may have a name too, name = \"N\", of printable characters without blanks
   wires       tables { to = G, pin = P }: the gate to which a wire leads, and its pin, 0 to 2";
 
 impl Described for Circuit {
@@ -40,10 +43,15 @@ impl Described for Circuit {
             Ok(None) => return Err(ModelFault::BadModel(NO_WIRES)),
             Err(_) => return Err(ModelFault::NoMemory),
         };
+        let names = match names_at(alloc, table) {
+            Ok(Some(names)) => names,
+            Ok(None) => return Err(ModelFault::BadModel(NO_NAMES)),
+            Err(_) => return Err(ModelFault::NoMemory),
+        };
         if let Err(mistake) = only(table, 3) {
             return Err(ModelFault::BadModel(mistake));
         }
-        match Circuit::new(gates, wires) {
+        match Circuit::new(gates, wires, names) {
             Some(circuit) => Ok((circuit, end)),
             None => Err(ModelFault::BadModel(NO_CIRCUIT)),
         }
@@ -64,6 +72,11 @@ const NO_GATES: Mistake = Mistake::Not {
 const NO_WIRES: Mistake = Mistake::Not {
     key: "wires",
     wanted: "a list of tables with to and pin",
+};
+
+const NO_NAMES: Mistake = Mistake::Not {
+    key: "gates",
+    wanted: "a list of tables whose names are texts of printable characters without blanks",
 };
 
 const NO_CIRCUIT: Mistake = Mistake::Not {
@@ -129,6 +142,88 @@ fn gate_of(table: &Table) -> Option<Gate>
         first: first as u32,
         count: count as u32,
     })
+}
+
+/// The names of the gates.
+fn names_at(alloc: Global, table: &Table) -> Result<Option<Vec<String>>, AllocError>
+    ensures { IfOk result (λ found. option_map (λ v. map string_bytes v.items) found
+        ≡ list_at name_of (codes "gates") (table_view table.now)) }
+{
+    match array_at(table, "gates") {
+        Some(items) => names_of(alloc, items.as_slice()),
+        None => Ok(None),
+    }
+}
+
+/// The names of some items.
+fn names_of(alloc: Global, items: &[Value]) -> Result<Option<Vec<String>>, AllocError>
+    ensures { IfOk result (λ found. option_map (λ v. map string_bytes v.items) found
+        ≡ all_of (λ d. option_and_then name_of (as_table d)) (items_view items.now)) }
+{
+    let mut names = Vec::new(alloc);
+    for item in items {
+        match name_in(item) {
+            Some(name) => names.push(String::from_str(alloc, name)?)?,
+            None => return Ok(None),
+        }
+    }
+    Ok(Some(names))
+}
+
+/// The name of an item.
+fn name_in(item: &Value) -> Option<&str>
+    ensures { option_map (λ s. s.now) result ≡ option_and_then name_of (as_table (view item.now)) }
+{
+    match item.as_table() {
+        Some(table) => name_of(table),
+        None => None,
+    }
+}
+
+/// The name of a gate's table, empty where it has none. `None` where its value is no name.
+fn name_of(table: &Table) -> Option<&str>
+    ensures { option_map (λ s. s.now) result ≡ name_of (table_view table.now) }
+{
+    match table.get("name") {
+        Some(value) => name_in_value(value),
+        None => Some(""),
+    }
+}
+
+/// The name that a value is.
+fn name_in_value(value: &Value) -> Option<&str>
+    ensures { option_map (λ s. s.now) result ≡ name_in (view value.now) }
+{
+    match value.as_str() {
+        Some(name) if is_name(name.as_bytes()) => Some(name),
+        _ => None,
+    }
+}
+
+/// Whether a text is a name: printable characters of ASCII, and no blanks.
+fn is_name(text: &[u8]) -> bool
+    ensures { result ≡ is_name text.now }
+{
+    !text.is_empty() && are_printable(text)
+}
+
+/// Whether all bytes are printable characters of ASCII, and no blanks.
+fn are_printable(text: &[u8]) -> bool
+    ensures { result ≡ list_all is_printable text.now }
+{
+    for byte in text {
+        if !is_printable(*byte) {
+            return false;
+        }
+    }
+    true
+}
+
+/// Whether a byte is a printable character of ASCII, and no blank.
+fn is_printable(byte: u8) -> bool
+    ensures { result ≡ is_printable byte }
+{
+    byte > 32 && byte < 127
 }
 
 /// The list of wires.

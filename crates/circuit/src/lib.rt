@@ -4,7 +4,9 @@
 mod circuit;
 mod circuit_file;
 mod parts;
+mod waves;
 
 pub use circuit::Circuit;
 pub use circuit_file::CIRCUIT_KEYS;
 pub use parts::{Gate, Wire};
+pub use waves::wave;

@@ -134,8 +134,11 @@ fn write_checked<O: Write>(values: &str, out: &mut O) -> IoResult<()>
     write_text(values, out)
 }
 
-/// The model that a file describes, and its end.
-pub(crate) fn simulated<M, R>(rt: &R, path: &str) -> Result<Simulated<M>, Fault>
+/// The model that a file describes, and its end; a command of a program's own begins with it.
+///
+/// Refused are `File` where the file can't be read, `BadModel` where it is no model file, and
+/// `NoMemory`.
+pub fn simulated<M, R>(rt: &R, path: &str) -> Result<Simulated<M>, Fault>
 where
     M: Described,
     R: Files + AllocGlobal,

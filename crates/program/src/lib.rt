@@ -10,7 +10,7 @@ mod starting;
 mod status;
 
 pub use fault::Fault;
-pub use files::{check, seq};
+pub use files::{check, seq, simulated};
 pub use progress::{Progress, TerminalProgress};
 pub use starting::start;
 pub use status::{About, answer, command, refuse_words, tell, words};

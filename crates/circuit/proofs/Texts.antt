@@ -1,0 +1,90 @@
+-- One text behind another, and events one after another.
+use Rattle.std.specs.Prelude.{◌≡◌, ◌+◌, ◌<◌, ◌≤◌, ◌&&◌, ℕ, zero, suc, List, [], ◌∷◌, ◌++◌, Bool, true, Result, Ok, Err, OnOk}
+use Rattle.std.specs.Prelude.{drop, get_or, length, map, nat_lt, set}
+use Rattle.std.specs.List.{list_all, AllByRecursion as Every}
+use Rattle.std.proofs.Common.{ap, ap₂, append_assoc, arith, lit≤, subst, sym, ◌∙◌}
+use Rattle.std.proofs.lemmas.Bool.{cond-true, lt-ltb}
+use Rattle.std.proofs.lemmas.List.{drop_all, drop_more, length-append, length-map, length-set, map-set}
+use Rattle.eventkey.proofs.Lists.{Every-append, Every-get_or, Every-set, get_or-map}
+use Rattle.eventkey.specs.Message.{Message}
+use Rattle.circuit.specs.Circuit.{Netlist, circuit_meaning}
+use Rattle.circuit.specs.Wave.{changes_text, event_text, events_text, starts, state_after, states_after, time_text}
+
+pub more : (old a b : List ℕ) {mid new : List ℕ} → mid ≡ old ++ a → new ≡ mid ++ b → new ≡ old ++ (a ++ b)
+more old a b h k = k ∙ ap (λ s. s ++ b) h ∙ append_assoc old a b
+
+pub then_more : (old a b new : List ℕ) {mid : List ℕ} {T E : Type 0} (r : Result T E) → mid ≡ old ++ a → OnOk r (new ≡ mid ++ b) → OnOk r (new ≡ old ++ (a ++ b))
+then_more old a b new (Ok x) h k = more old a b h k
+then_more old a b new (Err e) h k = tt
+
+module _ {X : Type 0} (p : X → Bool) (xs : List X) (i : ℕ) (d : X) (inside : i < length xs) where
+  pub passes_on : p (get_or xs i d) ≡ true → list_all p (drop i xs) ≡ list_all p xs → list_all p (drop (i + 1) xs) ≡ list_all p xs
+  passes_on passed so_far = sym (ap (list_all p) (drop_more xs i d inside) ∙ ap (λ b. b && list_all p (drop (i + 1) xs)) passed) ∙ so_far
+
+-- 2. The states
+
+abbrev pub IsShort : List ℕ → Type 0
+IsShort state = length state ≤ 16
+
+pub length-starts : (n : Netlist) (k : ℕ) → length (starts n k) ≡ k
+length-starts n zero = omega arith
+length-starts n (suc k) = omega (arith, length-append (starts n k) ((circuit_meaning n).start_state k ∷ []), length-starts n k)
+
+pub short-starts : (n : Netlist) (k : ℕ) → Every IsShort (starts n k)
+short-starts n zero = tt
+short-starts n (suc k) = Every-append IsShort (starts n k) ((circuit_meaning n).start_state k ∷ []) (short-starts n k) (lit≤ tt, tt)
+
+module _ {X : Type 0} (f : X → List ℕ) where
+  pub short_at : (xs : List X) (i : ℕ) (d : X) → i < length xs → Every IsShort (map f xs) → IsShort (f (get_or xs i d))
+  short_at xs i d l h = subst IsShort (get_or-map f xs i d [] l) (Every-get_or IsShort (map f xs) i [] (rw length-map l) h)
+
+  pub begun_so : (n : Netlist) (k : ℕ) (xs : List X) → map f xs ≡ starts n k → (length xs ≡ k) × Every IsShort (map f xs)
+  begun_so n k xs is = (sym (length-map xs f) ∙ ap length is ∙ length-starts n k, subst (Every IsShort) (sym is) (short-starts n k))
+
+  module _ (n : Netlist) (states : List X) (x : Message) where
+    pub kept_so : (k : ℕ) (new : List X) → map f new ≡ states_after n (map f states) x → length states ≡ k → Every IsShort (map f states) → (length new ≡ k) × Every IsShort (map f new)
+    kept_so k new is each short = (
+      sym (length-map new f) ∙ ap length is ∙ length-set (map f states) x.to (state_after n (map f states) x) ∙ length-map states f ∙ each,
+      subst (Every IsShort) (sym is) (Every-set IsShort (map f states) x.to (state_after n (map f states) x) (lit≤ tt) short),
+    )
+
+    module _ (to : ℕ) (s : X) (is : to ≡ x.to) (inside : to < length states) (here : s ≡ get_or states to s) where
+      at_event : get_or (map f states) x.to [] ≡ f s
+      at_event =
+          let there : x.to < length states = omega (arith, is, inside) in
+          get_or-map f states x.to s [] there ∙ ap f (sym (here ∙ ap (λ t. get_or states t s) is))
+
+      after_event : (now : List ℕ) → now ≡ (circuit_meaning n).next_state to (f s) x → now ≡ state_after n (map f states) x
+      after_event now now_is = now_is ∙ ap (λ t. (circuit_meaning n).next_state t (f s) x) is ∙ ap (λ state. (circuit_meaning n).next_state x.to state x) (sym at_event)
+
+      pub told_event : (was now : List ℕ) → was ≡ f s → now ≡ (circuit_meaning n).next_state to (f s) x → changes_text to was now ≡ event_text n (map f states) x
+      told_event was now was_is now_is =
+          let there : x.to < length (map f states) = rw length-map (omega (arith, is, inside)) in
+          ap (λ t. changes_text t was now) is ∙ ap₂ (changes_text x.to) (was_is ∙ sym at_event) (after_event now now_is)
+          ∙ sym (cond-true (nat_lt x.to (length (map f states))) (changes_text x.to (get_or (map f states) x.to []) (state_after n (map f states) x)) [] (lt-ltb x.to (length (map f states)) there))
+
+      pub made_event : (y : X) → f y ≡ (circuit_meaning n).next_state to (f s) x → map f (set states to y) ≡ states_after n (map f states) x
+      made_event y now_is = map-set f states to y ∙ ap₂ (λ t state. set (map f states) t state) is (after_event (f y) now_is)
+
+-- 3. Events
+
+-- an event more
+module _ (n : Netlist) (states : List (List ℕ)) (last end : ℕ) (log : List Message) (i : ℕ) (x : Message) (inside : i < length log) (is : x ≡ get_or log i x) where
+  pub next_event : events_text n states last end (drop i log) ≡ time_text last x.time ++ event_text n states x ++ events_text n (states_after n states x) x.time end (drop (i + 1) log)
+  next_event = ap (events_text n states last end) (drop_more log i x inside)
+      ∙ ap (λ (y : Message). time_text last y.time ++ event_text n states y ++ events_text n (states_after n states y) y.time end (drop (i + 1) log)) (sym is)
+
+  -- what was put and what is to come are all
+  pub put_so_far : (old before between now all : List ℕ) → before ++ events_text n states last end (drop i log) ≡ old ++ all
+      → between ≡ before ++ time_text last x.time → now ≡ between ++ event_text n states x
+      → now ++ events_text n (states_after n states x) x.time end (drop (i + 1) log) ≡ old ++ all
+  put_so_far old before between now all so_far time changed =
+      ap (λ s. s ++ events_text n (states_after n states x) x.time end (drop (i + 1) log)) (more before (time_text last x.time) (event_text n states x) time changed)
+      ∙ append_assoc before (time_text last x.time ++ event_text n states x) (events_text n (states_after n states x) x.time end (drop (i + 1) log))
+      ∙ ap (λ s. before ++ s) (sym next_event) ∙ so_far
+
+-- no event is left
+pub all_put : {T E : Type 0} (r : Result T E) (n : Netlist) (states : List (List ℕ)) (last end : ℕ) (log : List Message) (i : ℕ) (old before now all : List ℕ) → length log ≤ i
+    → before ++ events_text n states last end (drop i log) ≡ old ++ all → OnOk r (now ≡ before ++ time_text last end) → OnOk r (now ≡ old ++ all)
+all_put (Ok x) n states last end log i old before now all late so_far is = is ∙ ap (λ s. before ++ s) (sym (ap (events_text n states last end) (drop_all i log late))) ∙ so_far
+all_put (Err e) n states last end log i old before now all late so_far is = tt

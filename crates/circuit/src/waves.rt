@@ -1,0 +1,319 @@
+// The wave of a circuit as a value change dump.
+
+ghost use Rattle.std.specs.Prelude.{◌≡◌, ◌≤◌, ◌<◌, ◌++◌, List, ℕ, codes, decimal, length, map};
+ghost use Rattle.std.specs.Prelude.{IfOk, OnOk, slice_index, string_bytes};
+ghost use Rattle.std.specs.List.{list_all, AllByRecursion as Every};
+ghost use Rattle.circuit.specs.Circuit.{netlist_of};
+ghost use Rattle.circuit.specs.Wave.{begun_gate, change_text, changes_text, declared_gate};
+ghost use Rattle.circuit.specs.Wave.{declared_gates, declared_signal, declared_signals, named};
+ghost use Rattle.circuit.specs.Wave.{event_text, events_text, is_letter, is_simple};
+ghost use Rattle.circuit.specs.Wave.{is_word, name_text, starts, starts_text, state_text};
+ghost use Rattle.circuit.specs.Wave.{states_after, time_text, value_text, wave_text};
+
+use crate::circuit::Circuit;
+use eventkey::Message;
+use itoa::Buffer;
+use model::{Model as Simulated, Words};
+use std::alloc::{AllocError, Global};
+
+/// The wave of a circuit up to a time, in ticks, of the log of the events before it, as a text that
+/// programs as GTKWave show: a value change dump (VCD, IEEE 1364-2005, clause 18).
+///
+/// A gate is a scope with its name, or `gateN` where it has none, and four signals: `output`, which
+/// follows its pins at once, and `pin0` to `pin2`, which follow the outputs behind their wires'
+/// delays. A tick is written as a nanosecond, since a dump has to name a unit. It costs a handling
+/// for each event.
+pub fn wave(
+    alloc: Global,
+    circuit: &Circuit,
+    time: u64,
+    log: &[Message],
+) -> Result<String, AllocError>
+    ensures { IfOk result (λ text. string_bytes text
+        ≡ wave_text (netlist_of circuit.now.gates.items circuit.now.wires.items circuit.now.digest)
+        (map string_bytes circuit.now.names.items) time log.now) }
+{
+    let mut text = String::new(alloc);
+    put(
+        "$timescale 1 ns $end\n$scope module circuit $end\n",
+        &mut text,
+    )?;
+    put_declarations(circuit, &mut text)?;
+    put(
+        "$upscope $end\n$enddefinitions $end\n#0\n$dumpvars\n",
+        &mut text,
+    )?;
+    let mut states = put_starts(alloc, circuit, &mut text)?;
+    put("$end\n", &mut text)?;
+    put_events(alloc, circuit, &mut states, time, log, &mut text)?;
+    Ok(text)
+}
+
+/// Puts a text behind another one.
+fn put(more: &str, text: &mut String) -> Result<(), AllocError>
+    ensures { OnOk result (string_bytes text.new ≡ string_bytes text.old ++ more.now) }
+{
+    text.push_str(more)
+}
+
+/// Puts a number behind a text, in decimal digits.
+fn put_number(number: u64, text: &mut String) -> Result<(), AllocError>
+    ensures { OnOk result (string_bytes text.new ≡ string_bytes text.old ++ decimal number) }
+{
+    let mut digits = Buffer::new();
+    text.push_str(digits.format(number))
+}
+
+/// Declares the signals of all gates.
+fn put_declarations(circuit: &Circuit, text: &mut String) -> Result<(), AllocError>
+    ensures { OnOk result (string_bytes text.new ≡ string_bytes text.old
+        ++ declared_gates (map string_bytes circuit.now.names.items)
+        (length circuit.now.gates.items)) }
+{
+    for lp in 0..circuit.gates().len() {
+        put_declaration(lp, circuit.names(), text)?;
+    }
+    Ok(())
+}
+
+/// Declares the signals of a gate.
+fn put_declaration(lp: usize, names: &[String], text: &mut String) -> Result<(), AllocError>
+    ensures { OnOk result (string_bytes text.new ≡ string_bytes text.old
+        ++ declared_gate (map string_bytes names.now) lp) }
+{
+    begin_gate(lp, names, text)?;
+    put_signals(lp, text)?;
+    put("$upscope $end\n", text)
+}
+
+/// Begins the scope of a gate.
+fn begin_gate(lp: usize, names: &[String], text: &mut String) -> Result<(), AllocError>
+    ensures { OnOk result (string_bytes text.new ≡ string_bytes text.old
+        ++ begun_gate (map string_bytes names.now) lp) }
+{
+    put("$scope module ", text)?;
+    put_name(lp, names, text)?;
+    put(" $end\n", text)
+}
+
+/// Declares the signals of a gate in its scope.
+fn put_signals(lp: usize, text: &mut String) -> Result<(), AllocError>
+    ensures { OnOk result (string_bytes text.new ≡ string_bytes text.old ++ declared_signals lp) }
+{
+    put_signal("o", "output", lp, text)?;
+    put_signal("p", "pin0", lp, text)?;
+    put_signal("q", "pin1", lp, text)?;
+    put_signal("r", "pin2", lp, text)
+}
+
+/// Puts the name of a gate.
+fn put_name(lp: usize, names: &[String], text: &mut String) -> Result<(), AllocError>
+    ensures { OnOk result (string_bytes text.new ≡ string_bytes text.old
+        ++ name_text (map string_bytes names.now) lp) }
+{
+    let name = match names.get(lp) {
+        Some(name) => name.as_str(),
+        None => "",
+    };
+    if name.is_empty() {
+        put("gate", text)?;
+        return put_number(lp as u64, text);
+    }
+    if !is_simple(name.as_bytes()) {
+        put("\\", text)?;
+    }
+    put(name, text)
+}
+
+/// Whether a name is a simple identifier.
+fn is_simple(name: &[u8]) -> bool
+    ensures { result ≡ is_simple name.now }
+{
+    is_letter(name.first().copied().unwrap_or(0)) && are_words(name)
+}
+
+/// Whether all bytes are those of an identifier.
+fn are_words(name: &[u8]) -> bool
+    ensures { result ≡ list_all is_word name.now }
+{
+    for byte in name {
+        if !is_word(*byte) {
+            return false;
+        }
+    }
+    true
+}
+
+/// Whether a byte is a letter or an underscore.
+fn is_letter(byte: u8) -> bool
+    ensures { result ≡ is_letter byte }
+{
+    byte >= 65 && byte <= 90 || byte >= 97 && byte <= 122 || byte == 95
+}
+
+/// The same, or a digit or a dollar sign.
+fn is_word(byte: u8) -> bool
+    ensures { result ≡ is_word byte }
+{
+    is_letter(byte) || byte >= 48 && byte <= 57 || byte == 36
+}
+
+/// Declares a signal of a gate.
+fn put_signal(letter: &str, name: &str, lp: usize, text: &mut String) -> Result<(), AllocError>
+    ensures { OnOk result (string_bytes text.new ≡ string_bytes text.old
+        ++ declared_signal letter.now name.now lp) }
+{
+    put("$var wire 1 ", text)?;
+    put(letter, text)?;
+    put_number(lp as u64, text)?;
+    put_named(name, text)
+}
+
+/// Puts a name, and the end of what it names.
+fn put_named(name: &str, text: &mut String) -> Result<(), AllocError>
+    ensures { OnOk result (string_bytes text.new ≡ string_bytes text.old ++ named name.now) }
+{
+    put(" ", text)?;
+    put(name, text)?;
+    put(" $end\n", text)
+}
+
+/// Puts the value of each signal at the start, and answers the states of all processes.
+fn put_starts(alloc: Global, circuit: &Circuit, text: &mut String) -> Result<Vec<Words>, AllocError>
+    ensures text { OnOk result (string_bytes text.new ≡ string_bytes text.old
+        ++ starts_text (netlist_of circuit.now.gates.items circuit.now.wires.items
+        circuit.now.digest) (length circuit.now.gates.items)) }
+    ensures states { IfOk result (λ states. map (λ s. s.items) states.items
+        ≡ starts (netlist_of circuit.now.gates.items circuit.now.wires.items circuit.now.digest)
+        (length circuit.now.gates.items)) }
+{
+    let mut states = Vec::new(alloc);
+    for lp in 0..circuit.lps() {
+        let (state, _sends) = circuit.start(alloc, lp);
+        put_state(lp, state.as_slice(), text)?;
+        states.push(state)?;
+    }
+    Ok(states)
+}
+
+/// Puts the values of all signals of a gate.
+fn put_state(lp: u32, state: &[u64], text: &mut String) -> Result<(), AllocError>
+    ensures { OnOk result (string_bytes text.new ≡ string_bytes text.old
+        ++ state_text lp state.now) }
+{
+    put_value("o", lp, word(state, 3), text)?;
+    put_value("p", lp, word(state, 0), text)?;
+    put_value("q", lp, word(state, 1), text)?;
+    put_value("r", lp, word(state, 2), text)
+}
+
+/// A word of a state; a missing one counts as 0.
+fn word(state: &[u64], place: usize) -> u64
+    ensures { result ≡ slice_index state.now place }
+{
+    state.get(place).copied().unwrap_or(0)
+}
+
+/// Puts the value of a signal.
+fn put_value(letter: &str, lp: u32, value: u64, text: &mut String) -> Result<(), AllocError>
+    ensures { OnOk result (string_bytes text.new ≡ string_bytes text.old
+        ++ value_text letter.now lp value) }
+{
+    put_number(value, text)?;
+    put(letter, text)?;
+    put_number(u64::from(lp), text)?;
+    put("\n", text)
+}
+
+/// Puts what changes at each event, and the time of the end.
+fn put_events(
+    alloc: Global,
+    circuit: &Circuit,
+    states: &mut Vec<Words>,
+    end: u64,
+    log: &[Message],
+    text: &mut String,
+) -> Result<(), AllocError>
+    requires { map (λ s. s.items) states.old.items ≡ starts (netlist_of circuit.now.gates.items
+        circuit.now.wires.items circuit.now.digest) (length circuit.now.gates.items) }
+    ensures { OnOk result (string_bytes text.new ≡ string_bytes text.old
+        ++ events_text (netlist_of circuit.now.gates.items circuit.now.wires.items
+        circuit.now.digest) (map (λ s. s.items) states.old.items) 0 end log.now) }
+{
+    let mut last = 0;
+    for event in log {
+        put_time(last, event.time(), text)?;
+        last = event.time();
+        put_event(alloc, circuit, states, event, text)?;
+    }
+    put_time(last, end, text)
+}
+
+/// Puts a time, where it is another one.
+fn put_time(last: u64, time: u64, text: &mut String) -> Result<(), AllocError>
+    ensures { OnOk result (string_bytes text.new ≡ string_bytes text.old ++ time_text last time) }
+{
+    if last == time {
+        return Ok(());
+    }
+    put("#", text)?;
+    put_number(time, text)?;
+    put("\n", text)
+}
+
+/// Puts what changes at an event, and makes the state of its receiver that after it.
+fn put_event(
+    alloc: Global,
+    circuit: &Circuit,
+    states: &mut Vec<Words>,
+    event: &Message,
+    text: &mut String,
+) -> Result<(), AllocError>
+    requires each { length states.old.items ≡ length circuit.now.gates.items }
+    requires few { Every (λ state. length state ≤ 16) (map (λ s. s.items) states.old.items) }
+    ensures text { OnOk result (string_bytes text.new ≡ string_bytes text.old
+        ++ event_text (netlist_of circuit.now.gates.items circuit.now.wires.items
+        circuit.now.digest) (map (λ s. s.items) states.old.items) event.now) }
+    ensures states { OnOk result (map (λ s. s.items) states.new.items
+        ≡ states_after (netlist_of circuit.now.gates.items circuit.now.wires.items
+        circuit.now.digest) (map (λ s. s.items) states.old.items) event.now) }
+{
+    let lp = event.to();
+    let place = lp as usize;
+    if place >= states.len() {
+        return Ok(());
+    }
+    let was = &states[place];
+    let (now, _sends) = circuit.handle(alloc, lp, was, event);
+    put_changes(lp, was.as_slice(), now.as_slice(), text)?;
+    states[place] = now;
+    Ok(())
+}
+
+/// Puts the signals of a gate that change.
+fn put_changes(lp: u32, was: &[u64], now: &[u64], text: &mut String) -> Result<(), AllocError>
+    ensures { OnOk result (string_bytes text.new ≡ string_bytes text.old
+        ++ changes_text lp was.now now.now) }
+{
+    put_change("o", lp, word(was, 3), word(now, 3), text)?;
+    put_change("p", lp, word(was, 0), word(now, 0), text)?;
+    put_change("q", lp, word(was, 1), word(now, 1), text)?;
+    put_change("r", lp, word(was, 2), word(now, 2), text)
+}
+
+/// Puts the value of a signal, where it changes.
+fn put_change(
+    letter: &str,
+    lp: u32,
+    was: u64,
+    value: u64,
+    text: &mut String,
+) -> Result<(), AllocError>
+    ensures { OnOk result (string_bytes text.new ≡ string_bytes text.old
+        ++ change_text letter.now lp was value) }
+{
+    if was == value {
+        return Ok(());
+    }
+    put_value(letter, lp, value, text)
+}

@@ -1,0 +1,1 @@
+pub mod Waves  -- what the command `wave` prints

@@ -1,0 +1,128 @@
+// The command `wave`.
+
+ghost use Rattle.std.specs.Prelude.{◌≡◌, ◌≤◌, ◌⊎◌, ◌^◌, ℕ, List, IfOk, IsOkUnless, OnErr, OnOk};
+ghost use Rattle.std.specs.Prelude.{string_bytes};
+ghost use Rattle.circuit.specs.Circuit.{circuit_meaning, netlist_of};
+ghost use Rattle.circuits.specs.Waves.{wave_of, IsWave};
+ghost use Rattle.eventkey.specs.Writing.{Writes};
+ghost use Rattle.model.specs.World.{IsUpto, World};
+ghost use Rattle.program.specs.Command.{Begins, Prints};
+ghost use Rattle.program.specs.declared.fault.Fault.TheVariants.{Output};
+
+use circuit::Circuit;
+use commands::{Simulated, committed};
+use disk::FileDisk;
+use model::World as PlainWorld;
+use program::{Fault, simulated, tell};
+use std::fs::File;
+use std::io::{self, BufWriter, Print, Write};
+use std::rt::Files;
+use texts::write_text;
+
+/// Does what `wave MODEL [DISK]` asks for, of which these are the words behind `wave`, and answers
+/// the exit status, as the other commands do.
+pub(crate) fn wave<R, E>(rt: &R, words: &[String], err: &mut E) -> u8
+where
+    R: Files<File = File> + Print + AllocGlobal,
+    E: Write,
+    ensures { result ≤ 2 }
+{
+    let (model, disk) = match words.len() {
+        1 => (words[0].as_str(), None),
+        2 => (words[0].as_str(), Some(words[1].as_str())),
+        _ => {
+            let _ = err.write_all(USAGE.as_bytes());
+            return 2;
+        }
+    };
+    let Ok(mut out) = BufWriter::new(rt.alloc(), io::writer(rt)) else {
+        return tell("circuits", Fault::NoMemory, err);
+    };
+    let status = match print_wave(rt, model, disk, &mut out) {
+        Ok(()) => 0,
+        Err(fault) => tell("circuits", fault, err),
+    };
+    // what is left was refused, and is not tried again
+    let (_writer, _left) = out.into_parts();
+    status
+}
+
+const USAGE: &str = "\
+Prints the wave of a circuit, as a value change dump (VCD): of its run by the plain runner to
+its end, or, with a disk, of what is committed there.
+
+Usage: circuits wave MODEL [DISK]
+";
+
+/// Prints the wave of the circuit of a model file: of what is committed on a disk, or of its whole
+/// simulation.
+///
+/// Refused are, in this order, the model file (`File`, `BadModel`), the disk (`File`, `Log`,
+/// `Recovery`) or the plain runner (`World`), and then `Output` where the writer refuses. `NoMemory`
+/// comes where memory runs out. Before `Output` nothing is written.
+fn print_wave<R, O>(rt: &R, model: &str, disk: Option<&str>, out: &mut O) -> Result<(), Fault>
+where
+    R: Files<File = File> + AllocGlobal,
+    O: Write,
+    ensures ok { OnOk result (Prints IsWave (O.contents out.old) (O.contents out.new)) }
+    ensures err { OnErr result ((out.new ≡ out.old)
+        ⊎ Begins IsWave (O.contents out.old) (O.contents out.new)) }
+{
+    let of: Simulated<Circuit> = simulated(rt, model)?;
+    let text = match disk {
+        Some(disk) => committed_wave(rt, &of, disk)?,
+        None => whole_wave(rt, &of)?,
+    };
+    print(text.as_str(), out)
+}
+
+/// The wave of what is committed on a disk.
+fn committed_wave<R>(rt: &R, of: &Simulated<Circuit>, disk: &str) -> Result<String, Fault>
+where
+    R: Files<File = File> + AllocGlobal,
+    requires some { 1 ≤ of.now.end }
+    requires short { of.now.end ≤ 2 ^ 40 }
+    ensures { IfOk result (λ text. (w : World) × IsUpto (circuit_meaning (netlist_of
+        of.now.model.gates.items of.now.model.wires.items of.now.model.digest)) of.now.end w.time w
+        × (w.time ≤ of.now.end) × (string_bytes text ≡ wave_of of.now.model w)) }
+{
+    let disk = FileDisk::open_to_read(rt, rt.alloc(), disk)?;
+    let front = committed(rt.alloc(), of, disk)?;
+    Ok(circuit::wave(
+        rt.alloc(),
+        &of.model,
+        front.g,
+        front.log.as_slice(),
+    )?)
+}
+
+/// The wave of a circuit's simulation to its end.
+fn whole_wave<R>(rt: &R, of: &Simulated<Circuit>) -> Result<String, Fault>
+where
+    R: AllocGlobal,
+    requires some { 1 ≤ of.now.end }
+    requires short { of.now.end ≤ 2 ^ 40 }
+    ensures { IfOk result (λ text. (w : World) × IsUpto (circuit_meaning (netlist_of
+        of.now.model.gates.items of.now.model.wires.items of.now.model.digest)) of.now.end w.time w
+        × (w.time ≤ of.now.end) × (string_bytes text ≡ wave_of of.now.model w)) }
+{
+    let mut world = PlainWorld::open(rt.alloc(), &of.model, of.end)?;
+    world.run_to(&of.model, of.end)?;
+    let parts = world.into_parts();
+    Ok(circuit::wave(
+        rt.alloc(),
+        &of.model,
+        parts.time,
+        parts.log.as_slice(),
+    )?)
+}
+
+/// Writes a text, and flushes the writer.
+fn print<O: Write>(text: &str, out: &mut O) -> Result<(), Fault>
+    ensures written { Writes (O.contents out.old) (O.contents out.new) result text.now }
+    ensures fault { IsOkUnless result Output }
+{
+    write_text(text, out)?;
+    out.flush()?;
+    Ok(())
+}
