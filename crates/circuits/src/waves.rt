@@ -1,19 +1,19 @@
 // The command `wave`.
 
-ghost use Rattle.std.specs.Prelude.{◌≡◌, ◌≤◌, ◌⊎◌, ◌^◌, ℕ, List, IfOk, IsOkUnless, OnErr, OnOk};
+ghost use Rattle.std.specs.Prelude.{◌≡◌, ◌≤◌, ◌⊎◌, ◌^◌, IfOk, IsOkUnless, OnErr, OnOk};
 ghost use Rattle.std.specs.Prelude.{string_bytes};
-ghost use Rattle.circuit.specs.Circuit.{circuit_meaning, netlist_of};
-ghost use Rattle.circuits.specs.Waves.{wave_of, IsWave};
+ghost use Rattle.circuits.specs.Waves.{meaning_of, IsWave, IsWaveOf};
 ghost use Rattle.eventkey.specs.Writing.{Writes};
-ghost use Rattle.model.specs.World.{IsUpto, World};
+ghost use Rattle.model.specs.World.{IsUpto};
 ghost use Rattle.program.specs.Command.{Begins, Prints};
 ghost use Rattle.program.specs.declared.fault.Fault.TheVariants.{Output};
 
 use circuit::Circuit;
 use commands::{Simulated, committed};
 use disk::FileDisk;
-use model::World as PlainWorld;
+use model::World;
 use program::{Fault, simulated, tell};
+use std::alloc::Global;
 use std::fs::File;
 use std::io::{self, BufWriter, Print, Write};
 use std::rt::Files;
@@ -82,18 +82,11 @@ where
     R: Files<File = File> + AllocGlobal,
     requires some { 1 ≤ of.now.end }
     requires short { of.now.end ≤ 2 ^ 40 }
-    ensures { IfOk result (λ text. (w : World) × IsUpto (circuit_meaning (netlist_of
-        of.now.model.gates.items of.now.model.wires.items of.now.model.digest)) of.now.end w.time w
-        × (w.time ≤ of.now.end) × (string_bytes text ≡ wave_of of.now.model w)) }
+    ensures { IfOk result (λ text. IsWaveOf of.now.model of.now.end (string_bytes text)) }
 {
     let disk = FileDisk::open_to_read(rt, rt.alloc(), disk)?;
     let front = committed(rt.alloc(), of, disk)?;
-    Ok(circuit::wave(
-        rt.alloc(),
-        &of.model,
-        front.g,
-        front.log.as_slice(),
-    )?)
+    Ok(circuit::wave(rt.alloc(), &of.model, front.g, front.log.as_slice())?)
 }
 
 /// The wave of a circuit's simulation to its end.
@@ -102,19 +95,21 @@ where
     R: AllocGlobal,
     requires some { 1 ≤ of.now.end }
     requires short { of.now.end ≤ 2 ^ 40 }
-    ensures { IfOk result (λ text. (w : World) × IsUpto (circuit_meaning (netlist_of
-        of.now.model.gates.items of.now.model.wires.items of.now.model.digest)) of.now.end w.time w
-        × (w.time ≤ of.now.end) × (string_bytes text ≡ wave_of of.now.model w)) }
+    ensures { IfOk result (λ text. IsWaveOf of.now.model of.now.end (string_bytes text)) }
 {
-    let mut world = PlainWorld::open(rt.alloc(), &of.model, of.end)?;
+    let parts = whole_world(rt.alloc(), of)?.into_parts();
+    Ok(circuit::wave(rt.alloc(), &of.model, parts.time, parts.log.as_slice())?)
+}
+
+/// The world at the end of a circuit's simulation, by the plain runner.
+fn whole_world(alloc: Global, of: &Simulated<Circuit>) -> Result<World, Fault>
+    requires some { 1 ≤ of.now.end }
+    requires short { of.now.end ≤ 2 ^ 40 }
+    ensures { IfOk result (λ w. IsUpto (meaning_of of.now.model) of.now.end of.now.end w.world) }
+{
+    let mut world = World::open(alloc, &of.model, of.end)?;
     world.run_to(&of.model, of.end)?;
-    let parts = world.into_parts();
-    Ok(circuit::wave(
-        rt.alloc(),
-        &of.model,
-        parts.time,
-        parts.log.as_slice(),
-    )?)
+    Ok(world)
 }
 
 /// Writes a text, and flushes the writer.

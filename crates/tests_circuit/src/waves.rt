@@ -1,0 +1,111 @@
+// The wave of three inverters in a ring, worked out by hand.
+
+use circuit::{Circuit, wave};
+use simulation::sequential;
+use std::test::Fail;
+use texts::{Mistake, ModelFault, read_model};
+
+/// The delays are 2, 3 and 4 ticks. One name is no simple identifier, and one gate has none.
+const RING: &str = r#"
+end = 12
+gates = [
+    { name = "first", table = 0x55, delay = 2, first = 0, count = 1 },
+    { name = "2nd", table = 0x55, delay = 3, first = 1, count = 1 },
+    { table = 0x55, delay = 4, first = 2, count = 1 },
+]
+wires = [{ to = 1, pin = 0 }, { to = 2, pin = 0 }, { to = 0, pin = 0 }]
+"#;
+
+/// Each inverter begins with a 1, which reaches the next one after its delay. At tick 9 all three
+/// are reached, in the order of the senders.
+const WAVE: &str = r"$timescale 1 ns $end
+$scope module circuit $end
+$scope module first $end
+$var wire 1 o0 output $end
+$var wire 1 p0 pin0 $end
+$var wire 1 q0 pin1 $end
+$var wire 1 r0 pin2 $end
+$upscope $end
+$scope module \2nd $end
+$var wire 1 o1 output $end
+$var wire 1 p1 pin0 $end
+$var wire 1 q1 pin1 $end
+$var wire 1 r1 pin2 $end
+$upscope $end
+$scope module gate2 $end
+$var wire 1 o2 output $end
+$var wire 1 p2 pin0 $end
+$var wire 1 q2 pin1 $end
+$var wire 1 r2 pin2 $end
+$upscope $end
+$upscope $end
+$enddefinitions $end
+#0
+$dumpvars
+1o0
+0p0
+0q0
+0r0
+1o1
+0p1
+0q1
+0r1
+1o2
+0p2
+0q2
+0r2
+$end
+#2
+0o1
+1p1
+#3
+0o2
+1p2
+#4
+0o0
+1p0
+#5
+1o2
+0p2
+#6
+1o1
+0p1
+#7
+1o0
+0p0
+#9
+0o1
+1p1
+0o2
+1p2
+0o0
+1p0
+#11
+1o1
+0p1
+#12
+";
+
+#[test]
+fn the_wave_of_a_ring_of_inverters(rt: HostRuntime) -> Result<(), Fail> {
+    let Ok((circuit, end)) = read_model::<Circuit>(rt.alloc(), RING) else {
+        return Err("a circuit".into());
+    };
+    let world = sequential(rt.alloc(), &circuit, end)?.into_parts();
+    let text = wave(rt.alloc(), &circuit, world.time, world.log.as_slice())?;
+    assert_eq!(rt; text.as_str(), WAVE);
+    Ok(())
+}
+
+#[test]
+fn names_have_no_blanks(rt: HostRuntime) {
+    let texts = [
+        "end = 1\nwires = []\ngates = [{ name = 'a b', table = 0, delay = 1, first = 0, count = 0 }]\n",
+        "end = 1\nwires = []\ngates = [{ name = '', table = 0, delay = 1, first = 0, count = 0 }]\n",
+        "end = 1\nwires = []\ngates = [{ name = 3, table = 0, delay = 1, first = 0, count = 0 }]\n",
+    ];
+    for text in texts {
+        let read = read_model::<Circuit>(rt.alloc(), text).err();
+        assert!(rt; matches!(read, Some(ModelFault::BadModel(Mistake::Not { key: "gates", .. }))), "{text}");
+    }
+}
