@@ -106,6 +106,12 @@ fn names_have_no_blanks(rt: HostRuntime) {
     ];
     for text in texts {
         let read = read_model::<Circuit>(rt.alloc(), text).err();
-        assert!(rt; matches!(read, Some(ModelFault::BadModel(Mistake::Not { key: "gates", .. }))), "{text}");
+        assert!(rt;
+            matches!(
+                read,
+                Some(ModelFault::BadModel(Mistake::Not { key: "gates", .. }))
+            ),
+            "{text}"
+        );
     }
 }
