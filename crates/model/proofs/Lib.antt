@@ -5,3 +5,4 @@ pub mod Heaps
 pub mod Slots
 pub mod Nearest
 pub mod Both
+pub mod ForLaws
