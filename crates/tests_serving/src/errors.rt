@@ -134,10 +134,10 @@ fn ends_at_write(
 #[test]
 fn a_read_that_fails_is_the_last(rt: HostRuntime) -> Result<(), Fail> {
     for kind in KINDS.iter().copied().map(Some).chain([None]) {
-        let mut calls = 0;
+        let mut calls = 0usize;
         for call in 0..100 {
             if ends_at_read(&rt, rt.alloc(), call, kind)? {
-                calls += 1;
+                calls = calls.saturating_add(1);
             }
         }
         assert!(rt; calls > 30 && calls < 100);
@@ -148,10 +148,10 @@ fn a_read_that_fails_is_the_last(rt: HostRuntime) -> Result<(), Fail> {
 #[test]
 fn a_write_that_fails_is_the_last(rt: HostRuntime) -> Result<(), Fail> {
     for kind in KINDS.iter().copied().map(Some).chain([None]) {
-        let mut calls = 0;
+        let mut calls = 0usize;
         for call in 0..100 {
             if ends_at_write(&rt, rt.alloc(), call, kind)? {
-                calls += 1;
+                calls = calls.saturating_add(1);
             }
         }
         assert!(rt; calls > 30 && calls < 100);

@@ -1,6 +1,6 @@
 // The frames of the run, as they are encoded.
 
-use crate::frames_of_ring::{BELOW_FLOOR, LATE, LOAD, PARCEL, REPLY, RUN_1};
+use crate::frames_of_ring::{BELOW_FLOOR, LATE, LOAD, LOAD_1, PARCEL, REPLY};
 use eventkey::{Listed, Message, Sign, Signed};
 use frames::{encode_fault, encode_load, encode_parcel, encode_reply};
 use model::{State, Words};
@@ -46,10 +46,7 @@ fn loads_are_spelled(rt: HostRuntime) -> Result<(), Fail> {
     let first = load(rt.alloc(), 0, 1, &[token])?;
     assert_eq!(rt; encode_load(rt.alloc(), &first)?.as_slice(), LOAD);
     let second = load(rt.alloc(), 1, 0, &[])?;
-    assert_eq!(rt;
-        encode_load(rt.alloc(), &second)?.as_slice(),
-        RUN_1.frames[0]
-    );
+    assert_eq!(rt; encode_load(rt.alloc(), &second)?.as_slice(), LOAD_1);
     Ok(())
 }
 

@@ -1,5 +1,7 @@
 // Readers and writers in memory, and what is served through them.
 
+ghost use Rattle.std.specs.Prelude.{◌≡◌, IfOk};
+
 use models::TokenRing;
 use serving::serve;
 use std::alloc::Global;
@@ -26,15 +28,19 @@ pub const NEVER: Refusal = Refusal {
 };
 
 impl Refusal {
-    /// What the call of this number answers, if it is refused.
-    fn answer(&self, call: usize) -> Option<io::Result<usize>> {
-        if call < self.call || call - self.call >= self.times {
-            return None;
-        }
-        Some(match self.kind {
+    /// Whether the call of this number is refused.
+    fn meets(&self, call: usize) -> bool {
+        call >= self.call && call - self.call < self.times
+    }
+
+    /// What a refused call answers.
+    fn answer(&self) -> io::Result<usize>
+        ensures { IfOk result (λ count. count ≡ 0) }
+    {
+        match self.kind {
             Some(kind) => Err(Error::from(kind)),
             None => Ok(0),
-        })
+        }
     }
 }
 
@@ -62,8 +68,8 @@ impl<'a> Read for Pieces<'a> {
     fn read(&mut self, buf: &mut [u8]) -> io::Result<usize> {
         let call = self.calls;
         self.calls = self.calls.saturating_add(1);
-        if let Some(answer) = self.refusal.answer(call) {
-            return answer;
+        if self.refusal.meets(call) {
+            return self.refusal.answer();
         }
         let count = buf.len().min(self.size).min(self.rest.len());
         let (front, rest) = self.rest.split_at(count);
@@ -99,8 +105,8 @@ impl Write for Taking {
     fn write(&mut self, buf: &[u8]) -> io::Result<usize> {
         let call = self.calls;
         self.calls = self.calls.saturating_add(1);
-        if let Some(answer) = self.refusal.answer(call) {
-            return answer;
+        if self.refusal.meets(call) {
+            return self.refusal.answer();
         }
         let count = buf.len().min(self.size);
         self.taken.extend_from_slice(&buf[..count])?;
