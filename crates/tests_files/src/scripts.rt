@@ -72,6 +72,11 @@ const WHOLE: Script = Script {
         ),
         Act::Stays,
         Act::Prints("run MODEL DISK --nodes 3", RAN_NOTHING),
+        Act::Stays,
+        Act::Removes,
+        // Room is asked for by what is there, and not by the batch.
+        Act::Prints("new MODEL DISK --sectors 64", FORMATTED_64),
+        Act::Prints("run MODEL DISK --nodes 3 --batch 4294967295", RAN),
         Act::EndsAsSeq("MODEL"),
         Act::Stays,
     ],
