@@ -4,8 +4,6 @@
 mod node_loop;
 mod output;
 mod reaction;
-#[cfg(test)]
-mod tests;
 
 pub use node_loop::serve;
 pub use output::write_all;

@@ -4,9 +4,9 @@
 
 ghost use Rattle.std.specs.Prelude.{◌≡◌, ◌<◌, ◌≤◌, IfOk};
 
+use crate::counted::Counted;
 use eventkey::{KeyFault, Message};
 use model::{Model as Simulated, Sent, State, Words};
-use models::TokenRing;
 use queues::{History, Record};
 use std::alloc::{AllocError, Global};
 use std::process::Abort;
@@ -16,7 +16,7 @@ use std::test::Fail;
 #[derive(Drop)]
 struct Counting<const K: usize> {
     alloc: Global,
-    ring: TokenRing,
+    ring: Counted,
     history: History<K>,
     state: State,
 }
@@ -48,7 +48,7 @@ impl<const K: usize> Counting<K> {
         words.push_reserved(0);
         Counting {
             alloc,
-            ring: TokenRing::new(2, 1, 1),
+            ring: Counted::new(),
             history: History::new(alloc),
             state: State::from_words(words),
         }
@@ -169,31 +169,49 @@ impl<const K: usize> Counting<K> {
         Ok(())
     }
 
-    /// So many are taken back, again where memory was refused, which changed nothing.
+    /// Handles messages until there are so many records.
+    fn lengthen(&mut self, len: usize) -> Result<(), Fail> {
+        for _ in self.history.len()..len {
+            let message = self.next()?;
+            self.handle(message)?;
+        }
+        Ok(())
+    }
+
+    /// So many are taken back, again where memory was refused, which changed nothing. Each of them is
+    /// handled once at the most, and before them as many as there are from one state to the next.
     fn go_back(&mut self, rt: &impl Abort, count: usize) -> Result<(), Fail> {
         let before = self.look();
+        let mut made = self.ring.handled();
         let undone = match self.take_back(count) {
             Ok(undone) => undone,
             Err(_) => {
                 assert!(rt; self.look() == before);
+                made = self.ring.handled();
                 self.take_back(count)?
             }
         };
+        let made = self.ring.handled().saturating_sub(made);
+        assert!(rt; made <= (K as u64).saturating_add(count as u64));
         assert!(rt; undone.len() == count && are_after(undone.as_slice(), self.count()));
         assert!(rt; self.look().0.checked_add(count) == Some(before.0) && self.is_sparse());
         Ok(())
     }
 
-    /// So many are rolled back in place, again where memory was refused, which changed nothing.
+    /// So many are rolled back in place, again where memory was refused, which changed nothing. To
+    /// rebuild a state takes no more handlings than there are records from one state to the next.
     fn undo(&mut self, rt: &impl Abort, count: usize) -> Result<(), Fail> {
         let (before, handled) = (self.look(), self.count());
+        let mut made = self.ring.handled();
         let number = match self.roll_back(count) {
             Ok(number) => number,
             Err(_) => {
                 assert!(rt; self.look() == before && self.count() == handled);
+                made = self.ring.handled();
                 self.roll_back(count)?
             }
         };
+        assert!(rt; self.ring.handled().saturating_sub(made) <= K as u64);
         assert!(rt; number == self.count() && number.checked_add(count as u64) == Some(handled));
         assert!(rt; self.look().0.checked_add(count) == Some(before.0) && self.is_sparse());
         Ok(())
@@ -245,6 +263,19 @@ fn drive<const K: usize>(rt: &impl Abort, alloc: Global) -> Result<(), Fail>
     counting.fill(rt, 3)?;
     counting.let_go(rt, 1000, 3)?;
     assert!(rt; counting.look() == (0, 0, None));
+    Ok(())
+}
+
+/// Back by one, and by none, from the end of a long history: what it costs does not grow with it.
+#[test]
+fn a_long_history_goes_back_by_one(rt: HostRuntime) -> Result<(), Fail> {
+    let mut counting: Counting<8> = Counting::new(rt.alloc());
+    counting.lengthen(100_000)?;
+    for count in [1, 0, 1, 1, 0] {
+        counting.undo(&rt, count)?;
+        counting.go_back(&rt, count)?;
+    }
+    assert!(rt; counting.history.len() == 99_994);
     Ok(())
 }
 

@@ -1,6 +1,8 @@
 // Worked values of the input queue. A call that is refused for want of memory is made again, and
 // must then answer as if it had never been refused.
 
+ghost use Rattle.std.specs.Prelude.{◌≤◌, ◌<◌};
+
 use crate::rows::{Row, messages, signed};
 use eventkey::{Message, Sign, Signed};
 use queues::{Arrival, InputQueue};
@@ -129,6 +131,46 @@ fn many_messages_wait_in_order(rt: HostRuntime) -> Result<(), Fail> {
     let straggler = Call::Arrives(signed(Sign::Plus, of_time(0))?);
     assert!(&rt; make_at_last(&rt, &mut queue, &straggler)? == queued(150));
     assert!(&rt; lens(&queue) == (0, 151, 0));
+    Ok(())
+}
+
+/// The message of this place among 100,000: each at a time of its own, in no order, or all at one
+/// time, the last number first.
+fn one_of_many(place: u64, apart: bool) -> Row
+    requires { place < 100000 }
+{
+    if apart {
+        (1 + place * 7919 % 100_003, 1, 0, 1, 0, 0)
+    } else {
+        (5, 1, 100_000 - place, 1, 0, 0)
+    }
+}
+
+/// So many arrive, and then all are taken: how many that were, and whether they came in order.
+fn pass_many(queue: &mut InputQueue, count: u64, apart: bool) -> Result<(u64, bool), Fail>
+    requires { count ≤ 100000 }
+{
+    for place in 0..count {
+        queue.arrive(signed(Sign::Plus, one_of_many(place, apart))?)?;
+    }
+    let mut taken = 0u64;
+    let mut last = None;
+    let mut in_order = true;
+    for _ in 0..count {
+        let next = queue.take_next(1 << 40)?;
+        in_order = in_order && next > last;
+        last = next;
+        taken = taken.saturating_add(u64::from(next.is_some()));
+    }
+    Ok((taken, in_order))
+}
+
+#[test]
+fn a_hundred_thousand_messages_wait(rt: HostRuntime) -> Result<(), Fail> {
+    for apart in [true, false] {
+        let mut queue = InputQueue::new(rt.alloc());
+        assert_eq!(rt; pass_many(&mut queue, 100_000, apart)?, (100_000, true));
+    }
     Ok(())
 }
 

@@ -183,6 +183,17 @@ fn a_token_passes_node_zero_of_three(rt: HostRuntime) -> Result<(), Fail> {
     play(&rt, rt.alloc(), &mut node, &steps)
 }
 
+// Room for what a parcel's handlings tell is asked for by what is there, and not by the budget.
+#[test]
+fn a_great_budget_takes_no_room(rt: HostRuntime) -> Result<(), Fail> {
+    let mut node = load(rt.alloc(), 0, 3, &[(0, 1, &[(1, 0, 0, 0, 0, 0)])])?;
+    let reply = node.handle(parcel(rt.alloc(), &(&[], u32::MAX, 1))?)?;
+    assert_eq!(rt; (reply.ran, reply.fossils.as_slice().len()), (1, 0));
+    let reply = node.handle(parcel(rt.alloc(), &(&[], u32::MAX, 10))?)?;
+    assert_eq!(rt; (reply.ran, reply.fossils.as_slice().len()), (0, 1));
+    Ok(())
+}
+
 #[test]
 fn fossils_come_by_process(rt: HostRuntime) -> Result<(), Fail> {
     let (zero, from_zero) = ((4, 0, 0, 0, 0, 0), (6, 0, 5, 1, 0, 1));

@@ -3,10 +3,6 @@
 #![tactic(auto)]
 
 #[cfg(test)]
-mod disks;
-#[cfg(test)]
-mod fault_names;
-#[cfg(test)]
 mod memory;
 #[cfg(test)]
 mod reading;

@@ -1,6 +1,7 @@
 // Model files.
 
 use models::{AnyModel, JobShop, Phold, TokenRing};
+use std::alloc::{AllocError, Global};
 use std::test::Fail;
 use texts::{Mistake, ModelFault, read_model};
 
@@ -12,6 +13,25 @@ fn a_ring_is_read_in_any_order(rt: HostRuntime) {
         "# a comment\ntokens = 24\nend = 1_099_511_627_776\nmodel = 'ring'\nhold = 0xFFFF_FFFF\nlps = 3\n";
     let ring = TokenRing::new(3, 4294967295, 24);
     assert!(rt; read_model(rt.alloc(), text) == Ok((AnyModel::TokenRing(ring), 1099511627776)));
+}
+
+/// A model file behind a megabyte of comments.
+fn commented(alloc: Global) -> Result<String, AllocError> {
+    let mut text = String::with_capacity(alloc, 1_100_000)?;
+    for _ in 0..16_384u32 {
+        text.push_str("# a line of sixty-four bytes, of which there are very many here\n")?;
+    }
+    text.push_str(RING)?;
+    Ok(text)
+}
+
+#[test]
+fn a_megabyte_of_comments_is_passed_over(rt: HostRuntime) -> Result<(), Fail> {
+    let text = commented(rt.alloc())?;
+    assert!(rt; text.len() > 1 << 20);
+    let ring = TokenRing::new(3, 2, 1);
+    assert!(rt; read_model(rt.alloc(), text.as_str()) == Ok((AnyModel::TokenRing(ring), 10)));
+    Ok(())
 }
 
 #[test]

@@ -13,16 +13,23 @@ use node::NodeFault;
 use process::ProcessFault;
 use program::{Fault, tell};
 use recovery::RecoveryFault;
-use std::alloc::Global;
 use std::fmt::Display;
+use std::process::Abort;
 use std::test::Fail;
 use texts::{Mistake, ModelFault};
 use wire::{PortFault, WireFault};
 
-/// Whether this is the fault's text.
-fn is_named<F: Display + Drop>(alloc: Global, fault: F, text: &str) -> Result<bool, Fail> {
-    let name = fault.to_string(alloc)?;
-    Ok(name.as_str() == text)
+/// Looks whether each fault is told by the text beside it.
+fn look_at_names<F, R>(rt: &R, names: &[(F, &str)]) -> Result<(), Fail>
+where
+    F: Display,
+    R: Abort + AllocGlobal,
+{
+    for (fault, text) in names {
+        let name = fault.to_string(rt.alloc())?;
+        assert!(rt; name.as_str() == *text, "{text}");
+    }
+    Ok(())
 }
 
 /// Looks at the name of a fault of each variant. The match has no other arm, so that a variant
@@ -30,16 +37,17 @@ fn is_named<F: Display + Drop>(alloc: Global, fault: F, text: &str) -> Result<bo
 macro_rules! check_names {
     ($rt:expr; $kind:ident {
         $($name:ident $(($($carried:tt)*))? $({ $($field:tt)* })? => $text:literal,)*
-    }) => {
-        for (fault, text) in [
+    }) => {{
+        let names = [
             $(($kind::$name $(($($carried)*))? $({ $($field)* })?, $text)),*
-        ] {
+        ];
+        if let Some((fault, _)) = names.first() {
             match fault {
                 $($kind::$name { .. } => {})*
             }
-            assert!($rt; is_named($rt.alloc(), fault, text)?, "{text}");
         }
-    };
+        look_at_names(&$rt, &names)?;
+    }};
 }
 
 #[test]

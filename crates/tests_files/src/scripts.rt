@@ -1,0 +1,296 @@
+// The scripts.
+
+use crate::acting::{Act, Script, play};
+use std::test::Fail;
+
+const RING: &str = "model = \"ring\"\nlps = 3\nend = 10\nhold = 2\ntokens = 1\n";
+
+/// The ring where each process holds a token for a tick more.
+const OTHER_RING: &str = "model = \"ring\"\nlps = 3\nend = 10\nhold = 3\ntokens = 1\n";
+
+const PHOLD: &str = "\
+model = \"phold\"
+lps = 16
+end = 200
+population = 2
+spread = 20
+seed = 7
+";
+
+const FORMATTED_64: &str = "formatted 64 sectors\n";
+
+/// A whole run of the ring by three nodes, and one that finds the end already reached.
+const RAN: &str = "node 0 ran 2\nnode 1 ran 2\nnode 2 ran 1\ncommitted 10 events 5\n";
+
+const RAN_NOTHING: &str = "node 0 ran 0\nnode 1 ran 0\nnode 2 ran 0\ncommitted 10 events 5\n";
+
+/// What the ring has committed after two rounds of three nodes.
+const LOG_TO_7: &str = "1 0 0 0 0 0\n3 0 1 1 0 1\n5 1 0 2 0 2\n";
+
+const WORLD_AT_7: &str = "\
+virtual time 7
+lp 0 sent 2 state 1
+lp 1 sent 1 state 1
+lp 2 sent 1 state 1
+pending 7 2 0 0 0 3
+";
+
+/// What PHOLD's run prints with five nodes and a batch of 7.
+const RAN_5_7: &str = "node 0 ran 183\nnode 1 ran 155\nnode 2 ran 163\nnode 3 ran 131\n\
+    node 4 ran 158\ncommitted 200 events 562\n";
+
+const FILE: &str = "timewarp: File\n";
+
+const NO_MODEL: &str = "timewarp: BadModel\n";
+
+const NOT_BLANK: &str = "timewarp: Log NotBlank\n";
+
+const OF_ANOTHER_MODEL: &str = "timewarp: Session Recovery OtherModel\n";
+
+const OUT_OF_ROUNDS: &str = "timewarp: Rounds\n";
+
+/// A whole run ends as the plain one; then there is nothing left to run, and nothing is written.
+const WHOLE: Script = Script {
+    name: "whole",
+    model: RING,
+    other: OTHER_RING,
+    acts: &[
+        Act::Prints("new MODEL DISK --sectors 64", FORMATTED_64),
+        Act::Prints("log MODEL DISK", ""),
+        Act::Prints(
+            "show MODEL DISK",
+            "virtual time 0\nlp 0 sent 1 state 0\nlp 1 sent 0 state 0\nlp 2 sent 0 state 0\n\
+             pending 1 0 0 0 0 0\n",
+        ),
+        Act::Prints("run MODEL DISK --nodes 3", RAN),
+        Act::EndsAsSeq("MODEL"),
+        Act::Prints(
+            "seq MODEL",
+            "1 0 0 0 0 0\n3 0 1 1 0 1\n5 1 0 2 0 2\n7 2 0 0 0 3\n9 0 2 1 0 4\n\
+             virtual time 10\nlp 0 sent 3 state 2\nlp 1 sent 2 state 2\nlp 2 sent 1 state 1\n\
+             pending 11 1 1 2 0 5\n",
+        ),
+        Act::Stays,
+        Act::Prints("run MODEL DISK --nodes 3", RAN_NOTHING),
+        Act::Stays,
+        Act::Removes,
+        // Room is asked for by what is there, and not by the batch.
+        Act::Prints("new MODEL DISK --sectors 64", FORMATTED_64),
+        Act::Prints("run MODEL DISK --nodes 3 --batch 4294967295", RAN),
+        Act::EndsAsSeq("MODEL"),
+        Act::Stays,
+    ],
+};
+
+/// A log is kept, of this model and of another, on a disk of this size and of another; and it is no
+/// other model's.
+const REFUSED: Script = Script {
+    name: "refused",
+    model: RING,
+    other: OTHER_RING,
+    acts: &[
+        Act::Prints("new MODEL DISK --sectors 64", FORMATTED_64),
+        Act::Stays,
+        Act::Fails("new MODEL DISK --sectors 64", NOT_BLANK),
+        Act::Stays,
+        Act::Fails("run OTHER DISK --nodes 3", OF_ANOTHER_MODEL),
+        Act::Stays,
+    ],
+};
+
+const KEPT: Script = Script {
+    name: "kept",
+    model: RING,
+    other: OTHER_RING,
+    acts: &[
+        Act::Prints("new MODEL DISK --sectors 64", FORMATTED_64),
+        Act::Prints("run MODEL DISK --nodes 3", RAN),
+        Act::Stays,
+        Act::Fails("new MODEL DISK --sectors 64", NOT_BLANK),
+        Act::Fails("new OTHER DISK --sectors 64", NOT_BLANK),
+        Act::Fails("new MODEL DISK --sectors 65", FILE),
+        Act::Fails("new MODEL DISK", FILE),
+        Act::Fails("run OTHER DISK --nodes 3", OF_ANOTHER_MODEL),
+        Act::Fails("log OTHER DISK", "timewarp: Recovery OtherModel\n"),
+        Act::Fails("show OTHER DISK", "timewarp: Recovery OtherModel\n"),
+        Act::Stays,
+        Act::EndsAsSeq("MODEL"),
+    ],
+};
+
+/// What is committed stays where the disk is full; one sector more is enough.
+const FULL: Script = Script {
+    name: "full",
+    model: RING,
+    other: OTHER_RING,
+    acts: &[
+        Act::Prints("new MODEL DISK --sectors 8", "formatted 8 sectors\n"),
+        Act::Fails("run MODEL DISK --nodes 3", "timewarp: Session Full\n"),
+        Act::Prints("log MODEL DISK", LOG_TO_7),
+        Act::Prints("show MODEL DISK", WORLD_AT_7),
+        Act::Fails("run MODEL DISK --nodes 3", "timewarp: Session Full\n"),
+        Act::Prints("log MODEL DISK", LOG_TO_7),
+        Act::Prints("show MODEL DISK", WORLD_AT_7),
+        Act::Removes,
+        Act::Prints("new MODEL DISK --sectors 9", "formatted 9 sectors\n"),
+        Act::Prints("run MODEL DISK --nodes 3", RAN),
+        Act::EndsAsSeq("MODEL"),
+    ],
+};
+
+/// A run ends by its rounds, and three are enough. With five nodes and a batch of 7, PHOLD takes 28.
+const ROUNDS: Script = Script {
+    name: "rounds",
+    model: RING,
+    other: PHOLD,
+    acts: &[
+        Act::Prints("new MODEL DISK --sectors 64", FORMATTED_64),
+        Act::Fails("run MODEL DISK --nodes 3 --rounds 2", OUT_OF_ROUNDS),
+        Act::Prints("log MODEL DISK", LOG_TO_7),
+        Act::Prints("show MODEL DISK", WORLD_AT_7),
+        Act::Removes,
+        Act::Prints("new MODEL DISK --sectors 64", FORMATTED_64),
+        Act::Prints("run MODEL DISK --nodes 3 --rounds 3", RAN),
+        Act::EndsAsSeq("MODEL"),
+        Act::Removes,
+        Act::Prints("new OTHER DISK --sectors 256", "formatted 256 sectors\n"),
+        Act::Fails(
+            "run OTHER DISK --nodes 5 --batch 7 --rounds 27",
+            OUT_OF_ROUNDS,
+        ),
+        Act::Removes,
+        Act::Prints("new OTHER DISK --sectors 256", "formatted 256 sectors\n"),
+        Act::Prints("run OTHER DISK --nodes 5 --batch 7 --rounds 28", RAN_5_7),
+    ],
+};
+
+/// The numbers of handlings are those of the same plan written by hand in another language.
+const PLANS: Script = Script {
+    name: "plans",
+    model: PHOLD,
+    other: RING,
+    acts: &[
+        Act::Prints("new MODEL DISK", "formatted 4096 sectors\n"),
+        Act::Prints(
+            "run MODEL DISK --nodes 1 --batch 1",
+            "node 0 ran 562\ncommitted 200 events 562\n",
+        ),
+        Act::EndsAsSeq("MODEL"),
+        Act::Removes,
+        Act::Prints("new MODEL DISK", "formatted 4096 sectors\n"),
+        Act::Prints(
+            "run MODEL DISK --nodes 1 --batch 7",
+            "node 0 ran 568\ncommitted 200 events 562\n",
+        ),
+        Act::EndsAsSeq("MODEL"),
+        Act::Removes,
+        Act::Prints("new MODEL DISK", "formatted 4096 sectors\n"),
+        Act::Prints(
+            "run MODEL DISK --nodes 2 --batch 1",
+            "node 0 ran 296\nnode 1 ran 304\ncommitted 200 events 562\n",
+        ),
+        Act::EndsAsSeq("MODEL"),
+        Act::Removes,
+        Act::Prints("new MODEL DISK", "formatted 4096 sectors\n"),
+        Act::Prints(
+            "run MODEL DISK --nodes 2 --batch 7",
+            "node 0 ran 304\nnode 1 ran 307\ncommitted 200 events 562\n",
+        ),
+        Act::EndsAsSeq("MODEL"),
+    ],
+};
+
+const MORE_PLANS: Script = Script {
+    name: "more-plans",
+    model: PHOLD,
+    other: RING,
+    acts: &[
+        Act::Prints("new MODEL DISK", "formatted 4096 sectors\n"),
+        Act::Prints(
+            "run MODEL DISK --nodes 5 --batch 1",
+            "node 0 ran 164\nnode 1 ran 146\nnode 2 ran 148\nnode 3 ran 125\nnode 4 ran 142\n\
+             committed 200 events 562\n",
+        ),
+        Act::EndsAsSeq("MODEL"),
+        Act::Removes,
+        Act::Prints("new MODEL DISK", "formatted 4096 sectors\n"),
+        Act::Prints("run MODEL DISK --nodes 5 --batch 7", RAN_5_7),
+        Act::EndsAsSeq("MODEL"),
+    ],
+};
+
+const MISSING: Script = Script {
+    name: "missing",
+    model: RING,
+    other: OTHER_RING,
+    acts: &[
+        Act::Fails("run MODEL DISK", FILE),
+        Act::HasNone,
+        Act::Fails("log MODEL DISK", FILE),
+        Act::HasNone,
+        Act::Fails("show MODEL DISK", FILE),
+        Act::HasNone,
+    ],
+};
+
+/// A disk is no model file, and a model file is no disk.
+const SWAPPED: Script = Script {
+    name: "swapped",
+    model: RING,
+    other: OTHER_RING,
+    acts: &[
+        Act::Prints("new MODEL DISK --sectors 64", FORMATTED_64),
+        Act::Prints("run MODEL DISK --nodes 3", RAN),
+        Act::Stays,
+        Act::Fails("new DISK MODEL", NO_MODEL),
+        Act::Fails("run DISK MODEL", NO_MODEL),
+        Act::Fails("log DISK MODEL", NO_MODEL),
+        Act::Fails("show DISK MODEL", NO_MODEL),
+        Act::Fails("new MODEL MODEL", FILE),
+        Act::Fails("run MODEL MODEL", FILE),
+        Act::Fails("log MODEL MODEL", FILE),
+        Act::Fails("show MODEL MODEL", FILE),
+        Act::Fails("new MODEL OTHER", FILE),
+        Act::Fails("run MODEL OTHER", FILE),
+        Act::Fails("log MODEL OTHER", FILE),
+        Act::Fails("show MODEL OTHER", FILE),
+        Act::Stays,
+    ],
+};
+
+#[test]
+fn a_run_on_a_disk_ends_as_seq(rt: HostRuntime) -> Result<(), Fail> {
+    play(&rt, &WHOLE)
+}
+
+#[test]
+fn what_is_refused_leaves_the_disk(rt: HostRuntime) -> Result<(), Fail> {
+    play(&rt, &REFUSED)?;
+    play(&rt, &KEPT)
+}
+
+#[test]
+fn a_full_disk_keeps_what_is_committed(rt: HostRuntime) -> Result<(), Fail> {
+    play(&rt, &FULL)
+}
+
+#[test]
+fn a_run_ends_by_its_rounds(rt: HostRuntime) -> Result<(), Fail> {
+    play(&rt, &ROUNDS)
+}
+
+#[test]
+fn every_plan_comes_to_the_plain_end(rt: HostRuntime) -> Result<(), Fail> {
+    play(&rt, &PLANS)?;
+    play(&rt, &MORE_PLANS)
+}
+
+#[test]
+fn a_missing_disk_stays_missing(rt: HostRuntime) -> Result<(), Fail> {
+    play(&rt, &MISSING)
+}
+
+#[test]
+fn swapped_files_are_refused_and_left(rt: HostRuntime) -> Result<(), Fail> {
+    play(&rt, &SWAPPED)
+}

@@ -1,0 +1,8 @@
+//! Tests of sessions over nodes behind bytes, through public functions. They stand in a crate of
+//! their own, since a crate with tests is proved twice.
+#![tactic(auto)]
+
+#[cfg(test)]
+mod beside;
+#[cfg(test)]
+mod steps;

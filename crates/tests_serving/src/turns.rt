@@ -1,0 +1,115 @@
+// A peer that gives the next parcel only when it has taken the reply to the one before, as a session
+// does: a loop that kept its replies, or read ahead, would wait for it for ever.
+
+ghost use Rattle.std.specs.Prelude.{◌≤◌, IfOk, length};
+
+use crate::frames_of_ring::{RUN_0, RUN_1, RUN_2, Run};
+use crate::streams::{MANY, serve_ring};
+use std::alloc::Global;
+use std::cell::Cell;
+use std::io::{self, Error, ErrorKind, Read, Write};
+use wire::WireFault;
+
+/// Who gives the bytes of a piece of the talk.
+#[derive(Clone, Copy, PartialEq)]
+enum Side {
+    Session,
+    Node,
+}
+
+/// A run of a node, as it goes over its stream.
+fn talk_of(run: &Run) -> [(Side, &'static [u8]); 7] {
+    let [load, first, second, third] = run.frames;
+    let [to_first, to_second, to_third] = run.replies;
+    [
+        (Side::Session, load),
+        (Side::Session, first),
+        (Side::Node, to_first),
+        (Side::Session, second),
+        (Side::Node, to_second),
+        (Side::Session, third),
+        (Side::Node, to_third),
+    ]
+}
+
+/// One peer behind a reader and a writer. It gives and takes the pieces of its talk in their order.
+#[derive(Drop)]
+struct Peer<'a> {
+    talk: &'a [(Side, &'static [u8])],
+    piece: Cell<usize>,
+    done: Cell<usize>,
+}
+
+impl<'a> Peer<'a> {
+    /// At most so many of the bytes that come next, where it is this side's turn; none at the end.
+    fn next(&self, side: Side, most: usize) -> io::Result<&'static [u8]>
+        ensures { IfOk result (λ bytes. length bytes.now ≤ most) }
+    {
+        let Some((turn, bytes)) = self.talk.get(self.piece.get()) else {
+            return Ok(&[]);
+        };
+        if *turn != side {
+            return Err(Error::from(ErrorKind::WouldBlock));
+        }
+        let rest = bytes.get(self.done.get()..).unwrap_or(&[]);
+        let next = rest.split_at(rest.len().min(most)).0;
+        if next.len() == rest.len() {
+            self.piece.set(self.piece.get().saturating_add(1));
+            self.done.set(0);
+        } else {
+            self.done.set(self.done.get().saturating_add(next.len()));
+        }
+        Ok(next)
+    }
+}
+
+/// What the node reads.
+#[derive(Drop)]
+struct Incoming<'p, 'a>(&'p Peer<'a>);
+
+impl<'p, 'a> Read for Incoming<'p, 'a> {
+    fn read(&mut self, buf: &mut [u8]) -> io::Result<usize> {
+        let bytes = self.0.next(Side::Session, buf.len().min(7))?;
+        buf[..bytes.len()].copy_from_slice(bytes);
+        Ok(bytes.len())
+    }
+}
+
+/// What the node writes.
+#[derive(Drop)]
+struct Outgoing<'p, 'a>(&'p Peer<'a>);
+
+impl<'p, 'a> Write for Outgoing<'p, 'a> {
+    fn write(&mut self, buf: &[u8]) -> io::Result<usize> {
+        let bytes = self.0.next(Side::Node, buf.len().min(10))?;
+        if &buf[..bytes.len()] != bytes {
+            return Err(Error::from(ErrorKind::InvalidData));
+        }
+        Ok(bytes.len())
+    }
+
+    fn flush(&mut self) -> io::Result<()> {
+        Ok(())
+    }
+}
+
+/// Serves a node to its peer. Answers what was answered, and whether the talk came to its end.
+fn serve_peer(alloc: Global, talk: &[(Side, &'static [u8])]) -> (Result<u64, WireFault>, bool) {
+    let peer = Peer {
+        talk,
+        piece: Cell::new(0),
+        done: Cell::new(0),
+    };
+    let mut reader = Incoming(&peer);
+    let mut writer = Outgoing(&peer);
+    let answer = serve_ring(alloc, &mut reader, &mut writer, MANY);
+    (answer, peer.piece.get() == talk.len())
+}
+
+#[test]
+fn each_reply_is_written_before_the_next_parcel_is_read(rt: HostRuntime) {
+    for run in [&RUN_0, &RUN_1, &RUN_2] {
+        let talk = talk_of(run);
+        assert_eq!(rt; serve_peer(rt.alloc(), &talk), (Ok(3), true));
+    }
+}
