@@ -6,11 +6,9 @@ use Rattle.std.proofs.lemmas.List.{length-map}
 use Rattle.model.specs.Meaning.{IsSend, IsWords}
 use Rattle.model.specs.World.{below}
 use Rattle.model.specs.declared.Outgoing.{Outgoing}
-
 -- of every item of a list: where one is read, with a default; of what a function makes of each; by a weaker fact; by places
 pub use Rattle.eventkey.proofs.Lists.{Every-append, Every-get_or, Every-get_or-default, Every-map, Every-set, Every-weaker}
 pub use Rattle.eventkey.proofs.Times.{Every-from_get_or}
-
 -- of 0, 1, .. below a number
 pub use Rattle.model.proofs.Worlds.{Every-below, length-below}
 
