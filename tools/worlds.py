@@ -1,0 +1,146 @@
+"""For the scripts that try the built program: where it stands, how it is started, and what the
+sequential simulation says of a disk.
+
+The world at a time is what `seq` prints for the model whose end is that time, and a log is the lines
+of `seq` whose time is below it. So a disk is judged by the plain runner alone."""
+import concurrent.futures
+import os
+import re
+import subprocess
+import threading
+
+HERE = os.path.dirname(os.path.realpath(__file__))
+ROOT = os.path.dirname(HERE)
+
+
+class Wrong(Exception):
+    """The program did what it must not do."""
+
+
+def program_path():
+    """The built program. The launcher builds it, unless TIMEWARP names another one."""
+    given = os.environ.get("TIMEWARP")
+    if given:
+        return os.path.realpath(given)
+    subprocess.run([f"{ROOT}/timewarp", "seq", f"{ROOT}/examples/ring.toml"], stdout=subprocess.DEVNULL, check=True)
+    return f"{ROOT}/crates/timewarp/out/timewarp"
+
+
+def start(program, *words, timeout=120, env=None):
+    """Status, output and errors of one call of the program."""
+    try:
+        done = subprocess.run([program, *map(str, words)], capture_output=True, timeout=timeout, env=env,
+                              stdin=subprocess.DEVNULL)
+    except subprocess.TimeoutExpired:
+        raise Wrong(f"it hangs: {' '.join(map(str, words))}")
+    return done.returncode, done.stdout, done.stderr
+
+
+class Lanes:
+    """Calls functions side by side; what one of them raises ends the script."""
+
+    def __init__(self, workers):
+        self.pool = concurrent.futures.ThreadPoolExecutor(workers)
+        self.calls = []
+
+    def submit(self, *call):
+        self.calls.append(self.pool.submit(*call))
+
+    def __enter__(self):
+        return self
+
+    def __exit__(self, kind, value, trace):
+        self.pool.shutdown(cancel_futures=kind is not None)
+        if kind is None:
+            for call in self.calls:
+                call.result()
+
+
+class Judge:
+    """Judges disks of one model by what `seq` prints."""
+
+    def __init__(self, program, text, folder, name="model"):
+        self.program = program
+        self.text = text
+        self.folder = folder
+        self.name = name
+        self.path = f"{folder}/{name}.toml"
+        with open(self.path, "w") as file:
+            file.write(text)
+        self.end = int(re.search(r"(?m)^end\s*=\s*(\d+)", text).group(1))
+        self.whole = self.seq(self.path)
+        self.lines = self.split(self.whole)[0]
+        self.worlds = {}
+        self.lock = threading.Lock()
+
+    def seq(self, path):
+        status, out, err = start(self.program, "seq", path)
+        if status or err:
+            raise SystemExit(f"seq has failed: {err.decode()}")
+        return out
+
+    @staticmethod
+    def split(text):
+        """The lines of the log, and the text of the world."""
+        at = text.index(b"virtual time ")
+        return text[:at].splitlines(True), text[at:]
+
+    def world_at(self, time):
+        with self.lock:
+            if time not in self.worlds:
+                self.worlds[time] = self.world_up_to(time)
+            return self.worlds[time]
+
+    def world_up_to(self, time):
+        path = f"{self.folder}/{self.name}-to-{time}.toml"
+        with open(path, "w") as file:
+            file.write(re.sub(r"(?m)^end\s*=\s*\d+", f"end = {max(time, 1)}", self.text))
+        log, world = self.split(self.seq(path))
+        os.remove(path)
+        if time == 0:
+            if log:
+                raise SystemExit("the model has events at time 0, of which this script can't judge")
+            world = world.replace(b"virtual time 1\n", b"virtual time 0\n", 1)
+        return world
+
+    def log_below(self, time):
+        return [line for line in self.lines if int(line.split(b" ", 1)[0]) < time]
+
+    def judge(self, log, show):
+        """The time and the number of events of what `log` and `show` tell, or the fault by which both
+        refuse. Anything but the sequential simulation up to that time is wrong."""
+        if log[0] == 1 and show[0] == 1:
+            for _, out, err in (log, show):
+                if out or not re.fullmatch(rb"timewarp: [A-Za-z ]+\n", err):
+                    raise Wrong(f"it refuses with {out!r} and {err!r}")
+            if log[2] != show[2]:
+                raise Wrong(f"log tells {log[2]!r} and show {show[2]!r}")
+            return None, show[2].decode()[len("timewarp: "):-1]
+        if log[0] or show[0] or log[2] or show[2]:
+            raise Wrong(f"log: {log[0]} {log[2]!r}, show: {show[0]} {show[2]!r}")
+        first = re.match(rb"virtual time (\d+)\n", show[1])
+        if not first:
+            raise Wrong(f"show begins with {show[1][:40]!r}")
+        time = int(first.group(1))
+        if time > self.end:
+            raise Wrong(f"the world of {time} is past the end")
+        if show[1] != self.world_at(time):
+            raise Wrong(f"the world of {time} is another one")
+        want = self.log_below(time)
+        if log[1] != b"".join(want):
+            raise Wrong(f"the log up to {time} is another one")
+        return time, len(want)
+
+    def look(self, disk):
+        """What `judge` says of a disk's file."""
+        return self.judge(start(self.program, "log", self.path, disk), start(self.program, "show", self.path, disk))
+
+    def run_to_end(self, disk, *options):
+        """Runs a disk to its end, and sees that it is the end of `seq`."""
+        status, out, err = start(self.program, "run", self.path, disk, *options)
+        if status or err:
+            raise Wrong(f"run {' '.join(map(str, options))} tells {err!r} with status {status}")
+        log, show = start(self.program, "log", self.path, disk), start(self.program, "show", self.path, disk)
+        if log[1] + show[1] != self.whole:
+            raise Wrong(f"run {' '.join(map(str, options))} ends otherwise than seq")
+        return out
