@@ -4,7 +4,7 @@ ghost use Rattle.std.specs.Prelude.{◌≡◌, ℕ, IsTrue, ◌<◌, ◌≤◌, 
 ghost use Rattle.std.specs.Prelude.{IfSome, IsNone, slice_index, map, take, drop};
 ghost use Rattle.circuit.specs.Circuit.{IsGate, IsNetlist, IsWire, along, changed, gate_at, gate_in};
 ghost use Rattle.circuit.specs.Circuit.{circuit_meaning, netlist_of, output_of, pin_after};
-ghost use Rattle.circuit.specs.Circuit.{wire_at, wires_of};
+ghost use Rattle.circuit.specs.Circuit.{is_gate, is_wire, wire_at, wires_of};
 ghost use Rattle.circuit.specs.CircuitLaws.{circuit_lawful};
 
 use crate::parts::{Gate, Wire};
@@ -121,8 +121,9 @@ impl Circuit {
 }
 
 /// Whether a gate has a delay, and its wires lie in a list of so many.
-fn is_gate(gate: Gate, wires: usize) -> bool
-    ensures { IsTrue result ↔ IsGate wires gate }
+pub(crate) fn is_gate(gate: Gate, wires: usize) -> bool
+    ensures holds { IsTrue result ↔ IsGate wires gate }
+    ensures test { result ≡ is_gate wires gate }
 {
     gate.delay >= 1 && gate.count <= 8 && gate.first as usize + gate.count as usize <= wires
 }
@@ -141,8 +142,9 @@ fn are_gates(gates: &[Gate], wires: usize) -> bool
 }
 
 /// Whether a wire leads to a gate, of which there are so many.
-fn is_wire(wire: Wire, gates: usize) -> bool
-    ensures { IsTrue result ↔ IsWire gates wire }
+pub(crate) fn is_wire(wire: Wire, gates: usize) -> bool
+    ensures holds { IsTrue result ↔ IsWire gates wire }
+    ensures test { result ≡ is_wire gates wire }
 {
     (wire.to as usize) < gates
 }

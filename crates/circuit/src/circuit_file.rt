@@ -1,17 +1,21 @@
 // Circuits as model files describe them.
 
-ghost use Rattle.std.specs.Prelude.{◌≡◌, codes, map, option_and_then, option_map, string_bytes, IfOk};
+ghost use Rattle.std.specs.Prelude.{◌≡◌, ◌≢◌, ◌++◌, ◌≤◌, ◌^◌, ℕ, [], codes, length, map, IfOk, OnOk};
+ghost use Rattle.std.specs.Prelude.{Err, option_and_then, option_map, string_bytes};
 ghost use Rattle.std.specs.List.{list_all};
 ghost use Rattle.circuit.specs.CircuitFile.{all_of, circuit_text, gate_of, is_name, is_printable};
 ghost use Rattle.circuit.specs.CircuitFile.{list_at, name_in, name_of, wire_of};
-ghost use Rattle.circuit.specs.CircuitFile.{IsCircuitTable};
+ghost use Rattle.circuit.specs.CircuitFile.{IsCircuitTable, circuit_wrong, fits_gate, fits_wire};
+ghost use Rattle.circuit.specs.Circuit.{is_gate, is_wire};
+ghost use Rattle.circuit.specs.CircuitFile.{gates_wrong, items_at, items_wrong};
+ghost use Rattle.circuit.specs.CircuitFile.{netlist_wrong, parts_wrong, unfit, wires_wrong};
 ghost use Rattle.toml.specs.Data.{as_array, as_table, get_member};
 ghost use Rattle.toml.specs.View.{array_view, items_view, table_view, view};
 
-use crate::circuit::Circuit;
+use crate::circuit::{Circuit, is_gate, is_wire};
 use crate::parts::{Gate, Wire};
 use std::alloc::{AllocError, Global};
-use texts::{Described, Mistake, ModelFault, number_at, only};
+use texts::{Described, Findings, Found, Mistake, ModelFault, found_in, number_at, only};
 use toml::{Table, Value};
 
 /// What the help of a program says of the keys of a circuit's model file.
@@ -28,32 +32,17 @@ impl Described for Circuit {
 
     ghost shows = { circuit_text };
 
+    ghost wrong = { circuit_wrong };
+
     fn describe(alloc: Global, table: &Table) -> Result<(Circuit, u64), ModelFault> {
-        let end = match number_at(table, "end", 1, 1 << 40) {
-            Ok(end) => end,
-            Err(mistake) => return Err(ModelFault::BadModel(mistake)),
-        };
-        let gates = match gates_at(alloc, table) {
-            Ok(Some(gates)) => gates,
-            Ok(None) => return Err(ModelFault::BadModel(NO_GATES)),
-            Err(_) => return Err(ModelFault::NoMemory),
-        };
-        let wires = match wires_at(alloc, table) {
-            Ok(Some(wires)) => wires,
-            Ok(None) => return Err(ModelFault::BadModel(NO_WIRES)),
-            Err(_) => return Err(ModelFault::NoMemory),
-        };
-        let names = match names_at(alloc, table) {
-            Ok(Some(names)) => names,
-            Ok(None) => return Err(ModelFault::BadModel(NO_NAMES)),
-            Err(_) => return Err(ModelFault::NoMemory),
-        };
-        if let Err(mistake) = only(table, 3) {
-            return Err(ModelFault::BadModel(mistake));
-        }
-        match Circuit::new(gates, wires, names) {
-            Some(circuit) => Ok((circuit, end)),
-            None => Err(ModelFault::BadModel(NO_CIRCUIT)),
+        circuit_of(alloc, table)
+    }
+
+    fn mistakes(alloc: Global, table: &Table) -> Result<Findings, AllocError> {
+        match circuit_of(alloc, table) {
+            Ok(_file) => Ok(Findings::new(alloc)),
+            Err(ModelFault::BadModel(_mistake)) => mistakes_of(alloc, table),
+            Err(ModelFault::NoMemory) => Err(AllocError),
         }
     }
 
@@ -63,6 +52,47 @@ impl Described for Circuit {
         format!(in alloc; "end: {end}\ngates: {gates}\nwires: {wires}\n")
     }
 }
+
+/// The circuit and the end of a table.
+fn circuit_of(alloc: Global, table: &Table) -> Result<(Circuit, u64), ModelFault>
+    ensures ok { IfOk result (λ file. IsCircuitTable (table_view table.now) file.0 file.1) }
+    ensures bad { (mistake : Mistake) → result ≡ Err (ModelFault.BadModel mistake) →
+        (model : Circuit) (end : ℕ) → ¬ IsCircuitTable (table_view table.now) model end }
+    ensures wrong { (mistake : Mistake) → result ≡ Err (ModelFault.BadModel mistake) →
+        circuit_wrong (table_view table.now) ≢ [] }
+    ensures some { IfOk result (λ file. 1 ≤ file.1) }
+    ensures end { IfOk result (λ file. file.1 ≤ 2 ^ 40) }
+{
+    let end = match number_at(table, "end", 1, 1 << 40) {
+        Ok(end) => end,
+        Err(mistake) => return Err(ModelFault::BadModel(mistake)),
+    };
+    let gates = match gates_at(alloc, table) {
+        Ok(Some(gates)) => gates,
+        Ok(None) => return Err(ModelFault::BadModel(NO_GATES)),
+        Err(_) => return Err(ModelFault::NoMemory),
+    };
+    let wires = match wires_at(alloc, table) {
+        Ok(Some(wires)) => wires,
+        Ok(None) => return Err(ModelFault::BadModel(NO_WIRES)),
+        Err(_) => return Err(ModelFault::NoMemory),
+    };
+    let names = match names_at(alloc, table) {
+        Ok(Some(names)) => names,
+        Ok(None) => return Err(ModelFault::BadModel(NO_NAMES)),
+        Err(_) => return Err(ModelFault::NoMemory),
+    };
+    if let Err(mistake) = only(table, &KEYS) {
+        return Err(ModelFault::BadModel(mistake));
+    }
+    match Circuit::new(gates, wires, names) {
+        Some(circuit) => Ok((circuit, end)),
+        None => Err(ModelFault::BadModel(NO_CIRCUIT)),
+    }
+}
+
+/// The keys of a circuit.
+const KEYS: [&str; 3] = ["end", "gates", "wires"];
 
 const NO_GATES: Mistake = Mistake::Not {
     key: "gates",
@@ -83,6 +113,179 @@ const NO_CIRCUIT: Mistake = Mistake::Not {
     key: "gates",
     wanted: "1 to 1024 gates with delays, each with at most 8 of the wires, which lead to gates",
 };
+
+/// What is wrong with a table.
+fn mistakes_of(alloc: Global, table: &Table) -> Result<Findings, AllocError>
+    ensures { IfOk result (λ found. found ≡ circuit_wrong (table_view table.now)) }
+{
+    let mut found = Findings::new(alloc);
+    found.number_at(alloc, table, "end", 1, 1 << 40)?;
+    look_at_gates(alloc, table, &mut found)?;
+    look_at_wires(alloc, table, &mut found)?;
+    look_at_parts(alloc, table, &mut found)?;
+    found.others(alloc, table, &KEYS)?;
+    Ok(found)
+}
+
+const GATES: &str = "a list of tables with table, delay, first and count";
+
+const GATE: &str = "a table with table, delay, first and count, and perhaps a name without blanks";
+
+const WIRES: &str = "a list of tables with to and pin";
+
+const WIRE: &str = "a table with to and pin";
+
+/// Looks at the list of gates.
+fn look_at_gates(alloc: Global, table: &Table, found: &mut Findings) -> Result<(), AllocError>
+    ensures { OnOk result (found.new ≡ found.old
+        ++ gates_wrong (table_view table.now) (items_at (codes "gates") (table_view table.now))) }
+{
+    match array_at(table, "gates") {
+        Some(items) => look_at_gate_items(alloc, items.as_slice(), found),
+        None => found.words_at(alloc, table, "gates", GATES, false),
+    }
+}
+
+/// Looks at each item of a list of gates.
+fn look_at_gate_items(
+    alloc: Global,
+    items: &[Value],
+    found: &mut Findings,
+) -> Result<(), AllocError>
+    ensures { OnOk result (found.new ≡ found.old ++ items_wrong fits_gate (codes "gates")
+        (codes "a table with table, delay, first and count, and perhaps a name without blanks")
+        0 (items_view items.now)) }
+{
+    'items: for (place, item) in items.iter().enumerate() {
+        found.item_at(alloc, "gates", place, found_in(item), GATE, fits_gate(item))?;
+    }
+    Ok(())
+}
+
+/// Whether an item is the table of a gate, with a name or none.
+fn fits_gate(item: &Value) -> bool
+    ensures { result ≡ fits_gate (view item.now) }
+{
+    gate_in(item).is_some() && name_in(item).is_some()
+}
+
+/// Looks at the list of wires.
+fn look_at_wires(alloc: Global, table: &Table, found: &mut Findings) -> Result<(), AllocError>
+    ensures { OnOk result (found.new ≡ found.old
+        ++ wires_wrong (table_view table.now) (items_at (codes "wires") (table_view table.now))) }
+{
+    match array_at(table, "wires") {
+        Some(items) => look_at_wire_items(alloc, items.as_slice(), found),
+        None => found.words_at(alloc, table, "wires", WIRES, false),
+    }
+}
+
+/// Looks at each item of a list of wires.
+fn look_at_wire_items(
+    alloc: Global,
+    items: &[Value],
+    found: &mut Findings,
+) -> Result<(), AllocError>
+    ensures { OnOk result (found.new ≡ found.old ++ items_wrong fits_wire (codes "wires")
+        (codes "a table with to and pin") 0 (items_view items.now)) }
+{
+    'items: for (place, item) in items.iter().enumerate() {
+        found.item_at(alloc, "wires", place, found_in(item), WIRE, fits_wire(item))?;
+    }
+    Ok(())
+}
+
+/// Whether an item is the table of a wire.
+fn fits_wire(item: &Value) -> bool
+    ensures { result ≡ fits_wire (view item.now) }
+{
+    wire_in(item).is_some()
+}
+
+/// Looks whether the gates and the wires, where all are read, fit each other.
+fn look_at_parts(alloc: Global, table: &Table, found: &mut Findings) -> Result<(), AllocError>
+    ensures { OnOk result (found.new ≡ found.old
+        ++ parts_wrong (list_at gate_of (codes "gates") (table_view table.now))
+        (list_at wire_of (codes "wires") (table_view table.now)) (table_view table.now)) }
+{
+    let gates = gates_at(alloc, table)?;
+    let wires = wires_at(alloc, table)?;
+    match (gates, wires) {
+        (Some(gates), Some(wires)) => {
+            look_at_netlist(alloc, table, gates.as_slice(), wires.as_slice(), found)
+        }
+        _ => Ok(()),
+    }
+}
+
+const COUNT: &str = "1 to 1024 gates";
+
+const FITTING_GATE: &str = "a delay, and at most 8 of the listed wires";
+
+const FITTING_WIRE: &str = "a wire to one of the listed gates";
+
+/// Looks whether gates and wires fit each other.
+fn look_at_netlist(
+    alloc: Global,
+    table: &Table,
+    gates: &[Gate],
+    wires: &[Wire],
+    found: &mut Findings,
+) -> Result<(), AllocError>
+    ensures { OnOk result (found.new
+        ≡ found.old ++ netlist_wrong gates.now wires.now (table_view table.now)) }
+{
+    let some = gates.len() >= 1 && gates.len() <= 1024;
+    found.words_at(alloc, table, "gates", COUNT, some)?;
+    look_at_fitting_gates(alloc, gates, wires.len(), found)?;
+    look_at_fitting_wires(alloc, wires, gates.len(), found)
+}
+
+/// Looks whether gates fit so many wires.
+fn look_at_fitting_gates(
+    alloc: Global,
+    gates: &[Gate],
+    wires: usize,
+    found: &mut Findings,
+) -> Result<(), AllocError>
+    ensures { OnOk result (found.new ≡ found.old ++ unfit (is_gate wires) (codes "gates")
+        (codes "a delay, and at most 8 of the listed wires") 0 gates.now) }
+{
+    'gates: for (place, gate) in gates.iter().enumerate() {
+        found.item_at(
+            alloc,
+            "gates",
+            place,
+            Found::Table,
+            FITTING_GATE,
+            is_gate(*gate, wires),
+        )?;
+    }
+    Ok(())
+}
+
+/// Looks whether wires fit so many gates.
+fn look_at_fitting_wires(
+    alloc: Global,
+    wires: &[Wire],
+    gates: usize,
+    found: &mut Findings,
+) -> Result<(), AllocError>
+    ensures { OnOk result (found.new ≡ found.old ++ unfit (is_wire gates) (codes "wires")
+        (codes "a wire to one of the listed gates") 0 wires.now) }
+{
+    'wires: for (place, wire) in wires.iter().enumerate() {
+        found.item_at(
+            alloc,
+            "wires",
+            place,
+            Found::Table,
+            FITTING_WIRE,
+            is_wire(*wire, gates),
+        )?;
+    }
+    Ok(())
+}
 
 /// The list of gates.
 fn gates_at(alloc: Global, table: &Table) -> Result<Option<Vec<Gate>>, AllocError>

@@ -1,20 +1,31 @@
 -- What the command `wave` prints.
-use Rattle.std.specs.Prelude.{◌≡◌, ◌≤◌, ℕ, List, map, string_bytes}
+use Rattle.std.specs.Prelude.{◌≡◌, ◌≤◌, ◌⊎◌, ℕ, List, map, string_bytes}
 use Rattle.circuit.specs.Circuit.{circuit_meaning, netlist_of}
 use Rattle.circuit.specs.CircuitFile.{IsCircuitTable}
 use Rattle.circuit.specs.Wave.{wave_text}
 use Rattle.circuit.specs.declared.circuit.Circuit.{Circuit}
 use Rattle.model.specs.Meaning.{Meaning}
 use Rattle.model.specs.World.{IsUpto, World}
+use Rattle.commands.specs.Commands.{StandsUpto}
+use Rattle.recovery.specs.Replay.{IsReplayedTo}
+use Rattle.recovery.specs.Stands.{IsGenuine}
 use Rattle.texts.specs.ModelFile.{IsModelFile}
 
 abbrev pub meaning_of : Circuit → Meaning
 meaning_of c = circuit_meaning (netlist_of c.gates.items c.wires.items c.digest)
 
--- the wave of a circuit up to a time, of the log of its sequential simulation up to there
+-- A world that is committed on some disk: the disk's image is replayed to it, and where it is
+-- genuine it stands for it.
+pub record IsOnDisk (m : Meaning) (end : ℕ) (w : World) : Type 0 where
+  pub image : List (List ℕ)
+  pub replayed : IsReplayedTo m end image w
+  pub genuine : IsGenuine m end image → StandsUpto m end image w
+
+-- the wave of a circuit up to a time, of the log of its sequential simulation up to there, or of
+-- what is committed on a disk
 pub record IsWaveOf (c : Circuit) (end : ℕ) (text : List ℕ) : Type 0 where
   pub world : World
-  pub upto : IsUpto (meaning_of c) end world.time world
+  pub from : IsUpto (meaning_of c) end world.time world ⊎ IsOnDisk (meaning_of c) end world
   pub within : world.time ≤ end
   pub is : text ≡ wave_text (netlist_of c.gates.items c.wires.items c.digest)
       (map string_bytes c.names.items) world.time world.log

@@ -7,16 +7,21 @@ use Rattle.commitlog.specs.Faults.{FormatIsRefused, OpenIsRefused}
 use Rattle.commitlog.specs.Records.{IsBlank, IsFormatted}
 use Rattle.commitlog.specs.declared.fault.LogFault.TheVariants as log
 use Rattle.coordinator.specs.Opening.{IsAtFault}
+use Rattle.disk.specs.Disk.{DiskState}
 use Rattle.disk.specs.declared.disk.DiskFault.TheVariants.{Device}
+use Rattle.driver.specs.Driver.{IsRunOf, IsRunOver}
+use Rattle.driver.specs.declared.rounds.Plan.{Plan}
 use Rattle.driver.specs.declared.rounds.RunFault.{RunFault}
 use Rattle.driver.specs.declared.rounds.RunFault.TheVariants as run
 use Rattle.model.specs.Meaning.{Meaning}
 use Rattle.model.specs.World.{IsUpto, World, below}
 use Rattle.recovery.specs.Header.{header_bytes, header_of}
-use Rattle.recovery.specs.Stands.{Stands}
+use Rattle.recovery.specs.Replay.{IsReplayedTo}
+use Rattle.recovery.specs.Stands.{IsGenuine, Stands}
 use Rattle.recovery.specs.declared.RecoveryFault.{RecoveryFault}
 use Rattle.recovery.specs.declared.RecoveryFault.TheVariants as recovery
 use Rattle.eventkey.specs.Writing.{TakesBeginning}
+use Rattle.wire.specs.Port.{PortState}
 
 -- 1. Texts
 
@@ -36,13 +41,18 @@ ran_text ran time events =
 
 -- 2. What is printed
 
--- the writer has taken this text of the world for which the image stands: the sequential simulation
--- up to its time
+-- the image stands for this world, the sequential simulation up to its time
+pub record StandsUpto (m : Meaning) (end : ℕ) (image : List (List ℕ)) (w : World) : Type 0 where
+  pub stands : Stands m end image w
+  pub upto : IsUpto m end w.time w
+
+-- The writer has taken this text of the world to which the image is replayed. Where the image is
+-- genuine it stands for that world.
 pub record PrintsCommitted (m : Meaning) (end : ℕ) (image : List (List ℕ)) (text : World → List ℕ)
     (old new : Option (List ℕ)) : Type 0 where
   pub world : World
-  pub stands : Stands m end image world
-  pub upto : IsUpto m end world.time world
+  pub replayed : IsReplayedTo m end image world
+  pub genuine : IsGenuine m end image → StandsUpto m end image world
   pub within : world.time ≤ end
   pub printed : Appends old new (text world)
 
@@ -50,27 +60,35 @@ pub record PrintsCommitted (m : Meaning) (end : ℕ) (image : List (List ℕ)) (
 pub record BeginsCommitted (m : Meaning) (end : ℕ) (image : List (List ℕ)) (text : World → List ℕ)
     (old new : Option (List ℕ)) : Type 0 where
   pub world : World
-  pub stands : Stands m end image world
-  pub upto : IsUpto m end world.time world
+  pub replayed : IsReplayedTo m end image world
+  pub genuine : IsGenuine m end image → StandsUpto m end image world
   pub within : world.time ≤ end
   pub part : TakesBeginning old new (text world)
 
--- it has taken what so many nodes handled, and how many events the sequential simulation up to the
--- end has
-pub record PrintsRan (m : Meaning) (end nodes : ℕ) (old new : Option (List ℕ)) : Type 0 where
+-- This has been taken of what a run from this image tells: what so many nodes handled, the time that
+-- was reached, and how many events are committed. Where the image is genuine they are those of the
+-- sequential simulation up to the end.
+pub record TellsRun (m : Meaning) (end nodes : ℕ) (image : List (List ℕ))
+    (Taken : List ℕ → Type 0) : Type 0 where
   pub ran : List ℕ
-  pub world : World
+  pub time : ℕ
+  pub events : ℕ
   pub each : length ran ≡ nodes
-  pub upto : IsUpto m end end world
-  pub printed : Appends old new (ran_text ran end (length world.log))
+  pub reached : end ≤ time
+  pub genuine : IsGenuine m end image → IsRunOf m end time events
+  pub taken : Taken (ran_text ran time events)
 
--- a beginning of that
-pub record BeginsRan (m : Meaning) (end nodes : ℕ) (old new : Option (List ℕ)) : Type 0 where
+-- This has been taken of what a run tells over whatever ports: what so many nodes were told to have
+-- handled, the time that was reached, not before the end, and how many events were committed.
+pub record TellsRunOver {M P D : Type 0} (meaning : M → Meaning) (state : P → PortState)
+    (disk : D → DiskState) (model : M) (end : ℕ) (plan : Plan) (begun left : D)
+    (Taken : List ℕ → Type 0) : Type 0 where
   pub ran : List ℕ
-  pub world : World
-  pub each : length ran ≡ nodes
-  pub upto : IsUpto m end end world
-  pub part : TakesBeginning old new (ran_text ran end (length world.log))
+  pub time : ℕ
+  pub events : ℕ
+  pub each : length ran ≡ plan.nodes
+  pub over : IsRunOver meaning state disk model end plan begun left time events
+  pub taken : Taken (ran_text ran time events)
 
 -- 3. What is left
 

@@ -8,5 +8,5 @@ mod printing;
 #[cfg(test)]
 mod tests;
 
-pub use commands::{Ended, Simulated, committed, log, new, run, show};
+pub use commands::{Ended, Simulated, committed, log, new, run, run_over, show};
 pub use fault::CommandFault;

@@ -8,7 +8,7 @@ use Rattle.disk.specs.Laws.{followed, weaker}
 use Rattle.model.specs.Meaning.{Meaning}
 use Rattle.protocol.proofs.Runs.{moves_are_sound, moves_made_are_sound, moves_made_join}
 use Rattle.protocol.specs.Moves.{Move, moves_made}
-use Rattle.protocol.specs.Moves.Move.{Commit as CommitMove}
+use Rattle.protocol.specs.Moves.Move.{Checkpoint as CheckpointMove, Commit as CommitMove}
 use Rattle.protocol.specs.Sound.{GoesOnFrom}
 use Rattle.protocol.specs.declared.Answer.{Answer}
 use Rattle.protocol.specs.declared.Answer.TheVariants.{AlreadyAt}
@@ -19,7 +19,7 @@ use Rattle.coordinator.proofs.Committing.{stays}
 use Rattle.coordinator.specs.Crashes.{IsWritten, KeepsRecovery, KeepsStanding, Recovers, StaysWritten, SurvivesCrashes}
 use Rattle.coordinator.specs.Drives.{AreSteps, Goes, IsStep, StepsAreMade}
 use Rattle.coordinator.specs.Session.{HasSameNodes, IsTold, Running, Session, picture_of, running}
-use Rattle.coordinator.specs.Steps.{HasCause, IsLogged, IsMade, IsStepped, leaves_all, move_of, next_time}
+use Rattle.coordinator.specs.Steps.{Appends, HasCause, IsLogged, IsMade, IsStepped, leaves_all, move_of, next_time}
 use Rattle.coordinator.specs.declared.SessionFault.{SessionFault}
 use Rattle.coordinator.specs.declared.SessionFault.TheVariants.{Disk, Full, Spent}
 use Rattle.coordinator.specs.declared.Step.{Step}
@@ -40,6 +40,12 @@ goes-on k old new (Err fault) made told = tt
 
 pub same_fault : (f g : SessionFault) → ◌≡◌ {A = Result Answer SessionFault} (Err f) (Err g) → f ≡ g
 same_fault f g e = cc
+
+commit_appends : (k : Move) → k ≡ CommitMove → Appends k
+commit_appends k is = subst Appends (sym is) tt
+
+checkpoint_appends : (k : Move) → k ≡ CheckpointMove → Appends k
+checkpoint_appends k is = subst Appends (sym is) tt
 
 module _ {M P D : Type 0} (meaning : M → Meaning) (state : P → PortState) (disk : D → DiskState) where
   -- what holds by a session's model and end holds by those that are the same
@@ -151,11 +157,12 @@ module _ {M P D : Type 0} (meaning : M → Meaning) (state : P → PortState) (d
   }
 
   -- where the log is left, nothing of it is said but that
-  untouched : (k : Move) (old new : Session M P D) (result : Result Answer SessionFault) → (k ≡ CommitMove → ⊥) → new.log ≡ old.log → IfErr result (λ fault. HasCause k (running meaning state old) fault)
+  untouched : (k : Move) (old new : Session M P D) (result : Result Answer SessionFault) → (Appends k → ⊥) → new.log ≡ old.log → IfErr result (λ fault. HasCause k (running meaning state old) fault)
       → IsLogged meaning state disk k old new result
   untouched k old new (Ok answer) other log cause = record {
     stays = λ o. log;
-    appended = λ is less. absurd (other is);
+    appended = λ is less. absurd (other (commit_appends k is));
+    kept = λ is. absurd (other (checkpoint_appends k is));
     full = λ e room. absurd (cc);
     failed = λ e. absurd (cc);
     no_failure = λ less. (let same = ap (λ l. (disk l.disk).failures) log in absurd (omega (arith, less, same)));
@@ -163,7 +170,8 @@ module _ {M P D : Type 0} (meaning : M → Meaning) (state : P → PortState) (d
   }
   untouched k old new (Err fault) other log cause = record {
     stays = λ o. log;
-    appended = λ is less. absurd (other is);
+    appended = λ is less. absurd (other (commit_appends k is));
+    kept = λ is. absurd (other (checkpoint_appends k is));
     full = λ e room. absurd (other (subst (λ (f : SessionFault). HasCause k (running meaning state old) f) (same_fault fault Full e) cause).0);
     failed = λ e. absurd (other (subst (λ (f : SessionFault). HasCause k (running meaning state old) f) (same_fault fault Disk e) cause).0);
     no_failure = λ less. (let same = ap (λ l. (disk l.disk).failures) log in absurd (omega (arith, less, same)));
@@ -175,12 +183,12 @@ module _ {M P D : Type 0} (meaning : M → Meaning) (state : P → PortState) (d
   stays-written old new (Err fault) log front = tt
 
   -- a step that leaves the log and the front
-  pub aside : (step : Step) (old new : Session M P D) (result : Result Answer SessionFault) → old.spent ≡ false → (move_of step ≡ CommitMove → ⊥)
+  pub aside : (step : Step) (old new : Session M P D) (result : Result Answer SessionFault) → old.spent ≡ false → (Appends (move_of step) → ⊥)
       → IsStepped (move_of step) (running meaning state old) (running meaning state new) new.spent result
       → IfErr result (λ fault. leaves_all fault ≡ true → new ≡ old)
       → new.log ≡ old.log → new.front ≡ old.front → (new.model ≡ old.model) × (new.end ≡ old.end) → HasSameNodes old new → IsStep meaning state disk step old new result
   aside step old new result unspent other stepped unchanged log front same nodes =
-      is_step step old new result unspent stepped unchanged (λ is. absurd (other is)) (untouched (move_of step) old new result other log stepped.cause)
+      is_step step old new result unspent stepped unchanged (λ is. absurd (other (commit_appends (move_of step) is))) (untouched (move_of step) old new result other log stepped.cause)
       (stays-written old new result log front)
       (λ told is recovers. rw (log, front) (stays (meaning old.model) old.end old.front.time (disk old.log.disk) recovers))
       same nodes
@@ -196,6 +204,7 @@ module _ {M P D : Type 0} (meaning : M → Meaning) (state : P → PortState) (d
     logged = record {
       stays = λ other. refl;
       appended = λ is less. tt;
+      kept = λ is. tt;
       full = λ e room. absurd (cc);
       failed = λ e. absurd (cc);
       no_failure = λ less. absurd (omega (arith, less));

@@ -93,14 +93,14 @@ module _ {M P D : Type 0} (meaning : M → Meaning) (state : P → PortState) (d
 
   pub sessions_go_on : SessionsGoOn meaning state disk
   sessions_go_on v old first last drives begun is =
-      let all = gone_on v old first drives first last (record {
+      let all = λ (recovers : Recovers (meaning first.model) first.end v.time old). gone_on v old first drives first last (record {
         model_is = refl;
         end_is = refl;
-        usable = λ unspent. (begun.told, begun.written);
-        front = told_front v old first first refl refl begun.told;
+        usable = λ unspent. (begun.told recovers, begun.written recovers);
+        front = told_front v old first first refl refl (begun.told recovers);
         crashes = begun.crashes;
       }) is in
       record {
-        crashes = all.crashes;
-        front = λ w same. (let e : last.front ≡ w = cc in subst (λ (x : World). IsUpto (meaning first.model) first.end x.time x × (x.time ≤ first.end)) e all.front);
+        crashes = λ recovers. (all recovers).crashes recovers;
+        front = λ recovers w same. (let e : last.front ≡ w = cc in subst (λ (x : World). IsUpto (meaning first.model) first.end x.time x × (x.time ≤ first.end)) e (all recovers).front);
       }

@@ -1,6 +1,7 @@
 mod Batches
 mod Sorting
 mod Committing
+mod Keeping
 mod PortStates
 mod Posting
 mod Taking
@@ -9,6 +10,6 @@ mod GoingOn
 mod Refusals
 mod Logging
 mod Loading
-mod Begun
+pub mod Begun
 mod Histories
 pub mod Resuming

@@ -43,35 +43,41 @@ pub made-all : (done : ℕ) (steps : List Step) (old new : Running) → done ≡
 made-all done steps old new is made = subst (λ (ss : List Step). StepsAreMade (map move_of ss) old new) (sym (ap (λ (n : ℕ). take n steps) is ∙ take_all (length steps) steps (omega arith))) made
 
 module _ (m : Meaning) (end nodes : ℕ) (v first : World) (disk mid : DiskState) (replayed : IsReplayedTo m end disk.reads first) (opened_kept : Recovers m end v.time disk → KeepsRecovery m end v.time first.time disk mid)
-    (begun : Running) (model_is : begun.meaning ≡ m) (end_is : begun.end ≡ end) (told : IsTold begun) (picture_is : picture_of begun ≡ opened m.lps nodes first) (moves : List Move) where
-  moved : (made : Running) → StepsAreMade moves begun made → moves_made m end moves (opened m.lps nodes first) ≡ Some (picture_of made)
-  moved made steps =
-      subst (λ (p : Picture). moves_made m end moves p ≡ Some (picture_of made)) picture_is
-      (subst (λ (e : ℕ). moves_made m e moves (picture_of begun) ≡ Some (picture_of made)) end_is
-      (subst (λ (n : Meaning). moves_made n begun.end moves (picture_of begun) ≡ Some (picture_of made)) model_is steps.moves_are))
+    (begun : Running) (model_is : begun.meaning ≡ m) (end_is : begun.end ≡ end) (moves : List Move) where
+  module _ (told : IsTold begun) (picture_is : picture_of begun ≡ opened m.lps nodes first) where
+    moved : (made : Running) → StepsAreMade moves begun made → moves_made m end moves (opened m.lps nodes first) ≡ Some (picture_of made)
+    moved made steps =
+        subst (λ (p : Picture). moves_made m end moves p ≡ Some (picture_of made)) picture_is
+        (subst (λ (e : ℕ). moves_made m e moves (picture_of begun) ≡ Some (picture_of made)) end_is
+        (subst (λ (n : Meaning). moves_made n begun.end moves (picture_of begun) ≡ Some (picture_of made)) model_is steps.moves_are))
 
-  system : IsSystem m end (opened m.lps nodes first)
-  system =
-      subst (λ (p : Picture). IsSystem m end p) picture_is
-      (subst (λ (e : ℕ). IsSystem m e (picture_of begun)) end_is (subst (λ (n : Meaning). IsSystem n begun.end (picture_of begun)) model_is told.system))
+    system : IsSystem m end (opened m.lps nodes first)
+    system =
+        subst (λ (p : Picture). IsSystem m end p) picture_is
+        (subst (λ (e : ℕ). IsSystem m e (picture_of begun)) end_is (subst (λ (n : Meaning). IsSystem n begun.end (picture_of begun)) model_is told.system))
 
-  upto : (made : Running) → StepsAreMade moves begun made → IsUpto m end made.front.time made.front
-  upto made steps = (moves_made_are_sound m end moves (opened m.lps nodes first) (picture_of made) system (moved made steps)).system.sound.front
+    upto : (made : Running) → StepsAreMade moves begun made → IsUpto m end made.front.time made.front
+    upto made steps = (moves_made_are_sound m end moves (opened m.lps nodes first) (picture_of made) system (moved made steps)).system.sound.front
 
-  soon : (made : Running) → StepsAreMade moves begun made → made.front.time ≤ end
-  soon made steps = (fronts_open m end 1 (picture_of made) (moves_made_are_sound m end moves (opened m.lps nodes first) (picture_of made) system (moved made steps)).system (omega arith)).soon
+    soon : (made : Running) → StepsAreMade moves begun made → made.front.time ≤ end
+    soon made steps = (fronts_open m end 1 (picture_of made) (moves_made_are_sound m end moves (opened m.lps nodes first) (picture_of made) system (moved made steps)).system (omega arith)).soon
 
-  pub resumed : (made : Running) (last : World) (new : DiskState) → StepsAreMade moves begun made → last ≡ made.front → (Recovers m end first.time mid → KeepsRecovery m end first.time last.time mid new)
-      → IsResumed m end nodes moves v disk new (Some last.time)
-  resumed made last new steps last_is driven = record {
+  pub resumed : (made : Running) (last : World) (new : DiskState) → (Recovers m end v.time disk → IsTold begun × (picture_of begun ≡ opened m.lps nodes first)) → (IsTold begun → StepsAreMade moves begun made) → last ≡ made.front
+      → (Recovers m end v.time disk → Recovers m end first.time mid → KeepsRecovery m end first.time last.time mid new) → IsResumed m end nodes moves v disk new (Some last.time)
+  resumed made last new begin steps last_is driven = record {
     front = Some last;
     told = refl;
-    driven = λ w is. let same : last ≡ w = cc in record { first = first; replayed = replayed; last = picture_of made; moved = moved made steps; front_is = sym same ∙ last_is };
+    driven = λ recovers w is.
+        let same : last ≡ w = cc in
+        let b = begin recovers in
+        record { first = first; replayed = replayed; last = picture_of made; moved = moved b.0 b.1 made (steps b.0); front_is = sym same ∙ last_is };
     kept = record {
-      crashes = λ recovers. let keeps = opened_kept recovers in followed_by m end v.time first.time last.time disk mid new keeps (driven keeps.now_on);
-      front = λ w is. let same : made.front ≡ w = (let e : last ≡ w = cc in sym last_is ∙ e) in subst (λ (x : World). IsUpto m end x.time x × (x.time ≤ end)) same (upto made steps, soon made steps);
+      crashes = λ recovers. let keeps = opened_kept recovers in followed_by m end v.time first.time last.time disk mid new keeps (driven recovers keeps.now_on);
+      front = λ recovers w is.
+          let b = begin recovers in
+          let same : made.front ≡ w = (let e : last ≡ w = cc in sym last_is ∙ e) in subst (λ (x : World). IsUpto m end x.time x × (x.time ≤ end)) same (upto b.0 b.1 made (steps b.0), soon b.0 b.1 made (steps b.0));
     };
   }
 
 pub not_resumed : (m : Meaning) (end nodes : ℕ) (moves : List Move) (v : World) (old new : DiskState) → (Recovers m end v.time old → KeepsRecovery m end v.time v.time old new) → IsResumed m end nodes moves v old new None
-not_resumed m end nodes moves v old new refused = record { front = None; told = refl; driven = λ w is. absurd (cc); kept = record { crashes = refused; front = λ w is. absurd (cc) } }
+not_resumed m end nodes moves v old new refused = record { front = None; told = refl; driven = λ recovers w is. absurd (cc); kept = record { crashes = refused; front = λ recovers w is. absurd (cc) } }

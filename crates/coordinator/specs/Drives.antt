@@ -51,8 +51,8 @@ module _ {M P D : Type 0} (meaning : M → Meaning) (state : P → PortState) (d
     pub already : old.spent ≡ false → move_of step ≡ CommitMove →
         next_time old.end (picture_of (running meaning state old)) ≤ old.front.time →
         (result ≡ Ok (AlreadyAt old.front.time)) × (new ≡ old)
-    -- A commit that gets on appends one record, and all else leaves the log. Full comes where there
-    -- is no room, Disk exactly where the device has failed.
+    -- A commit that gets on and a checkpoint append one record, and all else leaves the log. Full
+    -- comes where there is no room, Disk exactly where the device has failed.
     pub logged : IsLogged meaning state disk (move_of step) old new result
     -- The records go on standing for the front, whatever crashes.
     pub keeps : KeepsStanding meaning state disk old new

@@ -13,6 +13,7 @@ use Rattle.protocol.specs.Moves.Refusal.{NumberLimit as NumberLimitRefusal}
 use Rattle.protocol.specs.Picture.{Picture, nodes_of}
 use Rattle.protocol.specs.Sound.{GoesOnFrom}
 use Rattle.recovery.specs.Bodies.{events_body}
+use Rattle.recovery.specs.Checkpoints.{checkpoint_body, checkpoint_of}
 use Rattle.wire.specs.Port.{IsForWant, PortState}
 use Rattle.wire.specs.declared.port.PortFault.{PortFault}
 use Rattle.wire.specs.declared.port.PortFault.TheVariants.{Peer}
@@ -21,13 +22,20 @@ use Rattle.protocol.specs.declared.Answer.{Answer}
 use Rattle.coordinator.specs.declared.SessionFault.{SessionFault}
 use Rattle.coordinator.specs.declared.SessionFault.TheVariants.{Busy, Disk, Full, Idle, NoMemory, NoSuchNode, NoSuchPick, NumberLimit, Port, Recovery, Spent, TooLong}
 use Rattle.coordinator.specs.declared.Step.{Step}
-use Rattle.coordinator.specs.declared.Step.TheVariants.{Commit, Post, Take}
+use Rattle.coordinator.specs.declared.Step.TheVariants.{Checkpoint, Commit, Post, Take}
 
 -- the move of the picture that a step is
 abbrev pub move_of : Step → Move
 move_of (Post node picks budget) = PostMove node picks budget
 move_of (Take node) = TakeMove node
 move_of Commit = CommitMove
+move_of Checkpoint = CheckpointMove
+
+-- the moves that append a record
+abbrev pub Appends : Move → Type 0
+Appends CommitMove = Unit {0}
+Appends CheckpointMove = Unit {0}
+Appends k = ⊥
 
 -- the floor that a commit would make the front's time, and the events that it would write
 abbrev pub next_time : ℕ → Picture → ℕ
@@ -40,6 +48,10 @@ next_events end p = length (told_before (next_time end p) p.gathered)
 abbrev pub next_record : ℕ → Picture → Entry
 next_record end p =
     let c = next_time end p in entry_with 1 (events_body c (merged c p.gathered))
+
+-- the record that a checkpoint would append: the front but for its log
+abbrev pub kept_body : Picture → List ℕ
+kept_body p = checkpoint_body (checkpoint_of p.front)
 
 -- The step is the move of the picture, from told to told, and answers its numbers.
 pub record IsMade (k : Move) (old new : Running) (answer : Answer) : Type 0 where
@@ -60,7 +72,8 @@ first_refusal end (TakeMove node) p =
 first_refusal end CommitMove p =
     if nat_lt p.front.time (next_time end p) && nat_lt (2 ^ 24) (17 + 40 * next_events end p)
     then Some TooLong else None
-first_refusal end CheckpointMove p = None
+first_refusal end CheckpointMove p =
+    if nat_lt (2 ^ 24) (5 + length (kept_body p)) then Some TooLong else None
 
 -- A fault of a port that tells: want, or the number limit, where a handling of the parcel would
 -- pass it.
@@ -75,8 +88,8 @@ abbrev pub HasCause : Move → Running → SessionFault → Type 0
 HasCause k old (Port fault) = (first_refusal old.end k (picture_of old) ≡ None)
     × (IsTold old → IsPortFault k old fault)
 HasCause k old NoMemory = first_refusal old.end k (picture_of old) ≡ None
-HasCause k old Full = (k ≡ CommitMove) × (first_refusal old.end k (picture_of old) ≡ None)
-HasCause k old Disk = (k ≡ CommitMove) × (first_refusal old.end k (picture_of old) ≡ None)
+HasCause k old Full = Appends k × (first_refusal old.end k (picture_of old) ≡ None)
+HasCause k old Disk = Appends k × (first_refusal old.end k (picture_of old) ≡ None)
 HasCause k old NumberLimit = ⊥
 HasCause k old (Recovery fault) = ⊥
 HasCause k old Spent = ⊥
@@ -114,18 +127,32 @@ module _ {M P D : Type 0} (meaning : M → Meaning) (state : P → PortState) (d
       let events = next_events s.end (picture_of (running meaning state s)) in
       HasRoom s.log.records (12 + 40 * events) (length (disk s.log.disk).reads)
 
-  -- What a step does to the log and its disk: a commit that gets on appends exactly one record,
-  -- where there was room, and no other step touches the log.
+  -- and for the record that a checkpoint would append
+  abbrev pub HasRoomToKeep : Session M P D → Type 0
+  HasRoomToKeep s = HasRoom s.log.records
+      (length (kept_body (picture_of (running meaning state s)))) (length (disk s.log.disk).reads)
+
+  -- for the record of either
+  abbrev pub HasRoomFor : Move → Session M P D → Type 0
+  HasRoomFor CommitMove s = HasRoomToCommit s
+  HasRoomFor CheckpointMove s = HasRoomToKeep s
+  HasRoomFor k s = Unit {0}
+
+  -- What a step does to the log and its disk: a commit that gets on and a checkpoint append exactly
+  -- one record, where there was room, and no other step touches the log.
   pub record IsLogged (k : Move) (old new : Session M P D)
       (result : Result Answer SessionFault) : Type 0 where
-    pub stays : (k ≡ CommitMove → ⊥) → new.log ≡ old.log
+    pub stays : (Appends k → ⊥) → new.log ≡ old.log
     pub appended : k ≡ CommitMove →
         old.front.time < next_time old.end (picture_of (running meaning state old)) →
         OnOk result ((new.log.records ≡
         old.log.records ++ next_record old.end (picture_of (running meaning state old)) ∷ [])
         × HasRoomToCommit old)
-    pub full : IsErrOf result Full → HasRoomToCommit old → ⊥
-    pub failed : IsErrOf result Disk → HasRoomToCommit old
+    pub kept : k ≡ CheckpointMove → OnOk result ((new.log.records ≡
+        old.log.records ++ entry_with 2 (kept_body (picture_of (running meaning state old))) ∷ [])
+        × HasRoomToKeep old)
+    pub full : IsErrOf result Full → HasRoomFor k old → ⊥
+    pub failed : IsErrOf result Disk → HasRoomFor k old
         × ((disk old.log.disk).failures < (disk new.log.disk).failures)
     pub no_failure : (disk old.log.disk).failures < (disk new.log.disk).failures →
         IsErrOf result Disk

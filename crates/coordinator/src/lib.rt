@@ -33,6 +33,9 @@ pub enum Step {
     },
     /// What no rollback reaches any more is committed.
     Commit,
+    /// What is committed is kept in a record, but for its log, so that an opening replays only the
+    /// records behind it.
+    Checkpoint,
 }
 
 /// Why a session refuses a call.

@@ -1,20 +1,22 @@
--- Ports to nodes in this program, before anything is loaded through them.
-use Rattle.std.proofs.Common.{◌≡◌, ◌<◌, ℕ, List, ap, arith, length, ◌∙◌}
+-- Ports that are all alike, before anything is loaded through them.
+use Rattle.std.proofs.Common.{true, ◌≡◌, ◌<◌, ℕ, List, ap, arith, length, ◌∙◌}
 use Rattle.std.specs.Prelude.{replicate}
 use Rattle.std.proofs.lemmas.List.{get_or-replicate, length-replicate}
-use Rattle.coordinator.specs.Opening.{AllTell}
+use Rattle.coordinator.specs.Opening.{AllFresh, AllTell}
 use Rattle.coordinator.specs.Session.{no_port, port_at}
 use Rattle.model.specs.Meaning.{Meaning}
-use Rattle.wire.specs.Local.{state_of}
 use Rattle.wire.specs.Port.{PortState}
-use Rattle.wire.specs.declared.local.Held.TheVariants.{Fresh}
+use Rattle.wire.specs.Port.Stage.{Fresh}
 
-module _ (m : Meaning) (nodes : ℕ) (ports : List PortState) (is : ports ≡ replicate nodes (state_of m Fresh)) where
+module _ (nodes : ℕ) (port : PortState) (ports : List PortState) (is : ports ≡ replicate nodes port) where
   pub so_many : length ports ≡ nodes
-  so_many = ap length is ∙ length-replicate nodes (state_of m Fresh)
+  so_many = ap length is ∙ length-replicate nodes port
 
-  each_is : (k : ℕ) → k < length ports → port_at ports k ≡ state_of m Fresh
-  each_is k l = ap (λ (ps : List PortState). port_at ps k) is ∙ get_or-replicate nodes k (state_of m Fresh) no_port (omega (arith, so_many, l))
+  each_is : (k : ℕ) → k < length ports → port_at ports k ≡ port
+  each_is k l = ap (λ (ps : List PortState). port_at ps k) is ∙ get_or-replicate nodes k port no_port (omega (arith, so_many, l))
 
-  pub all_tell : AllTell m ports
-  all_tell k l = (ap (λ (p : PortState). p.tells) (each_is k l), ap (λ (p : PortState). p.meaning) (each_is k l))
+  pub all_fresh : port.stage ≡ Fresh → AllFresh ports
+  all_fresh fresh k l = ap (λ (p : PortState). p.stage) (each_is k l) ∙ fresh
+
+  pub all_tell : (m : Meaning) → port.tells ≡ true → port.meaning ≡ m → AllTell m ports
+  all_tell m tells meaning k l = (ap (λ (p : PortState). p.tells) (each_is k l) ∙ tells, ap (λ (p : PortState). p.meaning) (each_is k l) ∙ meaning)

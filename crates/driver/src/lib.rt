@@ -4,6 +4,8 @@
 mod local;
 mod picks;
 mod rounds;
+mod runs;
 
-pub use local::{Finished, Ran, local_ports, run_local};
+pub use local::{local_ports, run_local};
 pub use rounds::{Plan, RunFault, Watch, run};
+pub use runs::{Finished, Ran, run_over};

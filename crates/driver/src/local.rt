@@ -1,37 +1,19 @@
-// Whole runs on a disk, over nodes in this program.
+// Runs over nodes in this program.
 
-ghost use Rattle.std.specs.Prelude.{◌≡◌, ◌<◌, ◌≤◌, ◌^◌, ℕ, IfErr, IfOk, IsErrOf, OnOk, length, map, replicate};
+ghost use Rattle.std.specs.Prelude.{◌≡◌, ◌<◌, ◌≤◌, ◌^◌, ℕ, IfErr, IfOk, IsErrOf, OnOk, length};
+ghost use Rattle.std.specs.Prelude.{map, replicate};
 ghost use Rattle.coordinator.specs.Crashes.{KeepsRecovery, Recovers};
+ghost use Rattle.recovery.specs.Stands.{IsGenuine};
 ghost use Rattle.driver.specs.Driver.{IsRunOf, IsUnfinished};
 ghost use Rattle.wire.specs.Local.{state_of};
 ghost use Rattle.wire.specs.declared.local.Held.TheVariants.{Fresh};
 
-use crate::rounds::{Plan, RunFault, Watch, run};
-use coordinator::{NotOpened, Session};
+use crate::rounds::{Plan, RunFault, Watch};
+use crate::runs::{Ran, run_over};
 use disk::SectorDisk;
 use model::Model as Simulated;
 use std::alloc::Global;
 use wire::LocalPort;
-
-/// What a run that came to its end has to tell.
-#[derive(Drop)]
-pub struct Finished {
-    /// How many messages each node handled, those too that were undone again.
-    pub ran: Vec<u64>,
-    /// The virtual time before which all is committed, in ticks.
-    pub time: u64,
-    /// How many events are committed.
-    pub events: usize,
-}
-
-/// How a run over nodes in this program ended.
-#[derive(Drop)]
-pub struct Ran<D> {
-    /// The disk, as the run left it.
-    pub disk: D,
-    /// What there is to tell, or why the run stopped before its end.
-    pub told: Result<Finished, RunFault>,
-}
 
 /// Runs a simulation on its disk over 1 to 64 nodes in this program, from where the disk stands to
 /// `end`, the tick at which it ends, 1 to 2^40, and hands the disk back.
@@ -51,17 +33,22 @@ pub fn run_local<M: Simulated, D: SectorDisk + Drop, W: Watch>(
     requires few { plan.nodes ≤ 64 }
     requires begun { 1 ≤ end }
     requires short { end ≤ 2 ^ 40 }
-    // All that is told is of the sequential simulation up to the end.
-    ensures finished { IfOk result.told (λ told. IsRunOf (M.meaning model.now) end told.time told.events) }
+    // On a disk whose records are genuine all that is told is of the sequential simulation up to the
+    // end.
+    ensures finished { IsGenuine (M.meaning model.now) end (D.state disk).reads →
+        IfOk result.told (λ told. IsRunOf (M.meaning model.now) end told.time told.events) }
+    ensures reached { IfOk result.told (λ told. end ≤ told.time) }
     ensures count { IfOk result.told (λ told. length told.ran.items ≡ plan.nodes) }
     // The rounds are the cause only where all of them are made, and the end is not reached.
-    ensures rounds { IsErrOf result.told RunFault.Rounds → IsUnfinished (M.meaning model.now) end
-        plan.nodes plan.batch plan.rounds (D.state disk).reads }
+    ensures rounds { IsGenuine (M.meaning model.now) end (D.state disk).reads →
+        IsErrOf result.told RunFault.Rounds →
+        IsUnfinished (M.meaning model.now) end plan (D.state disk).reads }
     // Whatever time the disk stands for at least, it does so at each moment of the run and after
     // it, at every exit; and after a run that came to its end, for the end.
     ensures crashes { (a : ℕ) → Recovers (M.meaning model.now) end a (D.state disk) →
         KeepsRecovery (M.meaning model.now) end a a (D.state disk) (D.state result.disk) }
-    ensures committed { OnOk result.told (Recovers (M.meaning model.now) end end (D.state result.disk)) }
+    ensures committed { IsGenuine (M.meaning model.now) end (D.state disk).reads →
+        OnOk result.told (Recovers (M.meaning model.now) end end (D.state result.disk)) }
 {
     let ports = match local_ports(alloc, model, plan.nodes) {
         Ok(ports) => ports,
@@ -72,30 +59,7 @@ pub fn run_local<M: Simulated, D: SectorDisk + Drop, W: Watch>(
             };
         }
     };
-    let mut session = match Session::open(alloc, model, ports, disk, end) {
-        Ok(session) => session,
-        Err(NotOpened { fault, disk }) => {
-            return Ran {
-                disk,
-                told: Err(RunFault::Session(fault)),
-            };
-        }
-    };
-    let told = match run(alloc, &mut session, end, plan, watch) {
-        Ok(ran) => {
-            let front = session.front();
-            Ok(Finished {
-                ran,
-                time: front.time,
-                events: front.log.len(),
-            })
-        }
-        Err(fault) => Err(fault),
-    };
-    Ran {
-        disk: session.into_disk(),
-        told,
-    }
+    run_over(alloc, model, ports, disk, end, plan, watch)
 }
 
 /// So many ports to nodes in this program, which all run this model and are not loaded yet.

@@ -1,8 +1,10 @@
 // Rounds of steps.
 
-ghost use Rattle.std.specs.Prelude.{◌≡◌, ◌<◌, ◌≤◌, ℕ, IfOk, OnOk, IsErrOf, length};
-ghost use Rattle.driver.specs.Driver.{AreRounds, IsDriven, IsDrivenBy, IsFinished, IsRound};
-ghost use Rattle.driver.specs.Driver.{IsTurn};
+ghost use Rattle.std.specs.Prelude.{◌≡◌, ◌<◌, ◌≤◌, [], ◌∷◌, ℕ, IfOk, OnOk, IsErrOf, length};
+ghost use Rattle.driver.specs.Driver.{AreAsked, ArePosts, AreRounds, AreTurns, IsDriven};
+ghost use Rattle.driver.specs.Driver.{IsDrivenBy, IsFinished, IsPost, IsRound, IsTurn, is_kept};
+ghost use Rattle.driver.specs.Driver.{kept_after, takes_of};
+ghost use Rattle.protocol.specs.Moves.Move.{Take as TakeMove};
 ghost use Rattle.coordinator.specs.Crashes.{KeepsStanding};
 
 use crate::picks::places;
@@ -23,6 +25,11 @@ pub struct Plan {
     pub batch: u32,
     /// How many rounds are made at most.
     pub rounds: u32,
+    /// Whether all nodes are posted to before a reply is taken, so that nodes that are programs of
+    /// their own work at the same time.
+    pub together: bool,
+    /// After how many rounds a checkpoint follows the commit each time; 0 for none at all.
+    pub checkpoint_every: u32,
 }
 
 /// Why a run stopped before its end.
@@ -41,7 +48,8 @@ pub enum RunFault {
 
 /// Is told how far a run has come.
 pub trait Watch {
-    /// All before this virtual time, in ticks, is committed: so many events in all.
+    /// All before this virtual time, in ticks, is committed: so many events in all. It is told
+    /// after each commit, before the checkpoint that may follow it.
     fn committed(&mut self, time: u64, events: usize);
 }
 
@@ -49,9 +57,11 @@ pub trait Watch {
 /// answers how many messages each node handled, as its replies told.
 ///
 /// A round gives each node its turn, from node 0 up: all that is in transit for it is posted, it
-/// handles so many messages, and its reply is taken. Then one commit is made. What is refused first
-/// ends the run: a step (`Session`), the rounds (`Rounds`), or memory (`NoMemory`). What was
-/// committed stands. A turn costs one pass over transit and its two steps.
+/// handles so many messages, and its reply is taken. Where the nodes work together, all of them are
+/// posted to before the first reply is taken. Then one commit is made, and behind it a checkpoint
+/// where the plan has one after this round. What is refused first ends the run: a step (`Session`),
+/// the rounds (`Rounds`), or memory (`NoMemory`). What was committed stands. A turn costs one pass
+/// over transit and its two steps.
 pub fn run<M: Simulated, P: Port, D: SectorDisk, W: Watch>(
     alloc: Global,
     session: &mut Session<'_, M, P, D>,
@@ -64,7 +74,7 @@ pub fn run<M: Simulated, P: Port, D: SectorDisk, W: Watch>(
     ensures ended { OnOk result (end ≤ session.new.front.time) }
     ensures driven { OnOk result (IsDriven M.meaning P.state D.state session.old session.new) }
     ensures in_rounds { OnOk result ((rounds : ℕ) × (rounds ≤ plan.rounds)
-        × IsDrivenBy M.meaning P.state D.state (AreRounds plan.nodes plan.batch rounds)
+        × IsDrivenBy M.meaning P.state D.state (AreRounds plan rounds)
         session.old session.new) }
     ensures finished { session.old.end ≡ end →
         OnOk result (IsFinished M.meaning P.state end session.old session.new) }
@@ -72,7 +82,7 @@ pub fn run<M: Simulated, P: Port, D: SectorDisk, W: Watch>(
     ensures keeps { KeepsStanding M.meaning P.state D.state session.old session.new }
     ensures rounds { IsErrOf result RunFault.Rounds → session.new.front.time < end }
     ensures all_rounds { IsErrOf result RunFault.Rounds →
-        IsDrivenBy M.meaning P.state D.state (AreRounds plan.nodes plan.batch plan.rounds)
+        IsDrivenBy M.meaning P.state D.state (AreRounds plan plan.rounds)
         session.old session.new }
     ensures count { IfOk result (λ ran. length ran.items ≡ plan.nodes) }
 {
@@ -83,17 +93,61 @@ pub fn run<M: Simulated, P: Port, D: SectorDisk, W: Watch>(
         if made >= plan.rounds {
             return Err(RunFault::Rounds);
         }
-        round(alloc, session, plan, ran.as_mut_slice())?;
-        let front = session.front();
-        watch.committed(front.time, front.log.len());
         made += 1;
+        round(alloc, session, plan, made, ran.as_mut_slice(), watch)?;
     }
     Ok(ran)
 }
 
-/// Gives each node its turn, and commits. There is a count for each node, to which what it handled
-/// is added.
-fn round<M: Simulated, P: Port, D: SectorDisk>(
+/// Makes the round of this number: asks all nodes, commits, tells of it, and makes a checkpoint
+/// where its turn has come. There is a count for each node, to which what it handled is added.
+fn round<M: Simulated, P: Port, D: SectorDisk, W: Watch>(
+    alloc: Global,
+    session: &mut Session<'_, M, P, D>,
+    plan: Plan,
+    number: u32,
+    ran: &mut [u64],
+    watch: &mut W,
+) -> Result<(), RunFault>
+    requires { length ran.old ≡ plan.nodes }
+    ensures driven { OnOk result (IsDrivenBy M.meaning P.state D.state
+        (IsRound plan number) session.old session.new) }
+    ensures keeps { KeepsStanding M.meaning P.state D.state session.old session.new }
+    ensures rounds { IsErrOf result RunFault.Rounds → ⊥ }
+{
+    ask(alloc, session, plan, ran)?;
+    session.step(&Step::Commit)?;
+    let front = session.front();
+    watch.committed(front.time, front.log.len());
+    keep(session, plan.checkpoint_every, number)
+}
+
+/// Makes a checkpoint where its turn has come after the round of this number.
+fn keep<M: Simulated, P: Port, D: SectorDisk>(
+    session: &mut Session<'_, M, P, D>,
+    every: u32,
+    number: u32,
+) -> Result<(), RunFault>
+    ensures driven { OnOk result (IsDrivenBy M.meaning P.state D.state
+        (λ moves. moves ≡ kept_after every number) session.old session.new) }
+    ensures keeps { KeepsStanding M.meaning P.state D.state session.old session.new }
+    ensures rounds { IsErrOf result RunFault.Rounds → ⊥ }
+{
+    if is_kept(every, number) {
+        session.step(&Step::Checkpoint)?;
+    }
+    Ok(())
+}
+
+/// Whether a checkpoint comes behind the round of this number.
+fn is_kept(every: u32, number: u32) -> bool
+    ensures { result ≡ is_kept every number }
+{
+    every > 0 && number % every == 0
+}
+
+/// Asks all nodes, one after another or together.
+fn ask<M: Simulated, P: Port, D: SectorDisk>(
     alloc: Global,
     session: &mut Session<'_, M, P, D>,
     plan: Plan,
@@ -101,30 +155,101 @@ fn round<M: Simulated, P: Port, D: SectorDisk>(
 ) -> Result<(), RunFault>
     requires { length ran.old ≡ plan.nodes }
     ensures driven { OnOk result (IsDrivenBy M.meaning P.state D.state
-        (IsRound plan.nodes plan.batch) session.old session.new) }
+        (AreAsked plan.together plan.batch plan.nodes) session.old session.new) }
+    ensures keeps { KeepsStanding M.meaning P.state D.state session.old session.new }
+    ensures rounds { IsErrOf result RunFault.Rounds → ⊥ }
+{
+    if plan.together {
+        post_all(alloc, session, plan)?;
+        take_all(session, plan, ran)
+    } else {
+        turns(alloc, session, plan, ran)
+    }
+}
+
+/// Gives each node its turn.
+fn turns<M: Simulated, P: Port, D: SectorDisk>(
+    alloc: Global,
+    session: &mut Session<'_, M, P, D>,
+    plan: Plan,
+    ran: &mut [u64],
+) -> Result<(), RunFault>
+    requires { length ran.old ≡ plan.nodes }
+    ensures driven { OnOk result (IsDrivenBy M.meaning P.state D.state
+        (AreTurns plan.batch plan.nodes) session.old session.new) }
     ensures keeps { KeepsStanding M.meaning P.state D.state session.old session.new }
     ensures rounds { IsErrOf result RunFault.Rounds → ⊥ }
 {
     'nodes: for node in 0..plan.nodes {
-        let handled = turn(alloc, session, node, plan)?;
-        let place = node as usize;
-        ran[place] = ran[place].saturating_add(u64::from(handled));
+        turn(alloc, session, node, plan, ran)?;
     }
-    session.step(&Step::Commit)?;
     Ok(())
 }
 
-/// Posts a node all that is in transit for it, takes its reply, and answers how many messages it
-/// handled.
+/// Posts to each node all that is in transit for it.
+fn post_all<M: Simulated, P: Port, D: SectorDisk>(
+    alloc: Global,
+    session: &mut Session<'_, M, P, D>,
+    plan: Plan,
+) -> Result<(), RunFault>
+    ensures driven { OnOk result (IsDrivenBy M.meaning P.state D.state
+        (ArePosts plan.batch plan.nodes) session.old session.new) }
+    ensures keeps { KeepsStanding M.meaning P.state D.state session.old session.new }
+    ensures rounds { IsErrOf result RunFault.Rounds → ⊥ }
+{
+    'nodes: for node in 0..plan.nodes {
+        post(alloc, session, node, plan)?;
+    }
+    Ok(())
+}
+
+/// Takes the reply of each node.
+fn take_all<M: Simulated, P: Port, D: SectorDisk>(
+    session: &mut Session<'_, M, P, D>,
+    plan: Plan,
+    ran: &mut [u64],
+) -> Result<(), RunFault>
+    requires { length ran.old ≡ plan.nodes }
+    ensures driven { OnOk result (IsDrivenBy M.meaning P.state D.state
+        (λ moves. moves ≡ takes_of plan.nodes) session.old session.new) }
+    ensures keeps { KeepsStanding M.meaning P.state D.state session.old session.new }
+    ensures rounds { IsErrOf result RunFault.Rounds → ⊥ }
+{
+    'nodes: for node in 0..plan.nodes {
+        take(session, node, ran)?;
+    }
+    Ok(())
+}
+
+/// Posts a node all that is in transit for it, and takes its reply.
 fn turn<M: Simulated, P: Port, D: SectorDisk>(
     alloc: Global,
     session: &mut Session<'_, M, P, D>,
     node: u32,
     plan: Plan,
-) -> Result<u32, RunFault>
-    requires { node < plan.nodes }
+    ran: &mut [u64],
+) -> Result<(), RunFault>
+    requires node { node < plan.nodes }
+    requires counts { node < length ran.old }
     ensures driven { OnOk result (IsDrivenBy M.meaning P.state D.state
         (IsTurn plan.batch node) session.old session.new) }
+    ensures keeps { KeepsStanding M.meaning P.state D.state session.old session.new }
+    ensures rounds { IsErrOf result RunFault.Rounds → ⊥ }
+{
+    post(alloc, session, node, plan)?;
+    take(session, node, ran)
+}
+
+/// Posts a node all that is in transit for it.
+fn post<M: Simulated, P: Port, D: SectorDisk>(
+    alloc: Global,
+    session: &mut Session<'_, M, P, D>,
+    node: u32,
+    plan: Plan,
+) -> Result<(), RunFault>
+    requires { node < plan.nodes }
+    ensures driven { OnOk result (IsDrivenBy M.meaning P.state D.state
+        (IsPost plan.batch node) session.old session.new) }
     ensures keeps { KeepsStanding M.meaning P.state D.state session.old session.new }
     ensures rounds { IsErrOf result RunFault.Rounds → ⊥ }
 {
@@ -135,10 +260,26 @@ fn turn<M: Simulated, P: Port, D: SectorDisk>(
         budget: plan.batch,
     };
     session.step(&post)?;
-    match session.step(&Step::Take { node })? {
-        Answer::Taken { ran, .. } => Ok(ran),
-        _ => Ok(0),
+    Ok(())
+}
+
+/// Takes a node's reply, and adds to its count how many messages it handled.
+fn take<M: Simulated, P: Port, D: SectorDisk>(
+    session: &mut Session<'_, M, P, D>,
+    node: u32,
+    ran: &mut [u64],
+) -> Result<(), RunFault>
+    requires { node < length ran.old }
+    ensures driven { OnOk result (IsDrivenBy M.meaning P.state D.state
+        (λ moves. moves ≡ TakeMove node ∷ []) session.old session.new) }
+    ensures keeps { KeepsStanding M.meaning P.state D.state session.old session.new }
+    ensures rounds { IsErrOf result RunFault.Rounds → ⊥ }
+{
+    if let Answer::Taken { ran: handled, .. } = session.step(&Step::Take { node })? {
+        let place = node as usize;
+        ran[place] = ran[place].saturating_add(u64::from(handled));
     }
+    Ok(())
 }
 
 impl From<SessionFault> for RunFault {

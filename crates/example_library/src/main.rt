@@ -19,6 +19,8 @@ const PLAN: Plan = Plan {
     nodes: 3,
     batch: 16,
     rounds: 1000,
+    together: false,
+    checkpoint_every: 0,
 };
 
 /// Three processes hand one token round and hold it for two ticks, on this disk. Hands it back.

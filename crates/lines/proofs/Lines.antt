@@ -1,15 +1,16 @@
 -- What clap finds in a line of the program.
 use Rattle.std.specs.Borrow.{Bor}
 use Rattle.std.specs.Prelude.{◌≡◌, ◌⊎◌, ◌≤◌, ◌<◌, ◌^◌, ◌&&◌, ◌||◌, ℕ, Bool, true, false, List, [], ◌∷◌, Option, Some, None, Result, Ok, Err}
-use Rattle.std.specs.Prelude.{IfOk, option_map, unwrap_or, find, nat_le, if◌then◌else◌}
+use Rattle.std.specs.Prelude.{IfOk, IsErrAnd, option_map, unwrap_or, find, nat_le, if◌then◌else◌}
 use Rattle.std.specs.Str.Parse.{ParsesUnsigned, digits_value, without_leading_plus}
-use Rattle.std.proofs.Common.{◌∙◌, refl, ap, ap₂, sym, inl, inr, arith}
+use Rattle.std.proofs.Common.{◌∙◌, refl, ap, ap₂, subst, sym, inl, inr, arith}
 use Rattle.std.proofs.lemmas.Bool.{cases_Bool, le-leb, leb-true}
 use Rattle.std.specs.Box.{box_value}
 use Rattle.clap.proofs.OnLiterals.{clap_on_literals}
 use Rattle.clap.proofs.ValueTestLemmas.{Accepts-accepts, accepts-Accepts}
 use Rattle.clap.proofs.WalkLemmas.{both}
 use Rattle.clap.specs.Faults.{is_simple_and_free}
+use Rattle.clap.specs.Kinds.{FailsBy, HasKind, Kinds}
 use Rattle.clap.specs.Matches.{ReadsOne}
 use Rattle.clap.specs.Simple.{argument_words, built, entered, is_simple, label_of, names_of, rows_at}
 use Rattle.clap.specs.ValueTests.{accepts}
@@ -17,6 +18,7 @@ use Rattle.clap.specs.Words.{App, Row, Rule, Text, found_of, rows_of, rule_of, s
 use Rattle.clap.specs.Walk.{answers_to, stop_after}
 use Rattle.clap.specs.declared.builder.command.Command.{Command}
 use Rattle.clap.specs.declared.builder.arg.Arg.{Arg}
+use Rattle.clap.specs.declared.error.Error.{Error}
 use Rattle.clap.specs.declared.builder.value_parser.ValueParser.TheVariants.{Unsigned}
 use Rattle.clap.specs.declared.parser.matches.ArgMatches.{ArgMatches}
 use Rattle.clap.specs.declared.parser.matches.ArgMatches.TheViews.{out-ArgMatches, out-SubCommand}
@@ -66,8 +68,9 @@ entered_named called (Some p) found h = elim (found_among (λ s. answers_to p.0 
   | inr (inr (inl e)) ↦ inr (inr (inl (sym (ap (λ r. r.0) e))))
   | inr (inr (inr (inl e))) ↦ inr (inr (inr (inl (sym (ap (λ r. r.0) e)))))
   | inr (inr (inr (inr (inl e)))) ↦ inr (inr (inr (inr (inl (sym (ap (λ r. r.0) e))))))
-  | inr (inr (inr (inr (inr (inl e))))) ↦ inr (inr (inr (inr (inr (sym (ap (λ r. r.0) e))))))
-  | inr (inr (inr (inr (inr (inr e))))) ↦ absurd e
+  | inr (inr (inr (inr (inr (inl e))))) ↦ inr (inr (inr (inr (inr (inl (sym (ap (λ r. r.0) e)))))))
+  | inr (inr (inr (inr (inr (inr (inl e)))))) ↦ inr (inr (inr (inr (inr (inr (sym (ap (λ r. r.0) e)))))))
+  | inr (inr (inr (inr (inr (inr (inr e)))))) ↦ absurd e
 ]
 
 pub only_named : (called : Text) (words : List Text) (name : Text) (rows : List Row) → subcommand_of (program called) words ≡ Some (name, rows) → is_named name
@@ -153,3 +156,18 @@ chosen_high least most v r e high = elim (cases_Bool (nat_le v most)) [
 
 pub chosen_none : (least most : ℕ) (r : Option ℕ) → r ≡ None → least ≡ chosen least most r
 chosen_none least most r e = rw e refl
+
+-- an option's number is told where the option has a text
+pub number_if_some : {X Y : Type 0} (f : X → Y) (m n : ℕ) (o : Option X) (x : X) (texts : Option Y) → option_map f o ≡ texts → o ≡ Some x → n ≡ m → Some n ≡ option_map (λ _. m) texts
+number_if_some f m n o x texts h e is = rw (← h, e) (ap Some is)
+
+pub number_if_none : {X Y : Type 0} (f : X → Y) (m : ℕ) (o : Option X) (texts : Option Y) → option_map f o ≡ texts → o ≡ None → None ≡ option_map (λ _. m) texts
+number_if_none f m o texts h e = rw (← h, e) refl
+
+-- an error that is handed on
+pub refused_as : {T U : Type 0} (kinds : Kinds) (r : Result T Error) (s : Result U Error) (e : Error) → s ≡ Err e → FailsBy kinds s → IsErrAnd r (λ f. f ≡ e) → FailsBy kinds r
+refused_as kinds (Ok x) s e is fails same = absurd same
+refused_as kinds (Err f) (Ok x) e is fails same = cc
+refused_as kinds (Err f) (Err g) e is fails same =
+    let one : g ≡ f = cc in
+    subst (HasKind kinds) one fails

@@ -3,12 +3,13 @@
 ghost use Rattle.std.specs.Prelude.{◌≡◌, false, true, IfOk};
 ghost use Rattle.clap.specs.Words.{app_of, rule_of};
 ghost use Rattle.clap.specs.declared.builder.command.Command.TheViews.{out-Command as fields_of};
-ghost use Rattle.lines.specs.Line.{new_command, number_option, on_disk, on_model, path_argument};
-ghost use Rattle.lines.specs.Line.{program, run_command, without_commands};
+ghost use Rattle.lines.specs.Line.{flag, new_command, node_command, number_option, on_disk, on_model};
+ghost use Rattle.lines.specs.Line.{optional_number, optional_path, path_argument, program};
+ghost use Rattle.lines.specs.Line.{run_command, without_commands};
 ghost use Rattle.lines.specs.Line.{AddsArgument, AddsCommand, IsApp};
 
 use clap::builder::ValueParser;
-use clap::{Arg, Command};
+use clap::{Arg, ArgAction, Command};
 use std::alloc::{AllocError, Global};
 
 /// What the help of a program says that is its own.
@@ -37,7 +38,8 @@ pub fn program<'a>(alloc: Global, texts: Texts<'a>) -> Result<Command<'a>, Alloc
     let program = with_command(program, on_disk(alloc, "log", LOG_ABOUT, LOG_HELP));
     let program = with_command(program, on_disk(alloc, "show", SHOW_ABOUT, SHOW_HELP));
     let program = with_command(program, on_model(alloc, "seq", SEQ_ABOUT, seq_help));
-    with_command(program, on_model(alloc, "check", CHECK_ABOUT, CHECK_HELP))
+    let program = with_command(program, on_model(alloc, "check", CHECK_ABOUT, CHECK_HELP));
+    with_command(program, node(alloc))
 }
 
 /// The program before it has its commands.
@@ -69,12 +71,16 @@ Exit status:
 
 Faults:
   BadModel     the file is no model file ('{name} check' tells why)
-  File         a file cannot be read, or is no disk, or one of another size
+  File         a file cannot be read, or is no disk, or one of another size; or a node's
+               socket is not made, or its program does not start or does not connect
   Log ..       the disk: NotBlank (it has a log), NotFormatted, Corrupt, Disk ..
   Recovery ..  the disk is of another simulation (OtherModel), or is damaged
-  Session ..   a run stops: Full (the disk has no room), Recovery .., Disk, NoMemory
+  Session ..   a run stops: Full (the disk has no room), Recovery .., Disk, NoMemory, or
+               Port .. (a node's program ended, or answered what is no reply)
   Rounds       all rounds of a run are made, and it is not at its end
   World ..     'seq' stops: NoMemory, or NumberLimit past 2^63 messages of one process
+  Wire ..      'node' stops: Truncated, TooLong, BadKind, BadBody (what came is no frame that
+               has its place there), Io, NoMemory
   NoMemory     memory ran out elsewhere
   Output       standard output refused a write"
     )
@@ -106,7 +112,16 @@ fn run<'a>(alloc: Global) -> Result<Command<'a>, AllocError>
     let batch = number_option(alloc, "batch", "16", 1, 4_294_967_295, BATCH_HELP);
     let rounds = number_option(alloc, "rounds", "1000000", 1, 4_294_967_295, ROUNDS_HELP);
     let command = with_argument(on_disk(alloc, "run", RUN_ABOUT, RUN_HELP), nodes);
-    with_argument(with_argument(command, batch), rounds)
+    let command = with_argument(with_argument(command, batch), rounds);
+    let checkpoint = optional_number(alloc, "checkpoint", "E", 1, 1_000_000, CHECKPOINT_HELP);
+    let command = with_argument(command, checkpoint);
+    let sockets = optional_path(alloc, "sockets", "DIR", SOCKETS_HELP);
+    let cut = optional_number(alloc, "cut", "I", 0, 4_294_967_295, CUT_HELP);
+    let together = flag(alloc, "together", TOGETHER_HELP);
+    with_argument(
+        with_argument(with_argument(command, sockets), cut),
+        together,
+    )
 }
 
 const RUN_ABOUT: &str = "Runs a model on its disk, from the last commit to its end";
@@ -117,9 +132,24 @@ const BATCH_HELP: &str = "How many messages a node handles at a turn, 1 to 42949
 
 const ROUNDS_HELP: &str = "After how many rounds the run stops, 1 to 4294967295";
 
+const CHECKPOINT_HELP: &str = "Keeps the state in a record each E rounds, 1 to 1000000";
+
+const SOCKETS_HELP: &str = "Runs each node as a program of its own, behind the socket DIR/nodeI";
+
+const CUT_HELP: &str = "Ends the program of node I after one reply, to see what a run leaves then";
+
+const TOGETHER_HELP: &str = "Hands work to all nodes before a reply is taken, so they work at once";
+
 const RUN_HELP: &str = "\
 In a round each node has its turn, and what no rollback can reach any more is committed.
 Whatever ends the run, what was committed stands on the disk, and the next run goes on there.
+
+A checkpoint takes one record of the disk, as long as the state of all processes and what is
+pending. The next opening begins at the last one, and replays only the events behind it.
+
+With --sockets the run starts this program as 'node' for each node, waits for it at the end, and
+removes its socket. DIR is to be a folder of your own (mode 700): whoever may write into it can
+answer in a node's place. Sockets that a killed run left there have to be removed by hand.
 
 Output:
   node NODE ran N           messages that the node handled, those too that were undone again
@@ -162,6 +192,30 @@ const CHECK_HELP: &str = "\
 Output:
   ok
   KEY: VALUE   the model's name, and each of its numbers";
+
+/// The command `node`.
+fn node<'a>(alloc: Global) -> Result<Command<'a>, AllocError>
+    ensures { IfOk result (IsApp node_command) }
+{
+    let command = on_model(alloc, "node", NODE_ABOUT, NODE_HELP);
+    let command = with_argument(command, path(alloc, "SOCKET", SOCKET_HELP));
+    let most = "4294967295";
+    with_argument(
+        command,
+        number_option(alloc, "parcels", most, 1, 4_294_967_295, PARCELS_HELP),
+    )
+}
+
+const NODE_ABOUT: &str = "Works as a node of a run, behind a Unix socket";
+
+const SOCKET_HELP: &str = "The path of the socket, which the run has made";
+
+const PARCELS_HELP: &str = "After how many replies it ends, 1 to 4294967295";
+
+const NODE_HELP: &str = "\
+'run --sockets' starts it. It takes the run's word for what it simulates, and ends where the run
+closes the connection, after a fault of the node, which it tells the run, or after N replies.
+It prints nothing.";
 
 /// A command on a model file and a disk.
 fn on_disk<'a>(
@@ -241,5 +295,46 @@ fn number_option<'a>(
         .value_name("N")
         .value_parser(ValueParser::unsigned(least, most))
         .default_value(default)
+        .help(help)
+}
+
+/// An option whose value is a number from `least` to `most`, and which may be left out.
+fn optional_number<'a>(
+    alloc: Global,
+    name: &'a str,
+    value: &'a str,
+    least: u64,
+    most: u64,
+    help: &'a str,
+) -> Arg<'a>
+    ensures rule { rule_of result ≡ optional_number name.entry.now least most }
+    ensures local { result.global ≡ false }
+{
+    Arg::new(alloc, name)
+        .long(name)
+        .value_name(value)
+        .value_parser(ValueParser::unsigned(least, most))
+        .help(help)
+}
+
+/// An option whose value is a path, and which may be left out.
+fn optional_path<'a>(alloc: Global, name: &'a str, value: &'a str, help: &'a str) -> Arg<'a>
+    ensures rule { rule_of result ≡ optional_path name.entry.now }
+    ensures local { result.global ≡ false }
+{
+    Arg::new(alloc, name)
+        .long(name)
+        .value_name(value)
+        .help(help)
+}
+
+/// An option without a value.
+fn flag<'a>(alloc: Global, name: &'a str, help: &'a str) -> Arg<'a>
+    ensures rule { rule_of result ≡ flag name.entry.now }
+    ensures local { result.global ≡ false }
+{
+    Arg::new(alloc, name)
+        .long(name)
+        .action(ArgAction::SetTrue)
         .help(help)
 }

@@ -1,8 +1,9 @@
 // Reading the command line.
 
-ghost use Rattle.std.specs.Prelude.{◌≡◌, ◌≤◌, map, IfOk};
-ghost use Rattle.clap.specs.Words.{fault_of, found_of, rows_of, FailsBy};
-ghost use Rattle.lines.specs.Line.{is_named, number_in, program, text_in, IsRanged, Says, SaysRows};
+ghost use Rattle.std.specs.Prelude.{◌≡◌, ◌≤◌, map, option_map, IfOk};
+ghost use Rattle.clap.specs.Words.{fault_of, first_of, found_of, rows_of, FailsBy};
+ghost use Rattle.lines.specs.Line.{is_named, number_in, optional_number_in, program, text_in};
+ghost use Rattle.lines.specs.Line.{IsFlagIn, IsRanged, Says, SaysRows};
 
 use crate::grammar::{Texts, program};
 use clap::{ArgMatches, Error};
@@ -33,6 +34,16 @@ pub enum Line<'a> {
         batch: u32,
         /// How many rounds are made at most, at least 1.
         rounds: u32,
+        /// After how many rounds a checkpoint follows the commit each time, at least 1; none for no
+        /// checkpoints.
+        checkpoint: Option<u32>,
+        /// The folder with the sockets of nodes that are programs of their own; none where the nodes
+        /// are in this program.
+        sockets: Option<&'a str>,
+        /// The node whose program ends after one reply.
+        cut: Option<u32>,
+        /// Whether all nodes are posted to before a reply is taken.
+        together: bool,
     },
     /// Print the committed events of a disk.
     Log {
@@ -57,6 +68,15 @@ pub enum Line<'a> {
     Check {
         /// The path of the file.
         model: &'a str,
+    },
+    /// Serve as a node behind a socket.
+    Node {
+        /// The path of the model file.
+        model: &'a str,
+        /// The path of the socket.
+        socket: &'a str,
+        /// How many parcels are answered at most, at least 1.
+        parcels: u32,
     },
 }
 
@@ -101,6 +121,10 @@ fn line_of<'a>(name: &str, values: &ArgMatches<'a>) -> Line<'a>
             nodes: number(values, "nodes", 1, 64),
             batch: number(values, "batch", 1, u32::MAX),
             rounds: number(values, "rounds", 1, u32::MAX),
+            checkpoint: optional_number(values, "checkpoint", 1, 1_000_000),
+            sockets: optional_text(values, "sockets"),
+            cut: optional_number(values, "cut", 0, u32::MAX),
+            together: is_flagged(values, "together"),
         },
         "log" => Line::Log {
             model,
@@ -111,7 +135,12 @@ fn line_of<'a>(name: &str, values: &ArgMatches<'a>) -> Line<'a>
             disk: text(values, "DISK"),
         },
         "seq" => Line::Seq { model },
-        _ => Line::Check { model },
+        "check" => Line::Check { model },
+        _ => Line::Node {
+            model,
+            socket: text(values, "SOCKET"),
+            parcels: number(values, "parcels", 1, u32::MAX),
+        },
     }
 }
 
@@ -132,5 +161,30 @@ fn number(values: &ArgMatches<'_>, id: &str, least: u32, most: u32) -> u32
     match values.get_one::<u32>(id) {
         Some(number) if least <= number && number <= most => number,
         _ => least,
+    }
+}
+
+/// The text of an option, where it is used.
+fn optional_text<'a>(values: &ArgMatches<'a>, id: &str) -> Option<&'a str>
+    ensures { option_map (λ text. text.now) result ≡ first_of id.now (rows_of (found_of values.now)) }
+{
+    values.get_str(id)
+}
+
+/// Whether an option without a value is used.
+fn is_flagged(values: &ArgMatches<'_>, id: &str) -> bool
+    ensures { IsFlagIn id.now (rows_of (found_of values.now)) result }
+{
+    values.get_flag(id)
+}
+
+/// The number of an option, where it is used.
+fn optional_number(values: &ArgMatches<'_>, id: &str, least: u32, most: u32) -> Option<u32>
+    requires { least ≤ most }
+    ensures { result ≡ optional_number_in id.now least most (rows_of (found_of values.now)) }
+{
+    match values.get_str(id) {
+        Some(_) => Some(number(values, id, least, most)),
+        None => None,
     }
 }

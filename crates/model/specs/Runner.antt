@@ -46,6 +46,13 @@ pub record RunsTo (m : Meaning) (bound : ℕ) (old new : World) : Type 0 where
   pub left : IsIdle bound new
   pub time : new.time ≡ max old.time bound
 
+-- a world whose processes can be loaded on nodes that go on from its time, before this end
+pub record IsLoadable (lps end : ℕ) (w : World) : Type 0 where
+  pub world : IsWorld lps w
+  pub numbers : Every (λ number. number ≤ 2 ^ 63) w.numbers
+  pub within : w.time ≤ end
+  pub left : IsIdle w.time w
+
 -- what holds of every world that a simulation reaches
 pub record IsReached (lps : ℕ) (w : World) : Type 0 where
   pub world : IsWorld lps w

@@ -14,6 +14,16 @@ pub record World : Type 0 where
   pub pending : List Message  -- a bag
   pub log : List Message
 
+-- the world of these parts
+abbrev pub world_with : ℕ → List (List ℕ) → List ℕ → List Message → List Message → World
+world_with time states numbers pending log = record {
+  time = time;
+  states = states;
+  numbers = numbers;
+  pending = pending;
+  log = log;
+}
+
 -- 0, 1, .. below n
 abbrev pub below : ℕ → List ℕ
 below zero = []

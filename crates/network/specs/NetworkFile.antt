@@ -1,9 +1,15 @@
--- What the table of a network's model file says: exactly these eight keys.
-use Rattle.std.specs.Prelude.{◌≡◌, ℕ, ◌-◌, ◌/◌, ◌^◌, List, [], Some, codes}
+-- What the table of a network's model file says: exactly these eight keys; and what is wrong with
+-- one that says nothing.
+use Rattle.std.specs.Prelude.{◌≡◌, ℕ, ◌-◌, ◌/◌, ◌^◌, List, [], ◌∷◌, ◌++◌, Some, codes, unwrap_or}
 use Rattle.network.specs.Network.{Torus}
 use Rattle.texts.specs.AnyModel.{line_then}
-use Rattle.texts.specs.ModelFile.{key_count, number_at}
+use Rattle.texts.specs.ModelFile.{NumberKey, Wrong, number_at, number_key, numbers_wrong, unknown_wrong}
 use Rattle.toml.specs.Data.{Members}
+
+-- the keys of a network
+abbrev pub network_keys : List (List ℕ)
+network_keys = codes "end" ∷ codes "width" ∷ codes "height" ∷ codes "service"
+    ∷ codes "wire" ∷ codes "gap" ∷ codes "seed" ∷ codes "work" ∷ []
 
 -- the table of a network that is run to this end
 pub record IsNetworkTable (table : Members) (n : Torus) (end : ℕ) : Type 0 where
@@ -15,7 +21,26 @@ pub record IsNetworkTable (table : Members) (n : Torus) (end : ℕ) : Type 0 whe
   pub gap : number_at (codes "gap") 1 (2 ^ 32 - 1) table ≡ Some n.gap
   pub seed : number_at (codes "seed") 0 (2 ^ 63 - 1) table ≡ Some n.seed
   pub work : number_at (codes "work") 0 (2 ^ 32 - 1) table ≡ Some n.work
-  pub only : key_count table ≡ 8
+  pub only : unknown_wrong network_keys table ≡ []
+
+-- the most rows that there may be: where the width is not said, those of the narrowest torus
+abbrev pub most_rows : Members → ℕ
+most_rows table = 1024 / unwrap_or (number_at (codes "width") 1 1024 table) 1
+
+abbrev pub network_numbers : Members → List NumberKey
+network_numbers table = number_key (codes "end") 1 (2 ^ 40)
+    ∷ number_key (codes "width") 1 1024
+    ∷ number_key (codes "height") 1 (most_rows table)
+    ∷ number_key (codes "service") 1 (2 ^ 32 - 1)
+    ∷ number_key (codes "wire") 0 (2 ^ 32 - 1)
+    ∷ number_key (codes "gap") 1 (2 ^ 32 - 1)
+    ∷ number_key (codes "seed") 0 (2 ^ 63 - 1)
+    ∷ number_key (codes "work") 0 (2 ^ 32 - 1) ∷ []
+
+-- what is wrong with the table of a network
+abbrev pub network_wrong : Members → List Wrong
+network_wrong table =
+    numbers_wrong (network_numbers table) table ++ unknown_wrong network_keys table
 
 -- the values of what goes on in it, and all its values
 abbrev pub rates_text : Torus → List ℕ

@@ -1,13 +1,13 @@
 // Networks as model files describe them.
 
-ghost use Rattle.std.specs.Prelude.{◌≡◌, ◌≤◌, ◌^◌, ℕ, IfOk, IsErr};
+ghost use Rattle.std.specs.Prelude.{◌≡◌, ◌≤◌, ◌/◌, ◌^◌, ℕ, IfOk, IfSome, IsErr, unwrap_or};
 ghost use Rattle.network.specs.Network.{Torus};
-ghost use Rattle.network.specs.NetworkFile.{IsNetworkTable, network_text};
+ghost use Rattle.network.specs.NetworkFile.{IsNetworkTable, network_text, network_wrong};
 ghost use Rattle.toml.specs.View.{table_view};
 
 use crate::network::Network;
 use std::alloc::{AllocError, Global};
-use texts::{Described, Mistake, ModelFault, number_at, only};
+use texts::{Described, Findings, Mistake, ModelFault, number_at, only};
 use toml::Table;
 
 /// What the help of a program says of the keys of a network's model file.
@@ -27,10 +27,19 @@ impl Described for Network {
 
     ghost shows = { λ n end. network_text n.torus end };
 
+    ghost wrong = { network_wrong };
+
     fn describe(_alloc: Global, table: &Table) -> Result<(Network, u64), ModelFault> {
         match network_of(table) {
             Ok(file) => Ok(file),
             Err(mistake) => Err(ModelFault::BadModel(mistake)),
+        }
+    }
+
+    fn mistakes(alloc: Global, table: &Table) -> Result<Findings, AllocError> {
+        match network_of(table) {
+            Ok(_file) => Ok(Findings::new(alloc)),
+            Err(_mistake) => mistakes_of(alloc, table),
         }
     }
 
@@ -41,6 +50,11 @@ impl Described for Network {
 
 /// The greatest number of ticks, or of words, that a key says.
 const MOST: u64 = (1 << 32) - 1;
+
+/// The keys of a network.
+const KEYS: [&str; 8] = [
+    "end", "width", "height", "service", "wire", "gap", "seed", "work",
+];
 
 /// The network and the end of a table.
 fn network_of(table: &Table) -> Result<(Network, u64), Mistake>
@@ -58,7 +72,7 @@ fn network_of(table: &Table) -> Result<(Network, u64), Mistake>
     let gap = number_at(table, "gap", 1, MOST)?;
     let seed = number_at(table, "seed", 0, u64::MAX >> 1)?;
     let work = number_at(table, "work", 0, MOST)?;
-    only(table, 8)?;
+    only(table, &KEYS)?;
     Ok((
         Network::new(
             width as u32,
@@ -71,4 +85,29 @@ fn network_of(table: &Table) -> Result<(Network, u64), Mistake>
         ),
         end,
     ))
+}
+
+/// What is wrong with a table.
+fn mistakes_of(alloc: Global, table: &Table) -> Result<Findings, AllocError>
+    ensures { IfOk result (λ found. found ≡ network_wrong (table_view table.now)) }
+{
+    let mut found = Findings::new(alloc);
+    found.number_at(alloc, table, "end", 1, 1 << 40)?;
+    let width = found.number_at(alloc, table, "width", 1, 1024)?;
+    found.number_at(alloc, table, "height", 1, most_rows(width))?;
+    found.number_at(alloc, table, "service", 1, MOST)?;
+    found.number_at(alloc, table, "wire", 0, MOST)?;
+    found.number_at(alloc, table, "gap", 1, MOST)?;
+    found.number_at(alloc, table, "seed", 0, u64::MAX >> 1)?;
+    found.number_at(alloc, table, "work", 0, MOST)?;
+    found.others(alloc, table, &KEYS)?;
+    Ok(found)
+}
+
+/// The most rows of a torus of this width, or of the narrowest.
+fn most_rows(width: Option<u64>) -> u64
+    requires { IfSome width (λ n. (1 ≤ n) × (n ≤ 1024)) }
+    ensures { result ≡ 1024 / unwrap_or width 1 }
+{
+    1024 / width.unwrap_or(1)
 }

@@ -1,2 +1,3 @@
+mod Ports
 mod Printed
 mod Runs

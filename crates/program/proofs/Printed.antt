@@ -1,13 +1,18 @@
 -- What the commands print, in one form.
-use Rattle.std.specs.Prelude.{◌≡◌, ◌⊎◌, ◌≢◌, ℕ, List, Option, Result, Ok, Err, OnOk, OnErr, length}
+use Rattle.std.specs.Io.KnownBytes.{Appends}
+use Rattle.std.specs.Prelude.{◌≡◌, ◌⊎◌, ◌≢◌, ℕ, List, Option, Result, Ok, Err, OnOk, OnErr}
 use Rattle.std.proofs.Common.{refl, inl, inr}
-use Rattle.commands.specs.Commands.{BeginsCommitted, BeginsRan, PrintsCommitted, PrintsRan, ran_text}
+use Rattle.commands.specs.Commands.{BeginsCommitted, PrintsCommitted, TellsRun, TellsRunOver, ran_text}
 use Rattle.commands.specs.declared.fault.CommandFault.{CommandFault}
 use Rattle.commands.specs.declared.fault.CommandFault.TheVariants as on_disk
+use Rattle.disk.specs.Disk.{DiskState}
+use Rattle.driver.specs.declared.rounds.Plan.{Plan}
+use Rattle.eventkey.specs.Writing.{TakesBeginning}
 use Rattle.model.specs.World.{World}
 use Rattle.model.specs.Meaning.{Meaning}
 use Rattle.texts.specs.ModelFile.{IsModelFile}
-use Rattle.program.specs.Command.{Begins, Describes, IsCommitted, IsRan, IsWhole, Prints, PrintsBeginning, PrintsRun, run_text}
+use Rattle.wire.specs.Port.{PortState}
+use Rattle.program.specs.Command.{Begins, Describes, IsCommitted, IsRan, IsRanBehind, IsWhole, Prints, PrintsBeginning, PrintsRun, run_text}
 use Rattle.program.specs.declared.fault.Fault.{Fault}
 use Rattle.program.specs.declared.fault.Fault.TheVariants as fault
 
@@ -47,46 +52,41 @@ module _ {T A B : Type 0} where
   on_fault (Err (fault.Log f)) h k = inl (k (fault.Log f) refl (λ e. cc))
   on_fault (Err (fault.Recovery f)) h k = inl (k (fault.Recovery f) refl (λ e. cc))
   on_fault (Err (fault.Session f)) h k = inl (k (fault.Session f) refl (λ e. cc))
+  on_fault (Err (fault.Wire f)) h k = inl (k (fault.Wire f) refl (λ e. cc))
   on_fault (Err fault.Rounds) h k = inl (k fault.Rounds refl (λ e. cc))
   on_fault (Err (fault.Mistake f)) h k = inl (k (fault.Mistake f) refl (λ e. cc))
   on_fault (Err fault.NoMemory) h k = inl (k fault.NoMemory refl (λ e. cc))
 
+-- what is told of a run, of the model of a file
+module _ {M : Type 0} (meaning : M → Meaning) (says : Describes M) (source : List ℕ) (model : M) (end : ℕ) (file : IsModelFile says source model end) where
+  ran_taken : {Taken : List ℕ → Type 0} (image : List (List ℕ)) (nodes : ℕ) → TellsRun (meaning model) end nodes image Taken → (text : List ℕ) × IsRan meaning says nodes text × Taken text
+  ran_taken image nodes p = (
+    ran_text p.ran p.time p.events,
+    record {
+      source = source;
+      model = model;
+      end = end;
+      image = image;
+      ran = p.ran;
+      time = p.time;
+      events = p.events;
+      file = file;
+      each = p.each;
+      reached = p.reached;
+      genuine = p.genuine;
+      is = refl;
+    },
+    p.taken,
+  )
+
+  pub ran_printed : (image : List (List ℕ)) (nodes : ℕ) (old new : Option (List ℕ)) → TellsRun (meaning model) end nodes image (Appends old new) → Prints (IsRan meaning says nodes) old new
+  ran_printed image nodes old new p = ran_taken image nodes p
+
+  pub ran_begun : (image : List (List ℕ)) (nodes : ℕ) (old new : Option (List ℕ)) → TellsRun (meaning model) end nodes image (TakesBeginning old new) → Begins (IsRan meaning says nodes) old new
+  ran_begun image nodes old new p = ran_taken image nodes p
+
 module _ {M : Type 0} (meaning : M → Meaning) (says : Describes M) {old new : Option (List ℕ)} where
   module _ (source : List ℕ) (model : M) (end : ℕ) (file : IsModelFile says source model end) where
-    pub ran_printed : (nodes : ℕ) → PrintsRan (meaning model) end nodes old new → Prints (IsRan meaning says nodes) old new
-    ran_printed nodes p = (
-      ran_text p.ran end (length p.world.log),
-      record {
-        source = source;
-        model = model;
-        end = end;
-        ran = p.ran;
-        world = p.world;
-        file = file;
-        each = p.each;
-        upto = p.upto;
-        is = refl;
-      },
-      p.printed,
-    )
-
-    pub ran_begun : (nodes : ℕ) → BeginsRan (meaning model) end nodes old new → Begins (IsRan meaning says nodes) old new
-    ran_begun nodes p = (
-      ran_text p.ran end (length p.world.log),
-      record {
-        source = source;
-        model = model;
-        end = end;
-        ran = p.ran;
-        world = p.world;
-        file = file;
-        each = p.each;
-        upto = p.upto;
-        is = refl;
-      },
-      p.part,
-    )
-
     pub committed_printed : (image : List (List ℕ)) (shown : World → List ℕ) → PrintsCommitted (meaning model) end image shown old new → Prints (IsCommitted meaning says shown) old new
     committed_printed image shown p = (
       shown p.world,
@@ -97,8 +97,8 @@ module _ {M : Type 0} (meaning : M → Meaning) (says : Describes M) {old new : 
         image = image;
         world = p.world;
         file = file;
-        stands = p.stands;
-        upto = p.upto;
+        replayed = p.replayed;
+        genuine = p.genuine;
         within = p.within;
         is = refl;
       },
@@ -115,8 +115,8 @@ module _ {M : Type 0} (meaning : M → Meaning) (says : Describes M) {old new : 
         image = image;
         world = p.world;
         file = file;
-        stands = p.stands;
-        upto = p.upto;
+        replayed = p.replayed;
+        genuine = p.genuine;
         within = p.within;
         is = refl;
       },
@@ -128,3 +128,29 @@ module _ {M : Type 0} (meaning : M → Meaning) (says : Describes M) {old new : 
 
   pub whole_begun : (source : List ℕ) → PrintsBeginning meaning says source old new → Begins (IsWhole meaning says) old new
   whole_begun source p = (run_text p.world, record { source = source; model = p.model; end = p.end; world = p.world; file = p.file; upto = p.upto; is = refl }, p.part)
+
+-- a run over whatever ports
+module _ {M P D : Type 0} (meaning : M → Meaning) (says : Describes M) (state : P → PortState) (disk : D → DiskState) (source : List ℕ) (model : M) (end : ℕ) (file : IsModelFile says source model end) (plan : Plan) (begun left : D) where
+  behind : {Taken : List ℕ → Type 0} → TellsRunOver meaning state disk model end plan begun left Taken → (text : List ℕ) × IsRanBehind says plan.nodes text × Taken text
+  behind p = (
+    ran_text p.ran p.time p.events,
+    record {
+      source = source;
+      model = model;
+      end = end;
+      ran = p.ran;
+      time = p.time;
+      events = p.events;
+      file = file;
+      each = p.each;
+      reached = p.over.reached;
+      is = refl;
+    },
+    p.taken,
+  )
+
+  pub behind_printed : (old new : Option (List ℕ)) → TellsRunOver meaning state disk model end plan begun left (Appends old new) → Prints (IsRanBehind says plan.nodes) old new
+  behind_printed old new p = behind p
+
+  pub behind_begun : (old new : Option (List ℕ)) → TellsRunOver meaning state disk model end plan begun left (TakesBeginning old new) → Begins (IsRanBehind says plan.nodes) old new
+  behind_begun old new p = behind p

@@ -1,15 +1,17 @@
 -- What the program prints (this project's profile).
 use Rattle.std.specs.Io.KnownBytes.{Appends}
-use Rattle.std.specs.Prelude.{◌≡◌, ◌≤◌, ℕ, List, [], ◌++◌, Option, codes, length}
-use Rattle.commands.specs.Commands.{formatted_text, ran_text}
+use Rattle.std.specs.Prelude.{◌≡◌, ◌≤◌, ℕ, List, [], ◌++◌, None, Option, Some, codes, length}
+use Rattle.commands.specs.Commands.{StandsUpto, formatted_text, ran_text}
 use Rattle.commands.specs.declared.fault.CommandFault.{CommandFault}
 use Rattle.commands.specs.declared.fault.CommandFault.TheVariants as on_disk
 use Rattle.disk.specs.declared.file.FileFault.{FileFault}
 use Rattle.disk.specs.declared.file.FileFault.TheVariants as opening
-use Rattle.recovery.specs.Stands.{Stands}
+use Rattle.driver.specs.Driver.{IsRunOf}
+use Rattle.recovery.specs.Replay.{IsReplayedTo}
+use Rattle.recovery.specs.Stands.{IsGenuine}
 use Rattle.lines.specs.Line.{Says}
 use Rattle.lines.specs.declared.line.Line.{Line}
-use Rattle.lines.specs.declared.line.Line.TheVariants.{Check, Log, New, Run, Seq, Show}
+use Rattle.lines.specs.declared.line.Line.TheVariants.{Check, Log, New, Node, Run, Seq, Show}
 use Rattle.model.specs.Meaning.{Meaning}
 use Rattle.model.specs.World.{IsUpto, World}
 use Rattle.toml.specs.Data.{Members}
@@ -79,20 +81,40 @@ pub record PrintsBeginning {M : Type 0} (meaning : M → Meaning) (says : Descri
 abbrev pub IsFormatted : ℕ → List ℕ → Type 0
 IsFormatted sectors text = text ≡ formatted_text sectors
 
--- what each node handled, and how many events the sequential simulation up to the end has
+-- What each node handled, the time that was reached, and how many events are committed. Where the
+-- image from which the run began is genuine, they are those of the sequential simulation up to the
+-- end.
 pub record IsRan {M : Type 0} (meaning : M → Meaning) (says : Describes M)
     (nodes : ℕ) (text : List ℕ) : Type 0 where
   pub source : List ℕ
   pub model : M
   pub end : ℕ
+  pub image : List (List ℕ)
   pub ran : List ℕ
-  pub world : World
+  pub time : ℕ
+  pub events : ℕ
   pub file : IsModelFile says source model end
   pub each : length ran ≡ nodes
-  pub upto : IsUpto (meaning model) end end world
-  pub is : text ≡ ran_text ran end (length world.log)
+  pub reached : end ≤ time
+  pub genuine : IsGenuine (meaning model) end image → IsRunOf (meaning model) end time events
+  pub is : text ≡ ran_text ran time events
 
--- the text of the world for which a disk stands, the sequential simulation up to its time
+-- What programs behind sockets told that each node handled, and the time that was reached, not
+-- before the end, with a number of events. No more is promised of a run over such programs.
+pub record IsRanBehind {M : Type 0} (says : Describes M) (nodes : ℕ) (text : List ℕ) : Type 0 where
+  pub source : List ℕ
+  pub model : M
+  pub end : ℕ
+  pub ran : List ℕ
+  pub time : ℕ
+  pub events : ℕ
+  pub file : IsModelFile says source model end
+  pub each : length ran ≡ nodes
+  pub reached : end ≤ time
+  pub is : text ≡ ran_text ran time events
+
+-- The text of the world to which the image of a disk is replayed. Where the image is genuine it
+-- stands for that world, the sequential simulation up to its time.
 pub record IsCommitted {M : Type 0} (meaning : M → Meaning) (says : Describes M)
     (shown : World → List ℕ) (text : List ℕ) : Type 0 where
   pub source : List ℕ
@@ -101,8 +123,8 @@ pub record IsCommitted {M : Type 0} (meaning : M → Meaning) (says : Describes 
   pub image : List (List ℕ)
   pub world : World
   pub file : IsModelFile says source model end
-  pub stands : Stands (meaning model) end image world
-  pub upto : IsUpto (meaning model) end world.time world
+  pub replayed : IsReplayedTo (meaning model) end image world
+  pub genuine : IsGenuine (meaning model) end image → StandsUpto (meaning model) end image world
   pub within : world.time ≤ end
   pub is : text ≡ shown world
 
@@ -136,14 +158,21 @@ IsChecked {M} says shows source text = (model : M) × (end : ℕ) × IsModelFile
 abbrev pub IsSomeChecked : {M : Type 0} → Describes M → Shows M → List ℕ → Type 0
 IsSomeChecked says shows text = (source : List ℕ) × IsChecked says shows source text
 
+-- what a run prints, over nodes in this program, or behind sockets in a folder
+abbrev pub IsRanOver : {M : Type 0} → (M → Meaning) → Describes M → {S : Type 0} → Option S → ℕ → List ℕ → Type 0
+IsRanOver meaning says None nodes text = IsRan meaning says nodes text
+IsRanOver meaning says (Some folder) nodes text = IsRanBehind says nodes text
+
 -- a text that the command of a line prints
 abbrev pub IsOutput : {M : Type 0} → (M → Meaning) → Describes M → Shows M → Line → List ℕ → Type 0
 IsOutput meaning says shows (New model disk sectors) text = IsFormatted sectors text
-IsOutput meaning says shows (Run model disk nodes batch rounds) text = IsRan meaning says nodes text
+IsOutput meaning says shows (Run model disk nodes batch rounds checkpoint sockets cut together) text =
+    IsRanOver meaning says sockets nodes text
 IsOutput meaning says shows (Log model disk) text = IsLogged meaning says text
 IsOutput meaning says shows (Show model disk) text = IsShown meaning says text
 IsOutput meaning says shows (Seq model) text = IsWhole meaning says text
 IsOutput meaning says shows (Check model) text = IsSomeChecked says shows text
+IsOutput meaning says shows (Node model socket parcels) text = text ≡ []
 
 -- the writer has taken one of these texts, and nothing else
 abbrev pub Prints : (List ℕ → Type 0) → Option (List ℕ) → Option (List ℕ) → Type 0

@@ -2,7 +2,8 @@
 
 ghost use Rattle.std.specs.Prelude.{◌≡◌};
 ghost use Rattle.program.specs.Command.{of_command, of_file, of_model};
-ghost use Rattle.program.specs.declared.fault.Fault.TheVariants.{NoMemory, Output, World as WorldCase};
+ghost use Rattle.program.specs.declared.fault.Fault.TheVariants.{NoMemory, Output};
+ghost use Rattle.program.specs.declared.fault.Fault.TheVariants.{Wire as WireCase, World as WorldCase};
 
 use commands::CommandFault;
 use commitlog::LogFault;
@@ -10,10 +11,11 @@ use coordinator::SessionFault;
 use disk::FileFault;
 use model::WorldFault;
 use recovery::RecoveryFault;
-use std::alloc::AllocError;
+use std::alloc::{AllocError, AllocFailed};
 use std::io::Error as IoError;
 use texts::{Mistake, ModelFault};
 use thiserror::Error;
+use wire::WireFault;
 
 /// Why a command failed. Its text is its name, and after a blank that of the fault that it carries.
 #[derive(Clone, Copy, Debug, PartialEq, Eq, Error)]
@@ -21,7 +23,8 @@ pub enum Fault {
     /// The text is no model file.
     #[error("BadModel")]
     BadModel,
-    /// A file cannot be read, or is no disk of the size that is wanted.
+    /// A file cannot be read, or is no disk of the size that is wanted; or a node's socket is not
+    /// made, or its program does not start or does not connect.
     #[error("File")]
     File,
     /// The plain runner refused.
@@ -36,6 +39,9 @@ pub enum Fault {
     /// The session of a run refused its opening or a step.
     #[error("Session {0}")]
     Session(SessionFault),
+    /// What came to a node is no frame in its place, or its connection failed.
+    #[error("Wire {0}")]
+    Wire(WireFault),
     /// All rounds of a run are made, and not all is committed.
     #[error("Rounds")]
     Rounds,
@@ -58,7 +64,8 @@ impl Fault {
             Fault::BadModel => Some("the command `check` says what is wrong with the model file"),
             Fault::File => Some(
                 "see that both files are there and may be read, that the disk has 8 to 131072 \
-                 sectors of 512 bytes (with `new` as many as asked for), and that no other run has it",
+                 sectors of 512 bytes (with `new` as many as asked for), and that no other run has \
+                 it; with --sockets, that the folder is there and holds no socket of an earlier run",
             ),
             Fault::Log(LogFault::NotBlank) => Some("the disk has a log already, which `new` keeps"),
             Fault::Log(LogFault::NotFormatted) => Some("`new` makes a log on a disk"),
@@ -104,6 +111,14 @@ impl From<WorldFault> for Fault {
     }
 }
 
+impl From<WireFault> for Fault {
+    ghost from_gives = { λ fault e. e ≡ WireCase fault };
+
+    fn from(fault: WireFault) -> Fault {
+        Fault::Wire(fault)
+    }
+}
+
 impl From<CommandFault> for Fault {
     ghost from_gives = { λ fault e. e ≡ of_command fault };
 
@@ -135,6 +150,15 @@ impl From<AllocError> for Fault {
     ghost from_gives = { λ _ e. e ≡ NoMemory };
 
     fn from(_refused: AllocError) -> Fault {
+        Fault::NoMemory
+    }
+}
+
+/// Where memory is refused for what is gathered.
+impl<T: Drop> From<AllocFailed<T>> for Fault {
+    ghost from_gives = { λ _ e. e ≡ NoMemory };
+
+    fn from(_refused: AllocFailed<T>) -> Fault {
         Fault::NoMemory
     }
 }

@@ -2,9 +2,10 @@
 
 ghost use Rattle.std.specs.IoError.{error_kind};
 ghost use Rattle.std.specs.Prelude.{◌≡◌, ◌≤◌, ◌^◌, ◌≢◌, ◌⊎◌, ℕ, List, Err, length};
-ghost use Rattle.std.specs.Prelude.{IfOk, IsOkUnless, MatchResult, OnErr, OnOk};
+ghost use Rattle.std.specs.Prelude.{IfOk, IsOkUnless, IsSomeAnd, MatchResult, OnErr, OnOk};
 ghost use Rattle.std.specs.Str.{IsUtf8};
 ghost use Rattle.eventkey.specs.Writing.{Writes};
+ghost use Rattle.texts.specs.Mistakes.{AreMistakes};
 ghost use Rattle.texts.specs.ModelFile.{IsModelFile};
 ghost use Rattle.program.specs.Command.{checked_text, run_text, Begins, IsChecked, IsSomeChecked};
 ghost use Rattle.program.specs.Command.{IsWhole, Prints, PrintsBeginning, PrintsRun};
@@ -17,7 +18,10 @@ use std::alloc::Global;
 use std::fs;
 use std::io::{Error as IoError, ErrorKind, Result as IoResult, Write};
 use std::rt::Files;
-use texts::{Described, Mistake, ModelFault, read_model, write_log, write_text, write_world};
+use texts::{
+    Described, Mistake, Mistakes, ModelFault, find_mistakes, read_model, write_log, write_text,
+    write_world,
+};
 
 /// Runs the model of a file by the plain runner.
 pub(crate) fn seq_of<M, R, O>(rt: &R, model: &str, out: &mut O) -> Result<(), Fault>
@@ -35,8 +39,13 @@ where
     seq::<M, O>(rt.alloc(), text, out)
 }
 
-/// Says whether a file is a model file.
-pub(crate) fn check_of<M, R, O>(rt: &R, model: &str, out: &mut O) -> Result<(), Fault>
+/// Says whether a file is a model file. At a `Mistake` all of them are found.
+pub(crate) fn check_of<M, R, O>(
+    rt: &R,
+    model: &str,
+    out: &mut O,
+    found: &mut Option<Mistakes>,
+) -> Result<(), Fault>
 where
     M: Described,
     R: Files + AllocGlobal,
@@ -47,8 +56,13 @@ where
         ⊎ Begins (IsSomeChecked M.says M.shows) (O.contents out.old) (O.contents out.new)) }
 {
     let bytes = fs::read(rt, model).map_err(unreadable)?;
-    let text = text_of(bytes.as_slice()).map_err(Fault::Mistake)?;
-    check::<M, O>(rt.alloc(), text, out)
+    match text_of(bytes.as_slice()) {
+        Ok(text) => check::<M, O>(rt.alloc(), text, out, found),
+        Err(mistake) => {
+            *found = Some(find_mistakes::<M>(rt.alloc(), bytes.as_slice())?);
+            Err(Fault::Mistake(mistake))
+        }
+    }
 }
 
 /// Runs the model of a model file to its end by the plain runner, and writes the log and then the
@@ -96,12 +110,20 @@ fn write_run<O: Write>(world: World, out: &mut O) -> Result<(), Fault>
 /// Says whether a text is a model file: writes `ok`, and what the model shows of its values.
 ///
 /// The faults come in this order: `Mistake` where the text is no model file, or `NoMemory` where
-/// memory runs out; `Output` where the writer refuses. Before the last nothing is written.
-pub fn check<M: Described, O: Write>(alloc: Global, text: &str, out: &mut O) -> Result<(), Fault>
+/// memory runs out; `Output` where the writer refuses. Before the last nothing is written. A
+/// `Mistake` is the first one that was met, and then all of them are found.
+pub fn check<M: Described, O: Write>(
+    alloc: Global,
+    text: &str,
+    out: &mut O,
+    found: &mut Option<Mistakes>,
+) -> Result<(), Fault>
     ensures ok { OnOk result
         (Prints (IsChecked M.says M.shows text.now) (O.contents out.old) (O.contents out.new)) }
     ensures wrong { (mistake : Mistake) → result ≡ Err (Fault.Mistake mistake) →
         (model : M) (end : ℕ) → ¬ IsModelFile M.says text.now model end }
+    ensures all { (mistake : Mistake) → result ≡ Err (Fault.Mistake mistake) →
+        IsSomeAnd found.new (AreMistakes M.wrong text.now) }
     ensures err { OnErr result ((out.new ≡ out.old)
         ⊎ Begins (IsChecked M.says M.shows text.now) (O.contents out.old) (O.contents out.new)) }
 {
@@ -110,7 +132,10 @@ pub fn check<M: Described, O: Write>(alloc: Global, text: &str, out: &mut O) -> 
             let values = model.values(alloc, end)?;
             write_whole(values.as_str(), out)
         }
-        Err(ModelFault::BadModel(mistake)) => Err(Fault::Mistake(mistake)),
+        Err(ModelFault::BadModel(mistake)) => {
+            *found = Some(find_mistakes::<M>(alloc, text.as_bytes())?);
+            Err(Fault::Mistake(mistake))
+        }
         Err(ModelFault::NoMemory) => Err(Fault::NoMemory),
     }
 }
@@ -163,8 +188,8 @@ fn text_of(bytes: &[u8]) -> Result<&str, Mistake>
     }
 }
 
-/// Why a file could not be read.
-fn unreadable(error: IoError) -> Fault
+/// Why a file could not be read, or made.
+pub(crate) fn unreadable(error: IoError) -> Fault
     ensures memory { error_kind error ≡ ErrorKind.OutOfMemory → result ≡ Fault.NoMemory }
     ensures file { error_kind error ≢ ErrorKind.OutOfMemory → result ≡ Fault.File }
 {

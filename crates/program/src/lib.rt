@@ -5,6 +5,7 @@
 mod disks;
 mod fault;
 mod files;
+mod nodes;
 mod progress;
 mod starting;
 mod status;

@@ -7,6 +7,8 @@ use crate::progress::TerminalProgress;
 use crate::status::{About, answer, tell, words};
 use std::fs::File;
 use std::io::{self, BufWriter, IsTerminal, Print, Write};
+use std::net::Net;
+use std::process::Processes;
 use std::rt::{Env, Files};
 use std::time::Clock;
 use texts::Described;
@@ -19,7 +21,7 @@ use texts::Described;
 pub fn start<M, R, E>(rt: &R, about: About<'_>, mut err: E) -> u8
 where
     M: Described,
-    R: Env + Files<File = File> + Clock + Print + AllocGlobal,
+    R: Env + Files<File = File> + Net + Processes + Clock + Print + AllocGlobal,
     E: Write + IsTerminal + Copy,
     ensures { result ≤ 2 }
 {

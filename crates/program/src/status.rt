@@ -10,6 +10,7 @@ ghost use Rattle.program.specs.Command.{Begins, BeginsSaid, IsOutput, Prints, Pr
 use crate::disks::{format, log_of, run_on, show_of};
 use crate::fault::Fault;
 use crate::files::{check_of, seq_of};
+use crate::nodes::{Behind, run_behind, serve_on};
 use crate::progress::Progress;
 use clap::error::{Error as LineError, ErrorKind as LineFault};
 use driver::Plan;
@@ -18,8 +19,11 @@ use std::convert::AsStr;
 use std::env;
 use std::fs::File;
 use std::io::{Error as IoError, ErrorKind, Result as IoResult, Write};
+use std::net::Net;
+use std::process::Processes;
 use std::rt::{Env, Files};
-use texts::Described;
+use std::time::Clock;
+use texts::{Described, Mistakes};
 
 /// What tells one program from another that simulates models of another kind.
 #[derive(Clone, Copy)]
@@ -43,8 +47,12 @@ pub fn words<R: Env + AllocGlobal>(rt: &R) -> IoResult<Vec<String>> {
 ///
 /// The status is 0 where all is done, 1 where a fault is told on `err` as the program's name, `: `
 /// and its text, and 2 where the words are no command or ask for help, with `clap`'s text on `err`.
+/// Below a mistake in a model file stand all of them, a line for each.
 /// What is asked for is written to `out`, which is flushed at the end. A run tells `progress` how
 /// far it has come, and so does each command of its fault, after that is told.
+///
+/// A run over node programs starts the program of the first word for each node. At its end, and
+/// after any fault, it waits for them, and removes the sockets that it made.
 pub fn command<M, R, S, P, O, E>(
     rt: &R,
     about: About<'_>,
@@ -55,7 +63,7 @@ pub fn command<M, R, S, P, O, E>(
 ) -> u8
 where
     M: Described,
-    R: Files<File = File> + AllocGlobal,
+    R: Files<File = File> + Net + Processes + Clock + AllocGlobal,
     S: AsStr,
     P: Progress,
     O: Write,
@@ -89,11 +97,14 @@ where
         Ok(line) => line,
         Err(error) => return refuse_line(about.name, error, err),
     };
-    match run::<M, R, P, O>(rt, line, progress, out) {
+    let program = words.first().map(AsStr::as_str).unwrap_or("");
+    let mut found = None;
+    match run::<M, R, P, O>(rt, program, line, progress, out, &mut found) {
         Ok(()) => 0,
         Err(fault) => {
             progress.clear();
             let status = tell(about.name, fault, err);
+            tell_all(&found, err);
             progress.failed(fault);
             status
         }
@@ -112,7 +123,7 @@ pub fn answer<M, R, P, O, E>(
 ) -> u8
 where
     M: Described,
-    R: Files<File = File> + AllocGlobal,
+    R: Files<File = File> + Net + Processes + Clock + AllocGlobal,
     P: Progress,
     O: Write,
     E: Write,
@@ -132,11 +143,19 @@ where
     }
 }
 
-/// Does what a line asks for.
-fn run<M, R, P, O>(rt: &R, line: Line<'_>, progress: &mut P, out: &mut O) -> Result<(), Fault>
+/// Does what a line asks for. Node programs are started by this program's name. Where `check` tells
+/// a mistake of a model file, all of them are found.
+fn run<M, R, P, O>(
+    rt: &R,
+    program: &str,
+    line: Line<'_>,
+    progress: &mut P,
+    out: &mut O,
+    found: &mut Option<Mistakes>,
+) -> Result<(), Fault>
 where
     M: Described,
-    R: Files<File = File> + AllocGlobal,
+    R: Files<File = File> + Net + Processes + Clock + AllocGlobal,
     P: Progress,
     O: Write,
     requires { IsRanged line }
@@ -158,18 +177,40 @@ where
             nodes,
             batch,
             rounds,
+            checkpoint,
+            sockets,
+            cut,
+            together,
         } => {
             let plan = Plan {
                 nodes,
                 batch,
                 rounds,
+                together,
+                checkpoint_every: checkpoint.unwrap_or(0),
             };
-            run_on::<M, R, P, O>(rt, model, disk, plan, progress, out)
+            match sockets {
+                None => run_on::<M, R, P, O>(rt, model, disk, plan, progress, out),
+                Some(folder) => {
+                    let behind = Behind {
+                        program,
+                        model,
+                        folder,
+                        cut,
+                    };
+                    run_behind::<M, R, P, O>(rt, behind, disk, plan, progress, out)
+                }
+            }
         }
         Line::Log { model, disk } => log_of::<M, R, O>(rt, model, disk, out),
         Line::Show { model, disk } => show_of::<M, R, O>(rt, model, disk, out),
         Line::Seq { model } => seq_of::<M, R, O>(rt, model, out),
-        Line::Check { model } => check_of::<M, R, O>(rt, model, out),
+        Line::Check { model } => check_of::<M, R, O>(rt, model, out, found),
+        Line::Node {
+            model,
+            socket,
+            parcels,
+        } => serve_on::<M, R>(rt, model, socket, parcels),
     }
 }
 
@@ -220,4 +261,11 @@ pub fn tell<E: Write>(name: &str, fault: Fault, err: &mut E) -> u8
 {
     let _ = writeln!(err, "{name}: {fault}");
     1
+}
+
+/// Tells below a fault all that was found to be wrong with a model file, a line for each.
+fn tell_all<E: Write>(found: &Option<Mistakes>, err: &mut E) {
+    if let Some(mistakes) = found {
+        let _ = write!(err, "{mistakes}");
+    }
 }

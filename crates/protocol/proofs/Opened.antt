@@ -13,8 +13,7 @@ use Rattle.eventkey.specs.declared.Signed.{Signed}
 use Rattle.model.proofs.Steps.{IsUpto_IsReached}
 use Rattle.model.proofs.Worlds.{get_or-below, length-below, words_at}
 use Rattle.model.specs.Meaning.{IsAddressed, Meaning}
-use Rattle.model.specs.Runner.{IsReached}
-use Rattle.model.specs.World.{World, below, number_of, state_of}
+use Rattle.model.specs.World.{IsUpto, World, below, number_of, state_of}
 use Rattle.queues.proofs.Moves.{add_all-ascending}
 use Rattle.queues.specs.Record.{messages}
 use Rattle.process.specs.Process.{Process, nobody, sent_by}
@@ -29,7 +28,7 @@ use Rattle.node.specs.declared.Part.{Part}
 use Rattle.gvt.specs.Ledger.{delivered_by}
 use Rattle.protocol.proofs.Gvt.{KeptFrom, SignedFrom, gvt_above}
 use Rattle.protocol.specs.Picture.{IsBalanced, IsPictureInRange, IsProcessInRange, IsSeatedBy, Picture, floor_at, gvt, node_of, nodes_of, opened, opened_process, process_at}
-use Rattle.protocol.specs.Sound.{IsOpening, IsSoundPicture}
+use Rattle.protocol.specs.Sound.{CanOpen, IsOpening, IsSoundPicture}
 use Rattle.protocol.specs.Laws.{IsLoadedWith, OpenedNodes, OpeningIsSound}
 use Rattle.protocol.specs.Views.{load_of, node_view, part_of}
 
@@ -58,15 +57,12 @@ nothing_sent : (lps nodes : ℕ) (w : World) (ks : List ℕ) → flat_map sent_b
 nothing_sent lps nodes w [] = refl
 nothing_sent lps nodes w (k ∷ ks) = nothing_sent_at w (own_lps nodes k lps) (flat_map (λ (qs : List Process). qs) (map (node_opened lps nodes w) ks)) (nothing_sent lps nodes w ks)
 
-module _ (m : Meaning) (end nodes : ℕ) (w : World) (begins : IsOpening m end nodes w) where
+module _ (m : Meaning) (end nodes : ℕ) (w : World) (can : CanOpen m end nodes w) where
   abbrev first : Picture
   first = opened m.lps nodes w
 
   pub many : nodes_of first ≡ nodes
   many = length-map (below nodes) (node_opened m.lps nodes w) ∙ length-below nodes
-
-  world : IsReached m.lps w
-  world = IsUpto_IsReached m end w.time w begins.lawful begins.short begins.front
 
   pub node_is : (node : ℕ) → node < nodes → node_of first node ≡ node_opened m.lps nodes w node
   node_is node l =
@@ -76,7 +72,7 @@ module _ (m : Meaning) (end nodes : ℕ) (w : World) (begins : IsOpening m end n
   process_is : (lp : ℕ) → lp < m.lps → process_at first lp ≡ opened_process w lp
   process_is lp l =
       let node : ℕ = lp % nodes in
-      let small : node < nodes = mod-lt lp begins.some in
+      let small : node < nodes = mod-lt lp can.some in
       let place = own_place nodes node small m.lps lp refl l in
       ap (λ (n : ℕ). get_or (node_of first (lp % n)) (lp / n) nobody) many
       ∙ ap (λ (qs : List Process). get_or qs (lp / nodes) nobody) (node_is node small)
@@ -84,7 +80,7 @@ module _ (m : Meaning) (end nodes : ℕ) (w : World) (begins : IsOpening m end n
       ∙ ap (opened_process w) place.1
 
   floor_is : (lp : ℕ) → floor_at first lp ≡ w.time
-  floor_is lp = ap (λ (n : ℕ). get_or (replicate nodes w.time) (lp % n) 0) many ∙ get_or-replicate nodes (lp % nodes) w.time 0 (mod-lt lp begins.some)
+  floor_is lp = ap (λ (n : ℕ). get_or (replicate nodes w.time) (lp % n) 0) many ∙ get_or-replicate nodes (lp % nodes) w.time 0 (mod-lt lp can.some)
 
   process_told : (lp : ℕ) → IsTold m lp w.time (state_of w lp) (number_of w lp) w.time [] (opened_process w lp)
   process_told lp = record {
@@ -92,9 +88,9 @@ module _ (m : Meaning) (end nodes : ℕ) (w : World) (begins : IsOpening m end n
     history = (refl, refl);
     state_meets = refl;
     number_meets = refl;
-    number_limit = Every-get_or-default (λ (n : ℕ). n ≤ 2 ^ 63) w.numbers lp 0 world.numbers (omega arith);
+    number_limit = Every-get_or-default (λ (n : ℕ). n ≤ 2 ^ 63) w.numbers lp 0 can.loadable.numbers (omega arith);
     ascending = tt;
-    waiting_ascending = IsAscending-filter (λ (x : Message). x.to == lp) w.pending world.world.ascending;
+    waiting_ascending = IsAscending-filter (λ (x : Message). x.to == lp) w.pending can.loadable.world.ascending;
     antis_ascending = tt;
     behind = Every-all (λ (y : Message). Every (λ (d : Message). IsAtMost d y) []) (λ _. tt) (filter (λ (x : Message). x.to == lp) w.pending);
     own_told = tt;
@@ -104,7 +100,7 @@ module _ (m : Meaning) (end nodes : ℕ) (w : World) (begins : IsOpening m end n
     told_from = tt;
     told_below = tt;
     done_from = tt;
-    waiting_from = Every-filter (λ (x : Message). w.time ≤ x.time) (λ (x : Message). x.to == lp) w.pending begins.front.left;
+    waiting_from = Every-filter (λ (x : Message). w.time ≤ x.time) (λ (x : Message). x.to == lp) w.pending can.loadable.left;
     antis_from = tt;
   }
 
@@ -127,7 +123,7 @@ module _ (m : Meaning) (end nodes : ℕ) (w : World) (begins : IsOpening m end n
         (λ node. Every-map IsProcessInRange (opened_process w) (own_lps nodes node m.lps)
         (Every-all (λ (lp : ℕ). IsProcessInRange (opened_process w lp)) (λ lp. (
           tt,
-          Every-weaker (IsAddressed m.lps) IsRanged (λ x h. h.ranged) (filter (λ (x : Message). x.to == lp) w.pending) (Every-filter (IsAddressed m.lps) (λ (x : Message). x.to == lp) w.pending world.world.addressed),
+          Every-weaker (IsAddressed m.lps) IsRanged (λ x h. h.ranged) (filter (λ (x : Message). x.to == lp) w.pending) (Every-filter (IsAddressed m.lps) (λ (x : Message). x.to == lp) w.pending can.loadable.world.addressed),
           tt,
         )) (own_lps nodes node m.lps))) (below nodes)),
     subst (Every (λ (s : Signed). IsRanged s.message)) (sym (nothing_delivered nodes)) tt,
@@ -146,19 +142,19 @@ module _ (m : Meaning) (end nodes : ℕ) (w : World) (begins : IsOpening m end n
 
   gvt_from : w.time ≤ gvt end first
   gvt_from =
-      gvt_above end w.time first begins.soon
+      gvt_above end w.time first can.loadable.within
       (Every-map (λ (qs : List Process). Every (KeptFrom w.time) qs) (node_opened m.lps nodes w) (below nodes)
       (Every-all (λ (node : ℕ). Every (KeptFrom w.time) (node_opened m.lps nodes w node))
       (λ node. Every-map (KeptFrom w.time) (opened_process w) (own_lps nodes node m.lps)
       (Every-all (λ (lp : ℕ). KeptFrom w.time (opened_process w lp))
       (λ lp. Every-append (IsFrom w.time) (filter (λ (x : Message). x.to == lp) w.pending) []
-      (Every-filter (λ (x : Message). w.time ≤ x.time) (λ (x : Message). x.to == lp) w.pending begins.front.left) tt) (own_lps nodes node m.lps))) (below nodes)))
+      (Every-filter (λ (x : Message). w.time ≤ x.time) (λ (x : Message). x.to == lp) w.pending can.loadable.left) tt) (own_lps nodes node m.lps))) (below nodes)))
       (subst (Every (SignedFrom w.time)) (sym (nothing_delivered nodes)) tt)
 
-  opened_sound : IsSoundPicture m end first
-  opened_sound = record {
-    front = begins.front;
-    some = (let a = begins.some in let b = many in omega arith);
+  opened_sound : IsUpto m end w.time w → IsSoundPicture m end first
+  opened_sound front = record {
+    front = front;
+    some = (let a = can.some in let b = many in omega arith);
     seated = opened_seated;
     in_range = opened_in_range;
     told = λ lp l.
@@ -179,7 +175,7 @@ module _ (m : Meaning) (end nodes : ℕ) (w : World) (begins : IsOpening m end n
   loaded_is : (lp : ℕ) → loaded_part (part_of w lp) ≡ opened_process w lp
   loaded_is lp =
       let mine : List Message = filter (λ (x : Message). x.to == lp) w.pending in
-      let up = IsAscending-filter (λ (x : Message). x.to == lp) w.pending world.world.ascending in
+      let up = IsAscending-filter (λ (x : Message). x.to == lp) w.pending can.loadable.world.ascending in
       let same : add_all mine [] ≡ mine = add_all-ascending mine [] (rw append-nil up) ∙ append-nil mine in
       ap (λ (xs : List Message). record { done = []; waiting = xs; antis = []; state = state_of w lp; number = number_of w lp }) same
 
@@ -201,7 +197,7 @@ module _ (m : Meaning) (end nodes : ℕ) (w : World) (begins : IsOpening m end n
       not_refused m.lps m.lps load load.parts refl refl (parts_named lps)
       (Every-map (λ (p : Part). Every (λ (x : Message). x.to ≡ p.lp) p.pending) (part_of w) lps (Every-all (λ (lp : ℕ). Every (λ (x : Message). x.to ≡ lp) (part_of w lp).pending) (λ lp. Every-passes lp w.pending) lps))
       (Every-map (λ (p : Part). Every (λ (x : Message). w.time ≤ x.time) p.pending) (part_of w) lps
-      (Every-all (λ (lp : ℕ). Every (λ (x : Message). w.time ≤ x.time) (part_of w lp).pending) (λ lp. Every-filter (λ (x : Message). w.time ≤ x.time) (λ (x : Message). x.to == lp) w.pending begins.front.left) lps))
+      (Every-all (λ (lp : ℕ). Every (λ (x : Message). w.time ≤ x.time) (part_of w lp).pending) (λ lp. Every-filter (λ (x : Message). w.time ≤ x.time) (λ (x : Message). x.to == lp) w.pending can.loadable.left) lps))
 
   load_is : (node : ℕ) → node < nodes → loaded_node m.lps (load_of m.lps end nodes node w) ≡ node_view m end first node
   load_is node l =
@@ -217,12 +213,17 @@ module _ (m : Meaning) (end nodes : ℕ) (w : World) (begins : IsOpening m end n
       record {
         in_range = Every-map IsPartInRange (part_of w) lps
             (Every-all (λ (lp : ℕ). IsPartInRange (part_of w lp))
-            (λ lp. record { words = (words_at w lp world.world.words).0; number = Every-get_or-default (λ (n : ℕ). n ≤ 2 ^ 63) w.numbers lp 0 world.numbers (omega arith) }) lps);
+            (λ lp. record { words = (words_at w lp can.loadable.world.words).0; number = Every-get_or-default (λ (n : ℕ). n ≤ 2 ^ 63) w.numbers lp 0 can.loadable.numbers (omega arith) }) lps);
         answer = rw (load_answer, none) (ap Ok (load_is node l));
       }
 
+pub opening_can_open : (m : Meaning) (end nodes : ℕ) (w : World) → IsOpening m end nodes w → CanOpen m end nodes w
+opening_can_open m end nodes w begins =
+    let is = IsUpto_IsReached m end w.time w begins.lawful begins.short begins.front in
+    record { short = begins.short; some = begins.some; loadable = record { world = is.world; numbers = is.numbers; within = begins.soon; left = begins.front.left } }
+
 pub opening_is_sound : OpeningIsSound
-opening_is_sound m end nodes w begins = record { lawful = begins.lawful; short = begins.short; sound = opened_sound m end nodes w begins }
+opening_is_sound m end nodes w begins = record { lawful = begins.lawful; short = begins.short; sound = opened_sound m end nodes w (opening_can_open m end nodes w begins) begins.front }
 
 pub opened_nodes : OpenedNodes
-opened_nodes m end nodes node w begins l = node_loaded m end nodes w begins node l
+opened_nodes m end nodes node w can l = node_loaded m end nodes w can node l

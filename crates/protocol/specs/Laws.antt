@@ -27,7 +27,7 @@ use Rattle.protocol.specs.Moves.{refusal, told_before, told_front}
 use Rattle.protocol.specs.Picture.{IsBalanced, IsPictureInRange, IsSeatedBy, IsToldTruly, Picture}
 use Rattle.protocol.specs.Picture.{gvt, lows_of, node_of, nodes_of, opened, told_by}
 use Rattle.protocol.specs.Replies.{names_there}
-use Rattle.protocol.specs.Sound.{GoesOnFrom, IsOpening, IsSystem}
+use Rattle.protocol.specs.Sound.{CanOpen, GoesOnFrom, IsOpening, IsSystem}
 use Rattle.protocol.specs.Views.{ledger_of, load_of, node_view}
 
 -- 1. Openings
@@ -221,7 +221,7 @@ pub record IsLoadedWith (m : Meaning) (end nodes node : ℕ) (w : World) : Type 
       ≡ Ok (node_view m end (opened m.lps nodes w) node)
 
 abbrev pub OpenedNodes : Type 0
-OpenedNodes = (m : Meaning) (end nodes node : ℕ) (w : World) → IsOpening m end nodes w →
+OpenedNodes = (m : Meaning) (end nodes node : ℕ) (w : World) → CanOpen m end nodes w →
     node < nodes → IsLoadedWith m end nodes node w
 
 -- What the node that is posted this parcel answers to it: the reply of which the picture after its

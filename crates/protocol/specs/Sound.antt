@@ -4,6 +4,7 @@ use Rattle.std.specs.Prelude.{List, None, Some, get_or, ℕ, ◌%◌, ◌++◌, 
 use Rattle.eventkey.specs.Message.{Message}
 use Rattle.eventkey.specs.declared.Signed.{Signed}
 use Rattle.model.specs.Meaning.{IsLawful, Meaning}
+use Rattle.model.specs.Runner.{IsLoadable}
 use Rattle.model.specs.World.{IsUpto, World}
 use Rattle.node.specs.declared.Parcel.{Parcel}
 use Rattle.protocol.specs.Picture.{IsBalanced, IsPictureInRange, IsSeatedBy, IsToldTruly, Picture}
@@ -39,6 +40,12 @@ pub record IsSystem (m : Meaning) (end : ℕ) (p : Picture) : Type 0 where
   pub lawful : IsLawful m
   pub short : end ≤ 2 ^ 40
   pub sound : IsSoundPicture m end p
+
+-- A world with which so many nodes can be loaded, whether or not it is the sequential simulation.
+pub record CanOpen (m : Meaning) (end nodes : ℕ) (w : World) : Type 0 where
+  pub short : end ≤ 2 ^ 40
+  pub some : 1 ≤ nodes
+  pub loadable : IsLoadable m.lps end w
 
 -- With what a session begins: some nodes, and a front that is the sequential simulation up to its
 -- time, which is not past the end (the simulation up to g alone does not say so: past the end no

@@ -2,6 +2,7 @@
 -- worlds for which records and disks stand
 pub mod Header
 pub mod Bodies
+pub mod Checkpoints
 pub mod Contents
 pub mod Replay
 pub mod Stands

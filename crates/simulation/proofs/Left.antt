@@ -1,13 +1,14 @@
 -- What the calls leave of a disk.
 use Rattle.std.proofs.Common.{inl, inr, subst, sym, arith, refl, ◌∙◌}
-use Rattle.std.proofs.lemmas.Bool.{false≢true}
-use Rattle.std.specs.Prelude.{◌≡◌, ◌≢◌, ◌≤◌, ◌^◌, ℕ, List, [], IfErr, OnOk, Result, Ok, Err}
+use Rattle.std.proofs.lemmas.Bool.{cases_Bool, false≢true}
+use Rattle.std.specs.Prelude.{◌≡◌, ◌≢◌, ◌≤◌, ◌^◌, ℕ, List, [], IfErr, OnOk, Result, Ok, Err, slice_index_or}
 use Rattle.commitlog.specs.Faults.{FormatIsRefused}
 use Rattle.commitlog.specs.Log.{IsDurable}
-use Rattle.commitlog.specs.Records.{Holds, IsBlank, IsBlankOrEmptyLog, IsFormatted}
+use Rattle.commitlog.specs.Records.{Holds, IsBlank, IsBlankOrEmptyLog, IsFormatted, is_open}
 use Rattle.commitlog.specs.declared.fault.LogFault.{LogFault}
 use Rattle.commitlog.specs.declared.fault.LogFault.TheVariants.{Corrupt, Disk, Full, NoMemory, NotBlank, NotFormatted, Spent, TooLong}
 use Rattle.disk.specs.declared.disk.DiskFault.TheVariants.{Device, NoSuchSector}
+use Rattle.coordinator.proofs.Begun.{recovers-genuine}
 use Rattle.coordinator.proofs.Driving.{followed_by}
 use Rattle.coordinator.specs.Crashes.{KeepsRecovery, Recovers}
 use Rattle.coordinator.specs.Opening.{LeavesExactly}
@@ -17,7 +18,7 @@ use Rattle.model.specs.Meaning.{IsLawful, Meaning}
 use Rattle.model.specs.World.{IsUpto, World, opening}
 use Rattle.recovery.proofs.Images.{empty_log_stands, image_stands_for_one}
 use Rattle.recovery.specs.Header.{header_bytes, header_of}
-use Rattle.recovery.specs.Stands.{Stands, StandsAtLeast}
+use Rattle.recovery.specs.Stands.{IsGenuine, Stands, StandsAtLeast}
 use Rattle.simulation.specs.Simulation.{IsBlankOrStands, IsBlankOrStandsSo, PreparingIsRefused}
 use Rattle.simulation.specs.declared.fault.SimulationFault.{SimulationFault}
 use Rattle.simulation.specs.declared.fault.SimulationFault.TheVariants.{Log}
@@ -67,6 +68,14 @@ module _ (m : Meaning) (end : ℕ) where
   pub then_so : (old mid new : DiskState) → LeavesOnly old mid (IsBlankOrStandsSo m end) → KeepsRecovery m end 0 0 mid new → LeavesOnly old new (IsBlankOrStandsSo m end)
   then_so old mid new first second = followed old mid new (IsBlankOrStandsSo m end) first
       (weaker mid new (StandsAtLeast m end 0) (IsBlankOrStandsSo m end) second.any_moment (λ image stands. inr stands))
+
+-- a log that is made is genuine, and one that was there stays so
+pub prepared_genuine : (m : Meaning) (end : ℕ) (old mid : DiskState) → IsLawful m → end ≤ 2 ^ 40 → IsDisk mid.reads mid.loose → (IsBlank old.reads → LeavesExactly m end (opening m) mid) → (IsFormatted old.reads → OnlyLooks old mid)
+    → IsGenuine m end old.reads → IsGenuine m end mid.reads
+prepared_genuine m end old mid law short sound made looks genuine = elim (cases_Bool (is_open (slice_index_or old.reads 0 []))) [
+  | inl formatted ↦ subst (IsGenuine m end) (sym (looks formatted).same) genuine
+  | inr blank ↦ recovers-genuine m end law short mid sound 0 (exactly_recovers m end mid (made blank))
+]
 
 -- what a disk recovers at least, what a read of it stands for has
 pub no_earlier : (m : Meaning) (end a : ℕ) (disk : DiskState) (w : World) → IsLawful m → end ≤ 2 ^ 40 → IsDisk disk.reads disk.loose → Recovers m end a disk → Stands m end disk.reads w → a ≤ w.time

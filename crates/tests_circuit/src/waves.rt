@@ -3,7 +3,7 @@
 use circuit::{Circuit, wave};
 use simulation::sequential;
 use std::test::Fail;
-use texts::{Mistake, ModelFault, read_model};
+use texts::{Mistake, ModelFault, find_mistakes, read_model};
 
 /// The delays are 2, 3 and 4 ticks. One name is no simple identifier, and one gate has none.
 const RING: &str = r#"
@@ -114,4 +114,57 @@ fn names_have_no_blanks(rt: HostRuntime) {
             "{text}"
         );
     }
+}
+
+/// Model files, and all that is wrong with each; of a first number out of its range the mistake that
+/// is told first says all.
+const WRONG: [(&str, &str); 4] = [
+    (
+        "\
+end = 0
+gates = [{ table = 0, delay = 1, first = 0, count = 0 }, { table = 0, first = 0, count = 0 }, 7]
+wires = [{ to = 0, pin = 0 }, { to = 1 }]
+names = []
+",
+        "  \
+gates[1]: a table; wanted is a table with table, delay, first and count, and perhaps a name without blanks
+  gates[2]: 7; wanted is a table with table, delay, first and count, and perhaps a name without blanks
+  wires[1]: a table; wanted is a table with to and pin
+  \"names\": the model has no such key
+",
+    ),
+    // Gates and wires that are read, and do not fit each other.
+    (
+        "\
+end = 10
+gates = [{ table = 1, delay = 0, first = 0, count = 0 }, { table = 1, delay = 1, first = 1, count = 2 }]
+wires = [{ to = 2, pin = 0 }, { to = 1, pin = 0 }]
+",
+        "  \
+gates[0]: a table; wanted is a delay, and at most 8 of the listed wires
+  gates[1]: a table; wanted is a delay, and at most 8 of the listed wires
+  wires[0]: a table; wanted is a wire to one of the listed gates
+",
+    ),
+    (
+        "end = 10\ngates = []\nwires = []\n",
+        "  gates: a list; wanted is 1 to 1024 gates\n",
+    ),
+    (
+        "end = 10\nwires = 'none'\n",
+        "  \
+gates: missing; wanted is a list of tables with table, delay, first and count
+  wires: a string; wanted is a list of tables with to and pin
+",
+    ),
+];
+
+#[test]
+fn each_mistake_has_its_place(rt: HostRuntime) -> Result<(), Fail> {
+    for (text, want) in WRONG {
+        let found = find_mistakes::<Circuit>(rt.alloc(), text.as_bytes())?;
+        let told = format!(in rt.alloc(); "{found}")?;
+        assert_eq!(rt; told.as_str(), want);
+    }
+    Ok(())
 }

@@ -4,7 +4,8 @@ use crate::running::run;
 use std::alloc::{AllocError, Global};
 use std::env;
 use std::fs::{self, File};
-use std::process::Abort;
+use std::net::Net;
+use std::process::{Abort, Processes};
 use std::rt::{Clock, Env, Files};
 use std::test::Fail;
 
@@ -22,6 +23,10 @@ pub enum Act {
     Stays,
     /// There is no disk.
     HasNone,
+    /// From this byte on the disk has these bytes, and then zeros, up to the end of their sector.
+    Holds(usize, &'static [u8]),
+    /// This byte of the disk becomes another.
+    Sets(usize, u8),
 }
 
 /// Two model files, what is done with them, and a name for all files.
@@ -100,7 +105,7 @@ fn words_of<'a>(
 /// Runs a command, and looks at all that it tells.
 fn look_at_command<R>(rt: &R, line: &str, stage: &Stage, want: (u8, &str, &str)) -> Result<(), Fail>
 where
-    R: Files<File = File> + Clock + Abort + AllocGlobal,
+    R: Files<File = File> + Net + Processes + Clock + Abort + AllocGlobal,
 {
     let words = words_of(rt.alloc(), line, stage)?;
     let told = run(rt, words.as_slice())?;
@@ -114,7 +119,7 @@ where
 /// What `log` writes and then `show`, and whether both are done.
 fn ended<R>(rt: &R, model: &str, disk: &str) -> Result<(Vec<u8>, bool), Fail>
 where
-    R: Files<File = File> + Clock + AllocGlobal,
+    R: Files<File = File> + Net + Processes + Clock + AllocGlobal,
 {
     let mut log = run(rt, &["timewarp", "log", model, disk])?;
     let shown = run(rt, &["timewarp", "show", model, disk])?;
@@ -125,7 +130,7 @@ where
 /// Looks whether `log` and then `show` write what `seq` writes.
 fn look_at_end<R>(rt: &R, model: &str, disk: &str) -> Result<(), Fail>
 where
-    R: Files<File = File> + Clock + Abort + AllocGlobal,
+    R: Files<File = File> + Net + Processes + Clock + Abort + AllocGlobal,
 {
     let seq = run(rt, &["timewarp", "seq", model])?;
     let (text, done) = ended(rt, model, disk)?;
@@ -153,9 +158,40 @@ where
     Ok(())
 }
 
+/// Looks whether the disk has these bytes from a place on, and zeros up to the end of their sector.
+fn look_at_bytes<R>(rt: &R, disk: &str, place: usize, want: &[u8]) -> Result<(), Fail>
+where
+    R: Files<File = File> + Abort + AllocGlobal,
+{
+    let bytes = fs::read(rt, disk)?;
+    let end = place.saturating_add(want.len());
+    let sector_end = (end / 512).saturating_add(1).saturating_mul(512);
+    assert!(rt; bytes.get(place..end) == Some(want), "at {place}");
+    assert!(rt;
+        bytes
+            .get(end..sector_end)
+            .is_some_and(|rest| rest.iter().all(|byte| *byte == 0)),
+        "behind {end}"
+    );
+    Ok(())
+}
+
+/// Sets a byte of the disk.
+fn set_byte<R>(rt: &R, disk: &str, place: usize, byte: u8) -> Result<(), Fail>
+where
+    R: Files<File = File> + Abort + AllocGlobal,
+{
+    let mut bytes = fs::read(rt, disk)?;
+    let Some(there) = bytes.get_mut(place) else {
+        return Err(Fail::from("the disk has no such byte"));
+    };
+    *there = byte;
+    Ok(fs::write(rt, disk, bytes.as_slice())?)
+}
+
 fn act_out<R>(rt: &R, act: &Act, stage: &Stage, seen: &mut Vec<u8>) -> Result<(), Fail>
 where
-    R: Files<File = File> + Clock + Abort + AllocGlobal,
+    R: Files<File = File> + Net + Processes + Clock + Abort + AllocGlobal,
 {
     let disk = stage.disk.as_str();
     match act {
@@ -165,13 +201,15 @@ where
         Act::Removes => remove(rt, disk),
         Act::Stays => look_at_disk(rt, disk, seen),
         Act::HasNone => look_for_disk(rt, disk),
+        Act::Holds(place, bytes) => look_at_bytes(rt, disk, *place, bytes),
+        Act::Sets(place, byte) => set_byte(rt, disk, *place, *byte),
     }
 }
 
 /// Does what a script says. Its model files are as they were at the end, and all files are removed.
 pub fn play<R>(rt: &R, script: &Script) -> Result<(), Fail>
 where
-    R: Files<File = File> + Clock + Env + Abort + AllocGlobal,
+    R: Files<File = File> + Net + Processes + Clock + Env + Abort + AllocGlobal,
 {
     let stage = begin(rt, script)?;
     let mut seen = Vec::new(rt.alloc());

@@ -5,6 +5,8 @@
 #[cfg(test)]
 mod acting;
 #[cfg(test)]
+mod damage;
+#[cfg(test)]
 mod running;
 #[cfg(test)]
 mod scripts;

@@ -4,6 +4,8 @@
 use models::AnyModel;
 use program::{About, TerminalProgress, command};
 use std::fs::File;
+use std::net::Net;
+use std::process::Processes;
 use std::rt::{Clock, Files};
 use std::test::Fail;
 use texts::ANY_MODEL_KEYS;
@@ -25,7 +27,7 @@ pub struct Told {
 /// Runs a command, as where there is no terminal.
 pub fn run<R>(rt: &R, words: &[&str]) -> Result<Told, Fail>
 where
-    R: Files<File = File> + Clock + AllocGlobal,
+    R: Files<File = File> + Net + Processes + Clock + AllocGlobal,
 {
     let mut out = Vec::new(rt.alloc());
     let mut err = Vec::new(rt.alloc());

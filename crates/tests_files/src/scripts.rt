@@ -39,6 +39,13 @@ pending 7 2 0 0 0 3
 const RAN_5_7: &str = "node 0 ran 183\nnode 1 ran 155\nnode 2 ran 163\nnode 3 ran 131\n\
     node 4 ran 158\ncommitted 200 events 562\n";
 
+const RAN_NOTHING_BY_TWO: &str = "node 0 ran 0\nnode 1 ran 0\ncommitted 10 events 5\n";
+
+const BAD_CHECKPOINT: &str = "timewarp: Recovery BadCheckpoint\n";
+
+/// What is left of PHOLD's run to one node, behind 13 rounds of five and 9 of two.
+const REST_BY_ONE: &str = "node 0 ran 650\ncommitted 200 events 562\n";
+
 const FILE: &str = "timewarp: File\n";
 
 const NO_MODEL: &str = "timewarp: BadModel\n";
@@ -219,6 +226,92 @@ const MORE_PLANS: Script = Script {
     ],
 };
 
+/// The record of a checkpoint of the ring at time 10: its kind, the length of its body, the time, the
+/// send number and the state of each process, and the one pending message.
+const RECORD: [u8; 108] = [
+    2, 0, 0, 0, 103, 0, 0, 0, 0, 0, 0, 0, 10, //
+    0, 0, 0, 0, 0, 0, 0, 3, 1, 0, 0, 0, 0, 0, 0, 0, 2, //
+    0, 0, 0, 0, 0, 0, 0, 2, 1, 0, 0, 0, 0, 0, 0, 0, 2, //
+    0, 0, 0, 0, 0, 0, 0, 1, 1, 0, 0, 0, 0, 0, 0, 0, 1, //
+    0, 0, 0, 1, 0, 0, 0, 0, 0, 0, 0, 11, 0, 0, 0, 1, //
+    0, 0, 0, 0, 0, 0, 0, 1, 0, 0, 0, 2, //
+    0, 0, 0, 0, 0, 0, 0, 0, 0, 0, 0, 0, 0, 0, 0, 5,
+];
+
+/// A checkpoint stands behind the commit of the third round, in a record of its own.
+const CHECKPOINT: Script = Script {
+    name: "checkpoint",
+    model: RING,
+    other: OTHER_RING,
+    acts: &[
+        Act::Prints("new MODEL DISK --sectors 11", "formatted 11 sectors\n"),
+        Act::Prints("run MODEL DISK --nodes 3 --checkpoint 3", RAN),
+        Act::Holds(8 * 512, &[1]),
+        Act::Holds(9 * 512, &RECORD),
+        Act::Holds(10 * 512, &[0]),
+        Act::EndsAsSeq("MODEL"),
+        Act::Stays,
+        Act::Prints(
+            "run MODEL DISK --nodes 2 --checkpoint 1",
+            RAN_NOTHING_BY_TWO,
+        ),
+        Act::Stays,
+        Act::Sets(9 * 512 + 12, 9),
+        Act::Fails("show MODEL DISK", BAD_CHECKPOINT),
+        Act::Fails(
+            "run MODEL DISK",
+            "timewarp: Session Recovery BadCheckpoint\n",
+        ),
+        Act::Sets(9 * 512 + 12, 10),
+        Act::Sets(9 * 512 + 75, 9),
+        Act::Fails("log MODEL DISK", BAD_CHECKPOINT),
+        Act::Sets(9 * 512 + 75, 11),
+        Act::Stays,
+    ],
+};
+
+/// What is committed stays where a checkpoint has no room.
+const NO_ROOM: Script = Script {
+    name: "no-room",
+    model: RING,
+    other: OTHER_RING,
+    acts: &[
+        Act::Prints("new MODEL DISK --sectors 10", "formatted 10 sectors\n"),
+        Act::Fails(
+            "run MODEL DISK --nodes 3 --checkpoint 3",
+            "timewarp: Session Full\n",
+        ),
+        Act::EndsAsSeq("MODEL"),
+    ],
+};
+
+/// A run that is cut short goes on behind a checkpoint, over other nodes.
+const GOES_ON: Script = Script {
+    name: "goes-on",
+    model: PHOLD,
+    other: RING,
+    acts: &[
+        Act::Prints("new MODEL DISK", "formatted 4096 sectors\n"),
+        Act::Fails(
+            "run MODEL DISK --nodes 5 --batch 7 --rounds 13 --checkpoint 4",
+            OUT_OF_ROUNDS,
+        ),
+        Act::Fails(
+            "run MODEL DISK --nodes 2 --batch 7 --rounds 9 --checkpoint 9",
+            OUT_OF_ROUNDS,
+        ),
+        Act::Prints(
+            "run MODEL DISK --nodes 1 --batch 4096 --checkpoint 1000000",
+            REST_BY_ONE,
+        ),
+        Act::EndsAsSeq("MODEL"),
+        Act::Removes,
+        Act::Prints("new MODEL DISK", "formatted 4096 sectors\n"),
+        Act::Prints("run MODEL DISK --nodes 5 --batch 7 --checkpoint 1", RAN_5_7),
+        Act::EndsAsSeq("MODEL"),
+    ],
+};
+
 const MISSING: Script = Script {
     name: "missing",
     model: RING,
@@ -283,6 +376,17 @@ fn a_run_ends_by_its_rounds(rt: HostRuntime) -> Result<(), Fail> {
 fn every_plan_comes_to_the_plain_end(rt: HostRuntime) -> Result<(), Fail> {
     play(&rt, &PLANS)?;
     play(&rt, &MORE_PLANS)
+}
+
+#[test]
+fn a_checkpoint_is_a_record_of_its_own(rt: HostRuntime) -> Result<(), Fail> {
+    play(&rt, &CHECKPOINT)?;
+    play(&rt, &NO_ROOM)
+}
+
+#[test]
+fn a_run_goes_on_behind_a_checkpoint(rt: HostRuntime) -> Result<(), Fail> {
+    play(&rt, &GOES_ON)
 }
 
 #[test]

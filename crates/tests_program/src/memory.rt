@@ -10,6 +10,8 @@ use models::AnyModel;
 use program::{Fault, seq};
 use std::alloc::Global;
 use std::fs::{self, File};
+use std::net::Net;
+use std::process::Processes;
 use std::rt::{Clock, Files};
 use std::test::Fail;
 
@@ -58,7 +60,7 @@ fn is_short(told: &Told) -> bool {
 }
 
 /// Runs a command, and once more where it found no memory.
-fn run_again<R: Files<File = File> + Clock + AllocGlobal>(
+fn run_again<R: Files<File = File> + Net + Processes + Clock + AllocGlobal>(
     rt: &R,
     words: &[&str],
 ) -> Result<Told, Fail> {

@@ -19,7 +19,7 @@ fn is_refused_as(alloc: Global, words: &[&str], want: ErrorKind) -> bool {
 }
 
 /// The words of a line, and what it asks for.
-const READ: [(&[&str], Line<'static>); 9] = [
+const READ: [(&[&str], Line<'static>); 12] = [
     (
         &["timewarp", "seq", "examples/ring.toml"],
         Line::Seq {
@@ -70,6 +70,10 @@ const READ: [(&[&str], Line<'static>); 9] = [
             nodes: 1,
             batch: 16,
             rounds: 1_000_000,
+            checkpoint: None,
+            sockets: None,
+            cut: None,
+            together: false,
         },
     ),
     (
@@ -90,6 +94,51 @@ const READ: [(&[&str], Line<'static>); 9] = [
             nodes: 64,
             batch: 9,
             rounds: 7,
+            checkpoint: None,
+            sockets: None,
+            cut: None,
+            together: false,
+        },
+    ),
+    (
+        &[
+            "timewarp",
+            "run",
+            "--together",
+            "--sockets",
+            "c",
+            "a",
+            "b",
+            "--cut=0",
+            "--checkpoint",
+            "3",
+        ],
+        Line::Run {
+            model: "a",
+            disk: "b",
+            nodes: 1,
+            batch: 16,
+            rounds: 1_000_000,
+            checkpoint: Some(3),
+            sockets: Some("c"),
+            cut: Some(0),
+            together: true,
+        },
+    ),
+    (
+        &["timewarp", "node", "a", "b"],
+        Line::Node {
+            model: "a",
+            socket: "b",
+            parcels: 4_294_967_295,
+        },
+    ),
+    (
+        &["timewarp", "node", "--parcels", "1", "a", "b"],
+        Line::Node {
+            model: "a",
+            socket: "b",
+            parcels: 1,
         },
     ),
 ];
@@ -102,14 +151,33 @@ fn a_line_names_a_command_and_its_values(rt: HostRuntime) {
 }
 
 /// The words of a line that is refused, and the kind.
-const REFUSED: [(&[&str], ErrorKind); 13] = [
+const REFUSED: [(&[&str], ErrorKind); 17] = [
     (&["timewarp", "seq"], ErrorKind::MissingRequiredArgument),
     (&["timewarp", "seq", "a", "b"], ErrorKind::UnknownArgument),
     (
         &["timewarp", "seq", "--nodes", "2", "a"],
         ErrorKind::UnknownArgument,
     ),
-    (&["timewarp", "node", "a"], ErrorKind::InvalidSubcommand),
+    (
+        &["timewarp", "node", "a"],
+        ErrorKind::MissingRequiredArgument,
+    ),
+    (
+        &["timewarp", "run", "a", "b", "--cut=4294967296"],
+        ErrorKind::ValueValidation,
+    ),
+    (
+        &["timewarp", "run", "a", "b", "--checkpoint", "0"],
+        ErrorKind::ValueValidation,
+    ),
+    (
+        &["timewarp", "run", "a", "b", "--checkpoint=1000001"],
+        ErrorKind::ValueValidation,
+    ),
+    (
+        &["timewarp", "run", "a", "b", "--together=true"],
+        ErrorKind::TooManyValues,
+    ),
     (
         &["timewarp", "run", "a"],
         ErrorKind::MissingRequiredArgument,

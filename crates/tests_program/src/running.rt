@@ -6,7 +6,9 @@ use program::{About, TerminalProgress, command};
 use std::env;
 use std::fs::{self, File};
 use std::io::Write;
+use std::net::Net;
 use std::path::PathBuf;
+use std::process::Processes;
 use std::rt::{Clock, Env, Files};
 use std::test::Fail;
 use texts::ANY_MODEL_KEYS;
@@ -43,7 +45,7 @@ pub struct Told {
 /// Runs a command with these writers, as where there is no terminal. Answers the status.
 pub fn run_to<R, O, E>(rt: &R, words: &[&str], out: &mut O, err: &mut E) -> u8
 where
-    R: Files<File = File> + Clock + AllocGlobal,
+    R: Files<File = File> + Net + Processes + Clock + AllocGlobal,
     O: Write,
     E: Write,
 {
@@ -54,7 +56,7 @@ where
 /// Runs a command with two writers that need no more memory.
 pub fn run<R>(rt: &R, words: &[&str]) -> Result<Told, Fail>
 where
-    R: Files<File = File> + Clock + AllocGlobal,
+    R: Files<File = File> + Net + Processes + Clock + AllocGlobal,
 {
     let mut out = Vec::with_capacity(rt.alloc(), 8192)?;
     let mut err = Vec::with_capacity(rt.alloc(), 8192)?;
@@ -65,7 +67,7 @@ where
 /// Runs a command on a file of these bytes, which is also the disk of a command that takes one.
 pub fn run_on<R>(rt: &R, command: &str, bytes: &[u8]) -> Result<Told, Fail>
 where
-    R: Files<File = File> + Clock + Env + AllocGlobal,
+    R: Files<File = File> + Net + Processes + Clock + Env + AllocGlobal,
 {
     let path = temporary(rt, "timewarp-model.toml")?;
     let path = path.as_path().to_str().ok_or("a path of text")?;

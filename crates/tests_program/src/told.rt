@@ -8,9 +8,12 @@ use program::{Fault, tell};
 use recovery::RecoveryFault;
 use std::alloc::Global;
 use std::fs::File;
+use std::net::Net;
+use std::process::Processes;
 use std::rt::{Clock, Files};
 use std::test::Fail;
 use texts::Mistake;
+use wire::WireFault;
 
 const RING_ONE_TEXT: &str = "\
 virtual time 1
@@ -21,7 +24,7 @@ pending 1 0 0 0 0 0
 ";
 
 /// A command, the bytes of a file, the status, and what is written to each stream.
-const FILES: [(&str, &[u8], u8, &str, &str); 10] = [
+const FILES: [(&str, &[u8], u8, &str, &str); 16] = [
     // `seq` prints the log and then the world.
     (
         "seq",
@@ -66,14 +69,78 @@ const FILES: [(&str, &[u8], u8, &str, &str); 10] = [
         b"model = \"ring\"\nlps = 3\nend = 10\ntokens = 1\n",
         1,
         "",
-        "timewarp: hold: missing\n",
+        "timewarp: hold: missing\n  hold: missing; wanted is a whole number from 1 to 4294967295\n",
     ),
+    // A first line that says all stands alone.
     (
         "check",
         b"model = \"ring\"\nlps = 2000\nend = 10\nhold = 2\ntokens = 1\n",
         1,
         "",
         "timewarp: lps: 2000 is not within 1 to 1024\n",
+    ),
+    // All mistakes are told: of the model's keys in their order, and then each unknown key.
+    (
+        "check",
+        b"Tokens = 3\nmodel = 'ring'\nlps = 2000\nhold = '2'\ntokens = 9000\nseed = 1\n",
+        1,
+        "",
+        "\
+timewarp: lps: 2000 is not within 1 to 1024
+  end: missing; wanted is a whole number from 1 to 1099511627776
+  hold: a string; wanted is a whole number from 1 to 4294967295
+  tokens: 9000 is not within 1 to 8192
+  \"Tokens\": the model has no such key
+  \"seed\": the model has no such key
+",
+    ),
+    (
+        "check",
+        b"model = 'phold'\nlps = 1\nend = 4\npopulation = 1\nspread = 1\nseed = 5\nhold = 2\n",
+        1,
+        "",
+        "\
+timewarp: a key that the model does not have
+  \"hold\": the model has no such key
+",
+    ),
+    (
+        "check",
+        b"model = 3\nend = 0\n",
+        1,
+        "",
+        "\
+timewarp: model: not \"ring\", \"phold\" or \"jobshop\"
+  model: 3; wanted is \"ring\", \"phold\" or \"jobshop\"
+  lps: missing; wanted is a whole number from 1 to 1024
+  end: 0 is not within 1 to 1099511627776
+",
+    ),
+    // Where the text is no TOML, the line is told.
+    (
+        "check",
+        b"model = 'ring'\nlps = 3\n\nend 10\n",
+        1,
+        "",
+        "timewarp: not TOML\n  line 4: key with no value, expected `=`\n",
+    ),
+    (
+        "check",
+        b"model = 'ring'\nlps = \xff\n",
+        1,
+        "",
+        "timewarp: not TOML\n  line 2: invalid UTF-8\n",
+    ),
+    // No byte of a key moves a terminal.
+    (
+        "check",
+        b"model = 'ring'\nlps = 3\nend = 9\nhold = 2\ntokens = 1\n\"\\u001b[2J\" = 1\n",
+        1,
+        "",
+        "\
+timewarp: a key that the model does not have
+  \"\\u{1b}[2J\": the model has no such key
+",
     ),
 ];
 
@@ -145,7 +212,7 @@ fn a_model_file_is_looked_at_before_the_disk(rt: HostRuntime) -> Result<(), Fail
 /// Whether a command answers status 2, prints nothing, and tells a text with this part.
 fn is_usage<R>(rt: &R, words: &[&str], part: &[u8]) -> Result<bool, Fail>
 where
-    R: Files<File = File> + Clock + AllocGlobal,
+    R: Files<File = File> + Net + Processes + Clock + AllocGlobal,
 {
     let told = run(rt, words)?;
     let has_part = told
@@ -161,12 +228,25 @@ const PROGRAM: &[&str] = &["timewarp", "--help"];
 const SEQ: &[&str] = &["timewarp", "seq", "--help"];
 
 /// Lines that are mistaken or ask for help, and a part of what is told.
-const USAGES: [(&[&str], &str); 28] = [
+const USAGES: [(&[&str], &str); 32] = [
     (&[], "Usage: timewarp <COMMAND>"),
     (&["timewarp"], "Usage: timewarp <COMMAND>"),
     (&["timewarp", "seq"], "<MODEL>"),
     (&["timewarp", "seq", "a", "b"], "'b'"),
-    (&["timewarp", "node", "a", "b"], "'node'"),
+    (&["timewarp", "node", "a"], "<SOCKET>"),
+    (
+        &["timewarp", "node", "a", "b", "--parcels", "0"],
+        "0 is not in 1..=4294967295",
+    ),
+    (
+        &["timewarp", "run", "a", "b", "--sockets"],
+        "'--sockets <DIR>'",
+    ),
+    (
+        &["timewarp", "run", "a", "b", "--cut", "4294967296"],
+        "4294967296 is not in 0..=4294967295",
+    ),
+    (&["timewarp", "run", "a", "b", "--together=true"], "'true'"),
     (&["timewarp", "run", "a"], "<DISK>"),
     (
         &["timewarp", "new", "a", "b", "--sectors", "7"],
@@ -255,6 +335,10 @@ fn faults_are_told_by_their_names(rt: HostRuntime) {
             "timewarp: Session Full\n",
         ),
         (Fault::Rounds, "timewarp: Rounds\n"),
+        (
+            Fault::Wire(WireFault::Truncated),
+            "timewarp: Wire Truncated\n",
+        ),
         (
             Fault::Mistake(Mistake::Missing("hold")),
             "timewarp: hold: missing\n",

@@ -6,6 +6,8 @@ use program::{seq, tell};
 use std::alloc::{AllocError, Global};
 use std::fs::{self, File};
 use std::io::{self, Error, ErrorKind, Write};
+use std::net::Net;
+use std::process::Processes;
 use std::rt::{Clock, Files};
 use std::test::Fail;
 
@@ -77,7 +79,7 @@ enum Source<'a> {
 /// Runs a model by the plain runner with these writers. Answers the status.
 fn seq_to<R, O>(rt: &R, source: Source<'_>, out: &mut O, err: &mut Vec<u8>) -> u8
 where
-    R: Files<File = File> + Clock + AllocGlobal,
+    R: Files<File = File> + Net + Processes + Clock + AllocGlobal,
     O: Write,
 {
     match source {
@@ -93,7 +95,7 @@ where
 /// what was told.
 fn seq_refused<R>(rt: &R, source: Source<'_>, fail: usize) -> Result<(bool, Told), Fail>
 where
-    R: Files<File = File> + Clock + AllocGlobal,
+    R: Files<File = File> + Net + Processes + Clock + AllocGlobal,
 {
     let mut out = Refusing::at(rt.alloc(), fail)?;
     let mut err = Vec::with_capacity(rt.alloc(), 512)?;

@@ -3,6 +3,10 @@
 #![tactic(auto)]
 
 #[cfg(test)]
+mod damage;
+#[cfg(test)]
+mod kept;
+#[cfg(test)]
 mod runs;
 #[cfg(test)]
 mod sessions;

@@ -29,6 +29,8 @@ const PLAN: Plan = Plan {
     nodes: 3,
     batch: 16,
     rounds: 100,
+    together: false,
+    checkpoint_every: 0,
 };
 
 /// A run of one token round three processes, two ticks at each, up to time 10, on a disk of so many
@@ -77,6 +79,8 @@ fn rounds_end_a_run(rt: HostRuntime) -> Result<(), Fail> {
         nodes: 3,
         batch: 16,
         rounds: 1,
+        together: false,
+        checkpoint_every: 0,
     };
     let ended = run_on(rt.alloc(), 64, one, &mut told)?;
     assert!(rt; ended.err() == Some(RunFault::Rounds));

@@ -100,6 +100,8 @@ struct Way {
     nodes: u32,
     resumed: u32,
     batch: u32,
+    /// After how many rounds a checkpoint is made each time, or 0 for none.
+    checkpoint_every: u32,
     torn: Torn,
 }
 
@@ -187,7 +189,7 @@ fn is_run(
 ) -> Result<bool, Failure>
     requires { 0 < way.nodes }
 {
-    match run(alloc, session, end, plan_of(way.nodes, way.batch), told) {
+    match run(alloc, session, end, plan_of(way.nodes, way), told) {
         Ok(_ran) => Ok(true),
         Err(RunFault::Session(SessionFault::Disk)) => {
             if session.front().time != told.time {
@@ -229,7 +231,7 @@ fn resumed(
         alloc,
         &mut session,
         of.end,
-        plan_of(way.resumed, way.batch),
+        plan_of(way.resumed, way),
         &mut last,
     )?;
     if !is_front(&of.plain, session.front()) {
@@ -247,13 +249,15 @@ fn disk_of(alloc: Global, image: Vec<u8>, plan: DiskPlan) -> Result<MemDisk, Fai
 }
 
 /// A plan of a run.
-fn plan_of(nodes: u32, batch: u32) -> Plan
+fn plan_of(nodes: u32, way: Way) -> Plan
     ensures { result.nodes ≡ nodes }
 {
     Plan {
         nodes,
-        batch,
+        batch: way.batch,
         rounds: ROUNDS,
+        together: false,
+        checkpoint_every: way.checkpoint_every,
     }
 }
 
@@ -312,23 +316,38 @@ fn all_ways(
     requires short { of.now.end ≤ 2 ^ 40 }
 {
     let mut total: u64 = 0;
-    for batch in [1, 7] {
+    for (batch, checkpoint_every) in [(1, 0), (7, 0), (1, 3), (7, 1)] {
         for torn in [Torn::Old, Torn::New, Torn::Fill(1)] {
             let way = Way {
                 nodes,
                 resumed,
                 batch,
+                checkpoint_every,
                 torn,
             };
             let writes = stops(alloc, of, way, At::Write)?;
             let operations = stops(alloc, of, way, At::Operation)?;
-            println!(rt;
-                "nodes {nodes} then {resumed}, batch {batch}, {torn:?}: {writes} writes, {operations} operations"
-            ).map_err(Failure::Output)?;
+            tell(rt, way, writes, operations)?;
             total = total.saturating_add(writes).saturating_add(operations);
         }
     }
     Ok(total)
+}
+
+/// Prints how often runs were stopped in a way.
+fn tell(rt: &HostRuntime, way: Way, writes: u64, operations: u64) -> Result<(), Failure> {
+    let Way {
+        nodes,
+        resumed,
+        batch,
+        checkpoint_every,
+        torn,
+    } = way;
+    println!(rt;
+        "nodes {nodes} then {resumed}, batch {batch}, checkpoints {checkpoint_every}, {torn:?}: \
+         {writes} writes, {operations} operations"
+    )
+    .map_err(Failure::Output)
 }
 
 fn main(rt: HostRuntime) -> Result<(), Failure> {

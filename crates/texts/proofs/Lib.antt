@@ -1,2 +1,4 @@
 pub mod Written
 pub mod Tables
+pub mod Right
+pub mod KindsRight

@@ -1,19 +1,54 @@
 -- Tables of model files.
-use Rattle.std.specs.Prelude.{◌≡◌, ℕ, List, [], ◌∷◌, Option, Some, None, length, suc, codes, option_and_then}
-use Rattle.std.proofs.Common.{ap, refl, sym, ◌∙◌}
+use Rattle.std.specs.Prelude.{◌≡◌, ℕ, List, [], ◌∷◌, ◌++◌, true, false, Option, Some, None, codes, option_and_then, string_bytes}
+use Rattle.std.proofs.Common.{Bool, String, Global, ap, append-nil, append_assoc, refl, sym, ◌∙◌}
+use Rattle.toml.specs.declared.value.Value.{Value}
 use Rattle.models.specs.JobShop.{Shop}
 use Rattle.models.specs.declared.any_model.AnyModel.{AnyModel}
 use Rattle.models.specs.declared.any_model.AnyModel.TheVariants.{JobShop, Phold, TokenRing}
 use Rattle.toml.proofs.Views.{Entry}
 use Rattle.toml.specs.Data.{Data, Members, as_str, get_member, string}
-use Rattle.toml.specs.View.{members_view}
+use Rattle.toml.specs.View.{members_view, view}
 use Rattle.texts.specs.AnyModel.{IsShopTable, IsTableOf}
-use Rattle.texts.specs.ModelFile.{key_count}
+use Rattle.texts.specs.ModelFile.{Wrong, nothing, found_of, is_among, unknown_wrong, unless}
 
--- how many keys a table has
-pub key_count-entries : (entries : List Entry) → key_count (members_view entries) ≡ length entries
-key_count-entries [] = refl
-key_count-entries (e ∷ entries) = ap suc (key_count-entries entries)
+-- Keys one by one: of a table's entries these are left, the first of them a key and its value.
+module _ (keys : List (List ℕ)) (left rest : List Entry) (k : String Global) (v : Value) (text : List ℕ)
+    (split : left ≡ (k, v) ∷ rest) (same : text ≡ string_bytes k) where
+  -- what is wrong at the first, and behind it
+  unknown_here : unknown_wrong keys (members_view left)
+      ≡ unless (is_among text keys) (record { key = text; found = found_of (Some (view v)); wanted = nothing })
+      ++ unknown_wrong keys (members_view rest)
+  unfolding unknown_wrong
+  unknown_here = rw (split, same) refl
+
+  -- all is right at the first
+  pub known_here : (b : Bool) → b ≡ is_among text keys → b ≡ true → unknown_wrong keys (members_view left) ≡ unknown_wrong keys (members_view rest)
+  known_here b is known = let e : is_among text keys ≡ true = sym is ∙ known in unknown_here ∙ rw e refl
+
+  -- the first is wrong
+  pub wrong_here : (b : Bool) → b ≡ is_among text keys → b ≡ false → unknown_wrong keys (members_view left) ≡ [] → ⊥
+  wrong_here b is unknown none =
+      let e : is_among text keys ≡ false = sym is ∙ unknown in
+      let h : unless false (record { key = text; found = found_of (Some (view v)); wanted = nothing }) ++ unknown_wrong keys (members_view rest) ≡ []
+      = ap (λ t. unless t (record { key = text; found = found_of (Some (view v)); wanted = nothing }) ++ unknown_wrong keys (members_view rest)) (sym e) ∙ sym unknown_here ∙ none in
+      cc
+
+  -- what was found so far, at the first and behind it, is all
+  pub found_more : (was now all : List Wrong) → now ≡ was ++ unless (is_among text keys) (record { key = text; found = found_of (Some (view v)); wanted = nothing })
+      → was ++ unknown_wrong keys (members_view left) ≡ all → now ++ unknown_wrong keys (members_view rest) ≡ all
+  found_more was now all more so_far =
+      ap (λ l. l ++ unknown_wrong keys (members_view rest)) more
+      ∙ append_assoc was (unless (is_among text keys) (record { key = text; found = found_of (Some (view v)); wanted = nothing })) (unknown_wrong keys (members_view rest))
+      ∙ ap (λ l. was ++ l) (sym unknown_here) ∙ so_far
+
+-- no key is left
+module _ (keys : List (List ℕ)) (left : List Entry) (none : left ≡ []) where
+  pub none_left : unknown_wrong keys (members_view left) ≡ []
+  unfolding unknown_wrong
+  none_left = rw none refl
+
+  pub found_all : (was all : List Wrong) → was ++ unknown_wrong keys (members_view left) ≡ all → was ≡ all
+  found_all was all so_far = sym (append-nil was) ∙ ap (λ l. was ++ l) (sym none_left) ∙ so_far
 
 -- what is read as a string is one
 pub is_string : (o : Option Data) (s : List ℕ) → Some s ≡ option_and_then as_str o → o ≡ Some (string s)

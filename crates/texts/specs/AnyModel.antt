@@ -1,13 +1,29 @@
 -- What the table of a model file says of this project's models (its profile): exactly the keys of
--- its model; and what `check` prints of one.
-use Rattle.std.specs.Prelude.{◌≡◌, ℕ, ◌*◌, ◌-◌, ◌^◌, List, [], ◌++◌, Some, codes, decimal}
+-- its model; what is wrong with one that says nothing; and what `check` prints of one.
+use Rattle.std.specs.Prelude.{◌≡◌, ℕ, ◌*◌, ◌-◌, ◌^◌, List, [], ◌∷◌, ◌++◌, Option, Some, None, codes, decimal}
+use Rattle.std.specs.Prelude.{false, if◌then◌else◌, nat_eq, option_and_then, unwrap_or}
+use Rattle.std.specs.Cmp.Lexicographic.{pointwise}
 use Rattle.models.specs.JobShop.{Shop}
 use Rattle.models.specs.Phold.{Hold}
 use Rattle.models.specs.Ring.{Ring}
 use Rattle.models.specs.declared.any_model.AnyModel.{AnyModel}
 use Rattle.models.specs.declared.any_model.AnyModel.TheVariants.{JobShop, Phold, TokenRing}
-use Rattle.texts.specs.ModelFile.{key_count, number_at}
-use Rattle.toml.specs.Data.{Members, get_member, string}
+use Rattle.texts.specs.ModelFile.{NumberKey, Wrong, number_at, number_key, numbers_from, numbers_wrong}
+use Rattle.texts.specs.ModelFile.{unknown_wrong, words_wrong}
+use Rattle.toml.specs.Data.{Members, as_str, get_member, string}
+
+-- the keys of each model
+
+abbrev pub ring_keys : List (List ℕ)
+ring_keys = codes "model" ∷ codes "lps" ∷ codes "end" ∷ codes "hold" ∷ codes "tokens" ∷ []
+
+abbrev pub hold_keys : List (List ℕ)
+hold_keys =
+    codes "model" ∷ codes "lps" ∷ codes "end" ∷ codes "population" ∷ codes "spread" ∷ codes "seed" ∷ []
+
+abbrev pub shop_keys : List (List ℕ)
+shop_keys =
+    codes "model" ∷ codes "lps" ∷ codes "end" ∷ codes "jobs" ∷ codes "service" ∷ codes "seed" ∷ []
 
 -- the table of a token ring that is run to this end: these five keys and no other
 pub record IsRingTable (table : Members) (r : Ring) (end : ℕ) : Type 0 where
@@ -16,7 +32,7 @@ pub record IsRingTable (table : Members) (r : Ring) (end : ℕ) : Type 0 where
   pub last : number_at (codes "end") 1 (2 ^ 40) table ≡ Some end
   pub hold : number_at (codes "hold") 1 (2 ^ 32 - 1) table ≡ Some r.hold
   pub tokens : number_at (codes "tokens") 1 (8 * r.lps) table ≡ Some r.tokens
-  pub only : key_count table ≡ 5
+  pub only : unknown_wrong ring_keys table ≡ []
 
 -- that of PHOLD: these six keys and no other
 pub record IsHoldTable (table : Members) (h : Hold) (end : ℕ) : Type 0 where
@@ -26,7 +42,7 @@ pub record IsHoldTable (table : Members) (h : Hold) (end : ℕ) : Type 0 where
   pub population : number_at (codes "population") 1 8 table ≡ Some h.population
   pub spread : number_at (codes "spread") 1 (2 ^ 32 - 1) table ≡ Some h.spread
   pub seed : number_at (codes "seed") 0 (2 ^ 63 - 1) table ≡ Some h.seed
-  pub only : key_count table ≡ 6
+  pub only : unknown_wrong hold_keys table ≡ []
 
 -- that of a job shop: these six keys and no other
 pub record IsShopTable (table : Members) (s : Shop) (end : ℕ) : Type 0 where
@@ -36,12 +52,72 @@ pub record IsShopTable (table : Members) (s : Shop) (end : ℕ) : Type 0 where
   pub jobs : number_at (codes "jobs") 1 8 table ≡ Some s.jobs
   pub service : number_at (codes "service") 1 (2 ^ 32 - 1) table ≡ Some s.service
   pub seed : number_at (codes "seed") 0 (2 ^ 63 - 1) table ≡ Some s.seed
-  pub only : key_count table ≡ 6
+  pub only : unknown_wrong shop_keys table ≡ []
 
 abbrev pub IsTableOf : Members → AnyModel → ℕ → Type 0
 IsTableOf table (TokenRing r) end = IsRingTable table r.ring end
 IsTableOf table (Phold h) end = IsHoldTable table h.hold end
 IsTableOf table (JobShop s) end = IsShopTable table s.shop end
+
+-- the numbers of each model, beginning with those that all have
+
+abbrev pub common_numbers : List NumberKey
+common_numbers = number_key (codes "lps") 1 1024 ∷ number_key (codes "end") 1 (2 ^ 40) ∷ []
+
+-- the most tokens that there may be: where it is not said how many processes there are, those of
+-- the greatest ring
+abbrev pub most_tokens : Members → ℕ
+most_tokens table = 8 * unwrap_or (number_at (codes "lps") 1 1024 table) 1024
+
+abbrev pub ring_numbers : Members → List NumberKey
+ring_numbers table = common_numbers
+    ++ number_key (codes "hold") 1 (2 ^ 32 - 1)
+    ∷ number_key (codes "tokens") 1 (most_tokens table) ∷ []
+
+abbrev pub hold_numbers : List NumberKey
+hold_numbers = common_numbers
+    ++ number_key (codes "population") 1 8
+    ∷ number_key (codes "spread") 1 (2 ^ 32 - 1)
+    ∷ number_key (codes "seed") 0 (2 ^ 63 - 1) ∷ []
+
+abbrev pub shop_numbers : List NumberKey
+shop_numbers = common_numbers
+    ++ number_key (codes "jobs") 1 8
+    ∷ number_key (codes "service") 1 (2 ^ 32 - 1)
+    ∷ number_key (codes "seed") 0 (2 ^ 63 - 1) ∷ []
+
+-- what is wrong with the table of each model
+
+abbrev pub ring_wrong : Members → List Wrong
+ring_wrong table = numbers_wrong (ring_numbers table) table ++ unknown_wrong ring_keys table
+
+abbrev pub hold_wrong : Members → List Wrong
+hold_wrong table = numbers_wrong hold_numbers table ++ unknown_wrong hold_keys table
+
+abbrev pub shop_wrong : Members → List Wrong
+shop_wrong table = numbers_wrong shop_numbers table ++ unknown_wrong shop_keys table
+
+-- with one that names none of them: which keys it should have, nobody knows but for those of all
+abbrev pub kindless_wrong : Members → List Wrong
+kindless_wrong table = numbers_from
+    (words_wrong false (codes "model") (codes "\"ring\", \"phold\" or \"jobshop\"") table)
+    common_numbers table
+
+-- the model that a table names
+abbrev pub kind_of : Members → Option (List ℕ)
+kind_of table = option_and_then as_str (get_member (codes "model") table)
+
+abbrev pub kind_wrong : Option (List ℕ) → Members → List Wrong
+kind_wrong None table = kindless_wrong table
+kind_wrong (Some name) table =
+    if pointwise nat_eq name (codes "ring") then ring_wrong table
+    else (if pointwise nat_eq name (codes "phold") then hold_wrong table
+    else (if pointwise nat_eq name (codes "jobshop") then shop_wrong table
+    else kindless_wrong table))
+
+-- what is wrong with the table of a model file
+abbrev pub any_wrong : Members → List Wrong
+any_wrong table = kind_wrong (kind_of table) table
 
 -- a line `key: value`, and what follows it
 abbrev pub line_then : List ℕ → ℕ → List ℕ → List ℕ

@@ -1,17 +1,19 @@
 // The models of this project, as a table describes them.
 
 ghost use Rattle.std.specs.Prelude.{◌≡◌, ◌≤◌, ◌*◌, ◌-◌, ◌^◌, ℕ, Some, None, codes, IfOk, IsErr};
-ghost use Rattle.std.specs.Prelude.{string_bytes};
+ghost use Rattle.std.specs.Prelude.{◌++◌, IfSome, OnOk, string_bytes, unwrap_or};
 ghost use Rattle.toml.specs.Data.{get_member, string};
 ghost use Rattle.toml.specs.View.{table_view};
-ghost use Rattle.texts.specs.ModelFile.{number_at};
+ghost use Rattle.texts.specs.ModelFile.{number_at, numbers_from};
 ghost use Rattle.texts.specs.AnyModel.{model_text, IsHoldTable, IsRingTable, IsShopTable};
-ghost use Rattle.texts.specs.AnyModel.{IsTableOf};
+ghost use Rattle.texts.specs.AnyModel.{any_wrong, common_numbers, hold_wrong, kindless_wrong};
+ghost use Rattle.texts.specs.AnyModel.{ring_wrong, shop_wrong, IsTableOf};
 ghost use Rattle.models.specs.JobShop.{Shop};
 ghost use Rattle.models.specs.Phold.{Hold};
 ghost use Rattle.models.specs.Ring.{Ring};
 ghost use Rattle.models.specs.declared.any_model.AnyModel.{AnyModel};
 
+use crate::findings::Findings;
 use crate::model_file::{Described, Mistake, ModelFault, number_at, only, string_at};
 use model::Model as Simulated;
 use models::{AnyModel, JobShop, Phold, TokenRing};
@@ -49,11 +51,17 @@ impl Described for AnyModel {
 
     ghost shows = { model_text };
 
+    ghost wrong = { any_wrong };
+
     fn describe(_alloc: Global, table: &Table) -> Result<(AnyModel, u64), ModelFault> {
         match model_of(table) {
             Ok(file) => Ok(file),
             Err(mistake) => Err(ModelFault::BadModel(mistake)),
         }
+    }
+
+    fn mistakes(alloc: Global, table: &Table) -> Result<Findings, AllocError> {
+        mistakes_of(alloc, table)
     }
 
     fn values(&self, alloc: Global, end: u64) -> Result<String, AllocError> {
@@ -64,6 +72,9 @@ impl Described for AnyModel {
         }
     }
 }
+
+/// What has to be at the key `model`.
+const KINDS: &str = "\"ring\", \"phold\" or \"jobshop\"";
 
 /// The model and the end of a table.
 fn model_of(table: &Table) -> Result<(AnyModel, u64), Mistake>
@@ -88,7 +99,7 @@ fn model_of(table: &Table) -> Result<(AnyModel, u64), Mistake>
         },
         _ => Err(Mistake::Not {
             key: "model",
-            wanted: "\"ring\", \"phold\" or \"jobshop\"",
+            wanted: KINDS,
         }),
     }
 }
@@ -117,7 +128,7 @@ fn ring_of(table: &Table) -> Result<(TokenRing, u64), Mistake>
     let end = end_of(table)?;
     let hold = number_at(table, "hold", 1, u64::from(u32::MAX))?;
     let tokens = number_at(table, "tokens", 1, 8 * lps)?;
-    only(table, 5)?;
+    only(table, &["model", "lps", "end", "hold", "tokens"])?;
     Ok((TokenRing::new(lps as u32, hold as u32, tokens as u32), end))
 }
 
@@ -135,7 +146,10 @@ fn hold_of(table: &Table) -> Result<(Phold, u64), Mistake>
     let population = number_at(table, "population", 1, 8)?;
     let spread = number_at(table, "spread", 1, u64::from(u32::MAX))?;
     let seed = number_at(table, "seed", 0, u64::MAX >> 1)?;
-    only(table, 6)?;
+    only(
+        table,
+        &["model", "lps", "end", "population", "spread", "seed"],
+    )?;
     Ok((
         Phold::new(lps as u32, population as u32, spread as u32, seed),
         end,
@@ -156,11 +170,104 @@ fn shop_of(table: &Table) -> Result<(JobShop, u64), Mistake>
     let jobs = number_at(table, "jobs", 1, 8)?;
     let service = number_at(table, "service", 1, u64::from(u32::MAX))?;
     let seed = number_at(table, "seed", 0, u64::MAX >> 1)?;
-    only(table, 6)?;
+    only(table, &["model", "lps", "end", "jobs", "service", "seed"])?;
     Ok((
         JobShop::new(lps as u32, jobs as u32, service as u32, seed),
         end,
     ))
+}
+
+/// What is wrong with a table.
+fn mistakes_of(alloc: Global, table: &Table) -> Result<Findings, AllocError>
+    ensures { IfOk result (λ found. found ≡ any_wrong (table_view table.now)) }
+{
+    match string_at(table, "model") {
+        Some(kind) if kind == "ring" => ring_mistakes(alloc, table),
+        Some(kind) if kind == "phold" => hold_mistakes(alloc, table),
+        Some(kind) if kind == "jobshop" => shop_mistakes(alloc, table),
+        _ => kindless_mistakes(alloc, table),
+    }
+}
+
+/// Looks at the keys that each model has, and answers how many processes there are.
+fn look_at_common(
+    alloc: Global,
+    table: &Table,
+    found: &mut Findings,
+) -> Result<Option<u64>, AllocError>
+    ensures lps { IfOk result (λ n. n ≡ number_at (codes "lps") 1 1024 (table_view table.now)) }
+    ensures told { OnOk result
+        (found.new ≡ numbers_from found.old common_numbers (table_view table.now)) }
+    ensures within { IfOk result (λ n. IfSome n (λ k. (1 ≤ k) × (k ≤ 1024))) }
+{
+    let lps = found.number_at(alloc, table, "lps", 1, 1024)?;
+    found.number_at(alloc, table, "end", 1, 1 << 40)?;
+    Ok(lps)
+}
+
+/// What is wrong with the table of a token ring. Where it is not said how many processes there are,
+/// no more tokens are too many than those of the greatest ring.
+fn ring_mistakes(alloc: Global, table: &Table) -> Result<Findings, AllocError>
+    ensures { IfOk result (λ found. found ≡ ring_wrong (table_view table.now)) }
+{
+    let mut found = Findings::new(alloc);
+    let lps = look_at_common(alloc, table, &mut found)?;
+    found.number_at(alloc, table, "hold", 1, u64::from(u32::MAX))?;
+    found.number_at(alloc, table, "tokens", 1, most_tokens(lps))?;
+    found.others(alloc, table, &["model", "lps", "end", "hold", "tokens"])?;
+    Ok(found)
+}
+
+/// The most tokens that a ring of so many processes, or of the most, may have.
+fn most_tokens(lps: Option<u64>) -> u64
+    requires { IfSome lps (λ n. (1 ≤ n) × (n ≤ 1024)) }
+    ensures { result ≡ 8 * unwrap_or lps 1024 }
+{
+    8 * lps.unwrap_or(1024)
+}
+
+/// What is wrong with the table of PHOLD.
+fn hold_mistakes(alloc: Global, table: &Table) -> Result<Findings, AllocError>
+    ensures { IfOk result (λ found. found ≡ hold_wrong (table_view table.now)) }
+{
+    let mut found = Findings::new(alloc);
+    look_at_common(alloc, table, &mut found)?;
+    found.number_at(alloc, table, "population", 1, 8)?;
+    found.number_at(alloc, table, "spread", 1, u64::from(u32::MAX))?;
+    found.number_at(alloc, table, "seed", 0, u64::MAX >> 1)?;
+    found.others(
+        alloc,
+        table,
+        &["model", "lps", "end", "population", "spread", "seed"],
+    )?;
+    Ok(found)
+}
+
+/// What is wrong with the table of a job shop.
+fn shop_mistakes(alloc: Global, table: &Table) -> Result<Findings, AllocError>
+    ensures { IfOk result (λ found. found ≡ shop_wrong (table_view table.now)) }
+{
+    let mut found = Findings::new(alloc);
+    look_at_common(alloc, table, &mut found)?;
+    found.number_at(alloc, table, "jobs", 1, 8)?;
+    found.number_at(alloc, table, "service", 1, u64::from(u32::MAX))?;
+    found.number_at(alloc, table, "seed", 0, u64::MAX >> 1)?;
+    found.others(
+        alloc,
+        table,
+        &["model", "lps", "end", "jobs", "service", "seed"],
+    )?;
+    Ok(found)
+}
+
+/// What is wrong with a table that names none of the models.
+fn kindless_mistakes(alloc: Global, table: &Table) -> Result<Findings, AllocError>
+    ensures { IfOk result (λ found. found ≡ kindless_wrong (table_view table.now)) }
+{
+    let mut found = Findings::new(alloc);
+    found.words_at(alloc, table, "model", KINDS, false)?;
+    look_at_common(alloc, table, &mut found)?;
+    Ok(found)
 }
 
 /// The values of a token ring. The first word of an identity is the kind of the model.

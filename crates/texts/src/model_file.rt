@@ -1,11 +1,13 @@
 // Model files of any kind of model.
 
-ghost use Rattle.std.specs.Prelude.{◌≡◌, ◌≢◌, ◌≤◌, ◌^◌, ℕ, List, Err, Some, None, IfOk};
-ghost use Rattle.std.specs.Prelude.{IfSome, IsErr, OnOk, option_map, option_and_then, string_bytes};
+ghost use Rattle.std.specs.Prelude.{◌≡◌, ◌≢◌, ◌≤◌, ◌^◌, ℕ, List, [], Err, Some, None, IfOk};
+ghost use Rattle.std.specs.Prelude.{IfSome, IsErr, OnOk, map, option_map, option_and_then};
+ghost use Rattle.std.specs.Prelude.{string_bytes};
 ghost use Rattle.toml.specs.Data.{as_integer, as_str, get_member, Members};
 ghost use Rattle.toml.specs.View.{table_view};
-ghost use Rattle.texts.specs.ModelFile.{in_range, key_count, number_at, IsModelFile};
+ghost use Rattle.texts.specs.ModelFile.{in_range, number_at, unknown_wrong, IsModelFile, Wrong};
 
+use crate::findings::{Findings, is_among};
 use model::Model as Simulated;
 use std::alloc::{AllocError, Global};
 use thiserror::Error;
@@ -67,6 +69,9 @@ pub trait Described: Simulated + Drop {
     /// What `check` prints of the model and the end, after its line `ok`.
     ghost shows: { Self → ℕ → List ℕ };
 
+    /// What is wrong with a table: nothing where it describes a model.
+    ghost wrong: { Members → List Wrong };
+
     /// The model that a table describes, and the tick at which its run ends, 1 to 2^40.
     ///
     /// Refused are `BadModel`, with the first mistake that was met, where the table describes none,
@@ -77,6 +82,16 @@ pub trait Described: Simulated + Drop {
             (model : Self) (end : ℕ) → ¬ says (table_view table.now) model end }
         ensures some { IfOk result (λ file. 1 ≤ file.1) }
         ensures end { IfOk result (λ file. file.1 ≤ 2 ^ 40) };
+
+    /// All that is wrong with a table, and not only the first mistake: in the order in which
+    /// `describe` looks for it, and last the keys that the model does not have. A table that
+    /// describes a model has no finding, each other has one.
+    fn mistakes(alloc: Global, table: &Table) -> Result<Findings, AllocError>
+        ensures told { IfOk result (λ found. found ≡ wrong (table_view table.now)) }
+        ensures none { IfOk result (λ found. found ≡ [] →
+            (model : Self) × (end : ℕ) × says (table_view table.now) model end) }
+        ensures some { IfOk result (λ found. (model : Self) (end : ℕ) →
+            says (table_view table.now) model end → found ≡ []) };
 
     /// A line `key: value` for each value that tells this model from others, and for the end.
     fn values(&self, alloc: Global, end: u64) -> Result<String, AllocError>
@@ -149,6 +164,17 @@ pub fn number_at(table: &Table, key: &'static str, least: u64, most: u64) -> Res
     }
 }
 
+/// The whole number at a key, if there is one from `least` to `most`.
+pub(crate) fn number_within(table: &Table, key: &str, least: u64, most: u64) -> Option<u64>
+    ensures value { result ≡ number_at key.now least most (table_view table.now) }
+    ensures within { IfSome result (λ n. (least ≤ n) × (n ≤ most)) }
+{
+    match integer_at(table, key) {
+        Some(found) => in_range(found, least, most),
+        None => None,
+    }
+}
+
 /// Why there is no number at a key.
 fn without_number(table: &Table, key: &'static str) -> Mistake {
     match table.get(key) {
@@ -157,16 +183,19 @@ fn without_number(table: &Table, key: &'static str) -> Mistake {
     }
 }
 
-/// Answers nothing, where a table has so many keys. One that has these keys then has no other.
-pub fn only(table: &Table, count: usize) -> Result<(), Mistake>
-    ensures ok { OnOk result (key_count (table_view table.now) ≡ count) }
-    ensures err { IsErr result → key_count (table_view table.now) ≢ count }
+/// Answers nothing, where a table has no keys but these.
+pub fn only(table: &Table, keys: &[&str]) -> Result<(), Mistake>
+    ensures ok { OnOk result
+        (unknown_wrong (map (λ k. k.now) keys.now) (table_view table.now) ≡ []) }
+    ensures err { IsErr result →
+        unknown_wrong (map (λ k. k.now) keys.now) (table_view table.now) ≢ [] }
 {
-    if table.len() == count {
-        Ok(())
-    } else {
-        Err(Mistake::Unknown)
+    'keys: for (key, _value) in table.iter() {
+        if !is_among(key.as_str(), keys) {
+            return Err(Mistake::Unknown);
+        }
     }
+    Ok(())
 }
 
 /// The number, if it is one from `least` to `most`.

@@ -61,12 +61,16 @@ const PLAN: Plan = Plan {
     nodes: 3,
     batch: 16,
     rounds: 100,
+    together: false,
+    checkpoint_every: 0,
 };
 
 const ONE_ROUND: Plan = Plan {
     nodes: 3,
     batch: 16,
     rounds: 1,
+    together: false,
+    checkpoint_every: 0,
 };
 
 /// The ring, a token held for so many ticks.

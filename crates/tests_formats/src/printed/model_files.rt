@@ -3,7 +3,7 @@
 use models::{AnyModel, JobShop, Phold, TokenRing};
 use std::alloc::{AllocError, Global};
 use std::test::Fail;
-use texts::{Mistake, ModelFault, read_model};
+use texts::{Finding, Found, Mistake, Mistakes, ModelFault, Wanted, find_mistakes, read_model};
 
 const RING: &str = "model = \"ring\"\nlps = 3\nend = 10\nhold = 2\ntokens = 1\n";
 
@@ -100,6 +100,92 @@ fn a_mistake_is_told_in_plain_words(rt: HostRuntime) -> Result<(), Fail> {
     Ok(())
 }
 
+/// A file, and all that is wrong with it, a line for each.
+const WRONG: [(&str, &str); 8] = [
+    // Nothing is.
+    (RING, ""),
+    (
+        "model = 'jobshop'\nlps = true\nend = 1.5\njobs = [1]\nservice = {}\nseed = 1979-05-27\n",
+        "  \
+lps: true or false; wanted is a whole number from 1 to 1024
+  end: a number with a fraction; wanted is a whole number from 1 to 1099511627776
+  jobs: a list; wanted is a whole number from 1 to 8
+  service: a table; wanted is a whole number from 1 to 4294967295
+  seed: a date or a time; wanted is a whole number from 0 to 9223372036854775807
+",
+    ),
+    // The text of a first mistake that says all is not said again.
+    (
+        "model = 'phold'\nlps = 0\nend = -1\npopulation = 9\nspread = 4294967296\nseed = -5\n",
+        "  \
+end: -1 is not within 1 to 1099511627776
+  population: 9 is not within 1 to 8
+  spread: 4294967296 is not within 1 to 4294967295
+  seed: -5 is not within 0 to 9223372036854775807
+",
+    ),
+    // How many tokens there may be is a matter of `lps`.
+    (
+        "model = 'ring'\nlps = 3\nend = 10\nhold = 0\ntokens = 25\n",
+        "  tokens: 25 is not within 1 to 24\n",
+    ),
+    (
+        "model = 'ring'\nend = 10\nhold = 1\ntokens = 25\n",
+        "  lps: missing; wanted is a whole number from 1 to 1024\n",
+    ),
+    // Keys of another model are none of this one's.
+    (
+        "model = 'ring'\nlps = 3\nend = 10\nhold = 1\ntokens = 1\nspread = 7\njobs = 2\n",
+        "  \
+\"jobs\": the model has no such key
+  \"spread\": the model has no such key
+",
+    ),
+    // Where no model is named, only the keys that each model has are looked at.
+    (
+        "model = 'Ring'\nlps = 3\nend = 10\nhold = 'x'\n",
+        "  model: a string; wanted is \"ring\", \"phold\" or \"jobshop\"\n",
+    ),
+    (
+        "# one\n# two\nlps = 3\nlps = 4\n",
+        "  line 4: duplicate key\n",
+    ),
+];
+
+#[test]
+fn all_mistakes_are_told(rt: HostRuntime) -> Result<(), Fail> {
+    for (text, want) in WRONG {
+        let found = find_mistakes::<AnyModel>(rt.alloc(), text.as_bytes())?;
+        let told = format!(in rt.alloc(); "{found}")?;
+        assert_eq!(rt; told.as_str(), want);
+    }
+    Ok(())
+}
+
+#[test]
+fn a_finding_says_what_was_found_and_what_is_wanted(rt: HostRuntime) -> Result<(), Fail> {
+    let text = "model = 'ring'\nlps = 3\nend = 10\nhold = 2\ntokens = '1'\nseed = 7\n";
+    let found = find_mistakes::<AnyModel>(rt.alloc(), text.as_bytes())?;
+    let Mistakes::Keys(found) = found else {
+        return Err("a table".into());
+    };
+    let wanted = Wanted::Number { least: 1, most: 24 };
+    let want = [
+        ("tokens", Found::Text, wanted),
+        ("seed", Found::Number(7), Wanted::Nothing),
+    ];
+    assert_eq!(rt; found.as_slice().len(), want.len());
+    for (finding, (key, found, wanted)) in found.as_slice().iter().zip(want.iter()) {
+        let want = Finding {
+            key: String::from_str(rt.alloc(), *key)?,
+            found: *found,
+            wanted: *wanted,
+        };
+        assert!(rt; *finding == want);
+    }
+    Ok(())
+}
+
 #[test]
 fn faults_are_told_by_their_names(rt: HostRuntime) -> Result<(), Fail> {
     for (fault, name) in [
@@ -169,6 +255,20 @@ fn other_texts_are_no_model(rt: HostRuntime) {
         let read = read_model::<AnyModel>(rt.alloc(), text);
         assert!(rt; matches!(read, Err(ModelFault::BadModel(_))), "{text}");
     }
+}
+
+#[test]
+fn mistakes_are_told_at_a_second_try(rt: HostRuntime) -> Result<(), Fail> {
+    let text = "model = 'ring'\nlps = 3\nend = 10\nhold = '2'\ntokens = 1\nseed = 7\n";
+    let mut found = find_mistakes::<AnyModel>(rt.alloc(), text.as_bytes());
+    if found.is_err() {
+        found = find_mistakes::<AnyModel>(rt.alloc(), text.as_bytes());
+    }
+    let Mistakes::Keys(found) = found? else {
+        return Err("a table".into());
+    };
+    assert_eq!(rt; found.as_slice().len(), 2);
+    Ok(())
 }
 
 // Want of memory is told by its name, and a second try then answers as if there had been none.

@@ -1,4 +1,4 @@
-use Rattle.std.proofs.Common.{ap, map, ◌∙◌}
+use Rattle.std.proofs.Common.{ap, inr, map, ◌∙◌}
 use Rattle.std.specs.Prelude.{string_bytes}
 use Rattle.circuit.specs.Circuit.{netlist_of}
 use Rattle.circuit.specs.Wave.{wave_text}
@@ -11,7 +11,7 @@ returns g c =
     let n = netlist_of circuit.gates.items circuit.wires.items circuit.digest in
     record {
       world = world_of c.in_ok-front.front;
-      upto = c.in_ok-front.ensures.upto.0;
-      within = c.in_ok-front.ensures.upto.1;
+      from = inr (record { image = _; replayed = c.in_ok-front.ensures.replayed; genuine = c.in_ok-front.ensures.genuine });
+      within = c.in_ok-front.ensures.within;
       is = c.in_ok-wave.ensures ∙ ap (wave_text n (map string_bytes circuit.names.items) c.in_ok-front.front.g) c.as_slice.ensures;
     }

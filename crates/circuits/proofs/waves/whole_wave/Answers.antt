@@ -1,4 +1,4 @@
-use Rattle.std.proofs.Common.{ap, ap₂, map, ◌∙◌}
+use Rattle.std.proofs.Common.{ap, ap₂, inl, map, ◌∙◌}
 use Rattle.std.specs.Prelude.{string_bytes}
 use Rattle.circuit.specs.Circuit.{netlist_of}
 use Rattle.circuit.specs.Wave.{wave_text}
@@ -14,7 +14,7 @@ returns g c =
     let there = at_its_time (meaning_of circuit) c.args.of.now.end world c.in_ok-whole_world.ensures in
     record {
       world = world;
-      upto = there.0;
+      from = inl there.0;
       within = there.1;
       is = c.in_ok-wave.ensures ∙ ap₂ (wave_text n (map string_bytes circuit.names.items)) c.into_parts-parts.ensures.time (c.as_slice.ensures.value ∙ c.into_parts-parts.ensures.log);
     }

@@ -2,7 +2,7 @@ use Rattle.std.proofs.Common.{◌≡◌, ◌+◌, ℕ, List, ◌++◌, append-ni
 use Rattle.std.proofs.lemmas.List.{drop_all, take_all}
 use Rattle.model.specs.World.{World}
 use Rattle.driver.specs.Driver.{AreRounds, IsRound}
-use Rattle.driver.proofs.Drives.{driven_so, finished, stood_by, then_by, then_stands}
+use Rattle.driver.proofs.Drives.{driven_so, driven_stands, finished, stood_by, then_by, then_stands}
 use Rattle.driver.proofs.Shapes.{one_round_more}
 use Rattle.driver.proofs.rounds.run.Goals as goal
 
@@ -12,7 +12,7 @@ as_long n new old whole same =
     ap length (ap (take n) (ap (λ (rest : List ℕ). new ++ rest) (drop_all (length new) old (omega arith)) ∙ append-nil new) ∙ take_all n new (omega arith)) ∙ same
 
 pub rounds-init : goal.rounds-init
-rounds-init g c = record { made = omega arith; driven = stood_by g.M.Model.meaning g.P.Port.state g.D.SectorDisk.state (AreRounds c.args.plan.nodes c.args.plan.batch 0) c.args.session.now refl; count = search rules }
+rounds-init g c = record { made = omega arith; driven = stood_by g.M.Model.meaning g.P.Port.state g.D.SectorDisk.state (AreRounds c.args.plan 0) c.args.session.now refl; count = search rules }
 
 pub returns-in_err-round-clause-keeps : goal.returns-in_err-round-clause-keeps
 returns-in_err-round-clause-keeps g c = then_stands g.M.Model.meaning g.P.Port.state g.D.SectorDisk.state c.args.session.now c.rounds.session c.round.new.session (driven_so g.M.Model.meaning g.P.Port.state g.D.SectorDisk.state _ c.args.session.now c.rounds.session c.rounds.invariant.driven) c.in_err-round.ensures.keeps
@@ -20,8 +20,8 @@ returns-in_err-round-clause-keeps g c = then_stands g.M.Model.meaning g.P.Port.s
 pub rounds-preserved : goal.rounds-preserved
 rounds-preserved g c = record {
   made = omega (arith, c.if-made-plan.false);
-  driven = then_by g.M.Model.meaning g.P.Port.state g.D.SectorDisk.state (AreRounds c.args.plan.nodes c.args.plan.batch c.rounds.made) (IsRound c.args.plan.nodes c.args.plan.batch) (AreRounds c.args.plan.nodes c.args.plan.batch (c.rounds.made + 1))
-      c.args.session.now c.rounds.session c.round.new.session (one_round_more c.args.plan.nodes c.args.plan.batch c.rounds.made) c.rounds.invariant.driven c.in_ok-round.ensures.driven;
+  driven = then_by g.M.Model.meaning g.P.Port.state g.D.SectorDisk.state (AreRounds c.args.plan c.rounds.made) (IsRound c.args.plan (c.rounds.made + 1)) (AreRounds c.args.plan (c.rounds.made + 1))
+      c.args.session.now c.rounds.session c.round.new.session (one_round_more c.args.plan c.rounds.made) c.rounds.invariant.driven c.in_ok-round.ensures.driven;
   count = as_long c.rounds.ran.len c.round.new.ran c.rounds.ran.items (omega (arith, c.as_mut_slice.ensures.len, c.rounds.ran.ok)) (omega (arith, c.round.auto.ran, c.as_mut_slice.ensures.len)) ∙ c.rounds.invariant.count;
 }
 
@@ -33,3 +33,9 @@ returns-clause-driven g c = driven_so g.M.Model.meaning g.P.Port.state g.D.Secto
 
 pub returns-clause-in_rounds : goal.returns-clause-in_rounds
 returns-clause-in_rounds g c = (c.rounds.made, c.rounds.invariant.made, c.rounds.invariant.driven)
+
+pub returns-then-made-plan-clause-keeps : goal.returns-then-made-plan-clause-keeps
+returns-then-made-plan-clause-keeps g c = driven_stands g.M.Model.meaning g.P.Port.state g.D.SectorDisk.state c.args.session.now c.rounds.session (driven_so g.M.Model.meaning g.P.Port.state g.D.SectorDisk.state _ c.args.session.now c.rounds.session c.rounds.invariant.driven)
+
+pub returns-clause-keeps : goal.returns-clause-keeps
+returns-clause-keeps g c = driven_stands g.M.Model.meaning g.P.Port.state g.D.SectorDisk.state c.args.session.now c.rounds.session (driven_so g.M.Model.meaning g.P.Port.state g.D.SectorDisk.state _ c.args.session.now c.rounds.session c.rounds.invariant.driven)

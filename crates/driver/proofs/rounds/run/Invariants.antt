@@ -5,7 +5,7 @@ use Rattle.driver.proofs.rounds.run.Given as goal
 abbrev pub invariant-rounds : goal.invariant-rounds
 invariant-rounds g l = record {
   made : l.made ≤ l.plan.rounds;
-  driven : IsDrivenBy g.M.Model.meaning g.P.Port.state g.D.SectorDisk.state (AreRounds l.plan.nodes l.plan.batch l.made) l.fn.session l.session;
+  driven : IsDrivenBy g.M.Model.meaning g.P.Port.state g.D.SectorDisk.state (AreRounds l.plan l.made) l.fn.session l.session;
   count : length l.ran.items ≡ l.plan.nodes;
 }
 

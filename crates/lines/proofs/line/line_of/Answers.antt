@@ -9,7 +9,10 @@ returns-in_default-clause-says c = (
     | inr (inr (inl e)) ↦ absurd (c.in_default.not-log e)
     | inr (inr (inr (inl e))) ↦ absurd (c.in_default.not-show e)
     | inr (inr (inr (inr (inl e)))) ↦ absurd (c.in_default.not-seq e)
-    | inr (inr (inr (inr (inr e)))) ↦ e
+    | inr (inr (inr (inr (inr (inl e))))) ↦ absurd (c.in_default.not-check e)
+    | inr (inr (inr (inr (inr (inr e))))) ↦ e
   ],
   c.text-model.ensures,
+  c.text-in_default.ensures,
+  c.number-in_default.ensures.value,
 )

@@ -1,6 +1,8 @@
-use Rattle.std.proofs.Common.{◌≤◌}
+use Rattle.std.proofs.Common.{◌≤◌, List, ℕ, subst, sym}
 use Rattle.recovery.specs.Front.{world_of}
-use Rattle.simulation.proofs.Left.{at_end, exactly_recovers, looked, made_so, one_by_one, then_so}
+use Rattle.coordinator.proofs.Begun.{recovers-genuine}
+use Rattle.recovery.specs.Stands.{Stands}
+use Rattle.simulation.proofs.Left.{at_end, exactly_recovers, looked, made_so, one_by_one, prepared_genuine, then_so}
 use Rattle.simulation.proofs.simulating.simulate.Goals as goal
 
 pub returns-in-Err-clause-crashes : goal.returns-in-Err-clause-crashes
@@ -24,12 +26,39 @@ returns-in-Err-told-clause-any_moment g c = λ firm blank.
     (c.run-disk.ensures.crashes 0 (exactly_recovers m c.args.end made (c.in_default.ensures.made blank)))
 
 pub returns-in-Ok-told-clause-finished : goal.returns-in-Ok-told-clause-finished
-returns-in-Ok-told-clause-finished g c =
+returns-in-Ok-told-clause-finished g c = λ genuine.
+    let m = g.M.Model.meaning c.args.model.now in
+    let made = g.D.SectorDisk.state c.prepare.new.disk in
+    let ran = g.D.SectorDisk.state c.run-disk.result.disk in
+    let begun = prepared_genuine m c.args.end (g.D.SectorDisk.state c.args.disk) made (g.met.M.Model.lawful c.args.model.now) c.requires.short (g.met.D.SectorDisk.sound c.prepare.new.disk) c.in_default.ensures.made c.prepare.ensures.looks genuine in
+    let ended = rw c.in-Ok.is at (c.run-disk.ensures.committed begun) in
+    let left = recovers-genuine m c.args.end (g.met.M.Model.lawful c.args.model.now) c.requires.short ran (g.met.D.SectorDisk.sound c.run-disk.result.disk) c.args.end ended in
     let told = c.in-Ok-told.front in
-    let upto = rw c.in-Ok-told.is at c.committed-disk.ensures.upto in
-    let ended = rw c.in-Ok.is at c.run-disk.ensures.committed in
+    let upto = rw c.in-Ok-told.is at (c.committed-disk.ensures.upto left) in
     let late : c.args.end ≤ told.g = rw c.in-Ok-told.is at (c.committed-disk.ensures.late c.args.end ended) in
-    at_end (g.M.Model.meaning c.args.model.now) c.args.end told.g (world_of told) upto.0 upto.1 late
+    at_end m c.args.end told.g (world_of told) upto.0 upto.1 late
+
+pub returns-in-Ok-told-clause-stands : goal.returns-in-Ok-told-clause-stands
+returns-in-Ok-told-clause-stands g c = λ genuine.
+    let m = g.M.Model.meaning c.args.model.now in
+    let made = g.D.SectorDisk.state c.prepare.new.disk in
+    let ran = g.D.SectorDisk.state c.run-disk.result.disk in
+    let begun = prepared_genuine m c.args.end (g.D.SectorDisk.state c.args.disk) made (g.met.M.Model.lawful c.args.model.now) c.requires.short (g.met.D.SectorDisk.sound c.prepare.new.disk) c.in_default.ensures.made c.prepare.ensures.looks genuine in
+    let ended = rw c.in-Ok.is at (c.run-disk.ensures.committed begun) in
+    let left = recovers-genuine m c.args.end (g.met.M.Model.lawful c.args.model.now) c.requires.short ran (g.met.D.SectorDisk.sound c.run-disk.result.disk) c.args.end ended in
+    let told = c.in-Ok-told.front in
+    let stands : Stands m c.args.end ran.reads (world_of told) = rw c.in-Ok-told.is at (c.committed-disk.ensures.stands left) in
+    subst (λ (image : List (List ℕ)). Stands m c.args.end image (world_of told)) (sym c.committed-disk.ensures.looks.same) stands
+
+pub returns-in-Ok-told-clause-committed : goal.returns-in-Ok-told-clause-committed
+returns-in-Ok-told-clause-committed g c = λ genuine.
+    let m = g.M.Model.meaning c.args.model.now in
+    let made = g.D.SectorDisk.state c.prepare.new.disk in
+    let ran = g.D.SectorDisk.state c.run-disk.result.disk in
+    let begun = prepared_genuine m c.args.end (g.D.SectorDisk.state c.args.disk) made (g.met.M.Model.lawful c.args.model.now) c.requires.short (g.met.D.SectorDisk.sound c.prepare.new.disk) c.in_default.ensures.made c.prepare.ensures.looks genuine in
+    let ended = rw c.in-Ok.is at (c.run-disk.ensures.committed begun) in
+    let left = recovers-genuine m c.args.end (g.met.M.Model.lawful c.args.model.now) c.requires.short ran (g.met.D.SectorDisk.sound c.run-disk.result.disk) c.args.end ended in
+    (looked m c.args.end c.args.end ran (g.D.SectorDisk.state c.committed-disk.result.disk) c.committed-disk.ensures.looks ended).now_on
 
 pub returns-in-Ok-told-clause-crashes : goal.returns-in-Ok-told-clause-crashes
 returns-in-Ok-told-clause-crashes g c = λ a recovers.

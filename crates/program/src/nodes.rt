@@ -1,0 +1,280 @@
+// Nodes that are programs of their own, behind Unix sockets.
+
+ghost use Rattle.std.specs.Prelude.{◌≡◌, ◌≤◌, ◌+◌, ◌⊎◌, IfOk, OnErr, OnOk, length, map};
+ghost use Rattle.std.specs.Prelude.{◌^◌, ℕ, List, replicate};
+ghost use Rattle.texts.specs.ModelFile.{IsModelFile};
+ghost use Rattle.program.specs.Command.{Begins, IsRanBehind, Prints};
+ghost use Rattle.sockets.specs.Socket.{state_of};
+ghost use Rattle.sockets.specs.declared.port.Held.TheVariants.{Fresh};
+
+use crate::fault::Fault;
+use crate::files::{simulated, unreadable};
+use crate::progress::Progress;
+use commands::Simulated;
+use disk::FileDisk;
+use driver::Plan;
+use serving::serve;
+use sockets::SocketPort;
+use std::alloc::Global;
+use std::fs::{self, File};
+use std::io::{self, Error as IoError, ErrorKind, Write};
+use std::net::Net;
+use std::os::unix::net::{UnixListener, UnixStream};
+use std::process::{Child, Command, OpenProcess, Processes, Stdio};
+use std::rt::Files;
+use std::thread;
+use std::time::{Clock, Duration};
+use texts::Described;
+
+/// Which programs are the nodes of a run, and where their sockets are.
+#[derive(Clone, Copy)]
+pub(crate) struct Behind<'a> {
+    /// The program that is started for each node, with the words of the command `node`.
+    pub program: &'a str,
+    /// The path of the model file.
+    pub model: &'a str,
+    /// The folder of the sockets.
+    pub folder: &'a str,
+    /// The node whose program ends after one reply.
+    pub cut: Option<u32>,
+}
+
+/// What has to be cleared up of a node: the socket's file, which this run has made, its listener,
+/// and the program, where it was started.
+#[derive(Drop)]
+struct Met<P: OpenProcess + Drop> {
+    path: String,
+    listener: Option<UnixListener>,
+    child: Option<Child<P>>,
+}
+
+/// Runs the model of a file on its disk, over node programs.
+///
+/// The faults come in this order: those of the model file and of the disk's file; `File` where a
+/// socket is not made, a program is not started, or one ends before it connects, or `NoMemory`;
+/// those of the run. Whatever the end is, the connections are closed then, each program that was
+/// started is waited for, and each socket that was made is removed. What fails in that is not told.
+pub(crate) fn run_behind<M, R, P, O>(
+    rt: &R,
+    behind: Behind<'_>,
+    disk: &str,
+    plan: Plan,
+    progress: &mut P,
+    out: &mut O,
+) -> Result<(), Fault>
+where
+    M: Described,
+    R: Files<File = File> + Net + Processes + Clock + AllocGlobal,
+    P: Progress,
+    O: Write,
+    requires some { 1 ≤ plan.nodes }
+    requires few { plan.nodes ≤ 64 }
+    ensures ok { OnOk result (Prints (IsRanBehind M.says plan.nodes)
+        (O.contents out.old) (O.contents out.new)) }
+    ensures err { OnErr result ((out.new ≡ out.old) ⊎ Begins (IsRanBehind M.says plan.nodes)
+        (O.contents out.old) (O.contents out.new)) }
+{
+    let of: Simulated<M> = simulated(rt, behind.model)?;
+    let disk = FileDisk::open(rt, rt.alloc(), disk, None)?;
+    let mut met = Vec::with_capacity(rt.alloc(), plan.nodes as usize)?;
+    // the one way out from here on leads through the clearing up
+    let told = match meet(rt, behind, plan.nodes, &mut met) {
+        Ok(ports) => run_met(rt.alloc(), &of, ports, disk, plan, progress, out),
+        Err(fault) => Err(fault),
+    };
+    clear(rt, met);
+    told
+}
+
+/// Runs a model on its disk over node programs that are connected. At its end no connection is left.
+fn run_met<M, P, O>(
+    alloc: Global,
+    of: &Simulated<M>,
+    ports: Vec<SocketPort<UnixStream>>,
+    disk: FileDisk,
+    plan: Plan,
+    progress: &mut P,
+    out: &mut O,
+) -> Result<(), Fault>
+where
+    M: Described,
+    P: Progress,
+    O: Write,
+    requires nodes { 1 ≤ plan.nodes }
+    requires few { plan.nodes ≤ 64 }
+    requires ports { map (λ p. state_of p.held) ports.items ≡ replicate plan.nodes (state_of Fresh) }
+    requires file { (text : List ℕ) × IsModelFile M.says text of.now.model of.now.end }
+    requires some { 1 ≤ of.now.end }
+    requires short { of.now.end ≤ 2 ^ 40 }
+    ensures ok { OnOk result (Prints (IsRanBehind M.says plan.nodes)
+        (O.contents out.old) (O.contents out.new)) }
+    ensures err { OnErr result ((out.new ≡ out.old) ⊎ Begins (IsRanBehind M.says plan.nodes)
+        (O.contents out.old) (O.contents out.new)) }
+{
+    progress.begin(of.end);
+    let ended = commands::run_over(alloc, of, ports, disk, plan, progress, out);
+    Ok(ended.told?)
+}
+
+/// A port to each of so many node programs: all sockets are made, all programs started, and a
+/// connection of each is taken. What has to be cleared up is in `met`, whatever is answered.
+fn meet<R>(
+    rt: &R,
+    behind: Behind<'_>,
+    nodes: u32,
+    met: &mut Vec<Met<R::Started>>,
+) -> Result<Vec<SocketPort<UnixStream>>, Fault>
+where
+    R: Files<File = File> + Net + Processes + Clock + AllocGlobal,
+    requires { length met.old.items ≡ 0 }
+    ensures { IfOk result (λ ports.
+        map (λ p. state_of p.held) ports.items ≡ replicate nodes (state_of Fresh)) }
+{
+    'nodes: for node in 0..nodes {
+        bind(rt, behind.folder, node, met)?;
+    }
+    let met = met.as_mut_slice();
+    start_all(rt, behind, met)?;
+    accept_all(rt, met)
+}
+
+/// Makes the socket of a node.
+fn bind<R>(rt: &R, folder: &str, node: u32, met: &mut Vec<Met<R::Started>>) -> Result<(), Fault>
+where
+    R: Files<File = File> + Net + Processes + AllocGlobal,
+    ensures { OnOk result (length met.new.items ≡ length met.old.items + 1) }
+{
+    let path = format!(in rt.alloc(); "{folder}/node{node}")?;
+    met.reserve(1)?;
+    let listener = UnixListener::bind(rt, path.as_str()).map_err(unreadable)?;
+    // what was made is noted before anything else can fail
+    let nonblocking = listener.set_nonblocking(true);
+    met.push_reserved(Met {
+        path,
+        listener: Some(listener),
+        child: None,
+    });
+    nonblocking.map_err(unreadable)
+}
+
+/// Starts the program of each node.
+fn start_all<R>(rt: &R, behind: Behind<'_>, met: &mut [Met<R::Started>]) -> Result<(), Fault>
+where
+    R: Processes + AllocGlobal,
+{
+    for (node, met) in met.iter_mut().enumerate() {
+        let is_cut = match behind.cut {
+            Some(cut) => cut as usize == node,
+            None => false,
+        };
+        let child = start(rt, behind, met.path.as_str(), is_cut).map_err(unreadable)?;
+        met.child = Some(child);
+    }
+    Ok(())
+}
+
+/// Starts the program of the node behind this socket, with no standard streams.
+fn start<R>(rt: &R, behind: Behind<'_>, path: &str, is_cut: bool) -> io::Result<Child<R::Started>>
+where
+    R: Processes + AllocGlobal,
+{
+    let mut command = Command::new(rt.alloc(), behind.program)?;
+    command.arg("node")?.arg(behind.model)?.arg(path)?;
+    if is_cut {
+        command.arg("--parcels")?.arg("1")?;
+    }
+    command
+        .stdin(Stdio::null())
+        .stdout(Stdio::null())
+        .stderr(Stdio::null());
+    command.spawn(rt)
+}
+
+/// A port to each node's program, as they connect.
+fn accept_all<R>(rt: &R, met: &mut [Met<R::Started>]) -> Result<Vec<SocketPort<UnixStream>>, Fault>
+where
+    R: Processes + Clock + AllocGlobal,
+    ensures { IfOk result (λ ports.
+        map (λ p. state_of p.held) ports.items ≡ replicate (length met.old) (state_of Fresh)) }
+{
+    let mut ports = Vec::with_capacity(rt.alloc(), met.len())?;
+    'nodes: for node in 0..met.len() {
+        let stream = accept(rt, &mut met[node]).map_err(unreadable)?;
+        ports.push(SocketPort::new(rt.alloc(), stream))?;
+    }
+    Ok(ports)
+}
+
+/// The connection of a node's program, for which it looks once a millisecond; an error where the
+/// program has ended and there is none.
+fn accept<R, P>(rt: &R, met: &mut Met<P>) -> io::Result<UnixStream>
+where
+    R: Clock,
+    P: OpenProcess + Drop,
+{
+    for _ in 0..u64::MAX {
+        // asked first, so that a program which connects and then ends is still met
+        let has_ended = match &mut met.child {
+            Some(child) => child.try_wait()?.is_some(),
+            None => true,
+        };
+        let accepted = match &met.listener {
+            Some(listener) => listener.accept(),
+            None => Err(IoError::from(ErrorKind::NotConnected)),
+        };
+        match accepted {
+            Ok((stream, _)) => return Ok(stream),
+            Err(error) => {
+                if has_ended || error.kind() != ErrorKind::WouldBlock {
+                    return Err(error);
+                }
+            }
+        }
+        thread::sleep(rt, Duration::from_millis(1));
+    }
+    Err(IoError::from(ErrorKind::TimedOut))
+}
+
+/// Clears up after node programs to which no connection is left: waits for each that was started,
+/// and removes each socket that was made.
+fn clear<R>(rt: &R, mut met: Vec<Met<R::Started>>)
+where
+    R: Files<File = File> + Processes,
+{
+    // a program that was not accepted yet sees its end where its listener is closed
+    for node in met.iter_mut() {
+        node.listener = None;
+    }
+    for node in met.iter_mut() {
+        if let Some(child) = &mut node.child {
+            let _ = child.wait();
+        }
+    }
+    for node in met.iter() {
+        let _ = fs::remove_file(rt, node.path.as_str());
+    }
+}
+
+/// Works as a node that runs the model of a file, behind this socket, until so many parcels are
+/// answered at most.
+///
+/// The faults come in this order: those of the model file; `File` where no connection is made; and
+/// `Wire`. A node's own refusal is told at the other end, and is no fault here.
+pub(crate) fn serve_on<M, R>(rt: &R, model: &str, socket: &str, parcels: u32) -> Result<(), Fault>
+where
+    M: Described,
+    R: Files<File = File> + Net + AllocGlobal,
+{
+    let of: Simulated<M> = simulated(rt, model)?;
+    let stream = UnixStream::connect(rt, socket).map_err(unreadable)?;
+    let mut reader = &stream;
+    let mut writer = &stream;
+    serve(
+        rt.alloc(),
+        &of.model,
+        &mut reader,
+        &mut writer,
+        u64::from(parcels),
+    )?;
+    Ok(())
+}

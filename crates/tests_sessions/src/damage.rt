@@ -1,0 +1,60 @@
+// Openings of a disk that a whole run of the ring left, of which one byte was changed.
+
+use crate::kept::{disk_of, left_by, plan, refusal, ring, with_byte};
+use commitlog::LogFault;
+use coordinator::{Session, SessionFault};
+use driver::local_ports;
+use recovery::RecoveryFault;
+use std::alloc::Global;
+use std::test::Fail;
+
+/// The disk of a run over three nodes, of which this byte becomes another. Its records stand in the
+/// sectors 3, 5 and 7, each behind its gate; they are of the times 1, 7 and 10.
+fn damaged(alloc: Global, place: usize, byte: u8) -> Result<Vec<u8>, Fail> {
+    let (image, fault) = left_by(alloc, &ring(), 64, 10, plan(3, 16, 0))?;
+    match fault {
+        None => Ok(with_byte(image, place, byte)),
+        Some(_fault) => Err(Fail::from("the run has not ended")),
+    }
+}
+
+#[test]
+fn a_damaged_disk_is_refused_by_its_fault(rt: HostRuntime) -> Result<(), Fail> {
+    let corrupt = RecoveryFault::Log(LogFault::Corrupt);
+    let rows = [
+        // the header
+        (512, 0, RecoveryFault::OtherModel),
+        // the kind of a record, its time, the last word of its first event
+        (3 * 512, 9, RecoveryFault::BadRecord),
+        (3 * 512 + 12, 2, RecoveryFault::NotTheLeast),
+        (5 * 512 + 56, 7, RecoveryFault::NotTheLeast),
+        (7 * 512 + 12, 6, RecoveryFault::GoesBack),
+        // a length past the greatest, and what follows a record
+        (3 * 512 + 1, 1, corrupt),
+        (3 * 512 + 511, 1, corrupt),
+        // the gate of the header
+        (0, 0, RecoveryFault::Log(LogFault::NotFormatted)),
+    ];
+    for (place, byte, fault) in rows {
+        let image = damaged(rt.alloc(), place, byte)?;
+        let want = Some(SessionFault::Recovery(fault));
+        assert!(rt; refusal(rt.alloc(), image)? == want, "byte {place}");
+    }
+    Ok(())
+}
+
+#[test]
+fn a_gate_that_is_not_open_ends_the_log(rt: HostRuntime) -> Result<(), Fail> {
+    let alloc = rt.alloc();
+    let ring = ring();
+    let ports = local_ports(alloc, &ring, 3)?;
+    let disk = disk_of(alloc, damaged(alloc, 4 * 512, 2)?)?;
+    match Session::open(alloc, &ring, ports, disk, 10) {
+        Ok(session) => {
+            let front = session.front();
+            assert!(rt; front.time == 1 && front.log.is_empty());
+            Ok(())
+        }
+        Err(_refused) => Err(Fail::from("the disk is refused")),
+    }
+}

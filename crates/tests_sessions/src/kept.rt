@@ -1,0 +1,183 @@
+// Runs that keep their front in checkpoints, on disks in memory.
+
+ghost use Rattle.std.specs.Prelude.{◌≡◌, ◌<◌, ◌≤◌};
+
+use commitlog::{Log, format};
+use coordinator::{NotOpened, Session, SessionFault};
+use disk::{MemDisk, Plan as DiskPlan, Torn};
+use driver::{Plan, RunFault, Watch, local_ports, run_local};
+use model::Model;
+use models::{Phold, TokenRing};
+use recovery::{Front, RecoveryFault, header, recover};
+use std::alloc::Global;
+use std::test::Fail;
+
+/// Is told of no commit.
+#[derive(Clone, Copy)]
+struct Nobody;
+
+impl Watch for Nobody {
+    fn committed(&mut self, _time: u64, _events: usize) {}
+}
+
+/// A plan over so many nodes with this batch, and a checkpoint each so many rounds.
+pub(crate) fn plan(nodes: u32, batch: u32, every: u32) -> Plan
+    ensures { result.nodes ≡ nodes }
+{
+    Plan {
+        nodes,
+        batch,
+        rounds: 1_000_000,
+        together: false,
+        checkpoint_every: every,
+    }
+}
+
+/// What a run up to this end leaves on a disk of so many sectors, and why it stopped, if it did.
+pub(crate) fn left_by<M: Model>(
+    alloc: Global,
+    model: &M,
+    sectors: u32,
+    end: u64,
+    plan: Plan,
+) -> Result<(Vec<u8>, Option<RunFault>), Fail>
+    requires some { 0 < plan.nodes }
+    requires few { plan.nodes ≤ 64 }
+    requires begun { 1 ≤ end }
+    requires short { end ≤ 1000 }
+{
+    let mut disk = MemDisk::blank(alloc, sectors)?;
+    format(&mut disk, &header(alloc, model, end))?;
+    let ran = run_local(alloc, model, disk, end, plan, &mut Nobody);
+    let image = ran.disk.crash(alloc, Torn::Old)?;
+    Ok((image, ran.told.err()))
+}
+
+/// A disk with this image, of at most 16 MiB.
+pub(crate) fn disk_of(alloc: Global, image: Vec<u8>) -> Result<MemDisk, Fail> {
+    if image.len() > 1 << 24 {
+        return Ok(MemDisk::blank(alloc, 0)?);
+    }
+    let plan = DiskPlan {
+        fail: None,
+        stop: None,
+    };
+    Ok(MemDisk::of(alloc, image, plan)?)
+}
+
+/// The front of an image, up to this end.
+fn front_of<M: Model>(alloc: Global, model: &M, image: Vec<u8>, end: u64) -> Result<Front, Fail>
+    requires begun { 1 ≤ end }
+    requires short { end ≤ 1000 }
+{
+    let mut log = match Log::open(alloc, disk_of(alloc, image)?) {
+        Ok(log) => log,
+        Err((_fault, _disk)) => return Err(Fail::from("the log is not opened")),
+    };
+    match recover(alloc, model, &mut log, end) {
+        Ok(front) => Ok(front),
+        Err(_fault) => Err(Fail::from("nothing is recovered")),
+    }
+}
+
+/// One token round three processes, two ticks at each.
+pub(crate) fn ring() -> TokenRing {
+    TokenRing::new(3, 2, 1)
+}
+
+/// The record of a checkpoint of the ring at time 10: its kind, the length of its body, and the
+/// body.
+const RECORD: [u8; 108] = [
+    2, 0, 0, 0, 103, 0, 0, 0, 0, 0, 0, 0, 10, //
+    0, 0, 0, 0, 0, 0, 0, 3, 1, 0, 0, 0, 0, 0, 0, 0, 2, //
+    0, 0, 0, 0, 0, 0, 0, 2, 1, 0, 0, 0, 0, 0, 0, 0, 2, //
+    0, 0, 0, 0, 0, 0, 0, 1, 1, 0, 0, 0, 0, 0, 0, 0, 1, //
+    0, 0, 0, 1, 0, 0, 0, 0, 0, 0, 0, 11, 0, 0, 0, 1, //
+    0, 0, 0, 0, 0, 0, 0, 1, 0, 0, 0, 2, //
+    0, 0, 0, 0, 0, 0, 0, 0, 0, 0, 0, 0, 0, 0, 0, 5,
+];
+
+#[test]
+fn a_run_keeps_its_front(rt: HostRuntime) -> Result<(), Fail> {
+    let alloc = rt.alloc();
+    let (image, fault) = left_by(alloc, &ring(), 11, 10, plan(3, 16, 3))?;
+    assert!(rt; fault.is_none());
+    let bytes = image.as_slice();
+    assert!(rt; bytes.get(8 * 512) == Some(&1), "the gate of sector 8");
+    assert!(rt;
+        bytes.get(9 * 512..9 * 512 + 108) == Some(RECORD.as_slice()),
+        "the record"
+    );
+    assert!(rt;
+        bytes
+            .get(9 * 512 + 108..11 * 512)
+            .is_some_and(|rest| rest.iter().all(|byte| *byte == 0))
+    );
+    let front = front_of(alloc, &ring(), image, 10)?;
+    assert!(rt; front.g == 10 && front.log.as_slice().len() == 5);
+    assert!(rt; front.numbers.as_slice() == [3, 2, 1].as_slice());
+    Ok(())
+}
+
+#[test]
+fn a_checkpoint_without_room_leaves_what_was_committed(rt: HostRuntime) -> Result<(), Fail> {
+    let alloc = rt.alloc();
+    let (image, fault) = left_by(alloc, &ring(), 10, 10, plan(3, 16, 3))?;
+    assert!(rt; fault == Some(RunFault::Session(SessionFault::Full)));
+    let front = front_of(alloc, &ring(), image, 10)?;
+    assert!(rt; front.g == 10 && front.log.as_slice().len() == 5);
+    Ok(())
+}
+
+/// Why a session is not opened on an image of the ring.
+pub(crate) fn refusal(alloc: Global, image: Vec<u8>) -> Result<Option<SessionFault>, Fail> {
+    let ring = ring();
+    let ports = local_ports(alloc, &ring, 3)?;
+    Ok(
+        match Session::open(alloc, &ring, ports, disk_of(alloc, image)?, 10) {
+            Ok(_session) => None,
+            Err(NotOpened { fault, disk: _disk }) => Some(fault),
+        },
+    )
+}
+
+/// The image with another byte at a place.
+pub(crate) fn with_byte(image: Vec<u8>, place: usize, byte: u8) -> Vec<u8> {
+    let mut image = image;
+    if let Some(there) = image.get_mut(place) {
+        *there = byte;
+    }
+    image
+}
+
+#[test]
+fn a_checkpoint_that_does_not_fit_is_refused(rt: HostRuntime) -> Result<(), Fail> {
+    let alloc = rt.alloc();
+    let bad = SessionFault::Recovery(RecoveryFault::BadCheckpoint);
+    // Its time is not the one before; a message is pending before its time; a process too many
+    // words; a message for no process; bytes of another form.
+    for (place, byte) in [(12, 9), (75, 9), (21, 17), (91, 3), (64, 2)] {
+        let (image, _fault) = left_by(alloc, &ring(), 11, 10, plan(3, 16, 3))?;
+        let damaged = with_byte(image, 9 * 512 + place, byte);
+        assert!(rt; refusal(alloc, damaged)? == Some(bad), "byte {place}");
+    }
+    let (image, _fault) = left_by(alloc, &ring(), 11, 10, plan(3, 16, 3))?;
+    assert!(rt; refusal(alloc, image)?.is_none());
+    Ok(())
+}
+
+#[test]
+fn a_run_with_checkpoints_comes_to_the_same_front(rt: HostRuntime) -> Result<(), Fail> {
+    let alloc = rt.alloc();
+    let model = Phold::new(16, 2, 20, 7);
+    for (nodes, batch) in [(1, 1), (1, 7), (2, 1), (2, 7), (5, 1), (5, 7)] {
+        let (plain, none) = left_by(alloc, &model, 16_384, 200, plan(nodes, batch, 0))?;
+        let (kept, fault) = left_by(alloc, &model, 16_384, 200, plan(nodes, batch, 1))?;
+        assert!(rt; none.is_none() && fault.is_none());
+        let plain = front_of(alloc, &model, plain, 200)?;
+        let kept = front_of(alloc, &model, kept, 200)?;
+        assert!(rt; plain.is_same(&kept), "{nodes} nodes, batch {batch}");
+        assert!(rt; kept.g == 200 && kept.log.as_slice().len() == 562);
+    }
+    Ok(())
+}

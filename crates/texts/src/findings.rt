@@ -1,0 +1,294 @@
+// What is wrong with the table of a model file, key by key.
+
+ghost use Rattle.std.specs.Prelude.{◌≡◌, ◌++◌, [], ◌∷◌, map, IfOk, IfSome, OnOk, codes, string_bytes};
+ghost use Rattle.std.specs.Prelude.{◌≤◌, Some};
+ghost use Rattle.texts.specs.ModelFile.{found_of, is_among, item_wrong, nothing, number_at};
+ghost use Rattle.texts.specs.ModelFile.{number_wrong};
+ghost use Rattle.texts.specs.ModelFile.{told, unknown_wrong, unless, want_of, words_wrong};
+ghost use Rattle.toml.specs.Data.{get_member};
+ghost use Rattle.toml.specs.View.{table_view, view};
+
+use crate::model_file::number_within;
+use std::alloc::{AllocError, Global};
+use std::fmt;
+use std::marker::Model;
+use toml::{Table, Value};
+
+/// What there is at a key.
+#[derive(Clone, Copy, Debug, PartialEq, Eq)]
+pub enum Found {
+    /// Nothing: the key is missing.
+    Nothing,
+    /// A whole number.
+    Number(i64),
+    /// A string.
+    Text,
+    /// A number with a fraction.
+    Float,
+    /// A truth value.
+    Boolean,
+    /// A date or a time.
+    Datetime,
+    /// A list.
+    Array,
+    /// A table.
+    Table,
+}
+
+/// What has to be at a key.
+#[derive(Clone, Copy, Debug, PartialEq, Eq)]
+pub enum Wanted {
+    /// A whole number.
+    Number {
+        /// The least that is allowed.
+        least: u64,
+        /// The greatest.
+        most: u64,
+    },
+    /// Something else, which words tell.
+    Words(&'static str),
+    /// Nothing: the model has no such key.
+    Nothing,
+}
+
+/// One thing that is wrong with a table. Its text says so in plain words.
+#[derive(Debug, PartialEq, Eq, Drop)]
+pub struct Finding {
+    /// The key.
+    pub key: String,
+    /// What is there.
+    pub found: Found,
+    /// What has to be there.
+    pub wanted: Wanted,
+}
+
+/// All that is wrong with a table, in the order of the model's keys; then come the keys that the
+/// model does not have, in the order of their bytes.
+#[derive(Debug, Drop)]
+pub struct Findings {
+    items: Vec<Finding>,
+}
+
+impl Model for Findings {
+    ghost use Rattle.std.specs.Prelude.{List, map};
+    ghost use Rattle.texts.specs.ModelFile.{Wrong, told};
+
+    ghost Value = { List Wrong };
+
+    ghost view = { λ f. map told f.items.items };
+}
+
+impl Findings {
+    /// Nothing is wrong yet. It takes no memory.
+    pub fn new(alloc: Global) -> Findings
+        ensures { result ≡ [] }
+    {
+        Findings {
+            items: Vec::new(alloc),
+        }
+    }
+
+    /// The findings.
+    pub fn as_slice(&self) -> &[Finding]
+        ensures { map told result.now ≡ self.now }
+    {
+        self.items.as_slice()
+    }
+
+    #[tactic(auto, unfolding(crate::specs::ModelFile::number_wrong))]
+    /// Looks for the whole number from `least` to `most` at a key, and answers it. Where there is
+    /// none, that is one finding more.
+    pub fn number_at(
+        &mut self,
+        alloc: Global,
+        table: &Table,
+        key: &str,
+        least: u64,
+        most: u64,
+    ) -> Result<Option<u64>, AllocError>
+        ensures number { IfOk result (λ n. n ≡ number_at key.now least most (table_view table.now)) }
+        ensures told { OnOk result (self.new
+            ≡ self.old ++ number_wrong key.now least most (table_view table.now)) }
+        ensures within { IfOk result (λ n. IfSome n (λ k. (least ≤ k) × (k ≤ most))) }
+    {
+        match number_within(table, key, least, most) {
+            Some(number) => Ok(Some(number)),
+            None => {
+                self.push(
+                    alloc,
+                    key,
+                    found_at(table, key),
+                    Wanted::Number { least, most },
+                )?;
+                Ok(None)
+            }
+        }
+    }
+
+    #[tactic(auto, unfolding(crate::specs::ModelFile::words_wrong))]
+    /// Where `right` does not hold of what is at a key, that is one finding more, whose words tell
+    /// what has to be there.
+    pub fn words_at(
+        &mut self,
+        alloc: Global,
+        table: &Table,
+        key: &str,
+        wanted: &'static str,
+        right: bool,
+    ) -> Result<(), AllocError>
+        ensures { OnOk result (self.new
+            ≡ self.old ++ words_wrong right key.now wanted.now (table_view table.now)) }
+    {
+        if !right {
+            self.push(alloc, key, found_at(table, key), Wanted::Words(wanted))?;
+        }
+        Ok(())
+    }
+
+    #[tactic(auto, unfolding(crate::specs::ModelFile::item_wrong))]
+    /// Where `right` does not hold of the item at a place of a list, that is one finding more, whose
+    /// key has the place too: `gates[3]`.
+    pub fn item_at(
+        &mut self,
+        alloc: Global,
+        key: &str,
+        place: usize,
+        found: Found,
+        wanted: &'static str,
+        right: bool,
+    ) -> Result<(), AllocError>
+        ensures { OnOk result (self.new
+            ≡ self.old ++ item_wrong right key.now place found wanted.now) }
+    {
+        if !right {
+            let place = format!(in alloc; "{key}[{place}]")?;
+            self.push(alloc, place.as_str(), found, Wanted::Words(wanted))?;
+        }
+        Ok(())
+    }
+
+    /// Each key of the table that is none of these is one finding more.
+    pub fn others(&mut self, alloc: Global, table: &Table, keys: &[&str]) -> Result<(), AllocError>
+        ensures { OnOk result (self.new
+            ≡ self.old ++ unknown_wrong (map (λ k. k.now) keys.now) (table_view table.now)) }
+    {
+        'keys: for (key, value) in table.iter() {
+            self.other(alloc, key.as_str(), value, keys)?;
+        }
+        Ok(())
+    }
+
+    /// A key that is none of these is one finding more.
+    fn other(
+        &mut self,
+        alloc: Global,
+        key: &str,
+        value: &Value,
+        keys: &[&str],
+    ) -> Result<(), AllocError>
+        ensures { OnOk result (self.new ≡ self.old
+            ++ unless (is_among key.now (map (λ k. k.now) keys.now)) (record {
+              key = key.now;
+              found = found_of (Some (view value.now));
+              wanted = nothing;
+            })) }
+    {
+        if !is_among(key, keys) {
+            self.push(alloc, key, found_in(value), Wanted::Nothing)?;
+        }
+        Ok(())
+    }
+
+    /// One finding more.
+    fn push(
+        &mut self,
+        alloc: Global,
+        key: &str,
+        found: Found,
+        wanted: Wanted,
+    ) -> Result<(), AllocError>
+        ensures { OnOk result (self.new ≡ self.old
+            ++ record { key = key.now; found = found; wanted = want_of wanted } ∷ []) }
+    {
+        let key = String::from_str(alloc, key)?;
+        self.items.push(Finding { key, found, wanted })?;
+        Ok(())
+    }
+}
+
+/// What there is at a key.
+fn found_at(table: &Table, key: &str) -> Found
+    ensures { result ≡ found_of (get_member key.now (table_view table.now)) }
+{
+    match table.get(key) {
+        Some(value) => found_in(value),
+        None => Found::Nothing,
+    }
+}
+
+/// What a value is.
+pub fn found_in(value: &Value) -> Found
+    ensures { result ≡ found_of (Some (view value.now)) }
+{
+    match value {
+        Value::String(_) => Found::Text,
+        Value::Integer(number) => Found::Number(*number),
+        Value::Float(_) => Found::Float,
+        Value::Boolean(_) => Found::Boolean,
+        Value::Datetime(_) => Found::Datetime,
+        Value::Array(_) => Found::Array,
+        Value::Table(_) => Found::Table,
+    }
+}
+
+/// Whether a key is one of these.
+pub(crate) fn is_among(key: &str, keys: &[&str]) -> bool
+    ensures { result ≡ is_among key.now (map (λ k. k.now) keys.now) }
+{
+    for known in keys {
+        if *known == key {
+            return true;
+        }
+    }
+    false
+}
+
+impl fmt::Display for Finding {
+    fn fmt<W: fmt::Write>(&self, f: &mut fmt::Formatter<W>) -> fmt::Result {
+        let key = self.key.as_str();
+        let found = self.found;
+        let wanted = self.wanted;
+        match (found, wanted) {
+            (_, Wanted::Nothing) => write!(f, "{key:?}: the model has no such key"),
+            (Found::Number(_), Wanted::Number { least, most }) => {
+                write!(f, "{key}: {found} is not within {least} to {most}")
+            }
+            _ => write!(f, "{key}: {found}; wanted is {wanted}"),
+        }
+    }
+}
+
+impl fmt::Display for Found {
+    fn fmt<W: fmt::Write>(&self, f: &mut fmt::Formatter<W>) -> fmt::Result {
+        match self {
+            Found::Nothing => f.write_str("missing"),
+            Found::Number(number) => write!(f, "{number}"),
+            Found::Text => f.write_str("a string"),
+            Found::Float => f.write_str("a number with a fraction"),
+            Found::Boolean => f.write_str("true or false"),
+            Found::Datetime => f.write_str("a date or a time"),
+            Found::Array => f.write_str("a list"),
+            Found::Table => f.write_str("a table"),
+        }
+    }
+}
+
+impl fmt::Display for Wanted {
+    fn fmt<W: fmt::Write>(&self, f: &mut fmt::Formatter<W>) -> fmt::Result {
+        match self {
+            Wanted::Number { least, most } => write!(f, "a whole number from {least} to {most}"),
+            Wanted::Words(words) => f.write_str(words),
+            Wanted::Nothing => f.write_str("nothing"),
+        }
+    }
+}

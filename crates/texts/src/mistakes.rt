@@ -1,0 +1,96 @@
+// All that is wrong with a text that is no model file.
+
+ghost use Rattle.std.specs.Prelude.{◌≡◌, ◌≤◌, ◌==◌, ℕ, List, [], IfOk, IsUtf8, count_by, length};
+ghost use Rattle.texts.specs.Mistakes.{line_at, AreMistakes, IsLineOf};
+ghost use Rattle.texts.specs.ModelFile.{IsModelFile};
+ghost use Rattle.toml.specs.Errors.{IsWithin};
+
+use crate::findings::{Findings, Found, Wanted};
+use crate::model_file::Described;
+use std::alloc::{AllocError, Global};
+use std::fmt;
+use toml::de::Error;
+
+/// All that is wrong with a text as a model file. Its text has a line for each mistake, which
+/// begins with two blanks; but none for a first number that is out of its range, of which the text
+/// of the `Mistake` that `read_model` tells says the same.
+#[derive(Debug, Drop)]
+pub enum Mistakes {
+    /// The text is no TOML.
+    Toml {
+        /// The line on which that is seen, from 1.
+        line: usize,
+        /// Why, in words.
+        why: String,
+    },
+    /// What is wrong with its table: nothing where the text is a model file.
+    Keys(Findings),
+}
+
+/// Looks for all that is wrong with a text as a model file.
+pub fn find_mistakes<M: Described>(alloc: Global, text: &[u8]) -> Result<Mistakes, AllocError>
+    ensures told { IfOk result (AreMistakes M.wrong text.now) }
+    ensures none { IfOk result (λ found. found ≡ Mistakes.Keys [] →
+        (model : M) × (end : ℕ) × IsModelFile M.says text.now model end) }
+    ensures some { IfOk result (λ found. (model : M) (end : ℕ) → IsUtf8 text.now →
+        IsModelFile M.says text.now model end → found ≡ Mistakes.Keys []) }
+{
+    match toml::table_from_slice(alloc, text) {
+        Ok(table) => Ok(Mistakes::Keys(M::mistakes(alloc, &table)?)),
+        Err(error) if error.is_memory() => Err(AllocError),
+        Err(error) => {
+            let line = line_of(text, &error);
+            let why = String::from_str(alloc, error.message())?;
+            Ok(Mistakes::Toml { line, why })
+        }
+    }
+}
+
+/// The line, from 1, on which an error begins.
+fn line_of(text: &[u8], error: &Error) -> usize
+    requires { IsWithin text.now error.now }
+    ensures { IsLineOf text.now result }
+{
+    match error.span() {
+        Some(span) => line_at(text, span.start),
+        None => line_at(text, 0),
+    }
+}
+
+/// The line of a place, from 1.
+fn line_at(text: &[u8], place: usize) -> usize
+    requires { place ≤ length text.now }
+    ensures { result ≡ line_at text.now place }
+{
+    line_feeds(text.split_at(place).0).saturating_add(1)
+}
+
+/// How many line feeds there are.
+fn line_feeds(text: &[u8]) -> usize
+    ensures { result ≡ count_by (λ byte. byte == 10) text.now }
+{
+    text.iter().filter(|byte| **byte == b'\n').count()
+}
+
+impl fmt::Display for Mistakes {
+    fn fmt<W: fmt::Write>(&self, f: &mut fmt::Formatter<W>) -> fmt::Result {
+        match self {
+            Mistakes::Toml { line, why } => {
+                let why = why.as_str();
+                writeln!(f, "  line {line}: {why}")
+            }
+            Mistakes::Keys(found) => {
+                for (place, finding) in found.as_slice().iter().enumerate() {
+                    let is_told = matches!(
+                        (finding.found, finding.wanted),
+                        (Found::Number(_), Wanted::Number { .. })
+                    );
+                    if place > 0 || !is_told {
+                        writeln!(f, "  {finding}")?;
+                    }
+                }
+                Ok(())
+            }
+        }
+    }
+}
