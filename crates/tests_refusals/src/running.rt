@@ -1,0 +1,157 @@
+// Commands to which an allocation is refused: a run, and what is printed of the disk that it leaves.
+
+ghost use Rattle.std.specs.Prelude.{◌≡◌};
+
+use crate::disks::{TEARINGS, crashed, formatted};
+use crate::openings::{is_of_memory, look_at_crashes};
+use commands::{CommandFault, Ended, Simulated, log, run, show};
+use commitlog::LogFault;
+use disk::MemDisk;
+use driver::{Plan, Watch};
+use models::TokenRing;
+use recovery::RecoveryFault;
+use std::alloc::Global;
+use std::process::Abort;
+use std::test::Fail;
+
+/// What `log` and then `show` print of a whole run.
+const LOG: &str = "1 0 0 0 0 0\n3 0 1 1 0 1\n5 1 0 2 0 2\n7 2 0 0 0 3\n9 0 2 1 0 4\n";
+
+const WORLD: &str = "\
+virtual time 10
+lp 0 sent 3 state 2
+lp 1 sent 2 state 2
+lp 2 sent 1 state 1
+pending 11 1 1 2 0 5
+";
+
+const RAN: &str = "node 0 ran 2\nnode 1 ran 2\nnode 2 ran 1\ncommitted 10 events 5\n";
+
+/// The last line of a run that goes on behind one that was refused memory.
+const COMMITTED: &str = "committed 10 events 5\n";
+
+/// One token round three processes, two ticks at each, up to time 10.
+pub fn one_token() -> Simulated<TokenRing>
+    ensures { result.end ≡ 10 }
+{
+    Simulated {
+        model: TokenRing::new(3, 2, 1),
+        end: 10,
+    }
+}
+
+/// The last time that a run told.
+#[derive(Drop)]
+struct Last {
+    time: u64,
+}
+
+impl Watch for Last {
+    fn committed(&mut self, time: u64, _events: usize) {
+        self.time = time;
+    }
+}
+
+/// Whether a fault carries the want of memory, where it was met.
+fn is_want(fault: &CommandFault) -> bool {
+    match fault {
+        CommandFault::NoMemory
+        | CommandFault::Log(LogFault::NoMemory)
+        | CommandFault::Recovery(RecoveryFault::NoMemory)
+        | CommandFault::Recovery(RecoveryFault::Log(LogFault::NoMemory)) => true,
+        CommandFault::Session(fault) => is_of_memory(fault),
+        _ => false,
+    }
+}
+
+/// A text that takes no more memory as it grows here.
+fn room(alloc: Global) -> Result<Vec<u8>, Fail> {
+    match Vec::with_capacity(alloc, 512) {
+        Ok(text) => Ok(text),
+        Err(_refused) => Ok(Vec::with_capacity(alloc, 512)?),
+    }
+}
+
+/// Runs over three nodes, with a checkpoint each so many rounds.
+fn run_once(
+    alloc: Global,
+    disk: MemDisk,
+    every: u32,
+    last: &mut Last,
+    out: &mut Vec<u8>,
+) -> Ended<MemDisk> {
+    let plan = Plan {
+        nodes: 3,
+        batch: 16,
+        rounds: 100,
+        together: false,
+        checkpoint_every: every,
+    };
+    run(alloc, &one_token(), disk, plan, last, out)
+}
+
+/// What a whole run leaves on a disk of so many sectors. Where memory is refused to it, it has printed
+/// nothing, its disk has what it told, and it is run on to the end.
+pub fn ran(rt: &impl Abort, alloc: Global, sectors: u32, every: u32) -> Result<MemDisk, Fail> {
+    let disk = formatted(alloc, &one_token().model, sectors)?;
+    let mut out = room(alloc)?;
+    let mut last = Last { time: 0 };
+    let Ended { disk, told } = run_once(alloc, disk, every, &mut last, &mut out);
+    let Err(fault) = told else {
+        assert!(rt; last.time == 10 && out.as_slice() == RAN.as_bytes());
+        return Ok(disk);
+    };
+    assert!(rt; is_want(&fault), "{fault}");
+    assert!(rt; out.is_empty());
+    look_at_crashes(rt, alloc, &one_token().model, &disk, last.time)?;
+    let Ended { disk, told } = run_once(alloc, disk, every, &mut last, &mut out);
+    assert!(rt; told.is_ok() && out.as_slice().ends_with(COMMITTED.as_bytes()));
+    Ok(disk)
+}
+
+/// What is printed of a disk.
+#[derive(Clone, Copy)]
+enum Printed {
+    Log,
+    World,
+}
+
+fn print(
+    alloc: Global,
+    printed: Printed,
+    disk: MemDisk,
+    out: &mut Vec<u8>,
+) -> Result<(), CommandFault> {
+    match printed {
+        Printed::Log => log(alloc, &one_token(), disk, out),
+        Printed::World => show(alloc, &one_token(), disk, out),
+    }
+}
+
+/// Prints of a disk. Where memory is refused, nothing is printed, and the next call prints it all.
+fn look_at_text(
+    rt: &impl Abort,
+    alloc: Global,
+    disk: &MemDisk,
+    printed: Printed,
+    text: &str,
+) -> Result<(), Fail> {
+    let mut out = room(alloc)?;
+    if let Err(fault) = print(alloc, printed, crashed(alloc, disk, TEARINGS[0])?, &mut out) {
+        assert!(rt; is_want(&fault), "{fault}");
+        assert!(rt; out.is_empty());
+        print(alloc, printed, crashed(alloc, disk, TEARINGS[0])?, &mut out)?;
+    }
+    assert!(rt; out.as_slice() == text.as_bytes());
+    Ok(())
+}
+
+#[test]
+fn a_run_prints_all_after_a_refusal(rt: HostRuntime) -> Result<(), Fail> {
+    for (sectors, every) in [(64, 0), (11, 3)] {
+        let disk = ran(&rt, rt.alloc(), sectors, every)?;
+        look_at_text(&rt, rt.alloc(), &disk, Printed::Log, LOG)?;
+        look_at_text(&rt, rt.alloc(), &disk, Printed::World, WORLD)?;
+    }
+    Ok(())
+}
