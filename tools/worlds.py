@@ -94,7 +94,7 @@ class Judge:
     def world_up_to(self, time):
         path = f"{self.folder}/{self.name}-to-{time}.toml"
         with open(path, "w") as file:
-            file.write(re.sub(r"(?m)^end\s*=\s*\d+", f"end = {max(time, 1)}", self.text))
+            file.write(with_end(self.text, max(time, 1)))
         log, world = self.split(self.seq(path))
         os.remove(path)
         if time == 0:
@@ -135,6 +135,11 @@ class Judge:
         """What `judge` says of a disk's file."""
         return self.judge(start(self.program, "log", self.path, disk), start(self.program, "show", self.path, disk))
 
+    def look_with_end(self, disk):
+        """The same with the end in force."""
+        when, told = self.look(disk)
+        return when, told, 0 if when is None else self.end
+
     def run_to_end(self, disk, *options):
         """Runs a disk to its end, and sees that it is the end of `seq`."""
         status, out, err = start(self.program, "run", self.path, disk, *options)
@@ -144,3 +149,51 @@ class Judge:
         if log[1] + show[1] != self.whole:
             raise Wrong(f"run {' '.join(map(str, options))} ends otherwise than seq")
         return out
+
+
+def with_end(text, end):
+    """The text of a model file with another end."""
+    return re.sub(r"(?m)^end\s*=\s*\d+", f"end = {end}", text)
+
+
+class Carried:
+    """Judges disks that are carried on from each of these ends to the next. Of the model's files with
+    these ends just one opens such a disk: the one whose end is in force on it."""
+
+    def __init__(self, program, text, folder, name, ends):
+        self.judges = [Judge(program, with_end(text, end), folder, f"{name}-of-{end}") for end in ends]
+        self.program, self.name, self.path, self.end = program, name, self.judges[0].path, ends[-1]
+
+    def which(self, disk):
+        """The judge of the end in force and what it says, or None and the fault."""
+        told = [(judge, judge.look(disk)) for judge in self.judges]
+        found = [each for each in told if each[1][0] is not None]
+        if len(found) > 1:
+            raise Wrong(f"it opens under the ends {', '.join(str(judge.end) for judge, _ in found)}")
+        if found:
+            return found[0]
+        faults = [fault for _, (_, fault) in told]
+        return None, (None, next((fault for fault in faults if fault != "Recovery OtherModel"), faults[0]))
+
+    def look(self, disk):
+        return self.which(disk)[1]
+
+    def look_with_end(self, disk):
+        judge, told = self.which(disk)
+        return *told, judge.end if judge else 0
+
+    def next_after(self, judge):
+        return self.judges[self.judges.index(judge) + 1]
+
+    def run_to_end(self, disk, *options):
+        """Runs a disk to the end in force, then extends it to the next one and runs on, and so forth."""
+        judge = self.which(disk)[0]
+        while True:
+            judge.run_to_end(disk, *options)
+            if judge.end == self.end:
+                return
+            later = self.next_after(judge)
+            told = start(self.program, "extend", later.path, disk)
+            if told != (0, b"extended %d to %d\n" % (judge.end, later.end), b""):
+                raise Wrong(f"extend tells {told}")
+            judge = later

@@ -1,12 +1,15 @@
 -- What the commands on a disk print (this project's profile).
 use Rattle.std.specs.Io.KnownBytes.{Appends}
-use Rattle.std.specs.Prelude.{◌≡◌, ◌≤◌, ◌⊎◌, ℕ, List, [], ◌++◌, Option, codes, decimal, flat_map, get_or, length, slice_index_or}
+use Rattle.std.specs.Prelude.{◌≡◌, ◌≤◌, ◌⊎◌, ℕ, List, ◌++◌, Option, codes, decimal, flat_map, get_or, length}
 use Rattle.commands.specs.declared.fault.CommandFault.{CommandFault}
 use Rattle.commands.specs.declared.fault.CommandFault.TheVariants.{Log, NoMemory, Output, Recovery, Rounds, Session}
 use Rattle.commitlog.specs.Faults.{FormatIsRefused, OpenIsRefused}
 use Rattle.commitlog.specs.Records.{IsBlank, IsFormatted}
 use Rattle.commitlog.specs.declared.fault.LogFault.TheVariants as log
+use Rattle.commitlog.specs.declared.records.Entry.{Entry}
+use Rattle.coordinator.specs.Extending.{IsExtended}
 use Rattle.coordinator.specs.Opening.{IsAtFault}
+use Rattle.coordinator.specs.declared.SessionFault.{SessionFault}
 use Rattle.disk.specs.Disk.{DiskState}
 use Rattle.disk.specs.declared.disk.DiskFault.TheVariants.{Device}
 use Rattle.driver.specs.Driver.{IsRunOf, IsRunOver}
@@ -15,7 +18,7 @@ use Rattle.driver.specs.declared.rounds.RunFault.{RunFault}
 use Rattle.driver.specs.declared.rounds.RunFault.TheVariants as run
 use Rattle.model.specs.Meaning.{Meaning}
 use Rattle.model.specs.World.{IsUpto, World, below}
-use Rattle.recovery.specs.Header.{header_bytes, header_of}
+use Rattle.recovery.specs.Ends.{HoldsLog, IsLater}
 use Rattle.recovery.specs.Replay.{IsReplayedTo}
 use Rattle.recovery.specs.Stands.{IsGenuine, Stands}
 use Rattle.recovery.specs.declared.RecoveryFault.{RecoveryFault}
@@ -38,6 +41,11 @@ abbrev pub ran_text : List ℕ → ℕ → ℕ → List ℕ
 ran_text ran time events =
     flat_map (node_text ran) (below (length ran))
     ++ (codes "committed " ++ decimal time) ++ (codes " events " ++ decimal events) ++ codes "\n"
+
+-- the end that was in force, and the one that is now
+abbrev pub extended_text : ℕ → ℕ → List ℕ
+extended_text before end =
+    (codes "extended " ++ decimal before) ++ (codes " to " ++ decimal end) ++ codes "\n"
 
 -- 2. What is printed
 
@@ -90,6 +98,17 @@ pub record TellsRunOver {M P D : Type 0} (meaning : M → Meaning) (state : P �
   pub over : IsRunOver meaning state disk model end plan begun left time events
   pub taken : Taken (ran_text ran time events)
 
+-- This has been taken of what is told of a later end: it is in force behind the records that were on
+-- the disk, which were replayed under the end before.
+pub record TellsExtended (m : Meaning) (end : ℕ) (old new : DiskState)
+    (Taken : List ℕ → Type 0) : Type 0 where
+  pub before : ℕ
+  pub rises : IsLater before end
+  pub front : World
+  pub replayed : IsReplayedTo m before old.reads front
+  pub extended : IsExtended end old new
+  pub taken : Taken (extended_text before end)
+
 -- 3. What is left
 
 -- an image without a log, or one that stands for this world
@@ -105,15 +124,15 @@ MakingIsRefused (Log fault) image failed = FormatIsRefused fault image failed
 MakingIsRefused Output image failed = Unit {0}
 MakingIsRefused fault image failed = ⊥
 
--- Why no world is recovered from the log of an image: want of memory, a device that failed, a
--- header of another model or end, or the first record that is at fault.
+-- Why no world is recovered from the log of an image: want of memory, a device that failed, that it is
+-- no log of this model with this end in force, or the first record that is at fault.
 abbrev pub IsNotRecovered : Meaning → ℕ → List (List ℕ) → RecoveryFault → Type 0
 IsNotRecovered m end image recovery.NoMemory = Unit {0}
 IsNotRecovered m end image (recovery.Log log.NoMemory) = Unit {0}
 IsNotRecovered m end image (recovery.Log (log.Disk Device)) = Unit {0}
 IsNotRecovered m end image (recovery.Log fault) = ⊥
 IsNotRecovered m end image recovery.OtherModel =
-    IsFormatted image × (slice_index_or image 1 [] ≡ header_bytes (header_of m end) → ⊥)
+    IsFormatted image × ((entries : List Entry) → HoldsLog m end entries image → ⊥)
 IsNotRecovered m end image fault = IsAtFault m end image fault
 
 -- Why what is committed is not written. Whether the device has failed is not told any more, since
@@ -123,6 +142,11 @@ LookingIsRefused m end (Log fault) image = OpenIsRefused fault image (Unit {0})
 LookingIsRefused m end (Recovery fault) image = IsNotRecovered m end image fault
 LookingIsRefused m end Output image = Unit {0}
 LookingIsRefused m end fault image = ⊥
+
+-- it is a session's fault, with this cause
+abbrev pub IsOfSession : CommandFault → (SessionFault → Type 0) → Type 0
+IsOfSession (Session fault) Cause = Cause fault
+IsOfSession fault Cause = ⊥
 
 -- a command's own name for why a run stopped
 abbrev pub of_run : RunFault → CommandFault

@@ -1,5 +1,5 @@
-//! The commands on a disk: make an empty log for a simulation, run it to its end, and print what is
-//! committed.
+//! The commands on a disk: make an empty log for a simulation, run it to its end, carry it on past that,
+//! and print what is committed.
 #![tactic(auto)]
 
 mod commands;
@@ -8,5 +8,5 @@ mod printing;
 #[cfg(test)]
 mod tests;
 
-pub use commands::{Ended, Simulated, committed, log, new, run, run_over, show};
+pub use commands::{Ended, Simulated, committed, extend, log, new, run, run_over, show};
 pub use fault::CommandFault;

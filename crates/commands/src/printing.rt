@@ -1,7 +1,7 @@
 // What the commands print.
 
 ghost use Rattle.std.specs.Prelude.{◌++◌, codes, decimal, flat_map, length, IsOkUnless};
-ghost use Rattle.commands.specs.Commands.{formatted_text, node_text, ran_text};
+ghost use Rattle.commands.specs.Commands.{extended_text, formatted_text, node_text, ran_text};
 ghost use Rattle.commands.specs.declared.fault.CommandFault.TheVariants.{Output};
 ghost use Rattle.model.specs.World.{below};
 ghost use Rattle.eventkey.specs.Writing.{Writes};
@@ -17,6 +17,18 @@ pub fn write_formatted<O: Write>(sectors: u32, out: &mut O) -> Result<(), Comman
 {
     write_number("formatted ", u64::from(sectors), out)?;
     write_text(" sectors\n", out)?;
+    out.flush()?;
+    Ok(())
+}
+
+/// Writes which end was in force, and which one is now, and flushes the writer.
+pub fn write_extended<O: Write>(before: u64, end: u64, out: &mut O) -> Result<(), CommandFault>
+    ensures written { Writes (O.contents out.old) (O.contents out.new) result (extended_text before end) }
+    ensures fault { IsOkUnless result Output }
+{
+    write_number("extended ", before, out)?;
+    write_number(" to ", end, out)?;
+    write_text("\n", out)?;
     out.flush()?;
     Ok(())
 }

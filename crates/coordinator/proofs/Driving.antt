@@ -1,5 +1,5 @@
 -- A step, and lists of steps, one after another.
-use Rattle.std.proofs.Common.{Err, IfErr, IfOk, IsErrOf, inl, inr, List, Ok, OnOk, Result, [], ◌∷◌, ◌++◌, ◌+◌, ◌<◌, Some, ap, arith, false, get_or, length, map, refl, suc, subst, sym, take, true, ℕ, ◌≡◌, ◌≤◌, ◌∙◌, ◌↔◌}
+use Rattle.std.proofs.Common.{Err, IfErr, IfOk, IsErrOf, inl, inr, List, Ok, OnOk, Result, [], ◌∷◌, ◌++◌, ◌+◌, ◌<◌, Some, ap, arith, false, get_or, length, map, refl, suc, subst, sym, take, true, ℕ, ◌≡◌, ◌≤◌, ◌∙◌}
 use Rattle.std.proofs.Math.Seq.{take-suc}
 use Rattle.std.proofs.lemmas.Bool.{cases_Bool}
 use Rattle.std.proofs.lemmas.List.{map-append}

@@ -1,14 +1,18 @@
 -- A session that is driven again and again.
-use Rattle.std.proofs.Common.{Err, List, Ok, Result, Some, [], arith, false, inl, inr, refl, subst, sym, ℕ, ◌∙◌, ◌∷◌, ◌≡◌, ◌≤◌}
+use Rattle.std.proofs.Common.{Err, List, Ok, Result, [], arith, false, inl, inr, refl, subst, sym, ℕ, ◌∙◌, ◌∷◌, ◌≡◌, ◌≤◌}
 use Rattle.std.proofs.lemmas.Bool.{cases_Bool}
 use Rattle.disk.specs.Disk.{DiskState}
 use Rattle.model.specs.Meaning.{Meaning}
+use Rattle.model.specs.Runner.{Simulation}
 use Rattle.model.specs.World.{IsUpto, World}
 use Rattle.protocol.proofs.Runs.{fronts_open}
+use Rattle.recovery.specs.Replay.{in_force}
 use Rattle.wire.specs.Port.{PortState}
+use Rattle.coordinator.proofs.Committing.{stays}
 use Rattle.coordinator.proofs.Driving.{carry, followed_by}
+use Rattle.coordinator.proofs.Extensions.{goes-under}
 use Rattle.coordinator.proofs.Resuming.{stopped-front}
-use Rattle.coordinator.specs.Crashes.{IsWritten, KeepsRecovery, Recovers}
+use Rattle.coordinator.specs.Crashes.{IsWritten, KeepsRecovery, Recovers, RecoversUnderItsEnd}
 use Rattle.coordinator.specs.Drives.{AreDrives, IsDrive}
 use Rattle.coordinator.specs.Headline.{SessionsGoOn}
 use Rattle.coordinator.specs.Session.{IsTold, Session, picture_of, running}
@@ -17,14 +21,18 @@ use Rattle.coordinator.specs.declared.DriveFault.{DriveFault}
 use Rattle.coordinator.specs.declared.Step.{Step}
 
 module _ {M P D : Type 0} (meaning : M → Meaning) (state : P → PortState) (disk : D → DiskState) where
-  module _ (v : World) (old : DiskState) (first : Session M P D) where
+  module _ (first : Session M P D) where
+    -- each image stands under its end as it begins
+    abbrev Stood : Type 0
+    Stood = Recovers (meaning first.model) first.end first.front.time (disk first.log.disk)
+
     -- what holds of the session after any number of lists of steps
     record HasGoneOn (now : Session M P D) : Type 0 where
       model_is : now.model ≡ first.model
       end_is : now.end ≡ first.end
       usable : now.spent ≡ false → IsTold (running meaning state now) × IsWritten (meaning now.model) now.end now.front now.log
       front : IsUpto (meaning first.model) first.end now.front.time now.front × (now.front.time ≤ first.end)
-      crashes : Recovers (meaning first.model) first.end v.time old → KeepsRecovery (meaning first.model) first.end v.time now.front.time old (disk now.log.disk)
+      crashes : Stood → KeepsRecovery (meaning first.model) first.end first.front.time now.front.time (disk first.log.disk) (disk now.log.disk)
 
     told_front : (s : Session M P D) → s.model ≡ first.model → s.end ≡ first.end → IsTold (running meaning state s) →
         IsUpto (meaning first.model) first.end s.front.time s.front × (s.front.time ≤ first.end)
@@ -34,10 +42,10 @@ module _ {M P D : Type 0} (meaning : M → Meaning) (state : P → PortState) (d
 
     survives : (steps : List Step) (mid new : Session M P D) (result : Result ℕ DriveFault) → HasGoneOn mid → IsDrive meaning state disk steps mid new result →
         IsTold (running meaning state mid) → IsWritten (meaning mid.model) mid.end mid.front mid.log →
-        Recovers (meaning first.model) first.end v.time old → KeepsRecovery (meaning first.model) first.end v.time new.front.time old (disk new.log.disk)
+        Stood → KeepsRecovery (meaning first.model) first.end first.front.time new.front.time (disk first.log.disk) (disk new.log.disk)
     survives steps mid new result was is told written recovers =
         let keeps = was.crashes recovers in
-        followed_by (meaning first.model) first.end v.time mid.front.time new.front.time old (disk mid.log.disk) (disk new.log.disk) keeps
+        followed_by (meaning first.model) first.end first.front.time mid.front.time new.front.time (disk first.log.disk) (disk mid.log.disk) (disk new.log.disk) keeps
         (carry meaning state disk (λ (x : M) (e : ℕ). KeepsRecovery (meaning x) e mid.front.time new.front.time (disk mid.log.disk) (disk new.log.disk)) first.model mid.model first.end mid.end was.model_is was.end_is
         (is.keeps.crashes told written
         (carry meaning state disk (λ (x : M) (e : ℕ). Recovers (meaning x) e mid.front.time (disk mid.log.disk)) mid.model first.model mid.end first.end (sym was.model_is) (sym was.end_is) keeps.now_on)))
@@ -93,14 +101,15 @@ module _ {M P D : Type 0} (meaning : M → Meaning) (state : P → PortState) (d
 
   pub sessions_go_on : SessionsGoOn meaning state disk
   sessions_go_on v old first last drives begun is =
-      let all = λ (recovers : Recovers (meaning first.model) first.end v.time old). gone_on v old first drives first last (record {
+      let m = meaning first.model in
+      let all = λ (recovers : RecoversUnderItsEnd m v.time old). gone_on first drives first last (record {
         model_is = refl;
         end_is = refl;
         usable = λ unspent. (begun.told recovers, begun.written recovers);
-        front = told_front v old first first refl refl (begun.told recovers);
-        crashes = begun.crashes;
+        front = told_front first first refl refl (begun.told recovers);
+        crashes = λ stood. stays m first.end first.front.time (disk first.log.disk) stood;
       }) is in
       record {
-        crashes = λ recovers. (all recovers).crashes recovers;
-        front = λ recovers w same. (let e : last.front ≡ w = cc in subst (λ (x : World). IsUpto (meaning first.model) first.end x.time x × (x.time ≤ first.end)) e (all recovers).front);
+        crashes = λ recovers. goes-under m first.end v.time first.front.time last.front.time old (disk first.log.disk) (disk last.log.disk) (begun.crashes recovers) ((all recovers).crashes (begun.recovers recovers));
+        front = λ recovers s same. (let e : in_force first.end last.front ≡ s = cc in subst (λ (x : Simulation). IsUpto m x.end x.world.time x.world × (x.world.time ≤ x.end)) e (all recovers).front);
       }

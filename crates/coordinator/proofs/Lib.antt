@@ -11,5 +11,6 @@ mod Refusals
 mod Logging
 mod Loading
 pub mod Begun
+pub mod Extensions
 mod Histories
 pub mod Resuming

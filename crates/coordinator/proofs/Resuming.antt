@@ -1,24 +1,24 @@
 -- A whole session: what is opened, what is driven, what is left.
-use Rattle.std.proofs.Common.{Bool, List, None, Some, ap, arith, length, map, take, inl, inr, refl, subst, sym, ℕ, ◌≡◌, ◌≤◌, ◌∙◌}
+use Rattle.std.proofs.Common.{List, None, Some, ap, arith, length, map, take, inl, inr, refl, subst, sym, ℕ, ◌≡◌, ◌≤◌, ◌∙◌}
 use Rattle.std.proofs.lemmas.Bool.{cases_Bool}
 use Rattle.std.proofs.lemmas.List.{take_all}
-use Rattle.disk.specs.Disk.{DiskState}
+use Rattle.disk.specs.Disk.{DiskState, OnlyLooks}
 use Rattle.model.specs.Meaning.{Meaning}
+use Rattle.model.specs.Runner.{Simulation}
 use Rattle.model.specs.World.{IsUpto, World}
 use Rattle.protocol.proofs.Runs.{fronts_open, moves_made_are_sound}
 use Rattle.protocol.specs.Moves.{Move, moves_made}
 use Rattle.protocol.specs.Picture.{Picture, opened}
 use Rattle.protocol.specs.Sound.{IsSystem}
-use Rattle.recovery.specs.Replay.{IsReplayedTo}
-use Rattle.coordinator.proofs.Driving.{followed_by, same_fault}
+use Rattle.recovery.specs.Replay.{IsReplayedTo, in_force}
+use Rattle.coordinator.proofs.Extensions.{goes-under, looked-under}
 use Rattle.commitlog.specs.Log.{Opened}
-use Rattle.coordinator.specs.Crashes.{IsWritten, KeepsRecovery, Recovers}
+use Rattle.coordinator.specs.Crashes.{IsWritten, KeepsRecovery, KeepsUnderItsEnd, Recovers, RecoversUnderItsEnd}
 use Rattle.coordinator.specs.Drives.{IsStopped, StepsAreMade}
 use Rattle.coordinator.specs.Headline.{IsResumed}
 use Rattle.coordinator.specs.Session.{IsTold, Running, Session, picture_of}
 use Rattle.coordinator.specs.Steps.{leaves_all, move_of}
 use Rattle.coordinator.specs.declared.DriveFault.{DriveFault}
-use Rattle.coordinator.specs.declared.SessionFault.TheVariants.{Spent}
 use Rattle.wire.specs.Port.{PortState}
 use Rattle.coordinator.specs.declared.Step.{Step}
 
@@ -38,11 +38,18 @@ driven-on m' m end' end first last log mid new model_is end_is driven =
     subst (λ (n : Meaning). IsWritten n end first log → Recovers n end first.time mid → KeepsRecovery n end first.time last.time mid new) model_is
     (subst (λ (e : ℕ). IsWritten m' e first log → Recovers m' e first.time mid → KeepsRecovery m' e first.time last.time mid new) end_is driven)
 
+-- the same of its opening
+pub kept-on : (m' m : Meaning) (end' end a now : ℕ) (old mid : DiskState) → m' ≡ m → end' ≡ end → (RecoversUnderItsEnd m' a old → KeepsUnderItsEnd m' a now old mid) → (RecoversUnderItsEnd m' a old → Recovers m' end' now mid)
+    → RecoversUnderItsEnd m a old → KeepsUnderItsEnd m a now old mid × Recovers m end now mid
+kept-on m' m end' end a now old mid model_is end_is keeps recovers =
+    subst (λ (n : Meaning). RecoversUnderItsEnd n a old → KeepsUnderItsEnd n a now old mid × Recovers n end now mid) model_is
+    (subst (λ (e : ℕ). RecoversUnderItsEnd m' a old → KeepsUnderItsEnd m' a now old mid × Recovers m' e now mid) end_is (λ r. (keeps r, recovers r)))
+
 -- all steps were made
 pub made-all : (done : ℕ) (steps : List Step) (old new : Running) → done ≡ length steps → StepsAreMade (map move_of steps) old new → StepsAreMade (map move_of (take done steps)) old new
 made-all done steps old new is made = subst (λ (ss : List Step). StepsAreMade (map move_of ss) old new) (sym (ap (λ (n : ℕ). take n steps) is ∙ take_all (length steps) steps (omega arith))) made
 
-module _ (m : Meaning) (end nodes : ℕ) (v first : World) (disk mid : DiskState) (replayed : IsReplayedTo m end disk.reads first) (opened_kept : Recovers m end v.time disk → KeepsRecovery m end v.time first.time disk mid)
+module _ (m : Meaning) (end nodes : ℕ) (v first : World) (disk mid : DiskState) (replayed : IsReplayedTo m end disk.reads first) (opened_kept : RecoversUnderItsEnd m v.time disk → KeepsUnderItsEnd m v.time first.time disk mid × Recovers m end first.time mid)
     (begun : Running) (model_is : begun.meaning ≡ m) (end_is : begun.end ≡ end) (moves : List Move) where
   module _ (told : IsTold begun) (picture_is : picture_of begun ≡ opened m.lps nodes first) where
     moved : (made : Running) → StepsAreMade moves begun made → moves_made m end moves (opened m.lps nodes first) ≡ Some (picture_of made)
@@ -62,8 +69,8 @@ module _ (m : Meaning) (end nodes : ℕ) (v first : World) (disk mid : DiskState
     soon : (made : Running) → StepsAreMade moves begun made → made.front.time ≤ end
     soon made steps = (fronts_open m end 1 (picture_of made) (moves_made_are_sound m end moves (opened m.lps nodes first) (picture_of made) system (moved made steps)).system (omega arith)).soon
 
-  pub resumed : (made : Running) (last : World) (new : DiskState) → (Recovers m end v.time disk → IsTold begun × (picture_of begun ≡ opened m.lps nodes first)) → (IsTold begun → StepsAreMade moves begun made) → last ≡ made.front
-      → (Recovers m end v.time disk → Recovers m end first.time mid → KeepsRecovery m end first.time last.time mid new) → IsResumed m end nodes moves v disk new (Some last.time)
+  pub resumed : (made : Running) (last : World) (new : DiskState) → (RecoversUnderItsEnd m v.time disk → IsTold begun × (picture_of begun ≡ opened m.lps nodes first)) → (IsTold begun → StepsAreMade moves begun made) → last ≡ made.front
+      → (RecoversUnderItsEnd m v.time disk → Recovers m end first.time mid → KeepsRecovery m end first.time last.time mid new) → IsResumed m end nodes moves v disk new (Some last.time)
   resumed made last new begin steps last_is driven = record {
     front = Some last;
     told = refl;
@@ -72,12 +79,13 @@ module _ (m : Meaning) (end nodes : ℕ) (v first : World) (disk mid : DiskState
         let b = begin recovers in
         record { first = first; replayed = replayed; last = picture_of made; moved = moved b.0 b.1 made (steps b.0); front_is = sym same ∙ last_is };
     kept = record {
-      crashes = λ recovers. let keeps = opened_kept recovers in followed_by m end v.time first.time last.time disk mid new keeps (driven recovers keeps.now_on);
-      front = λ recovers w is.
+      crashes = λ recovers. let keeps = opened_kept recovers in goes-under m end v.time first.time last.time disk mid new keeps.0 (driven recovers keeps.1);
+      front = λ recovers s is.
           let b = begin recovers in
-          let same : made.front ≡ w = (let e : last ≡ w = cc in sym last_is ∙ e) in subst (λ (x : World). IsUpto m end x.time x × (x.time ≤ end)) same (upto b.0 b.1 made (steps b.0), soon b.0 b.1 made (steps b.0));
+          let front : in_force end made.front ≡ s = (let e : in_force end last ≡ s = cc in ap (in_force end) (sym last_is) ∙ e) in
+          subst (λ (x : Simulation). IsUpto m x.end x.world.time x.world × (x.world.time ≤ x.end)) front (upto b.0 b.1 made (steps b.0), soon b.0 b.1 made (steps b.0));
     };
   }
 
-pub not_resumed : (m : Meaning) (end nodes : ℕ) (moves : List Move) (v : World) (old new : DiskState) → (Recovers m end v.time old → KeepsRecovery m end v.time v.time old new) → IsResumed m end nodes moves v old new None
-not_resumed m end nodes moves v old new refused = record { front = None; told = refl; driven = λ recovers w is. absurd (cc); kept = record { crashes = refused; front = λ recovers w is. absurd (cc) } }
+pub not_resumed : (m : Meaning) (end nodes : ℕ) (moves : List Move) (v : World) (old new : DiskState) → OnlyLooks old new → IsResumed m end nodes moves v old new None
+not_resumed m end nodes moves v old new looks = record { front = None; told = refl; driven = λ recovers w is. absurd (cc); kept = record { crashes = λ recovers. looked-under m v.time old new looks recovers; front = λ recovers s is. absurd (cc) } }

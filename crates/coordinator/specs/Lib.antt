@@ -4,6 +4,7 @@ pub mod Steps
 pub mod Crashes
 pub mod Drives
 pub mod Opening
+pub mod Extending
 pub mod Headline
 -- For tests.
 pub mod Ring

@@ -11,7 +11,6 @@ use Rattle.protocol.specs.Moves.{Move, answer_of, is_busy, merged, move, refusal
 use Rattle.protocol.specs.Moves.Move.{Checkpoint as CheckpointMove, Commit as CommitMove, Post as PostMove, Take as TakeMove}
 use Rattle.protocol.specs.Moves.Refusal.{NumberLimit as NumberLimitRefusal}
 use Rattle.protocol.specs.Picture.{Picture, nodes_of}
-use Rattle.protocol.specs.Sound.{GoesOnFrom}
 use Rattle.recovery.specs.Bodies.{events_body}
 use Rattle.recovery.specs.Checkpoints.{checkpoint_body, checkpoint_of}
 use Rattle.wire.specs.Port.{IsForWant, PortState}

@@ -3,12 +3,14 @@
 #![tactic(auto)]
 
 mod batch;
+mod extending;
 mod opening;
 mod ports;
 mod session;
 mod sessions;
 
 use eventkey::Listed;
+pub use extending::{Extended, extend};
 pub use opening::NotOpened;
 pub use protocol::Answer;
 use recovery::RecoveryFault;
@@ -78,6 +80,9 @@ pub enum SessionFault {
     /// An earlier call ended the session.
     #[error("Spent")]
     Spent,
+    /// The end is not above the one in force, or above 2^40.
+    #[error("EndRefused")]
+    EndRefused,
 }
 
 /// Why a list of steps is not made to its end: so many were made, and the next was refused.

@@ -1,9 +1,9 @@
 -- Worked rows: images, plans, and what a crash may leave.
 use Rattle.std.specs.Prelude.{replicate}
-use Rattle.std.proofs.Common.{◌≡◌, ℕ, zero, suc, Bool, true, false, List, [], ◌∷◌, get_or, Some, None, refl, ap, arith}
+use Rattle.std.proofs.Common.{◌++◌, ◌≡◌, ℕ, zero, suc, Bool, true, false, List, [], ◌∷◌, get_or, Some, None, refl, ap, arith}
 use Rattle.disk.specs.Disk.{image_of, IsDisk, IsSector, MayLeave}
 use Rattle.disk.specs.Memory.{MemoryState, crash_content}
-use Rattle.disk.specs.declared.memory.Torn.TheVariants.{Old, New, Fill}
+use Rattle.disk.specs.declared.memory.Torn.TheVariants.{Old, New, Fill, Cut}
 use Rattle.disk.proofs.Sectors.{replicate_whole}
 use Rattle.disk.specs.Plans.{Counts, started, counted, write_counted, fails, write_fails}
 
@@ -86,3 +86,9 @@ module _ (sound : IsDisk reads loose) where
 
   firm_left : crash_content (Fill 7) written 0 ≡ zeros
   firm_left = refl
+
+  cut_left : crash_content (Cut 100) written 1 ≡ replicate 100 1 ++ replicate 412 0
+  cut_left = refl
+
+  not_cut : crash_content (Cut 0) written 1 ≡ zeros
+  not_cut = refl

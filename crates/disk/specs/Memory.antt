@@ -1,10 +1,10 @@
 -- A disk in memory, and the image that a crash of it leaves. (This project's profile.)
 use Rattle.std.specs.Prelude.{◌≡◌, ◌<◌, ℕ, Bool, false, List, [], length, replicate, slice_index_or}
-use Rattle.std.specs.Prelude.{if◌then◌else◌}
+use Rattle.std.specs.Prelude.{if◌then◌else◌, ◌++◌, take, drop}
 use Rattle.disk.specs.Disk.{IsDisk, Standing, DiskState}
 use Rattle.disk.specs.Plans.{Counts}
 use Rattle.disk.specs.declared.memory.Torn.{Torn}
-use Rattle.disk.specs.declared.memory.Torn.TheVariants.{Old, New, Fill}
+use Rattle.disk.specs.declared.memory.Torn.TheVariants.{Old, New, Fill, Cut}
 
 -- per sector what a read gives, what was there at the last successful sync, what the last write was
 -- to put there, failed or not, and whether it is loose; and how the disk stood at the moments
@@ -31,6 +31,8 @@ abbrev pub torn_content : Torn → MemoryState → ℕ → List ℕ
 torn_content Old disk n = slice_index_or disk.synced n []
 torn_content New disk n = slice_index_or disk.attempted n []
 torn_content (Fill byte) disk n = replicate 512 byte
+torn_content (Cut count) disk n =
+    take count (slice_index_or disk.attempted n []) ++ drop count (slice_index_or disk.synced n [])
 
 -- what it leaves in each sector
 abbrev pub crash_content : Torn → MemoryState → ℕ → List ℕ

@@ -1,6 +1,7 @@
 // A disk in memory, whose failures and stop are planned, and which can be crashed.
 ghost use Rattle.std.specs.Prelude.{None, ◌≡◌, ◌*◌, ◌/◌, ◌<◌, ◌≤◌, ◌↔◌, ◌^◌, ℕ, Bool, List, []};
 ghost use Rattle.std.specs.Prelude.{true, false, length, replicate, slice_set, slice_index_or};
+ghost use Rattle.std.specs.Prelude.{◌++◌, take, drop};
 ghost use Rattle.std.specs.Prelude.{OnOk, OnErr, IfOk, IsErrOf};
 ghost use Rattle.disk.specs.Disk.{image_of, IsFirm, IsSector, MayLeave, Elapses, HasCause};
 
@@ -20,6 +21,9 @@ pub enum Torn {
     New,
     /// This byte 512 times.
     Fill(u8),
+    /// So many first bytes of what the last write was to put there, failed or not, and behind them what
+    /// was there at the last successful sync. 512 and more leave what [`New`](Torn::New) leaves.
+    Cut(u16),
 }
 
 /// A disk in memory. Its calls fail by a [`Plan`], and [`crash`](MemDisk::crash) gives what a power
@@ -242,8 +246,19 @@ impl MemDisk {
             Torn::Old => self.synced[n],
             Torn::New => self.attempted[n],
             Torn::Fill(byte) => [byte; 512],
+            Torn::Cut(count) => cut(usize::from(count), &self.attempted[n], &self.synced[n]),
         }
     }
+}
+
+/// So many first bytes of one sector, and the rest of another.
+fn cut(count: usize, one: &[u8; 512], other: &[u8; 512]) -> [u8; 512]
+    ensures { result ≡ take count one.now ++ drop count other.now }
+{
+    let count = count.min(512);
+    let mut sector = *other;
+    sector[..count].copy_from_slice(&one[..count]);
+    sector
 }
 
 /// The loose sectors of the image.

@@ -1,14 +1,16 @@
 -- What stands in the place of a frame, by the bytes that come one after the other.
-use Rattle.std.proofs.Common.{◌≡◌, ℕ, ◌<◌, ◌≤◌, ◌^◌, List, [], ◌∷◌, ◌++◌, length, take, drop, Option, Some, None, Result, Ok, inl, inr, refl, sym, ap, subst, ◌∙◌, arith, append-nil, append_assoc, take-append-drop}
+use Rattle.std.proofs.Common.{◌≡◌, ℕ, ◌+◌, ◌-◌, ◌<◌, ◌≤◌, ◌^◌, List, [], ◌∷◌, ◌++◌, length, take, drop, Option, Some, None, Result, Ok, inl, inr, refl, sym, ap, subst, ◌∙◌, arith, append-nil, append_assoc, take-append-drop}
 use Rattle.std.proofs.lemmas.Bool.{cases_lt, lt-ltb, le-ltb}
 use Rattle.std.proofs.lemmas.List.{drop_at, take_at, length-append}
 use Rattle.std.specs.Io.KnownBytes.{Consumes, IsAtEnd}
+use Rattle.std.proofs.KnownBytes.{Consumes-trans}
+use lib.Seq.{drop-append-add}
 use Rattle.byteorder.specs.Endian.{big_number}
 use Rattle.byteorder.specs.Numbers.{big_from-take}
 use Rattle.eventkey.specs.Reading.{number_at}
 use Rattle.frames.specs.Bodies.{kind_of}
 use Rattle.frames.specs.Cutting.{Cut, cut, cut_body, cut_kind, cut_length, fails}
-use Rattle.frames.specs.Streams.{GivesSome, IsCutBy, IsFront, OnBytes}
+use Rattle.frames.specs.Streams.{Finds, GivesUpTo, IsCutBy, IsFront, IsWithin, OnBytes}
 use Rattle.frames.specs.declared.Kind.{Kind}
 use Rattle.frames.specs.declared.stream.Raw.{Raw}
 use Rattle.wire.specs.declared.port.WireFault.{WireFault}
@@ -26,9 +28,6 @@ on_end None new taken P h e p = tt
 on_end (Some bytes) None taken P h e p = absurd h
 on_end (Some bytes) (Some rest) taken P h e p =
     subst (λ (r : List ℕ). P bytes r) (sym e) (subst (λ (b : List ℕ). P b []) (sym (h ∙ ap (λ r. taken ++ r) e ∙ append-nil taken)) p)
-
-pub on_some : (old new : Option (List ℕ)) → GivesSome old new → OnBytes old new IsFront
-on_some old new (taken, h) = on_bytes old new taken IsFront h (λ rest. (taken, refl))
 
 -- 2. What stands there
 
@@ -107,23 +106,90 @@ front_number n bytes = elim (cases_lt (2 ^ 24) n) [
   | inr le ↦ rw (le-ltb (2 ^ 24) n le) (front_kind n bytes)
 ]
 
-front_length : (bytes : List ℕ) → IsFront bytes (cut_length (number_at 4 bytes)).rest
+behind_length : (bytes : List ℕ) → IsFront (drop 4 bytes) (cut_length (number_at 4 bytes)).rest
 unfolding number_at
-front_length bytes = elim (cases_lt (length bytes) 4) [
-  | inl lt ↦ rw (lt-ltb (length bytes) 4 lt) (IsFront-all bytes)
-  | inr le ↦ rw (le-ltb (length bytes) 4 le) (IsFront-trans bytes (drop 4 bytes) _ (IsFront-drop 4 bytes) (front_number (big_number 4 bytes) (drop 4 bytes)))
+behind_length bytes = elim (cases_lt (length bytes) 4) [
+  | inl lt ↦ rw (lt-ltb (length bytes) 4 lt) (IsFront-all (drop 4 bytes))
+  | inr le ↦ rw (le-ltb (length bytes) 4 le) (front_number (big_number 4 bytes) (drop 4 bytes))
 ]
 
-pub cut_front : (bytes : List ℕ) → IsFront bytes (cut bytes).rest
+-- a frame has four bytes at least, or the input ends within them
+cut_behind : (bytes : List ℕ) → IsFront (drop 4 bytes) (cut bytes).rest
 unfolding cut
-cut_front [] = ([], refl)
-cut_front (b ∷ bytes) = front_length (b ∷ bytes)
+cut_behind [] = ([], refl)
+cut_behind (b ∷ bytes) = behind_length (b ∷ bytes)
+
+cut_front : (bytes : List ℕ) → IsFront bytes (cut bytes).rest
+cut_front bytes = IsFront-trans bytes (drop 4 bytes) (cut bytes).rest (IsFront-drop 4 bytes) (cut_behind bytes)
 
 -- the frame that was cut off
-pub front_of : (bytes rest : List ℕ) (found : Result (Option Raw) WireFault) → cut bytes ≡ record { found = found; rest = rest } → IsFront bytes rest
-front_of bytes rest found e = subst (IsFront bytes) (ap (λ (c : Cut Raw). c.rest) e) (cut_front bytes)
+pub within_of : (bytes rest : List ℕ) (found : Result (Option Raw) WireFault) → Finds (cut bytes) found rest → IsWithin bytes rest
+within_of bytes rest found e =
+    let left : (cut bytes).rest ≡ rest = ap (λ (c : Cut Raw). c.rest) e in
+    record { front = subst (IsFront bytes) left (cut_front bytes); behind = ([], sym left) }
 
-pub given_of : (old new : Option (List ℕ)) (found : Option Raw) → OnBytes old new (IsCutBy cut (Ok found)) → GivesSome old new
-given_of None new found h = ([], tt)
-given_of (Some bytes) None found h = absurd h
-given_of (Some bytes) (Some rest) found h = front_of bytes rest (Ok found) h
+pub within_found : (old new : Option (List ℕ)) (found : Option Raw) → OnBytes old new (IsCutBy cut (Ok found)) → OnBytes old new IsWithin
+within_found None new found h = tt
+within_found (Some bytes) None found h = absurd h
+within_found (Some bytes) (Some rest) found h = within_of bytes rest (Ok found) h
+
+-- 4. A reader that stops on the way has read nothing behind the frame.
+
+-- who took fewer has left more
+drop_fewer : (n : ℕ) (taken rest : List ℕ) → length taken ≤ n → IsFront rest (drop n (taken ++ rest))
+drop_fewer n taken rest few =
+    let more : n ≡ length taken + (n - length taken) = omega arith in
+    let left : drop n (taken ++ rest) ≡ drop (n - length taken) rest = ap (λ k. drop k (taken ++ rest)) more ∙ drop-append-add taken rest (n - length taken) in
+    subst (IsFront rest) (sym left) (IsFront-drop (n - length taken) rest)
+
+within_head : (taken rest : List ℕ) → length taken ≤ 4 → IsWithin (taken ++ rest) rest
+within_head taken rest few = record {
+  front = (taken, refl);
+  behind = IsFront-trans rest (drop 4 (taken ++ rest)) (cut (taken ++ rest)).rest (drop_fewer 4 taken rest few) (cut_behind (taken ++ rest));
+}
+
+-- from here on the length is told, and allowed
+behind_kind : (n : ℕ) (taken rest : List ℕ) → length taken ≤ 1 → IsFront rest (cut_kind n (taken ++ rest)).rest
+behind_kind n [] rest few = front_kind n rest
+behind_kind n (k ∷ []) rest few = front_body n rest (kind_of k)
+behind_kind n (k ∷ (j ∷ more)) rest few = absurd (omega arith)
+
+within_kind : (head taken rest : List ℕ) → length head ≡ 4 → big_number 4 head ≤ 2 ^ 24 → length taken ≤ 1 → IsWithin ((head ++ taken) ++ rest) rest
+within_kind head taken rest four fits few =
+    let is : cut ((head ++ taken) ++ rest) ≡ cut_kind (big_number 4 head) (taken ++ rest) = ap cut (append_assoc head taken rest) ∙ cut_fits head (taken ++ rest) four fits in
+    record {
+      front = (head ++ taken, refl);
+      behind = subst (IsFront rest) (sym (ap (λ (c : Cut Raw). c.rest) is)) (behind_kind (big_number 4 head) taken rest few);
+    }
+
+behind_body : (n : ℕ) (kind : Kind) (taken rest : List ℕ) → length taken ≤ n → IsFront rest (cut_body n (taken ++ rest) (Some kind)).rest
+behind_body n kind taken rest few = elim (cases_lt (length (taken ++ rest)) n) [
+  | inl lt ↦ rw (lt-ltb (length (taken ++ rest)) n lt) (IsFront-all rest)
+  | inr le ↦ rw (le-ltb (length (taken ++ rest)) n le) (drop_fewer n taken rest few)
+]
+
+within_body : (head : List ℕ) (k : ℕ) (kind : Kind) (taken rest : List ℕ) → length head ≡ 4 → big_number 4 head ≤ 2 ^ 24 → kind_of k ≡ Some kind → length taken ≤ big_number 4 head →
+    IsWithin (((head ++ k ∷ []) ++ taken) ++ rest) rest
+within_body head k kind taken rest four fits e few =
+    let n = big_number 4 head in
+    let parts : ((head ++ k ∷ []) ++ taken) ++ rest ≡ head ++ k ∷ (taken ++ rest) = append_assoc (head ++ k ∷ []) taken rest ∙ append_assoc head (k ∷ []) (taken ++ rest) in
+    let is : cut (((head ++ k ∷ []) ++ taken) ++ rest) ≡ cut_body n (taken ++ rest) (Some kind) =
+    ap cut parts ∙ cut_fits head (k ∷ (taken ++ rest)) four fits ∙ ap (cut_body n (taken ++ rest)) e in
+    record {
+      front = ((head ++ k ∷ []) ++ taken, refl);
+      behind = subst (IsFront rest) (sym (ap (λ (c : Cut Raw). c.rest) is)) (behind_body n kind taken rest few);
+    }
+
+-- the same of a reader
+pub stops_in_head : (old new : Option (List ℕ)) → GivesUpTo 4 old new → OnBytes old new IsWithin
+stops_in_head old new (taken, few, h) = on_bytes old new taken IsWithin h (λ rest. within_head taken rest few)
+
+module _ (old mid new : Option (List ℕ)) (head : List ℕ) where
+  pub stops_at_kind : length head ≡ 4 → big_number 4 head ≤ 2 ^ 24 → Consumes old mid head → GivesUpTo 1 mid new → OnBytes old new IsWithin
+  stops_at_kind four fits h (taken, few, more) =
+      on_bytes old new (head ++ taken) IsWithin (Consumes-trans old mid new head taken h more) (λ rest. within_kind head taken rest four fits few)
+
+  pub stops_in_body : (k : ℕ) (kind : Kind) → length head ≡ 4 → big_number 4 head ≤ 2 ^ 24 → kind_of k ≡ Some kind → Consumes old mid (head ++ k ∷ []) → GivesUpTo (big_number 4 head) mid new →
+      OnBytes old new IsWithin
+  stops_in_body k kind four fits e h (taken, few, more) =
+      on_bytes old new ((head ++ k ∷ []) ++ taken) IsWithin (Consumes-trans old mid new (head ++ k ∷ []) taken h more) (λ rest. within_body head k kind taken rest four fits e few)

@@ -1,11 +1,12 @@
 -- The definitions, computed: what stands in a frame's place, and the frames of a ring of three
 -- processes.
-use Rattle.std.proofs.Common.{◌≡◌, List, ℕ, [], ◌∷◌, ◌++◌, refl, Some, Ok}
+use Rattle.std.proofs.Common.{◌≡◌, List, ℕ, [], ◌∷◌, ◌++◌, length, length-append, arith, ap, refl, Some, Ok}
 use Rattle.byteorder.specs.Endian.{big_bytes}
 use Rattle.eventkey.specs.Reading.{number_at, items_at}
 use Rattle.eventkey.specs.Spelling.{message_at, signed_at}
 use Rattle.frames.specs.Bodies.{load_in, parcel_in, part_at, words_at, fault_in}
 use Rattle.frames.specs.Cutting.{cut, frame_cut, fails}
+use Rattle.frames.specs.Streams.{IsWithin}
 use Rattle.frames.specs.declared.Frame.TheVariants.{Load, Parcel}
 use Rattle.wire.specs.declared.port.WireFault.TheVariants.{BadBody, BadKind, TooLong, Truncated}
 
@@ -57,3 +58,27 @@ parcel = refl
 one_byte_more : frame_cut (0 ∷ 0 ∷ 0 ∷ 17 ∷ 2 ∷ (parcel_body ++ 0 ∷ [])) ≡ fails BadBody []
 unfolding cut number_at items_at signed_at parcel_in
 one_byte_more = refl
+
+-- how far a reader that fails may have read: within the frame, and no further
+within : IsWithin (0 ∷ 0 ∷ 0 ∷ 1 ∷ 4 ∷ 7 ∷ 9 ∷ []) (7 ∷ 9 ∷ [])
+unfolding cut number_at
+within = record { front = (0 ∷ 0 ∷ 0 ∷ 1 ∷ 4 ∷ [], refl); behind = (7 ∷ [], refl) }
+
+whole : IsWithin (0 ∷ 0 ∷ 0 ∷ 1 ∷ 4 ∷ 7 ∷ 9 ∷ []) (9 ∷ [])
+unfolding cut number_at
+whole = record { front = (0 ∷ 0 ∷ 0 ∷ 1 ∷ 4 ∷ 7 ∷ [], refl); behind = ([], refl) }
+
+not_behind : IsWithin (0 ∷ 0 ∷ 0 ∷ 1 ∷ 4 ∷ 7 ∷ 9 ∷ []) [] → ⊥
+unfolding cut number_at
+not_behind w =
+    let none : [] ≡ w.behind.0 ++ 9 ∷ [] = w.behind.1 in
+    let size : 0 ≡ length (w.behind.0 ++ 9 ∷ []) = ap length none in
+    absurd (omega (arith, length-append w.behind.0 (9 ∷ []), size))
+
+-- of a length that is too long its four bytes
+not_behind_length : IsWithin (1 ∷ 0 ∷ 0 ∷ 1 ∷ 9 ∷ []) [] → ⊥
+unfolding cut number_at
+not_behind_length w =
+    let none : [] ≡ w.behind.0 ++ 9 ∷ [] = w.behind.1 in
+    let size : 0 ≡ length (w.behind.0 ++ 9 ∷ []) = ap length none in
+    absurd (omega (arith, length-append w.behind.0 (9 ∷ []), size))

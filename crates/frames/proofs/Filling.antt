@@ -1,10 +1,12 @@
 -- A buffer that is filled from its front.
 use Rattle.std.proofs.Common.{◌≡◌, ℕ, ◌+◌, ◌-◌, ◌≤◌, List, ◌++◌, arith, length, take, slice_range, Option, sym, ap, ◌∙◌, subst, le_refl, drop_at, length-take-le}
+use Rattle.std.proofs.lemmas.List.{length-take}
 use Rattle.std.proofs.lemmas.Slice.{take-put_mid_below}
 use Rattle.std.specs.Io.KnownBytes.{Consumes, Keeps}
 use Rattle.std.proofs.KnownBytes.{Consumes-trans, Consumes-kept}
 use borrow.Rule.Slice.PartMut.{put_mid, post_of}
 use lib.Seq.{take-add, take-append-le}
+use Rattle.frames.specs.Streams.{GivesUpTo}
 
 take_split : (a b : ℕ) (old new : List ℕ) → a ≤ b → take a new ≡ take a old → take a old ++ slice_range new a b ≡ take b new
 take_split a b old new h front =
@@ -27,3 +29,7 @@ fill_more old mid new a k n xs ys within fits h more =
 -- nothing came, and what is behind may have changed
 pub fill_kept : (old mid new : Option (List ℕ)) (a k : ℕ) (xs ys : List ℕ) → a ≤ length xs → Consumes old mid (take a xs) → Keeps mid new → Consumes old new (take a (put_mid a k xs ys))
 fill_kept old mid new a k xs ys within h kept = subst (Consumes old new) (sym (take-put_mid_below _ _ _ _ _ (le_refl _) within)) (Consumes-kept old mid new _ h kept)
+
+-- the reader failed there
+pub fill_stopped : (old mid new : Option (List ℕ)) (a k : ℕ) (xs ys : List ℕ) → a ≤ length xs → Consumes old mid (take a xs) → Keeps mid new → GivesUpTo (length (put_mid a k xs ys)) old new
+fill_stopped old mid new a k xs ys within h kept = (take a (put_mid a k xs ys), omega (arith, length-take a (put_mid a k xs ys)), fill_kept old mid new a k xs ys within h kept)

@@ -7,11 +7,11 @@ use Rattle.std.proofs.KnownBytes.{Consumes-trans}
 use Rattle.byteorder.specs.Endian.{big_number}
 use Rattle.frames.specs.Bodies.{kind_of}
 use Rattle.frames.specs.Cutting.{Cut, cut}
-use Rattle.frames.specs.Streams.{Comes, GivesFewer, GivesSome, IsCutBy, IsHalfway, OnBytes}
+use Rattle.frames.specs.Streams.{Comes, GivesFewer, GivesUpTo, IsCutBy, IsHalfway, IsWithin, OnBytes}
 use Rattle.frames.specs.declared.Kind.{Kind}
 use Rattle.wire.specs.declared.port.WireFault.{WireFault}
 use Rattle.wire.specs.declared.port.WireFault.TheVariants.{BadKind, TooLong, Truncated}
-use Rattle.frames.proofs.Cuts.{cut_bad_kind, cut_long, cut_no_body, cut_no_kind, cut_none, cut_short, cut_whole, on_bytes, on_end, on_some}
+use Rattle.frames.proofs.Cuts.{cut_bad_kind, cut_long, cut_no_body, cut_no_kind, cut_none, cut_short, cut_whole, on_bytes, on_end, stops_in_body}
 
 -- what filling a buffer says
 pub record Came (old new : Option (List ℕ)) (buffer : List ℕ) (n came : ℕ) : Type 0 where
@@ -80,11 +80,18 @@ raw_whole old mid new head (k ∷ []) body kind h e whole given =
     (λ rest. ap cut (append_assoc (head ++ k ∷ []) body rest ∙ append_assoc head (k ∷ []) (body ++ rest)) ∙ cut_whole head k kind body rest h.size h.fits e whole)
 raw_whole old mid new head (k ∷ (j ∷ more)) body kind h e whole given = absurd (let one = h.one in omega arith)
 
-pub cut_halfway : {X : Type 0} (cut : List ℕ → Cut X) (old new : Option (List ℕ)) (fault : WireFault) (result : Result (Option X) WireFault) → IsErrAnd result (λ e. e ≡ fault) → IsHalfway fault → GivesSome old new →
+-- the body came only halfway
+pub raw_part : (old mid new : Option (List ℕ)) (head number : List ℕ) (kind : Kind) → HasKind old mid head number → kind_of (slice_index number 0) ≡ Some kind → GivesUpTo (big_number 4 head) mid new →
+    OnBytes old new IsWithin
+raw_part old mid new head [] kind h e some = absurd (let one = h.one in omega arith)
+raw_part old mid new head (k ∷ []) kind h e some = stops_in_body old mid new head k kind h.size h.fits e h.bytes some
+raw_part old mid new head (k ∷ (j ∷ more)) kind h e some = absurd (let one = h.one in omega arith)
+
+pub cut_halfway : {X : Type 0} (cut : List ℕ → Cut X) (old new : Option (List ℕ)) (fault : WireFault) (result : Result (Option X) WireFault) → IsErrAnd result (λ e. e ≡ fault) → IsHalfway fault → OnBytes old new IsWithin →
     OnBytes old new (IsCutBy cut result)
-cut_halfway cut old new fault (Ok x) e h some = absurd e
-cut_halfway cut old new fault (Err f) e (inl io) some = subst (λ g. OnBytes old new (IsCutBy cut (Err g))) (sym (e ∙ io)) (on_some old new some)
-cut_halfway cut old new fault (Err f) e (inr memory) some = subst (λ g. OnBytes old new (IsCutBy cut (Err g))) (sym (e ∙ memory)) (on_some old new some)
+cut_halfway cut old new fault (Ok x) e h within = absurd e
+cut_halfway cut old new fault (Err f) e (inl io) within = subst (λ g. OnBytes old new (IsCutBy cut (Err g))) (sym (e ∙ io)) within
+cut_halfway cut old new fault (Err f) e (inr memory) within = subst (λ g. OnBytes old new (IsCutBy cut (Err g))) (sym (e ∙ memory)) within
 
 -- what a body says, of which it is known how it came
 module _ {X : Type 0} (seen : X → List ℕ) (n : ℕ) (old new : Option (List ℕ)) (found : Option X) where

@@ -4,7 +4,7 @@ ghost use Rattle.std.specs.Prelude.{◌≡◌, ◌<◌, ◌≤◌, ◌++◌, ◌
 ghost use Rattle.std.specs.Io.KnownBytes.{Consumes, IsAtEnd};
 ghost use Rattle.frames.specs.Bodies.{kind_of};
 ghost use Rattle.frames.specs.Cutting.{cut, frame_cut};
-ghost use Rattle.frames.specs.Streams.{Comes, GivesSome, IsCutBy, OnBytes};
+ghost use Rattle.frames.specs.Streams.{Comes, GivesUpTo, IsCutBy, OnBytes};
 
 use crate::reading::read_body;
 use crate::{Frame, Kind};
@@ -32,7 +32,7 @@ fn fill<R: Read>(reader: &mut R, buffer: &mut [u8]) -> io::Result<usize>
     ensures bound { IfOk result (λ n. n ≤ length buffer.new) }
     ensures bytes { IfOk result (λ n. Consumes (R.remaining reader.old) (R.remaining reader.new) (take n buffer.new)) }
     ensures end { IfOk result (λ n. n < length buffer.new → IsAtEnd (R.remaining reader.new)) }
-    ensures err { OnErr result (GivesSome (R.remaining reader.old) (R.remaining reader.new)) }
+    ensures err { OnErr result (GivesUpTo (length buffer.new) (R.remaining reader.old) (R.remaining reader.new)) }
 {
     let mut filled = 0;
     for _ in 0..u64::MAX {
@@ -129,8 +129,8 @@ pub fn read_raw<R: Read>(alloc: Global, reader: &mut R) -> Result<Option<Raw>, W
 /// TooLong for a body of more than 2^24 bytes, before the kind is read; else BadKind for a kind
 /// that is none, before the body is read; else Truncated where the input ends within the frame;
 /// else BadBody where the body is not of its kind. Io where the reader fails, and NoMemory where
-/// memory is refused: some bytes of the frame are taken then. The memory for a body grows with the
-/// bytes that come, not with the length that is stated.
+/// memory is refused: some bytes of the frame are taken then, and none behind it. The memory for a
+/// body grows with the bytes that come, not with the length that is stated.
 pub fn read_frame<R: Read>(alloc: Global, reader: &mut R) -> Result<Option<Frame>, WireFault>
     ensures { OnBytes (R.remaining reader.old) (R.remaining reader.new) (IsCutBy frame_cut result) }
 {

@@ -12,7 +12,7 @@ use Rattle.clap.specs.ValueTests.{accepts}
 use Rattle.clap.specs.declared.builder.action.ArgAction.TheVariants.{SetTrue}
 use Rattle.clap.specs.declared.builder.value_parser.ValueParser.TheVariants.{Unsigned}
 use Rattle.lines.specs.declared.line.Line.{Line}
-use Rattle.lines.specs.declared.line.Line.TheVariants.{Check, Log, New, Node, Run, Seq, Show}
+use Rattle.lines.specs.declared.line.Line.TheVariants.{Check, Extend, Log, New, Node, Run, Seq, Show}
 
 -- ---- the arguments
 
@@ -61,17 +61,18 @@ new_command =
     with_rule (on_disk (codes "new")) (number_option (codes "sectors") 8 131072 (codes "4096"))
 
 -- 1 to 64 nodes, batches of 1 to 2^32 - 1 messages, and as many rounds; a checkpoint each so many
--- rounds, 1 to 1,000,000; programs of their own as nodes, one of which is cut short; and nodes that
--- work at one time
+-- rounds, 1 to 1,000,000; programs of their own as nodes, one of which is cut short; nodes that work
+-- at one time; and programs that are not started, but waited for
 abbrev pub run_command : App
-run_command = with_rule (with_rule (with_rule (with_rule (with_rule (with_rule
+run_command = with_rule (with_rule (with_rule (with_rule (with_rule (with_rule (with_rule
     (with_rule (on_disk (codes "run")) (number_option (codes "nodes") 1 64 (codes "1")))
     (number_option (codes "batch") 1 4294967295 (codes "16")))
     (number_option (codes "rounds") 1 4294967295 (codes "1000000")))
     (optional_number (codes "checkpoint") 1 1000000))
     (optional_path (codes "sockets")))
     (optional_number (codes "cut") 0 4294967295))
-    (flag (codes "together"))
+    (flag (codes "together")))
+    (flag (codes "attach"))
 
 -- a node behind a socket, for 1 to 2^32 - 1 replies
 abbrev pub node_command : App
@@ -92,9 +93,10 @@ without_commands called = record (new_app called) {
 -- the program of this name
 abbrev pub program : Text → App
 program called = with_subcommand (with_subcommand (with_subcommand (with_subcommand (with_subcommand
-    (with_subcommand (with_subcommand (without_commands called) new_command.top) run_command.top)
-    (on_disk (codes "log")).top) (on_disk (codes "show")).top) (on_model (codes "seq")).top)
-    (on_model (codes "check")).top) node_command.top
+    (with_subcommand (with_subcommand (with_subcommand (without_commands called) new_command.top)
+    run_command.top) (on_disk (codes "extend")).top) (on_disk (codes "log")).top)
+    (on_disk (codes "show")).top) (on_model (codes "seq")).top) (on_model (codes "check")).top)
+    node_command.top
 
 -- ---- building them
 
@@ -149,7 +151,7 @@ abbrev pub SaysRows : Line → Text → List Row → Type 0
 SaysRows (New model disk sectors) name rows = (name ≡ codes "new")
     × SaysDisk model.now disk.now rows
     × (sectors ≡ number_in (codes "sectors") 8 131072 rows)
-SaysRows (Run model disk nodes batch rounds checkpoint sockets cut together) name rows =
+SaysRows (Run model disk nodes batch rounds checkpoint sockets cut together attach) name rows =
     (name ≡ codes "run")
     × SaysDisk model.now disk.now rows
     × (nodes ≡ number_in (codes "nodes") 1 64 rows)
@@ -159,6 +161,8 @@ SaysRows (Run model disk nodes batch rounds checkpoint sockets cut together) nam
     × (option_map (λ path. path.now) sockets ≡ first_of (codes "sockets") rows)
     × (cut ≡ optional_number_in (codes "cut") 0 4294967295 rows)
     × IsFlagIn (codes "together") rows together
+    × IsFlagIn (codes "attach") rows attach
+SaysRows (Extend model disk) name rows = (name ≡ codes "extend") × SaysDisk model.now disk.now rows
 SaysRows (Log model disk) name rows = (name ≡ codes "log") × SaysDisk model.now disk.now rows
 SaysRows (Show model disk) name rows = (name ≡ codes "show") × SaysDisk model.now disk.now rows
 SaysRows (Seq model) name rows =
@@ -181,13 +185,13 @@ pub record Says (called : Text) (words : List Text) (line : Line) : Type 0 where
 -- the numbers of a line lie in their ranges
 abbrev pub IsRanged : Line → Type 0
 IsRanged (New model disk sectors) = (8 ≤ sectors) × (sectors ≤ 131072)
-IsRanged (Run model disk nodes batch rounds checkpoint sockets cut together) =
+IsRanged (Run model disk nodes batch rounds checkpoint sockets cut together attach) =
     (1 ≤ nodes) × (nodes ≤ 64) × (1 ≤ batch) × (1 ≤ rounds)
 IsRanged (Node model socket parcels) = 1 ≤ parcels
 IsRanged _ = ⊤
 
 -- the name is that of a command
 abbrev pub is_named : Text → Type 0
-is_named name = (name ≡ codes "new") ⊎ ((name ≡ codes "run") ⊎ ((name ≡ codes "log")
-    ⊎ ((name ≡ codes "show") ⊎ ((name ≡ codes "seq") ⊎ ((name ≡ codes "check")
-    ⊎ (name ≡ codes "node"))))))
+is_named name = (name ≡ codes "new") ⊎ ((name ≡ codes "run") ⊎ ((name ≡ codes "extend")
+    ⊎ ((name ≡ codes "log") ⊎ ((name ≡ codes "show") ⊎ ((name ≡ codes "seq")
+    ⊎ ((name ≡ codes "check") ⊎ (name ≡ codes "node")))))))

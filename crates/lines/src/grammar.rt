@@ -35,6 +35,7 @@ pub fn program<'a>(alloc: Global, texts: Texts<'a>) -> Result<Command<'a>, Alloc
     } = texts;
     let program = with_command(Ok(without_commands(alloc, name, help)), new(alloc));
     let program = with_command(program, run(alloc));
+    let program = with_command(program, on_disk(alloc, "extend", EXTEND_ABOUT, EXTEND_HELP));
     let program = with_command(program, on_disk(alloc, "log", LOG_ABOUT, LOG_HELP));
     let program = with_command(program, on_disk(alloc, "show", SHOW_ABOUT, SHOW_HELP));
     let program = with_command(program, on_model(alloc, "seq", SEQ_ABOUT, seq_help));
@@ -76,7 +77,8 @@ Faults:
   Log ..       the disk: NotBlank (it has a log), NotFormatted, Corrupt, Disk ..
   Recovery ..  the disk is of another simulation (OtherModel), or is damaged
   Session ..   a run stops: Full (the disk has no room), Recovery .., Disk, NoMemory, or
-               Port .. (a node's program ended, or answered what is no reply)
+               Port .. (a node's program ended, or answered what is no reply); or 'extend' does:
+               EndRefused (the end is not a later one), or as a run
   Rounds       all rounds of a run are made, and it is not at its end
   World ..     'seq' stops: NoMemory, or NumberLimit past 2^63 messages of one process
   Wire ..      'node' stops: Truncated, TooLong, BadKind, BadBody (what came is no frame that
@@ -117,11 +119,9 @@ fn run<'a>(alloc: Global) -> Result<Command<'a>, AllocError>
     let command = with_argument(command, checkpoint);
     let sockets = optional_path(alloc, "sockets", "DIR", SOCKETS_HELP);
     let cut = optional_number(alloc, "cut", "I", 0, 4_294_967_295, CUT_HELP);
-    let together = flag(alloc, "together", TOGETHER_HELP);
-    with_argument(
-        with_argument(with_argument(command, sockets), cut),
-        together,
-    )
+    let command = with_argument(with_argument(command, sockets), cut);
+    let command = with_argument(command, flag(alloc, "together", TOGETHER_HELP));
+    with_argument(command, flag(alloc, "attach", ATTACH_HELP))
 }
 
 const RUN_ABOUT: &str = "Runs a model on its disk, from the last commit to its end";
@@ -140,6 +140,8 @@ const CUT_HELP: &str = "Ends the program of node I after one reply, to see what 
 
 const TOGETHER_HELP: &str = "Hands work to all nodes before a reply is taken, so they work at once";
 
+const ATTACH_HELP: &str = "Starts no node programs: waits for them to connect, in any order";
+
 const RUN_HELP: &str = "\
 In a round each node has its turn, and what no rollback can reach any more is committed.
 Whatever ends the run, what was committed stands on the disk, and the next run goes on there.
@@ -151,9 +153,21 @@ With --sockets the run starts this program as 'node' for each node, waits for it
 removes its socket. DIR is to be a folder of your own (mode 700): whoever may write into it can
 answer in a node's place. Sockets that a killed run left there have to be removed by hand.
 
+With --attach as well it starts none of them: each node I is to be started as 'node MODEL DIR/nodeI'
+once its socket is there, in any order, and the run begins when all have connected.
+
 Output:
   node NODE ran N           messages that the node handled, those too that were undone again
   committed TIME events N   ticks, and events in the log";
+
+const EXTEND_ABOUT: &str = "Carries a disk on past the end for which it was made";
+
+const EXTEND_HELP: &str = "\
+The model file is that of the disk, but with a later end. From then on it is the disk's model file:
+'run' goes on to that end, and one with another end is refused. What is committed stays.
+
+Output:
+  extended E0 to E1   the end before and this one, in ticks";
 
 const LOG_ABOUT: &str = "Prints the committed events of a disk";
 

@@ -44,6 +44,16 @@ pub enum Line<'a> {
         cut: Option<u32>,
         /// Whether all nodes are posted to before a reply is taken.
         together: bool,
+        /// Whether the programs behind the sockets are not started by the run, which waits until
+        /// they connect.
+        attach: bool,
+    },
+    /// Carry a disk on to a later end.
+    Extend {
+        /// The path of the model file, which has that end.
+        model: &'a str,
+        /// The path of the disk's file.
+        disk: &'a str,
     },
     /// Print the committed events of a disk.
     Log {
@@ -125,6 +135,11 @@ fn line_of<'a>(name: &str, values: &ArgMatches<'a>) -> Line<'a>
             sockets: optional_text(values, "sockets"),
             cut: optional_number(values, "cut", 0, u32::MAX),
             together: is_flagged(values, "together"),
+            attach: is_flagged(values, "attach"),
+        },
+        "extend" => Line::Extend {
+            model,
+            disk: text(values, "DISK"),
         },
         "log" => Line::Log {
             model,

@@ -2,7 +2,7 @@
 use Rattle.std.specs.Io.KnownBytes.{Appends}
 use Rattle.std.specs.Prelude.{◌≡◌, ◌⊎◌, ◌≢◌, ℕ, List, Option, Result, Ok, Err, OnOk, OnErr}
 use Rattle.std.proofs.Common.{refl, inl, inr}
-use Rattle.commands.specs.Commands.{BeginsCommitted, PrintsCommitted, TellsRun, TellsRunOver, ran_text}
+use Rattle.commands.specs.Commands.{BeginsCommitted, PrintsCommitted, TellsExtended, TellsRun, TellsRunOver, extended_text, ran_text}
 use Rattle.commands.specs.declared.fault.CommandFault.{CommandFault}
 use Rattle.commands.specs.declared.fault.CommandFault.TheVariants as on_disk
 use Rattle.disk.specs.Disk.{DiskState}
@@ -12,7 +12,7 @@ use Rattle.model.specs.World.{World}
 use Rattle.model.specs.Meaning.{Meaning}
 use Rattle.texts.specs.ModelFile.{IsModelFile}
 use Rattle.wire.specs.Port.{PortState}
-use Rattle.program.specs.Command.{Begins, Describes, IsCommitted, IsRan, IsRanBehind, IsWhole, Prints, PrintsBeginning, PrintsRun, run_text}
+use Rattle.program.specs.Command.{Begins, Describes, IsCarriedOn, IsCommitted, IsRan, IsRanBehind, IsWhole, Prints, PrintsBeginning, PrintsRun, run_text}
 use Rattle.program.specs.declared.fault.Fault.{Fault}
 use Rattle.program.specs.declared.fault.Fault.TheVariants as fault
 
@@ -84,6 +84,31 @@ module _ {M : Type 0} (meaning : M → Meaning) (says : Describes M) (source : L
 
   pub ran_begun : (image : List (List ℕ)) (nodes : ℕ) (old new : Option (List ℕ)) → TellsRun (meaning model) end nodes image (TakesBeginning old new) → Begins (IsRan meaning says nodes) old new
   ran_begun image nodes old new p = ran_taken image nodes p
+
+  -- what is told of a later end
+  carried_taken : {Taken : List ℕ → Type 0} (begun left : DiskState) → TellsExtended (meaning model) end begun left Taken → (text : List ℕ) × IsCarriedOn meaning says text × Taken text
+  carried_taken begun left p = (
+    extended_text p.before end,
+    record {
+      source = source;
+      model = model;
+      end = end;
+      image = begun.reads;
+      before = p.before;
+      front = p.front;
+      file = file;
+      rises = p.rises;
+      replayed = p.replayed;
+      is = refl;
+    },
+    p.taken,
+  )
+
+  pub carried_printed : (begun left : DiskState) (old new : Option (List ℕ)) → TellsExtended (meaning model) end begun left (Appends old new) → Prints (IsCarriedOn meaning says) old new
+  carried_printed begun left old new p = carried_taken begun left p
+
+  pub carried_begun : (begun left : DiskState) (old new : Option (List ℕ)) → TellsExtended (meaning model) end begun left (TakesBeginning old new) → Begins (IsCarriedOn meaning says) old new
+  carried_begun begun left old new p = carried_taken begun left p
 
 module _ {M : Type 0} (meaning : M → Meaning) (says : Describes M) {old new : Option (List ℕ)} where
   module _ (source : List ℕ) (model : M) (end : ℕ) (file : IsModelFile says source model end) where

@@ -1,17 +1,18 @@
 -- What the program prints (this project's profile).
 use Rattle.std.specs.Io.KnownBytes.{Appends}
 use Rattle.std.specs.Prelude.{◌≡◌, ◌≤◌, ℕ, List, [], ◌++◌, None, Option, Some, codes, length}
-use Rattle.commands.specs.Commands.{StandsUpto, formatted_text, ran_text}
+use Rattle.commands.specs.Commands.{StandsUpto, extended_text, formatted_text, ran_text}
 use Rattle.commands.specs.declared.fault.CommandFault.{CommandFault}
 use Rattle.commands.specs.declared.fault.CommandFault.TheVariants as on_disk
 use Rattle.disk.specs.declared.file.FileFault.{FileFault}
 use Rattle.disk.specs.declared.file.FileFault.TheVariants as opening
 use Rattle.driver.specs.Driver.{IsRunOf}
+use Rattle.recovery.specs.Ends.{IsLater}
 use Rattle.recovery.specs.Replay.{IsReplayedTo}
 use Rattle.recovery.specs.Stands.{IsGenuine}
 use Rattle.lines.specs.Line.{Says}
 use Rattle.lines.specs.declared.line.Line.{Line}
-use Rattle.lines.specs.declared.line.Line.TheVariants.{Check, Log, New, Node, Run, Seq, Show}
+use Rattle.lines.specs.declared.line.Line.TheVariants.{Check, Extend, Log, New, Node, Run, Seq, Show}
 use Rattle.model.specs.Meaning.{Meaning}
 use Rattle.model.specs.World.{IsUpto, World}
 use Rattle.toml.specs.Data.{Members}
@@ -99,6 +100,21 @@ pub record IsRan {M : Type 0} (meaning : M → Meaning) (says : Describes M)
   pub genuine : IsGenuine (meaning model) end image → IsRunOf (meaning model) end time events
   pub is : text ≡ ran_text ran time events
 
+-- The end that was in force on a disk, whose image is replayed under it, and the later one of the model
+-- file.
+pub record IsCarriedOn {M : Type 0} (meaning : M → Meaning) (says : Describes M)
+    (text : List ℕ) : Type 0 where
+  pub source : List ℕ
+  pub model : M
+  pub end : ℕ
+  pub image : List (List ℕ)
+  pub before : ℕ
+  pub front : World
+  pub file : IsModelFile says source model end
+  pub rises : IsLater before end
+  pub replayed : IsReplayedTo (meaning model) before image front
+  pub is : text ≡ extended_text before end
+
 -- What programs behind sockets told that each node handled, and the time that was reached, not
 -- before the end, with a number of events. No more is promised of a run over such programs.
 pub record IsRanBehind {M : Type 0} (says : Describes M) (nodes : ℕ) (text : List ℕ) : Type 0 where
@@ -166,8 +182,9 @@ IsRanOver meaning says (Some folder) nodes text = IsRanBehind says nodes text
 -- a text that the command of a line prints
 abbrev pub IsOutput : {M : Type 0} → (M → Meaning) → Describes M → Shows M → Line → List ℕ → Type 0
 IsOutput meaning says shows (New model disk sectors) text = IsFormatted sectors text
-IsOutput meaning says shows (Run model disk nodes batch rounds checkpoint sockets cut together) text =
+IsOutput meaning says shows (Run model disk nodes batch rounds checkpoint sockets cut together attach) text =
     IsRanOver meaning says sockets nodes text
+IsOutput meaning says shows (Extend model disk) text = IsCarriedOn meaning says text
 IsOutput meaning says shows (Log model disk) text = IsLogged meaning says text
 IsOutput meaning says shows (Show model disk) text = IsShown meaning says text
 IsOutput meaning says shows (Seq model) text = IsWhole meaning says text

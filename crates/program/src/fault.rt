@@ -71,7 +71,10 @@ impl Fault {
             Fault::Log(LogFault::NotFormatted) => Some("`new` makes a log on a disk"),
             Fault::Recovery(RecoveryFault::OtherModel)
             | Fault::Session(SessionFault::Recovery(RecoveryFault::OtherModel)) => {
-                Some("the disk was made for another model, or for another end")
+                Some("the disk was made for another model, or another end is in force on it")
+            }
+            Fault::Session(SessionFault::EndRefused) => {
+                Some("the model file has to have a later end than the one in force on the disk")
             }
             Fault::Session(SessionFault::Full) => Some(
                 "the disk has no room for the next commit: what is committed stays; a larger \

@@ -15,7 +15,7 @@ use disk::FileDisk;
 use driver::Plan;
 use serving::serve;
 use sockets::SocketPort;
-use std::alloc::Global;
+use std::alloc::{AllocError, Global};
 use std::fs::{self, File};
 use std::io::{self, Error as IoError, ErrorKind, Write};
 use std::net::Net;
@@ -35,17 +35,20 @@ pub(crate) struct Behind<'a> {
     pub model: &'a str,
     /// The folder of the sockets.
     pub folder: &'a str,
-    /// The node whose program ends after one reply.
+    /// The node whose program ends after one reply, where it is started.
     pub cut: Option<u32>,
+    /// Whether no program is started: those that connect are waited for.
+    pub attach: bool,
 }
 
 /// What has to be cleared up of a node: the socket's file, which this run has made, its listener,
-/// and the program, where it was started.
+/// the program, where it was started, and the connection, where it came before it was asked for.
 #[derive(Drop)]
 struct Met<P: OpenProcess + Drop> {
     path: String,
     listener: Option<UnixListener>,
     child: Option<Child<P>>,
+    stream: Option<UnixStream>,
 }
 
 /// Runs the model of a file on its disk, over node programs.
@@ -54,6 +57,9 @@ struct Met<P: OpenProcess + Drop> {
 /// socket is not made, a program is not started, or one ends before it connects, or `NoMemory`;
 /// those of the run. Whatever the end is, the connections are closed then, each program that was
 /// started is waited for, and each socket that was made is removed. What fails in that is not told.
+///
+/// Where no program is started, the run waits without limit until each node has connected, in
+/// whichever order they come, and tells `progress` which ones it waits for.
 pub(crate) fn run_behind<M, R, P, O>(
     rt: &R,
     behind: Behind<'_>,
@@ -78,7 +84,7 @@ where
     let disk = FileDisk::open(rt, rt.alloc(), disk, None)?;
     let mut met = Vec::with_capacity(rt.alloc(), plan.nodes as usize)?;
     // the one way out from here on leads through the clearing up
-    let told = match meet(rt, behind, plan.nodes, &mut met) {
+    let told = match meet(rt, behind, plan.nodes, &mut met, progress) {
         Ok(ports) => run_met(rt.alloc(), &of, ports, disk, plan, progress, out),
         Err(fault) => Err(fault),
     };
@@ -116,16 +122,19 @@ where
     Ok(ended.told?)
 }
 
-/// A port to each of so many node programs: all sockets are made, all programs started, and a
-/// connection of each is taken. What has to be cleared up is in `met`, whatever is answered.
-fn meet<R>(
+/// A port to each of so many node programs: all sockets are made, all programs started or waited
+/// for, and a connection of each is taken. What has to be cleared up is in `met`, whatever is
+/// answered.
+fn meet<R, P>(
     rt: &R,
     behind: Behind<'_>,
     nodes: u32,
     met: &mut Vec<Met<R::Started>>,
+    progress: &mut P,
 ) -> Result<Vec<SocketPort<UnixStream>>, Fault>
 where
     R: Files<File = File> + Net + Processes + Clock + AllocGlobal,
+    P: Progress,
     requires { length met.old.items ≡ 0 }
     ensures { IfOk result (λ ports.
         map (λ p. state_of p.held) ports.items ≡ replicate nodes (state_of Fresh)) }
@@ -134,7 +143,7 @@ where
         bind(rt, behind.folder, node, met)?;
     }
     let met = met.as_mut_slice();
-    start_all(rt, behind, met)?;
+    gather(rt, behind, met, progress)?;
     accept_all(rt, met)
 }
 
@@ -153,8 +162,106 @@ where
         path,
         listener: Some(listener),
         child: None,
+        stream: None,
     });
     nonblocking.map_err(unreadable)
+}
+
+/// Starts the program of each node, or waits until each has connected.
+fn gather<R, P>(
+    rt: &R,
+    behind: Behind<'_>,
+    met: &mut [Met<R::Started>],
+    progress: &mut P,
+) -> Result<(), Fault>
+where
+    R: Processes + Clock + AllocGlobal,
+    P: Progress,
+{
+    if behind.attach {
+        await_all(rt, met, progress)
+    } else {
+        start_all(rt, behind, met)
+    }
+}
+
+/// Takes a connection of each node's program in whichever order they come, for which it looks at
+/// all sockets once a millisecond. `progress` is told which nodes it waits for, each time that one
+/// has come.
+fn await_all<R, P>(rt: &R, met: &mut [Met<R::Started>], progress: &mut P) -> Result<(), Fault>
+where
+    R: Processes + Clock + AllocGlobal,
+    P: Progress,
+{
+    let mut has_come = true;
+    for _ in 0..u64::MAX {
+        if has_come {
+            let absent = absent(rt.alloc(), met)?;
+            progress.waiting(absent.as_slice());
+            if absent.is_empty() {
+                return Ok(());
+            }
+        }
+        has_come = take_arrived(met).map_err(unreadable)?;
+        if !has_come {
+            thread::sleep(rt, Duration::from_millis(1));
+        }
+    }
+    Err(unreadable(IoError::from(ErrorKind::TimedOut)))
+}
+
+/// The nodes whose programs have not connected.
+fn absent<P>(alloc: Global, met: &[Met<P>]) -> Result<Vec<usize>, AllocError>
+where
+    P: OpenProcess + Drop,
+{
+    let mut absent = Vec::with_capacity(alloc, met.len())?;
+    for (node, met) in met.iter().enumerate() {
+        if met.stream.is_none() {
+            absent.push(node)?;
+        }
+    }
+    Ok(absent)
+}
+
+/// Looks at each socket once, and takes the connections that are there; whether there was one.
+fn take_arrived<P>(met: &mut [Met<P>]) -> io::Result<bool>
+where
+    P: OpenProcess + Drop,
+{
+    let mut has_come = false;
+    for node in met.iter_mut() {
+        if has_arrived(node)? {
+            has_come = true;
+        }
+    }
+    Ok(has_come)
+}
+
+/// Takes the connection that is there for a node; whether there was one. Behind it the socket takes
+/// no other.
+fn has_arrived<P>(met: &mut Met<P>) -> io::Result<bool>
+where
+    P: OpenProcess + Drop,
+{
+    let accepted = match &met.listener {
+        Some(listener) => listener.accept(),
+        None => return Ok(false),
+    };
+    match accepted {
+        Ok((stream, _)) => {
+            met.stream = Some(stream);
+            met.listener = None;
+            Ok(true)
+        }
+        Err(error) => {
+            if error.kind() == ErrorKind::WouldBlock {
+                Ok(false)
+            } else {
+                Err(error)
+            }
+        }
+    }
 }
 
 /// Starts the program of each node.
@@ -205,13 +312,16 @@ where
     Ok(ports)
 }
 
-/// The connection of a node's program, for which it looks once a millisecond; an error where the
-/// program has ended and there is none.
+/// The connection of a node's program: the one that has come, or that for which it looks once a
+/// millisecond; an error where the program has ended and there is none.
 fn accept<R, P>(rt: &R, met: &mut Met<P>) -> io::Result<UnixStream>
 where
     R: Clock,
     P: OpenProcess + Drop,
 {
+    if let Some(stream) = met.stream.take() {
+        return Ok(stream);
+    }
     for _ in 0..u64::MAX {
         // asked first, so that a program which connects and then ends is still met
         let has_ended = match &mut met.child {
@@ -244,6 +354,7 @@ where
     // a program that was not accepted yet sees its end where its listener is closed
     for node in met.iter_mut() {
         node.listener = None;
+        node.stream = None;
     }
     for node in met.iter_mut() {
         if let Some(child) = &mut node.child {

@@ -10,6 +10,9 @@ pub trait Progress: Watch {
     /// A run begins that ends at this tick.
     fn begin(&mut self, end: u64);
 
+    /// A run waits until the programs of these nodes have connected; of none, where all have.
+    fn waiting(&mut self, nodes: &[usize]);
+
     /// Something else is about to be printed: what is shown of the run is taken away.
     fn clear(&mut self);
 
@@ -17,8 +20,9 @@ pub trait Progress: Watch {
     fn failed(&mut self, fault: Fault);
 }
 
-/// Shows on one line of a terminal how far a run has come, at most twice a second, and after a
-/// fault what to do about it. It shows nothing where there is no terminal.
+/// Shows on one line of a terminal which nodes a run waits for, and how far it has come, at most
+/// twice a second, and after a fault what to do about it. It shows nothing where there is no
+/// terminal.
 #[derive(Drop)]
 pub struct TerminalProgress<'c, C, T> {
     clock: &'c C,
@@ -43,6 +47,10 @@ impl<'c, C: Clock, T: Write> TerminalProgress<'c, C, T> {
         }
     }
 }
+
+/// How many of the nodes that are waited for are named, so that the line is not longer than most
+/// terminals are wide.
+const NAMED: usize = 4;
 
 impl<C: Clock, T: Write> Watch for TerminalProgress<'_, C, T> {
     fn committed(&mut self, time: u64, events: usize) {
@@ -84,6 +92,28 @@ impl<C: Clock, T: Write> Watch for TerminalProgress<'_, C, T> {
 impl<C: Clock, T: Write> Progress for TerminalProgress<'_, C, T> {
     fn begin(&mut self, end: u64) {
         self.end = end;
+    }
+
+    fn waiting(&mut self, nodes: &[usize]) {
+        if nodes.is_empty() {
+            self.clear();
+            return;
+        }
+        let Some(terminal) = &mut self.terminal else {
+            return;
+        };
+        let _ = terminal.write_all(b"\rwaits for");
+        for (place, node) in nodes.iter().take(NAMED).enumerate() {
+            let comma = if place == 0 { "" } else { "," };
+            let _ = write!(terminal, "{comma} node {node}");
+        }
+        let more = nodes.len().saturating_sub(NAMED);
+        if more > 0 {
+            let _ = write!(terminal, " and {more} more");
+        }
+        let _ = terminal.write_all(b"\x1b[K");
+        let _ = terminal.flush();
+        self.is_written = true;
     }
 
     fn clear(&mut self) {

@@ -7,7 +7,7 @@ ghost use Rattle.clap.specs.Words.{fault_of};
 ghost use Rattle.lines.specs.Line.{program, IsRanged};
 ghost use Rattle.program.specs.Command.{Begins, BeginsSaid, IsOutput, Prints, PrintsSaid};
 
-use crate::disks::{format, log_of, run_on, show_of};
+use crate::disks::{extend_on, format, log_of, run_on, show_of};
 use crate::fault::Fault;
 use crate::files::{check_of, seq_of};
 use crate::nodes::{Behind, run_behind, serve_on};
@@ -51,8 +51,9 @@ pub fn words<R: Env + AllocGlobal>(rt: &R) -> IoResult<Vec<String>> {
 /// What is asked for is written to `out`, which is flushed at the end. A run tells `progress` how
 /// far it has come, and so does each command of its fault, after that is told.
 ///
-/// A run over node programs starts the program of the first word for each node. At its end, and
-/// after any fault, it waits for them, and removes the sockets that it made.
+/// A run over node programs starts the program of the first word for each node, or waits until
+/// programs that others started have connected. At its end, and after any fault, it waits for those
+/// that it started, and removes the sockets that it made.
 pub fn command<M, R, S, P, O, E>(
     rt: &R,
     about: About<'_>,
@@ -181,6 +182,7 @@ where
             sockets,
             cut,
             together,
+            attach,
         } => {
             let plan = Plan {
                 nodes,
@@ -197,11 +199,13 @@ where
                         model,
                         folder,
                         cut,
+                        attach,
                     };
                     run_behind::<M, R, P, O>(rt, behind, disk, plan, progress, out)
                 }
             }
         }
+        Line::Extend { model, disk } => extend_on::<M, R, O>(rt, model, disk, out),
         Line::Log { model, disk } => log_of::<M, R, O>(rt, model, disk, out),
         Line::Show { model, disk } => show_of::<M, R, O>(rt, model, disk, out),
         Line::Seq { model } => seq_of::<M, R, O>(rt, model, out),

@@ -1,4 +1,6 @@
 pub mod Headers
+pub mod EndBytes
+pub mod Later
 pub mod Bodies
 pub mod Givings
 pub mod Snapshots
@@ -11,6 +13,7 @@ pub mod Causes
 pub mod Filled
 pub mod Replaying
 pub mod Logs
+pub mod Told
 pub mod Loadable
 pub mod Disks
 pub mod Fronts

@@ -3,6 +3,7 @@
 pub mod Header
 pub mod Bodies
 pub mod Checkpoints
+pub mod Ends
 pub mod Contents
 pub mod Replay
 pub mod Stands

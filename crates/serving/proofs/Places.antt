@@ -8,7 +8,7 @@ use Rattle.node.specs.Handling.{Node}
 use Rattle.frames.specs.Cutting.{Cut, cut}
 use Rattle.frames.specs.Streams.{Finds, IsCutBy, OnBytes}
 use Rattle.frames.specs.declared.stream.Raw.{Raw}
-use Rattle.frames.proofs.Cuts.{front_of}
+use Rattle.frames.proofs.Cuts.{within_of}
 use Rattle.serving.specs.Reactions.{Reacts, reaction}
 use Rattle.serving.specs.Serving.{Turn, ends, goes_on, next_turn, on_found, parcel_turn, stops, turn_to}
 use Rattle.serving.specs.Told.{IsTurn, TurnTells}
@@ -49,11 +49,11 @@ module _ (m : Meaning) (n : Node) where
   next_fault fault bytes rest e = ap (λ (c : Cut Raw). on_found c.rest (parcel_turn false m n c.rest) c.found) e
 
   fault_at : (old : Option (List ℕ)) (fault : WireFault) (x y : List ℕ) → Finds (cut x) (Err fault) y → IsTurn m n n old old (Err fault) x y
-  fault_at old fault x y h = record { lacks = false; front = front_of x y (Err fault) h; tells = turn_stops_at fault (next_turn false m n x) y old n (next_fault fault x y h) }
+  fault_at old fault x y h = record { lacks = false; within = within_of x y (Err fault) h; tells = turn_stops_at fault (next_turn false m n x) y old n (next_fault fault x y h) }
 
   not_read_at : (old : Option (List ℕ)) (fault : WireFault) (x y : List ℕ) → IsCutBy cut (Err fault) x y → IsTurn m n n old old (Err fault) x y
-  not_read_at old wire.Io x y h = record { lacks = false; front = h; tells = begins_none old (next_turn false m n x).text }
-  not_read_at old wire.NoMemory x y h = record { lacks = false; front = h; tells = begins_none old (next_turn false m n x).text }
+  not_read_at old wire.Io x y h = record { lacks = false; within = h; tells = begins_none old (next_turn false m n x).text }
+  not_read_at old wire.NoMemory x y h = record { lacks = false; within = h; tells = begins_none old (next_turn false m n x).text }
   not_read_at old wire.Truncated x y h = fault_at old wire.Truncated x y h
   not_read_at old wire.TooLong x y h = fault_at old wire.TooLong x y h
   not_read_at old wire.BadKind x y h = fault_at old wire.BadKind x y h
@@ -69,7 +69,7 @@ module _ (m : Meaning) (n : Node) where
   turn_ended old a b h =
       on_map a b (IsCutBy cut (Ok None)) (IsTurn m n n old old (Ok false)) (λ x y k. record {
         lacks = false;
-        front = front_of x y (Ok None) k;
+        within = within_of x y (Ok None) k;
         tells = subst (λ (t : Turn). TurnTells t y old old (Ok false) n) (sym (next_none x y k)) (refl, Appends-nil old, refl);
       }) h
 
@@ -78,13 +78,13 @@ module _ (m : Meaning) (n v : Node) (old new : Option (List ℕ)) (raw : Raw) wh
   refused_at : (fault : WireFault) (x y : List ℕ) → Reacts m n v raw (Err fault) → Finds (cut x) (Ok (Some raw)) y → IsTurn m n v old old (Err fault) x y
   refused_at fault x y (lacks, inl is) h = record {
     lacks = lacks;
-    front = front_of x y (Ok (Some raw)) h;
+    within = within_of x y (Ok (Some raw)) h;
     tells = turn_stops_at fault (next_turn lacks m n x) y old v (next_found m n lacks x y raw h ∙ ap (turn_to y (reaction lacks m n raw).node) (sym is.0));
   }
   refused_at fault x y (lacks, inr none) h =
       let memory : fault ≡ wire.NoMemory = cc in
       subst (λ (f : WireFault). IsTurn m n v old old (Err f) x y) (sym memory)
-      (record { lacks = lacks; front = front_of x y (Ok (Some raw)) h; tells = begins_none old (next_turn lacks m n x).text })
+      (record { lacks = lacks; within = within_of x y (Ok (Some raw)) h; tells = begins_none old (next_turn lacks m n x).text })
 
   pub turn_refused : (a b : Option (List ℕ)) (fault : WireFault) (result : Result Bool WireFault) → IsErrAnd result (λ e. e ≡ fault) → OnBytes a b (IsCutBy cut (Ok (Some raw))) →
       Reacts m n v raw (Err fault) → OnBytes a b (IsTurn m n v old old result)
@@ -108,7 +108,7 @@ module _ (m : Meaning) (n v : Node) (old new : Option (List ℕ)) (raw : Raw) wh
   turn_answered a b response h r w =
       on_map a b (IsCutBy cut (Ok (Some raw))) (IsTurn m n v old new (Ok response.goes_on)) (λ x y k.
       let t = responded response x y r k in
-      record { lacks = t.0; front = front_of x y (Ok (Some raw)) k; tells = wrote_all response.goes_on response.frame y (next_turn t.0 m n x) t.1 w }) h
+      record { lacks = t.0; within = within_of x y (Ok (Some raw)) k; tells = wrote_all response.goes_on response.frame y (next_turn t.0 m n x) t.1 w }) h
 
   text_of : (more : Bool) (frame y : List ℕ) → (cond more (goes_on y frame v) (ends y frame)).text ≡ frame
   text_of true frame y = refl
@@ -122,4 +122,4 @@ module _ (m : Meaning) (n v : Node) (old new : Option (List ℕ)) (raw : Raw) wh
       (on_map a b (IsCutBy cut (Ok (Some raw))) (IsTurn m n v old new (Err wire.Io)) (λ x y k.
       let t = responded response x y r k in
       let text : (next_turn t.0 m n x).text ≡ response.frame = ap (λ (t : Turn). t.text) t.1 ∙ text_of response.goes_on response.frame y in
-      record { lacks = t.0; front = front_of x y (Ok (Some raw)) k; tells = subst (TakesBeginning old new) (sym text) w }) h)
+      record { lacks = t.0; within = within_of x y (Ok (Some raw)) k; tells = subst (TakesBeginning old new) (sym text) w }) h)

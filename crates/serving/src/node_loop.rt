@@ -70,7 +70,7 @@ fn serve_parcels<M: Simulated, R: Read, W: Write>(
 /// Truncated, TooLong, BadKind and BadBody where the stream has such a fault before any such end,
 /// TooLong also for a reply of more than 2^24 bytes: all replies before it are written then. Io
 /// where the reader or the writer fails, NoMemory where memory is refused for a frame: a beginning
-/// of the text is written then. One frame is held at a time.
+/// of the text is written then, and nothing behind that frame is read. One frame is held at a time.
 pub fn serve<M: Simulated, R: Read, W: Write>(
     alloc: Global,
     model: &M,

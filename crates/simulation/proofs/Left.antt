@@ -1,32 +1,39 @@
 -- What the calls leave of a disk.
-use Rattle.std.proofs.Common.{inl, inr, subst, sym, arith, refl, ◌∙◌}
+use Rattle.std.proofs.Common.{false, inl, inr, subst, sym, arith, refl, ◌∙◌}
 use Rattle.std.proofs.lemmas.Bool.{cases_Bool, false≢true}
 use Rattle.std.specs.Prelude.{◌≡◌, ◌≢◌, ◌≤◌, ◌^◌, ℕ, List, [], IfErr, OnOk, Result, Ok, Err, slice_index_or}
 use Rattle.commitlog.specs.Faults.{FormatIsRefused}
-use Rattle.commitlog.specs.Log.{IsDurable}
+use Rattle.commitlog.specs.Log.{IsDurable, Opened}
+use Rattle.commitlog.specs.declared.records.Entry.{Entry}
 use Rattle.commitlog.specs.Records.{Holds, IsBlank, IsBlankOrEmptyLog, IsFormatted, is_open}
 use Rattle.commitlog.specs.declared.fault.LogFault.{LogFault}
-use Rattle.commitlog.specs.declared.fault.LogFault.TheVariants.{Corrupt, Disk, Full, NoMemory, NotBlank, NotFormatted, Spent, TooLong}
+use Rattle.commitlog.specs.declared.fault.LogFault.TheVariants.{Corrupt, Disk, Full, NoMemory as NoMemoryOfLog, NotBlank, NotFormatted, Spent, TooLong}
 use Rattle.disk.specs.declared.disk.DiskFault.TheVariants.{Device, NoSuchSector}
 use Rattle.coordinator.proofs.Begun.{recovers-genuine}
 use Rattle.coordinator.proofs.Driving.{followed_by}
 use Rattle.coordinator.specs.Crashes.{KeepsRecovery, Recovers}
-use Rattle.coordinator.specs.Opening.{LeavesExactly}
+use Rattle.coordinator.specs.Opening.{IsAtFault, LeavesExactly}
 use Rattle.disk.specs.Disk.{DiskState, IsDisk, IsFirm, LeavesOnly, MayLeave, OnlyLooks}
 use Rattle.disk.specs.Laws.{followed, reads_left, weaker}
 use Rattle.model.specs.Meaning.{IsLawful, Meaning}
 use Rattle.model.specs.World.{IsUpto, World, opening}
 use Rattle.recovery.proofs.Images.{empty_log_stands, image_stands_for_one}
+use Rattle.recovery.specs.Causes.{IsFirstAtFault}
+use Rattle.recovery.specs.Ends.{IsEnd, IsOurs}
 use Rattle.recovery.specs.Header.{header_bytes, header_of}
+use Rattle.recovery.specs.Recovered.{RecoveryIsRefused}
 use Rattle.recovery.specs.Stands.{IsGenuine, Stands, StandsAtLeast}
-use Rattle.simulation.specs.Simulation.{IsBlankOrStands, IsBlankOrStandsSo, PreparingIsRefused}
+use Rattle.recovery.specs.declared.RecoveryFault.{RecoveryFault}
+use Rattle.recovery.specs.declared.RecoveryFault.TheVariants.{BadCheckpoint, BadEnd, BadRecord, GoesBack, Log as LogOfRecovery, NoMemory, NotTheLeast, NumberLimit, OtherModel}
+use Rattle.coordinator.proofs.Extensions.{log-on, ours-of}
+use Rattle.simulation.specs.Simulation.{IsBlankOrStands, IsBlankOrStandsSo, IsNotRecovered, PreparingIsRefused}
 use Rattle.simulation.specs.declared.fault.SimulationFault.{SimulationFault}
 use Rattle.simulation.specs.declared.fault.SimulationFault.TheVariants.{Log}
 
-module _ (m : Meaning) (end : ℕ) (header : List ℕ) (is : header ≡ header_bytes (header_of m end)) where
+module _ (m : Meaning) (end : ℕ) (header : List ℕ) (is : header ≡ header_bytes (header_of m end)) (possible : IsEnd end) where
   -- an empty log stands for the opening world, whatever a crash leaves
   pub empty_stands : (disk : DiskState) → IsDurable header [] disk → LeavesExactly m end (opening m) disk
-  empty_stands disk durable = λ image left. empty_log_stands m end image ((subst (λ (bytes : List ℕ). IsDurable bytes [] disk) is durable).crash image left)
+  empty_stands disk durable = λ image left. empty_log_stands m end image possible ((subst (λ (bytes : List ℕ). IsDurable bytes [] disk) is durable).crash image left)
 
   -- and so at each moment of its making
   pub making_stands : (old new : DiskState) → (IsFirm old.loose → IsBlank old.reads → LeavesOnly old new (IsBlankOrEmptyLog header))
@@ -34,7 +41,7 @@ module _ (m : Meaning) (end : ℕ) (header : List ℕ) (is : header ≡ header_b
   making_stands old new made firm blank = weaker old new (IsBlankOrEmptyLog header) (IsBlankOrStands m end (opening m)) (made firm blank)
       (λ image left. elim left [
         | inl none ↦ inl none
-        | inr empty ↦ inr (empty_log_stands m end image (subst (λ (bytes : List ℕ). Holds bytes [] image) is empty))
+        | inr empty ↦ inr (empty_log_stands m end image possible (subst (λ (bytes : List ℕ). Holds bytes [] image) is empty))
       ])
 
 module _ (m : Meaning) (end a : ℕ) where
@@ -81,13 +88,13 @@ prepared_genuine m end old mid law short sound made looks genuine = elim (cases_
 pub no_earlier : (m : Meaning) (end a : ℕ) (disk : DiskState) (w : World) → IsLawful m → end ≤ 2 ^ 40 → IsDisk disk.reads disk.loose → Recovers m end a disk → Stands m end disk.reads w → a ≤ w.time
 no_earlier m end a disk w law short sound recovers stands =
     let least = recovers disk.reads (reads_left disk.reads disk.loose sound) in
-    subst (λ (v : World). a ≤ v.time) (image_stands_for_one m end disk.reads least.world w law short least.stands stands) least.time
+    subst (λ (v : World). a ≤ v.time) (image_stands_for_one m end end disk.reads least.world w law least.stands stands).1 least.time
 
 -- no log is made: one is there, or why
 no_log : (fault : LogFault) (image : List (List ℕ)) (failed : Type 0) → fault ≢ NotBlank → FormatIsRefused fault image failed → PreparingIsRefused (Log fault) image failed
 no_log NotFormatted image failed other h = h
 no_log Corrupt image failed other h = h
-no_log NoMemory image failed other h = h
+no_log NoMemoryOfLog image failed other h = h
 no_log (Disk Device) image failed other h = h
 no_log (Disk NoSuchSector) image failed other h = h
 no_log NotBlank image failed other h = absurd (other refl)
@@ -107,3 +114,26 @@ module _ (fault : LogFault) (image : List (List ℕ)) (failed : Type 0) (refused
 -- and what is committed in the end is that of the end
 pub at_end : (m : Meaning) (end g : ℕ) (w : World) → IsUpto m end g w → g ≤ end → end ≤ g → IsUpto m end end w
 at_end m end g w upto soon late = (let same : g ≡ end = omega arith in subst (λ (t : ℕ). IsUpto m end t w) same upto)
+
+-- why a log is not recovered is why the image is not that it was opened on
+at_fault : (m : Meaning) (end : ℕ) (header : List ℕ) (records : List Entry) (image : List (List ℕ)) (fault : RecoveryFault) → Holds header records image → (ours : IsOurs m end header records) → IsFirstAtFault m ours.first records fault → IsAtFault m end image fault
+at_fault m end header records image fault held ours why = record { entries = records; log = log-on m end header records image ours held; first = why }
+
+pub not_recovered : {D : Type 0} (m : Meaning) (end : ℕ) (log : Opened D) (image : List (List ℕ)) (fault : RecoveryFault) (failed ever : Type 0) → (failed → ever) → log.spent ≡ false → Holds log.header log.records image → RecoveryIsRefused m end log fault failed → IsNotRecovered m end image fault ever
+not_recovered m end log image OtherModel failed ever so usable held h = (held.formatted, λ entries there. h.1 (ours-of m end log.header log.records entries image there held))
+not_recovered m end log image BadRecord failed ever so usable held h = at_fault m end log.header log.records image BadRecord held h.1 h.2
+not_recovered m end log image NotTheLeast failed ever so usable held h = at_fault m end log.header log.records image NotTheLeast held h.1 h.2
+not_recovered m end log image GoesBack failed ever so usable held h = at_fault m end log.header log.records image GoesBack held h.1 h.2
+not_recovered m end log image BadCheckpoint failed ever so usable held h = at_fault m end log.header log.records image BadCheckpoint held h.1 h.2
+not_recovered m end log image BadEnd failed ever so usable held h = at_fault m end log.header log.records image BadEnd held h.1 h.2
+not_recovered m end log image NumberLimit failed ever so usable held h = at_fault m end log.header log.records image NumberLimit held h.1 h.2
+not_recovered m end log image NoMemory failed ever so usable held h = tt
+not_recovered m end log image (LogOfRecovery NoMemoryOfLog) failed ever so usable held h = tt
+not_recovered m end log image (LogOfRecovery (Disk Device)) failed ever so usable held h = so h.2
+not_recovered m end log image (LogOfRecovery (Disk NoSuchSector)) failed ever so usable held h = absurd h
+not_recovered m end log image (LogOfRecovery NotBlank) failed ever so usable held h = absurd h
+not_recovered m end log image (LogOfRecovery NotFormatted) failed ever so usable held h = absurd h
+not_recovered m end log image (LogOfRecovery Corrupt) failed ever so usable held h = absurd h
+not_recovered m end log image (LogOfRecovery Full) failed ever so usable held h = absurd h
+not_recovered m end log image (LogOfRecovery TooLong) failed ever so usable held h = absurd h
+not_recovered m end log image (LogOfRecovery Spent) failed ever so usable held h = (let no = sym usable ∙ h in absurd cc)

@@ -1,8 +1,9 @@
 -- What a simulation on a disk leaves and tells, and why a call is refused (this project's profile).
-use Rattle.std.specs.Prelude.{◌≡◌, ℕ, List, [], ◌⊎◌, slice_index_or}
+use Rattle.std.specs.Prelude.{ℕ, List, ◌⊎◌}
 use Rattle.commitlog.specs.Faults.{FormatIsRefused, OpenIsRefused}
 use Rattle.commitlog.specs.Records.{IsBlank, IsFormatted}
 use Rattle.commitlog.specs.declared.fault.LogFault.TheVariants as log
+use Rattle.commitlog.specs.declared.records.Entry.{Entry}
 use Rattle.coordinator.specs.Opening.{IsAtFault}
 use Rattle.disk.specs.declared.disk.DiskFault.TheVariants.{Device}
 use Rattle.disk.specs.declared.file.FileFault.{FileFault}
@@ -11,7 +12,7 @@ use Rattle.driver.specs.declared.rounds.RunFault.{RunFault}
 use Rattle.driver.specs.declared.rounds.RunFault.TheVariants as run
 use Rattle.model.specs.Meaning.{Meaning}
 use Rattle.model.specs.World.{World}
-use Rattle.recovery.specs.Header.{header_bytes, header_of}
+use Rattle.recovery.specs.Ends.{HoldsLog}
 use Rattle.recovery.specs.Stands.{Stands, StandsAtLeast}
 use Rattle.recovery.specs.declared.RecoveryFault.{RecoveryFault}
 use Rattle.recovery.specs.declared.RecoveryFault.TheVariants as recovery
@@ -36,15 +37,15 @@ PreparingIsRefused (Log log.NotBlank) image failed = ⊥
 PreparingIsRefused (Log fault) image failed = FormatIsRefused fault image failed
 PreparingIsRefused fault image failed = ⊥
 
--- Why no world is recovered from the log of an image: want of memory, a device that failed, a
--- header of another model or end, or the first record that is at fault.
+-- Why no world is recovered from the log of an image: want of memory, a device that failed, that it is
+-- no log of this model with this end in force, or the first record that is at fault.
 abbrev pub IsNotRecovered : Meaning → ℕ → List (List ℕ) → RecoveryFault → Type 0 → Type 0
 IsNotRecovered m end image recovery.NoMemory failed = Unit {0}
 IsNotRecovered m end image (recovery.Log log.NoMemory) failed = Unit {0}
 IsNotRecovered m end image (recovery.Log (log.Disk Device)) failed = failed
 IsNotRecovered m end image (recovery.Log fault) failed = ⊥
 IsNotRecovered m end image recovery.OtherModel failed =
-    IsFormatted image × (slice_index_or image 1 [] ≡ header_bytes (header_of m end) → ⊥)
+    IsFormatted image × ((entries : List Entry) → HoldsLog m end entries image → ⊥)
 IsNotRecovered m end image fault failed = IsAtFault m end image fault
 
 -- why what is committed is not read

@@ -139,6 +139,7 @@ fn disks_and_logs_name_their_faults(rt: HostRuntime) -> Result<(), Fail> {
         NoMemory => "NoMemory",
         NumberLimit => "NumberLimit",
         Log(LogFault::Corrupt) => "Log Corrupt",
+        BadEnd => "BadEnd",
     });
     Ok(())
 }
@@ -158,6 +159,7 @@ fn sessions_and_runs_name_their_faults(rt: HostRuntime) -> Result<(), Fail> {
         TooLong => "TooLong",
         Recovery(RecoveryFault::OtherModel) => "Recovery OtherModel",
         Spent => "Spent",
+        EndRefused => "EndRefused",
     });
     check_names!(rt; RunFault {
         Session(SessionFault::Full) => "Session Full",

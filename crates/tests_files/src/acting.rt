@@ -1,6 +1,7 @@
 // Scripts: what is done with two model files and a disk, and what has to come of it.
 
 use crate::running::run;
+use disk::FileDisk;
 use std::alloc::{AllocError, Global};
 use std::env;
 use std::fs::{self, File};
@@ -13,10 +14,16 @@ use std::test::Fail;
 pub enum Act {
     /// These words are a command that is done, and writes this text.
     Prints(&'static str, &'static str),
+    /// These words are a command that is done, whatever it writes.
+    Does(&'static str),
     /// These words are a command that fails (status 1), and tells this.
     Fails(&'static str, &'static str),
+    /// The same while somebody has the disk open to write.
+    FailsWhileHeld(&'static str, &'static str),
     /// `log` and then `show` write what `seq` writes, of this model.
     EndsAsSeq(&'static str),
+    /// The other model file becomes this text.
+    Writes(&'static str),
     /// The disk is removed.
     Removes,
     /// The disk is as it was at the act before of this name, if there was one.
@@ -58,7 +65,7 @@ impl Stage {
 }
 
 /// The path of a file of this name.
-fn path_of<R: Env + AllocGlobal>(rt: &R, script: &str, file: &str) -> Result<String, Fail> {
+pub fn path_of<R: Env + AllocGlobal>(rt: &R, script: &str, file: &str) -> Result<String, Fail> {
     let folder = env::temp_dir(rt)?;
     let folder = folder.as_path().to_str().ok_or("a path of text")?;
     Ok(format!(in rt.alloc(); "{folder}/timewarp-{script}-{file}")?)
@@ -81,7 +88,7 @@ where
 }
 
 /// Removes a file, if it is there.
-fn remove<R: Files<File = File>>(rt: &R, path: &str) -> Result<(), Fail> {
+pub fn remove<R: Files<File = File>>(rt: &R, path: &str) -> Result<(), Fail> {
     if fs::exists(rt, path)? {
         fs::remove_file(rt, path)?;
     }
@@ -116,6 +123,17 @@ where
     Ok(())
 }
 
+/// Runs a command that has to be done.
+fn look_at_done<R>(rt: &R, line: &str, stage: &Stage) -> Result<(), Fail>
+where
+    R: Files<File = File> + Net + Processes + Clock + Abort + AllocGlobal,
+{
+    let words = words_of(rt.alloc(), line, stage)?;
+    let told = run(rt, words.as_slice())?;
+    assert!(rt; told.err.is_empty() && told.status == 0, "{line}");
+    Ok(())
+}
+
 /// What `log` writes and then `show`, and whether both are done.
 fn ended<R>(rt: &R, model: &str, disk: &str) -> Result<(Vec<u8>, bool), Fail>
 where
@@ -140,7 +158,7 @@ where
 }
 
 /// Looks whether the disk is as it was seen, if it was, and sees it.
-fn look_at_disk<R>(rt: &R, disk: &str, seen: &mut Vec<u8>) -> Result<(), Fail>
+pub fn look_at_disk<R>(rt: &R, disk: &str, seen: &mut Vec<u8>) -> Result<(), Fail>
 where
     R: Files<File = File> + Abort + AllocGlobal,
 {
@@ -196,7 +214,13 @@ where
     let disk = stage.disk.as_str();
     match act {
         Act::Prints(line, out) => look_at_command(rt, line, stage, (0, out, "")),
+        Act::Does(line) => look_at_done(rt, line, stage),
         Act::Fails(line, err) => look_at_command(rt, line, stage, (1, "", err)),
+        Act::FailsWhileHeld(line, err) => {
+            let _held = FileDisk::open(rt, rt.alloc(), disk, None)?;
+            look_at_command(rt, line, stage, (1, "", err))
+        }
+        Act::Writes(text) => Ok(fs::write(rt, stage.other.as_str(), *text)?),
         Act::EndsAsSeq(model) => look_at_end(rt, stage.word(model), disk),
         Act::Removes => remove(rt, disk),
         Act::Stays => look_at_disk(rt, disk, seen),

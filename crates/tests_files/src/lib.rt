@@ -7,6 +7,12 @@ mod acting;
 #[cfg(test)]
 mod damage;
 #[cfg(test)]
+mod later;
+#[cfg(test)]
+mod programs;
+#[cfg(test)]
 mod running;
 #[cfg(test)]
 mod scripts;
+#[cfg(test)]
+mod streams;

@@ -10,7 +10,7 @@ use std::rt::{Clock, Files};
 use std::test::Fail;
 use texts::ANY_MODEL_KEYS;
 
-const ABOUT: About<'static> = About {
+pub const ABOUT: About<'static> = About {
     name: "timewarp",
     example: "examples/ring.toml",
     keys: ANY_MODEL_KEYS,

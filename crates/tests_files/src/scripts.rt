@@ -226,6 +226,39 @@ const MORE_PLANS: Script = Script {
     ],
 };
 
+/// All nodes are posted to before a reply is taken.
+const TOGETHER: Script = Script {
+    name: "together",
+    model: PHOLD,
+    other: RING,
+    acts: &[
+        Act::Does("new MODEL DISK"),
+        Act::Does("run MODEL DISK --nodes 1 --batch 1 --together"),
+        Act::EndsAsSeq("MODEL"),
+        Act::Removes,
+        Act::Does("new MODEL DISK"),
+        Act::Does("run MODEL DISK --nodes 1 --batch 7 --together"),
+        Act::EndsAsSeq("MODEL"),
+        Act::Removes,
+        Act::Does("new MODEL DISK"),
+        Act::Does("run MODEL DISK --nodes 2 --batch 1 --together"),
+        Act::EndsAsSeq("MODEL"),
+        Act::Removes,
+        Act::Does("new MODEL DISK"),
+        Act::Does("run MODEL DISK --nodes 2 --batch 7 --together"),
+        Act::EndsAsSeq("MODEL"),
+        Act::Removes,
+        Act::Does("new MODEL DISK"),
+        Act::Does("run MODEL DISK --nodes 5 --batch 1 --together"),
+        Act::EndsAsSeq("MODEL"),
+        Act::Removes,
+        Act::Does("new MODEL DISK"),
+        Act::Does("run MODEL DISK --nodes 5 --batch 7 --together"),
+        Act::EndsAsSeq("MODEL"),
+        Act::Removes,
+    ],
+};
+
 /// The record of a checkpoint of the ring at time 10: its kind, the length of its body, the time, the
 /// send number and the state of each process, and the one pending message.
 const RECORD: [u8; 108] = [
@@ -375,7 +408,8 @@ fn a_run_ends_by_its_rounds(rt: HostRuntime) -> Result<(), Fail> {
 #[test]
 fn every_plan_comes_to_the_plain_end(rt: HostRuntime) -> Result<(), Fail> {
     play(&rt, &PLANS)?;
-    play(&rt, &MORE_PLANS)
+    play(&rt, &MORE_PLANS)?;
+    play(&rt, &TOGETHER)
 }
 
 #[test]

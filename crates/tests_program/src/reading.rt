@@ -19,7 +19,7 @@ fn is_refused_as(alloc: Global, words: &[&str], want: ErrorKind) -> bool {
 }
 
 /// The words of a line, and what it asks for.
-const READ: [(&[&str], Line<'static>); 12] = [
+const READ: [(&[&str], Line<'static>); 14] = [
     (
         &["timewarp", "seq", "examples/ring.toml"],
         Line::Seq {
@@ -74,6 +74,7 @@ const READ: [(&[&str], Line<'static>); 12] = [
             sockets: None,
             cut: None,
             together: false,
+            attach: false,
         },
     ),
     (
@@ -98,6 +99,7 @@ const READ: [(&[&str], Line<'static>); 12] = [
             sockets: None,
             cut: None,
             together: false,
+            attach: false,
         },
     ),
     (
@@ -123,6 +125,29 @@ const READ: [(&[&str], Line<'static>); 12] = [
             sockets: Some("c"),
             cut: Some(0),
             together: true,
+            attach: false,
+        },
+    ),
+    (
+        &["timewarp", "run", "--attach", "a", "b", "--sockets=c"],
+        Line::Run {
+            model: "a",
+            disk: "b",
+            nodes: 1,
+            batch: 16,
+            rounds: 1_000_000,
+            checkpoint: None,
+            sockets: Some("c"),
+            cut: None,
+            together: false,
+            attach: true,
+        },
+    ),
+    (
+        &["timewarp", "extend", "a", "b"],
+        Line::Extend {
+            model: "a",
+            disk: "b",
         },
     ),
     (
@@ -151,7 +176,7 @@ fn a_line_names_a_command_and_its_values(rt: HostRuntime) {
 }
 
 /// The words of a line that is refused, and the kind.
-const REFUSED: [(&[&str], ErrorKind); 17] = [
+const REFUSED: [(&[&str], ErrorKind); 20] = [
     (&["timewarp", "seq"], ErrorKind::MissingRequiredArgument),
     (&["timewarp", "seq", "a", "b"], ErrorKind::UnknownArgument),
     (
@@ -179,8 +204,20 @@ const REFUSED: [(&[&str], ErrorKind); 17] = [
         ErrorKind::TooManyValues,
     ),
     (
+        &["timewarp", "run", "a", "b", "--attach=true"],
+        ErrorKind::TooManyValues,
+    ),
+    (
         &["timewarp", "run", "a"],
         ErrorKind::MissingRequiredArgument,
+    ),
+    (
+        &["timewarp", "extend", "a"],
+        ErrorKind::MissingRequiredArgument,
+    ),
+    (
+        &["timewarp", "extend", "a", "b", "--end", "20"],
+        ErrorKind::UnknownArgument,
     ),
     // Numbers out of their ranges.
     (

@@ -87,3 +87,31 @@ fn a_terminal_shows_what_to_do_about_a_fault(rt: HostRuntime) -> Result<(), Fail
     );
     Ok(())
 }
+
+#[test]
+fn the_nodes_that_are_waited_for_are_shown_until_all_are_there(
+    rt: HostRuntime,
+) -> Result<(), Fail> {
+    let clock = Ticking {
+        looks: std::cell::Cell::new(0),
+    };
+    let mut terminal = Vec::with_capacity(rt.alloc(), 512)?;
+    let mut shown = TerminalProgress::on(&clock, Some(&mut terminal));
+    shown.waiting(&[]);
+    shown.waiting(&[0, 1, 2, 5, 9, 63]);
+    shown.waiting(&[0, 1, 2, 63]);
+    shown.waiting(&[0, 2]);
+    shown.waiting(&[]);
+    shown.waiting(&[]);
+    assert_eq!(rt;
+        terminal.as_slice(),
+        b"\rwaits for node 0, node 1, node 2, node 5 and 2 more\x1b[K\
+          \rwaits for node 0, node 1, node 2, node 63\x1b[K\
+          \rwaits for node 0, node 2\x1b[K\r\x1b[K"
+            .as_slice()
+    );
+    let mut shown = TerminalProgress::on(&clock, None::<Vec<u8>>);
+    shown.waiting(&[0]);
+    shown.waiting(&[]);
+    Ok(())
+}

@@ -228,7 +228,7 @@ const PROGRAM: &[&str] = &["timewarp", "--help"];
 const SEQ: &[&str] = &["timewarp", "seq", "--help"];
 
 /// Lines that are mistaken or ask for help, and a part of what is told.
-const USAGES: [(&[&str], &str); 32] = [
+const USAGES: [(&[&str], &str); 35] = [
     (&[], "Usage: timewarp <COMMAND>"),
     (&["timewarp"], "Usage: timewarp <COMMAND>"),
     (&["timewarp", "seq"], "<MODEL>"),
@@ -247,6 +247,8 @@ const USAGES: [(&[&str], &str); 32] = [
         "4294967296 is not in 0..=4294967295",
     ),
     (&["timewarp", "run", "a", "b", "--together=true"], "'true'"),
+    (&["timewarp", "run", "a", "b", "--attach=true"], "'true'"),
+    (&["timewarp", "extend", "a"], "<DISK>"),
     (&["timewarp", "run", "a"], "<DISK>"),
     (
         &["timewarp", "new", "a", "b", "--sectors", "7"],
@@ -267,6 +269,10 @@ const USAGES: [(&[&str], &str); 32] = [
     (PROGRAM, "  seq "),
     (PROGRAM, "  BadModel     the file is no model file"),
     (PROGRAM, "  2  a mistake in the command line, or help\n"),
+    (
+        &["timewarp", "run", "--help"],
+        "'node MODEL DIR/nodeI'\nonce its socket is there",
+    ),
     (SEQ, "Runs a model to its end"),
     (SEQ, "Usage: timewarp seq <MODEL>"),
     (SEQ, "lps         processes, 1 to 1024\n"),

@@ -9,6 +9,8 @@
 #[cfg(test)]
 mod disks;
 #[cfg(test)]
+mod extending;
+#[cfg(test)]
 mod openings;
 #[cfg(test)]
 mod plain;

@@ -14,7 +14,7 @@ use std::test::Fail;
 
 /// Is told of no commit.
 #[derive(Clone, Copy)]
-struct Nobody;
+pub(crate) struct Nobody;
 
 impl Watch for Nobody {
     fn committed(&mut self, _time: u64, _events: usize) {}
@@ -66,7 +66,12 @@ pub(crate) fn disk_of(alloc: Global, image: Vec<u8>) -> Result<MemDisk, Fail> {
 }
 
 /// The front of an image, up to this end.
-fn front_of<M: Model>(alloc: Global, model: &M, image: Vec<u8>, end: u64) -> Result<Front, Fail>
+pub(crate) fn front_of<M: Model>(
+    alloc: Global,
+    model: &M,
+    image: Vec<u8>,
+    end: u64,
+) -> Result<Front, Fail>
     requires begun { 1 ≤ end }
     requires short { end ≤ 1000 }
 {

@@ -5,6 +5,8 @@
 #[cfg(test)]
 mod damage;
 #[cfg(test)]
+mod extended;
+#[cfg(test)]
 mod kept;
 #[cfg(test)]
 mod runs;

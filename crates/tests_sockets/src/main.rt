@@ -2,12 +2,18 @@
 //! program is `timewarp` where it is given words, and so is what it starts.
 #![tactic(auto)]
 
+mod attached;
 mod nodes;
 mod runs;
 
 use models::AnyModel;
 use program::{About, start, words};
-use std::process::ExitCode;
+use std::fs::File;
+use std::io;
+use std::net::Net;
+use std::process::{ExitCode, Processes};
+use std::rt::Files;
+use std::time::Clock;
 use texts::ANY_MODEL_KEYS;
 
 const ABOUT: About<'static> = About {
@@ -26,10 +32,7 @@ fn main(rt: HostRuntime) -> ExitCode {
     }
     let name = words.first().map(|word| word.as_str()).unwrap_or("");
     let mut report = Vec::new(rt.alloc());
-    let tried = match runs::try_all(&rt, name, &mut report) {
-        Ok(()) => nodes::try_all(&rt, name, &mut report),
-        Err(error) => Err(error),
-    };
+    let tried = try_all(&rt, name, &mut report);
     let text = str::from_utf8(report.as_slice()).unwrap_or("");
     let printed = print!(rt; "{text}");
     match (tried, printed) {
@@ -40,4 +43,14 @@ fn main(rt: HostRuntime) -> ExitCode {
         }
         _ => ExitCode::from(1),
     }
+}
+
+/// Tries all that is tried of the program of this name.
+fn try_all<R>(rt: &R, name: &str, report: &mut Vec<u8>) -> io::Result<()>
+where
+    R: Files<File = File> + Net + Processes + Clock + AllocGlobal + Clone + Drop,
+{
+    runs::try_all(rt, name, report)?;
+    attached::try_all(rt, name, report)?;
+    nodes::try_all(rt, name, report)
 }

@@ -12,11 +12,11 @@ use std::time::Clock;
 
 /// What the fault of a port begins with. Which of its faults it is where a peer is gone is left
 /// open.
-const PORT: &str = "timewarp: Session Port";
+pub const PORT: &str = "timewarp: Session Port";
 
 /// The commands that are tried, one after another, in a folder with `ring.toml` and `phold.toml`,
 /// and with an empty folder `S`. What `S` holds is told after each.
-const COMMANDS: [&[&str]; 29] = [
+const COMMANDS: [&[&str]; 31] = [
     &["new", "ring.toml", "d", "--sectors", "64"],
     &["run", "ring.toml", "d", "--nodes", "3", "--sockets", "S"],
     &["log", "ring.toml", "d"],
@@ -54,6 +54,8 @@ const COMMANDS: [&[&str]; 29] = [
         "--cut",
         "3",
     ],
+    // nor is a program waited for where there are none
+    &["run", "ring.toml", "whole", "--nodes", "3", "--attach"],
     // all nodes are posted to before a reply is taken
     &["new", "ring.toml", "t", "--sectors", "64"],
     &[
@@ -73,6 +75,7 @@ const COMMANDS: [&[&str]; 29] = [
     &["run", "bad.toml", "missing", "--sockets", "missing"],
     &["run", "ring.toml", "missing", "--sockets", "missing"],
     &["run", "ring.toml", "d", "--sockets", "missing"],
+    &["run", "ring.toml", "d", "--sockets", "missing", "--attach"],
     &["run", "ring.toml", "d", "--sockets"],
     &[
         "run",
@@ -185,7 +188,7 @@ where
 }
 
 /// Runs a command of the program of this name, and answers its status.
-fn ask<R>(
+pub fn ask<R>(
     rt: &R,
     name: &str,
     words: &[&str],

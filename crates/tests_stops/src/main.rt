@@ -1,22 +1,24 @@
 //! Runs a model on a disk in memory that stops at each of its writes in turn, or fails at each
 //! operation, crashes the disk, opens it over another number of nodes and goes on to the end, where
-//! the world must be that of the plain runner.
+//! the world must be that of the plain runner, and so must be what `log` and `show` print of the disk.
+//! The disk is made for that end, or for an earlier one, to which it is run first.
 #![tactic(auto)]
 
-ghost use Rattle.std.specs.Prelude.{◌≡◌, ◌≤◌, ◌<◌, ◌^◌};
+ghost use Rattle.std.specs.Prelude.{◌≡◌, ◌≤◌, ◌<◌, ◌^◌, IfOk};
 
 mod world;
 
+use commands::{CommandFault, log, show};
 use commitlog::{LogFault, format};
-use coordinator::{NotOpened, Session, SessionFault, Step};
+use coordinator::{Extended, NotOpened, Session, SessionFault, Step, extend};
 use disk::{MemDisk, Plan as DiskPlan, Torn};
 use driver::{Plan, RunFault, Watch, local_ports, run};
 use model::{World, WorldFault, WorldParts};
 use models::AnyModel;
-use recovery::header;
-use std::alloc::{AllocError, Global};
+use recovery::{RecoveryFault, header};
+use std::alloc::{AllocError, AllocFailed, Global};
 use std::{env, fs, io};
-use texts::{ModelFault, read_model};
+use texts::{ModelFault, read_model, write_log, write_world};
 use thiserror::Error;
 use wire::LocalPort;
 use world::is_front;
@@ -31,18 +33,28 @@ enum Loss {
     Front,
     #[error("a session goes on whose disk failed")]
     GoesOn,
+    #[error("an opening is refused whose disk did not fail")]
+    Opening,
     #[error("what a crash left is refused")]
     Disk,
+    #[error("what a crash left is opened under both ends, or under none")]
+    Ends,
+    #[error("a later end that was told is not in force")]
+    End,
+    #[error("a later end is not put in force, or not behind the one before")]
+    Extending,
     #[error("what was told is lost")]
     Told,
     #[error("the world at the end is not that of the plain run")]
     World,
+    #[error("what is printed of the disk at the end is not what the plain run prints")]
+    Text,
 }
 
 /// Why the stops were not all made, or what was lost at one of them.
 #[derive(Debug, Drop, Error)]
 enum Failure {
-    #[error("usage: tests_stops MODEL SECTORS, the path of a model file and the size of the disk")]
+    #[error("usage: tests_stops [--all] MODEL SECTORS .., paths of model files and sizes of their disks")]
     Usage,
     #[error("{0}")]
     Model(ModelFault),
@@ -52,6 +64,8 @@ enum Failure {
     Log(LogFault),
     #[error("{0}")]
     Run(RunFault),
+    #[error("{0}")]
+    Printed(CommandFault),
     #[error("NoMemory")]
     NoMemory,
     /// A disk or a session is not what the headline says.
@@ -63,6 +77,12 @@ enum Failure {
 
 impl From<AllocError> for Failure {
     fn from(_refused: AllocError) -> Failure {
+        Failure::NoMemory
+    }
+}
+
+impl<T: Drop> From<AllocFailed<T>> for Failure {
+    fn from(_refused: AllocFailed<T>) -> Failure {
         Failure::NoMemory
     }
 }
@@ -79,6 +99,12 @@ impl From<LogFault> for Failure {
     }
 }
 
+impl From<CommandFault> for Failure {
+    fn from(fault: CommandFault) -> Failure {
+        Failure::Printed(fault)
+    }
+}
+
 impl From<RunFault> for Failure {
     fn from(fault: RunFault) -> Failure {
         Failure::Run(fault)
@@ -89,8 +115,13 @@ impl From<RunFault> for Failure {
 #[derive(Drop)]
 struct Simulated {
     model: AnyModel,
+    /// The end for which the disk is made, in ticks, and to which it is run first.
+    first: u64,
+    /// The end to which it is carried on, in ticks: the first one, or a later one.
     end: u64,
     plain: WorldParts,
+    /// The log and the world of the plain run, as `seq` prints them.
+    text: Vec<u8>,
     formatted: Vec<u8>,
 }
 
@@ -102,7 +133,6 @@ struct Way {
     batch: u32,
     /// After how many rounds a checkpoint is made each time, or 0 for none.
     checkpoint_every: u32,
-    torn: Torn,
 }
 
 /// The time up to which a run told that all is committed, in ticks.
@@ -133,6 +163,25 @@ fn plain_world(alloc: Global, model: &AnyModel, end: u64) -> Result<World, Failu
     Ok(world)
 }
 
+/// What `seq` prints of the world of the plain run.
+fn text_of(alloc: Global, plain: &WorldParts) -> Result<Vec<u8>, Failure> {
+    let (states, numbers) = (plain.states.as_slice(), plain.numbers.as_slice());
+    if states.len() != numbers.len() {
+        return Err(Failure::Lost(Loss::World));
+    }
+    let mut text = Vec::new(alloc);
+    write_log(plain.log.as_slice(), &mut text).map_err(Failure::Output)?;
+    write_world(
+        plain.time,
+        states,
+        numbers,
+        plain.pending.as_slice(),
+        &mut text,
+    )
+    .map_err(Failure::Output)?;
+    Ok(text)
+}
+
 /// The bytes of a disk of so many sectors that is formatted for a model.
 fn formatted(alloc: Global, model: &AnyModel, end: u64, sectors: u32) -> Result<Vec<u8>, Failure>
     requires some { 1 ≤ end }
@@ -148,35 +197,98 @@ fn formatted(alloc: Global, model: &AnyModel, end: u64, sectors: u32) -> Result<
 struct Left {
     /// The time up to which it told that all is committed, in ticks.
     told: u64,
-    /// The bytes that a crash then leaves.
-    image: Vec<u8>,
+    /// Whether it told that the later end is in force.
+    extended: bool,
+    disk: MemDisk,
     /// Whether it came to its end before anything failed.
     ended: bool,
 }
 
-/// Runs on a disk that fails by this plan, and crashes it.
+/// Runs on a disk that fails by this plan: to the first end, and then to the later one.
 fn left_by(alloc: Global, of: &Simulated, way: Way, plan: DiskPlan) -> Result<Left, Failure>
     requires some { 0 < way.nodes }
     requires few { way.nodes ≤ 64 }
-    requires begun { 1 ≤ of.now.end }
+    requires begun { 1 ≤ of.now.first }
+    requires order { of.now.first ≤ of.now.end }
     requires short { of.now.end ≤ 2 ^ 40 }
 {
     let disk = disk_of(alloc, of.formatted.clone()?, plan)?;
     let mut told = Told { time: 0 };
-    let ports = local_ports(alloc, &of.model, way.nodes)?;
-    let (ended, disk) = match Session::open(alloc, &of.model, ports, disk, of.end) {
-        Ok(mut session) => {
-            let ended = is_run(alloc, &mut session, of.end, way, &mut told)?;
-            (ended, session.into_disk())
-        }
-        Err(NotOpened { fault: _, disk }) => (false, disk),
+    let (ended, disk) = run_to(alloc, of, of.first, way, disk, &mut told)?;
+    if !ended || of.first == of.end {
+        return Ok(Left {
+            told: told.time,
+            extended: false,
+            disk,
+            ended,
+        });
+    }
+    let (extended, disk) = carried_on(alloc, of, told.time, disk)?;
+    let (ended, disk) = if extended {
+        run_to(alloc, of, of.end, way, disk, &mut told)?
+    } else {
+        (false, disk)
     };
-    let image = disk.crash(alloc, way.torn)?;
     Ok(Left {
         told: told.time,
-        image,
+        extended,
+        disk,
         ended,
     })
+}
+
+/// Runs to an end, and answers whether it got there before the disk failed.
+fn run_to(
+    alloc: Global,
+    of: &Simulated,
+    end: u64,
+    way: Way,
+    disk: MemDisk,
+    told: &mut Told,
+) -> Result<(bool, MemDisk), Failure>
+    requires some { 0 < way.nodes }
+    requires few { way.nodes ≤ 64 }
+    requires begun { 1 ≤ end }
+    requires short { end ≤ 2 ^ 40 }
+{
+    let ports = local_ports(alloc, &of.model, way.nodes)?;
+    match Session::open(alloc, &of.model, ports, disk, end) {
+        Ok(mut session) => {
+            let ended = is_run(alloc, &mut session, end, way, told)?;
+            Ok((ended, session.into_disk()))
+        }
+        Err(NotOpened { fault, disk }) if is_of_disk(fault) => Ok((false, disk)),
+        Err(_refused) => Err(Failure::Lost(Loss::Opening)),
+    }
+}
+
+/// Whether the disk failed.
+fn is_of_disk(fault: SessionFault) -> bool {
+    matches!(
+        fault,
+        SessionFault::Disk | SessionFault::Recovery(RecoveryFault::Log(LogFault::Disk(_)))
+    )
+}
+
+/// Puts the later end in force, behind the first one, and answers whether that was told before the
+/// disk failed.
+fn carried_on(
+    alloc: Global,
+    of: &Simulated,
+    told: u64,
+    disk: MemDisk,
+) -> Result<(bool, MemDisk), Failure> {
+    match extend(alloc, &of.model, disk, of.end) {
+        Ok(
+            Extended {
+                front,
+                before,
+                disk,
+            },
+        ) if before == of.first && front.g >= told => Ok((true, disk)),
+        Err(NotOpened { fault, disk }) if is_of_disk(fault) => Ok((false, disk)),
+        _ => Err(Failure::Lost(Loss::Extending)),
+    }
 }
 
 /// Whether a session runs to its end. One whose disk fails is spent.
@@ -209,21 +321,22 @@ fn resumed(
     alloc: Global,
     of: &Simulated,
     way: Way,
-    told: u64,
-    image: Vec<u8>,
+    left: &Left,
+    image: &Vec<u8>,
 ) -> Result<(), Failure>
     requires some { 0 < way.resumed }
     requires few { way.resumed ≤ 64 }
-    requires begun { 1 ≤ of.now.end }
+    requires begun { 1 ≤ of.now.first }
+    requires order { of.now.first ≤ of.now.end }
     requires short { of.now.end ≤ 2 ^ 40 }
 {
-    let disk = disk_of(alloc, image, DiskPlan::default())?;
+    let disk = under_the_end(alloc, of, way.resumed, left, image)?;
     let ports = local_ports(alloc, &of.model, way.resumed)?;
     let mut session = match Session::open(alloc, &of.model, ports, disk, of.end) {
         Ok(session) => session,
-        Err(NotOpened { .. }) => return Err(Failure::Lost(Loss::Disk)),
+        Err(_refused) => return Err(Failure::Lost(Loss::Disk)),
     };
-    if session.front().time < told {
+    if session.front().time < left.told {
         return Err(Failure::Lost(Loss::Told));
     }
     let mut last = Told { time: 0 };
@@ -237,7 +350,92 @@ fn resumed(
     if !is_front(&of.plain, session.front()) {
         return Err(Failure::Lost(Loss::World));
     }
+    look_at_texts(alloc, of, &session.into_disk())
+}
+
+/// A disk with this image, on which the later end is put in force if the first one still is. It is
+/// opened under one of them, and not under the other.
+fn under_the_end(
+    alloc: Global,
+    of: &Simulated,
+    nodes: u32,
+    left: &Left,
+    image: &Vec<u8>,
+) -> Result<MemDisk, Failure>
+    requires some { 0 < nodes }
+    requires few { nodes ≤ 64 }
+    requires begun { 1 ≤ of.now.first }
+    requires order { of.now.first ≤ of.now.end }
+    requires short { of.now.end ≤ 2 ^ 40 }
+{
+    let disk = disk_of(alloc, image.clone()?, DiskPlan::default())?;
+    if of.first == of.end {
+        return Ok(disk);
+    }
+    let is_later = is_opened(alloc, of, of.end, nodes, image)?;
+    if is_later == is_opened(alloc, of, of.first, nodes, image)? {
+        return Err(Failure::Lost(Loss::Ends));
+    }
+    if is_later {
+        return Ok(disk);
+    }
+    if left.extended {
+        return Err(Failure::Lost(Loss::End));
+    }
+    match carried_on(alloc, of, left.told, disk)? {
+        (true, disk) => Ok(disk),
+        _ => Err(Failure::Lost(Loss::Extending)),
+    }
+}
+
+/// Whether a disk with this image is opened under an end. If not, it is since another is in force.
+fn is_opened(
+    alloc: Global,
+    of: &Simulated,
+    end: u64,
+    nodes: u32,
+    image: &Vec<u8>,
+) -> Result<bool, Failure>
+    requires some { 0 < nodes }
+    requires few { nodes ≤ 64 }
+    requires begun { 1 ≤ end }
+    requires short { end ≤ 2 ^ 40 }
+{
+    let disk = disk_of(alloc, image.clone()?, DiskPlan::default())?;
+    let ports = local_ports(alloc, &of.model, nodes)?;
+    match Session::open(alloc, &of.model, ports, disk, end) {
+        Ok(_session) => Ok(true),
+        Err(
+            NotOpened {
+                fault: SessionFault::Recovery(RecoveryFault::OtherModel),
+                ..
+            },
+        ) => Ok(false),
+        Err(_refused) => Err(Failure::Lost(Loss::Disk)),
+    }
+}
+
+/// What `log` and then `show` print of a disk, opened again, is what `seq` prints.
+fn look_at_texts(alloc: Global, of: &Simulated, disk: &MemDisk) -> Result<(), Failure>
+    requires begun { 1 ≤ of.now.end }
+    requires short { of.now.end ≤ 2 ^ 40 }
+{
+    let what = commands::Simulated {
+        model: of.model,
+        end: of.end,
+    };
+    let mut text = Vec::new(alloc);
+    log(alloc, &what, reopened(alloc, disk)?, &mut text)?;
+    show(alloc, &what, reopened(alloc, disk)?, &mut text)?;
+    if text.as_slice() != of.text.as_slice() {
+        return Err(Failure::Lost(Loss::Text));
+    }
     Ok(())
+}
+
+/// A disk with what is firm on this one.
+fn reopened(alloc: Global, disk: &MemDisk) -> Result<MemDisk, Failure> {
+    disk_of(alloc, disk.crash(alloc, Torn::Old)?, DiskPlan::default())
 }
 
 /// A disk in memory with this image, which is not too large.
@@ -270,15 +468,44 @@ enum At {
     Operation,
 }
 
-/// Lets a disk fail at each of its writes or operations in turn, and answers how many there were.
-fn stops(alloc: Global, of: &Simulated, way: Way, at: At) -> Result<u64, Failure>
+/// What a crash leaves in each loose sector: what is firm, what was written last, a fill, or a
+/// beginning of what was written.
+const TEARINGS: [Torn; 6] = [
+    Torn::Old,
+    Torn::New,
+    Torn::Fill(0),
+    Torn::Fill(1),
+    Torn::Cut(1),
+    Torn::Cut(100),
+];
+
+/// How often disks failed, and of how many different images runs were resumed.
+#[derive(Clone, Copy, Default)]
+struct Counts {
+    stops: u64,
+    images: u64,
+}
+
+impl Counts {
+    fn and(self, other: Counts) -> Counts {
+        Counts {
+            stops: self.stops.saturating_add(other.stops),
+            images: self.images.saturating_add(other.images),
+        }
+    }
+}
+
+/// Lets a disk fail at each of its writes or operations in turn.
+fn stops(alloc: Global, of: &Simulated, way: Way, at: At) -> Result<Counts, Failure>
     requires some { 0 < way.nodes }
     requires few { way.nodes ≤ 64 }
     requires next { 0 < way.resumed }
     requires next_few { way.resumed ≤ 64 }
-    requires begun { 1 ≤ of.now.end }
+    requires begun { 1 ≤ of.now.first }
+    requires order { of.now.first ≤ of.now.end }
     requires short { of.now.end ≤ 2 ^ 40 }
 {
+    let mut counts = Counts::default();
     for number in 0..u64::MAX {
         let plan = match at {
             At::Write => DiskPlan {
@@ -290,98 +517,215 @@ fn stops(alloc: Global, of: &Simulated, way: Way, at: At) -> Result<u64, Failure
                 stop: None,
             },
         };
-        let Left { told, image, ended } = left_by(alloc, of, way, plan)?;
-        resumed(alloc, of, way, told, image)?;
-        if ended {
-            return Ok(number);
+        let left = left_by(alloc, of, way, plan)?;
+        let images = crashes(alloc, of, way, &left)?;
+        counts = counts.and(Counts { stops: 0, images });
+        if left.ended {
+            return Ok(counts);
         }
+        counts = counts.and(Counts {
+            stops: 1,
+            images: 0,
+        });
     }
-    Ok(u64::MAX)
+    Ok(counts)
 }
 
-/// Stops runs over so many nodes, resumed over so many, in each way, prints how often, and answers
-/// the sum.
+/// Crashes what a run left in each way, resumes the run on each image that is another, and answers how
+/// many there are.
+fn crashes(alloc: Global, of: &Simulated, way: Way, left: &Left) -> Result<u64, Failure>
+    requires next { 0 < way.resumed }
+    requires next_few { way.resumed ≤ 64 }
+    requires begun { 1 ≤ of.now.first }
+    requires order { of.now.first ≤ of.now.end }
+    requires short { of.now.end ≤ 2 ^ 40 }
+{
+    let mut images: Vec<Vec<u8>> = Vec::new(alloc);
+    for torn in TEARINGS {
+        let image = left.disk.crash(alloc, torn)?;
+        if !images.contains(&image) {
+            resumed(alloc, of, way, left, &image)?;
+            images.push(image)?;
+        }
+    }
+    Ok(images.len() as u64)
+}
+
+/// How runs are made whose disks fail: the batches, each with the rounds between checkpoints.
+type Ways<'a> = &'a [(u32, u32)];
+
+/// Short turns and longer ones, without checkpoints and with them.
+const WAYS: Ways<'static> = &[(1, 0), (7, 0), (1, 3), (7, 1)];
+
+/// Turns of the length that a run has unless it is told another.
+const USUAL_WAYS: Ways<'static> = &[(16, 0), (16, 2)];
+
+/// Some of both, for disks that are carried on, whose runs are longer.
+const SOME_WAYS: Ways<'static> = &[(7, 1)];
+
+const SOME_USUAL_WAYS: Ways<'static> = &[(16, 0)];
+
+/// Lets disks of runs fail over so many nodes, resumed over so many, in each of these ways, and prints
+/// how often.
 fn all_ways(
     rt: &HostRuntime,
     alloc: Global,
     of: &Simulated,
     nodes: u32,
     resumed: u32,
-) -> Result<u64, Failure>
+    ways: Ways<'_>,
+) -> Result<Counts, Failure>
     requires some { 0 < nodes }
     requires few { nodes ≤ 64 }
     requires next { 0 < resumed }
     requires next_few { resumed ≤ 64 }
-    requires begun { 1 ≤ of.now.end }
+    requires begun { 1 ≤ of.now.first }
+    requires order { of.now.first ≤ of.now.end }
     requires short { of.now.end ≤ 2 ^ 40 }
 {
-    let mut total: u64 = 0;
-    for (batch, checkpoint_every) in [(1, 0), (7, 0), (1, 3), (7, 1)] {
-        for torn in [Torn::Old, Torn::New, Torn::Fill(1)] {
-            let way = Way {
-                nodes,
-                resumed,
-                batch,
-                checkpoint_every,
-                torn,
-            };
-            let writes = stops(alloc, of, way, At::Write)?;
-            let operations = stops(alloc, of, way, At::Operation)?;
-            tell(rt, way, writes, operations)?;
-            total = total.saturating_add(writes).saturating_add(operations);
-        }
+    let mut total = Counts::default();
+    for (batch, checkpoint_every) in ways {
+        let way = Way {
+            nodes,
+            resumed,
+            batch: *batch,
+            checkpoint_every: *checkpoint_every,
+        };
+        let writes = stops(alloc, of, way, At::Write)?;
+        let operations = stops(alloc, of, way, At::Operation)?;
+        tell(rt, of, way, writes, operations)?;
+        total = total.and(writes).and(operations);
     }
     Ok(total)
 }
 
-/// Prints how often runs were stopped in a way.
-fn tell(rt: &HostRuntime, way: Way, writes: u64, operations: u64) -> Result<(), Failure> {
+/// Prints how often disks failed in a way.
+fn tell(
+    rt: &HostRuntime,
+    of: &Simulated,
+    way: Way,
+    writes: Counts,
+    operations: Counts,
+) -> Result<(), Failure> {
     let Way {
         nodes,
         resumed,
         batch,
         checkpoint_every,
-        torn,
     } = way;
+    let (first, end) = (of.first, of.end);
+    let images = writes.images.saturating_add(operations.images);
+    let (writes, operations) = (writes.stops, operations.stops);
     println!(rt;
-        "nodes {nodes} then {resumed}, batch {batch}, checkpoints {checkpoint_every}, {torn:?}: \
-         {writes} writes, {operations} operations"
+        "ends {first} and {end}, nodes {nodes} then {resumed}, batch {batch}, \
+         checkpoints {checkpoint_every}: {writes} writes, {operations} operations, {images} images"
     )
     .map_err(Failure::Output)
+}
+
+/// The simulation that a model file tells, with a disk of so many sectors that is made for its end, or
+/// for half of it.
+fn read_simulation(
+    rt: &HostRuntime,
+    alloc: Global,
+    path: &str,
+    sectors: u32,
+    is_extended: bool,
+) -> Result<Simulated, Failure>
+    ensures begun { IfOk result (λ of. 1 ≤ of.first) }
+    ensures order { IfOk result (λ of. of.first ≤ of.end) }
+    ensures short { IfOk result (λ of. of.end ≤ 2 ^ 40) }
+{
+    let bytes = fs::read(rt, path).map_err(|_| Failure::Usage)?;
+    let text = str::from_utf8(bytes.as_slice()).map_err(|_| Failure::Usage)?;
+    let (model, end) = match read_model::<AnyModel>(alloc, text) {
+        Ok(file) => file,
+        Err(fault) => return Err(Failure::Model(fault)),
+    };
+    let first = if is_extended { (end / 2).max(1) } else { end };
+    let plain = plain_world(alloc, &model, end)?.into_parts();
+    let text = text_of(alloc, &plain)?;
+    let formatted = formatted(alloc, &model, first, sectors)?;
+    Ok(Simulated {
+        model,
+        first,
+        end,
+        plain,
+        text,
+        formatted,
+    })
+}
+
+/// Lets the disks of a model's runs fail in these ways.
+fn try_model(
+    rt: &HostRuntime,
+    alloc: Global,
+    of: &Simulated,
+    ways: Ways<'_>,
+    usual_ways: Ways<'_>,
+) -> Result<Counts, Failure>
+    requires begun { 1 ≤ of.now.first }
+    requires order { of.now.first ≤ of.now.end }
+    requires short { of.now.end ≤ 2 ^ 40 }
+{
+    let mut total = Counts::default();
+    for (nodes, resumed) in [(1, 2), (2, 5), (5, 1)] {
+        total = total.and(all_ways(rt, alloc, of, nodes, resumed, ways)?);
+    }
+    for resumed in [1, 2] {
+        total = total.and(all_ways(rt, alloc, of, 3, resumed, usual_ways)?);
+    }
+    Ok(total)
+}
+
+/// Lets the disks of a model's runs fail: those that are made for its end in all ways, and those that are
+/// carried on in all or in some.
+fn try_both(
+    rt: &HostRuntime,
+    alloc: Global,
+    path: &str,
+    sectors: u32,
+    all: bool,
+) -> Result<Counts, Failure> {
+    let of = read_simulation(rt, alloc, path, sectors, false)?;
+    let total = try_model(rt, alloc, &of, WAYS, USUAL_WAYS)?;
+    let of = read_simulation(rt, alloc, path, sectors, true)?;
+    let (ways, usual_ways) = if all {
+        (WAYS, USUAL_WAYS)
+    } else {
+        (SOME_WAYS, SOME_USUAL_WAYS)
+    };
+    Ok(total.and(try_model(rt, alloc, &of, ways, usual_ways)?))
 }
 
 fn main(rt: HostRuntime) -> Result<(), Failure> {
     let alloc = rt.alloc();
     let mut words = env::args(&rt).map_err(|_| Failure::Usage)?;
     let _program = words.next();
-    let Some(path) = words.next() else {
+    let mut all = false;
+    let mut total = Counts::default();
+    for _ in 0..u64::MAX {
+        let Some(path) = words.next() else {
+            break;
+        };
+        if path.as_str() == "--all" {
+            all = true;
+            continue;
+        }
+        let Some(sectors) = words.next() else {
+            return Err(Failure::Usage);
+        };
+        let Ok(sectors) = sectors.as_str().parse::<u32>() else {
+            return Err(Failure::Usage);
+        };
+        total = total.and(try_both(&rt, alloc, path.as_str(), sectors, all)?);
+    }
+    let Counts { stops, images } = total;
+    if stops == 0 {
         return Err(Failure::Usage);
-    };
-    let Some(sectors) = words.next() else {
-        return Err(Failure::Usage);
-    };
-    let Ok(sectors) = sectors.parse::<u32>() else {
-        return Err(Failure::Usage);
-    };
-    let bytes = fs::read(&rt, path).map_err(|_| Failure::Usage)?;
-    let text = str::from_utf8(bytes.as_slice()).map_err(|_| Failure::Usage)?;
-    let (model, end) = match read_model::<AnyModel>(alloc, text) {
-        Ok(file) => file,
-        Err(fault) => return Err(Failure::Model(fault)),
-    };
-    let plain = plain_world(alloc, &model, end)?.into_parts();
-    let formatted = formatted(alloc, &model, end, sectors)?;
-    let of = Simulated {
-        model,
-        end,
-        plain,
-        formatted,
-    };
-    let mut total = all_ways(&rt, alloc, &of, 1, 2)?;
-    total = total.saturating_add(all_ways(&rt, alloc, &of, 2, 5)?);
-    total = total.saturating_add(all_ways(&rt, alloc, &of, 5, 1)?);
+    }
     println!(rt;
-        "{total} stops, nothing told was lost, and each run ended as the plain one"
+        "{stops} stops, {images} images: nothing told was lost, and each run ended as the plain one"
     ).map_err(Failure::Output)?;
     Ok(())
 }

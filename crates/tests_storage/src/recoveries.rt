@@ -11,6 +11,7 @@ use std::test::Fail;
 
 mod bytes;
 mod device;
+mod ends;
 mod faults;
 mod memory;
 

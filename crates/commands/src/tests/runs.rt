@@ -3,7 +3,7 @@
 
 ghost use Rattle.std.specs.Prelude.{◌≡◌, ◌<◌, ◌≤◌};
 
-use crate::{CommandFault, Ended, Simulated, log, new, run, show};
+use crate::{CommandFault, Ended, Simulated, extend, log, new, run, show};
 use commitlog::LogFault;
 use coordinator::SessionFault;
 use disk::{MemDisk, Plan as Faults, Torn};
@@ -53,6 +53,29 @@ lp 2 sent 0 state 0
 pending 1 0 0 0 0 0
 ";
 
+const CARRIED_ON: &str = "\
+extended 10 to 20
+node 0 ran 2
+node 1 ran 1
+node 2 ran 2
+committed 20 events 10
+1 0 0 0 0 0
+3 0 1 1 0 1
+5 1 0 2 0 2
+7 2 0 0 0 3
+9 0 2 1 0 4
+11 1 1 2 0 5
+13 2 1 0 0 6
+15 0 3 1 0 7
+17 1 2 2 0 8
+19 2 2 0 0 9
+virtual time 20
+lp 0 sent 5 state 4
+lp 1 sent 3 state 3
+lp 2 sent 3 state 3
+pending 21 0 4 1 0 10
+";
+
 const RAN: &str = "node 0 ran 2\nnode 1 ran 2\nnode 2 ran 1\ncommitted 10 events 5\n";
 
 const RAN_AGAIN: &str = "node 0 ran 0\nnode 1 ran 0\nnode 2 ran 0\ncommitted 10 events 5\n";
@@ -81,6 +104,16 @@ fn ring(hold: u32) -> Simulated<AnyModel>
     Simulated {
         model: AnyModel::TokenRing(TokenRing::new(3, hold, 1)),
         end: 10,
+    }
+}
+
+/// The ring of `ring(2)`, up to a later end.
+fn longer_ring() -> Simulated<AnyModel>
+    ensures { result.end ≡ 20 }
+{
+    Simulated {
+        model: AnyModel::TokenRing(TokenRing::new(3, 2, 1)),
+        end: 20,
     }
 }
 
@@ -166,5 +199,42 @@ fn another_log_is_refused(rt: HostRuntime) -> Result<(), Fail> {
     assert!(rt; ended.told.err() == Some(fault));
     let told = format!(in rt.alloc(); "{fault}")?;
     assert_eq!(rt; told.as_str(), "Session Recovery OtherModel");
+    Ok(())
+}
+
+#[test]
+fn a_disk_is_carried_on_to_a_later_end(rt: HostRuntime) -> Result<(), Fail> {
+    let other = CommandFault::Recovery(RecoveryFault::OtherModel);
+    let early = CommandFault::Session(SessionFault::Recovery(RecoveryFault::OtherModel));
+    let not_later = CommandFault::Session(SessionFault::EndRefused);
+    let of = ring(2);
+    let longer = longer_ring();
+    let mut out = Vec::new(rt.alloc());
+    let disk = formatted(rt.alloc(), &of, 64)?;
+    let disk = run(rt.alloc(), &of, disk, PLAN, &mut Nobody, &mut out).disk;
+    let Ended { disk, told } = run(rt.alloc(), &longer, disk, PLAN, &mut Nobody, &mut out);
+    assert!(rt; told.err() == Some(early));
+    out.clear();
+    let Ended { disk, told } = extend(rt.alloc(), &longer, disk, &mut out);
+    told?;
+    let Ended { disk, told } = run(rt.alloc(), &longer, disk, PLAN, &mut Nobody, &mut out);
+    told?;
+    log(
+        rt.alloc(),
+        &longer,
+        copy(rt.alloc(), &disk, None)?,
+        &mut out,
+    )?;
+    show(
+        rt.alloc(),
+        &longer,
+        copy(rt.alloc(), &disk, None)?,
+        &mut out,
+    )?;
+    assert_eq!(rt; out.as_slice(), CARRIED_ON.as_bytes());
+    let Ended { disk, told } = extend(rt.alloc(), &of, disk, &mut out);
+    assert!(rt; told.err() == Some(not_later));
+    assert!(rt; show(rt.alloc(), &of, disk, &mut out).err() == Some(other));
+    assert_eq!(rt; out.as_slice(), CARRIED_ON.as_bytes());
     Ok(())
 }

@@ -1,39 +1,45 @@
 use Rattle.std.proofs.Common.{ap, length, map, refl, take}
-use Rattle.coordinator.proofs.Resuming.{driven-on, made-all, not_resumed, resumed, stopped-front}
+use Rattle.coordinator.proofs.Resuming.{driven-on, kept-on, made-all, not_resumed, resumed, stopped-front}
 use Rattle.coordinator.specs.Session.{running}
-use Rattle.coordinator.specs.Crashes.{Recovers}
-use Rattle.coordinator.proofs.Begun.{recovers-genuine}
+use Rattle.coordinator.specs.Crashes.{RecoversUnderItsEnd}
+use Rattle.coordinator.proofs.Extensions.{reads-genuine}
 use Rattle.coordinator.specs.Steps.{move_of}
 use Rattle.coordinator.proofs.sessions.resume.Goals as goal
 
 pub returns-in-Err-clause-kept : goal.returns-in-Err-clause-kept
 returns-in-Err-clause-kept g c = λ tell v.
-    not_resumed (g.M.Model.meaning c.args.model.now) c.args.end (length c.args.ports.items) _ v (g.D.SectorDisk.state c.args.disk) _ (c.in-Err.ensures.crashes_err v.time)
+    not_resumed (g.M.Model.meaning c.args.model.now) c.args.end (length c.args.ports.items) _ v (g.D.SectorDisk.state c.args.disk) _ c.in-Err.ensures.looks_err
 
 pub returns-in-Err-clause-want : goal.returns-in-Err-clause-want
 returns-in-Err-clause-want g c = λ a recovers tell none. c.in-Err.ensures.want a recovers tell
 
 pub returns-in-Ok-drive-clause-kept : goal.returns-in-Ok-drive-clause-kept
 returns-in-Ok-drive-clause-kept g c = λ tell v.
-    let genuine = λ (recovers : Recovers (g.M.Model.meaning c.args.model.now) c.args.end v.time (g.D.SectorDisk.state c.args.disk)). recovers-genuine (g.M.Model.meaning c.args.model.now) c.args.end (g.met.M.Model.lawful c.args.model.now) c.requires.short (g.D.SectorDisk.state c.args.disk) (g.met.D.SectorDisk.sound c.args.disk) v.time recovers in
+    let m = g.M.Model.meaning c.args.model.now in
+    let old = g.D.SectorDisk.state c.args.disk in
+    let genuine = λ (recovers : RecoversUnderItsEnd m v.time old). reads-genuine m v.time c.args.end old c.in-Ok.session.front (g.met.M.Model.lawful c.args.model.now) (g.met.D.SectorDisk.sound c.args.disk) recovers c.in-Ok.ensures.replayed in
     let model_is = ap g.M.Model.meaning c.in-Ok.ensures.same.0 in
     let end_is = c.in-Ok.ensures.same.1 in
+    let begun = c.in-Ok.ensures.begun tell v in
     rw (c.left.ensures)
-    (resumed (g.M.Model.meaning c.args.model.now) c.args.end (length c.args.ports.items) v c.in-Ok.session.front (g.D.SectorDisk.state c.args.disk) (g.D.SectorDisk.state c.in-Ok.session.log.disk)
-    c.in-Ok.ensures.replayed (c.in-Ok.ensures.crashes v.time) (running g.M.Model.meaning g.P.Port.state c.in-Ok.session) model_is end_is (map move_of (take c.in-Ok-drive.done c.args.steps.now))
+    (resumed m c.args.end (length c.args.ports.items) v c.in-Ok.session.front old (g.D.SectorDisk.state c.in-Ok.session.log.disk)
+    c.in-Ok.ensures.replayed (kept-on _ _ _ _ v.time c.in-Ok.session.front.time old _ model_is end_is begun.crashes begun.recovers) (running g.M.Model.meaning g.P.Port.state c.in-Ok.session) model_is end_is (map move_of (take c.in-Ok-drive.done c.args.steps.now))
     (running g.M.Model.meaning g.P.Port.state c.drive.new.self) c.drive.new.self.front (g.D.SectorDisk.state c.drive.new.self.log.disk)
     (λ recovers. c.in-Ok.ensures.told (genuine recovers) tell) (λ told. made-all c.in-Ok-drive.done c.args.steps.now _ _ c.in-Ok-drive.ensures.count (c.in-Ok-drive.ensures.made told)) refl
     (λ recovers. driven-on _ _ _ _ c.in-Ok.session.front c.drive.new.self.front c.in-Ok.session.log _ _ model_is end_is (c.drive.ensures.keeps.crashes (c.in-Ok.ensures.told (genuine recovers) tell).0) (c.in-Ok.ensures.written (genuine recovers))))
 
 pub returns-in-Err-drive-clause-kept : goal.returns-in-Err-drive-clause-kept
 returns-in-Err-drive-clause-kept g c = λ tell v.
-    let genuine = λ (recovers : Recovers (g.M.Model.meaning c.args.model.now) c.args.end v.time (g.D.SectorDisk.state c.args.disk)). recovers-genuine (g.M.Model.meaning c.args.model.now) c.args.end (g.met.M.Model.lawful c.args.model.now) c.requires.short (g.D.SectorDisk.state c.args.disk) (g.met.D.SectorDisk.sound c.args.disk) v.time recovers in
+    let m = g.M.Model.meaning c.args.model.now in
+    let old = g.D.SectorDisk.state c.args.disk in
+    let genuine = λ (recovers : RecoversUnderItsEnd m v.time old). reads-genuine m v.time c.args.end old c.in-Ok.session.front (g.met.M.Model.lawful c.args.model.now) (g.met.D.SectorDisk.sound c.args.disk) recovers c.in-Ok.ensures.replayed in
     let model_is = ap g.M.Model.meaning c.in-Ok.ensures.same.0 in
     let end_is = c.in-Ok.ensures.same.1 in
+    let begun = c.in-Ok.ensures.begun tell v in
     let stopped = c.in-Err-drive.ensures.stopped in
     rw (c.left-in-Err-drive.ensures)
-    (resumed (g.M.Model.meaning c.args.model.now) c.args.end (length c.args.ports.items) v c.in-Ok.session.front (g.D.SectorDisk.state c.args.disk) (g.D.SectorDisk.state c.in-Ok.session.log.disk)
-    c.in-Ok.ensures.replayed (c.in-Ok.ensures.crashes v.time) (running g.M.Model.meaning g.P.Port.state c.in-Ok.session) model_is end_is (map move_of (take c.in-Err-drive.field-0.done c.args.steps.now))
+    (resumed m c.args.end (length c.args.ports.items) v c.in-Ok.session.front old (g.D.SectorDisk.state c.in-Ok.session.log.disk)
+    c.in-Ok.ensures.replayed (kept-on _ _ _ _ v.time c.in-Ok.session.front.time old _ model_is end_is begun.crashes begun.recovers) (running g.M.Model.meaning g.P.Port.state c.in-Ok.session) model_is end_is (map move_of (take c.in-Err-drive.field-0.done c.args.steps.now))
     (running g.M.Model.meaning g.P.Port.state stopped.made) c.drive.new.self.front (g.D.SectorDisk.state c.drive.new.self.log.disk)
     (λ recovers. c.in-Ok.ensures.told (genuine recovers) tell) (λ told. stopped.moves told) (stopped-front _ _ _ _ _ _ _ stopped)
     (λ recovers. driven-on _ _ _ _ c.in-Ok.session.front c.drive.new.self.front c.in-Ok.session.log _ _ model_is end_is (c.drive.ensures.keeps.crashes (c.in-Ok.ensures.told (genuine recovers) tell).0) (c.in-Ok.ensures.written (genuine recovers))))

@@ -3,8 +3,9 @@ use Rattle.lines.proofs.grammar.run.Goals as goal
 
 pub returns : goal.returns
 returns c =
-    argument_added _ _ _ _ _ c.with_argument-4.ensures
-    (argument_added _ _ _ _ _ c.with_argument-3.ensures
+    argument_added _ _ _ _ _ c.with_argument-3.ensures
+    (argument_added _ _ _ _ _ c.with_argument-command-5.ensures
+    (argument_added _ _ _ _ _ c.with_argument-command-4.ensures
     (argument_added _ _ _ _ _ c.with_argument-2.ensures
     (argument_added _ _ _ _ _ c.with_argument-command-3.ensures
     (argument_added _ _ _ _ _ c.with_argument-command-2.ensures
@@ -15,4 +16,5 @@ returns c =
     c.optional_number-checkpoint.ensures.rule c.optional_number-checkpoint.ensures.local)
     c.optional_path-sockets.ensures.rule c.optional_path-sockets.ensures.local)
     c.optional_number-cut.ensures.rule c.optional_number-cut.ensures.local)
-    c.flag-together.ensures.rule c.flag-together.ensures.local
+    c.flag.ensures.rule c.flag.ensures.local)
+    c.flag-2.ensures.rule c.flag-2.ensures.local

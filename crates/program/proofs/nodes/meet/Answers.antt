@@ -6,5 +6,5 @@ use Rattle.program.proofs.nodes.meet.Goals as goal
 
 pub returns : goal.returns
 returns g c =
-    let whole : length c.start_all.new.met ≡ c.args.nodes = omega (arith, c.start_all.auto.met, c.as_mut_slice-met.ensures.len, c.nodes.met.ok, c.nodes.invariant, c.nodes-test.false, c.nodes.auto.node-end) in
+    let whole : length c.gather.new.met ≡ c.args.nodes = omega (arith, c.gather.auto.met, c.as_mut_slice-met.ensures.len, c.nodes.met.ok, c.nodes.invariant, c.nodes-test.false, c.nodes.auto.node-end) in
     subst (λ n. IfOk c.accept_all.result (λ ports. map (λ p. state_of p.held) ports.items ≡ replicate n (state_of Fresh))) whole c.accept_all.ensures

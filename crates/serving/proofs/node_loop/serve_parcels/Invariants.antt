@@ -7,6 +7,6 @@ use Rattle.serving.proofs.node_loop.serve_parcels.Given as goal
 abbrev pub invariant-loop-count : goal.invariant-loop-count
 invariant-loop-count g l =
     OnBytes (g.R.Read.remaining l.initial.reader) (g.R.Read.remaining l.reader)
-    (SoFar (g.M.Model.meaning l.model) l.limit l.count l.initial.node l.node (g.W.Write.contents l.initial.writer) (g.W.Write.contents l.writer))
+    (SoFar (g.M.Model.meaning l.model) l.count l.initial.node l.node (g.W.Write.contents l.initial.writer) (g.W.Write.contents l.writer))
     × (l.node.spent ≡ false → (g.M.Model.meaning l.model).lps ≡ l.node.lps)
     × HasHistories (g.M.Model.meaning l.model) l.node

@@ -10,7 +10,7 @@ returns-in-Err-clause-crashes g c = c.prepare.ensures.crashes (g.M.Model.meaning
 
 pub returns-in-Err-clause-any_moment : goal.returns-in-Err-clause-any_moment
 returns-in-Err-clause-any_moment g c = λ firm blank.
-    made_so (g.M.Model.meaning c.args.model.now) c.args.end (g.D.SectorDisk.state c.args.disk) (g.D.SectorDisk.state c.prepare.new.disk) (c.prepare.ensures.any_moment firm blank)
+    made_so (g.M.Model.meaning c.args.model.now) c.args.end (g.D.SectorDisk.state c.args.disk) (g.D.SectorDisk.state c.prepare.new.disk) (c.prepare.ensures.any_moment firm blank (record { some = c.requires.begun; within = c.requires.short }))
 
 pub returns-in-Err-told-clause-crashes : goal.returns-in-Err-told-clause-crashes
 returns-in-Err-told-clause-crashes g c = λ a recovers.
@@ -22,15 +22,15 @@ returns-in-Err-told-clause-any_moment g c = λ firm blank.
     let m = g.M.Model.meaning c.args.model.now in
     let made = g.D.SectorDisk.state c.prepare.new.disk in
     then_so m c.args.end (g.D.SectorDisk.state c.args.disk) made (g.D.SectorDisk.state c.run-disk.result.disk)
-    (made_so m c.args.end (g.D.SectorDisk.state c.args.disk) made (c.prepare.ensures.any_moment firm blank))
-    (c.run-disk.ensures.crashes 0 (exactly_recovers m c.args.end made (c.in_default.ensures.made blank)))
+    (made_so m c.args.end (g.D.SectorDisk.state c.args.disk) made (c.prepare.ensures.any_moment firm blank (record { some = c.requires.begun; within = c.requires.short })))
+    (c.run-disk.ensures.crashes 0 (exactly_recovers m c.args.end made (c.in_default.ensures.made blank (record { some = c.requires.begun; within = c.requires.short }))))
 
 pub returns-in-Ok-told-clause-finished : goal.returns-in-Ok-told-clause-finished
 returns-in-Ok-told-clause-finished g c = λ genuine.
     let m = g.M.Model.meaning c.args.model.now in
     let made = g.D.SectorDisk.state c.prepare.new.disk in
     let ran = g.D.SectorDisk.state c.run-disk.result.disk in
-    let begun = prepared_genuine m c.args.end (g.D.SectorDisk.state c.args.disk) made (g.met.M.Model.lawful c.args.model.now) c.requires.short (g.met.D.SectorDisk.sound c.prepare.new.disk) c.in_default.ensures.made c.prepare.ensures.looks genuine in
+    let begun = prepared_genuine m c.args.end (g.D.SectorDisk.state c.args.disk) made (g.met.M.Model.lawful c.args.model.now) c.requires.short (g.met.D.SectorDisk.sound c.prepare.new.disk) (λ blank. c.in_default.ensures.made blank (record { some = c.requires.begun; within = c.requires.short })) c.prepare.ensures.looks genuine in
     let ended = rw c.in-Ok.is at (c.run-disk.ensures.committed begun) in
     let left = recovers-genuine m c.args.end (g.met.M.Model.lawful c.args.model.now) c.requires.short ran (g.met.D.SectorDisk.sound c.run-disk.result.disk) c.args.end ended in
     let told = c.in-Ok-told.front in
@@ -43,7 +43,7 @@ returns-in-Ok-told-clause-stands g c = λ genuine.
     let m = g.M.Model.meaning c.args.model.now in
     let made = g.D.SectorDisk.state c.prepare.new.disk in
     let ran = g.D.SectorDisk.state c.run-disk.result.disk in
-    let begun = prepared_genuine m c.args.end (g.D.SectorDisk.state c.args.disk) made (g.met.M.Model.lawful c.args.model.now) c.requires.short (g.met.D.SectorDisk.sound c.prepare.new.disk) c.in_default.ensures.made c.prepare.ensures.looks genuine in
+    let begun = prepared_genuine m c.args.end (g.D.SectorDisk.state c.args.disk) made (g.met.M.Model.lawful c.args.model.now) c.requires.short (g.met.D.SectorDisk.sound c.prepare.new.disk) (λ blank. c.in_default.ensures.made blank (record { some = c.requires.begun; within = c.requires.short })) c.prepare.ensures.looks genuine in
     let ended = rw c.in-Ok.is at (c.run-disk.ensures.committed begun) in
     let left = recovers-genuine m c.args.end (g.met.M.Model.lawful c.args.model.now) c.requires.short ran (g.met.D.SectorDisk.sound c.run-disk.result.disk) c.args.end ended in
     let told = c.in-Ok-told.front in
@@ -55,7 +55,7 @@ returns-in-Ok-told-clause-committed g c = λ genuine.
     let m = g.M.Model.meaning c.args.model.now in
     let made = g.D.SectorDisk.state c.prepare.new.disk in
     let ran = g.D.SectorDisk.state c.run-disk.result.disk in
-    let begun = prepared_genuine m c.args.end (g.D.SectorDisk.state c.args.disk) made (g.met.M.Model.lawful c.args.model.now) c.requires.short (g.met.D.SectorDisk.sound c.prepare.new.disk) c.in_default.ensures.made c.prepare.ensures.looks genuine in
+    let begun = prepared_genuine m c.args.end (g.D.SectorDisk.state c.args.disk) made (g.met.M.Model.lawful c.args.model.now) c.requires.short (g.met.D.SectorDisk.sound c.prepare.new.disk) (λ blank. c.in_default.ensures.made blank (record { some = c.requires.begun; within = c.requires.short })) c.prepare.ensures.looks genuine in
     let ended = rw c.in-Ok.is at (c.run-disk.ensures.committed begun) in
     let left = recovers-genuine m c.args.end (g.met.M.Model.lawful c.args.model.now) c.requires.short ran (g.met.D.SectorDisk.sound c.run-disk.result.disk) c.args.end ended in
     (looked m c.args.end c.args.end ran (g.D.SectorDisk.state c.committed-disk.result.disk) c.committed-disk.ensures.looks ended).now_on
@@ -78,9 +78,9 @@ returns-in-Ok-told-clause-any_moment g c = λ firm blank.
     let made = g.D.SectorDisk.state c.prepare.new.disk in
     let ran = g.D.SectorDisk.state c.run-disk.result.disk in
     let new = g.D.SectorDisk.state c.committed-disk.result.disk in
-    let runs = c.run-disk.ensures.crashes 0 (exactly_recovers m c.args.end made (c.in_default.ensures.made blank)) in
+    let runs = c.run-disk.ensures.crashes 0 (exactly_recovers m c.args.end made (c.in_default.ensures.made blank (record { some = c.requires.begun; within = c.requires.short }))) in
     then_so m c.args.end old ran new
-    (then_so m c.args.end old made ran (made_so m c.args.end old made (c.prepare.ensures.any_moment firm blank)) runs)
+    (then_so m c.args.end old made ran (made_so m c.args.end old made (c.prepare.ensures.any_moment firm blank (record { some = c.requires.begun; within = c.requires.short }))) runs)
     (looked m c.args.end 0 ran new c.committed-disk.ensures.looks runs.now_on)
 
 pub returns-in-Err-told-2-clause-crashes : goal.returns-in-Err-told-2-clause-crashes
@@ -101,7 +101,7 @@ returns-in-Err-told-2-clause-any_moment g c = λ firm blank.
     let made = g.D.SectorDisk.state c.prepare.new.disk in
     let ran = g.D.SectorDisk.state c.run-disk.result.disk in
     let new = g.D.SectorDisk.state c.committed-disk.result.disk in
-    let runs = c.run-disk.ensures.crashes 0 (exactly_recovers m c.args.end made (c.in_default.ensures.made blank)) in
+    let runs = c.run-disk.ensures.crashes 0 (exactly_recovers m c.args.end made (c.in_default.ensures.made blank (record { some = c.requires.begun; within = c.requires.short }))) in
     then_so m c.args.end old ran new
-    (then_so m c.args.end old made ran (made_so m c.args.end old made (c.prepare.ensures.any_moment firm blank)) runs)
+    (then_so m c.args.end old made ran (made_so m c.args.end old made (c.prepare.ensures.any_moment firm blank (record { some = c.requires.begun; within = c.requires.short }))) runs)
     (looked m c.args.end 0 ran new c.committed-disk.ensures.looks runs.now_on)

@@ -1,6 +1,6 @@
 use Rattle.std.proofs.Common.{◌≡◌, ap, arith, length, sym, ◌∙◌}
 use Rattle.std.proofs.lemmas.List.{length-map, length-replicate}
-use Rattle.tests_stops.proofs.left_by.Goals as goal
+use Rattle.tests_stops.proofs.run_to.Goals as goal
 
 pub open-requires-clause-some : goal.open-requires-clause-some
 open-requires-clause-some c =

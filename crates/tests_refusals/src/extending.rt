@@ -1,0 +1,67 @@
+// A later end on a disk, to which an allocation is refused.
+
+use crate::disks::{TEARINGS, crashed};
+use crate::openings::{is_of_memory, look_at_crashes};
+use crate::plain::END;
+use crate::running::{one_token, ran};
+use coordinator::{Extended, NotOpened, SessionFault, extend};
+use disk::MemDisk;
+use model::Model as Simulated;
+use std::alloc::Global;
+use std::process::Abort;
+use std::test::Fail;
+
+const LATER: u64 = 20;
+
+/// Puts the later end in force. Where memory is refused, the disk that is handed back is as it was: each
+/// crash of it opens under the end before, and the next call puts the later one in force.
+fn carried_on<M: Simulated>(
+    rt: &impl Abort,
+    alloc: Global,
+    model: &M,
+    disk: MemDisk,
+) -> Result<Extended<MemDisk>, Fail> {
+    let NotOpened { fault, disk } = match extend(alloc, model, disk, LATER) {
+        Ok(extended) => return Ok(extended),
+        Err(refused) => refused,
+    };
+    assert!(rt; is_of_memory(&fault), "{fault}");
+    look_at_crashes(rt, alloc, model, &disk, END)?;
+    match extend(alloc, model, disk, LATER) {
+        Ok(extended) => Ok(extended),
+        Err(_again) => Err(Fail::from("the disk that was handed back is not extended")),
+    }
+}
+
+#[test]
+fn a_disk_is_carried_on_after_a_refusal(rt: HostRuntime) -> Result<(), Fail> {
+    for (sectors, every) in [(64, 0), (32, 3)] {
+        let disk = ran(&rt, rt.alloc(), sectors, every)?;
+        let model = one_token().model;
+        let Extended {
+            front,
+            before,
+            disk,
+        } = carried_on(&rt, rt.alloc(), &model, disk)?;
+        assert!(rt; front.g == END && before == END);
+        for torn in TEARINGS {
+            // the later end is in force on what each crash leaves, so that it is not above itself
+            let left = crashed(rt.alloc(), &disk, torn)?;
+            let refused = match extend(rt.alloc(), &model, left, LATER) {
+                Ok(_) => return Err(Fail::from("the end in force is taken as a later one")),
+                Err(NotOpened { fault, disk }) => {
+                    if !is_of_memory(&fault) {
+                        Some(fault)
+                    } else {
+                        match extend(rt.alloc(), &model, disk, LATER) {
+                            Ok(_) => None,
+                            Err(NotOpened { fault, .. }) => Some(fault),
+                        }
+                    }
+                }
+            };
+            assert!(rt; refused == Some(SessionFault::EndRefused), "{torn:?}");
+        }
+    }
+    Ok(())
+}
