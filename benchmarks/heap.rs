@@ -2,7 +2,7 @@
 use std::cmp::Reverse;
 use std::collections::BinaryHeap;
 
-type Message = (u64, u32, u64, u32, u64, u64);
+type Message = (u64, u32, u64, u32, u64, u64, u64, u64);
 
 /// The first word of PCG's XSH RR 64/32 generator for this state and stream.
 fn first_word(state: u64, stream: u64) -> u32 {
@@ -41,7 +41,7 @@ fn main() {
         states.push((next_key(seed, lp, population), 0u64));
         for k in 0..population {
             let delay = 1 + word(seed, lp, k) % spread;
-            pending.push(Reverse((u64::from(delay), lp, k, lp, u64::from(lp) * population + k, 0)));
+            pending.push(Reverse((u64::from(delay), lp, k, lp, u64::from(lp) * population + k, 0, 0, 0)));
         }
     }
     while let Some(&Reverse(least)) = pending.peek() {
@@ -55,7 +55,8 @@ fn main() {
         let delay = 1 + word(key, lp, 1) % spread;
         states[lp as usize] = (next_key(key, lp, 2), count.saturating_add(1));
         let number = &mut numbers[lp as usize];
-        pending.push(Reverse((least.0 + u64::from(delay), lp, *number, to, least.4, least.5.wrapping_add(1))));
+        let time = least.0 + u64::from(delay);
+        pending.push(Reverse((time, lp, *number, to, least.4, least.5.wrapping_add(1), least.6, least.7)));
         *number += 1;
         log.push(least);
     }
@@ -67,7 +68,7 @@ fn main() {
         digest = with(digest, number);
     }
     while let Some(Reverse(m)) = pending.pop() {
-        for number in [m.0, u64::from(m.1), m.2, u64::from(m.3), m.4, m.5] {
+        for number in [m.0, u64::from(m.1), m.2, u64::from(m.3), m.4, m.5, m.6, m.7] {
             digest = with(digest, number);
         }
     }

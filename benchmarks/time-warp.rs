@@ -4,14 +4,14 @@ use std::collections::VecDeque;
 use std::fs::File;
 use std::io::{Seek, SeekFrom, Write};
 
-type Message = (u64, u32, u64, u32, u64, u64);
+type Message = (u64, u32, u64, u32, u64, u64, u64, u64);
 type State = (u64, u64);
 
 /// Whether it is an antimessage, and the message.
 type Signed = (bool, Message);
 
 /// Stands where no message does: after all of them.
-const NONE: Message = (u64::MAX, 0, 0, 0, 0, 0);
+const NONE: Message = (u64::MAX, 0, 0, 0, 0, 0, 0, 0);
 
 /// The first word of PCG's XSH RR 64/32 generator for this state and stream.
 fn first_word(state: u64, stream: u64) -> u32 {
@@ -63,7 +63,8 @@ impl Phold {
         let lp = message.3;
         let to = word(key, lp, 0) % self.lps;
         let delay = 1 + word(key, lp, 1) % self.spread;
-        let sent = (message.0 + u64::from(delay), lp, number, to, message.4, message.5.wrapping_add(1));
+        let time = message.0 + u64::from(delay);
+        let sent = (time, lp, number, to, message.4, message.5.wrapping_add(1), message.6, message.7);
         ((next_key(key, lp, 2), count.saturating_add(1)), sent)
     }
 }
@@ -257,7 +258,7 @@ fn merged(pending: &[Message], sent: &[Message], events: &[Message]) -> Vec<Mess
 /// Writes a record behind the gate at this place, then the gate; answers the place of the next gate.
 fn commit(disk: &mut File, place: u64, time: u64, events: &[Message]) -> u64 {
     let mut body = vec![1u8];
-    body.extend((12 + 40 * events.len() as u32).to_be_bytes());
+    body.extend((12 + 56 * events.len() as u32).to_be_bytes());
     body.extend(time.to_be_bytes());
     body.extend((events.len() as u32).to_be_bytes());
     for event in events {
@@ -267,6 +268,8 @@ fn commit(disk: &mut File, place: u64, time: u64, events: &[Message]) -> u64 {
         body.extend(event.3.to_be_bytes());
         body.extend(event.4.to_be_bytes());
         body.extend(event.5.to_be_bytes());
+        body.extend(event.6.to_be_bytes());
+        body.extend(event.7.to_be_bytes());
     }
     body.resize(body.len().next_multiple_of(512) + 512, 0);
     let mut gate = [0u8; 512];
@@ -287,7 +290,7 @@ fn main() {
     for lp in 0..model.lps {
         for k in 0..model.population {
             let delay = 1 + word(model.seed, lp, k) % model.spread;
-            pending.push((u64::from(delay), lp, k, lp, u64::from(lp) * model.population + k, 0));
+            pending.push((u64::from(delay), lp, k, lp, u64::from(lp) * model.population + k, 0, 0, 0));
         }
     }
     pending.sort_unstable();
@@ -340,7 +343,7 @@ fn main() {
         digest = with(digest, number);
     }
     for m in pending {
-        for number in [m.0, u64::from(m.1), m.2, u64::from(m.3), m.4, m.5] {
+        for number in [m.0, u64::from(m.1), m.2, u64::from(m.3), m.4, m.5, m.6, m.7] {
             digest = with(digest, number);
         }
     }

@@ -52,7 +52,8 @@ fn with(digest: u64, number: u64) -> u64 {
 fn with_message(digest: u64, x: &Message) -> u64 {
     let digest = with(with(digest, x.time()), u64::from(x.from()));
     let digest = with(with(digest, x.number()), u64::from(x.to()));
-    with(with(digest, x.a()), x.b())
+    let digest = with(with(digest, x.a()), x.b());
+    with(with(digest, x.c()), x.d())
 }
 
 /// A digest of the states, the send numbers and the pending messages.

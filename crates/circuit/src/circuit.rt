@@ -113,6 +113,8 @@ impl Circuit {
                     delay,
                     a: u64::from(wire.pin),
                     b: value,
+                    c: 0,
+                    d: 0,
                 });
             }
         }

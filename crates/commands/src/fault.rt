@@ -5,6 +5,7 @@ ghost use Rattle.std.specs.Prelude.{◌≡◌};
 use commitlog::LogFault;
 use coordinator::SessionFault;
 use driver::RunFault;
+use migration::MigrateFault;
 use recovery::RecoveryFault;
 use std::alloc::{AllocError, AllocFailed};
 use std::io::Error as IoError;
@@ -28,6 +29,9 @@ pub enum CommandFault {
     /// All rounds of a run are made, and not all is committed.
     #[error("Rounds")]
     Rounds,
+    /// A disk of format 1 is not migrated, or not all of it.
+    #[error("Migrate {0}")]
+    Migrate(MigrateFault),
     /// The writer refused.
     #[error("Output")]
     Output,

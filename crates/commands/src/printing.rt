@@ -2,6 +2,7 @@
 
 ghost use Rattle.std.specs.Prelude.{◌++◌, codes, decimal, flat_map, length, IsOkUnless};
 ghost use Rattle.commands.specs.Commands.{extended_text, formatted_text, node_text, ran_text};
+ghost use Rattle.commands.specs.Migrating.{migrated_text};
 ghost use Rattle.commands.specs.declared.fault.CommandFault.TheVariants.{Output};
 ghost use Rattle.model.specs.World.{below};
 ghost use Rattle.eventkey.specs.Writing.{Writes};
@@ -28,6 +29,18 @@ pub fn write_extended<O: Write>(before: u64, end: u64, out: &mut O) -> Result<()
 {
     write_number("extended ", before, out)?;
     write_number(" to ", end, out)?;
+    write_text("\n", out)?;
+    out.flush()?;
+    Ok(())
+}
+
+/// Writes at which time a migrated disk stands, and how many events its log has. Flushes the writer.
+pub fn write_migrated<O: Write>(time: u64, count: usize, out: &mut O) -> Result<(), CommandFault>
+    ensures written { Writes (O.contents out.old) (O.contents out.new) result (migrated_text time count) }
+    ensures fault { IsOkUnless result Output }
+{
+    write_number("migrated ", time, out)?;
+    write_number(" events ", count as u64, out)?;
     write_text("\n", out)?;
     out.flush()?;
     Ok(())

@@ -69,7 +69,7 @@ first_refusal end (TakeMove node) p =
     if not (nat_lt node (nodes_of p)) then Some NoSuchNode
     else if is_busy p node then None else Some Idle
 first_refusal end CommitMove p =
-    if nat_lt p.front.time (next_time end p) && nat_lt (2 ^ 24) (17 + 40 * next_events end p)
+    if nat_lt p.front.time (next_time end p) && nat_lt (2 ^ 24) (17 + 56 * next_events end p)
     then Some TooLong else None
 first_refusal end CheckpointMove p =
     if nat_lt (2 ^ 24) (5 + length (kept_body p)) then Some TooLong else None
@@ -124,7 +124,7 @@ module _ {M P D : Type 0} (meaning : M → Meaning) (state : P → PortState) (d
   abbrev pub HasRoomToCommit : Session M P D → Type 0
   HasRoomToCommit s =
       let events = next_events s.end (picture_of (running meaning state s)) in
-      HasRoom s.log.records (12 + 40 * events) (length (disk s.log.disk).reads)
+      HasRoom s.log.records (12 + 56 * events) (length (disk s.log.disk).reads)
 
   -- and for the record that a checkpoint would append
   abbrev pub HasRoomToKeep : Session M P D → Type 0

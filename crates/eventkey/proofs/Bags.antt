@@ -38,8 +38,12 @@ cmp_equal x y e =
     let number = nat_cmp_equal x.number y.number h3.0 in
     let to = nat_cmp_equal x.to y.to h4.0 in
     let a = nat_cmp_equal x.a y.a h5.0 in
-    let b = nat_cmp_equal x.b y.b h5.1 in
-    λ i. record { time = time i; from = from i; number = number i; to = to i; a = a i; b = b i }
+    let h6 = then_equal _ _ h5.1 in
+    let h7 = then_equal _ _ h6.1 in
+    let b = nat_cmp_equal x.b y.b h6.0 in
+    let c = nat_cmp_equal x.c y.c h7.0 in
+    let d = nat_cmp_equal x.d y.d h7.1 in
+    λ i. record { time = time i; from = from i; number = number i; to = to i; a = a i; b = b i; c = c i; d = d i }
 
 cmp_earlier : (x y : Message) → x.time < y.time → message_cmp x y ≡ Less
 unfolding message_cmp

@@ -10,7 +10,7 @@ use Rattle.eventkey.specs.Reading.{number_at}
 use Rattle.eventkey.specs.Spelling.{message_at, message_in}
 use Rattle.eventkey.specs.Laws.{MessagesAreRead}
 use Rattle.eventkey.proofs.Fields.{bind_some}
-use Rattle.eventkey.proofs.Spellings.{message_from_time, message_from_from, message_from_number, message_from_to, message_from_a, message_from_b}
+use Rattle.eventkey.proofs.Spellings.{message_from_time, message_from_from, message_from_number, message_from_to, message_from_a, message_from_b, message_from_c, message_from_d}
 
 number_here : (n k : ℕ) (bytes : List ℕ) → k + n ≤ length bytes → number_at n (drop k bytes) ≡ Some (big_number n (drop k bytes), drop (k + n) bytes)
 unfolding number_at
@@ -28,8 +28,8 @@ number_size n bytes x e = elim (cases_lt (length bytes) n) [
       omega (arith, length-drop n bytes))
 ]
 
--- a message that is read has 40 bytes
-message_size : (bytes : List ℕ) (x : Message × List ℕ) → message_at bytes ≡ Some x → 40 ≤ length bytes
+-- a message that is read has 56 bytes
+message_size : (bytes : List ℕ) (x : Message × List ℕ) → message_at bytes ≡ Some x → 56 ≤ length bytes
 unfolding message_at
 message_size bytes x e =
     let time = bind_some (number_at 8 bytes) message_from_time x e in
@@ -38,12 +38,16 @@ message_size bytes x e =
     let to = bind_some (number_at 4 number.0.1) (message_from_to time.0 from.0 number.0) x number.2 in
     let a = bind_some (number_at 8 to.0.1) (message_from_a time.0 from.0 number.0 to.0) x to.2 in
     let b = bind_some (number_at 8 a.0.1) (message_from_b time.0 from.0 number.0 to.0 a.0) x a.2 in
+    let c = bind_some (number_at 8 b.0.1) (message_from_c time.0 from.0 number.0 to.0 a.0 b.0) x b.2 in
+    let d = bind_some (number_at 8 c.0.1) (message_from_d time.0 from.0 number.0 to.0 a.0 b.0 c.0) x c.2 in
     let s1 = number_size 8 bytes time.0 time.1 in
     let s2 = number_size 4 time.0.1 from.0 from.1 in
     let s3 = number_size 8 from.0.1 number.0 number.1 in
     let s4 = number_size 4 number.0.1 to.0 to.1 in
     let s5 = number_size 8 to.0.1 a.0 a.1 in
     let s6 = number_size 8 a.0.1 b.0 b.1 in
+    let s7 = number_size 8 b.0.1 c.0 c.1 in
+    let s8 = number_size 8 c.0.1 d.0 d.1 in
     omega arith
 
 pub none_from : {X : Type 0} (o : Option X) → ((x : X) → o ≡ Some x → ⊥) → o ≡ None
@@ -52,10 +56,10 @@ none_from (Some x) f = absurd (f x refl)
 
 pub messages_are_read : MessagesAreRead
 unfolding message_at message_in
-messages_are_read bytes = elim (cases_lt (length bytes) 40) [
+messages_are_read bytes = elim (cases_lt (length bytes) 56) [
   | inl short ↦
       none_from (message_at bytes) (λ x e. let long = message_size bytes x e in omega arith)
-      ∙ sym (cond-true (nat_lt (length bytes) 40) None (cond (nat_lt (message_in bytes).time (2 ^ 41)) (Some (message_in bytes, drop 40 bytes)) None) (lt-ltb (length bytes) 40 short))
+      ∙ sym (cond-true (nat_lt (length bytes) 56) None (cond (nat_lt (message_in bytes).time (2 ^ 41)) (Some (message_in bytes, drop 56 bytes)) None) (lt-ltb (length bytes) 56 short))
   | inr long ↦
-      rw (number_here 8 0 bytes (omega arith), number_here 4 8 bytes (omega arith), number_here 8 12 bytes (omega arith), number_here 4 20 bytes (omega arith), number_here 8 24 bytes (omega arith), number_here 8 32 bytes (omega arith), le-ltb (length bytes) 40 long) refl
+      rw (number_here 8 0 bytes (omega arith), number_here 4 8 bytes (omega arith), number_here 8 12 bytes (omega arith), number_here 4 20 bytes (omega arith), number_here 8 24 bytes (omega arith), number_here 8 32 bytes (omega arith), number_here 8 40 bytes (omega arith), number_here 8 48 bytes (omega arith), le-ltb (length bytes) 56 long) refl
 ]

@@ -35,8 +35,8 @@ module _ {X : Type 0} (item : Reader X) (n : ℕ) (read : List ℕ → Result X 
       let none = items_missing count first.0.1 (omega (arith, takes bytes first.0 first.1, mul-suc n count, h)) in
       none-some others.0 (sym none ∙ others.1))
 
-pub messages_missing : (count : ℕ) (bytes : List ℕ) → length bytes < 40 * count → items_at message_at count bytes ≡ None
-messages_missing = items_missing message_at 40 message_read message_at_is (λ bytes h. ap (λ (b : Bool). cond b (Err Short) (made (message_in bytes))) (lt-ltb (length bytes) 40 h))
+pub messages_missing : (count : ℕ) (bytes : List ℕ) → length bytes < 56 * count → items_at message_at count bytes ≡ None
+messages_missing = items_missing message_at 56 message_read message_at_is (λ bytes h. ap (λ (b : Bool). cond b (Err Short) (made (message_in bytes))) (lt-ltb (length bytes) 56 h))
 
-pub signed_missing : (count : ℕ) (bytes : List ℕ) → length bytes < 41 * count → items_at signed_at count bytes ≡ None
-signed_missing = items_missing signed_at 41 signed_read signed_are_read (λ bytes h. ap (λ (b : Bool). cond b (Err Short) (signed_of (sign_of (slice_index bytes 0)) (made (message_in (drop 1 bytes))))) (lt-ltb (length bytes) 41 h))
+pub signed_missing : (count : ℕ) (bytes : List ℕ) → length bytes < 57 * count → items_at signed_at count bytes ≡ None
+signed_missing = items_missing signed_at 57 signed_read signed_are_read (λ bytes h. ap (λ (b : Bool). cond b (Err Short) (signed_of (sign_of (slice_index bytes 0)) (made (message_in (drop 1 bytes))))) (lt-ltb (length bytes) 57 h))

@@ -21,13 +21,13 @@ use Rattle.eventkey.proofs.Spellings.{message_format, length-message_bytes}
 -- 1. Messages
 
 message_rest : (short early : Bool) (x : Message) (bytes : List ℕ) →
-    with_rest 40 bytes (cond short (Err Short) (cond early (Ok x) (Err TimeTooLarge))) ≡ cond short None (cond early (Some (x, drop 40 bytes)) None)
+    with_rest 56 bytes (cond short (Err Short) (cond early (Ok x) (Err TimeTooLarge))) ≡ cond short None (cond early (Some (x, drop 56 bytes)) None)
 message_rest true early x bytes = refl
 message_rest false true x bytes = refl
 message_rest false false x bytes = refl
 
-pub message_at_is : (bytes : List ℕ) → message_at bytes ≡ with_rest 40 bytes (message_read bytes)
-message_at_is bytes = messages_are_read bytes ∙ sym (message_rest (nat_lt (length bytes) 40) (nat_lt (message_in bytes).time (2 ^ 41)) (message_in bytes) bytes)
+pub message_at_is : (bytes : List ℕ) → message_at bytes ≡ with_rest 56 bytes (message_read bytes)
+message_at_is bytes = messages_are_read bytes ∙ sym (message_rest (nat_lt (length bytes) 56) (nat_lt (message_in bytes).time (2 ^ 41)) (message_in bytes) bytes)
 
 with_rest_some : {X : Type 0} (n : ℕ) (bytes : List ℕ) (read : Result X KeyFault) (x : X) (rest : List ℕ) → with_rest n bytes read ≡ Some (x, rest) → read ≡ Ok x
 with_rest_some n bytes (Ok y) x rest e = ap (λ (z : _ × List ℕ). Ok z.0) (same_Some (y, drop n bytes) (x, rest) e)
@@ -45,16 +45,16 @@ front_of n bytes text rest long e = ap (take n) e ∙ take_at text rest n long
 pub rest_behind : (n : ℕ) (bytes : List ℕ) → take (length bytes - n) (drop n bytes) ≡ drop n bytes
 rest_behind n bytes = take_all (length bytes - n) (drop n bytes) (omega (arith, length-drop n bytes))
 
-pub message_read-long : (bytes : List ℕ) → 40 ≤ length bytes → message_read bytes ≡ made (message_in bytes)
-message_read-long bytes long = rw (le-ltb (length bytes) 40 long) refl
+pub message_read-long : (bytes : List ℕ) → 56 ≤ length bytes → message_read bytes ≡ made (message_in bytes)
+message_read-long bytes long = rw (le-ltb (length bytes) 56 long) refl
 
 pub message_read-again : (bytes : List ℕ) (x : Message) (rest : List ℕ) → IsRanged x → bytes ≡ message_bytes x ++ rest → message_read bytes ≡ Ok x
-message_read-again bytes x rest is e = with_rest_some 40 bytes (message_read bytes) x rest (sym (message_at_is bytes) ∙ ap message_at e ∙ message_format.again x rest is)
+message_read-again bytes x rest is e = with_rest_some 56 bytes (message_read bytes) x rest (sym (message_at_is bytes) ∙ ap message_at e ∙ message_format.again x rest is)
 
-pub message_read-spelled : (bytes : List ℕ) → IsBytes bytes → IfOk (message_read bytes) (λ x. take 40 bytes ≡ message_bytes x)
-message_read-spelled bytes fits = if_ok (λ x. take 40 bytes ≡ message_bytes x) (message_read bytes) (λ x e.
-    let got = message_format.takes bytes (x, drop 40 bytes) fits (message_at_is bytes ∙ ap (with_rest 40 bytes) e) in
-    front_of 40 bytes (message_bytes x) (drop 40 bytes) (length-message_bytes x) got.0.parts)
+pub message_read-spelled : (bytes : List ℕ) → IsBytes bytes → IfOk (message_read bytes) (λ x. take 56 bytes ≡ message_bytes x)
+message_read-spelled bytes fits = if_ok (λ x. take 56 bytes ≡ message_bytes x) (message_read bytes) (λ x e.
+    let got = message_format.takes bytes (x, drop 56 bytes) fits (message_at_is bytes ∙ ap (with_rest 56 bytes) e) in
+    front_of 56 bytes (message_bytes x) (drop 56 bytes) (length-message_bytes x) got.0.parts)
 
 pub messages_are_spelled : MessagesAreSpelled
 messages_are_spelled = (message_format.again, λ bytes x rest fits e. let got = message_format.takes bytes (x, rest) fits e in (got.0.parts, got.1))
@@ -80,18 +80,18 @@ unfolding signed_at number_at
 signed_at_nil = refl
 
 signed_rest : (short early : Bool) (sign : Option Sign) (x : Message) (byte : ℕ) (bytes : List ℕ) →
-    (sign >>= λ s. with_rest 40 bytes (cond short (Err Short) (cond early (Ok x) (Err TimeTooLarge))) >>= with_sign s)
-    ≡ with_rest 41 (byte ∷ bytes) (cond short (Err Short) (signed_of sign (cond early (Ok x) (Err TimeTooLarge))))
+    (sign >>= λ s. with_rest 56 bytes (cond short (Err Short) (cond early (Ok x) (Err TimeTooLarge))) >>= with_sign s)
+    ≡ with_rest 57 (byte ∷ bytes) (cond short (Err Short) (signed_of sign (cond early (Ok x) (Err TimeTooLarge))))
 signed_rest true early None x byte bytes = refl
 signed_rest false early None x byte bytes = refl
 signed_rest true early (Some s) x byte bytes = refl
 signed_rest false true (Some s) x byte bytes = refl
 signed_rest false false (Some s) x byte bytes = refl
 
-one_more : (n : ℕ) → nat_lt (suc n) 41 ≡ nat_lt n 40
-one_more n = elim (cases_lt n 40) [
-  | inl h ↦ lt-ltb (suc n) 41 (omega arith) ∙ sym (lt-ltb n 40 h)
-  | inr h ↦ le-ltb (suc n) 41 (omega arith) ∙ sym (le-ltb n 40 h)
+one_more : (n : ℕ) → nat_lt (suc n) 57 ≡ nat_lt n 56
+one_more n = elim (cases_lt n 56) [
+  | inl h ↦ lt-ltb (suc n) 57 (omega arith) ∙ sym (lt-ltb n 56 h)
+  | inr h ↦ le-ltb (suc n) 57 (omega arith) ∙ sym (le-ltb n 56 h)
 ]
 
 pub signed_are_read : SignedAreRead
@@ -99,8 +99,8 @@ signed_are_read [] = signed_at_nil
 signed_are_read (byte ∷ bytes) =
     signed_at_cons byte bytes
     ∙ ap (λ (read : Option (Message × List ℕ)). sign_of byte >>= λ sign. read >>= with_sign sign) (message_at_is bytes)
-    ∙ signed_rest (nat_lt (length bytes) 40) (nat_lt (message_in bytes).time (2 ^ 41)) (sign_of byte) (message_in bytes) byte bytes
-    ∙ ap (λ (short : Bool). with_rest 41 (byte ∷ bytes) (cond short (Err Short) (signed_of (sign_of byte) (made (message_in bytes))))) (sym (one_more (length bytes)))
+    ∙ signed_rest (nat_lt (length bytes) 56) (nat_lt (message_in bytes).time (2 ^ 41)) (sign_of byte) (message_in bytes) byte bytes
+    ∙ ap (λ (short : Bool). with_rest 57 (byte ∷ bytes) (cond short (Err Short) (signed_of (sign_of byte) (made (message_in bytes))))) (sym (one_more (length bytes)))
 
 sign_again : (sign : Sign) → sign_of (sign_byte sign) ≡ Some sign
 sign_again Plus = refl
@@ -136,7 +136,7 @@ signed_takes (byte ∷ bytes) s fits e =
 pub signed_format : IsFormat (λ (s : Signed). IsRanged s.message) signed_bytes signed_at
 signed_format = record { takes = signed_takes; again = signed_again }
 
-length-signed_bytes : (s : Signed) → length (signed_bytes s) ≡ 41
+length-signed_bytes : (s : Signed) → length (signed_bytes s) ≡ 57
 unfolding signed_bytes
 length-signed_bytes s = omega (arith, length-message_bytes s.message)
 
@@ -144,12 +144,12 @@ pub spellings_are_as_long : SpellingsAreAsLong
 spellings_are_as_long = (length-message_bytes, length-signed_bytes)
 
 pub signed_read-again : (bytes : List ℕ) (s : Signed) (rest : List ℕ) → IsRanged s.message → bytes ≡ signed_bytes s ++ rest → signed_read bytes ≡ Ok s
-signed_read-again bytes s rest is e = with_rest_some 41 bytes (signed_read bytes) s rest (sym (signed_are_read bytes) ∙ ap signed_at e ∙ signed_again s rest is)
+signed_read-again bytes s rest is e = with_rest_some 57 bytes (signed_read bytes) s rest (sym (signed_are_read bytes) ∙ ap signed_at e ∙ signed_again s rest is)
 
-pub signed_read-spelled : (bytes : List ℕ) → IsBytes bytes → IfOk (signed_read bytes) (λ s. take 41 bytes ≡ signed_bytes s)
-signed_read-spelled bytes fits = if_ok (λ s. take 41 bytes ≡ signed_bytes s) (signed_read bytes) (λ s e.
-    let got = signed_takes bytes (s, drop 41 bytes) fits (signed_are_read bytes ∙ ap (with_rest 41 bytes) e) in
-    front_of 41 bytes (signed_bytes s) (drop 41 bytes) (length-signed_bytes s) got.0.parts)
+pub signed_read-spelled : (bytes : List ℕ) → IsBytes bytes → IfOk (signed_read bytes) (λ s. take 57 bytes ≡ signed_bytes s)
+signed_read-spelled bytes fits = if_ok (λ s. take 57 bytes ≡ signed_bytes s) (signed_read bytes) (λ s e.
+    let got = signed_takes bytes (s, drop 57 bytes) fits (signed_are_read bytes ∙ ap (with_rest 57 bytes) e) in
+    front_of 57 bytes (signed_bytes s) (drop 57 bytes) (length-signed_bytes s) got.0.parts)
 
 pub signed_are_spelled : SignedAreSpelled
 signed_are_spelled = (signed_again, λ bytes s rest fits e. let got = signed_takes bytes (s, rest) fits e in (got.0.parts, got.1))

@@ -39,6 +39,6 @@ all_written done xs b = b.joined ∙ rw (no_bytes b.rest b.left) (append-nil don
     no_bytes (x ∷ rest) q = absurd (omega (arith, q))
 
 -- a sign and a message
-pub first_and_rest_written : (out ys : List ℕ) (b : ℕ) → length out ≡ 41 → put_mid 1 40 (set out 0 b) ys ≡ b ∷ ys
+pub first_and_rest_written : (out ys : List ℕ) (b : ℕ) → length out ≡ 57 → put_mid 1 56 (set out 0 b) ys ≡ b ∷ ys
 first_and_rest_written [] ys b h = absurd (omega (arith, h))
-first_and_rest_written (x ∷ xs) ys b h = rw (drop_all 40 xs (omega (arith, h)), append-nil ys) refl
+first_and_rest_written (x ∷ xs) ys b h = rw (drop_all 56 xs (omega (arith, h)), append-nil ys) refl

@@ -41,8 +41,8 @@ MessagesAreSpelled =
 abbrev pub MessagesAreRead : Type 0
 MessagesAreRead = (bytes : List ℕ) →
     message_at bytes ≡ (
-    if nat_lt (length bytes) 40 then None
-    else if nat_lt (message_in bytes).time (2 ^ 41) then Some (message_in bytes, drop 40 bytes)
+    if nat_lt (length bytes) 56 then None
+    else if nat_lt (message_in bytes).time (2 ^ 41) then Some (message_in bytes, drop 56 bytes)
     else None)
 
 -- the same of signed messages
@@ -54,10 +54,10 @@ SignedAreSpelled =
     signed_at bytes ≡ Some (s, rest) → (bytes ≡ signed_bytes s ++ rest) × IsRanged s.message)
 
 abbrev pub SignedAreRead : Type 0
-SignedAreRead = (bytes : List ℕ) → signed_at bytes ≡ with_rest 41 bytes (signed_read bytes)
+SignedAreRead = (bytes : List ℕ) → signed_at bytes ≡ with_rest 57 bytes (signed_read bytes)
 
 -- how many bytes they have
 abbrev pub SpellingsAreAsLong : Type 0
 SpellingsAreAsLong =
-    ((x : Message) → length (message_bytes x) ≡ 40)
-    × ((s : Signed) → length (signed_bytes s) ≡ 41)
+    ((x : Message) → length (message_bytes x) ≡ 56)
+    × ((s : Signed) → length (signed_bytes s) ≡ 57)

@@ -11,9 +11,11 @@ pub record Message : Type 0 where
   pub to : ℕ
   pub a : ℕ
   pub b : ℕ
+  pub c : ℕ
+  pub d : ℕ
 
 abbrev pub zero_message : Message  -- all its numbers are 0
-zero_message = record { time = 0; from = 0; number = 0; to = 0; a = 0; b = 0 }
+zero_message = record { time = 0; from = 0; number = 0; to = 0; a = 0; b = 0; c = 0; d = 0 }
 
 -- its numbers lie in their ranges
 pub record IsRanged (x : Message) : Type 0 where
@@ -23,6 +25,8 @@ pub record IsRanged (x : Message) : Type 0 where
   pub to : x.to < 2 ^ 32
   pub a : x.a < 2 ^ 64
   pub b : x.b < 2 ^ 64
+  pub c : x.c < 2 ^ 64
+  pub d : x.d < 2 ^ 64
 
 -- by the fields, in the order in which they stand
 unfoldable pub message_cmp : Message → Message → Ordering
@@ -31,7 +35,9 @@ message_cmp m n =
     (ordering_then (nat_cmp m.from n.from)
     (ordering_then (nat_cmp m.number n.number)
     (ordering_then (nat_cmp m.to n.to)
-    (ordering_then (nat_cmp m.a n.a) (nat_cmp m.b n.b)))))
+    (ordering_then (nat_cmp m.a n.a)
+    (ordering_then (nat_cmp m.b n.b)
+    (ordering_then (nat_cmp m.c n.c) (nat_cmp m.d n.d)))))))
 
 abbrev pub is_before : Message → Message → Bool
 is_before m n = is_lt (message_cmp m n)

@@ -15,7 +15,9 @@ messages_are_total =
     (then_total (on_total (λ (x : Message). x.number) nat_cmp_total)
     (then_total (on_total (λ (x : Message). x.to) nat_cmp_total)
     (then_total (on_total (λ (x : Message). x.a) nat_cmp_total)
-    (on_total (λ (x : Message). x.b) nat_cmp_total)))))
+    (then_total (on_total (λ (x : Message). x.b) nat_cmp_total)
+    (then_total (on_total (λ (x : Message). x.c) nat_cmp_total)
+    (on_total (λ (x : Message). x.d) nat_cmp_total)))))))
 
 -- two tests may be made in either order, whatever comes after them
 swapped : (n o after : Bool) → (o && (n && after)) ≡ (n && (o && after))
@@ -27,14 +29,18 @@ swapped true true after = refl
 -- `==` tests the fields in the order in which they are declared
 pub messages_are_tied : (x y : Message) →
     ((x.time == y.time) && ((x.from == y.from) && ((x.to == y.to)
-    && ((x.number == y.number) && ((x.a == y.a) && (x.b == y.b))))))
+    && ((x.number == y.number) && ((x.a == y.a) && ((x.b == y.b)
+    && ((x.c == y.c) && (x.d == y.d))))))))
     ≡ eq_by_cmp message_cmp x y
 unfolding message_cmp
 messages_are_tied x y =
     both_tied _ _ (nat_cmp x.time y.time) _ (unsigned_ties x.time y.time)
     (both_tied _ _ (nat_cmp x.from y.from) _ (unsigned_ties x.from y.from)
-    (swapped (x.number == y.number) (x.to == y.to) ((x.a == y.a) && (x.b == y.b))
+    (swapped (x.number == y.number) (x.to == y.to)
+    ((x.a == y.a) && ((x.b == y.b) && ((x.c == y.c) && (x.d == y.d))))
     ∙ both_tied _ _ (nat_cmp x.number y.number) _ (unsigned_ties x.number y.number)
     (both_tied _ _ (nat_cmp x.to y.to) _ (unsigned_ties x.to y.to)
-    (both_tied _ _ (nat_cmp x.a y.a) (nat_cmp x.b y.b) (unsigned_ties x.a y.a)
-    (unsigned_ties x.b y.b)))))
+    (both_tied _ _ (nat_cmp x.a y.a) _ (unsigned_ties x.a y.a)
+    (both_tied _ _ (nat_cmp x.b y.b) _ (unsigned_ties x.b y.b)
+    (both_tied _ _ (nat_cmp x.c y.c) (nat_cmp x.d y.d) (unsigned_ties x.c y.c)
+    (unsigned_ties x.d y.d)))))))

@@ -15,11 +15,12 @@ use Rattle.eventkey.specs.declared.Signed.{Signed}
 abbrev pub made : Message → Result Message KeyFault
 made m = if nat_lt m.time (2 ^ 41) then Ok m else Err TimeTooLarge
 
--- 40 bytes: the fields in their order
+-- 56 bytes: the fields in their order
 unfoldable pub message_bytes : Message → List ℕ
 message_bytes x =
     big_bytes 8 x.time ++ (big_bytes 4 x.from ++ (big_bytes 8 x.number
-    ++ (big_bytes 4 x.to ++ (big_bytes 8 x.a ++ big_bytes 8 x.b))))
+    ++ (big_bytes 4 x.to ++ (big_bytes 8 x.a ++ (big_bytes 8 x.b
+    ++ (big_bytes 8 x.c ++ big_bytes 8 x.d))))))
 
 -- a message, of a time below 2^41
 unfoldable pub message_at : Reader Message
@@ -30,6 +31,8 @@ message_at bytes = do
   to ← number_at 4 number.1
   a ← number_at 8 to.1
   b ← number_at 8 a.1
+  c ← number_at 8 b.1
+  d ← number_at 8 c.1
   if nat_lt time.0 (2 ^ 41) then Some (
     record {
       time = time.0;
@@ -38,11 +41,13 @@ message_at bytes = do
       to = to.0;
       a = a.0;
       b = b.0;
+      c = c.0;
+      d = d.0;
     },
-    b.1,
+    d.1,
   ) else None
 
--- the message in the first 40 bytes, whatever its time
+-- the message in the first 56 bytes, whatever its time
 unfoldable pub message_in : List ℕ → Message
 message_in bytes = record {
   time = big_number 8 bytes;
@@ -51,18 +56,20 @@ message_in bytes = record {
   to = big_number 4 (drop 20 bytes);
   a = big_number 8 (drop 24 bytes);
   b = big_number 8 (drop 32 bytes);
+  c = big_number 8 (drop 40 bytes);
+  d = big_number 8 (drop 48 bytes);
 }
 
--- the answer of a read of the first 40 bytes
+-- the answer of a read of the first 56 bytes
 abbrev pub message_read : List ℕ → Result Message KeyFault
-message_read bytes = if nat_lt (length bytes) 40 then Err Short else made (message_in bytes)
+message_read bytes = if nat_lt (length bytes) 56 then Err Short else made (message_in bytes)
 
 -- the byte of a sign: 0 for a message, 1 for an antimessage
 abbrev pub sign_byte : Sign → ℕ
 sign_byte Plus = 0
 sign_byte Minus = 1
 
--- 41 bytes: the sign, then the message
+-- 57 bytes: the sign, then the message
 unfoldable pub signed_bytes : Signed → List ℕ
 signed_bytes s = sign_byte s.sign ∷ message_bytes s.message
 
@@ -84,8 +91,8 @@ signed_of None read = Err BadSign
 signed_of (Some sign) (Ok message) = Ok (record { sign = sign; message = message })
 signed_of (Some sign) (Err fault) = Err fault
 
--- the answer of a read of the first 41 bytes
+-- the answer of a read of the first 57 bytes
 abbrev pub signed_read : List ℕ → Result Signed KeyFault
 signed_read bytes =
-    if nat_lt (length bytes) 41 then Err Short
+    if nat_lt (length bytes) 57 then Err Short
     else signed_of (sign_of (slice_index bytes 0)) (made (message_in (drop 1 bytes)))

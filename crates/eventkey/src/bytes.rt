@@ -11,13 +11,13 @@ use crate::{KeyFault, Message, Sign, Signed};
 use byteorder::{BigEndian, ByteOrder};
 
 /// How many bytes a message has.
-pub const MESSAGE_BYTES: usize = 40;
+pub const MESSAGE_BYTES: usize = 56;
 
 /// How many bytes a signed message has.
-pub const SIGNED_BYTES: usize = 41;
+pub const SIGNED_BYTES: usize = 57;
 
-/// Writes the 40 bytes of a message.
-pub fn put_message(message: &Message, out: &mut [u8; 40])
+/// Writes the 56 bytes of a message.
+pub fn put_message(message: &Message, out: &mut [u8; 56])
     ensures { out.new ≡ message_bytes message.now }
 {
     BigEndian::write_u64(out, message.time());
@@ -26,18 +26,20 @@ pub fn put_message(message: &Message, out: &mut [u8; 40])
     BigEndian::write_u32(&mut out[20..], message.to());
     BigEndian::write_u64(&mut out[24..], message.a());
     BigEndian::write_u64(&mut out[32..], message.b());
+    BigEndian::write_u64(&mut out[40..], message.c());
+    BigEndian::write_u64(&mut out[48..], message.d());
 }
 
-/// Reads the message in the first 40 bytes, and ignores what follows. Refused are fewer bytes
+/// Reads the message in the first 56 bytes, and ignores what follows. Refused are fewer bytes
 /// (`Short`) and then a time of 2^41 ticks or more (`TimeTooLarge`).
 pub fn get_message(bytes: &[u8]) -> Result<Message, KeyFault>
     ensures exact { result ≡ message_read bytes.now }
-    ensures short { (result ≡ Err KeyFault.Short) ↔ (length bytes.now < 40) }
+    ensures short { (result ≡ Err KeyFault.Short) ↔ (length bytes.now < 56) }
     ensures late { (result ≡ Err KeyFault.TimeTooLarge)
-        ↔ ((40 ≤ length bytes.now) × (2 ^ 41 ≤ (message_in bytes.now).time)) }
+        ↔ ((56 ≤ length bytes.now) × (2 ^ 41 ≤ (message_in bytes.now).time)) }
 
     // What is read is spelled so, and what is spelled so is read, whatever follows.
-    ensures spelled { IfOk result (λ x. take 40 bytes.now ≡ message_bytes x) }
+    ensures spelled { IfOk result (λ x. take 56 bytes.now ≡ message_bytes x) }
     ensures again { (x : Message) (rest : List ℕ) → IsRanged x →
         bytes.now ≡ message_bytes x ++ rest → result ≡ Ok x }
 {
@@ -50,7 +52,7 @@ pub fn get_message(bytes: &[u8]) -> Result<Message, KeyFault>
 /// The fields at their places.
 #[tactic(auto, unfolding(crate::specs::Spelling::message_in))]
 fn fixed_fields(bytes: &[u8]) -> Result<Message, KeyFault>
-    requires { 40 ≤ length bytes.now }
+    requires { 56 ≤ length bytes.now }
     ensures { result ≡ made (message_in bytes.now) }
 {
     let time = BigEndian::read_u64(bytes);
@@ -59,12 +61,14 @@ fn fixed_fields(bytes: &[u8]) -> Result<Message, KeyFault>
     let to = BigEndian::read_u32(bytes.split_at(20).1);
     let a = BigEndian::read_u64(bytes.split_at(24).1);
     let b = BigEndian::read_u64(bytes.split_at(32).1);
-    Message::new(time, from, number, to, a, b)
+    let c = BigEndian::read_u64(bytes.split_at(40).1);
+    let d = BigEndian::read_u64(bytes.split_at(48).1);
+    Message::new(time, from, number, to, a, b, c, d)
 }
 
-/// Writes the 41 bytes of a signed message: the byte of its sign, 0 for a message and 1 for an
+/// Writes the 57 bytes of a signed message: the byte of its sign, 0 for a message and 1 for an
 /// antimessage, and then the message.
-pub fn put_signed(signed: &Signed, out: &mut [u8; 41])
+pub fn put_signed(signed: &Signed, out: &mut [u8; 57])
     ensures { out.new ≡ signed_bytes signed.now }
 {
     let mut body = [0; MESSAGE_BYTES];
@@ -73,20 +77,20 @@ pub fn put_signed(signed: &Signed, out: &mut [u8; 41])
     out[1..].copy_from_slice(&body);
 }
 
-/// Reads the signed message in the first 41 bytes, and ignores what follows. Refused are fewer
+/// Reads the signed message in the first 57 bytes, and ignores what follows. Refused are fewer
 /// bytes (`Short`), then a first byte above 1 (`BadSign`), then a time of 2^41 ticks or more
 /// (`TimeTooLarge`).
 pub fn get_signed(bytes: &[u8]) -> Result<Signed, KeyFault>
     ensures exact { result ≡ signed_read bytes.now }
-    ensures short { (result ≡ Err KeyFault.Short) ↔ (length bytes.now < 41) }
+    ensures short { (result ≡ Err KeyFault.Short) ↔ (length bytes.now < 57) }
     ensures sign { (result ≡ Err KeyFault.BadSign)
-        ↔ ((41 ≤ length bytes.now) × (2 ≤ slice_index bytes.now 0)) }
+        ↔ ((57 ≤ length bytes.now) × (2 ≤ slice_index bytes.now 0)) }
     ensures late { (result ≡ Err KeyFault.TimeTooLarge)
-        ↔ ((41 ≤ length bytes.now) × (slice_index bytes.now 0 < 2)
+        ↔ ((57 ≤ length bytes.now) × (slice_index bytes.now 0 < 2)
         × (2 ^ 41 ≤ (message_in (drop 1 bytes.now)).time)) }
 
     // What is read is spelled so, and what is spelled so is read, whatever follows.
-    ensures spelled { IfOk result (λ s. take 41 bytes.now ≡ signed_bytes s) }
+    ensures spelled { IfOk result (λ s. take 57 bytes.now ≡ signed_bytes s) }
     ensures again { (s : Signed) (rest : List ℕ) → IsRanged s.message →
         bytes.now ≡ signed_bytes s ++ rest → result ≡ Ok s }
 {

@@ -29,7 +29,7 @@ use thiserror::Error;
 
 /// A message of a simulation, stamped with its receive time (Jefferson 1985): the time in ticks,
 /// below 2^41, the number of its sender, the sender's count of messages before it, the number of
-/// its receiver, and two words of content. Messages are ordered by these, in this order (this
+/// its receiver, and four words of content. Messages are ordered by these, in this order (this
 /// project's profile).
 // Fields lie in memory in this order, and the two of 32 bits side by side leave no padding.
 // A derive would compare in this order too, so the order of messages is written out.
@@ -41,10 +41,12 @@ pub struct Message {
     number: u64,
     a: u64,
     b: u64,
+    c: u64,
+    d: u64,
 }
 
 // Messages fill most of the memory that a run touches, so each padding byte costs time.
-const _: () = prove!(size_of::<Message>() == 40);
+const _: () = prove!(size_of::<Message>() == 56);
 
 impl PartialOrd for Message {
     ghost partial_cmp = { as_partial_cmp message_cmp };
@@ -83,7 +85,13 @@ impl Ord for Message {
         if self.a != other.a {
             return self.a.cmp(&other.a);
         }
-        self.b.cmp(&other.b)
+        if self.b != other.b {
+            return self.b.cmp(&other.b);
+        }
+        if self.c != other.c {
+            return self.c.cmp(&other.c);
+        }
+        self.d.cmp(&other.d)
     }
 }
 
@@ -99,6 +107,8 @@ impl Model for Message {
       to = m.to;
       a = m.a;
       b = m.b;
+      c = m.c;
+      d = m.d;
     } };
 
     ghost invariant = { λ m. IsRanged (record {
@@ -108,6 +118,8 @@ impl Model for Message {
       to = m.to;
       a = m.a;
       b = m.b;
+      c = m.c;
+      d = m.d;
     }) };
 
     ghost inverse = { λ v. record {
@@ -117,6 +129,8 @@ impl Model for Message {
       to = v.to;
       a = v.a;
       b = v.b;
+      c = v.c;
+      d = v.d;
     } };
 }
 
@@ -146,6 +160,8 @@ impl Message {
         to: u32,
         a: u64,
         b: u64,
+        c: u64,
+        d: u64,
     ) -> Result<Message, KeyFault>
         ensures { result ≡ made (record {
           time = time;
@@ -154,6 +170,8 @@ impl Message {
           to = to;
           a = a;
           b = b;
+          c = c;
+          d = d;
         }) }
     {
         if time < TIME_LIMIT {
@@ -164,6 +182,8 @@ impl Message {
                 to,
                 a,
                 b,
+                c,
+                d,
             })
         } else {
             Err(KeyFault::TimeTooLarge)
@@ -185,7 +205,7 @@ impl Message {
         *self < *other
     }
 
-    /// Whether the six numbers are the same.
+    /// Whether the eight numbers are the same.
     #[tactic(auto, unfolding(crate::specs::Message::message_cmp))]
     pub fn is_same(&self, other: &Message) -> bool
         ensures same { result ≡ is_same self.now other.now }
@@ -242,6 +262,20 @@ impl Message {
         ensures { result ≡ self.now.b }
     {
         self.b
+    }
+
+    /// The third word of its content.
+    pub fn c(&self) -> u64
+        ensures { result ≡ self.now.c }
+    {
+        self.c
+    }
+
+    /// The fourth word of its content.
+    pub fn d(&self) -> u64
+        ensures { result ≡ self.now.d }
+    {
+        self.d
     }
 }
 

@@ -46,7 +46,7 @@ pub fn read_u64(bytes: &[u8]) -> Option<(u64, &[u8])>
     Some((BigEndian::read_u64(bytes), &bytes[8..]))
 }
 
-/// A message and the bytes behind its 40, or `None` where `get_message` refuses.
+/// A message and the bytes behind its 56, or `None` where `get_message` refuses.
 pub fn read_message(bytes: &[u8]) -> Option<(Message, &[u8])>
     ensures { option_map (λ x. (x.0, x.1.now)) result ≡ message_at bytes.now }
 {
@@ -56,7 +56,7 @@ pub fn read_message(bytes: &[u8]) -> Option<(Message, &[u8])>
     }
 }
 
-/// A signed message and the bytes behind its 41, or `None` where `get_signed` refuses.
+/// A signed message and the bytes behind its 57, or `None` where `get_signed` refuses.
 pub fn read_signed(bytes: &[u8]) -> Option<(Signed, &[u8])>
     ensures { option_map (λ x. (x.0, x.1.now)) result ≡ signed_at bytes.now }
 {
@@ -74,7 +74,7 @@ pub fn read_messages(
     bytes: &[u8],
 ) -> Result<Option<(Vec<Message>, &[u8])>, AllocError>
     ensures read { Gives (λ x. (x.0.items, x.1.now)) result (items_at message_at count bytes.now) }
-    ensures short { length bytes.now < 40 * count → result ≡ Ok None }
+    ensures short { length bytes.now < 56 * count → result ≡ Ok None }
 {
     // Memory is asked for only once the bytes are there.
     if bytes.len() < MESSAGE_BYTES * count as usize {
@@ -103,7 +103,7 @@ pub fn read_signed_list(
     bytes: &[u8],
 ) -> Result<Option<(Vec<Signed>, &[u8])>, AllocError>
     ensures read { Gives (λ x. (x.0.items, x.1.now)) result (items_at signed_at count bytes.now) }
-    ensures short { length bytes.now < 41 * count → result ≡ Ok None }
+    ensures short { length bytes.now < 57 * count → result ≡ Ok None }
 {
     // Memory is asked for only once the bytes are there.
     if bytes.len() < SIGNED_BYTES * count as usize {
@@ -124,7 +124,7 @@ pub fn read_signed_list(
     Ok(Some((list, rest)))
 }
 
-/// Appends the 40 bytes of a message. After an `AllocError` the bytes are as before.
+/// Appends the 56 bytes of a message. After an `AllocError` the bytes are as before.
 pub fn append_message(out: &mut Vec<u8>, message: &Message) -> Result<(), AllocError>
     ensures ok { OnOk result (out.new.items ≡ out.old.items ++ message_bytes message.now) }
     ensures err { OnErr result (out.new.items ≡ out.old.items) }
@@ -134,7 +134,7 @@ pub fn append_message(out: &mut Vec<u8>, message: &Message) -> Result<(), AllocE
     out.extend_from_slice(&bytes)
 }
 
-/// Appends the 41 bytes of a signed message. After an `AllocError` the bytes are as before.
+/// Appends the 57 bytes of a signed message. After an `AllocError` the bytes are as before.
 pub fn append_signed(out: &mut Vec<u8>, signed: &Signed) -> Result<(), AllocError>
     ensures ok { OnOk result (out.new.items ≡ out.old.items ++ signed_bytes signed.now) }
     ensures err { OnErr result (out.new.items ≡ out.old.items) }

@@ -70,8 +70,9 @@ entered_named called (Some p) found h = elim (found_among (λ s. answers_to p.0 
   | inr (inr (inr (inr (inl e)))) ↦ inr (inr (inr (inr (inl (sym (ap (λ r. r.0) e))))))
   | inr (inr (inr (inr (inr (inl e))))) ↦ inr (inr (inr (inr (inr (inl (sym (ap (λ r. r.0) e)))))))
   | inr (inr (inr (inr (inr (inr (inl e)))))) ↦ inr (inr (inr (inr (inr (inr (inl (sym (ap (λ r. r.0) e))))))))
-  | inr (inr (inr (inr (inr (inr (inr (inl e))))))) ↦ inr (inr (inr (inr (inr (inr (inr (sym (ap (λ r. r.0) e))))))))
-  | inr (inr (inr (inr (inr (inr (inr (inr e))))))) ↦ absurd e
+  | inr (inr (inr (inr (inr (inr (inr (inl e))))))) ↦ inr (inr (inr (inr (inr (inr (inr (inl (sym (ap (λ r. r.0) e)))))))))
+  | inr (inr (inr (inr (inr (inr (inr (inr (inl e)))))))) ↦ inr (inr (inr (inr (inr (inr (inr (inr (sym (ap (λ r. r.0) e)))))))))
+  | inr (inr (inr (inr (inr (inr (inr (inr (inr e)))))))) ↦ absurd e
 ]
 
 pub only_named : (called : Text) (words : List Text) (name : Text) (rows : List Row) → subcommand_of (program called) words ≡ Some (name, rows) → is_named name

@@ -12,7 +12,8 @@ use Rattle.clap.specs.ValueTests.{accepts}
 use Rattle.clap.specs.declared.builder.action.ArgAction.TheVariants.{SetTrue}
 use Rattle.clap.specs.declared.builder.value_parser.ValueParser.TheVariants.{Unsigned}
 use Rattle.lines.specs.declared.line.Line.{Line}
-use Rattle.lines.specs.declared.line.Line.TheVariants.{Check, Extend, Log, New, Node, Run, Seq, Show}
+use Rattle.lines.specs.declared.line.Line.TheVariants.{Check, Extend, Log, Migrate, New, Node, Run}
+use Rattle.lines.specs.declared.line.Line.TheVariants.{Seq, Show}
 
 -- ---- the arguments
 
@@ -41,6 +42,10 @@ optional_number name least most = record (new_rule name) {
 abbrev pub optional_path : Text → Rule
 optional_path name = record (new_rule name) { long = Some name; value_names = 1 }
 
+-- a disk has 8 to 131,072 sectors
+abbrev pub sectors_option : Rule
+sectors_option = number_option (codes "sectors") 8 131072 (codes "4096")
+
 -- an option without a value
 abbrev pub flag : Text → Rule
 flag name = record (new_rule name) { long = Some name; action = Some SetTrue }
@@ -55,10 +60,9 @@ on_model name = with_rule (new_app name) (path_argument (codes "MODEL"))
 abbrev pub on_disk : Text → App
 on_disk name = with_rule (on_model name) (path_argument (codes "DISK"))
 
--- a disk has 8 to 131,072 sectors
+-- a disk of so many sectors
 abbrev pub new_command : App
-new_command =
-    with_rule (on_disk (codes "new")) (number_option (codes "sectors") 8 131072 (codes "4096"))
+new_command = with_rule (on_disk (codes "new")) sectors_option
 
 -- 1 to 64 nodes, batches of 1 to 2^32 - 1 messages, and as many rounds; a checkpoint each so many
 -- rounds, 1 to 1,000,000; programs of their own as nodes, one of which is cut short; nodes that work
@@ -73,6 +77,13 @@ run_command = with_rule (with_rule (with_rule (with_rule (with_rule (with_rule (
     (optional_number (codes "cut") 0 4294967295))
     (flag (codes "together")))
     (flag (codes "attach"))
+
+-- a disk of format 1, and one of format 2 of so many sectors
+abbrev pub migrate_command : App
+migrate_command = with_rule (with_rule (with_rule (on_model (codes "migrate"))
+    (path_argument (codes "OLD")))
+    (path_argument (codes "NEW")))
+    sectors_option
 
 -- a node behind a socket, for 1 to 2^32 - 1 replies
 abbrev pub node_command : App
@@ -93,10 +104,10 @@ without_commands called = record (new_app called) {
 -- the program of this name
 abbrev pub program : Text → App
 program called = with_subcommand (with_subcommand (with_subcommand (with_subcommand (with_subcommand
-    (with_subcommand (with_subcommand (with_subcommand (without_commands called) new_command.top)
-    run_command.top) (on_disk (codes "extend")).top) (on_disk (codes "log")).top)
-    (on_disk (codes "show")).top) (on_model (codes "seq")).top) (on_model (codes "check")).top)
-    node_command.top
+    (with_subcommand (with_subcommand (with_subcommand (with_subcommand (without_commands called)
+    new_command.top) run_command.top) (on_disk (codes "extend")).top) migrate_command.top)
+    (on_disk (codes "log")).top) (on_disk (codes "show")).top) (on_model (codes "seq")).top)
+    (on_model (codes "check")).top) node_command.top
 
 -- ---- building them
 
@@ -163,6 +174,11 @@ SaysRows (Run model disk nodes batch rounds checkpoint sockets cut together atta
     × IsFlagIn (codes "together") rows together
     × IsFlagIn (codes "attach") rows attach
 SaysRows (Extend model disk) name rows = (name ≡ codes "extend") × SaysDisk model.now disk.now rows
+SaysRows (Migrate model old new sectors) name rows = (name ≡ codes "migrate")
+    × (model.now ≡ text_in (codes "MODEL") rows)
+    × (old.now ≡ text_in (codes "OLD") rows)
+    × (new.now ≡ text_in (codes "NEW") rows)
+    × (sectors ≡ number_in (codes "sectors") 8 131072 rows)
 SaysRows (Log model disk) name rows = (name ≡ codes "log") × SaysDisk model.now disk.now rows
 SaysRows (Show model disk) name rows = (name ≡ codes "show") × SaysDisk model.now disk.now rows
 SaysRows (Seq model) name rows =
@@ -187,11 +203,12 @@ abbrev pub IsRanged : Line → Type 0
 IsRanged (New model disk sectors) = (8 ≤ sectors) × (sectors ≤ 131072)
 IsRanged (Run model disk nodes batch rounds checkpoint sockets cut together attach) =
     (1 ≤ nodes) × (nodes ≤ 64) × (1 ≤ batch) × (1 ≤ rounds)
+IsRanged (Migrate model old new sectors) = (8 ≤ sectors) × (sectors ≤ 131072)
 IsRanged (Node model socket parcels) = 1 ≤ parcels
 IsRanged _ = ⊤
 
 -- the name is that of a command
 abbrev pub is_named : Text → Type 0
 is_named name = (name ≡ codes "new") ⊎ ((name ≡ codes "run") ⊎ ((name ≡ codes "extend")
-    ⊎ ((name ≡ codes "log") ⊎ ((name ≡ codes "show") ⊎ ((name ≡ codes "seq")
-    ⊎ ((name ≡ codes "check") ⊎ (name ≡ codes "node")))))))
+    ⊎ ((name ≡ codes "migrate") ⊎ ((name ≡ codes "log") ⊎ ((name ≡ codes "show")
+    ⊎ ((name ≡ codes "seq") ⊎ ((name ≡ codes "check") ⊎ (name ≡ codes "node"))))))))

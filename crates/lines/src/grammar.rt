@@ -3,9 +3,9 @@
 ghost use Rattle.std.specs.Prelude.{◌≡◌, false, true, IfOk};
 ghost use Rattle.clap.specs.Words.{app_of, rule_of};
 ghost use Rattle.clap.specs.declared.builder.command.Command.TheViews.{out-Command as fields_of};
-ghost use Rattle.lines.specs.Line.{flag, new_command, node_command, number_option, on_disk, on_model};
-ghost use Rattle.lines.specs.Line.{optional_number, optional_path, path_argument, program};
-ghost use Rattle.lines.specs.Line.{run_command, without_commands};
+ghost use Rattle.lines.specs.Line.{flag, migrate_command, new_command, node_command, number_option};
+ghost use Rattle.lines.specs.Line.{on_disk, on_model, optional_number, optional_path, path_argument};
+ghost use Rattle.lines.specs.Line.{program, run_command, sectors_option, without_commands};
 ghost use Rattle.lines.specs.Line.{AddsArgument, AddsCommand, IsApp};
 
 use clap::builder::ValueParser;
@@ -36,6 +36,7 @@ pub fn program<'a>(alloc: Global, texts: Texts<'a>) -> Result<Command<'a>, Alloc
     let program = with_command(Ok(without_commands(alloc, name, help)), new(alloc));
     let program = with_command(program, run(alloc));
     let program = with_command(program, on_disk(alloc, "extend", EXTEND_ABOUT, EXTEND_HELP));
+    let program = with_command(program, migrate(alloc));
     let program = with_command(program, on_disk(alloc, "log", LOG_ABOUT, LOG_HELP));
     let program = with_command(program, on_disk(alloc, "show", SHOW_ABOUT, SHOW_HELP));
     let program = with_command(program, on_model(alloc, "seq", SEQ_ABOUT, seq_help));
@@ -75,11 +76,13 @@ Faults:
   File         a file cannot be read, or is no disk, or one of another size; or a node's
                socket is not made, or its program does not start or does not connect
   Log ..       the disk: NotBlank (it has a log), NotFormatted, Corrupt, Disk ..
-  Recovery ..  the disk is of another simulation (OtherModel), or is damaged
+  Recovery ..  the disk is of another simulation or of format 1 (OtherModel), or is damaged
   Session ..   a run stops: Full (the disk has no room), Recovery .., Disk, NoMemory, or
                Port .. (a node's program ended, or answered what is no reply); or 'extend' does:
                EndRefused (the end is not a later one), or as a run
   Rounds       all rounds of a run are made, and it is not at its end
+  Migrate ..   'migrate' stops: Old .. (OLD has another format, is of another simulation, or is
+               damaged), New .. (NEW: Full (it has no room), Disk .., NoMemory)
   World ..     'seq' stops: NoMemory, or NumberLimit past 2^63 messages of one process
   Wire ..      'node' stops: Truncated, TooLong, BadKind, BadBody (what came is no frame that
                has its place there), Io, NoMemory
@@ -92,8 +95,8 @@ Faults:
 fn new<'a>(alloc: Global) -> Result<Command<'a>, AllocError>
     ensures { IfOk result (IsApp new_command) }
 {
-    let sectors = number_option(alloc, "sectors", "4096", 8, 131_072, SECTORS_HELP);
-    with_argument(on_disk(alloc, "new", NEW_ABOUT, NEW_HELP), sectors)
+    let command = on_disk(alloc, "new", NEW_ABOUT, NEW_HELP);
+    with_argument(command, sectors(alloc, SECTORS_HELP))
 }
 
 const NEW_ABOUT: &str = "Makes a disk with an empty log for a model";
@@ -149,6 +152,8 @@ Whatever ends the run, what was committed stands on the disk, and the next run g
 A checkpoint takes one record of the disk, as long as the state of all processes and what is
 pending. The next opening begins at the last one, and replays only the events behind it.
 
+A disk of format 1 is told as Session Recovery OtherModel; 'migrate' alone reads it.
+
 With --sockets the run starts this program as 'node' for each node, waits for it at the end, and
 removes its socket. DIR is to be a folder of your own (mode 700): whoever may write into it can
 answer in a node's place. Sockets that a killed run left there have to be removed by hand.
@@ -169,19 +174,52 @@ The model file is that of the disk, but with a later end. From then on it is the
 Output:
   extended E0 to E1   the end before and this one, in ticks";
 
+/// The command `migrate`.
+fn migrate<'a>(alloc: Global) -> Result<Command<'a>, AllocError>
+    ensures { IfOk result (IsApp migrate_command) }
+{
+    let command = on_model(alloc, "migrate", MIGRATE_ABOUT, MIGRATE_HELP);
+    let command = with_argument(
+        command,
+        path(alloc, "OLD", "The file of the disk of format 1"),
+    );
+    let command = with_argument(
+        command,
+        path(alloc, "NEW", "The file of the disk of format 2"),
+    );
+    with_argument(command, sectors(alloc, NEW_SECTORS_HELP))
+}
+
+const MIGRATE_ABOUT: &str = "Writes a disk of format 1 anew in format 2";
+
+const NEW_SECTORS_HELP: &str = "How many sectors of 512 bytes the disk NEW has, 8 to 131072";
+
+const MIGRATE_HELP: &str = "\
+Reads a disk of format 1 (OLD), as earlier versions made it, and writes NEW in format 2 with what is
+committed there; OLD is only read. The model file is that of OLD.
+
+A file NEW that is there has to have the size that is asked for, and must not have a log.
+
+Output:
+  migrated TIME events N   ticks, and events in the log";
+
 const LOG_ABOUT: &str = "Prints the committed events of a disk";
 
 const LOG_HELP: &str = "\
+A disk of format 1 is told as Recovery OtherModel; 'migrate' alone reads it.
+
 Output, all numbers decimal:
-  TIME FROM NUMBER TO A B   each committed event";
+  TIME FROM NUMBER TO A B C D   each committed event";
 
 const SHOW_ABOUT: &str = "Prints the committed world of a disk";
 
 const SHOW_HELP: &str = "\
+A disk of format 1 is told as Recovery OtherModel; 'migrate' alone reads it.
+
 Output, all numbers decimal:
-  virtual time TIME                ticks
-  lp LP sent NUMBER state WORDS    each process
-  pending TIME FROM NUMBER TO A B  each message that is not handled";
+  virtual time TIME                    ticks
+  lp LP sent NUMBER state WORDS        each process
+  pending TIME FROM NUMBER TO A B C D  each message that is not handled";
 
 const SEQ_ABOUT: &str =
     "Runs a model to its end, one event at a time, and prints its log and its final world";
@@ -193,10 +231,10 @@ pub fn seq_help(alloc: Global, keys: &str) -> Result<String, AllocError> {
 {keys}
 
 Output, all numbers decimal:
-  TIME FROM NUMBER TO A B          each event that was handled
-  virtual time TIME                ticks
-  lp LP sent NUMBER state WORDS    each process
-  pending TIME FROM NUMBER TO A B  each message that is not handled"
+  TIME FROM NUMBER TO A B C D          each event that was handled
+  virtual time TIME                    ticks
+  lp LP sent NUMBER state WORDS        each process
+  pending TIME FROM NUMBER TO A B C D  each message that is not handled"
     )
 }
 
@@ -290,6 +328,14 @@ fn path<'a>(alloc: Global, id: &'a str, help: &'a str) -> Arg<'a>
     ensures local { result.global ≡ false }
 {
     Arg::new(alloc, id).required(true).help(help)
+}
+
+/// The option for the number of a disk's sectors.
+fn sectors<'a>(alloc: Global, help: &'a str) -> Arg<'a>
+    ensures rule { rule_of result ≡ sectors_option }
+    ensures local { result.global ≡ false }
+{
+    number_option(alloc, "sectors", "4096", 8, 131_072, help)
 }
 
 /// An option whose value is a number from `least` to `most`.

@@ -55,6 +55,17 @@ pub enum Line<'a> {
         /// The path of the disk's file.
         disk: &'a str,
     },
+    /// Write a disk of format 1 anew in format 2.
+    Migrate {
+        /// The path of the model file.
+        model: &'a str,
+        /// The path of the file of the disk of format 1.
+        old: &'a str,
+        /// The path of the file of the disk of format 2.
+        new: &'a str,
+        /// How many sectors the disk of format 2 has, 8 to 131,072.
+        sectors: u32,
+    },
     /// Print the committed events of a disk.
     Log {
         /// The path of the model file.
@@ -140,6 +151,12 @@ fn line_of<'a>(name: &str, values: &ArgMatches<'a>) -> Line<'a>
         "extend" => Line::Extend {
             model,
             disk: text(values, "DISK"),
+        },
+        "migrate" => Line::Migrate {
+            model,
+            old: text(values, "OLD"),
+            new: text(values, "NEW"),
+            sectors: number(values, "sectors", 8, 131_072),
         },
         "log" => Line::Log {
             model,

@@ -32,7 +32,7 @@ stamp_addressed lps lp t k (o ∷ os) few l early fits h = (
     ranged = (
         let d = h.0.delay_fits in
         let r = h.0.to in
-        record { time = omega arith; from = omega arith; number = omega arith; to = omega arith; a = h.0.a; b = h.0.b });
+        record { time = omega arith; from = omega arith; number = omega arith; to = omega arith; a = h.0.a; b = h.0.b; c = h.0.c; d = h.0.d });
   },
   stamp_addressed lps lp t (k + 1) os few l early (omega arith) h.1,
 )

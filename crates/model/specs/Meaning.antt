@@ -15,8 +15,16 @@ pub record Meaning : Type 0 where
 
 -- the message that a handling at this time makes of one send
 abbrev pub stamped : ℕ → ℕ → ℕ → Outgoing → Message
-stamped lp time number o =
-    record { time = time + o.delay; from = lp; number = number; to = o.to; a = o.a; b = o.b }
+stamped lp time number o = record {
+  time = time + o.delay;
+  from = lp;
+  number = number;
+  to = o.to;
+  a = o.a;
+  b = o.b;
+  c = o.c;
+  d = o.d;
+}
 
 -- those that it makes of all its sends, numbered from number on
 abbrev pub stamp : ℕ → ℕ → ℕ → List Outgoing → List Message
@@ -39,6 +47,8 @@ pub record IsSend (lps : ℕ) (o : Outgoing) : Type 0 where
   pub to : o.to < lps
   pub a : o.a < 2 ^ 64
   pub b : o.b < 2 ^ 64
+  pub c : o.c < 2 ^ 64
+  pub d : o.d < 2 ^ 64
 
 -- the laws of a model, at states and messages whose numbers lie in their ranges
 pub record IsLawful (m : Meaning) : Type 0 where

@@ -37,6 +37,10 @@ pub struct Outgoing {
     pub a: u64,
     /// The second word of its content.
     pub b: u64,
+    /// The third word of its content.
+    pub c: u64,
+    /// The fourth word of its content.
+    pub d: u64,
 }
 
 /// The sends of one handling, or of one start: at most 8, in the order of sending.
@@ -92,8 +96,15 @@ pub fn stamp(lp: u32, time: u64, number: u64, outgoing: &Outgoing) -> Message
     requires number { number < 2 ^ 63 }
     ensures { result ≡ stamped lp time number outgoing.now }
 {
-    let Outgoing { to, delay, a, b } = *outgoing;
-    Message::new(time + u64::from(delay), lp, number, to, a, b).unwrap()
+    let Outgoing {
+        to,
+        delay,
+        a,
+        b,
+        c,
+        d,
+    } = *outgoing;
+    Message::new(time + u64::from(delay), lp, number, to, a, b, c, d).unwrap()
 }
 
 /// Answers nothing: the contract says that the words are numbers of 64 bits.

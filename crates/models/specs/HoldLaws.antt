@@ -24,6 +24,8 @@ first_lawful h good lp l k b =
       to = l;
       a = omega (arith, good.few, good.few_messages);
       b = lit< tt;
+      c = lit< tt;
+      d = lit< tt;
     }
 
 pub hold_lawful : (h : GoodHold) → IsLawful (hold_meaning h.hold)
@@ -54,6 +56,8 @@ hold_lawful h = record {
       to = mod-lt (word (hold_key state) lp 0) h.good.some;
       a = ranged.a;
       b = mod-lt (x.b + 1) (lit< tt);
+      c = ranged.c;
+      d = ranged.d;
     },
     tt,
   );

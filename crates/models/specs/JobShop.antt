@@ -63,7 +63,7 @@ is_turned_away s lp state t = nat_lt (2 ^ 32 - 1) (ended s lp state t - t)
 
 -- job k of a machine's first ones comes to it at time 1 + k
 abbrev pub first_job : Shop → ℕ → ℕ → Outgoing
-first_job s lp k = record { to = lp; delay = 1 + k; a = lp * s.jobs + k; b = 0 }
+first_job s lp k = record { to = lp; delay = 1 + k; a = lp * s.jobs + k; b = 0; c = 0; d = 0 }
 
 -- a job that is served goes to the next machine when it is ended, and b counts its machines
 abbrev pub passed_on : Shop → ℕ → List ℕ → Message → Outgoing
@@ -72,6 +72,8 @@ passed_on s lp state x = record {
   delay = ended s lp state x.time - x.time;
   a = x.a;
   b = (x.b + 1) % 2 ^ 64;
+  c = x.c;
+  d = x.d;
 }
 
 -- the state after a job that was served, and after one that was turned away

@@ -47,6 +47,8 @@ first_hold h lp k = record {
   delay = delay_by h.spread (word h.seed lp k);
   a = lp * h.population + k;
   b = 0;
+  c = 0;
+  d = 0;
 }
 
 -- one message goes on: word 0 draws to whom, word 1 the delay, and b counts its handlings
@@ -56,6 +58,8 @@ held_on h lp state x = record {
   delay = delay_by h.spread (word (hold_key state) lp 1);
   a = x.a;
   b = (x.b + 1) % 2 ^ 64;
+  c = x.c;
+  d = x.d;
 }
 
 -- the key, then how many messages were handled, which stays at the greatest number of 64 bits

@@ -21,17 +21,19 @@ soon lp state x = record {
   delay = 1 + seen state % 3;
   a = x.a;
   b = (x.b + seen state) % 2 ^ 64;
+  c = x.c;
+  d = x.d;
 }
 
 abbrev pub later : ℕ → List ℕ → Message → Outgoing
-later lp state x = record { to = (lp + 1) % 6; delay = 23; a = x.b; b = x.a }
+later lp state x = record { to = (lp + 1) % 6; delay = 23; a = x.b; b = x.a; c = x.c; d = x.d }
 
 abbrev pub relay_meaning : Meaning
 relay_meaning = record {
   lps = 6;
   identity = [];
   start_state = λ lp. 0 ∷ [];
-  start_sends = λ lp. record { to = lp; delay = 1 + lp; a = lp; b = 0 } ∷ [];
+  start_sends = λ lp. record { to = lp; delay = 1 + lp; a = lp; b = 0; c = 0; d = 0 } ∷ [];
   next_state = λ lp state x. seen_after state x ∷ [];
   sends = λ lp state x. soon lp state x ∷ later lp state x ∷ [];
 }
@@ -51,6 +53,8 @@ relay_lawful = record {
       to = l;
       a = omega arith;
       b = lit< tt;
+      c = lit< tt;
+      d = lit< tt;
     },
     tt,
   );
@@ -64,6 +68,8 @@ relay_lawful = record {
       to = mod-lt (lp + seen state % 6) (lit≤ tt);
       a = is.a;
       b = mod-lt (x.b + seen state) (lit< tt);
+      c = is.c;
+      d = is.d;
     },
     (
       record {
@@ -72,6 +78,8 @@ relay_lawful = record {
         to = mod-lt (lp + 1) (lit≤ tt);
         a = is.b;
         b = is.a;
+        c = is.c;
+        d = is.d;
       },
       tt,
     ),

@@ -33,7 +33,7 @@ tokens_at lps tokens lp = filter (λ j. j % lps == lp) (below tokens)
 
 -- a process first sends each token that starts there to itself
 abbrev pub first_send : ℕ → ℕ → Outgoing
-first_send lp j = record { to = lp; delay = 1; a = j; b = 0 }
+first_send lp j = record { to = lp; delay = 1; a = j; b = 0; c = 0; d = 0 }
 
 -- the count, in which a missing word counts as 0, goes up by one and stays at the greatest number
 -- of 64 bits
@@ -42,7 +42,14 @@ counted state = min (slice_index state 0 + 1) (2 ^ 64 - 1)
 
 -- a token goes on to the next process, and b counts the hands that it went through
 abbrev pub handed_on : Ring → ℕ → Message → Outgoing
-handed_on r lp x = record { to = (lp + 1) % r.lps; delay = r.hold; a = x.a; b = (x.b + 1) % 2 ^ 64 }
+handed_on r lp x = record {
+  to = (lp + 1) % r.lps;
+  delay = r.hold;
+  a = x.a;
+  b = (x.b + 1) % 2 ^ 64;
+  c = x.c;
+  d = x.d;
+}
 
 abbrev pub ring_meaning : Ring → Meaning
 ring_meaning r = record {

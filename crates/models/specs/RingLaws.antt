@@ -103,6 +103,8 @@ first_lawful r h lp l j b = record {
   to = l;
   a = omega (arith, h.few, h.few_tokens);
   b = lit< tt;
+  c = lit< tt;
+  d = lit< tt;
 }
 
 few_first : (r : Ring) → IsRing r → (lp : ℕ) → lp < r.lps → length (tokens_at r.lps r.tokens lp) ≤ 8
@@ -140,6 +142,8 @@ ring_lawful r = record {
       to = mod-lt (lp + 1) r.good.some;
       a = ranged.a;
       b = mod-lt (x.b + 1) (lit< tt);
+      c = ranged.c;
+      d = ranged.d;
     },
     tt,
   );

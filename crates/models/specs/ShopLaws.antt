@@ -25,6 +25,8 @@ first_lawful s good lp l k b =
       to = l;
       a = omega (arith, good.few, good.few_jobs);
       b = lit< tt;
+      c = lit< tt;
+      d = lit< tt;
     }
 
 word_of_state : (state : List ℕ) (i : ℕ) → IsWords state → slice_index state i < 2 ^ 64
@@ -70,6 +72,8 @@ passed_lawful s good lp state x ranged stays =
       to = mod-lt (lp + 1) good.some;
       a = ranged.a;
       b = mod-lt (x.b + 1) (lit< tt);
+      c = ranged.c;
+      d = ranged.d;
     }
 
 module _ (s : Shop) (good : IsShop s) (lp : ℕ) (state : List ℕ) (x : Message)

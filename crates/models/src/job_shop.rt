@@ -81,6 +81,8 @@ impl JobShop {
                 delay: 1 + k,
                 a: u64::from(lp) * u64::from(self.jobs) + u64::from(k),
                 b: 0,
+                c: 0,
+                d: 0,
             });
         }
         sends
@@ -145,6 +147,8 @@ impl Simulated for JobShop {
                     delay,
                     a: message.a(),
                     b: message.b().wrapping_add(1),
+                    c: message.c(),
+                    d: message.d(),
                 });
             }
             Err(_) => machine.turned_away = machine.turned_away.saturating_add(1),

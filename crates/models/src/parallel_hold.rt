@@ -90,6 +90,8 @@ impl Phold {
                 delay: delay_by(self.spread, word(self.seed, lp, place)),
                 a: u64::from(lp) * u64::from(self.population) + place,
                 b: 0,
+                c: 0,
+                d: 0,
             });
         }
         sends
@@ -139,6 +141,8 @@ impl Simulated for Phold {
             delay: delay_by(self.spread, word(key, lp, 1)),
             a: message.a(),
             b: message.b().wrapping_add(1),
+            c: message.c(),
+            d: message.d(),
         });
         let mut words = SmallVec::new(alloc);
         words.push_reserved(next_key(key, lp, 2));

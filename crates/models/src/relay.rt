@@ -40,6 +40,8 @@ impl Simulated for Relay {
             delay: 1 + lp,
             a: u64::from(lp),
             b: 0,
+            c: 0,
+            d: 0,
         });
         (words, sends)
     }
@@ -54,12 +56,16 @@ impl Simulated for Relay {
             delay: 1 + (seen % 3) as u32,
             a: message.a(),
             b: message.b().wrapping_add(seen),
+            c: message.c(),
+            d: message.d(),
         });
         sends.push_reserved(Outgoing {
             to: (lp + 1) % RELAYS,
             delay: 23,
             a: message.b(),
             b: message.a(),
+            c: message.c(),
+            d: message.d(),
         });
         (words, sends)
     }

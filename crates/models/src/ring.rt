@@ -89,6 +89,8 @@ impl Simulated for TokenRing {
             delay: self.hold,
             a: message.a(),
             b: message.b().wrapping_add(1),
+            c: message.c(),
+            d: message.d(),
         });
         (words, sends)
     }
@@ -109,6 +111,8 @@ fn first_sends(alloc: Global, lps: u32, tokens: u32, lp: u32) -> Sends
             delay: 1,
             a: u64::from(token),
             b: 0,
+            c: 0,
+            d: 0,
         });
         token += lps;
     }

@@ -83,7 +83,7 @@ is_wake x = x.a == 1024
 
 -- word 0 of a key draws a destination, and word 1 the ticks until the source is woken again
 abbrev pub waked : Torus → ℕ → ℕ → Outgoing
-waked n lp key = record { to = lp; delay = 1 + word key lp 1 % n.gap; a = 1024; b = 0 }
+waked n lp key = record { to = lp; delay = 1 + word key lp 1 % n.gap; a = 1024; b = 0; c = 0; d = 0 }
 
 -- a source that is woken makes a packet; any other message is one
 abbrev pub packet_of : Torus → ℕ → ℕ → Message → Packet
@@ -158,6 +158,8 @@ onward n lp s p t = if p.destination == lp then None
       delay = hop n s t;
       a = p.destination;
       b = p.born;
+      c = 0;
+      d = 0;
     })
 
 -- a source that was woken takes the next key, and each handling works

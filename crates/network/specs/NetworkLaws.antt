@@ -175,6 +175,8 @@ waked_lawful n good lp key there =
       to = there;
       a = lit< tt;
       b = lit< tt;
+      c = lit< tt;
+      d = lit< tt;
     }
 
 onward_lawful : (n : Torus) → IsTorus n → (lp : ℕ) (s : Switch) (p : Packet) (t : ℕ) → lp < switches n →
@@ -190,6 +192,8 @@ onward_lawful n good lp s p t there somewhere born = elim (cases_Bool (p.destina
         to = next_lt n good lp p.destination there;
         a = omega (arith, good.few);
         b = born;
+        c = lit< tt;
+        d = lit< tt;
       },
       tt,
     )

@@ -151,6 +151,8 @@ impl Network {
             delay: 1 + word(key, lp, 1) % self.gap,
             a: WAKE,
             b: 0,
+            c: 0,
+            d: 0,
         }
     }
 
@@ -217,6 +219,8 @@ impl Network {
             delay,
             a: u64::from(packet.destination),
             b: packet.born,
+            c: 0,
+            d: 0,
         };
         (after, Some(onward))
     }

@@ -1,18 +1,22 @@
 -- What the commands print, in one form.
 use Rattle.std.specs.Io.KnownBytes.{Appends}
-use Rattle.std.specs.Prelude.{◌≡◌, ◌⊎◌, ◌≢◌, ℕ, List, Option, Result, Ok, Err, OnOk, OnErr}
+use Rattle.std.specs.Prelude.{◌≡◌, ◌⊎◌, ◌≢◌, ℕ, List, Option, Result, Ok, Err, OnOk, OnErr, length}
 use Rattle.std.proofs.Common.{refl, inl, inr}
 use Rattle.commands.specs.Commands.{BeginsCommitted, PrintsCommitted, TellsExtended, TellsRun, TellsRunOver, extended_text, ran_text}
+use Rattle.commands.specs.Migrating.{TellsMigrated, migrated_text}
 use Rattle.commands.specs.declared.fault.CommandFault.{CommandFault}
 use Rattle.commands.specs.declared.fault.CommandFault.TheVariants as on_disk
+use Rattle.commitlog.specs.Records.{Holds}
+use Rattle.commitlog.specs.declared.records.Entry.{Entry}
 use Rattle.disk.specs.Disk.{DiskState}
 use Rattle.driver.specs.declared.rounds.Plan.{Plan}
 use Rattle.eventkey.specs.Writing.{TakesBeginning}
+use Rattle.migration.specs.Old.{IsOldLog}
 use Rattle.model.specs.World.{World}
 use Rattle.model.specs.Meaning.{Meaning}
 use Rattle.texts.specs.ModelFile.{IsModelFile}
 use Rattle.wire.specs.Port.{PortState}
-use Rattle.program.specs.Command.{Begins, Describes, IsCarriedOn, IsCommitted, IsRan, IsRanBehind, IsWhole, Prints, PrintsBeginning, PrintsRun, run_text}
+use Rattle.program.specs.Command.{Begins, Describes, IsCarriedOn, IsCommitted, IsRan, IsRanBehind, IsWhole, IsWrittenAnew, Prints, PrintsBeginning, PrintsRun, run_text}
 use Rattle.program.specs.declared.fault.Fault.{Fault}
 use Rattle.program.specs.declared.fault.Fault.TheVariants as fault
 
@@ -42,6 +46,7 @@ module _ {T A B : Type 0} where
   on_command (Err (on_disk.Recovery f)) h k = inl (k (on_disk.Recovery f) refl (λ e. cc))
   on_command (Err (on_disk.Session f)) h k = inl (k (on_disk.Session f) refl (λ e. cc))
   on_command (Err on_disk.Rounds) h k = inl (k on_disk.Rounds refl (λ e. cc))
+  on_command (Err (on_disk.Migrate f)) h k = inl (k (on_disk.Migrate f) refl (λ e. cc))
 
   pub on_fault : (r : Result T Fault) → (r ≡ Err fault.Output → B) → ((f : Fault) → r ≡ Err f → f ≢ fault.Output → A) → OnErr r (A ⊎ B)
   on_fault (Ok x) h k = tt
@@ -54,6 +59,7 @@ module _ {T A B : Type 0} where
   on_fault (Err (fault.Session f)) h k = inl (k (fault.Session f) refl (λ e. cc))
   on_fault (Err (fault.Wire f)) h k = inl (k (fault.Wire f) refl (λ e. cc))
   on_fault (Err fault.Rounds) h k = inl (k fault.Rounds refl (λ e. cc))
+  on_fault (Err (fault.Migrate f)) h k = inl (k (fault.Migrate f) refl (λ e. cc))
   on_fault (Err (fault.Mistake f)) h k = inl (k (fault.Mistake f) refl (λ e. cc))
   on_fault (Err fault.NoMemory) h k = inl (k fault.NoMemory refl (λ e. cc))
 
@@ -109,6 +115,36 @@ module _ {M : Type 0} (meaning : M → Meaning) (says : Describes M) (source : L
 
   pub carried_begun : (begun left : DiskState) (old new : Option (List ℕ)) → TellsExtended (meaning model) end begun left (TakesBeginning old new) → Begins (IsCarriedOn meaning says) old new
   carried_begun begun left old new p = carried_taken begun left p
+
+  -- what is told of a migration
+  module _ (image : List (List ℕ)) (header : List ℕ) (olds : List Entry) (held : Holds header olds image) (ours : IsOldLog (meaning model) end header olds) (left : DiskState) where
+    anew_taken : {Taken : List ℕ → Type 0} → TellsMigrated (meaning model) header olds left Taken → (text : List ℕ) × IsWrittenAnew meaning says text × Taken text
+    anew_taken p = (
+      migrated_text p.front.time (length p.front.log),
+      record {
+        source = source;
+        model = model;
+        end = end;
+        image = image;
+        old_header = header;
+        olds = olds;
+        new_header = p.header;
+        news = p.news;
+        front = p.front;
+        file = file;
+        held = held;
+        old = ours;
+        migrated = p.migrated;
+        is = refl;
+      },
+      p.taken,
+    )
+
+    pub anew_printed : (old new : Option (List ℕ)) → TellsMigrated (meaning model) header olds left (Appends old new) → Prints (IsWrittenAnew meaning says) old new
+    anew_printed old new p = anew_taken p
+
+    pub anew_begun : (old new : Option (List ℕ)) → TellsMigrated (meaning model) header olds left (TakesBeginning old new) → Begins (IsWrittenAnew meaning says) old new
+    anew_begun old new p = anew_taken p
 
 module _ {M : Type 0} (meaning : M → Meaning) (says : Describes M) {old new : Option (List ℕ)} where
   module _ (source : List ℕ) (model : M) (end : ℕ) (file : IsModelFile says source model end) where

@@ -2,8 +2,11 @@
 use Rattle.std.specs.Io.KnownBytes.{Appends}
 use Rattle.std.specs.Prelude.{◌≡◌, ◌≤◌, ℕ, List, [], ◌++◌, None, Option, Some, codes, length}
 use Rattle.commands.specs.Commands.{StandsUpto, extended_text, formatted_text, ran_text}
+use Rattle.commands.specs.Migrating.{migrated_text}
 use Rattle.commands.specs.declared.fault.CommandFault.{CommandFault}
 use Rattle.commands.specs.declared.fault.CommandFault.TheVariants as on_disk
+use Rattle.commitlog.specs.Records.{Holds}
+use Rattle.commitlog.specs.declared.records.Entry.{Entry}
 use Rattle.disk.specs.declared.file.FileFault.{FileFault}
 use Rattle.disk.specs.declared.file.FileFault.TheVariants as opening
 use Rattle.driver.specs.Driver.{IsRunOf}
@@ -12,7 +15,10 @@ use Rattle.recovery.specs.Replay.{IsReplayedTo}
 use Rattle.recovery.specs.Stands.{IsGenuine}
 use Rattle.lines.specs.Line.{Says}
 use Rattle.lines.specs.declared.line.Line.{Line}
-use Rattle.lines.specs.declared.line.Line.TheVariants.{Check, Extend, Log, New, Node, Run, Seq, Show}
+use Rattle.lines.specs.declared.line.Line.TheVariants.{Check, Extend, Log, Migrate, New, Node, Run}
+use Rattle.lines.specs.declared.line.Line.TheVariants.{Seq, Show}
+use Rattle.migration.specs.Migrated.{IsMigrated}
+use Rattle.migration.specs.Old.{IsOldLog}
 use Rattle.model.specs.Meaning.{Meaning}
 use Rattle.model.specs.World.{IsUpto, World}
 use Rattle.toml.specs.Data.{Members}
@@ -49,6 +55,7 @@ of_command (on_disk.Log f) = fault.Log f
 of_command (on_disk.Recovery f) = fault.Recovery f
 of_command (on_disk.Session f) = fault.Session f
 of_command on_disk.Rounds = fault.Rounds
+of_command (on_disk.Migrate f) = fault.Migrate f
 of_command on_disk.Output = fault.Output
 
 -- for a refusal of a disk's file
@@ -114,6 +121,26 @@ pub record IsCarriedOn {M : Type 0} (meaning : M → Meaning) (says : Describes 
   pub rises : IsLater before end
   pub replayed : IsReplayedTo (meaning model) before image front
   pub is : text ≡ extended_text before end
+
+-- The time of a world, and how many events its log has. The image of an old disk holds a log of format 1 of
+-- the model, on which the model file's end is in force, and its records, widened, stand for that world
+-- under the header of the model with the end that the old header names.
+pub record IsWrittenAnew {M : Type 0} (meaning : M → Meaning) (says : Describes M)
+    (text : List ℕ) : Type 0 where
+  pub source : List ℕ
+  pub model : M
+  pub end : ℕ
+  pub image : List (List ℕ)
+  pub old_header : List ℕ
+  pub olds : List Entry
+  pub new_header : List ℕ
+  pub news : List Entry
+  pub front : World
+  pub file : IsModelFile says source model end
+  pub held : Holds old_header olds image
+  pub old : IsOldLog (meaning model) end old_header olds
+  pub migrated : IsMigrated (meaning model) old_header new_header olds news front
+  pub is : text ≡ migrated_text front.time (length front.log)
 
 -- What programs behind sockets told that each node handled, and the time that was reached, not
 -- before the end, with a number of events. No more is promised of a run over such programs.
@@ -185,6 +212,7 @@ IsOutput meaning says shows (New model disk sectors) text = IsFormatted sectors 
 IsOutput meaning says shows (Run model disk nodes batch rounds checkpoint sockets cut together attach) text =
     IsRanOver meaning says sockets nodes text
 IsOutput meaning says shows (Extend model disk) text = IsCarriedOn meaning says text
+IsOutput meaning says shows (Migrate model old new sectors) text = IsWrittenAnew meaning says text
 IsOutput meaning says shows (Log model disk) text = IsLogged meaning says text
 IsOutput meaning says shows (Show model disk) text = IsShown meaning says text
 IsOutput meaning says shows (Seq model) text = IsWhole meaning says text

@@ -9,6 +9,7 @@ use commands::CommandFault;
 use commitlog::LogFault;
 use coordinator::SessionFault;
 use disk::FileFault;
+use migration::MigrateFault;
 use model::WorldFault;
 use recovery::RecoveryFault;
 use std::alloc::{AllocError, AllocFailed};
@@ -45,6 +46,9 @@ pub enum Fault {
     /// All rounds of a run are made, and not all is committed.
     #[error("Rounds")]
     Rounds,
+    /// A disk of format 1 is not migrated, or not all of it.
+    #[error("Migrate {0}")]
+    Migrate(MigrateFault),
     /// What `check` finds to be wrong with a file that is no model file.
     #[error("{0}")]
     Mistake(Mistake),
@@ -70,9 +74,18 @@ impl Fault {
             Fault::Log(LogFault::NotBlank) => Some("the disk has a log already, which `new` keeps"),
             Fault::Log(LogFault::NotFormatted) => Some("`new` makes a log on a disk"),
             Fault::Recovery(RecoveryFault::OtherModel)
-            | Fault::Session(SessionFault::Recovery(RecoveryFault::OtherModel)) => {
-                Some("the disk was made for another model, or another end is in force on it")
-            }
+            | Fault::Session(SessionFault::Recovery(RecoveryFault::OtherModel)) => Some(
+                "the disk was made for another model, another end is in force on it, or it has \
+                 format 1, which `migrate` writes anew",
+            ),
+            Fault::Migrate(MigrateFault::Old(RecoveryFault::OtherModel)) => Some(
+                "the old disk does not have format 1, was made for another model, or another end \
+                 is in force on it",
+            ),
+            Fault::Migrate(MigrateFault::New(LogFault::Full)) => Some(
+                "the new disk has no room for the old one's records: remove its file, and try \
+                 again with more --sectors",
+            ),
             Fault::Session(SessionFault::EndRefused) => {
                 Some("the model file has to have a later end than the one in force on the disk")
             }
@@ -132,6 +145,7 @@ impl From<CommandFault> for Fault {
             CommandFault::Recovery(fault) => Fault::Recovery(fault),
             CommandFault::Session(fault) => Fault::Session(fault),
             CommandFault::Rounds => Fault::Rounds,
+            CommandFault::Migrate(fault) => Fault::Migrate(fault),
             CommandFault::Output => Fault::Output,
         }
     }

@@ -7,7 +7,7 @@ ghost use Rattle.clap.specs.Words.{fault_of};
 ghost use Rattle.lines.specs.Line.{program, IsRanged};
 ghost use Rattle.program.specs.Command.{Begins, BeginsSaid, IsOutput, Prints, PrintsSaid};
 
-use crate::disks::{extend_on, format, log_of, run_on, show_of};
+use crate::disks::{extend_on, format, log_of, migrate_on, run_on, show_of};
 use crate::fault::Fault;
 use crate::files::{check_of, seq_of};
 use crate::nodes::{Behind, run_behind, serve_on};
@@ -206,6 +206,12 @@ where
             }
         }
         Line::Extend { model, disk } => extend_on::<M, R, O>(rt, model, disk, out),
+        Line::Migrate {
+            model,
+            old,
+            new,
+            sectors,
+        } => migrate_on::<M, R, O>(rt, model, old, new, sectors, out),
         Line::Log { model, disk } => log_of::<M, R, O>(rt, model, disk, out),
         Line::Show { model, disk } => show_of::<M, R, O>(rt, model, disk, out),
         Line::Seq { model } => seq_of::<M, R, O>(rt, model, out),

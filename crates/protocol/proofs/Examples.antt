@@ -18,11 +18,11 @@ ring = record {
   start_state = λ lp. 0 ∷ [];
   start_sends = λ lp. [];
   next_state = λ lp state x. (get_or state 0 0 + 1) ∷ [];
-  sends = λ lp state x. record { to = (lp + 1) % 3; delay = 2; a = x.a; b = x.b + 1 } ∷ [];
+  sends = λ lp state x. record { to = (lp + 1) % 3; delay = 2; a = x.a; b = x.b + 1; c = x.c; d = x.d } ∷ [];
 }
 
 abbrev pub msg : ℕ → ℕ → ℕ → ℕ → ℕ → ℕ → Message
-msg time from number to a b = record { time = time; from = from; number = number; to = to; a = a; b = b }
+msg time from number to a b = record { time = time; from = from; number = number; to = to; a = a; b = b; c = 0; d = 0 }
 
 abbrev a : Message
 a = msg 5 0 1 1 0 1
@@ -110,7 +110,7 @@ last_copy_undone = refl
 
 -- a whole run on one node: three rounds of post, take and commit
 abbrev token : Meaning
-token = record ring { start_sends = λ lp. cond (eqb lp 0) (record { to = lp; delay = 1; a = 0; b = 0 } ∷ []) [] }
+token = record ring { start_sends = λ lp. cond (eqb lp 0) (record { to = lp; delay = 1; a = 0; b = 0; c = 0; d = 0 } ∷ []) [] }
 
 abbrev rounds : List Move
 rounds = Post 0 [] 16 ∷ Take 0 ∷ Commit ∷ Post 0 (0 ∷ []) 16 ∷ Take 0 ∷ Commit ∷ Post 0 (0 ∷ []) 16 ∷ Take 0 ∷ Commit ∷ []

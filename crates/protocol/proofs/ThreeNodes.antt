@@ -17,7 +17,7 @@ use Rattle.protocol.specs.Picture.{Picture, opened}
 
 -- process 0 sends itself token 0, and process 1 token 1
 abbrev two_tokens : Meaning
-two_tokens = record ring { start_sends = λ lp. cond (nat_lt lp 2) (record { to = lp; delay = 1; a = lp; b = 0 } ∷ []) [] }
+two_tokens = record ring { start_sends = λ lp. cond (nat_lt lp 2) (record { to = lp; delay = 1; a = lp; b = 0; c = 0; d = 0 } ∷ []) [] }
 
 -- what a move answers, and what is in transit then
 record Row : Type 0 where

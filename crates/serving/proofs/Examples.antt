@@ -13,28 +13,28 @@ use Rattle.serving.specs.Serving.{Served, first_turn, next_turn, served_from, se
 use Rattle.wire.specs.declared.port.WireFault.TheVariants.{BadBody, BadKind, TooLong}
 
 abbrev first : Message
-first = record { time = 1; from = 0; number = 0; to = 0; a = 0; b = 0 }
+first = record { time = 1; from = 0; number = 0; to = 0; a = 0; b = 0; c = 0; d = 0 }
 
 -- the load of node 0, a parcel of no deliveries, the reply to it, and the refusal of a message
 -- before the floor
 abbrev load : List ℕ
 load =
-    0 ∷ 0 ∷ 0 ∷ 93 ∷ 1 ∷ (big_bytes 4 0 ++ big_bytes 4 3 ++ big_bytes 8 10 ++ big_bytes 8 0 ++ big_bytes 4 1
+    0 ∷ 0 ∷ 0 ∷ 109 ∷ 1 ∷ (big_bytes 4 0 ++ big_bytes 4 3 ++ big_bytes 8 10 ++ big_bytes 8 0 ++ big_bytes 4 1
     ++ big_bytes 4 0 ++ big_bytes 8 1 ++ 1 ∷ (big_bytes 8 0 ++ big_bytes 4 1
-    ++ big_bytes 8 1 ++ big_bytes 4 0 ++ big_bytes 8 0 ++ big_bytes 4 0 ++ big_bytes 8 0 ++ big_bytes 8 0))
+    ++ big_bytes 8 1 ++ big_bytes 4 0 ++ big_bytes 8 0 ++ big_bytes 4 0 ++ replicate 32 0))
 
 abbrev parcel : List ℕ
 parcel = 0 ∷ 0 ∷ 0 ∷ 16 ∷ 2 ∷ (big_bytes 4 0 ++ big_bytes 4 16 ++ big_bytes 8 1)
 
 abbrev reply : List ℕ
 reply =
-    0 ∷ 0 ∷ 0 ∷ 54 ∷ 3 ∷ (big_bytes 4 1 ++ 0 ∷ (big_bytes 8 3 ++ big_bytes 4 0 ++ big_bytes 8 1 ++ big_bytes 4 1 ++ big_bytes 8 0 ++ big_bytes 8 1) ++ 0 ∷ (big_bytes 4 0 ++ big_bytes 4 1))
+    0 ∷ 0 ∷ 0 ∷ 70 ∷ 3 ∷ (big_bytes 4 1 ++ 0 ∷ (big_bytes 8 3 ++ big_bytes 4 0 ++ big_bytes 8 1 ++ big_bytes 4 1 ++ big_bytes 8 0 ++ big_bytes 8 1 ++ replicate 16 0) ++ 0 ∷ (big_bytes 4 0 ++ big_bytes 4 1))
 
 abbrev fault : List ℕ
 fault = 0 ∷ 0 ∷ 0 ∷ 1 ∷ 4 ∷ 2 ∷ []
 
 abbrev early : List ℕ
-early = 0 ∷ 0 ∷ 0 ∷ 57 ∷ 2 ∷ (big_bytes 4 1 ++ replicate 41 0 ++ big_bytes 4 0 ++ big_bytes 8 1)
+early = 0 ∷ 0 ∷ 0 ∷ 73 ∷ 2 ∷ (big_bytes 4 1 ++ replicate 57 0 ++ big_bytes 4 0 ++ big_bytes 8 1)
 
 abbrev serving : List ℕ → Served
 serving bytes = served ring_meaning (λ turn. false) 4294967295 bytes

@@ -20,7 +20,7 @@ fn load(alloc: Global) -> Result<Load, Fail>
     let mut words = Words::new(alloc);
     words.push_reserved(0);
     let mut pending = Vec::new(alloc);
-    pending.push(Message::new(1, 0, 0, 0, 0, 0)?)?;
+    pending.push(Message::new(1, 0, 0, 0, 0, 0, 0, 0)?)?;
     let mut parts = Vec::new(alloc);
     parts.push(Part {
         lp: 0,
@@ -41,17 +41,18 @@ const PARCEL: [u8; 21] = [
     0, 0, 0, 16, 2, 0, 0, 0, 0, 0, 0, 0, 16, 0, 0, 0, 0, 0, 0, 0, 1,
 ];
 
-const REPLY: [u8; 59] = [
-    0, 0, 0, 54, 3, 0, 0, 0, 1, 0, 0, 0, 0, 0, 0, 0, 0, 3, 0, 0, 0, 0, 0, 0, 0, 0, 0, 0, 0, 1, 0,
-    0, 0, 1, 0, 0, 0, 0, 0, 0, 0, 0, 0, 0, 0, 0, 0, 0, 0, 1, 0, 0, 0, 0, 0, 0, 0, 0, 1,
+const REPLY: [u8; 75] = [
+    0, 0, 0, 70, 3, 0, 0, 0, 1, 0, 0, 0, 0, 0, 0, 0, 0, 3, 0, 0, 0, 0, 0, 0, 0, 0, 0, 0, 0, 1, 0,
+    0, 0, 1, 0, 0, 0, 0, 0, 0, 0, 0, 0, 0, 0, 0, 0, 0, 0, 1, 0, 0, 0, 0, 0, 0, 0, 0, 0, 0, 0, 0, 0,
+    0, 0, 0, 0, 0, 0, 0, 0, 0, 0, 0, 1,
 ];
 
 /// The frame of the load: its length, its kind, node 0 of 3, the end, the floor, and one part.
-const LOAD: [u8; 98] = [
-    0, 0, 0, 93, 1, 0, 0, 0, 0, 0, 0, 0, 3, 0, 0, 0, 0, 0, 0, 0, 10, 0, 0, 0, 0, 0, 0, 0, 0, 0, 0,
+const LOAD: [u8; 114] = [
+    0, 0, 0, 109, 1, 0, 0, 0, 0, 0, 0, 0, 3, 0, 0, 0, 0, 0, 0, 0, 10, 0, 0, 0, 0, 0, 0, 0, 0, 0, 0,
     0, 1, 0, 0, 0, 0, 0, 0, 0, 0, 0, 0, 0, 1, 1, 0, 0, 0, 0, 0, 0, 0, 0, 0, 0, 0, 1, 0, 0, 0, 0, 0,
     0, 0, 1, 0, 0, 0, 0, 0, 0, 0, 0, 0, 0, 0, 0, 0, 0, 0, 0, 0, 0, 0, 0, 0, 0, 0, 0, 0, 0, 0, 0, 0,
-    0, 0, 0,
+    0, 0, 0, 0, 0, 0, 0, 0, 0, 0, 0, 0, 0, 0, 0, 0, 0, 0, 0,
 ];
 
 /// The frame by which a node refuses what lies below its floor.
@@ -79,7 +80,7 @@ fn answered(rt: HostRuntime, bytes: &[u8]) -> Result<Result<u32, PortFault>, Fai
     port.load(load(rt.alloc())?)?;
     port.post(parcel(rt.alloc()))?;
     // what is left unread where an end is closed makes the other end's reads fail
-    far.read_exact(&mut [0; 119])?;
+    far.read_exact(&mut [0; 135])?;
     drop(far);
     Ok(port.take().map(|reply| reply.ran))
 }
@@ -90,7 +91,7 @@ fn frames_are_at_the_other_end_before_a_reply_is_taken(rt: HostRuntime) -> Resul
     far.set_read_timeout(Some(Duration::from_secs(5)))?;
     let mut port = SocketPort::new(rt.alloc(), near);
     port.load(load(rt.alloc())?)?;
-    let mut loaded = [0; 98];
+    let mut loaded = [0; 114];
     far.read_exact(&mut loaded)?;
     assert_eq!(rt; loaded, LOAD);
     port.post(parcel(rt.alloc()))?;
@@ -145,7 +146,7 @@ fn what_is_no_reply_is_refused(rt: HostRuntime) -> Result<(), Fail> {
     let long = answered(rt, &[1, 0, 0, 1])?;
     assert_eq!(rt; long, Err(PortFault::Wire(WireFault::TooLong)));
     let mut body = REPLY;
-    body[3] = 55;
+    body[3] = 71;
     let wrong = answered(rt, &[body.as_slice(), &[0]].concat(rt.alloc())?)?;
     assert_eq!(rt; wrong, Err(PortFault::Wire(WireFault::BadBody)));
     Ok(())

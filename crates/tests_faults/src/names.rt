@@ -8,6 +8,7 @@ use disk::{DiskFault, FileFault};
 use driver::RunFault;
 use eventkey::KeyFault;
 use gvt::LedgerFault;
+use migration::MigrateFault;
 use model::WorldFault;
 use node::NodeFault;
 use process::ProcessFault;
@@ -141,6 +142,11 @@ fn disks_and_logs_name_their_faults(rt: HostRuntime) -> Result<(), Fail> {
         Log(LogFault::Corrupt) => "Log Corrupt",
         BadEnd => "BadEnd",
     });
+    check_names!(rt; MigrateFault {
+        NotEmpty => "NotEmpty",
+        Old(RecoveryFault::OtherModel) => "Old OtherModel",
+        New(LogFault::Full) => "New Full",
+    });
     Ok(())
 }
 
@@ -195,6 +201,7 @@ fn commands_and_programs_name_their_faults(rt: HostRuntime) -> Result<(), Fail> 
         Recovery(RecoveryFault::GoesBack) => "Recovery GoesBack",
         Session(SessionFault::Disk) => "Session Disk",
         Rounds => "Rounds",
+        Migrate(MigrateFault::NotEmpty) => "Migrate NotEmpty",
         Output => "Output",
     });
     check_names!(rt; Fault {
@@ -206,6 +213,7 @@ fn commands_and_programs_name_their_faults(rt: HostRuntime) -> Result<(), Fail> 
         Session(SessionFault::Full) => "Session Full",
         Wire(WireFault::BadKind) => "Wire BadKind",
         Rounds => "Rounds",
+        Migrate(MigrateFault::Old(RecoveryFault::BadEnd)) => "Migrate Old BadEnd",
         Mistake(Mistake::Missing("hold")) => "hold: missing",
         NoMemory => "NoMemory",
         Output => "Output",
@@ -214,7 +222,7 @@ fn commands_and_programs_name_their_faults(rt: HostRuntime) -> Result<(), Fail> 
 }
 
 /// Faults that lie several layers deep, as the program tells them.
-const DEEP: [(Fault, &str); 9] = [
+const DEEP: [(Fault, &str); 11] = [
     (
         Fault::Log(LogFault::Disk(DiskFault::Device)),
         "timewarp: Log Disk Device\n",
@@ -246,6 +254,14 @@ const DEEP: [(Fault, &str); 9] = [
     (
         Fault::Session(SessionFault::Recovery(RecoveryFault::Log(LogFault::NotFormatted))),
         "timewarp: Session Recovery Log NotFormatted\n",
+    ),
+    (
+        Fault::Migrate(MigrateFault::Old(RecoveryFault::Log(LogFault::NoMemory))),
+        "timewarp: Migrate Old Log NoMemory\n",
+    ),
+    (
+        Fault::Migrate(MigrateFault::New(LogFault::Disk(DiskFault::Device))),
+        "timewarp: Migrate New Disk Device\n",
     ),
     (
         Fault::Session(SessionFault::Recovery(RecoveryFault::Log(LogFault::Disk(

@@ -15,6 +15,8 @@ const NOT_FORMATTED: &str = "timewarp: Log NotFormatted\n";
 
 const OTHER_MODEL: &str = "timewarp: Recovery OtherModel\n";
 
+const OF_ANOTHER_MODEL: &str = "timewarp: Session Recovery OtherModel\n";
+
 const BAD_RECORD: &str = "timewarp: Recovery BadRecord\n";
 
 const NOT_THE_LEAST: &str = "timewarp: Recovery NotTheLeast\n";
@@ -27,7 +29,7 @@ virtual time 1
 lp 0 sent 1 state 0
 lp 1 sent 0 state 0
 lp 2 sent 0 state 0
-pending 1 0 0 0 0 0
+pending 1 0 0 0 0 0 0 0
 ";
 
 /// What is told of each byte, which is then set back. The records stand in the sectors 3, 5 and 7,
@@ -45,7 +47,13 @@ const DAMAGED: Script = Script {
         Act::Fails("show MODEL DISK", OTHER_MODEL),
         Act::Fails("log MODEL DISK", OTHER_MODEL),
         Act::Sets(512, b'T'),
-        // the kind of a record, its time, the last word of its first event
+        // the format before this one
+        Act::Sets(512 + 11, 1),
+        Act::Fails("show MODEL DISK", OTHER_MODEL),
+        Act::Fails("log MODEL DISK", OTHER_MODEL),
+        Act::Fails("run MODEL DISK", OF_ANOTHER_MODEL),
+        Act::Sets(512 + 11, 2),
+        // the kind of a record, its time, the second and the last word of its first event
         Act::Sets(3 * 512, 9),
         Act::Fails("show MODEL DISK", BAD_RECORD),
         Act::Fails("log MODEL DISK", BAD_RECORD),
@@ -58,6 +66,10 @@ const DAMAGED: Script = Script {
         Act::Fails("show MODEL DISK", NOT_THE_LEAST),
         Act::Fails("log MODEL DISK", NOT_THE_LEAST),
         Act::Sets(5 * 512 + 56, 0),
+        Act::Sets(5 * 512 + 72, 7),
+        Act::Fails("show MODEL DISK", NOT_THE_LEAST),
+        Act::Fails("log MODEL DISK", NOT_THE_LEAST),
+        Act::Sets(5 * 512 + 72, 0),
         Act::Sets(7 * 512 + 12, 6),
         Act::Fails("show MODEL DISK", GOES_BACK),
         Act::Fails("log MODEL DISK", GOES_BACK),

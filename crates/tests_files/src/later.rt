@@ -39,9 +39,10 @@ const RAN_TO_10: &str = "node 0 ran 2\nnode 1 ran 2\nnode 2 ran 1\ncommitted 10 
 const RAN_TO_20: &str = "node 0 ran 2\nnode 1 ran 1\nnode 2 ran 2\ncommitted 20 events 10\n";
 
 /// What the ring has committed after two rounds of three nodes, and at its first end.
-const LOG_TO_7: &str = "1 0 0 0 0 0\n3 0 1 1 0 1\n5 1 0 2 0 2\n";
+const LOG_TO_7: &str = "1 0 0 0 0 0 0 0\n3 0 1 1 0 1 0 0\n5 1 0 2 0 2 0 0\n";
 
-const LOG_TO_10: &str = "1 0 0 0 0 0\n3 0 1 1 0 1\n5 1 0 2 0 2\n7 2 0 0 0 3\n9 0 2 1 0 4\n";
+const LOG_TO_10: &str =
+    "1 0 0 0 0 0 0 0\n3 0 1 1 0 1 0 0\n5 1 0 2 0 2 0 0\n7 2 0 0 0 3 0 0\n9 0 2 1 0 4 0 0\n";
 
 const TO_20: &str = "extended 10 to 20\n";
 

@@ -25,14 +25,14 @@ const RAN: &str = "node 0 ran 2\nnode 1 ran 2\nnode 2 ran 1\ncommitted 10 events
 const RAN_NOTHING: &str = "node 0 ran 0\nnode 1 ran 0\nnode 2 ran 0\ncommitted 10 events 5\n";
 
 /// What the ring has committed after two rounds of three nodes.
-const LOG_TO_7: &str = "1 0 0 0 0 0\n3 0 1 1 0 1\n5 1 0 2 0 2\n";
+const LOG_TO_7: &str = "1 0 0 0 0 0 0 0\n3 0 1 1 0 1 0 0\n5 1 0 2 0 2 0 0\n";
 
 const WORLD_AT_7: &str = "\
 virtual time 7
 lp 0 sent 2 state 1
 lp 1 sent 1 state 1
 lp 2 sent 1 state 1
-pending 7 2 0 0 0 3
+pending 7 2 0 0 0 3 0 0
 ";
 
 /// What PHOLD's run prints with five nodes and a batch of 7.
@@ -67,15 +67,15 @@ const WHOLE: Script = Script {
         Act::Prints(
             "show MODEL DISK",
             "virtual time 0\nlp 0 sent 1 state 0\nlp 1 sent 0 state 0\nlp 2 sent 0 state 0\n\
-             pending 1 0 0 0 0 0\n",
+             pending 1 0 0 0 0 0 0 0\n",
         ),
         Act::Prints("run MODEL DISK --nodes 3", RAN),
         Act::EndsAsSeq("MODEL"),
         Act::Prints(
             "seq MODEL",
-            "1 0 0 0 0 0\n3 0 1 1 0 1\n5 1 0 2 0 2\n7 2 0 0 0 3\n9 0 2 1 0 4\n\
+            "1 0 0 0 0 0 0 0\n3 0 1 1 0 1 0 0\n5 1 0 2 0 2 0 0\n7 2 0 0 0 3 0 0\n9 0 2 1 0 4 0 0\n\
              virtual time 10\nlp 0 sent 3 state 2\nlp 1 sent 2 state 2\nlp 2 sent 1 state 1\n\
-             pending 11 1 1 2 0 5\n",
+             pending 11 1 1 2 0 5 0 0\n",
         ),
         Act::Stays,
         Act::Prints("run MODEL DISK --nodes 3", RAN_NOTHING),
@@ -261,14 +261,15 @@ const TOGETHER: Script = Script {
 
 /// The record of a checkpoint of the ring at time 10: its kind, the length of its body, the time, the
 /// send number and the state of each process, and the one pending message.
-const RECORD: [u8; 108] = [
-    2, 0, 0, 0, 103, 0, 0, 0, 0, 0, 0, 0, 10, //
+const RECORD: [u8; 124] = [
+    2, 0, 0, 0, 119, 0, 0, 0, 0, 0, 0, 0, 10, //
     0, 0, 0, 0, 0, 0, 0, 3, 1, 0, 0, 0, 0, 0, 0, 0, 2, //
     0, 0, 0, 0, 0, 0, 0, 2, 1, 0, 0, 0, 0, 0, 0, 0, 2, //
     0, 0, 0, 0, 0, 0, 0, 1, 1, 0, 0, 0, 0, 0, 0, 0, 1, //
     0, 0, 0, 1, 0, 0, 0, 0, 0, 0, 0, 11, 0, 0, 0, 1, //
     0, 0, 0, 0, 0, 0, 0, 1, 0, 0, 0, 2, //
-    0, 0, 0, 0, 0, 0, 0, 0, 0, 0, 0, 0, 0, 0, 0, 5,
+    0, 0, 0, 0, 0, 0, 0, 0, 0, 0, 0, 0, 0, 0, 0, 5, //
+    0, 0, 0, 0, 0, 0, 0, 0, 0, 0, 0, 0, 0, 0, 0, 0,
 ];
 
 /// A checkpoint stands behind the commit of the third round, in a record of its own.

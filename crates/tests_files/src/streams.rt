@@ -18,14 +18,15 @@ const RING: &str = "model = \"ring\"\nlps = 3\nend = 10\nhold = 2\ntokens = 1\n"
 
 const LATER_RING: &str = "model = \"ring\"\nlps = 3\nend = 20\nhold = 2\ntokens = 1\n";
 
-const LOG: &str = "1 0 0 0 0 0\n3 0 1 1 0 1\n5 1 0 2 0 2\n7 2 0 0 0 3\n9 0 2 1 0 4\n";
+const LOG: &str =
+    "1 0 0 0 0 0 0 0\n3 0 1 1 0 1 0 0\n5 1 0 2 0 2 0 0\n7 2 0 0 0 3 0 0\n9 0 2 1 0 4 0 0\n";
 
 const WORLD: &str = "\
 virtual time 10
 lp 0 sent 3 state 2
 lp 1 sent 2 state 2
 lp 2 sent 1 state 1
-pending 11 1 1 2 0 5
+pending 11 1 1 2 0 5 0 0
 ";
 
 /// A writer that takes all, counts what it was not asked to flush yet, and may refuse that.

@@ -75,7 +75,7 @@ impl<const K: usize> Counting<K> {
     fn next(&self) -> Result<Message, KeyFault>
         ensures { IfOk result (λ message. message.to ≡ 1) }
     {
-        Message::new(self.count().saturating_add(1), 0, 0, 1, 0, 0)
+        Message::new(self.count().saturating_add(1), 0, 0, 1, 0, 0, 0, 0)
     }
 
     fn handle(&mut self, message: Message) -> Result<(), AllocError>

@@ -27,9 +27,14 @@ type Lens = (usize, usize, usize);
 /// A call, what it answers and how long the lists are then.
 type Step = (Call, Answer, Lens);
 
-const A: Row = (5, 0, 1, 1, 0, 1);
+const A: Row = (5, 0, 1, 1, 0, 1, 0, 0);
 /// Another message of the same sender and number.
-const OTHER: Row = (5, 0, 1, 1, 9, 1);
+const OTHER: Row = (5, 0, 1, 1, 9, 1, 0, 0);
+
+/// What differs in the third or in the last word of its content alone.
+const OTHER_C: Row = (5, 0, 1, 1, 0, 1, 1, 0);
+
+const OTHER_D: Row = (5, 0, 1, 1, 0, 1, 0, 1);
 
 const WAITS: Answer = (Some(Arrival::Waits), None);
 
@@ -94,7 +99,7 @@ fn play(rt: &impl Abort, queue: &mut InputQueue, steps: &[Step], name: &str) -> 
 
 /// A message of process 1 to itself.
 fn of_time(time: u64) -> Row {
-    (time, 1, time, 1, 0, 0)
+    (time, 1, time, 1, 0, 0, 0, 0)
 }
 
 /// Takes what waits, one after another, and answers how many messages that were.
@@ -140,9 +145,9 @@ fn one_of_many(place: u64, apart: bool) -> Row
     requires { place < 100000 }
 {
     if apart {
-        (1 + place * 7919 % 100_003, 1, 0, 1, 0, 0)
+        (1 + place * 7919 % 100_003, 1, 0, 1, 0, 0, 0, 0)
     } else {
-        (5, 1, 100_000 - place, 1, 0, 0)
+        (5, 1, 100_000 - place, 1, 0, 0, 0, 0)
     }
 }
 
@@ -194,7 +199,7 @@ fn what_arrives_meets_its_like(rt: HostRuntime) -> Result<(), Fail> {
             ],
         ),
         (
-            "matching is by all six numbers",
+            "matching is by all eight numbers",
             &[
                 (plus, queued(0), (0, 1, 0)),
                 (take, taken(5), (1, 0, 0)),
@@ -241,14 +246,50 @@ fn what_arrives_meets_its_like(rt: HostRuntime) -> Result<(), Fail> {
 }
 
 #[test]
+fn what_differs_in_its_last_words_alone_is_another_message(rt: HostRuntime) -> Result<(), Fail> {
+    let plus = Call::Arrives(signed(Sign::Plus, A)?);
+    let minus = Call::Arrives(signed(Sign::Minus, A)?);
+    let take = Call::Taken(10);
+    for other in [OTHER_C, OTHER_D] {
+        let plus_other = Call::Arrives(signed(Sign::Plus, other)?);
+        let minus_other = Call::Arrives(signed(Sign::Minus, other)?);
+        let steps = [
+            // it takes back neither a message that waits nor one that was handled
+            (plus, queued(0), (0, 1, 0)),
+            (minus_other, WAITS, (0, 1, 1)),
+            (take, taken(5), (1, 0, 1)),
+            (minus_other, WAITS, (1, 0, 2)),
+            (plus_other, annihilated(0), (1, 0, 1)),
+            (plus_other, annihilated(0), (1, 0, 0)),
+            // it comes behind
+            (plus_other, queued(0), (1, 1, 0)),
+            (take, taken(5), (2, 0, 0)),
+            (minus, annihilated(2), (0, 1, 0)),
+            (take, taken(5), (1, 0, 0)),
+            (plus, queued(1), (0, 2, 0)),
+            (take, taken(5), (1, 1, 0)),
+            (minus_other, annihilated(0), (1, 0, 0)),
+            (minus, annihilated(1), (0, 0, 0)),
+        ];
+        play(
+            &rt,
+            &mut InputQueue::new(rt.alloc()),
+            &steps,
+            "the last words",
+        )?;
+    }
+    Ok(())
+}
+
+#[test]
 fn a_straggler_undoes_what_comes_after(rt: HostRuntime) -> Result<(), Fail> {
     let waiting = [
-        (9, 0, 0, 1, 0, 0),
-        (3, 0, 0, 1, 0, 0),
-        (7, 0, 0, 1, 0, 0),
-        (5, 0, 0, 1, 0, 0),
+        (9, 0, 0, 1, 0, 0, 0, 0),
+        (3, 0, 0, 1, 0, 0, 0, 0),
+        (7, 0, 0, 1, 0, 0, 0, 0),
+        (5, 0, 0, 1, 0, 0, 0, 0),
     ];
-    let straggler = Call::Arrives(signed(Sign::Plus, (4, 2, 0, 1, 0, 0))?);
+    let straggler = Call::Arrives(signed(Sign::Plus, (4, 2, 0, 1, 0, 0, 0, 0))?);
     let steps = [
         (Call::Taken(8), taken(3), (1, 3, 0)),
         (Call::Taken(8), taken(5), (2, 2, 0)),

@@ -12,7 +12,7 @@ mod rounds;
 
 // The number tells messages of one time apart.
 fn signed(sign: Sign, time: u64, number: u64, to: u32) -> Result<Signed, KeyFault> {
-    let message = Message::new(time, 0, number, to, 0, 0)?;
+    let message = Message::new(time, 0, number, to, 0, 0, 0, 0)?;
     Ok(Signed { sign, message })
 }
 

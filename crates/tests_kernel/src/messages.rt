@@ -1,24 +1,33 @@
 // Worked values of messages and their bytes.
 
-use crate::rows::{Row, message, messages};
+use crate::rows::{Row, message, messages, row};
 use eventkey::*;
 use std::alloc::Global;
 use std::cmp::Ordering;
 use std::test::Fail;
 
 /// A message as it travels.
-const ROW: Row = (3, 0, 1, 1, 0, 1);
+const ROW: Row = (3, 0, 1, 1, 0, 1, 0, 0);
 
 /// Its bytes.
-const SPELLED: [u8; 40] = [
+const SPELLED: [u8; 56] = [
     0, 0, 0, 0, 0, 0, 0, 3, 0, 0, 0, 0, 0, 0, 0, 0, 0, 0, 0, 1, 0, 0, 0, 1, 0, 0, 0, 0, 0, 0, 0, 0,
-    0, 0, 0, 0, 0, 0, 0, 1,
+    0, 0, 0, 0, 0, 0, 0, 1, 0, 0, 0, 0, 0, 0, 0, 0, 0, 0, 0, 0, 0, 0, 0, 0,
+];
+
+/// A message of eight numbers, and its bytes.
+const EIGHT: Row = (1, 2, 3, 4, 5, 6, 7, u64::MAX);
+
+const SPELLED_EIGHT: [u8; 56] = [
+    0, 0, 0, 0, 0, 0, 0, 1, 0, 0, 0, 2, 0, 0, 0, 0, 0, 0, 0, 3, 0, 0, 0, 4, 0, 0, 0, 0, 0, 0, 0, 5,
+    0, 0, 0, 0, 0, 0, 0, 6, 0, 0, 0, 0, 0, 0, 0, 7, 255, 255, 255, 255, 255, 255, 255, 255,
 ];
 
 #[test]
 fn a_message_and_an_antimessage_are_spelled(rt: HostRuntime) -> Result<(), Fail> {
+    assert_eq!(rt; (MESSAGE_BYTES, SIGNED_BYTES), (56, 57));
     let message = message(ROW)?;
-    let mut bytes = [7; 40];
+    let mut bytes = [7; 56];
     put_message(&message, &mut bytes);
     assert_eq!(rt; bytes, SPELLED);
     assert_eq!(rt; get_message(&bytes)?, message);
@@ -26,11 +35,37 @@ fn a_message_and_an_antimessage_are_spelled(rt: HostRuntime) -> Result<(), Fail>
         sign: Sign::Minus,
         message,
     };
-    let mut bytes = [7; 41];
+    let mut bytes = [7; 57];
     put_signed(&signed, &mut bytes);
     assert_eq!(rt; bytes[0], 1);
     assert_eq!(rt; bytes[1..], SPELLED[..]);
     assert_eq!(rt; get_signed(&bytes)?, signed);
+    Ok(())
+}
+
+#[test]
+fn each_number_of_a_message_has_its_bytes(rt: HostRuntime) -> Result<(), Fail> {
+    let message = message(EIGHT)?;
+    let mut bytes = [9; 56];
+    put_message(&message, &mut bytes);
+    assert_eq!(rt; bytes, SPELLED_EIGHT);
+    let read = get_message(&SPELLED_EIGHT)?;
+    assert!(rt; row(&read) == EIGHT);
+    Ok(())
+}
+
+#[test]
+fn bytes_that_are_no_message_are_refused(rt: HostRuntime) -> Result<(), Fail> {
+    let short = Err(KeyFault::Short);
+    for count in [0, 40, 55] {
+        assert_eq!(rt; get_message(SPELLED.split_at(count).0), short, "{count}");
+    }
+    assert_eq!(rt; get_message(&[255; 56]), Err(KeyFault::TimeTooLarge));
+    let short = Err(KeyFault::Short);
+    for count in [0, 41, 56] {
+        assert_eq!(rt; get_signed([2; 57].split_at(count).0), short, "{count}");
+    }
+    assert_eq!(rt; get_signed(&[2; 57]), Err(KeyFault::BadSign));
     Ok(())
 }
 
@@ -46,13 +81,15 @@ fn is_later(later: &Message, earlier: &Message) -> bool {
 #[test]
 fn messages_go_by_each_field_in_turn(rt: HostRuntime) -> Result<(), Fail> {
     let rows = [
-        (1, 1, 1, 1, 1, 1),
-        (1, 1, 1, 1, 1, 2),
-        (1, 1, 1, 1, 2, 0),
-        (1, 1, 1, 2, 0, 0),
-        (1, 1, 2, 0, 0, 0),
-        (1, 2, 0, 0, 0, 0),
-        (2, 0, 0, 0, 0, 0),
+        (1, 1, 1, 1, 1, 1, 1, 1),
+        (1, 1, 1, 1, 1, 1, 1, 2),
+        (1, 1, 1, 1, 1, 1, 2, 0),
+        (1, 1, 1, 1, 1, 2, 0, 0),
+        (1, 1, 1, 1, 2, 0, 0, 0),
+        (1, 1, 1, 2, 0, 0, 0, 0),
+        (1, 1, 2, 0, 0, 0, 0, 0),
+        (1, 2, 0, 0, 0, 0, 0, 0),
+        (2, 0, 0, 0, 0, 0, 0, 0),
     ];
     let messages = messages(rt.alloc(), &rows)?;
     for (earlier, later) in messages.iter().zip(messages.iter().skip(1)) {
@@ -82,17 +119,18 @@ fn begins_with_signed(alloc: Global, bytes: &[u8], list: &[Signed]) -> Result<bo
 
 #[test]
 fn lists_are_appended_and_read(rt: HostRuntime) -> Result<(), Fail> {
-    let messages = messages(rt.alloc(), &[(1, 2, 3, 4, 5, 6), ROW])?;
+    let messages = messages(rt.alloc(), &[EIGHT, ROW])?;
     let mut bytes = Vec::new(rt.alloc());
     append_messages(&mut bytes, messages.as_slice())?;
-    assert!(rt; bytes.ends_with(&SPELLED));
+    assert!(rt; bytes.starts_with(&SPELLED_EIGHT) && bytes.ends_with(&SPELLED));
+    assert_eq!(rt; bytes.len(), 112);
     assert!(rt; begins_with(rt.alloc(), bytes.as_slice(), messages.as_slice())?);
     let message = message(ROW)?;
     let list = [Sign::Plus, Sign::Minus].map(|sign| Signed { sign, message });
     let mut bytes = Vec::new(rt.alloc());
     append_signed_list(&mut bytes, &list)?;
-    assert_eq!(rt; bytes.len(), 82);
-    assert!(rt; bytes.get(0) == Some(&0) && bytes.get(41) == Some(&1));
+    assert_eq!(rt; bytes.len(), 114);
+    assert!(rt; bytes.get(0) == Some(&0) && bytes.get(57) == Some(&1));
     assert!(rt; begins_with_signed(rt.alloc(), bytes.as_slice(), &list)?);
     Ok(())
 }
@@ -107,13 +145,13 @@ fn a_refused_append_changes_nothing(rt: HostRuntime) -> Result<(), Fail> {
     }
     let sign = Sign::Minus;
     if append_signed(&mut bytes, &Signed { sign, message }).is_err() {
-        assert_eq!(rt; bytes.len(), 40);
+        assert_eq!(rt; bytes.len(), 56);
         append_signed(&mut bytes, &Signed { sign, message })?;
     }
     assert!(rt; bytes.starts_with(&SPELLED));
     assert!(rt; bytes.ends_with(&SPELLED));
-    assert_eq!(rt; bytes.len(), 81);
-    assert!(rt; bytes.get(40) == Some(&1));
+    assert_eq!(rt; bytes.len(), 113);
+    assert!(rt; bytes.get(56) == Some(&1));
     Ok(())
 }
 

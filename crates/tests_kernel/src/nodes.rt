@@ -169,8 +169,8 @@ const fn minus(row: Row) -> (Sign, Row) {
 
 #[test]
 fn a_token_passes_node_zero_of_three(rt: HostRuntime) -> Result<(), Fail> {
-    let (first, to_one) = ((1, 0, 0, 0, 0, 0), (3, 0, 1, 1, 0, 1));
-    let (to_zero, again) = ((7, 2, 0, 0, 0, 3), (9, 0, 2, 1, 0, 4));
+    let (first, to_one) = ((1, 0, 0, 0, 0, 0, 0, 0), (3, 0, 1, 1, 0, 1, 0, 0));
+    let (to_zero, again) = ((7, 2, 0, 0, 0, 3, 0, 0), (9, 0, 2, 1, 0, 4, 0, 0));
     let mut node = load(rt.alloc(), 0, 3, &[(0, 1, &[first])])?;
     let steps: [(Posted, Wanted); 3] = [
         ((&[], 16, 1), (&[plus(to_one)], None, 1, &[])),
@@ -186,7 +186,7 @@ fn a_token_passes_node_zero_of_three(rt: HostRuntime) -> Result<(), Fail> {
 // Room for what a parcel's handlings tell is asked for by what is there, and not by the budget.
 #[test]
 fn a_great_budget_takes_no_room(rt: HostRuntime) -> Result<(), Fail> {
-    let mut node = load(rt.alloc(), 0, 3, &[(0, 1, &[(1, 0, 0, 0, 0, 0)])])?;
+    let mut node = load(rt.alloc(), 0, 3, &[(0, 1, &[(1, 0, 0, 0, 0, 0, 0, 0)])])?;
     let reply = node.handle(parcel(rt.alloc(), &(&[], u32::MAX, 1))?)?;
     assert_eq!(rt; (reply.ran, reply.fossils.as_slice().len()), (1, 0));
     let reply = node.handle(parcel(rt.alloc(), &(&[], u32::MAX, 10))?)?;
@@ -196,9 +196,9 @@ fn a_great_budget_takes_no_room(rt: HostRuntime) -> Result<(), Fail> {
 
 #[test]
 fn fossils_come_by_process(rt: HostRuntime) -> Result<(), Fail> {
-    let (zero, from_zero) = ((4, 0, 0, 0, 0, 0), (6, 0, 5, 1, 0, 1));
-    let (one, from_one) = ((1, 1, 0, 1, 0, 0), (3, 1, 5, 2, 0, 1));
-    let (two, from_two) = ((2, 2, 0, 2, 0, 0), (4, 2, 5, 0, 0, 1));
+    let (zero, from_zero) = ((4, 0, 0, 0, 0, 0, 0, 0), (6, 0, 5, 1, 0, 1, 0, 0));
+    let (one, from_one) = ((1, 1, 0, 1, 0, 0, 0, 0), (3, 1, 5, 2, 0, 1, 0, 0));
+    let (two, from_two) = ((2, 2, 0, 2, 0, 0, 0, 0), (4, 2, 5, 0, 0, 1, 0, 0));
     let seats: [Seat; 3] = [(0, 5, &[zero]), (1, 5, &[one]), (2, 5, &[two])];
     let mut node = load(rt.alloc(), 0, 1, &seats)?;
     let steps: [(Posted, Wanted); 1] = [(
@@ -219,7 +219,7 @@ fn fossils_come_by_process(rt: HostRuntime) -> Result<(), Fail> {
 
 #[test]
 fn an_antimessage_that_waits_counts_as_low(rt: HostRuntime) -> Result<(), Fail> {
-    let (early, late) = ((3, 0, 0, 1, 0, 0), (8, 1, 0, 2, 0, 0));
+    let (early, late) = ((3, 0, 0, 1, 0, 0, 0, 0), (8, 1, 0, 2, 0, 0, 0, 0));
     let mut node = load(rt.alloc(), 0, 1, &[(0, 0, &[]), (1, 0, &[]), (2, 0, &[])])?;
     let steps: [(Posted, Wanted); 2] = [
         ((&[minus(early), plus(late)], 0, 0), (&[], Some(3), 0, &[])),
@@ -232,11 +232,11 @@ fn an_antimessage_that_waits_counts_as_low(rt: HostRuntime) -> Result<(), Fail> 
 // process 1 handled, and two of the messages that went out.
 #[test]
 fn what_is_undone_and_done_again_goes_out_in_order(rt: HostRuntime) -> Result<(), Fail> {
-    let (zero, again) = ((1, 0, 0, 0, 0, 0), (4, 0, 1, 0, 0, 0));
-    let (one, two) = ((2, 1, 0, 1, 0, 0), (3, 2, 0, 2, 0, 0));
-    let (from_zero, from_again) = ((3, 0, 5, 1, 0, 1), (6, 0, 6, 1, 0, 1));
-    let (from_one, from_two) = ((4, 1, 5, 2, 0, 1), (5, 2, 5, 0, 0, 1));
-    let straggler = (3, 0, 9, 0, 7, 0);
+    let (zero, again) = ((1, 0, 0, 0, 0, 0, 0, 0), (4, 0, 1, 0, 0, 0, 0, 0));
+    let (one, two) = ((2, 1, 0, 1, 0, 0, 0, 0), (3, 2, 0, 2, 0, 0, 0, 0));
+    let (from_zero, from_again) = ((3, 0, 5, 1, 0, 1, 0, 0), (6, 0, 6, 1, 0, 1, 0, 0));
+    let (from_one, from_two) = ((4, 1, 5, 2, 0, 1, 0, 0), (5, 2, 5, 0, 0, 1, 0, 0));
+    let straggler = (3, 0, 9, 0, 7, 0, 8, 9);
     let seats: [Seat; 3] = [(0, 5, &[zero, again]), (1, 5, &[one]), (2, 5, &[two])];
     let mut node = load(rt.alloc(), 0, 1, &seats)?;
     let out = [
@@ -249,10 +249,10 @@ fn what_is_undone_and_done_again_goes_out_in_order(rt: HostRuntime) -> Result<()
     let sent = [
         minus(from_again),
         minus(from_one),
-        plus((5, 1, 5, 2, 0, 2)),
-        plus((5, 0, 6, 1, 7, 1)),
-        plus((6, 0, 7, 1, 0, 1)),
-        plus((7, 0, 8, 1, 0, 2)),
+        plus((5, 1, 5, 2, 0, 2, 0, 0)),
+        plus((5, 0, 6, 1, 7, 1, 8, 9)),
+        plus((6, 0, 7, 1, 0, 1, 0, 0)),
+        plus((7, 0, 8, 1, 0, 2, 0, 0)),
     ];
     let steps: [(Posted, Wanted); 2] = [
         ((&[], 4, 0), (&out, None, 4, &[])),

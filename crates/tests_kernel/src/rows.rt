@@ -5,15 +5,24 @@ use std::alloc::Global;
 use std::test::Fail;
 
 /// A message: its time, sender, number, receiver and content.
-pub type Row = (u64, u32, u64, u32, u64, u64);
+pub type Row = (u64, u32, u64, u32, u64, u64, u64, u64);
 
 pub fn message(row: Row) -> Result<Message, KeyFault> {
-    let (time, from, number, to, a, b) = row;
-    Message::new(time, from, number, to, a, b)
+    let (time, from, number, to, a, b, c, d) = row;
+    Message::new(time, from, number, to, a, b, c, d)
 }
 
 pub fn row(x: &Message) -> Row {
-    (x.time(), x.from(), x.number(), x.to(), x.a(), x.b())
+    (
+        x.time(),
+        x.from(),
+        x.number(),
+        x.to(),
+        x.a(),
+        x.b(),
+        x.c(),
+        x.d(),
+    )
 }
 
 pub fn messages(alloc: Global, rows: &[Row]) -> Result<Vec<Message>, Fail> {

@@ -32,15 +32,15 @@ type Told = [u64; 10];
 
 /// The token's messages, as they are handled.
 const LOGGED: [Row; 5] = [
-    (1, 0, 0, 0, 0, 0),
-    (3, 0, 1, 1, 0, 1),
-    (5, 1, 0, 2, 0, 2),
-    (7, 2, 0, 0, 0, 3),
-    (9, 0, 2, 1, 0, 4),
+    (1, 0, 0, 0, 0, 0, 0, 0),
+    (3, 0, 1, 1, 0, 1, 0, 0),
+    (5, 1, 0, 2, 0, 2, 0, 0),
+    (7, 2, 0, 0, 0, 3, 0, 0),
+    (9, 0, 2, 1, 0, 4, 0, 0),
 ];
 
 /// The message that is left at the end.
-const LEFT: Row = (11, 1, 1, 2, 0, 5);
+const LEFT: Row = (11, 1, 1, 2, 0, 5, 0, 0);
 
 /// What is told at the opening and after each step, as long as the time is 0.
 const TOLD: [Told; 6] = [
@@ -163,9 +163,11 @@ fn a_send_is_stamped(rt: HostRuntime) -> Result<(), Fail> {
         delay: 3,
         a: 5,
         b: 6,
+        c: 7,
+        d: 8,
     };
     let stamped = stamp(2, 7, 9, &outgoing);
-    assert_eq!(rt; stamped, message((10, 2, 9, 4, 5, 6))?);
+    assert_eq!(rt; stamped, message((10, 2, 9, 4, 5, 6, 7, 8))?);
     Ok(())
 }
 

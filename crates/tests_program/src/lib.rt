@@ -5,6 +5,8 @@
 #[cfg(test)]
 mod memory;
 #[cfg(test)]
+mod migrating;
+#[cfg(test)]
 mod reading;
 #[cfg(test)]
 mod running;

@@ -19,7 +19,7 @@ fn is_refused_as(alloc: Global, words: &[&str], want: ErrorKind) -> bool {
 }
 
 /// The words of a line, and what it asks for.
-const READ: [(&[&str], Line<'static>); 14] = [
+const READ: [(&[&str], Line<'static>); 16] = [
     (
         &["timewarp", "seq", "examples/ring.toml"],
         Line::Seq {
@@ -151,6 +151,24 @@ const READ: [(&[&str], Line<'static>); 14] = [
         },
     ),
     (
+        &["timewarp", "migrate", "a", "b", "c"],
+        Line::Migrate {
+            model: "a",
+            old: "b",
+            new: "c",
+            sectors: 4096,
+        },
+    ),
+    (
+        &["timewarp", "migrate", "--sectors=8", "a", "b", "c"],
+        Line::Migrate {
+            model: "a",
+            old: "b",
+            new: "c",
+            sectors: 8,
+        },
+    ),
+    (
         &["timewarp", "node", "a", "b"],
         Line::Node {
             model: "a",
@@ -176,7 +194,7 @@ fn a_line_names_a_command_and_its_values(rt: HostRuntime) {
 }
 
 /// The words of a line that is refused, and the kind.
-const REFUSED: [(&[&str], ErrorKind); 20] = [
+const REFUSED: [(&[&str], ErrorKind); 24] = [
     (&["timewarp", "seq"], ErrorKind::MissingRequiredArgument),
     (&["timewarp", "seq", "a", "b"], ErrorKind::UnknownArgument),
     (
@@ -219,9 +237,25 @@ const REFUSED: [(&[&str], ErrorKind); 20] = [
         &["timewarp", "extend", "a", "b", "--end", "20"],
         ErrorKind::UnknownArgument,
     ),
+    (
+        &["timewarp", "migrate", "a", "b"],
+        ErrorKind::MissingRequiredArgument,
+    ),
+    (
+        &["timewarp", "migrate", "a", "b", "c", "d"],
+        ErrorKind::UnknownArgument,
+    ),
     // Numbers out of their ranges.
     (
         &["timewarp", "new", "a", "b", "--sectors", "131073"],
+        ErrorKind::ValueValidation,
+    ),
+    (
+        &["timewarp", "migrate", "a", "b", "c", "--sectors", "7"],
+        ErrorKind::ValueValidation,
+    ),
+    (
+        &["timewarp", "migrate", "a", "b", "c", "--sectors=131073"],
         ErrorKind::ValueValidation,
     ),
     (

@@ -22,16 +22,16 @@ pub const ABOUT: About<'static> = About {
 pub const RING: &str = "model = \"ring\"\nlps = 3\nend = 10\nhold = 2\ntokens = 1\n";
 
 pub const RING_TEXT: &str = "\
-1 0 0 0 0 0
-3 0 1 1 0 1
-5 1 0 2 0 2
-7 2 0 0 0 3
-9 0 2 1 0 4
+1 0 0 0 0 0 0 0
+3 0 1 1 0 1 0 0
+5 1 0 2 0 2 0 0
+7 2 0 0 0 3 0 0
+9 0 2 1 0 4 0 0
 virtual time 10
 lp 0 sent 3 state 2
 lp 1 sent 2 state 2
 lp 2 sent 1 state 1
-pending 11 1 1 2 0 5
+pending 11 1 1 2 0 5 0 0
 ";
 
 /// What a command answers: its status, and what it writes to each stream.

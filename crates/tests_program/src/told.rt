@@ -3,6 +3,7 @@
 use crate::running::{RING, RING_TEXT, run, run_on, temporary};
 use commitlog::LogFault;
 use coordinator::SessionFault;
+use migration::MigrateFault;
 use model::WorldFault;
 use program::{Fault, tell};
 use recovery::RecoveryFault;
@@ -20,7 +21,7 @@ virtual time 1
 lp 0 sent 1 state 0
 lp 1 sent 0 state 0
 lp 2 sent 0 state 0
-pending 1 0 0 0 0 0
+pending 1 0 0 0 0 0 0 0
 ";
 
 /// A command, the bytes of a file, the status, and what is written to each stream.
@@ -160,13 +161,13 @@ fn seq_runs_models_that_draw(rt: HostRuntime) -> Result<(), Fail> {
     let files = [
         (
             "model = \"phold\"\nlps = 1\nend = 4\npopulation = 1\nspread = 1\nseed = 5\n",
-            "1 0 0 0 0 0\n2 0 1 0 0 1\n3 0 2 0 0 2\nvirtual time 4\nlp 0 sent 4 state ",
-            " 3\npending 4 0 3 0 0 3\n",
+            "1 0 0 0 0 0 0 0\n2 0 1 0 0 1 0 0\n3 0 2 0 0 2 0 0\nvirtual time 4\nlp 0 sent 4 state ",
+            " 3\npending 4 0 3 0 0 3 0 0\n",
         ),
         (
             "model = \"jobshop\"\nlps = 1\nend = 3\njobs = 2\nservice = 1\nseed = 5\n",
-            "1 0 0 0 0 0\n2 0 1 0 1 0\n2 0 2 0 0 1\nvirtual time 3\nlp 0 sent 5 state 4 3 1 0 ",
-            "\npending 3 0 3 0 1 1\npending 4 0 4 0 0 2\n",
+            "1 0 0 0 0 0 0 0\n2 0 1 0 1 0 0 0\n2 0 2 0 0 1 0 0\nvirtual time 3\nlp 0 sent 5 state 4 3 1 0 ",
+            "\npending 3 0 3 0 1 1 0 0\npending 4 0 4 0 0 2 0 0\n",
         ),
     ];
     for (file, start, end) in files {
@@ -228,7 +229,7 @@ const PROGRAM: &[&str] = &["timewarp", "--help"];
 const SEQ: &[&str] = &["timewarp", "seq", "--help"];
 
 /// Lines that are mistaken or ask for help, and a part of what is told.
-const USAGES: [(&[&str], &str); 35] = [
+const USAGES: [(&[&str], &str); 43] = [
     (&[], "Usage: timewarp <COMMAND>"),
     (&["timewarp"], "Usage: timewarp <COMMAND>"),
     (&["timewarp", "seq"], "<MODEL>"),
@@ -249,6 +250,11 @@ const USAGES: [(&[&str], &str); 35] = [
     (&["timewarp", "run", "a", "b", "--together=true"], "'true'"),
     (&["timewarp", "run", "a", "b", "--attach=true"], "'true'"),
     (&["timewarp", "extend", "a"], "<DISK>"),
+    (&["timewarp", "migrate", "a", "b"], "<NEW>"),
+    (
+        &["timewarp", "migrate", "a", "b", "c", "--sectors", "131073"],
+        "131073 is not in 8..=131072",
+    ),
     (&["timewarp", "run", "a"], "<DISK>"),
     (
         &["timewarp", "new", "a", "b", "--sectors", "7"],
@@ -272,6 +278,26 @@ const USAGES: [(&[&str], &str); 35] = [
     (
         &["timewarp", "run", "--help"],
         "'node MODEL DIR/nodeI'\nonce its socket is there",
+    ),
+    (
+        &["timewarp", "migrate", "--help"],
+        "OLD is only read. The model file is that of OLD.\n",
+    ),
+    (
+        &["timewarp", "migrate", "--help"],
+        "\n  migrated TIME events N   ticks, and events in the log\n",
+    ),
+    (
+        &["timewarp", "run", "--help"],
+        "\nA disk of format 1 is told as Session Recovery OtherModel; 'migrate' alone reads it.\n",
+    ),
+    (
+        &["timewarp", "log", "--help"],
+        "\n  TIME FROM NUMBER TO A B C D   each committed event\n",
+    ),
+    (
+        &["timewarp", "show", "--help"],
+        "\n  pending TIME FROM NUMBER TO A B C D  each message that is not handled\n",
     ),
     (SEQ, "Runs a model to its end"),
     (SEQ, "Usage: timewarp seq <MODEL>"),
@@ -301,7 +327,11 @@ const USAGES: [(&[&str], &str); 35] = [
         SEQ,
         "jobs        jobs that each machine starts with, 1 to 8\n",
     ),
-    (SEQ, "virtual time TIME                ticks\n"),
+    (
+        SEQ,
+        "TIME FROM NUMBER TO A B C D          each event that was handled\n",
+    ),
+    (SEQ, "virtual time TIME                    ticks\n"),
 ];
 
 #[test]
@@ -341,6 +371,10 @@ fn faults_are_told_by_their_names(rt: HostRuntime) {
             "timewarp: Session Full\n",
         ),
         (Fault::Rounds, "timewarp: Rounds\n"),
+        (
+            Fault::Migrate(MigrateFault::Old(RecoveryFault::OtherModel)),
+            "timewarp: Migrate Old OtherModel\n",
+        ),
         (
             Fault::Wire(WireFault::Truncated),
             "timewarp: Wire Truncated\n",

@@ -15,14 +15,15 @@ use std::process::Abort;
 use std::test::Fail;
 
 /// What `log` and then `show` print of a whole run.
-const LOG: &str = "1 0 0 0 0 0\n3 0 1 1 0 1\n5 1 0 2 0 2\n7 2 0 0 0 3\n9 0 2 1 0 4\n";
+const LOG: &str =
+    "1 0 0 0 0 0 0 0\n3 0 1 1 0 1 0 0\n5 1 0 2 0 2 0 0\n7 2 0 0 0 3 0 0\n9 0 2 1 0 4 0 0\n";
 
 const WORLD: &str = "\
 virtual time 10
 lp 0 sent 3 state 2
 lp 1 sent 2 state 2
 lp 2 sent 1 state 1
-pending 11 1 1 2 0 5
+pending 11 1 1 2 0 5 0 0
 ";
 
 const RAN: &str = "node 0 ran 2\nnode 1 ran 2\nnode 2 ran 1\ncommitted 10 events 5\n";

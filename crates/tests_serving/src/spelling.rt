@@ -42,7 +42,7 @@ fn signed(alloc: Global, message: Option<Message>) -> Result<Listed<Signed>, All
 
 #[test]
 fn loads_are_spelled(rt: HostRuntime) -> Result<(), Fail> {
-    let token = Message::new(1, 0, 0, 0, 0, 0)?;
+    let token = Message::new(1, 0, 0, 0, 0, 0, 0, 0)?;
     let first = load(rt.alloc(), 0, 1, &[token])?;
     assert_eq!(rt; encode_load(rt.alloc(), &first)?.as_slice(), LOAD);
     let second = load(rt.alloc(), 1, 0, &[])?;
@@ -52,7 +52,7 @@ fn loads_are_spelled(rt: HostRuntime) -> Result<(), Fail> {
 
 #[test]
 fn parcels_are_spelled(rt: HostRuntime) -> Result<(), Fail> {
-    let late = Message::new(0, 0, 0, 0, 0, 0)?;
+    let late = Message::new(0, 0, 0, 0, 0, 0, 0, 0)?;
     for (message, budget, bytes) in [(None, 16, PARCEL), (Some(late), 0, LATE)] {
         let parcel = Parcel {
             deliver: signed(rt.alloc(), message)?,
@@ -67,7 +67,7 @@ fn parcels_are_spelled(rt: HostRuntime) -> Result<(), Fail> {
 #[test]
 fn replies_and_refusals_are_spelled(rt: HostRuntime) -> Result<(), Fail> {
     let reply = Reply {
-        out: signed(rt.alloc(), Some(Message::new(3, 0, 1, 1, 0, 1)?))?,
+        out: signed(rt.alloc(), Some(Message::new(3, 0, 1, 1, 0, 1, 0, 0)?))?,
         low: None,
         fossils: Listed::from_vec(Vec::new(rt.alloc())),
         ran: 1,

@@ -22,12 +22,15 @@ fn damaged(alloc: Global, place: usize, byte: u8) -> Result<Vec<u8>, Fail> {
 fn a_damaged_disk_is_refused_by_its_fault(rt: HostRuntime) -> Result<(), Fail> {
     let corrupt = RecoveryFault::Log(LogFault::Corrupt);
     let rows = [
-        // the header
+        // the header, and in it the format before this one
         (512, 0, RecoveryFault::OtherModel),
-        // the kind of a record, its time, the last word of its first event
+        (512 + 11, 1, RecoveryFault::OtherModel),
+        // the kind of a record, its time, the last three words of its first event
         (3 * 512, 9, RecoveryFault::BadRecord),
         (3 * 512 + 12, 2, RecoveryFault::NotTheLeast),
         (5 * 512 + 56, 7, RecoveryFault::NotTheLeast),
+        (5 * 512 + 64, 7, RecoveryFault::NotTheLeast),
+        (5 * 512 + 72, 7, RecoveryFault::NotTheLeast),
         (7 * 512 + 12, 6, RecoveryFault::GoesBack),
         // a length past the greatest, and what follows a record
         (3 * 512 + 1, 1, corrupt),

@@ -92,14 +92,15 @@ pub(crate) fn ring() -> TokenRing {
 
 /// The record of a checkpoint of the ring at time 10: its kind, the length of its body, and the
 /// body.
-const RECORD: [u8; 108] = [
-    2, 0, 0, 0, 103, 0, 0, 0, 0, 0, 0, 0, 10, //
+const RECORD: [u8; 124] = [
+    2, 0, 0, 0, 119, 0, 0, 0, 0, 0, 0, 0, 10, //
     0, 0, 0, 0, 0, 0, 0, 3, 1, 0, 0, 0, 0, 0, 0, 0, 2, //
     0, 0, 0, 0, 0, 0, 0, 2, 1, 0, 0, 0, 0, 0, 0, 0, 2, //
     0, 0, 0, 0, 0, 0, 0, 1, 1, 0, 0, 0, 0, 0, 0, 0, 1, //
     0, 0, 0, 1, 0, 0, 0, 0, 0, 0, 0, 11, 0, 0, 0, 1, //
     0, 0, 0, 0, 0, 0, 0, 1, 0, 0, 0, 2, //
-    0, 0, 0, 0, 0, 0, 0, 0, 0, 0, 0, 0, 0, 0, 0, 5,
+    0, 0, 0, 0, 0, 0, 0, 0, 0, 0, 0, 0, 0, 0, 0, 5, //
+    0, 0, 0, 0, 0, 0, 0, 0, 0, 0, 0, 0, 0, 0, 0, 0,
 ];
 
 #[test]
@@ -110,12 +111,12 @@ fn a_run_keeps_its_front(rt: HostRuntime) -> Result<(), Fail> {
     let bytes = image.as_slice();
     assert!(rt; bytes.get(8 * 512) == Some(&1), "the gate of sector 8");
     assert!(rt;
-        bytes.get(9 * 512..9 * 512 + 108) == Some(RECORD.as_slice()),
+        bytes.get(9 * 512..9 * 512 + 124) == Some(RECORD.as_slice()),
         "the record"
     );
     assert!(rt;
         bytes
-            .get(9 * 512 + 108..11 * 512)
+            .get(9 * 512 + 124..11 * 512)
             .is_some_and(|rest| rest.iter().all(|byte| *byte == 0))
     );
     let front = front_of(alloc, &ring(), image, 10)?;

@@ -50,6 +50,8 @@ impl Simulated for Ring {
                 delay: 1,
                 a: u64::from(lp),
                 b: 0,
+                c: 0,
+                d: 0,
             });
         }
         (words, sends)
@@ -65,6 +67,8 @@ impl Simulated for Ring {
             delay: 2,
             a: message.a(),
             b: message.b().wrapping_add(1),
+            c: message.c(),
+            d: message.d(),
         });
         (words, sends)
     }
@@ -189,7 +193,7 @@ fn steps(alloc: Global, count: usize) -> Result<Vec<Step>, AllocError> {
     Ok(steps)
 }
 
-fn fields(message: &Message) -> [u64; 6] {
+fn fields(message: &Message) -> [u64; 8] {
     [
         message.time(),
         u64::from(message.from()),
@@ -197,6 +201,8 @@ fn fields(message: &Message) -> [u64; 6] {
         u64::from(message.to()),
         message.a(),
         message.b(),
+        message.c(),
+        message.d(),
     ]
 }
 
@@ -209,11 +215,11 @@ fn is_at_three(session: &Local<'_>) -> bool {
             .log
             .iter()
             .map(fields)
-            .eq([[1, 0, 0, 0, 0, 0], [1, 1, 0, 1, 1, 0]])
+            .eq([[1, 0, 0, 0, 0, 0, 0, 0], [1, 1, 0, 1, 1, 0, 0, 0]])
         && front.numbers == [2, 2, 0].as_slice()
         && front
             .pending
             .iter()
             .map(fields)
-            .eq([[3, 0, 1, 1, 0, 1], [3, 1, 1, 2, 1, 1]])
+            .eq([[3, 0, 1, 1, 0, 1, 0, 0], [3, 1, 1, 2, 1, 1, 0, 0]])
 }

@@ -22,18 +22,18 @@ fn ring() -> TokenRing {
 const END: u64 = 10;
 
 /// The events of the sequential simulation, and the message that is left.
-const EVENTS: [[u64; 6]; 6] = [
-    [1, 0, 0, 0, 0, 0],
-    [3, 0, 1, 1, 0, 1],
-    [5, 1, 0, 2, 0, 2],
-    [7, 2, 0, 0, 0, 3],
-    [9, 0, 2, 1, 0, 4],
-    [11, 1, 1, 2, 0, 5],
+const EVENTS: [[u64; 8]; 6] = [
+    [1, 0, 0, 0, 0, 0, 0, 0],
+    [3, 0, 1, 1, 0, 1, 0, 0],
+    [5, 1, 0, 2, 0, 2, 0, 0],
+    [7, 2, 0, 0, 0, 3, 0, 0],
+    [9, 0, 2, 1, 0, 4, 0, 0],
+    [11, 1, 1, 2, 0, 5, 0, 0],
 ];
 
-fn messages(alloc: Global, numbers: &[[u64; 6]]) -> Result<Vec<Message>, Fail> {
+fn messages(alloc: Global, numbers: &[[u64; 8]]) -> Result<Vec<Message>, Fail> {
     let mut messages = Vec::new(alloc);
-    for [time, from, number, to, a, b] in numbers {
+    for [time, from, number, to, a, b, c, d] in numbers {
         messages.push(Message::new(
             *time,
             u32::try_from(*from)?,
@@ -41,12 +41,14 @@ fn messages(alloc: Global, numbers: &[[u64; 6]]) -> Result<Vec<Message>, Fail> {
             u32::try_from(*to)?,
             *a,
             *b,
+            *c,
+            *d,
         )?)?;
     }
     Ok(messages)
 }
 
-fn body(alloc: Global, g: u64, numbers: &[[u64; 6]]) -> Result<Vec<u8>, Fail> {
+fn body(alloc: Global, g: u64, numbers: &[[u64; 8]]) -> Result<Vec<u8>, Fail> {
     let messages = messages(alloc, numbers)?;
     if messages.len() > 100 {
         return Ok(Vec::new(alloc));
@@ -64,7 +66,7 @@ fn open(alloc: Global, disk: MemDisk) -> Result<Log<MemDisk>, LogFault> {
 /// A formatted log with these records of events, and behind them one of this kind and body.
 fn log_with(
     alloc: Global,
-    records: &[(u64, &[[u64; 6]])],
+    records: &[(u64, &[[u64; 8]])],
     last: Option<(u8, &[u8])>,
 ) -> Result<Log<MemDisk>, Fail> {
     let mut disk = MemDisk::blank(alloc, 64)?;
@@ -81,7 +83,7 @@ fn log_with(
 
 /// A log with three commits, of all events before the end.
 fn log_of_all(alloc: Global) -> Result<Log<MemDisk>, Fail> {
-    let records: [(u64, &[[u64; 6]]); 3] = [(1, &[]), (7, &EVENTS[..3]), (END, &EVENTS[3..5])];
+    let records: [(u64, &[[u64; 8]]); 3] = [(1, &[]), (7, &EVENTS[..3]), (END, &EVENTS[3..5])];
     log_with(alloc, &records, None)
 }
 
@@ -108,7 +110,7 @@ fn recovered(alloc: Global, log: Log<MemDisk>) -> Result<Front, RecoveryFault> {
 /// The fault of the recovery, if there is one.
 fn fault_of(
     alloc: Global,
-    records: &[(u64, &[[u64; 6]])],
+    records: &[(u64, &[[u64; 8]])],
     last: Option<(u8, &[u8])>,
 ) -> Result<Option<RecoveryFault>, Fail> {
     Ok(recovered(alloc, log_with(alloc, records, last)?).err())

@@ -22,27 +22,27 @@ impl Watch for Nobody {
 }
 
 const WHOLE: &str = "\
-1 0 0 0 0 0
-3 0 1 1 0 1
-5 1 0 2 0 2
-7 2 0 0 0 3
-9 0 2 1 0 4
+1 0 0 0 0 0 0 0
+3 0 1 1 0 1 0 0
+5 1 0 2 0 2 0 0
+7 2 0 0 0 3 0 0
+9 0 2 1 0 4 0 0
 virtual time 10
 lp 0 sent 3 state 2
 lp 1 sent 2 state 2
 lp 2 sent 1 state 1
-pending 11 1 1 2 0 5
+pending 11 1 1 2 0 5 0 0
 ";
 
 const UP_TO_SEVEN: &str = "\
-1 0 0 0 0 0
-3 0 1 1 0 1
-5 1 0 2 0 2
+1 0 0 0 0 0 0 0
+3 0 1 1 0 1 0 0
+5 1 0 2 0 2 0 0
 virtual time 7
 lp 0 sent 2 state 1
 lp 1 sent 1 state 1
 lp 2 sent 1 state 1
-pending 7 2 0 0 0 3
+pending 7 2 0 0 0 3 0 0
 ";
 
 const UP_TO_ONE: &str = "\
@@ -50,7 +50,7 @@ virtual time 1
 lp 0 sent 1 state 0
 lp 1 sent 0 state 0
 lp 2 sent 0 state 0
-pending 1 0 0 0 0 0
+pending 1 0 0 0 0 0 0 0
 ";
 
 const CARRIED_ON: &str = "\
@@ -59,21 +59,21 @@ node 0 ran 2
 node 1 ran 1
 node 2 ran 2
 committed 20 events 10
-1 0 0 0 0 0
-3 0 1 1 0 1
-5 1 0 2 0 2
-7 2 0 0 0 3
-9 0 2 1 0 4
-11 1 1 2 0 5
-13 2 1 0 0 6
-15 0 3 1 0 7
-17 1 2 2 0 8
-19 2 2 0 0 9
+1 0 0 0 0 0 0 0
+3 0 1 1 0 1 0 0
+5 1 0 2 0 2 0 0
+7 2 0 0 0 3 0 0
+9 0 2 1 0 4 0 0
+11 1 1 2 0 5 0 0
+13 2 1 0 0 6 0 0
+15 0 3 1 0 7 0 0
+17 1 2 2 0 8 0 0
+19 2 2 0 0 9 0 0
 virtual time 20
 lp 0 sent 5 state 4
 lp 1 sent 3 state 3
 lp 2 sent 3 state 3
-pending 21 0 4 1 0 10
+pending 21 0 4 1 0 10 0 0
 ";
 
 const RAN: &str = "node 0 ran 2\nnode 1 ran 2\nnode 2 ran 1\ncommitted 10 events 5\n";

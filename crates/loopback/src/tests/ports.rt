@@ -46,6 +46,8 @@ impl Simulated for Ring {
             delay: 2,
             a: message.a(),
             b: message.b().wrapping_add(1),
+            c: message.c(),
+            d: message.d(),
         });
         (words, sends)
     }
@@ -58,7 +60,7 @@ fn load(alloc: Global, lp: u32) -> Result<Load, Fail>
     let mut words = Words::new(alloc);
     words.push_reserved(0);
     let mut pending = Vec::new(alloc);
-    pending.push(Message::new(1, 0, 0, 0, 0, 0)?)?;
+    pending.push(Message::new(1, 0, 0, 0, 0, 0, 0, 0)?)?;
     let mut parts = Vec::new(alloc);
     parts.push(Part {
         lp,
@@ -96,7 +98,7 @@ fn a_round_of_a_run(rt: HostRuntime) -> Result<(), Fail> {
     let reply = round(&mut port, rt.alloc(), 1)?;
     let sent = Signed {
         sign: Sign::Plus,
-        message: Message::new(3, 0, 1, 1, 0, 1)?,
+        message: Message::new(3, 0, 1, 1, 0, 1, 0, 0)?,
     };
     assert_eq!(rt; reply.ran, 1);
     assert_eq!(rt; reply.out.as_slice(), [sent].as_slice());

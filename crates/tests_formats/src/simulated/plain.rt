@@ -8,7 +8,7 @@ use std::alloc::{AllocError, Global};
 use std::test::Fail;
 
 /// A message: its time, sender, number, receiver and content.
-type Row = [u64; 6];
+type Row = [u64; 8];
 
 /// The first word of PCG's XSH RR 64/32, as its authors' C code gives it for this state and stream.
 fn pcg(state: u64, stream: u64) -> u64 {
@@ -64,13 +64,13 @@ impl Plain {
     }
 
     /// Sends a message from a process with this state, and keeps the list sorted.
-    fn send(&mut self, time: u64, from: u64, to: u64, content: [u64; 2]) -> Result<(), AllocError> {
+    fn send(&mut self, time: u64, from: u64, to: u64, content: [u64; 4]) -> Result<(), AllocError> {
         let place = from as usize;
         if place < self.numbers.len() {
             let number = self.numbers[place];
             self.numbers[place] = number.wrapping_add(1);
-            self.pending
-                .push([time, from, number, to, content[0], content[1]])?;
+            let [a, b, c, d] = content;
+            self.pending.push([time, from, number, to, a, b, c, d])?;
             self.pending.sort_unstable();
         }
         Ok(())
@@ -110,7 +110,7 @@ fn open_hold(plain: &mut Plain, n: Numbers, lp: u64) -> Result<(), AllocError> {
     for k in 0..n.first {
         let delay = (word(n.seed, lp, k) % n.most.max(1)).wrapping_add(1);
         let a = lp.wrapping_mul(n.first).wrapping_add(k);
-        plain.send(delay, lp, lp, [a, 0])?;
+        plain.send(delay, lp, lp, [a, 0, 0, 0])?;
     }
     Ok(())
 }
@@ -127,7 +127,7 @@ fn handle_hold(plain: &mut Plain, n: Numbers, x: Row) -> Result<(), AllocError> 
         x[0].wrapping_add(delay),
         x[3],
         to,
-        [x[4], x[5].wrapping_add(1)],
+        [x[4], x[5].wrapping_add(1), x[6], x[7]],
     )
 }
 
@@ -137,7 +137,7 @@ fn open_shop(plain: &mut Plain, n: Numbers, lp: u64) -> Result<(), AllocError> {
     plain.numbers.push(0)?;
     for k in 0..n.first {
         let a = lp.wrapping_mul(n.first).wrapping_add(k);
-        plain.send(k.wrapping_add(1), lp, lp, [a, 0])?;
+        plain.send(k.wrapping_add(1), lp, lp, [a, 0, 0, 0])?;
     }
     Ok(())
 }
@@ -158,7 +158,7 @@ fn handle_shop(plain: &mut Plain, n: Numbers, x: Row) -> Result<(), AllocError> 
     let waited = waited.wrapping_add(begin.wrapping_sub(x[0]));
     plain.set_state(x[3], [end, served, waited, turned_away, key]);
     let to = x[3].wrapping_add(1) % n.lps.max(1);
-    plain.send(end, x[3], to, [x[4], x[5].wrapping_add(1)])
+    plain.send(end, x[3], to, [x[4], x[5].wrapping_add(1), x[6], x[7]])
 }
 
 /// A plain run to the end, of a job shop or of PHOLD.
@@ -192,6 +192,8 @@ fn row(x: &Message) -> Row {
         u64::from(x.to()),
         x.a(),
         x.b(),
+        x.c(),
+        x.d(),
     ]
 }
 

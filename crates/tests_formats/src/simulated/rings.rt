@@ -9,6 +9,8 @@ fn token(to: u32, a: u64) -> Outgoing {
         delay: 1,
         a,
         b: 0,
+        c: 0,
+        d: 0,
     }
 }
 

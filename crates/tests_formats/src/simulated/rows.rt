@@ -2,12 +2,12 @@
 
 use eventkey::Message;
 use model::{Model, Outgoing, World};
-use models::{AnyModel, JobShop, Phold};
+use models::{AnyModel, JobShop, Phold, Relay, TokenRing};
 use smallvec::SmallVec;
 use std::test::Fail;
 
 /// A message's time, sender, number, receiver and content.
-fn row(x: &Message) -> [u64; 6] {
+fn row(x: &Message) -> [u64; 8] {
     [
         x.time(),
         u64::from(x.from()),
@@ -15,10 +15,12 @@ fn row(x: &Message) -> [u64; 6] {
         u64::from(x.to()),
         x.a(),
         x.b(),
+        x.c(),
+        x.d(),
     ]
 }
 
-fn are(messages: &[Message], rows: &[[u64; 6]]) -> bool {
+fn are(messages: &[Message], rows: &[[u64; 8]]) -> bool {
     messages.len() == rows.len() && messages.iter().zip(rows).all(|(x, want)| row(x) == *want)
 }
 
@@ -28,9 +30,13 @@ fn one_message_of_phold_comes_each_tick(rt: HostRuntime) -> Result<(), Fail> {
         let model = AnyModel::Phold(Phold::new(1, 1, 1, seed));
         let mut world = World::open(rt.alloc(), &model, 4)?;
         world.run_to(&model, 4)?;
-        let log = [[1, 0, 0, 0, 0, 0], [2, 0, 1, 0, 0, 1], [3, 0, 2, 0, 0, 2]];
+        let log = [
+            [1, 0, 0, 0, 0, 0, 0, 0],
+            [2, 0, 1, 0, 0, 1, 0, 0],
+            [3, 0, 2, 0, 0, 2, 0, 0],
+        ];
         assert!(rt; are(world.log(), &log));
-        assert!(rt; are(world.pending(), &[[4, 0, 3, 0, 0, 3]]));
+        assert!(rt; are(world.pending(), &[[4, 0, 3, 0, 0, 3, 0, 0]]));
         assert_eq!(rt;
             model.identity(rt.alloc()).as_slice(),
             [2, 1, 1, seed].as_slice()
@@ -45,9 +51,18 @@ fn one_machine_serves_a_job_a_tick(rt: HostRuntime) -> Result<(), Fail> {
         let model = AnyModel::JobShop(JobShop::new(1, 2, 1, seed));
         let mut world = World::open(rt.alloc(), &model, 3)?;
         world.run_to(&model, 3)?;
-        let log = [[1, 0, 0, 0, 0, 0], [2, 0, 1, 0, 1, 0], [2, 0, 2, 0, 0, 1]];
+        let log = [
+            [1, 0, 0, 0, 0, 0, 0, 0],
+            [2, 0, 1, 0, 1, 0, 0, 0],
+            [2, 0, 2, 0, 0, 1, 0, 0],
+        ];
         assert!(rt; are(world.log(), &log));
-        assert!(rt; are(world.pending(), &[[3, 0, 3, 0, 1, 1], [4, 0, 4, 0, 0, 2]]));
+        assert!(rt;
+            are(
+                world.pending(),
+                &[[3, 0, 3, 0, 1, 1, 0, 0], [4, 0, 4, 0, 0, 2, 0, 0]]
+            )
+        );
         let state = world.states().first().ok_or("a machine")?.as_slice();
         assert_eq!(rt; state.len(), 5);
         assert!(rt; state.starts_with(&[4, 3, 1, 0]));
@@ -59,10 +74,38 @@ fn one_machine_serves_a_job_a_tick(rt: HostRuntime) -> Result<(), Fail> {
     Ok(())
 }
 
+/// What is sent on with the last two words of the message that was handled.
+fn sent_on(to: u32, delay: u32, a: u64, b: u64) -> Outgoing {
+    Outgoing {
+        to,
+        delay,
+        a,
+        b,
+        c: 8,
+        d: u64::MAX,
+    }
+}
+
+#[test]
+fn the_last_two_words_are_kept(rt: HostRuntime) -> Result<(), Fail> {
+    let message = Message::new(5, 1, 0, 0, 9, 4, 8, u64::MAX)?;
+    let state = SmallVec::from_slice(rt.alloc(), &[3])?;
+    let (_, sends) = TokenRing::new(3, 2, 1).handle(rt.alloc(), 0, &state, &message);
+    assert_eq!(rt; sends.as_slice(), [sent_on(1, 2, 9, 5)].as_slice());
+    let (_, sends) = Phold::new(1, 1, 1, 7).handle(rt.alloc(), 0, &state, &message);
+    assert_eq!(rt; sends.as_slice(), [sent_on(0, 1, 9, 5)].as_slice());
+    let (_, sends) = Relay.handle(rt.alloc(), 0, &state, &message);
+    assert_eq!(rt;
+        sends.as_slice(),
+        [sent_on(3, 1, 9, 7), sent_on(1, 23, 4, 9)].as_slice()
+    );
+    Ok(())
+}
+
 #[test]
 fn a_job_past_every_delay_is_turned_away(rt: HostRuntime) -> Result<(), Fail> {
     let shop = JobShop::new(2, 1, 1, 3);
-    let message = Message::new(5, 1, 0, 0, 9, u64::MAX)?;
+    let message = Message::new(5, 1, 0, 0, 9, u64::MAX, 8, u64::MAX)?;
     let state = SmallVec::from_slice(rt.alloc(), &[4294967299])?;
     let (words, sends) = shop.handle(rt.alloc(), 0, &state, &message);
     assert!(rt;
@@ -75,6 +118,8 @@ fn a_job_past_every_delay_is_turned_away(rt: HostRuntime) -> Result<(), Fail> {
         delay: 4294967295,
         a: 9,
         b: 0,
+        c: 8,
+        d: u64::MAX,
     };
     assert_eq!(rt; sends.as_slice(), [sent].as_slice());
     let full = u64::MAX;

@@ -30,7 +30,7 @@ impl<'a> Walk<'a> {
 
     fn message(&mut self) -> Option<()> {
         self.at_most(8, (1 << 41) - 1)?;
-        for size in [4, 8, 4, 8, 8] {
+        for size in [4, 8, 4, 8, 8, 8, 8] {
             self.number(size)?;
         }
         Some(())

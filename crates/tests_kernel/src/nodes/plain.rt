@@ -167,7 +167,8 @@ impl PlainProcess {
         let (before, number_before) = (self.state, self.number);
         for send in sends.as_slice() {
             let time = message.time().wrapping_add(u64::from(send.delay));
-            let one = Message::new(time, self.lp, self.number, send.to, send.a, send.b)?;
+            let (a, b, c, d) = (send.a, send.b, send.c, send.d);
+            let one = Message::new(time, self.lp, self.number, send.to, a, b, c, d)?;
             self.number = self.number.wrapping_add(1);
             sent.push(one)?;
             out.push(going_out(one))?;

@@ -71,8 +71,8 @@ fn agree(reply: &Reply, plain: &PlainReply) -> bool {
 fn pending(lp: u32) -> [Row; 2] {
     let time = u64::from(lp % 3);
     [
-        (time + 4, lp, 1, lp, 0, 5),
-        (time + 1, lp, 0, lp, 0, u64::from(lp)),
+        (time + 4, lp, 1, lp, 0, 5, 9, u64::MAX),
+        (time + 1, lp, 0, lp, 0, u64::from(lp), u64::from(lp), 3),
     ]
 }
 

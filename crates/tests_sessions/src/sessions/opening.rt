@@ -45,7 +45,7 @@ fn an_empty_log_opens_at_time_zero(rt: HostRuntime) -> Result<(), Fail> {
             .pending
             .iter()
             .map(fields)
-            .eq([[1, 0, 0, 0, 0, 0], [1, 1, 0, 1, 1, 0]])
+            .eq([[1, 0, 0, 0, 0, 0, 0, 0], [1, 1, 0, 1, 1, 0, 0, 0]])
     );
     assert!(rt; session.transit().is_empty());
     assert_eq!(rt; session.floor(), 1);

@@ -9,42 +9,42 @@ use wire::Port;
 // Sessions that are driven one step at a time.
 
 /// What is in transit after each step of the table.
-const TRANSIT: [&[(Sign, [u64; 6])]; 13] = [
+const TRANSIT: [&[(Sign, [u64; 8])]; 13] = [
     &[],
-    &[(Sign::Plus, [3, 0, 1, 1, 0, 1])],
-    &[(Sign::Plus, [3, 0, 1, 1, 0, 1])],
+    &[(Sign::Plus, [3, 0, 1, 1, 0, 1, 0, 0])],
+    &[(Sign::Plus, [3, 0, 1, 1, 0, 1, 0, 0])],
     &[
-        (Sign::Plus, [3, 0, 1, 1, 0, 1]),
-        (Sign::Plus, [3, 1, 1, 2, 1, 1]),
+        (Sign::Plus, [3, 0, 1, 1, 0, 1, 0, 0]),
+        (Sign::Plus, [3, 1, 1, 2, 1, 1, 0, 0]),
     ],
-    &[(Sign::Plus, [3, 1, 1, 2, 1, 1])],
+    &[(Sign::Plus, [3, 1, 1, 2, 1, 1, 0, 0])],
     &[
-        (Sign::Plus, [3, 1, 1, 2, 1, 1]),
-        (Sign::Plus, [5, 1, 2, 2, 0, 2]),
+        (Sign::Plus, [3, 1, 1, 2, 1, 1, 0, 0]),
+        (Sign::Plus, [5, 1, 2, 2, 0, 2, 0, 0]),
     ],
-    &[(Sign::Plus, [3, 1, 1, 2, 1, 1])],
+    &[(Sign::Plus, [3, 1, 1, 2, 1, 1, 0, 0])],
     &[
-        (Sign::Plus, [3, 1, 1, 2, 1, 1]),
-        (Sign::Plus, [7, 2, 0, 0, 0, 3]),
+        (Sign::Plus, [3, 1, 1, 2, 1, 1, 0, 0]),
+        (Sign::Plus, [7, 2, 0, 0, 0, 3, 0, 0]),
     ],
-    &[(Sign::Plus, [7, 2, 0, 0, 0, 3])],
+    &[(Sign::Plus, [7, 2, 0, 0, 0, 3, 0, 0])],
     &[
-        (Sign::Plus, [7, 2, 0, 0, 0, 3]),
-        (Sign::Minus, [7, 2, 0, 0, 0, 3]),
-        (Sign::Plus, [5, 2, 0, 0, 1, 2]),
-        (Sign::Plus, [7, 2, 1, 0, 0, 3]),
-    ],
-    &[
-        (Sign::Plus, [5, 2, 0, 0, 1, 2]),
-        (Sign::Plus, [7, 2, 1, 0, 0, 3]),
+        (Sign::Plus, [7, 2, 0, 0, 0, 3, 0, 0]),
+        (Sign::Minus, [7, 2, 0, 0, 0, 3, 0, 0]),
+        (Sign::Plus, [5, 2, 0, 0, 1, 2, 0, 0]),
+        (Sign::Plus, [7, 2, 1, 0, 0, 3, 0, 0]),
     ],
     &[
-        (Sign::Plus, [5, 2, 0, 0, 1, 2]),
-        (Sign::Plus, [7, 2, 1, 0, 0, 3]),
+        (Sign::Plus, [5, 2, 0, 0, 1, 2, 0, 0]),
+        (Sign::Plus, [7, 2, 1, 0, 0, 3, 0, 0]),
     ],
     &[
-        (Sign::Plus, [5, 2, 0, 0, 1, 2]),
-        (Sign::Plus, [7, 2, 1, 0, 0, 3]),
+        (Sign::Plus, [5, 2, 0, 0, 1, 2, 0, 0]),
+        (Sign::Plus, [7, 2, 1, 0, 0, 3, 0, 0]),
+    ],
+    &[
+        (Sign::Plus, [5, 2, 0, 0, 1, 2, 0, 0]),
+        (Sign::Plus, [7, 2, 1, 0, 0, 3, 0, 0]),
     ],
 ];
 
@@ -57,7 +57,7 @@ fn stepped<M: Simulated, P: Port, D: SectorDisk>(
 }
 
 /// Whether exactly this is in transit.
-fn travels(session: &Local<'_>, transit: &[(Sign, [u64; 6])]) -> bool {
+fn travels(session: &Local<'_>, transit: &[(Sign, [u64; 8])]) -> bool {
     session
         .transit()
         .iter()

@@ -72,7 +72,7 @@ fn events_go_on_under_a_later_end(rt: HostRuntime) -> Result<(), Fail> {
     let alloc = rt.alloc();
     let more = body(alloc, 12, &EVENTS[5..])?;
     let late = Some((1, more.as_slice()));
-    let all: [(u64, &[[u64; 6]]); 3] = [(1, &[]), (7, &EVENTS[..3]), (END, &EVENTS[3..5])];
+    let all: [(u64, &[[u64; 8]]); 3] = [(1, &[]), (7, &EVENTS[..3]), (END, &EVENTS[3..5])];
     assert_eq!(rt; fault_of(alloc, &all, late)?, Some(RecoveryFault::GoesBack));
     let mut log = extended(alloc, LATER)?;
     log.append(1, more.as_slice())?;

@@ -4,17 +4,17 @@ use super::*;
 fn the_first_record_at_fault_decides(rt: HostRuntime) -> Result<(), Fail> {
     let alloc = rt.alloc();
     let behind = Some((9, [].as_slice()));
-    let back: [(u64, &[[u64; 6]]); 3] = [(7, &EVENTS[..3]), (6, &[]), (2, &[])];
+    let back: [(u64, &[[u64; 8]]); 3] = [(7, &EVENTS[..3]), (6, &[]), (2, &[])];
     assert_eq!(rt;
         fault_of(alloc, &back, behind)?,
         Some(RecoveryFault::GoesBack)
     );
-    let least: [(u64, &[[u64; 6]]); 2] = [(2, &[]), (1, &[])];
+    let least: [(u64, &[[u64; 8]]); 2] = [(2, &[]), (1, &[])];
     assert_eq!(rt;
         fault_of(alloc, &least, behind)?,
         Some(RecoveryFault::NotTheLeast)
     );
-    let good: [(u64, &[[u64; 6]]); 2] = [(1, &[]), (7, &EVENTS[..3])];
+    let good: [(u64, &[[u64; 8]]); 2] = [(1, &[]), (7, &EVENTS[..3])];
     assert_eq!(rt;
         fault_of(alloc, &good, behind)?,
         Some(RecoveryFault::BadRecord)

@@ -45,7 +45,7 @@ fn a_body_that_was_refused_memory_is_made_the_next_time(rt: HostRuntime) -> Resu
     let alloc = rt.alloc();
     let events = messages(alloc, &EVENTS[..3])?;
     let body = encoded_again(alloc, 7, events.as_slice())?;
-    assert_eq!(rt; body.len(), 132);
+    assert_eq!(rt; body.len(), 180);
     assert!(rt; body.starts_with(&[0, 0, 0, 0, 0, 0, 0, 7, 0, 0, 0, 3]));
     Ok(())
 }

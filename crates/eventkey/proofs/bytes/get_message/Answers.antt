@@ -4,7 +4,7 @@ use Rattle.eventkey.proofs.Readings.{message_read-again, message_read-long, mess
 use Rattle.eventkey.proofs.bytes.get_message.Goals as goal
 
 pub returns-then-bytes-lt-MESSAGE_BYTES-clause-again : goal.returns-then-bytes-lt-MESSAGE_BYTES-clause-again
-returns-then-bytes-lt-MESSAGE_BYTES-clause-again c = λ x rest is e. rw (lt-ltb (length c.args.bytes.now) 40 c.if-bytes-lt-MESSAGE_BYTES.true) at (message_read-again c.args.bytes.now x rest is e)
+returns-then-bytes-lt-MESSAGE_BYTES-clause-again c = λ x rest is e. rw (lt-ltb (length c.args.bytes.now) 56 c.if-bytes-lt-MESSAGE_BYTES.true) at (message_read-again c.args.bytes.now x rest is e)
 
 pub returns-clause-spelled : goal.returns-clause-spelled
 returns-clause-spelled c = rw (c.fixed_fields.ensures, ← message_read-long c.args.bytes.now c.if-bytes-lt-MESSAGE_BYTES.false) (message_read-spelled c.args.bytes.now (λ i. omega (arith, c.type_inv.bytes i)))

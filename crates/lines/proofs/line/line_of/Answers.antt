@@ -7,11 +7,12 @@ returns-in_default-clause-says c = (
     | inl e ↦ absurd (c.in_default.not-new e)
     | inr (inl e) ↦ absurd (c.in_default.not-run e)
     | inr (inr (inl e)) ↦ absurd (c.in_default.not-extend e)
-    | inr (inr (inr (inl e))) ↦ absurd (c.in_default.not-log e)
-    | inr (inr (inr (inr (inl e)))) ↦ absurd (c.in_default.not-show e)
-    | inr (inr (inr (inr (inr (inl e))))) ↦ absurd (c.in_default.not-seq e)
-    | inr (inr (inr (inr (inr (inr (inl e)))))) ↦ absurd (c.in_default.not-check e)
-    | inr (inr (inr (inr (inr (inr (inr e)))))) ↦ e
+    | inr (inr (inr (inl e))) ↦ absurd (c.in_default.not-migrate e)
+    | inr (inr (inr (inr (inl e)))) ↦ absurd (c.in_default.not-log e)
+    | inr (inr (inr (inr (inr (inl e))))) ↦ absurd (c.in_default.not-show e)
+    | inr (inr (inr (inr (inr (inr (inl e)))))) ↦ absurd (c.in_default.not-seq e)
+    | inr (inr (inr (inr (inr (inr (inr (inl e))))))) ↦ absurd (c.in_default.not-check e)
+    | inr (inr (inr (inr (inr (inr (inr (inr e))))))) ↦ e
   ],
   c.text-model.ensures,
   c.text-in_default.ensures,
