@@ -1,6 +1,6 @@
 -- Tables of circuits, item by item, and those with which nothing is wrong.
 use Rattle.std.specs.List.{AllByRecursion as Every}
-use Rattle.std.proofs.Common.{◌≡◌, ℕ, ◌+◌, ◌-◌, ◌^◌, ◌<◌, ◌≤◌, ◌&&◌, nat_le, nat_lt, List, [], ◌∷◌, ◌++◌, Bool, true, false, Option, Some, None, is_some, option_and_then, option_map, codes, length, map, get_or, drop, string_bytes, refl, ap, sym, ◌∙◌, append-nil, append_assoc, arith, lit<}
+use Rattle.std.proofs.Common.{◌≡◌, ℕ, ◌+◌, ◌^◌, ◌<◌, ◌≤◌, ◌&&◌, nat_le, nat_lt, List, [], ◌∷◌, ◌++◌, Bool, true, false, Option, Some, None, is_some, option_and_then, option_map, codes, length, map, get_or, drop, string_bytes, refl, ap, sym, ◌∙◌, append-nil, append_assoc, lit<}
 use Rattle.std.proofs.lemmas.Bool.{and_parts, le-leb, leb-true, lt-ltb, ltb-true}
 use Rattle.std.proofs.lemmas.List.{drop_all, drop_more}
 use Rattle.circuit.specs.Circuit.{IsGate, IsNetlist, IsWire, is_gate, is_wire, netlist_of}
@@ -8,7 +8,7 @@ use Rattle.circuit.specs.CircuitFile.{IsCircuitTable, all_of, circuit_keys, circ
 use Rattle.circuit.specs.declared.circuit.Circuit.{Circuit}
 use Rattle.circuit.specs.declared.parts.Gate.{Gate}
 use Rattle.circuit.specs.declared.parts.Wire.{Wire}
-use Rattle.eventkey.proofs.Lists.{Every-get_or}
+use Rattle.eventkey.proofs.Lists.{Every-get_or, some_of}
 use Rattle.eventkey.proofs.Times.{Every-from_get_or}
 use Rattle.texts.proofs.Right.{item_right, item_there, none_before, none_behind, numbers_right, numbers_there, words_right, words_there}
 use Rattle.texts.specs.ModelFile.{Wrong, found_of, item_wrong, number_at, number_key, numbers_wrong, unknown_wrong, words_wrong}
@@ -70,10 +70,6 @@ module _ {X : Type 0} (fits : X → Bool) (key text : List ℕ) (xs : List X) (p
   unfit_done late was all so_far = sym (append-nil was) ∙ ap (λ ys. was ++ unfit fits key text place ys) (sym (drop_all place xs late)) ∙ so_far
 
 -- 2. Lists that are read
-
-some_of : {X : Type 0} (o : Option X) → is_some o ≡ true → (x : X) × (o ≡ Some x)
-some_of None is = cc
-some_of (Some x) is = (x, refl)
 
 read_parts : {X : Type 0} (o : Option X) (p : Option (List X)) (xs : List X) → option_and_then (λ x. option_map (λ ys. x ∷ ys) p) o ≡ Some xs
     → (x : X) × (ys : List X) × (o ≡ Some x) × (p ≡ Some ys)

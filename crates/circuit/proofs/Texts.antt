@@ -4,8 +4,8 @@ use Rattle.std.specs.Prelude.{drop, get_or, length, map, nat_lt, set}
 use Rattle.std.specs.List.{list_all, AllByRecursion as Every}
 use Rattle.std.proofs.Common.{ap, ap₂, append_assoc, arith, lit≤, subst, sym, ◌∙◌}
 use Rattle.std.proofs.lemmas.Bool.{cond-true, lt-ltb}
-use Rattle.std.proofs.lemmas.List.{drop_all, drop_more, length-append, length-map, length-set, map-set}
-use Rattle.eventkey.proofs.Lists.{Every-append, Every-get_or, Every-set, get_or-map}
+use Rattle.std.proofs.lemmas.List.{drop_all, drop_more, length-append, length-map, length-set, map-set, get_or-map}
+use Rattle.eventkey.proofs.Lists.{Every-append, Every-get_or, Every-set}
 use Rattle.eventkey.specs.Message.{Message}
 use Rattle.circuit.specs.Circuit.{Netlist, circuit_meaning}
 use Rattle.circuit.specs.Wave.{changes_text, event_text, events_text, starts, state_after, states_after, time_text}

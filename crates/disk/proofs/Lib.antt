@@ -1,5 +1,6 @@
 pub mod Blank
 pub mod Sectors
 pub mod Crashes
+pub mod Growths
 mod Spans
 mod Examples

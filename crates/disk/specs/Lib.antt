@@ -4,3 +4,4 @@ pub mod Plans
 pub mod Memory
 pub mod MemoryInside
 pub mod FileDisks
+pub mod Growth

@@ -1,7 +1,8 @@
 // How a disk stood at the moments before now, which only proofs read.
-ghost use Rattle.std.specs.Prelude.{◌≡◌, List, [], ◌∷◌};
+ghost use Rattle.std.specs.Prelude.{◌≡◌, ◌-◌, ◌++◌, List, [], ◌∷◌, length};
 ghost use Rattle.std.specs.Borrow.{ftrue};
 ghost use Rattle.disk.specs.Disk.{Standing, standing_of};
+ghost use Rattle.disk.specs.Growth.{growth};
 
 use crate::image::Image;
 use std::marker::Model;
@@ -29,6 +30,13 @@ impl History {
     pub fn and(&self, _image: &Image) -> History
         ensures { result.past
             ≡ standing_of _image.now.sectors.items _image.now.loose.items ∷ self.now.past }
+    {
+        History {}
+    }
+    /// The moments while the disk grows from one image to a larger one.
+    pub fn and_growth(&self, _image: &Image, _grown: &Image) -> History
+        ensures { result.past ≡ growth _image.now.sectors.items _image.now.loose.items
+            (length _grown.now.sectors.items - length _image.now.sectors.items) ++ self.now.past }
     {
         History {}
     }

@@ -1,7 +1,8 @@
 // The sectors of a disk that is kept in memory, and which of them are loose.
-ghost use Rattle.std.specs.Prelude.{◌≡◌, ◌/◌, ◌<◌, ◌^◌, ℕ, List, [], true, false, length};
+ghost use Rattle.std.specs.Prelude.{◌≡◌, ◌+◌, ◌/◌, ◌<◌, ◌≤◌, ◌^◌, ◌++◌, ℕ, List, [], true, false, length};
 ghost use Rattle.std.specs.Prelude.{replicate, slice_set, slice_index_or, IfOk};
 ghost use Rattle.disk.specs.Disk.{image_of, IsFirm, IsSector, IsSpan};
+ghost use Rattle.disk.specs.Growth.{grown_to};
 
 use std::alloc::{AllocError, Global};
 
@@ -32,6 +33,21 @@ pub fn copied(alloc: Global, sectors: &[[u8; 512]]) -> Result<Vec<[u8; 512]>, Al
     ensures { IfOk result (λ copy. copy.items ≡ sectors.now) }
 {
     sectors.to_vec(alloc)
+}
+
+/// Some sectors, and behind them others.
+fn joined(
+    alloc: Global,
+    front: &[[u8; 512]],
+    behind: &[[u8; 512]],
+) -> Result<Vec<[u8; 512]>, AllocError>
+    requires { length front.now + length behind.now < 2 ^ 32 }
+    ensures { IfOk result (λ all. all.items ≡ front.now ++ behind.now) }
+{
+    let mut all = Vec::with_capacity(alloc, front.len() + behind.len())?;
+    all.extend_from_slice(front)?;
+    all.extend_from_slice(behind)?;
+    Ok(all)
 }
 
 /// Makes the sectors of a span firm.
@@ -88,6 +104,17 @@ impl Image {
             first: 0,
             end: 0,
         })
+    }
+
+    /// The same sectors, with zeros behind them until there are so many. None of them is loose.
+    pub fn grown(&self, alloc: Global, count: u32) -> Result<Image, AllocError>
+        requires { length self.now.sectors.items ≤ count }
+        ensures sectors { IfOk result
+            (λ image. image.sectors.items ≡ grown_to count self.now.sectors.items) }
+        ensures firm { IfOk result (λ image. IsFirm image.loose.items) }
+    {
+        let more = zeros(alloc, count - self.count())?;
+        Image::firm(alloc, joined(alloc, &self.sectors, &more)?)
     }
 
     pub fn count(&self) -> u32

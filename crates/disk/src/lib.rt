@@ -3,6 +3,7 @@
 
 mod disk;
 mod file;
+mod growing;
 mod history;
 mod image;
 mod memory;
@@ -13,5 +14,6 @@ mod tests;
 
 pub use disk::{DiskFault, SectorDisk, write_through};
 pub use file::{FileDisk, FileFault};
+pub use growing::{GrowingDisk, GrowthFault, MOST_SECTORS};
 pub use memory::{MemDisk, Torn};
 pub use plan::Plan;

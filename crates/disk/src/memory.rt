@@ -8,7 +8,7 @@ ghost use Rattle.disk.specs.Disk.{image_of, IsFirm, IsSector, MayLeave, Elapses,
 use crate::history::History;
 use crate::image::{Image, copied};
 use crate::plan::Schedule;
-use crate::{DiskFault, Plan, SectorDisk};
+use crate::{DiskFault, GrowingDisk, GrowthFault, MOST_SECTORS, Plan, SectorDisk};
 use std::alloc::{AllocError, Global};
 use std::marker::Model;
 
@@ -165,6 +165,65 @@ impl SectorDisk for MemDisk {
         self.history = self.history.and(&self.image);
         copy_loose(&mut self.synced, &self.image);
         self.image.settle();
+        Ok(())
+    }
+}
+
+impl GrowingDisk for MemDisk {
+    ghost use Rattle.std.specs.Prelude.{◌-◌, IfErr};
+    ghost use Rattle.disk.specs.Disk.{LeavesOnly, moment, left_since};
+    ghost use Rattle.disk.specs.Growth.{grown_to, MayLeaveGrown, GrowthIsRefused, is_of_device};
+    ghost use Rattle.disk.specs.Memory.{disk_of_memory};
+    ghost use Rattle.disk.specs.Plans.{fails, counted};
+
+    #[tactic(auto, unfolding(crate::specs::Disk::left_since, crate::specs::Disk::moment))]
+    fn grow(&mut self, alloc: Global, sectors: u32) -> Result<(), GrowthFault>
+        ensures grown { OnOk result (self.new.reads ≡ grown_to sectors self.old.reads) }
+        ensures firm { OnOk result (IsFirm self.new.loose) }
+        ensures ok { OnOk result ((length self.old.reads ≤ sectors) × (sectors ≤ 131072)) }
+        ensures same_reads { OnErr result (self.new.reads ≡ self.old.reads) }
+        ensures same_loose { OnErr result (self.new.loose ≡ self.old.loose) }
+        ensures refused { IfErr result (λ fault. GrowthIsRefused fault (length self.old.reads)
+            sectors (self.old.counts.failures < self.new.counts.failures)) }
+        ensures unchanged { IfErr result (λ fault. is_of_device fault ≡ false →
+            self.new ≡ self.old) }
+        ensures any_moment { LeavesOnly (disk_of_memory self.old) (disk_of_memory self.new)
+            (MayLeaveGrown self.old.reads self.old.loose (sectors - length self.old.reads)) }
+        ensures still { (t : ℕ) (image : List (List ℕ)) → t ≤ moment (disk_of_memory self.old) →
+            left_since (disk_of_memory self.old) t image →
+            left_since (disk_of_memory self.new) t image }
+        ensures failures { self.old.counts.failures ≤ self.new.counts.failures }
+        ensures no_failure { OnOk result (self.new.counts.failures ≡ self.old.counts.failures) }
+
+        // by the plan; it is one operation
+        ensures planned { IsErrOf result GrowthFault.Device → fails self.old.counts ≡ true }
+        ensures not_planned { OnOk result (fails self.old.counts ≡ false) }
+        ensures counts { OnOk result (self.new.counts ≡ counted self.old.counts) }
+        ensures failed_counts { IsErrOf result GrowthFault.Device →
+            self.new.counts ≡ counted self.old.counts }
+
+        // for a crash
+        ensures synced { OnOk result (self.new.synced ≡ self.new.reads) }
+        ensures not_synced { OnErr result (self.new.synced ≡ self.old.synced) }
+        ensures attempted { OnOk result (self.new.attempted ≡ self.new.reads) }
+        ensures same_attempted { OnErr result (self.new.attempted ≡ self.old.attempted) }
+    {
+        if sectors < self.image.count() {
+            return Err(GrowthFault::Fewer);
+        }
+        if sectors > MOST_SECTORS {
+            return Err(GrowthFault::TooMany);
+        }
+        let grown = self.image.grown(alloc, sectors)?;
+        let synced = copied(alloc, &grown.sectors)?;
+        let attempted = copied(alloc, &grown.sectors)?;
+        self.history = self.history.and_growth(&self.image, &grown);
+        if self.schedule.fails() {
+            return Err(GrowthFault::Device);
+        }
+        self.image = grown;
+        self.synced = synced;
+        self.attempted = attempted;
         Ok(())
     }
 }

@@ -1,5 +1,6 @@
+mod Counts
 mod Drives
 mod Kept
-mod Ports
+pub mod Ports
 mod Shapes
 mod Unfinished

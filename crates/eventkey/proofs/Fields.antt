@@ -1,5 +1,5 @@
 -- What is read of a field is what was written, and what was written is read again.
-use Rattle.std.proofs.Common.{◌≡◌, ℕ, zero, suc, ◌+◌, ◌^◌, ◌<◌, ◌≤◌, false, ltb, List, [], ◌∷◌, ◌++◌, length, take, drop, Option, Some, None, refl, sym, ap, subst, ◌∙◌, append_assoc, arith, inl, inr}
+use Rattle.std.proofs.Common.{◌≡◌, ℕ, zero, suc, ◌+◌, ◌^◌, ◌<◌, ◌≤◌, Bool, true, false, cond, ltb, List, [], ◌∷◌, ◌++◌, length, take, drop, Option, Some, None, refl, sym, ap, subst, ◌∙◌, append_assoc, arith, inl, inr}
 use Rattle.std.specs.List.{flat_map, AllByRecursion as Every}
 use Rattle.std.specs.Int.{w32, w64, from_be_bytes}
 use Rattle.std.proofs.lemmas.Bool.{cases_lt, lt-ltb, le-ltb}
@@ -25,6 +25,11 @@ IsBytes-take n bytes h i =
 pub bind_some : {A B : Type 0} (r : Option A) (f : A → Option B) (y : B) → (r >>= f) ≡ Some y → (x : A) × (r ≡ Some x) × (f x ≡ Some y)
 bind_some (Some x) f y e = (x, refl, e)
 bind_some None f y e = absurd (none-some y e)
+
+-- a test that was passed
+pub when_some : {A : Type 0} (b : Bool) (o : Option A) (y : A) → cond b o None ≡ Some y → (b ≡ true) × (o ≡ Some y)
+when_some true o y e = (refl, e)
+when_some false o y e = absurd (none-some y e)
 
 -- what a reader took from the front
 pub record Takes (bytes text rest : List ℕ) : Type 0 where
@@ -58,6 +63,15 @@ step_of {read = read} format bytes fits f y e =
 pub record IsWide (n limit : ℕ) : Type 0 where
   pub back : (bytes : List ℕ) → n ≤ length bytes → IsBytes bytes → big_bytes n (big_number n bytes) ≡ take n bytes
   pub limit_is : 256 ^ n ≡ limit
+
+pub wide1 : IsWide 1 256
+wide1 = record { back = back; limit_is = refl }
+  where
+    back : (bytes : List ℕ) → 1 ≤ length bytes → IsBytes bytes → big_bytes 1 (big_number 1 bytes) ≡ take 1 bytes
+    back [] long fits = absurd (omega arith)
+    back (b ∷ bytes) long fits =
+        let small : b < 256 = fits 0 in
+        ap (λ (k : ℕ). k ∷ []) (omega arith)
 
 pub wide4 : IsWide 4 (2 ^ 32)
 wide4 = record {
@@ -100,6 +114,9 @@ module _ (n limit : ℕ) (wide : IsWide n limit) where
 
   pub number_format : IsFormat (λ x. x < limit) (big_bytes n) (number_at n)
   number_format = record { takes = number_takes; again = number_again }
+
+pub format1 : IsFormat (λ x. x < 256) (big_bytes 1) (number_at 1)
+format1 = number_format 1 256 wide1
 
 pub format4 : IsFormat (λ x. x < 2 ^ 32) (big_bytes 4) (number_at 4)
 format4 = number_format 4 (2 ^ 32) wide4

@@ -9,3 +9,4 @@ pub mod Written
 pub mod Writers
 pub mod Readings
 pub mod Missing
+pub mod Givings

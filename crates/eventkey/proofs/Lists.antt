@@ -1,10 +1,10 @@
 -- Lists: what holds of every element, ascending lists, signed messages.
-use Rattle.std.proofs.Common.{ℕ, zero, suc, ◌+◌, ◌<◌, List, [], ◌∷◌, ◌++◌, map, flat_map, arith, length, set, get_or, sym, subst, inl, inr, ◌≡◌, true, ◌≤◌, refl, ap, ◌∙◌, Option, Some, None, filter, Bool, ◌==◌, eqb-true, replicate, drop}
+use Rattle.std.proofs.Common.{ℕ, zero, suc, ◌+◌, ◌<◌, List, [], ◌∷◌, ◌++◌, map, flat_map, arith, length, set, get_or, sym, subst, inl, inr, ◌≡◌, true, false, ◌≤◌, refl, ap, ◌∙◌, Option, Some, None, filter, Bool, ◌==◌, eqb-true, replicate, drop}
 use Rattle.std.proofs.lemmas.Bool.{cases_Bool, cond_both, both_ways}
 use Rattle.std.proofs.lemmas.List.{drop_more}
 use Rattle.std.proofs.lemmas.Option.{none-some, same_Some}
 use Rattle.std.specs.List.{AllByRecursion as Every}
-use Rattle.std.specs.Prelude.{option_map}
+use Rattle.std.specs.Prelude.{is_some, option_map, ◌||◌}
 use Rattle.eventkey.proofs.Bags.{Every-from_members, Every-member, before_from_before, copies-add, copies-append, copies-remove_one-le, one_if_same_cases, same_from_at_most}
 use Rattle.eventkey.specs.Bag.{IsAscending, add, add_all, copies, one_if_same, remove_one}
 use Rattle.eventkey.specs.Message.{IsAtMost, Message, is_before}
@@ -193,11 +193,6 @@ copies-filter x test (y ∷ ys) h =
       | inr f ↦ (let g = f.1 in omega (arith, copies-filter x test ys h))
     ])
 
-pub get_or-map : {X Y : Type 0} (f : X → Y) (xs : List X) (i : ℕ) (d : X) (e : Y) → i < length xs → get_or (map f xs) i e ≡ f (get_or xs i d)
-get_or-map f [] i d e h = absurd (omega arith)
-get_or-map f (x ∷ xs) zero d e h = refl
-get_or-map f (x ∷ xs) (suc i) d e h = get_or-map f xs i d e (omega arith)
-
 pub Every-replicate : {X : Type 0} (P : X → Type 0) (n : ℕ) (x : X) → P x → Every P (replicate n x)
 Every-replicate P zero x p = tt
 Every-replicate P (suc n) x p = (p, Every-replicate P n x p)
@@ -211,6 +206,15 @@ option_map-none f (Some x) e = absurd (cc)
 pub option_map_some : {A B : Type 0} (f : A → B) (o : Option A) (y : B) → option_map f o ≡ Some y → (x : A) × (o ≡ Some x) × (f x ≡ y)
 option_map_some f None y e = absurd (none-some y e)
 option_map_some f (Some x) y e = (x, refl, same_Some (f x) y e)
+
+-- what a test says that something is there
+pub some_of : {X : Type 0} (o : Option X) → is_some o ≡ true → (x : X) × (o ≡ Some x)
+some_of None is = absurd (cc)
+some_of (Some x) is = (x, refl)
+
+pub or_false : (b : Bool) → (b || false) ≡ b
+or_false true = refl
+or_false false = refl
 
 pub Every-get_or-default : {X : Type 0} (P : X → Type 0) (xs : List X) (i : ℕ) (d : X) → Every P xs → P d → P (get_or xs i d)
 Every-get_or-default P [] i d h k = k

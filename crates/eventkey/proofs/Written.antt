@@ -1,7 +1,7 @@
 -- Fields that are written into an array of bytes, one behind the other.
 use Rattle.std.proofs.Common.{◌≡◌, ℕ, ◌-◌, List, [], ◌∷◌, ◌++◌, length, drop, set, refl, sym, ap, ◌∙◌, append_assoc, append-nil, length-drop, arith}
 use Rattle.std.proofs.Math.Seq.{take-append_seam, drop-append_seam, drop-length}
-use Rattle.std.proofs.lemmas.List.{take_all, drop_all}
+use Rattle.std.proofs.lemmas.List.{take_all, drop_all, nil_from_length}
 use borrow.Rule.Slice.PartMut.{put_mid, mid_of}
 
 -- xs begins with what is written, and k bytes follow
@@ -32,11 +32,7 @@ put_field n k c xs ys done bytes b p f = record {
 
 -- nothing follows
 pub all_written : (done xs : List ℕ) → Begins done 0 xs → xs ≡ done
-all_written done xs b = b.joined ∙ rw (no_bytes b.rest b.left) (append-nil done)
-  where
-    no_bytes : (rest : List ℕ) → length rest ≡ 0 → rest ≡ []
-    no_bytes [] q = refl
-    no_bytes (x ∷ rest) q = absurd (omega (arith, q))
+all_written done xs b = b.joined ∙ rw (nil_from_length b.rest b.left) (append-nil done)
 
 -- a sign and a message
 pub first_and_rest_written : (out ys : List ℕ) (b : ℕ) → length out ≡ 57 → put_mid 1 56 (set out 0 b) ys ≡ b ∷ ys

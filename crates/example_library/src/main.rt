@@ -3,7 +3,7 @@
 #![tactic(auto)]
 
 use disk::{FileDisk, MemDisk, SectorDisk};
-use driver::Plan;
+use driver::{Batch, Plan};
 use models::TokenRing;
 use simulation::{Ended, Outcome, SimulationFault, simulate};
 use std::alloc::Global;
@@ -17,10 +17,11 @@ const END: u64 = 10;
 /// Three nodes handle up to 16 messages at a turn.
 const PLAN: Plan = Plan {
     nodes: 3,
-    batch: 16,
+    batch: Batch::Fixed(16),
     rounds: 1000,
     together: false,
     checkpoint_every: 0,
+    commit_every: 0,
 };
 
 /// Three processes hand one token round and hold it for two ticks, on this disk. Hands it back.

@@ -6,7 +6,8 @@ use Rattle.eventkey.specs.Spelling.{message_bytes, signed_bytes}
 use Rattle.node.specs.declared.Load.{Load}
 use Rattle.node.specs.declared.Parcel.{Parcel}
 use Rattle.node.specs.declared.Part.{Part}
-use Rattle.frames.specs.Bodies.{counted, load_bytes, parcel_bytes, part_bytes, words_bytes}
+use Rattle.model.specs.Spelling.{words_bytes}
+use Rattle.frames.specs.Bodies.{counted, load_bytes, parcel_bytes, part_bytes}
 
 behind : (v w z x y : List ℕ) → w ≡ v ++ x → z ≡ w ++ y → z ≡ v ++ (x ++ y)
 behind v w z x y e f = f ∙ ap (λ (l : List ℕ). l ++ y) e ∙ append_assoc v x y

@@ -57,7 +57,7 @@ unfolding part_bytes
 part_fits p lp words pending is short = record {
   lp = lp;
   number = is.number;
-  words = record { few = is.words; each = words };
+  words = (is.words, words);
   count = omega (arith, length-append {A = ℕ}, few message_bytes some_message p.pending, short);
   pending = pending;
 }
@@ -91,7 +91,7 @@ done_fits d message sent after is = record {
   message = message;
   few = is.sent;
   sent = sent;
-  after = record { few = is.after; each = after };
+  after = (is.after, after);
   number = is.number_after;
 }
 

@@ -4,7 +4,8 @@ use Rattle.std.proofs.Common.{◌≡◌, List, ℕ, [], ◌∷◌, ◌++◌, len
 use Rattle.byteorder.specs.Endian.{big_bytes}
 use Rattle.eventkey.specs.Reading.{number_at, items_at}
 use Rattle.eventkey.specs.Spelling.{message_at, signed_at}
-use Rattle.frames.specs.Bodies.{load_in, parcel_in, part_at, words_at, fault_in}
+use Rattle.model.specs.Spelling.{words_at}
+use Rattle.frames.specs.Bodies.{load_in, parcel_in, part_at, fault_in}
 use Rattle.frames.specs.Cutting.{cut, frame_cut, fails}
 use Rattle.frames.specs.Streams.{IsWithin}
 use Rattle.frames.specs.declared.Frame.TheVariants.{Load, Parcel}

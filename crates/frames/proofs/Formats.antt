@@ -1,29 +1,15 @@
 -- Steps of readers, and of what they read again.
-use Rattle.std.proofs.Common.{◌≡◌, ℕ, ◌^◌, ◌<◌, ◌≤◌, Bool, true, false, cond, List, [], ◌∷◌, ◌++◌, length, take, Option, Some, None, refl, sym, ap, subst, ◌∙◌, append_assoc, append-nil, arith, inl, inr, ◌⊎◌, eqb-true}
+use Rattle.std.proofs.Common.{◌≡◌, ℕ, ◌^◌, ◌<◌, ◌≤◌, cond, List, [], ◌++◌, length, Option, Some, None, sym, ap, subst, ◌∙◌, append_assoc, append-nil, arith, inl, inr, ◌⊎◌, eqb-true}
 use Rattle.std.specs.Prelude.{nat_le, nat_eq}
 use Rattle.std.specs.List.{flat_map, AllByRecursion as Every}
 use Rattle.std.proofs.lemmas.Bool.{cases_Bool, leb-true, le-leb}
-use Rattle.std.proofs.lemmas.Option.{same_Some, none-some}
-use Rattle.byteorder.specs.Endian.{big_number, big_bytes}
+use Rattle.std.proofs.lemmas.Option.{same_Some}
+use Rattle.byteorder.specs.Endian.{big_bytes}
 use Rattle.eventkey.specs.Reading.{IsBytes, ◌>>=◌, Reader, number_at, items_at}
-use Rattle.eventkey.proofs.Fields.{IsFormat, IsStep, IsWide, Takes, Takes-then, bind_some, format4, items_again, items_take, number_format, step_of}
+use Rattle.eventkey.proofs.Fields.{IsFormat, IsStep, Takes, Takes-then, bind_some, format1, format4, items_again, items_take, step_of, when_some}
 use Rattle.frames.specs.Bodies.{counted, counted_at}
 
--- 1. One byte
-
-pub wide1 : IsWide 1 256
-wide1 = record { back = back; limit_is = refl }
-  where
-    back : (bytes : List ℕ) → 1 ≤ length bytes → IsBytes bytes → big_bytes 1 (big_number 1 bytes) ≡ take 1 bytes
-    back [] long fits = absurd (omega arith)
-    back (b ∷ bytes) long fits =
-        let small : b < 256 = fits 0 in
-        ap (λ (k : ℕ). k ∷ []) (omega arith)
-
-pub format1 : IsFormat (λ x. x < 256) (big_bytes 1) (number_at 1)
-format1 = number_format 1 256 wide1
-
--- 2. A reader that begins with another one, over what was written
+-- 1. A reader that begins with another one, over what was written
 
 module _ {X Y : Type 0} {Fits : X → Type 0} {write : X → List ℕ} {read : Reader X} (format : IsFormat Fits write read) where
   pub again_last : (x : X) (rest : List ℕ) (f : X × List ℕ → Option Y) → Fits x → (read (write x ++ rest) >>= f) ≡ f (x, rest)
@@ -31,11 +17,6 @@ module _ {X Y : Type 0} {Fits : X → Type 0} {write : X → List ℕ} {read : R
 
   pub again_step : (x : X) (tail rest : List ℕ) (f : X × List ℕ → Option Y) → Fits x → (read ((write x ++ tail) ++ rest) >>= f) ≡ f (x, tail ++ rest)
   again_step x tail rest f fits = ap (λ (b : List ℕ). read b >>= f) (append_assoc (write x) tail rest) ∙ again_last x (tail ++ rest) f fits
-
--- a test that was passed
-pub when_some : {A : Type 0} (b : Bool) (o : Option A) (y : A) → cond b o None ≡ Some y → (b ≡ true) × (o ≡ Some y)
-when_some true o y e = (refl, e)
-when_some false o y e = absurd (none-some y e)
 
 -- all of the bytes were taken
 pub whole : (bytes text rest : List ℕ) → Takes bytes text rest → rest ≡ [] → bytes ≡ text
@@ -48,7 +29,7 @@ pick b k x f more e = elim (cases_Bool (nat_eq b k)) [
   | inr t ↦ (let is : more ≡ Some f = rw t at e in inr is)
 ]
 
--- 3. A count, and so many
+-- 2. A count, and so many
 
 module _ {X Y : Type 0} {Fits : X → Type 0} {write : X → List ℕ} {read : Reader X} (format : IsFormat Fits write read) where
   pub counted_step : (bytes : List ℕ) → IsBytes bytes → (f : List X × List ℕ → Option Y) (y : Y) →

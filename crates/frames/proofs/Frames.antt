@@ -1,5 +1,5 @@
 -- Whole frames: each has one spelling, and no other bytes are read.
-use Rattle.std.proofs.Common.{◌≡◌, ℕ, ◌+◌, ◌*◌, ◌^◌, ◌≤◌, Bool, true, false, cond, List, [], ◌∷◌, ◌++◌, length, take, drop, Option, Some, None, Result, Ok, Err, refl, sym, ap, subst, ◌∙◌, arith, inl, inr, append_assoc, append-nil, take-append-drop}
+use Rattle.std.proofs.Common.{◌≡◌, ℕ, ◌^◌, ◌≤◌, Bool, true, false, cond, List, [], ◌∷◌, ◌++◌, length, take, drop, Option, Some, None, Result, Ok, Err, refl, sym, ap, subst, ◌∙◌, arith, inl, inr, append_assoc, append-nil, take-append-drop}
 use Rattle.std.specs.Prelude.{nat_eq}
 use Rattle.std.proofs.lemmas.Bool.{cases_lt, lt-ltb, le-ltb, le-leb, eq-eqb, ne_eqb}
 use Rattle.std.proofs.lemmas.List.{length-take}
@@ -8,6 +8,7 @@ use Rattle.byteorder.specs.Endian.{big_bytes, big_number}
 use Rattle.byteorder.specs.Numbers.{big_number-reads_back, length-bytes_high_first}
 use Rattle.eventkey.specs.Reading.{◌>>=◌, IsBytes, number_at}
 use Rattle.eventkey.proofs.Fields.{IsBytes-drop, IsBytes-take, format4}
+use Rattle.eventkey.proofs.Readings.{first_number}
 use Rattle.frames.specs.Bodies.{body_bytes, fault_in, frame_bytes, frame_in, framed, kind_in, kind_number, kind_of, load_in, parcel_in, reply_in, seen_as}
 use Rattle.frames.specs.Cutting.{Cut, cut, cut_body, cut_kind, cut_length, fails, opened_cut, raw_in}
 use Rattle.frames.specs.Laws.{BodiesAreSpelled, FramesAreReadBack, FramesAreReadWhole, FramesAreSpelled, IsBodyOf, NoByteIsLeftOver}
@@ -111,16 +112,10 @@ frames_are_read_back f rest is few =
     (ap (frame_in (kind_in f)) (sym (append-nil (body_bytes f))) ∙ body_again f [] is)
 
 -- from a frame's bytes alone its kind and its body are taken
-one_at : (byte : ℕ) (rest : List ℕ) → number_at 1 (byte ∷ rest) ≡ Some (byte, rest)
-unfolding number_at
-one_at byte rest =
-    let is : byte * 1 + 0 ≡ byte = omega arith in
-    rw (le-ltb (length (byte ∷ rest)) 1 (omega arith)) (ap (λ n. Some (n, rest)) is)
-
 taken_alone : (k : Kind) (body : List ℕ) → length body ≤ 2 ^ 24 → raw_in (framed k body) ≡ Some (record { kind = k; body = body })
 unfolding raw_in framed
 taken_alone k body few =
-    rw (format4.again (length body) (kind_number k ∷ body) (omega (arith, few)), one_at (kind_number k) body, kind_again k, le-leb (length body) (2 ^ 24) few, eq-eqb (length body) (length body) refl) refl
+    rw (format4.again (length body) (kind_number k ∷ body) (omega (arith, few)), first_number (kind_number k) body, kind_again k, le-leb (length body) (2 ^ 24) few, eq-eqb (length body) (length body) refl) refl
 
 pub frames_are_read_whole : FramesAreReadWhole
 frames_are_read_whole f is few =

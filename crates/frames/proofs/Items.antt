@@ -8,33 +8,20 @@ use Rattle.byteorder.specs.Endian.{big_bytes}
 use Rattle.eventkey.specs.Message.{Message, IsRanged}
 use Rattle.eventkey.specs.Reading.{IsBytes, ◌>>=◌, number_at, items_at}
 use Rattle.eventkey.specs.Spelling.{message_at, message_bytes}
-use Rattle.eventkey.proofs.Fields.{IsFormat, Takes, Takes-then, format4, format8, step_of}
+use Rattle.eventkey.proofs.Fields.{IsFormat, Takes, Takes-then, format1, format4, format8, step_of, when_some}
 use Rattle.eventkey.proofs.Spellings.{message_format}
+use Rattle.model.proofs.Spelling.{words_format}
+use Rattle.model.specs.Spelling.{words_at, words_bytes}
 use Rattle.node.specs.declared.Part.{Part}
 use Rattle.process.specs.declared.Done.{Done}
-use Rattle.frames.specs.Bodies.{counted, counted_at, done_at, done_bytes, low_at, low_bytes, part_at, part_bytes, words_at, words_bytes}
-use Rattle.frames.specs.Ranges.{AreWords, IsDone, IsPart}
-use Rattle.frames.proofs.Formats.{again_last, again_step, counted_last, counted_step, few_format, format1, when_some}
+use Rattle.frames.specs.Bodies.{counted, counted_at, done_at, done_bytes, low_at, low_bytes, part_at, part_bytes}
+use Rattle.frames.specs.Ranges.{IsDone, IsPart}
+use Rattle.frames.proofs.Formats.{again_last, again_step, counted_last, counted_step, few_format}
 
 abbrev pub Field : Type 0
 Field = ℕ × List ℕ
 
--- 1. State words
-
-words_takes : (bytes : List ℕ) (x : List ℕ × List ℕ) → IsBytes bytes → words_at bytes ≡ Some x → Takes bytes (words_bytes x.0) x.1 × AreWords x.0
-unfolding words_at words_bytes
-words_takes bytes x fits e =
-    let t = (few_format format8 16 (omega arith)).takes bytes x fits e in
-    (t.0, record { few = t.1.0; each = t.1.1 })
-
-words_again : (words rest : List ℕ) → AreWords words → words_at (words_bytes words ++ rest) ≡ Some (words, rest)
-unfolding words_at words_bytes
-words_again words rest is = (few_format format8 16 (omega arith)).again words rest (is.few, is.each)
-
-pub words_format : IsFormat AreWords words_bytes words_at
-words_format = record { takes = words_takes; again = words_again }
-
--- 2. The part of a load
+-- 1. The part of a load
 
 abbrev Messages : Type 0
 Messages = List Message × List ℕ
@@ -79,7 +66,7 @@ part_again p rest is =
 pub part_format : IsFormat IsPart part_bytes part_at
 part_format = record { takes = part_takes; again = part_again }
 
--- 3. A time, where there is one
+-- 2. A time, where there is one
 
 abbrev IsLow : Option ℕ → Type 0
 IsLow low = IfSome low (λ time. time < 2 ^ 41)
@@ -119,7 +106,7 @@ low_again (Some time) rest is =
 pub low_format : IsFormat IsLow low_bytes low_at
 low_format = record { takes = low_takes; again = low_again }
 
--- 4. A handling that is told
+-- 3. A handling that is told
 
 abbrev done_told : Message → List Message → List ℕ → Field → Option (Done × List ℕ)
 done_told message sent after number =

@@ -5,7 +5,6 @@ mod Examples
 pub mod Filling
 pub mod Formats
 pub mod Frames
-pub mod Givings
 pub mod Halfway
 pub mod Items
 pub mod Raws

@@ -8,7 +8,7 @@ use Rattle.byteorder.specs.Endian.{big_bytes}
 use Rattle.eventkey.proofs.Readings.{first_number}
 use Rattle.eventkey.specs.Reading.{IsBytes, ◌>>=◌, number_at, items_at}
 use Rattle.eventkey.specs.declared.Signed.{Signed}
-use Rattle.eventkey.proofs.Fields.{Takes-then, format4, format8, step_of}
+use Rattle.eventkey.proofs.Fields.{Takes-then, format4, format8, step_of, when_some}
 use Rattle.eventkey.proofs.Readings.{signed_format}
 use Rattle.node.specs.declared.Load.{Load}
 use Rattle.node.specs.declared.NodeFault.{NodeFault}
@@ -19,7 +19,7 @@ use Rattle.node.specs.declared.Reply.{Reply}
 use Rattle.process.specs.declared.Done.{Done}
 use Rattle.frames.specs.Bodies.{counted, done_at, done_bytes, fault_bytes, fault_in, fault_of, is_place, load_bytes, load_in, low_at, low_bytes, number_of, parcel_bytes, parcel_in, part_at, part_bytes, reply_bytes, reply_in}
 use Rattle.frames.specs.Ranges.{IsLoad, IsParcel, IsReply}
-use Rattle.frames.proofs.Formats.{again_last, again_step, counted_again, counted_last, counted_step, pick, when_some, whole}
+use Rattle.frames.proofs.Formats.{again_last, again_step, counted_again, counted_last, counted_step, pick, whole}
 use Rattle.frames.proofs.Items.{Field, done_format, low_format, part_format}
 
 -- nothing is left over

@@ -6,6 +6,7 @@ use Rattle.std.specs.List.{flat_map}
 use Rattle.byteorder.specs.Endian.{big_bytes}
 use Rattle.eventkey.specs.Reading.{◌>>=◌, Reader, number_at, items_at}
 use Rattle.eventkey.specs.Spelling.{message_bytes, message_at, signed_bytes, signed_at}
+use Rattle.model.specs.Spelling.{words_at, words_bytes}
 use Rattle.node.specs.declared.Load.{Load}
 use Rattle.node.specs.declared.NodeFault.{NodeFault}
 use Rattle.node.specs.declared.NodeFault.TheVariants as node
@@ -23,9 +24,6 @@ use Rattle.frames.specs.declared.Kind.TheVariants as kind
 -- how many there are, in so many bytes, and then they
 abbrev pub counted : {X : Type 0} → ℕ → (X → List ℕ) → List X → List ℕ
 counted n spelled xs = big_bytes n (length xs) ++ flat_map spelled xs
-
-unfoldable pub words_bytes : List ℕ → List ℕ
-words_bytes words = counted 1 (big_bytes 8) words
 
 unfoldable pub part_bytes : Part → List ℕ
 part_bytes p =
@@ -75,9 +73,6 @@ abbrev pub counted_at : {X : Type 0} → ℕ → ℕ → Reader X → Reader (Li
 counted_at n most item bytes = do
   count ← number_at n bytes
   if nat_le count.0 most then items_at item count.0 count.1 else None
-
-unfoldable pub words_at : Reader (List ℕ)
-words_at bytes = counted_at 1 16 (number_at 8) bytes
 
 unfoldable pub part_at : Reader Part
 part_at bytes = do

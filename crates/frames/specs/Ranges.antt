@@ -1,8 +1,9 @@
 -- What has a spelling.
 use Rattle.std.specs.List.{AllByRecursion as Every}
-use Rattle.std.specs.Prelude.{ℕ, ◌^◌, ◌<◌, ◌≤◌, List, length, IfSome}
+use Rattle.std.specs.Prelude.{◌^◌, ◌<◌, ◌≤◌, length, IfSome}
 use Rattle.eventkey.specs.Message.{IsRanged}
 use Rattle.eventkey.specs.declared.Signed.{Signed}
+use Rattle.model.specs.Meaning.{IsWords}
 use Rattle.node.specs.declared.Load.{Load}
 use Rattle.node.specs.declared.Parcel.{Parcel}
 use Rattle.node.specs.declared.Part.{Part}
@@ -11,14 +12,10 @@ use Rattle.process.specs.declared.Done.{Done}
 use Rattle.frames.specs.declared.Frame.{Frame}
 use Rattle.frames.specs.declared.Frame.TheVariants as frame
 
-pub record AreWords (words : List ℕ) : Type 0 where
-  pub few : length words ≤ 16
-  pub each : Every (λ (word : ℕ). word < 2 ^ 64) words
-
 pub record IsPart (p : Part) : Type 0 where
   pub lp : p.lp < 2 ^ 32
   pub number : p.number ≤ 2 ^ 63
-  pub words : AreWords p.words
+  pub words : IsWords p.words
   pub count : length p.pending < 2 ^ 32
   pub pending : Every IsRanged p.pending
 
@@ -41,7 +38,7 @@ pub record IsDone (d : Done) : Type 0 where
   pub message : IsRanged d.message
   pub few : length d.sent ≤ 8
   pub sent : Every IsRanged d.sent
-  pub after : AreWords d.after
+  pub after : IsWords d.after
   pub number : d.number_after ≤ 2 ^ 63
 
 pub record IsReply (r : Reply) : Type 0 where

@@ -5,6 +5,7 @@ use Rattle.std.proofs.lemmas.Bool.{and_parts, and_left, and_right, and_from, cas
 use Rattle.std.proofs.lemmas.List.{get_or-replicate, get_or_default, length-set, length-replicate, take-append-drop, take_more}
 use Rattle.std.specs.Prelude.{nat_eq, nat_lt, ◌&&◌, ◌||◌, not}
 use Rattle.eventkey.specs.declared.Signed.{Signed}
+use Rattle.eventkey.proofs.Lists.{or_false}
 use Rattle.node.specs.Node.{sits_on}
 use Rattle.gvt.specs.Picks.{are_distinct, can_pick, has, nothing}
 
@@ -78,10 +79,6 @@ module _ (nodes node : ℕ) (transit : List Signed) (marks : List Bool) (picks :
   picking-again e l = and_right (can_pick nodes node transit picks) (are_distinct picks)
       (ap are_distinct split ∙ repeated p (take i picks) rest (sym (h.each p (let a = h.long in omega arith)) ∙ e))
 
-  or-false : (b : Bool) → (b || false) ≡ b
-  or-false true = refl
-  or-false false = refl
-
   -- this pick is good, and its place is marked
   pub picking-more : p < length transit → get_or marks p false ≡ false → (get_or transit p nothing).message.to % nodes ≡ node → IsPicking nodes node transit (set marks p true) (take (i + 1) picks)
   picking-more l e s =
@@ -96,7 +93,7 @@ module _ (nodes node : ℕ) (transit : List Signed) (marks : List Bool) (picks :
               | inl same ↦ ap (λ (n : ℕ). get_or (set marks p true) n false) same ∙ (get_or-set_same marks p true false inside
                   ∙ sym (or_right (has k (take i picks)) (nat_eq k p || false) (or_left (nat_eq k p) false (eq-eqb k p same))))
               | inr other ↦ get_or-set_other marks p k true false other ∙ (h.each k within'
-                  ∙ sym (ap (λ (b : Bool). has k (take i picks) || (b || false)) (ne_eqb k p other) ∙ or-false (has k (take i picks))))
+                  ∙ sym (ap (λ (b : Bool). has k (take i picks) || (b || false)) (ne_eqb k p other) ∙ or_false (has k (take i picks))))
             ]);
         good = ap (can_pick nodes node transit) done
             ∙ (can_pick-append nodes node transit (take i picks) (p ∷ [])

@@ -1,1 +1,3 @@
+mod Autos
 mod Lines
+mod Readings

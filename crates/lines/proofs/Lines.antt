@@ -10,11 +10,11 @@ use Rattle.clap.proofs.OnLiterals.{clap_on_literals}
 use Rattle.clap.proofs.ValueTestLemmas.{Accepts-accepts, accepts-Accepts}
 use Rattle.clap.proofs.WalkLemmas.{both}
 use Rattle.clap.specs.Faults.{is_simple_and_free}
-use Rattle.clap.specs.Kinds.{FailsBy, HasKind, Kinds}
+use Rattle.clap.specs.Kinds.{FailsBy, HasKind, Kinds, or_else}
 use Rattle.clap.specs.Matches.{ReadsOne}
 use Rattle.clap.specs.Simple.{argument_words, built, entered, is_simple, label_of, names_of, rows_at}
 use Rattle.clap.specs.ValueTests.{accepts}
-use Rattle.clap.specs.Words.{App, Row, Rule, Text, found_of, rows_of, rule_of, subcommand_name_of, subcommand_of, subcommand_rows_of, with_rule, with_subcommand}
+use Rattle.clap.specs.Words.{App, Row, Rule, Text, fault_of, found_of, rows_of, rule_of, subcommand_name_of, subcommand_of, subcommand_rows_of, with_rule, with_subcommand}
 use Rattle.clap.specs.Walk.{answers_to, stop_after}
 use Rattle.clap.specs.declared.builder.command.Command.{Command}
 use Rattle.clap.specs.declared.builder.arg.Arg.{Arg}
@@ -22,15 +22,17 @@ use Rattle.clap.specs.declared.error.Error.{Error}
 use Rattle.clap.specs.declared.builder.value_parser.ValueParser.TheVariants.{Unsigned}
 use Rattle.clap.specs.declared.parser.matches.ArgMatches.{ArgMatches}
 use Rattle.clap.specs.declared.parser.matches.ArgMatches.TheViews.{out-ArgMatches, out-SubCommand}
-use Rattle.lines.specs.Line.{AddsArgument, AddsCommand, IsApp, is_named, number_of, program}
+use Rattle.lines.specs.Line.{AddsArgument, AddsCommand, IsApp, grammar_of, is_named, number_of, program_by, refusal_of, unread_fault, value_fault}
 
-pub program_is_simple : (called : Text) → is_simple (program called) ≡ true
+pub program_is_simple : (word : Bool) (called : Text) → is_simple (program_by word called) ≡ true
 unfolding clap_on_literals
-program_is_simple called = refl
+program_is_simple false called = refl
+program_is_simple true called = refl
 
-pub program_is_free : (called : Text) → is_simple_and_free (program called) ≡ true
+pub program_is_free : (word : Bool) (called : Text) → is_simple_and_free (program_by word called) ≡ true
 unfolding clap_on_literals
-program_is_free called = refl
+program_is_free false called = refl
+program_is_free true called = refl
 
 module _ {X N R : Type 0} (f : X → N) (g : X → R) where
   -- a name and rows that are found apart are found together
@@ -60,9 +62,9 @@ found_among test f (x ∷ xs) y h = elim (cases_Bool (test x)) [
 ]
 
 -- there are no other commands
-entered_named : (called : Text) (stop : Option (Text × List Text)) (found : Text × List Row) → entered (built (program called)) stop ≡ Some found → is_named found.0
-entered_named called None found h = cc
-entered_named called (Some p) found h = elim (found_among (λ s. answers_to p.0 (label_of s)) (λ s. rows_at s p.1) (built (program called)).subs found h) [
+entered_named : (word : Bool) (called : Text) (stop : Option (Text × List Text)) (found : Text × List Row) → entered (built (program_by word called)) stop ≡ Some found → is_named found.0
+entered_named word called None found h = cc
+entered_named word called (Some p) found h = elim (found_among (λ s. answers_to p.0 (label_of s)) (λ s. rows_at s p.1) (built (program_by word called)).subs found h) [
   | inl e ↦ inl (sym (ap (λ r. r.0) e))
   | inr (inl e) ↦ inr (inl (sym (ap (λ r. r.0) e)))
   | inr (inr (inl e)) ↦ inr (inr (inl (sym (ap (λ r. r.0) e))))
@@ -71,12 +73,17 @@ entered_named called (Some p) found h = elim (found_among (λ s. answers_to p.0 
   | inr (inr (inr (inr (inr (inl e))))) ↦ inr (inr (inr (inr (inr (inl (sym (ap (λ r. r.0) e)))))))
   | inr (inr (inr (inr (inr (inr (inl e)))))) ↦ inr (inr (inr (inr (inr (inr (inl (sym (ap (λ r. r.0) e))))))))
   | inr (inr (inr (inr (inr (inr (inr (inl e))))))) ↦ inr (inr (inr (inr (inr (inr (inr (inl (sym (ap (λ r. r.0) e)))))))))
-  | inr (inr (inr (inr (inr (inr (inr (inr (inl e)))))))) ↦ inr (inr (inr (inr (inr (inr (inr (inr (sym (ap (λ r. r.0) e)))))))))
-  | inr (inr (inr (inr (inr (inr (inr (inr (inr e)))))))) ↦ absurd e
+  | inr (inr (inr (inr (inr (inr (inr (inr (inl e)))))))) ↦ inr (inr (inr (inr (inr (inr (inr (inr (inl (sym (ap (λ r. r.0) e))))))))))
+  | inr (inr (inr (inr (inr (inr (inr (inr (inr (inl e))))))))) ↦ inr (inr (inr (inr (inr (inr (inr (inr (inr (inl (sym (ap (λ r. r.0) e)))))))))))
+  | inr (inr (inr (inr (inr (inr (inr (inr (inr (inr (inl e)))))))))) ↦ inr (inr (inr (inr (inr (inr (inr (inr (inr (inr (inl (sym (ap (λ r. r.0) e))))))))))))
+  | inr (inr (inr (inr (inr (inr (inr (inr (inr (inr (inr (inl e))))))))))) ↦ inr (inr (inr (inr (inr (inr (inr (inr (inr (inr (inr (inl (sym (ap (λ r. r.0) e)))))))))))))
+  | inr (inr (inr (inr (inr (inr (inr (inr (inr (inr (inr (inr (inl e)))))))))))) ↦ inr (inr (inr (inr (inr (inr (inr (inr (inr (inr (inr (inr (sym (ap (λ r. r.0) e)))))))))))))
+  | inr (inr (inr (inr (inr (inr (inr (inr (inr (inr (inr (inr (inr e)))))))))))) ↦ absurd e
 ]
 
-pub only_named : (called : Text) (words : List Text) (name : Text) (rows : List Row) → subcommand_of (program called) words ≡ Some (name, rows) → is_named name
-only_named called words name rows h = entered_named called (stop_after (built (program called)).top.rules (names_of (built (program called))) (argument_words (program called) words)) (name, rows) h
+pub only_named : (word : Bool) (called : Text) (words : List Text) (name : Text) (rows : List Row) → subcommand_of (program_by word called) words ≡ Some (name, rows) → is_named name
+only_named word called words name rows h =
+    entered_named word called (stop_after (built (program_by word called)).top.rules (names_of (built (program_by word called))) (argument_words (program_by word called) words)) (name, rows) h
 
 pub now_or : (o : Option (Bor (List ℕ))) (d : Bor (List ℕ)) → (unwrap_or o d).now ≡ unwrap_or (option_map (λ s. s.now) o) d.now
 now_or None d = refl
@@ -106,7 +113,7 @@ chosen least most None = least
 chosen least most (Some v) = if nat_le least v && nat_le v most then v else least
 
 -- the number that is read of a text is the one that is written there
-pub number_read : {E : Type 0} (G : Text → Result ℕ E → Type 0) → ((u : Text) (x : Result ℕ E) → G u x → ParsesUnsigned 32 10 u x) → (least most : ℕ) → most < 2 ^ 32
+pub number_read : {E : Type 0} (G : Text → Result ℕ E → Type 0) → ((u : Text) (x : Result ℕ E) → G u x → ParsesUnsigned 64 10 u x) → (least most : ℕ) → most < 2 ^ 64
     → (o : Option Text) (r : Option ℕ) → (o ≡ None → r ≡ None) → ((t : Text) → o ≡ Some t → ReadsOne G t r) → chosen least most r ≡ number_of least most o
 number_read G only least most small None r none some = rw (none refl) refl
 number_read G only least most small (Some t) (Some v) none some =
@@ -173,3 +180,17 @@ refused_as kinds (Err f) (Ok x) e is fails same = cc
 refused_as kinds (Err f) (Err g) e is fails same =
     let one : g ≡ f = cc in
     subst (HasKind kinds) one fails
+
+-- what is refused by clap is refused for that
+pub refused_first : {T : Type 0} (kinds next : Kinds) (r : Result T Error) (e : Error) → IsErrAnd r (λ f. f ≡ e) → FailsBy kinds r → FailsBy (or_else kinds next) r
+refused_first (k ∷ ks) next r e same fails = fails
+refused_first [] next (Ok x) e same fails = absurd same
+refused_first [] next (Err f) e same fails = elim fails [
+  | inl memory ↦ inl memory
+  | inr none ↦ absurd none
+]
+
+-- where clap refuses nothing, the values that it found decide
+pub refused_then : (called : Text) (words : List Text) (name : Text) (rows : List Row) → fault_of (grammar_of called words) words ≡ [] → subcommand_of (grammar_of called words) words ≡ Some (name, rows)
+    → refusal_of called words ≡ unread_fault rows
+refused_then called words name rows passes found = ap₂ (λ (ks : Kinds) (s : Option (Text × List Row)). or_else ks (value_fault s)) passes found

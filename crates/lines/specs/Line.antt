@@ -1,25 +1,40 @@
 -- The command line of a program (this project's profile), in the words of clap: its commands, and
 -- what a line says.
-use Rattle.std.specs.Prelude.{◌≡◌, ◌⊎◌, ◌≤◌, ℕ, List, [], ◌∷◌, Option, Some, None, Result, IsOkAnd}
-use Rattle.std.specs.Prelude.{Bool, true, false, codes, option_map, unwrap_or, if◌then◌else◌, ⊤}
+use Rattle.std.specs.Prelude.{◌≡◌, ◌⊎◌, ◌≤◌, ◌==◌, ◌&&◌, ◌||◌, ℕ, List, [], ◌∷◌, Option, Some, None}
+use Rattle.std.specs.Prelude.{Bool, true, false, not, drop, nat_le, is_some, codes, option_map}
+use Rattle.std.specs.Prelude.{unwrap_or, option_and_then, if◌then◌else◌, IfSome, IsOkAnd, Result, ⊤}
+use Rattle.std.specs.List.{after_first, before_first}
+use Rattle.std.specs.Option.{option_map_or}
+use Rattle.std.specs.Str.{bytes_eq}
 use Rattle.std.specs.Str.Parse.{digits_value, without_leading_plus}
+use Rattle.clap.specs.Kinds.{or_else}
 use Rattle.clap.specs.declared.builder.arg.Arg.{Arg}
 use Rattle.clap.specs.declared.builder.command.Command.{Command}
 use Rattle.clap.specs.declared.builder.command.Command.TheViews.{out-Command}
-use Rattle.clap.specs.Words.{AddsArg, AddsSubcommand, App, Row, Rule, Text, app_of, first_of}
-use Rattle.clap.specs.Words.{new_app, new_rule, one_of, subcommand_of, with_rule, with_subcommand}
+use Rattle.clap.specs.Words.{AddsArg, AddsSubcommand, App, Kinds, Row, Rule, Text, app_of}
+use Rattle.clap.specs.Words.{fault_of, first_of, new_app, new_rule, one_of, subcommand_of}
+use Rattle.clap.specs.Words.{with_rule, with_subcommand}
 use Rattle.clap.specs.ValueTests.{accepts}
 use Rattle.clap.specs.declared.builder.action.ArgAction.TheVariants.{SetTrue}
+use Rattle.clap.specs.declared.builder.value_parser.ValueParser.{ValueParser}
 use Rattle.clap.specs.declared.builder.value_parser.ValueParser.TheVariants.{Unsigned}
+use Rattle.clap.specs.declared.error.kind.ErrorKind.TheVariants.{InvalidValue}
+use Rattle.lines.specs.declared.line.Batch.{Batch}
+use Rattle.lines.specs.declared.line.Batch.TheVariants.{Auto, Fixed}
 use Rattle.lines.specs.declared.line.Line.{Line}
-use Rattle.lines.specs.declared.line.Line.TheVariants.{Check, Extend, Log, Migrate, New, Node, Run}
-use Rattle.lines.specs.declared.line.Line.TheVariants.{Seq, Show}
+use Rattle.lines.specs.declared.line.Line.TheVariants.{Grow}
+use Rattle.lines.specs.declared.line.Line.TheVariants.{Check, Draw, Extend, Log, Migrate, New, Node}
+use Rattle.lines.specs.declared.line.Line.TheVariants.{Run, Seq, Show, Stats, Status}
 
 -- ---- the arguments
 
 -- a required argument, a path
 abbrev pub path_argument : Text → Rule
 path_argument id = record (new_rule id) { required = true }
+
+-- the same where it may be left out
+abbrev pub optional_argument : Text → Rule
+optional_argument id = new_rule id
 
 -- an option whose value is a number from `least` to `most`, and its value where it is not used
 abbrev pub number_option : Text → ℕ → ℕ → Text → Rule
@@ -38,9 +53,25 @@ optional_number name least most = record (new_rule name) {
   parser = Some (Unsigned least most);
 }
 
--- an option whose value is a path, and which may be left out
-abbrev pub optional_path : Text → Rule
-optional_path name = record (new_rule name) { long = Some name; value_names = 1 }
+-- an option whose value is any text, and its value where it is not used
+abbrev pub text_option : Text → Text → Rule
+text_option name default = record (new_rule name) {
+  long = Some name;
+  value_names = 1;
+  defaults = default ∷ [];
+}
+
+-- an option whose value passes this parser, and its value where it is not used
+abbrev pub choice_option : Text → ValueParser → Text → Rule
+choice_option name parser default = record (text_option name default) { parser = Some parser }
+
+-- an option whose value is any text, and which may be left out
+abbrev pub optional_text : Text → Rule
+optional_text name = record (new_rule name) { long = Some name; value_names = 1 }
+
+-- a virtual time, 0 to 2^40 ticks
+abbrev pub time_option : Text → Rule
+time_option name = optional_number name 0 1099511627776
 
 -- a disk has 8 to 131,072 sectors
 abbrev pub sectors_option : Rule
@@ -64,19 +95,33 @@ on_disk name = with_rule (on_model name) (path_argument (codes "DISK"))
 abbrev pub new_command : App
 new_command = with_rule (on_disk (codes "new")) sectors_option
 
--- 1 to 64 nodes, batches of 1 to 2^32 - 1 messages, and as many rounds; a checkpoint each so many
--- rounds, 1 to 1,000,000; programs of their own as nodes, one of which is cut short; nodes that work
--- at one time; and programs that are not started, but waited for
-abbrev pub run_command : App
-run_command = with_rule (with_rule (with_rule (with_rule (with_rule (with_rule (with_rule
+-- a batch is a number of messages, 1 to 2^32 - 1; or, where it is given as a word, any text
+abbrev pub batch_option : Bool → Rule
+batch_option false = number_option (codes "batch") 1 4294967295 (codes "16")
+batch_option true = text_option (codes "batch") (codes "16")
+
+-- 1 to 64 nodes, batches, and 1 to 2^32 - 1 rounds; a checkpoint each so many rounds, 1 to
+-- 1,000,000; a commit for so many events, 1 to 400,000; programs of their own as nodes, one of which
+-- is cut short; nodes that work at one time; programs that are not started, but waited for; and a
+-- file for a trace
+abbrev pub run_command : Bool → App
+run_command word = with_rule (with_rule (with_rule (with_rule (with_rule (with_rule (with_rule
+    (with_rule (with_rule
     (with_rule (on_disk (codes "run")) (number_option (codes "nodes") 1 64 (codes "1")))
-    (number_option (codes "batch") 1 4294967295 (codes "16")))
+    (batch_option word))
     (number_option (codes "rounds") 1 4294967295 (codes "1000000")))
     (optional_number (codes "checkpoint") 1 1000000))
-    (optional_path (codes "sockets")))
+    (optional_number (codes "commit-every") 1 400000))
+    (optional_text (codes "sockets")))
     (optional_number (codes "cut") 0 4294967295))
     (flag (codes "together")))
-    (flag (codes "attach"))
+    (flag (codes "attach")))
+    (optional_text (codes "trace"))
+
+-- a disk that has so many sectors then
+abbrev pub grow_command : App
+grow_command = with_rule (on_disk (codes "grow"))
+    (number_option (codes "sectors") 8 131072 (codes "131072"))
 
 -- a disk of format 1, and one of format 2 of so many sectors
 abbrev pub migrate_command : App
@@ -85,29 +130,77 @@ migrate_command = with_rule (with_rule (with_rule (on_model (codes "migrate"))
     (path_argument (codes "NEW")))
     sectors_option
 
+-- the events of a log from a time on, before a time, and of one process
+abbrev pub log_command : App
+log_command = with_rule (with_rule (with_rule (on_disk (codes "log"))
+    (time_option (codes "from")))
+    (time_option (codes "to")))
+    (optional_number (codes "process") 0 4294967295)
+
+-- the figures of a run, in one of two formats
+abbrev pub stats_command : App
+stats_command = with_rule (with_rule (on_model (codes "stats")) (optional_argument (codes "DISK")))
+    (text_option (codes "format") (codes "text"))
+
+-- a picture of a run, from a time on, before a time, of some processes; or of its load
+abbrev pub draw_command : App
+draw_command = with_rule (with_rule (with_rule (with_rule (with_rule (on_model (codes "draw"))
+    (optional_argument (codes "DISK")))
+    (time_option (codes "from")))
+    (time_option (codes "to")))
+    (optional_text (codes "processes")))
+    (flag (codes "load"))
+
 -- a node behind a socket, for 1 to 2^32 - 1 replies
 abbrev pub node_command : App
 node_command = with_rule
     (with_rule (on_model (codes "node")) (path_argument (codes "SOCKET")))
     (number_option (codes "parcels") 1 4294967295 (codes "4294967295"))
 
--- a command has to be named; there is no command `help`
+-- a command has to be named, or the version asked for; there is no command `help`
 abbrev pub without_commands : Text → App
 without_commands called = record (new_app called) {
   top = record (new_app called).top {
     subcommand_required = true;
     arg_required_else_help = true;
     disable_help_subcommand = true;
+    has_version = true;
   };
 }
 
--- the program of this name
-abbrev pub program : Text → App
-program called = with_subcommand (with_subcommand (with_subcommand (with_subcommand (with_subcommand
+-- the program of this name, where a batch is given as a word or as a number
+abbrev pub program_by : Bool → Text → App
+program_by word called = with_subcommand (with_subcommand (with_subcommand (with_subcommand
+    (with_subcommand (with_subcommand (with_subcommand (with_subcommand (with_subcommand
     (with_subcommand (with_subcommand (with_subcommand (with_subcommand (without_commands called)
-    new_command.top) run_command.top) (on_disk (codes "extend")).top) migrate_command.top)
-    (on_disk (codes "log")).top) (on_disk (codes "show")).top) (on_model (codes "seq")).top)
+    new_command.top) (run_command word).top) (on_disk (codes "extend")).top) grow_command.top)
+    migrate_command.top)
+    (on_disk (codes "status")).top) log_command.top) (on_disk (codes "show")).top)
+    stats_command.top) draw_command.top) (on_model (codes "seq")).top)
     (on_model (codes "check")).top) node_command.top
+
+-- a program with nothing but an option whose value passes this parser, and this text as its default
+abbrev pub refusing : Text → ValueParser → Text → App
+refusing option parser text = with_rule (new_app option) (choice_option option parser text)
+
+-- ---- a batch as a word
+
+-- the next word is `auto`
+abbrev pub begins_auto : List Text → Bool
+begins_auto [] = false
+begins_auto (word ∷ rest) = bytes_eq word (codes "auto")
+
+-- a batch is given as the word `auto`: as `--batch` with `auto` right behind it, or as
+-- `--batch=auto`, before a word `--`, where a line's options end
+unfoldable pub says_auto : List Text → Bool
+says_auto [] = false
+says_auto (word ∷ rest) = not (bytes_eq word (codes "--"))
+    && (bytes_eq word (codes "--batch=auto")
+    || (bytes_eq word (codes "--batch") && begins_auto rest) || says_auto rest)
+
+-- the program of this name, by which these words are read; the first is that of the program itself
+abbrev pub grammar_of : Text → List Text → App
+grammar_of called words = program_by (says_auto (drop 1 words)) called
 
 -- ---- building them
 
@@ -146,6 +239,76 @@ abbrev pub optional_number_in : Text → ℕ → ℕ → List Row → Option ℕ
 optional_number_in id least most rows =
     option_map (λ text. number_in id least most rows) (first_of id rows)
 
+-- the option has this text
+abbrev pub is_text : Option Text → Text → Bool
+is_text None word = false
+is_text (Some text) word = bytes_eq text word
+
+-- the batch: `auto`, or a number
+abbrev pub batch_in : List Row → Batch
+batch_in rows = if is_text (first_of (codes "batch") rows) (codes "auto") then Auto
+    else Fixed (number_in (codes "batch") 1 4294967295 rows)
+
+-- ---- a range of processes
+
+-- the number that is written, of those below 2^32
+abbrev pub written_number : Text → Option ℕ
+written_number text = if accepts true (Unsigned 0 4294967295) text
+    then Some (digits_value 10 (without_leading_plus text)) else None
+
+-- two numbers, where the first is not above the last
+abbrev pub in_order : Option ℕ → Option ℕ → Option (ℕ × ℕ)
+in_order (Some first) (Some last) = if nat_le first last then Some (first, last) else None
+in_order _ _ = None
+
+-- the first number of a range, and what follows the first point
+abbrev pub range_between : Text → Text → Option (ℕ × ℕ)
+range_between first [] = None
+range_between first (next ∷ last) =
+    if next == 46 then in_order (written_number first) (written_number last) else None
+
+-- a range of processes, `A..B`
+abbrev pub range_of : Text → Option (ℕ × ℕ)
+range_of text = range_between (before_first (λ b. b == 46) text) (after_first (λ b. b == 46) text)
+
+-- ---- values that are none of their option's
+
+-- the text is a number of at least 1
+abbrev pub is_positive : Text → Bool
+is_positive text = option_map_or (λ n. nat_le 1 n) (written_number text) false
+
+-- a batch that is no number and not `auto`
+abbrev pub is_no_batch : Option Text → Bool
+is_no_batch None = false
+is_no_batch (Some text) = not (bytes_eq text (codes "auto") || is_positive text)
+
+-- processes that are no range
+abbrev pub is_no_range : Option Text → Bool
+is_no_range None = false
+is_no_range (Some text) = not (is_some (range_of text))
+
+-- a format that is not known
+abbrev pub is_no_format : Option Text → Bool
+is_no_format None = false
+is_no_format (Some text) = not (bytes_eq text (codes "text") || bytes_eq text (codes "csv"))
+
+-- what these rows are refused for, which clap takes as any text
+abbrev pub unread_fault : List Row → Kinds
+unread_fault rows = if is_no_batch (first_of (codes "batch") rows)
+    || (is_no_range (first_of (codes "processes") rows)
+    || is_no_format (first_of (codes "format") rows)) then InvalidValue ∷ [] else []
+
+abbrev pub value_fault : Option (Text × List Row) → Kinds
+value_fault None = []
+value_fault (Some found) = unread_fault found.1
+
+-- what the words are refused for: for what clap refuses, and else for such a value
+abbrev pub refusal_of : Text → List Text → Kinds
+refusal_of called words = or_else (fault_of (grammar_of called words) words)
+    (value_fault (subcommand_of (grammar_of called words) words))
+
+-- ---- the values of a line
+
 -- the value of a flag: of what clap reads for it
 pub record IsFlagIn (id : Text) (rows : List Row) (value : Bool) : Type 0 where
   pub used : one_of id rows ≡ Some (codes "true") → value ≡ true
@@ -157,30 +320,58 @@ abbrev pub SaysDisk : Text → Text → List Row → Type 0
 SaysDisk model disk rows =
     (model ≡ text_in (codes "MODEL") rows) × (disk ≡ text_in (codes "DISK") rows)
 
+-- the line has a model file, and maybe a disk
+abbrev pub SaysMaybeDisk : Text → Option Text → List Row → Type 0
+SaysMaybeDisk model disk rows =
+    (model ≡ text_in (codes "MODEL") rows) × (disk ≡ first_of (codes "DISK") rows)
+
+-- the line has the times from which on and before which events are meant
+abbrev pub SaysTimes : Option ℕ → Option ℕ → List Row → Type 0
+SaysTimes from to rows = (from ≡ optional_number_in (codes "from") 0 1099511627776 rows)
+    × (to ≡ optional_number_in (codes "to") 0 1099511627776 rows)
+
 -- the values of these rows, as clap gives them
 abbrev pub SaysRows : Line → Text → List Row → Type 0
 SaysRows (New model disk sectors) name rows = (name ≡ codes "new")
     × SaysDisk model.now disk.now rows
     × (sectors ≡ number_in (codes "sectors") 8 131072 rows)
-SaysRows (Run model disk nodes batch rounds checkpoint sockets cut together attach) name rows =
-    (name ≡ codes "run")
+SaysRows
+    (Run model disk nodes batch rounds checkpoint commit_every sockets cut together attach trace)
+    name rows = (name ≡ codes "run")
     × SaysDisk model.now disk.now rows
     × (nodes ≡ number_in (codes "nodes") 1 64 rows)
-    × (batch ≡ number_in (codes "batch") 1 4294967295 rows)
+    × (batch ≡ batch_in rows)
     × (rounds ≡ number_in (codes "rounds") 1 4294967295 rows)
     × (checkpoint ≡ optional_number_in (codes "checkpoint") 1 1000000 rows)
+    × (commit_every ≡ optional_number_in (codes "commit-every") 1 400000 rows)
     × (option_map (λ path. path.now) sockets ≡ first_of (codes "sockets") rows)
     × (cut ≡ optional_number_in (codes "cut") 0 4294967295 rows)
     × IsFlagIn (codes "together") rows together
     × IsFlagIn (codes "attach") rows attach
+    × (option_map (λ path. path.now) trace ≡ first_of (codes "trace") rows)
 SaysRows (Extend model disk) name rows = (name ≡ codes "extend") × SaysDisk model.now disk.now rows
+SaysRows (Grow model disk sectors) name rows = (name ≡ codes "grow")
+    × SaysDisk model.now disk.now rows
+    × (sectors ≡ number_in (codes "sectors") 8 131072 rows)
 SaysRows (Migrate model old new sectors) name rows = (name ≡ codes "migrate")
     × (model.now ≡ text_in (codes "MODEL") rows)
     × (old.now ≡ text_in (codes "OLD") rows)
     × (new.now ≡ text_in (codes "NEW") rows)
     × (sectors ≡ number_in (codes "sectors") 8 131072 rows)
-SaysRows (Log model disk) name rows = (name ≡ codes "log") × SaysDisk model.now disk.now rows
+SaysRows (Status model disk) name rows = (name ≡ codes "status") × SaysDisk model.now disk.now rows
+SaysRows (Log model disk from to process) name rows = (name ≡ codes "log")
+    × SaysDisk model.now disk.now rows
+    × SaysTimes from to rows
+    × (process ≡ optional_number_in (codes "process") 0 4294967295 rows)
 SaysRows (Show model disk) name rows = (name ≡ codes "show") × SaysDisk model.now disk.now rows
+SaysRows (Stats model disk csv) name rows = (name ≡ codes "stats")
+    × SaysMaybeDisk model.now (option_map (λ path. path.now) disk) rows
+    × (csv ≡ is_text (first_of (codes "format") rows) (codes "csv"))
+SaysRows (Draw model disk from to processes load) name rows = (name ≡ codes "draw")
+    × SaysMaybeDisk model.now (option_map (λ path. path.now) disk) rows
+    × SaysTimes from to rows
+    × (processes ≡ option_and_then range_of (first_of (codes "processes") rows))
+    × IsFlagIn (codes "load") rows load
 SaysRows (Seq model) name rows =
     (name ≡ codes "seq") × (model.now ≡ text_in (codes "MODEL") rows)
 SaysRows (Check model) name rows =
@@ -195,20 +386,38 @@ SaysRows (Node model socket parcels) name rows = (name ≡ codes "node")
 pub record Says (called : Text) (words : List Text) (line : Line) : Type 0 where
   pub name : Text
   pub rows : List Row
-  pub found : subcommand_of (program called) words ≡ Some (name, rows)
+  pub found : subcommand_of (grammar_of called words) words ≡ Some (name, rows)
   pub values : SaysRows line name rows
+
+-- a batch that is a number is at least 1
+abbrev pub IsBatchRanged : Batch → Type 0
+IsBatchRanged (Fixed messages) = 1 ≤ messages
+IsBatchRanged Auto = ⊤
+
+-- a number that is there lies in this range
+abbrev pub IsWithin : ℕ → ℕ → Option ℕ → Type 0
+IsWithin least most number = IfSome number (λ n. (least ≤ n) × (n ≤ most))
 
 -- the numbers of a line lie in their ranges
 abbrev pub IsRanged : Line → Type 0
 IsRanged (New model disk sectors) = (8 ≤ sectors) × (sectors ≤ 131072)
-IsRanged (Run model disk nodes batch rounds checkpoint sockets cut together attach) =
-    (1 ≤ nodes) × (nodes ≤ 64) × (1 ≤ batch) × (1 ≤ rounds)
+IsRanged
+    (Run model disk nodes batch rounds checkpoint commit_every sockets cut together attach trace) =
+    (1 ≤ nodes) × (nodes ≤ 64) × IsBatchRanged batch × (1 ≤ rounds)
+    × IsWithin 1 1000000 checkpoint × IsWithin 1 400000 commit_every
+IsRanged (Grow model disk sectors) = (8 ≤ sectors) × (sectors ≤ 131072)
 IsRanged (Migrate model old new sectors) = (8 ≤ sectors) × (sectors ≤ 131072)
+IsRanged (Log model disk from to process) =
+    IsWithin 0 1099511627776 from × IsWithin 0 1099511627776 to
+IsRanged (Draw model disk from to processes load) =
+    IsWithin 0 1099511627776 from × IsWithin 0 1099511627776 to
+    × IfSome processes (λ range. range.0 ≤ range.1)
 IsRanged (Node model socket parcels) = 1 ≤ parcels
 IsRanged _ = ⊤
 
 -- the name is that of a command
 abbrev pub is_named : Text → Type 0
 is_named name = (name ≡ codes "new") ⊎ ((name ≡ codes "run") ⊎ ((name ≡ codes "extend")
-    ⊎ ((name ≡ codes "migrate") ⊎ ((name ≡ codes "log") ⊎ ((name ≡ codes "show")
-    ⊎ ((name ≡ codes "seq") ⊎ ((name ≡ codes "check") ⊎ (name ≡ codes "node"))))))))
+    ⊎ ((name ≡ codes "grow") ⊎ ((name ≡ codes "migrate") ⊎ ((name ≡ codes "status") ⊎ ((name ≡ codes "log")
+    ⊎ ((name ≡ codes "show") ⊎ ((name ≡ codes "stats") ⊎ ((name ≡ codes "draw")
+    ⊎ ((name ≡ codes "seq") ⊎ ((name ≡ codes "check") ⊎ (name ≡ codes "node"))))))))))))

@@ -3,9 +3,13 @@
 ghost use Rattle.std.specs.Prelude.{◌≡◌, false, true, IfOk};
 ghost use Rattle.clap.specs.Words.{app_of, rule_of};
 ghost use Rattle.clap.specs.declared.builder.command.Command.TheViews.{out-Command as fields_of};
-ghost use Rattle.lines.specs.Line.{flag, migrate_command, new_command, node_command, number_option};
-ghost use Rattle.lines.specs.Line.{on_disk, on_model, optional_number, optional_path, path_argument};
-ghost use Rattle.lines.specs.Line.{program, run_command, sectors_option, without_commands};
+ghost use Rattle.clap.specs.declared.builder.value_parser.ValueParser.TheVariants.{Names};
+ghost use Rattle.lines.specs.Line.{batch_option, choice_option, draw_command, flag, log_command};
+ghost use Rattle.lines.specs.Line.{grow_command, migrate_command, refusing};
+ghost use Rattle.lines.specs.Line.{new_command, node_command, number_option, on_disk, on_model};
+ghost use Rattle.lines.specs.Line.{optional_argument, optional_number, optional_text};
+ghost use Rattle.lines.specs.Line.{path_argument, program_by, run_command, sectors_option};
+ghost use Rattle.lines.specs.Line.{stats_command, text_option, time_option, without_commands};
 ghost use Rattle.lines.specs.Line.{AddsArgument, AddsCommand, IsApp};
 
 use clap::builder::ValueParser;
@@ -17,41 +21,54 @@ use std::alloc::{AllocError, Global};
 pub struct Texts<'a> {
     /// The program's name.
     pub name: &'a str,
+    /// What `--version` prints behind the name: `0.4.0 (disks of format 2)`.
+    pub version: &'a str,
     /// What follows its list of commands, as `program_help` writes it.
     pub help: &'a str,
     /// What follows the arguments of `seq`, as `seq_help` writes it.
     pub seq_help: &'a str,
 }
 
-/// All commands.
-pub fn program<'a>(alloc: Global, texts: Texts<'a>) -> Result<Command<'a>, AllocError>
-    ensures is { IfOk result (IsApp (program texts.entry.name.now)) }
+/// All commands. A batch of `run` is a number; or, where it is given as a word, any text.
+pub fn program<'a>(alloc: Global, texts: Texts<'a>, word: bool) -> Result<Command<'a>, AllocError>
+    ensures is { IfOk result (IsApp (program_by word texts.entry.name.now)) }
     ensures required { IfOk result (λ c. (fields_of c).subcommand_required ≡ true) }
 {
     let Texts {
         name,
+        version,
         help,
         seq_help,
     } = texts;
-    let program = with_command(Ok(without_commands(alloc, name, help)), new(alloc));
-    let program = with_command(program, run(alloc));
+    let program = with_command(Ok(without_commands(alloc, name, version, help)), new(alloc));
+    let program = with_command(program, run(alloc, word));
     let program = with_command(program, on_disk(alloc, "extend", EXTEND_ABOUT, EXTEND_HELP));
+    let program = with_command(program, grow(alloc));
     let program = with_command(program, migrate(alloc));
-    let program = with_command(program, on_disk(alloc, "log", LOG_ABOUT, LOG_HELP));
+    let program = with_command(program, on_disk(alloc, "status", STATUS_ABOUT, STATUS_HELP));
+    let program = with_command(program, log(alloc));
     let program = with_command(program, on_disk(alloc, "show", SHOW_ABOUT, SHOW_HELP));
+    let program = with_command(program, stats(alloc));
+    let program = with_command(program, draw(alloc));
     let program = with_command(program, on_model(alloc, "seq", SEQ_ABOUT, seq_help));
     let program = with_command(program, on_model(alloc, "check", CHECK_ABOUT, CHECK_HELP));
     with_command(program, node(alloc))
 }
 
 /// The program before it has its commands.
-fn without_commands<'a>(alloc: Global, name: &'a str, help: &'a str) -> Command<'a>
+fn without_commands<'a>(
+    alloc: Global,
+    name: &'a str,
+    version: &'a str,
+    help: &'a str,
+) -> Command<'a>
     ensures { IsApp (without_commands name.entry.now) result }
 {
     Command::new(alloc, name)
         .about(
             "Simulates logical processes that send one another messages stamped with virtual times",
         )
+        .version(version)
         .after_help(help)
         .subcommand_required(true)
         .arg_required_else_help(true)
@@ -83,7 +100,10 @@ Faults:
   Rounds       all rounds of a run are made, and it is not at its end
   Migrate ..   'migrate' stops: Old .. (OLD has another format, is of another simulation, or is
                damaged), New .. (NEW: Full (it has no room), Disk .., NoMemory)
-  World ..     'seq' stops: NoMemory, or NumberLimit past 2^63 messages of one process
+  Grow ..      'grow' stops: Fewer (the disk has more sectors), TooMany, Device, NoMemory
+  Record N ..  'status' finds the record behind N others at fault: BadRecord, NotTheLeast, ..
+  World ..     'seq', 'stats' or 'draw' stops: NoMemory, or NumberLimit past 2^63 messages of one
+               process
   Wire ..      'node' stops: Truncated, TooLong, BadKind, BadBody (what came is no frame that
                has its place there), Io, NoMemory
   NoMemory     memory ran out elsewhere
@@ -110,32 +130,49 @@ Output:
   formatted N sectors";
 
 /// The command `run`.
-fn run<'a>(alloc: Global) -> Result<Command<'a>, AllocError>
-    ensures { IfOk result (IsApp run_command) }
+fn run<'a>(alloc: Global, word: bool) -> Result<Command<'a>, AllocError>
+    ensures { IfOk result (IsApp (run_command word)) }
 {
     let nodes = number_option(alloc, "nodes", "1", 1, 64, NODES_HELP);
-    let batch = number_option(alloc, "batch", "16", 1, 4_294_967_295, BATCH_HELP);
+    let batch = batch_option(alloc, word);
     let rounds = number_option(alloc, "rounds", "1000000", 1, 4_294_967_295, ROUNDS_HELP);
     let command = with_argument(on_disk(alloc, "run", RUN_ABOUT, RUN_HELP), nodes);
     let command = with_argument(with_argument(command, batch), rounds);
     let checkpoint = optional_number(alloc, "checkpoint", "E", 1, 1_000_000, CHECKPOINT_HELP);
-    let command = with_argument(command, checkpoint);
-    let sockets = optional_path(alloc, "sockets", "DIR", SOCKETS_HELP);
+    let commit = optional_number(alloc, "commit-every", "E", 1, 400_000, COMMIT_HELP);
+    let command = with_argument(with_argument(command, checkpoint), commit);
+    let sockets = optional_text(alloc, "sockets", "DIR", SOCKETS_HELP);
     let cut = optional_number(alloc, "cut", "I", 0, 4_294_967_295, CUT_HELP);
     let command = with_argument(with_argument(command, sockets), cut);
     let command = with_argument(command, flag(alloc, "together", TOGETHER_HELP));
-    with_argument(command, flag(alloc, "attach", ATTACH_HELP))
+    let command = with_argument(command, flag(alloc, "attach", ATTACH_HELP));
+    with_argument(command, optional_text(alloc, "trace", "FILE", TRACE_HELP))
+}
+
+/// How many messages a node handles at a turn: a number, or any text.
+fn batch_option<'a>(alloc: Global, word: bool) -> Arg<'a>
+    ensures rule { rule_of result ≡ batch_option word }
+    ensures local { result.global ≡ false }
+{
+    if word {
+        text_option(alloc, "batch", "N", "16", BATCH_HELP)
+    } else {
+        number_option(alloc, "batch", "16", 1, 4_294_967_295, BATCH_HELP)
+    }
 }
 
 const RUN_ABOUT: &str = "Runs a model on its disk, from the last commit to its end";
 
 const NODES_HELP: &str = "How many nodes share the processes, 1 to 64";
 
-const BATCH_HELP: &str = "How many messages a node handles at a turn, 1 to 4294967295";
+const BATCH_HELP: &str = "How many messages a node handles at a turn, 1 to 4294967295, or 'auto'";
 
 const ROUNDS_HELP: &str = "After how many rounds the run stops, 1 to 4294967295";
 
 const CHECKPOINT_HELP: &str = "Keeps the state in a record each E rounds, 1 to 1000000";
+
+const COMMIT_HELP: &str =
+    "Commits where E events more can be committed, 1 to 400000, and at the end";
 
 const SOCKETS_HELP: &str = "Runs each node as a program of its own, behind the socket DIR/nodeI";
 
@@ -145,9 +182,17 @@ const TOGETHER_HELP: &str = "Hands work to all nodes before a reply is taken, so
 
 const ATTACH_HELP: &str = "Starts no node programs: waits for them to connect, in any order";
 
+const TRACE_HELP: &str = "Writes a row for each turn of a node to FILE, by commas (CSV)";
+
 const RUN_HELP: &str = "\
 In a round each node has its turn, and what no rollback can reach any more is committed.
 Whatever ends the run, what was committed stands on the disk, and the next run goes on there.
+
+With --batch auto each node has a batch of its own, which follows how much of what it handles is
+committed.
+
+A commit waits for the disk twice. With --commit-every a power cut can cost what was done since the
+last one, and --checkpoint counts the rounds that commit.
 
 A checkpoint takes one record of the disk, as long as the state of all processes and what is
 pending. The next opening begins at the last one, and replays only the events behind it.
@@ -173,6 +218,26 @@ The model file is that of the disk, but with a later end. From then on it is the
 
 Output:
   extended E0 to E1   the end before and this one, in ticks";
+
+/// The command `grow`.
+fn grow<'a>(alloc: Global) -> Result<Command<'a>, AllocError>
+    ensures { IfOk result (IsApp grow_command) }
+{
+    let command = on_disk(alloc, "grow", GROW_ABOUT, GROW_HELP);
+    let sectors = number_option(alloc, "sectors", "131072", 8, 131_072, GROWN_HELP);
+    with_argument(command, sectors)
+}
+
+const GROW_ABOUT: &str = "Makes a disk longer, so that its run has room again";
+
+const GROWN_HELP: &str = "How many sectors of 512 bytes the disk has then, 8 to 131072";
+
+const GROW_HELP: &str = "\
+The disk gets sectors of zeros behind those that it has; what is committed stays, whenever the power
+is cut. A disk that has more sectors than asked for is refused (Grow Fewer).
+
+Output:
+  grown S0 to S1 sectors   how many it had, and has now";
 
 /// The command `migrate`.
 fn migrate<'a>(alloc: Global) -> Result<Command<'a>, AllocError>
@@ -203,6 +268,38 @@ A file NEW that is there has to have the size that is asked for, and must not ha
 Output:
   migrated TIME events N   ticks, and events in the log";
 
+const STATUS_ABOUT: &str = "Prints how far a disk's run has come and how much room is left";
+
+const STATUS_HELP: &str = "\
+The disk is only read. A disk of format 1 is told as Recovery OtherModel; 'migrate' alone reads it.
+
+Output, all numbers decimal:
+  virtual time G of E ticks, P percent      what is committed, and the disk's end
+  events N, B bytes of disk an event        B is '-' where there is no event
+  records R, of them C checkpoints (the last at T ticks) and K ends
+  sectors U used of S, F free
+  full at about T ticks at the pace of the last L commits
+
+The last line is 'room to the end at the pace of the last L commits' where the rest of the run has
+room, and is left out where nothing is committed.";
+
+/// The command `log`.
+fn log<'a>(alloc: Global) -> Result<Command<'a>, AllocError>
+    ensures { IfOk result (IsApp log_command) }
+{
+    let command = on_disk(alloc, "log", LOG_ABOUT, LOG_HELP);
+    let command = with_argument(command, time_option(alloc, "from", FROM_HELP));
+    let command = with_argument(command, time_option(alloc, "to", TO_HELP));
+    let process = optional_number(alloc, "process", "L", 0, 4_294_967_295, PROCESS_HELP);
+    with_argument(command, process)
+}
+
+const FROM_HELP: &str = "Only events at T ticks or later, 0 to 1099511627776";
+
+const TO_HELP: &str = "Only events before T ticks, 0 to 1099511627776";
+
+const PROCESS_HELP: &str = "Only events that process L handled, 0 to 4294967295";
+
 const LOG_ABOUT: &str = "Prints the committed events of a disk";
 
 const LOG_HELP: &str = "\
@@ -220,6 +317,58 @@ Output, all numbers decimal:
   virtual time TIME                    ticks
   lp LP sent NUMBER state WORDS        each process
   pending TIME FROM NUMBER TO A B C D  each message that is not handled";
+
+/// The command `stats`.
+fn stats<'a>(alloc: Global) -> Result<Command<'a>, AllocError>
+    ensures { IfOk result (IsApp stats_command) }
+{
+    let command = on_model(alloc, "stats", STATS_ABOUT, STATS_HELP);
+    let command = with_argument(command, optional_argument(alloc, "DISK", MAYBE_DISK_HELP));
+    with_argument(
+        command,
+        text_option(alloc, "format", "F", "text", FORMAT_HELP),
+    )
+}
+
+const STATS_ABOUT: &str = "Prints how many events, sends and delays a run had";
+
+const MAYBE_DISK_HELP: &str = "The file of the disk; without one the model is run to its end";
+
+const FORMAT_HELP: &str = "The format of what is printed: text or csv";
+
+const STATS_HELP: &str = "\
+With a disk these are the figures of what is committed there. The disk is only read.
+Without one they are those of the whole run, which is made by the plain runner, as by 'seq'.
+
+Output, all numbers decimal:
+  a line of words and a table; or with --format csv rows of values with commas between, and
+  a line with their names above them";
+
+/// The command `draw`.
+fn draw<'a>(alloc: Global) -> Result<Command<'a>, AllocError>
+    ensures { IfOk result (IsApp draw_command) }
+{
+    let command = on_model(alloc, "draw", DRAW_ABOUT, DRAW_HELP);
+    let command = with_argument(command, optional_argument(alloc, "DISK", MAYBE_DISK_HELP));
+    let command = with_argument(command, time_option(alloc, "from", FROM_HELP));
+    let command = with_argument(command, time_option(alloc, "to", TO_HELP));
+    let processes = optional_text(alloc, "processes", "A..B", PROCESSES_HELP);
+    let command = with_argument(command, processes);
+    with_argument(command, flag(alloc, "load", LOAD_HELP))
+}
+
+const DRAW_ABOUT: &str = "Prints a picture of a run, as SVG";
+
+const PROCESSES_HELP: &str = "Only processes A to B, both too, 0 to 4294967295";
+
+const LOAD_HELP: &str = "Draws how many events each process handled, by slices of virtual time";
+
+const DRAW_HELP: &str = "\
+With a disk this is a picture of what is committed there. The disk is only read.
+Without one it is that of the whole run, which is made by the plain runner, as by 'seq'.
+
+Output:
+  an SVG document, which a browser shows";
 
 const SEQ_ABOUT: &str =
     "Runs a model to its end, one event at a time, and prints its log and its final world";
@@ -300,6 +449,21 @@ fn on_model<'a>(
 const MODEL_HELP: &str =
     "The model file: TOML with exactly the keys of its model (see 'seq --help')";
 
+/// A program with nothing but an option that takes only these names, with this text as its default.
+pub fn refusing<'a>(
+    alloc: Global,
+    option: &'a str,
+    value: &'a str,
+    names: &'a [&'a str],
+    text: &'a str,
+) -> Result<Command<'a>, AllocError>
+    ensures { IfOk result
+        (IsApp (refusing option.entry.now (Names names.entry) text.entry.now)) }
+{
+    let program = Command::new(alloc, option);
+    with_argument(Ok(program), names_option(alloc, option, value, names, text))
+}
+
 /// A program with one command more, where both are there.
 ///
 /// It takes both as their calls answer them, so that here alone a command is let go.
@@ -328,6 +492,14 @@ fn path<'a>(alloc: Global, id: &'a str, help: &'a str) -> Arg<'a>
     ensures local { result.global ≡ false }
 {
     Arg::new(alloc, id).required(true).help(help)
+}
+
+/// An argument that may be left out, a path.
+fn optional_argument<'a>(alloc: Global, id: &'a str, help: &'a str) -> Arg<'a>
+    ensures rule { rule_of result ≡ optional_argument id.entry.now }
+    ensures local { result.global ≡ false }
+{
+    Arg::new(alloc, id).help(help)
 }
 
 /// The option for the number of a disk's sectors.
@@ -377,9 +549,54 @@ fn optional_number<'a>(
         .help(help)
 }
 
-/// An option whose value is a path, and which may be left out.
-fn optional_path<'a>(alloc: Global, name: &'a str, value: &'a str, help: &'a str) -> Arg<'a>
-    ensures rule { rule_of result ≡ optional_path name.entry.now }
+/// An option whose value is a virtual time, and which may be left out.
+fn time_option<'a>(alloc: Global, name: &'a str, help: &'a str) -> Arg<'a>
+    ensures rule { rule_of result ≡ time_option name.entry.now }
+    ensures local { result.global ≡ false }
+{
+    optional_number(alloc, name, "T", 0, 1_099_511_627_776, help)
+}
+
+/// An option whose value is any text.
+fn text_option<'a>(
+    alloc: Global,
+    name: &'a str,
+    value: &'a str,
+    default: &'a str,
+    help: &'a str,
+) -> Arg<'a>
+    ensures rule { rule_of result ≡ text_option name.entry.now default.entry.now }
+    ensures local { result.global ≡ false }
+{
+    Arg::new(alloc, name)
+        .long(name)
+        .value_name(value)
+        .default_value(default)
+        .help(help)
+}
+
+/// An option whose value is one of these names.
+fn names_option<'a>(
+    alloc: Global,
+    name: &'a str,
+    value: &'a str,
+    names: &'a [&'a str],
+    default: &'a str,
+) -> Arg<'a>
+    ensures rule { rule_of result
+        ≡ choice_option name.entry.now (Names names.entry) default.entry.now }
+    ensures local { result.global ≡ false }
+{
+    Arg::new(alloc, name)
+        .long(name)
+        .value_name(value)
+        .value_parser(ValueParser::Names(names))
+        .default_value(default)
+}
+
+/// An option whose value is any text, and which may be left out.
+fn optional_text<'a>(alloc: Global, name: &'a str, value: &'a str, help: &'a str) -> Arg<'a>
+    ensures rule { rule_of result ≡ optional_text name.entry.now }
     ensures local { result.global ≡ false }
 {
     Arg::new(alloc, name)

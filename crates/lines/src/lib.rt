@@ -4,6 +4,8 @@
 
 mod grammar;
 mod line;
+mod values;
+mod words;
 
 pub use grammar::{Texts, program_help, seq_help};
-pub use line::{Line, read_line};
+pub use line::{Batch, Line, read_line};

@@ -1,14 +1,27 @@
 // Reading the command line.
 
-ghost use Rattle.std.specs.Prelude.{◌≡◌, ◌≤◌, map, option_map, IfOk};
-ghost use Rattle.clap.specs.Words.{fault_of, first_of, found_of, rows_of, FailsBy};
-ghost use Rattle.lines.specs.Line.{is_named, number_in, optional_number_in, program, text_in};
-ghost use Rattle.lines.specs.Line.{IsFlagIn, IsRanged, Says, SaysRows};
+ghost use Rattle.std.specs.Prelude.{◌≡◌, map, IfOk};
+ghost use Rattle.clap.specs.Words.{found_of, rows_of, FailsBy};
+ghost use Rattle.lines.specs.Line.{is_named, refusal_of, IsRanged, Says, SaysRows};
 
 use crate::grammar::{Texts, program};
+use crate::values::{
+    batch, is_flagged, is_text, optional_number, optional_small_number, optional_text, range,
+    refusal, small_number, text,
+};
+use crate::words::says_auto;
 use clap::{ArgMatches, Error};
 use std::alloc::Global;
 use std::convert::AsStr;
+
+/// How many messages a node may handle at a turn.
+#[derive(Clone, Copy, Debug, PartialEq, Eq)]
+pub enum Batch {
+    /// So many, at least 1.
+    Fixed(u32),
+    /// As many as the node finds for itself, by how much of what it handles is committed.
+    Auto,
+}
 
 /// What a command line asks for.
 #[derive(Clone, Copy, Debug, PartialEq, Eq)]
@@ -30,13 +43,16 @@ pub enum Line<'a> {
         disk: &'a str,
         /// How many nodes there are, 1 to 64.
         nodes: u32,
-        /// How many messages a node may handle at a turn, at least 1.
-        batch: u32,
+        /// How many messages a node may handle at a turn.
+        batch: Batch,
         /// How many rounds are made at most, at least 1.
         rounds: u32,
         /// After how many rounds a checkpoint follows the commit each time, at least 1; none for no
         /// checkpoints.
         checkpoint: Option<u32>,
+        /// How many events more than were committed there have to be before a round commits, 1 to
+        /// 400,000; none for a commit in each round.
+        commit_every: Option<u32>,
         /// The folder with the sockets of nodes that are programs of their own; none where the nodes
         /// are in this program.
         sockets: Option<&'a str>,
@@ -47,6 +63,8 @@ pub enum Line<'a> {
         /// Whether the programs behind the sockets are not started by the run, which waits until
         /// they connect.
         attach: bool,
+        /// The path of the file for a row of each turn of a node; none for no trace.
+        trace: Option<&'a str>,
     },
     /// Carry a disk on to a later end.
     Extend {
@@ -54,6 +72,15 @@ pub enum Line<'a> {
         model: &'a str,
         /// The path of the disk's file.
         disk: &'a str,
+    },
+    /// Make a disk longer.
+    Grow {
+        /// The path of the model file.
+        model: &'a str,
+        /// The path of the disk's file.
+        disk: &'a str,
+        /// How many sectors the disk has then, 8 to 131,072.
+        sectors: u32,
     },
     /// Write a disk of format 1 anew in format 2.
     Migrate {
@@ -66,12 +93,25 @@ pub enum Line<'a> {
         /// How many sectors the disk of format 2 has, 8 to 131,072.
         sectors: u32,
     },
+    /// Say how far the run of a disk has come.
+    Status {
+        /// The path of the model file.
+        model: &'a str,
+        /// The path of the disk's file.
+        disk: &'a str,
+    },
     /// Print the committed events of a disk.
     Log {
         /// The path of the model file.
         model: &'a str,
         /// The path of the disk's file.
         disk: &'a str,
+        /// The time from which on events are meant, in ticks, at most 2^40; none for all.
+        from: Option<u64>,
+        /// The time before which events are meant, in ticks, at most 2^40; none for all.
+        to: Option<u64>,
+        /// The process whose events are meant: those that it handled; none for all.
+        process: Option<u32>,
     },
     /// Print the committed world of a disk.
     Show {
@@ -79,6 +119,31 @@ pub enum Line<'a> {
         model: &'a str,
         /// The path of the disk's file.
         disk: &'a str,
+    },
+    /// Print the figures of a run.
+    Stats {
+        /// The path of the model file.
+        model: &'a str,
+        /// The path of the disk's file; none for a run by the plain runner.
+        disk: Option<&'a str>,
+        /// Whether they are printed as comma-separated values, and not as a text.
+        csv: bool,
+    },
+    /// Print a picture of a run.
+    Draw {
+        /// The path of the model file.
+        model: &'a str,
+        /// The path of the disk's file; none for a run by the plain runner.
+        disk: Option<&'a str>,
+        /// The time from which on events are meant, in ticks, at most 2^40; none for all.
+        from: Option<u64>,
+        /// The time before which events are meant, in ticks, at most 2^40; none for all.
+        to: Option<u64>,
+        /// The first and the last process that are meant, the first not above the last; none for
+        /// all.
+        processes: Option<(u32, u32)>,
+        /// Whether the load of the processes is drawn, and not each event.
+        load: bool,
     },
     /// Run a model by the plain runner.
     Seq {
@@ -105,7 +170,9 @@ pub enum Line<'a> {
 /// and `texts` is of its help.
 ///
 /// Where there is none, the answer is `clap`'s error: its text tells the user what is wrong, or is
-/// the help that was asked for. `clap` also answers by an error where memory runs out.
+/// the help or the version that was asked for (of the kinds `DisplayHelp` and `DisplayVersion`).
+/// Processes that are no range and a format that is unknown are errors of the kind `InvalidValue`,
+/// in `clap`'s words. `clap` also answers by an error where memory runs out.
 pub fn read_line<'a, S: AsStr>(
     alloc: Global,
     texts: Texts<'a>,
@@ -113,12 +180,15 @@ pub fn read_line<'a, S: AsStr>(
 ) -> Result<Line<'a>, Error>
     ensures ok { IfOk result (Says texts.entry.name.now (map S.text words.entry.now)) }
     ensures ranged { IfOk result IsRanged }
-    ensures refused { FailsBy (fault_of (program texts.entry.name.now) (map S.text words.entry.now))
+    ensures refused { FailsBy (refusal_of texts.entry.name.now (map S.text words.entry.now))
         result }
 {
-    let matches = program(alloc, texts)?.try_get_matches_from(words)?;
+    let matches = program(alloc, texts, says_auto(words))?.try_get_matches_from(words)?;
     match matches.subcommand() {
-        Some((name, values)) => Ok(line_of(name, values)),
+        Some((name, values)) => match refusal(alloc, values) {
+            Some(error) => Err(error),
+            None => Ok(line_of(name, values)),
+        },
         None => unreachable!(),
     }
 }
@@ -134,89 +204,74 @@ fn line_of<'a>(name: &str, values: &ArgMatches<'a>) -> Line<'a>
         "new" => Line::New {
             model,
             disk: text(values, "DISK"),
-            sectors: number(values, "sectors", 8, 131_072),
+            sectors: small_number(values, "sectors", 8, 131_072),
         },
         "run" => Line::Run {
             model,
             disk: text(values, "DISK"),
-            nodes: number(values, "nodes", 1, 64),
-            batch: number(values, "batch", 1, u32::MAX),
-            rounds: number(values, "rounds", 1, u32::MAX),
-            checkpoint: optional_number(values, "checkpoint", 1, 1_000_000),
+            nodes: small_number(values, "nodes", 1, 64),
+            batch: batch(values),
+            rounds: small_number(values, "rounds", 1, u32::MAX),
+            checkpoint: optional_small_number(values, "checkpoint", 1, 1_000_000),
+            commit_every: optional_small_number(values, "commit-every", 1, 400_000),
             sockets: optional_text(values, "sockets"),
-            cut: optional_number(values, "cut", 0, u32::MAX),
+            cut: optional_small_number(values, "cut", 0, u32::MAX),
             together: is_flagged(values, "together"),
             attach: is_flagged(values, "attach"),
+            trace: optional_text(values, "trace"),
         },
         "extend" => Line::Extend {
             model,
             disk: text(values, "DISK"),
         },
+        "grow" => Line::Grow {
+            model,
+            disk: text(values, "DISK"),
+            sectors: small_number(values, "sectors", 8, 131_072),
+        },
         "migrate" => Line::Migrate {
             model,
             old: text(values, "OLD"),
             new: text(values, "NEW"),
-            sectors: number(values, "sectors", 8, 131_072),
+            sectors: small_number(values, "sectors", 8, 131_072),
+        },
+        "status" => Line::Status {
+            model,
+            disk: text(values, "DISK"),
         },
         "log" => Line::Log {
             model,
             disk: text(values, "DISK"),
+            from: optional_number(values, "from", 0, LAST_TIME),
+            to: optional_number(values, "to", 0, LAST_TIME),
+            process: optional_small_number(values, "process", 0, u32::MAX),
         },
         "show" => Line::Show {
             model,
             disk: text(values, "DISK"),
+        },
+        "stats" => Line::Stats {
+            model,
+            disk: optional_text(values, "DISK"),
+            csv: is_text(optional_text(values, "format"), "csv"),
+        },
+        "draw" => Line::Draw {
+            model,
+            disk: optional_text(values, "DISK"),
+            from: optional_number(values, "from", 0, LAST_TIME),
+            to: optional_number(values, "to", 0, LAST_TIME),
+            processes: range(values),
+            load: is_flagged(values, "load"),
         },
         "seq" => Line::Seq { model },
         "check" => Line::Check { model },
         _ => Line::Node {
             model,
             socket: text(values, "SOCKET"),
-            parcels: number(values, "parcels", 1, u32::MAX),
+            parcels: small_number(values, "parcels", 1, u32::MAX),
         },
     }
 }
 
-/// The text of a required argument.
-fn text<'a>(values: &ArgMatches<'a>, id: &str) -> &'a str
-    ensures { result.now ≡ text_in id.now (rows_of (found_of values.now)) }
-{
-    values.get_str(id).unwrap_or("")
-}
-
-/// The number of an option that takes one from `least` to `most`.
-fn number(values: &ArgMatches<'_>, id: &str, least: u32, most: u32) -> u32
-    requires { least ≤ most }
-    ensures value { result ≡ number_in id.now least most (rows_of (found_of values.now)) }
-    ensures least { least ≤ result }
-    ensures most { result ≤ most }
-{
-    match values.get_one::<u32>(id) {
-        Some(number) if least <= number && number <= most => number,
-        _ => least,
-    }
-}
-
-/// The text of an option, where it is used.
-fn optional_text<'a>(values: &ArgMatches<'a>, id: &str) -> Option<&'a str>
-    ensures { option_map (λ text. text.now) result ≡ first_of id.now (rows_of (found_of values.now)) }
-{
-    values.get_str(id)
-}
-
-/// Whether an option without a value is used.
-fn is_flagged(values: &ArgMatches<'_>, id: &str) -> bool
-    ensures { IsFlagIn id.now (rows_of (found_of values.now)) result }
-{
-    values.get_flag(id)
-}
-
-/// The number of an option, where it is used.
-fn optional_number(values: &ArgMatches<'_>, id: &str, least: u32, most: u32) -> Option<u32>
-    requires { least ≤ most }
-    ensures { result ≡ optional_number_in id.now least most (rows_of (found_of values.now)) }
-{
-    match values.get_str(id) {
-        Some(_) => Some(number(values, id, least, most)),
-        None => None,
-    }
-}
+/// The last virtual time, in ticks.
+const LAST_TIME: u64 = 1_099_511_627_776;

@@ -4,11 +4,11 @@ use Rattle.std.proofs.Common.{◌≡◌, ℕ, zero, suc, ◌+◌, ◌-◌, ◌*�
 use Rattle.std.proofs.lemmas.Bool.{false≢true, ltb-true, ltb-false, and_parts, leb-true}
 use Rattle.std.specs.List.{AllByRecursion as Every, slice_get}
 use Rattle.std.proofs.Math.Nat.{one-le-pow, pow-le-pow_right, pow-succ', mul-le-mul_right, add-mul, one-mul}
-use Rattle.std.proofs.lemmas.List.{map-append, length-map}
+use Rattle.std.proofs.lemmas.List.{map-append, length-map, get_or-map}
 use Rattle.std.proofs.lemmas.List.Concat.{flat_map-append}
 use Rattle.std.proofs.lemmas.List.Elements.{at_read}
 use Rattle.eventkey.proofs.Bags.{time_from_at_most}
-use Rattle.eventkey.proofs.Lists.{Every-set, Every-weaker, get_or-map}
+use Rattle.eventkey.proofs.Lists.{Every-set, Every-weaker}
 use Rattle.eventkey.specs.Bag.{IsAscending, add, add_all}
 use Rattle.eventkey.specs.Message.{IsAtMost, Message, is_before}
 use Rattle.model.specs.Inside.{IsSimulation}

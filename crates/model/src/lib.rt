@@ -11,6 +11,7 @@ mod runner;
 mod saved;
 mod sent;
 mod state;
+mod state_bytes;
 mod ticks;
 
 use eventkey::Message;
@@ -20,6 +21,7 @@ pub use saved::SavedState;
 pub use sent::Sent;
 use smallvec::SmallVec;
 pub use state::State;
+pub use state_bytes::{append_words, read_words};
 use std::alloc::Global;
 use thiserror::Error;
 

@@ -6,8 +6,9 @@ use Rattle.std.proofs.Common.{arith, lit<, lit≤, inl, inr}
 use Rattle.std.proofs.Math.Nat.{mod-lt, mul-le-mul_left}
 use Rattle.std.proofs.lemmas.Bool.{cases_Bool, ltb-false}
 use Rattle.std.proofs.lemmas.List.{length-map}
-use Rattle.eventkey.proofs.Lists.{Every-get_or-default, Every-map, Every-weaker}
+use Rattle.eventkey.proofs.Lists.{Every-map, Every-weaker}
 use Rattle.eventkey.specs.Message.{IsRanged, Message}
+use Rattle.model.proofs.ForLaws.{word_fits}
 use Rattle.model.proofs.Worlds.{Every-below, length-below}
 use Rattle.model.specs.Meaning.{IsLawful, IsSend, IsWords}
 use Rattle.model.specs.World.{below}
@@ -29,17 +30,14 @@ first_lawful s good lp l k b =
       d = lit< tt;
     }
 
-word_of_state : (state : List ℕ) (i : ℕ) → IsWords state → slice_index state i < 2 ^ 64
-word_of_state state i is = Every-get_or-default (λ word. word < 2 ^ 64) state i 0 is.1 (lit< tt)
-
 refused_words : (lp : ℕ) (state : List ℕ) → IsWords state → IsWords (after_refusal lp state)
 refused_words lp state is = (
   lit≤ tt,
   (
-    word_of_state state 0 is,
+    word_fits state 0 is,
     (
-      word_of_state state 1 is,
-      (word_of_state state 2 is, (omega arith, (key_lt (shop_key state) lp 1, tt))),
+      word_fits state 1 is,
+      (word_fits state 2 is, (omega arith, (key_lt (shop_key state) lp 1, tt))),
     ),
   ),
 )
@@ -50,7 +48,7 @@ served_words : (s : Shop) (lp : ℕ) (state : List ℕ) (t : ℕ) → t < 2 ^ 41
 served_words s lp state t early stays is =
     let soon : ended s lp state t - t ≤ 2 ^ 32 - 1 = ltb-false (2 ^ 32 - 1)
     (ended s lp state t - t) stays in
-    (lit≤ tt, (omega arith, (omega arith, (omega arith, (word_of_state state 3 is, (key_lt (shop_key state) lp 1, tt))))))
+    (lit≤ tt, (omega arith, (omega arith, (omega arith, (word_fits state 3 is, (key_lt (shop_key state) lp 1, tt))))))
 
 next_words : (s : Shop) (lp : ℕ) (state : List ℕ) (t : ℕ) → t < 2 ^ 41 → IsWords state
     → IsWords (if is_turned_away s lp state t then after_refusal lp state

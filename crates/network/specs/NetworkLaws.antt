@@ -7,8 +7,8 @@ use Rattle.std.specs.Prelude.{slice_index}
 use Rattle.std.proofs.Common.{arith, lit<, lit≤, inl, inr}
 use Rattle.std.proofs.Math.Nat.{div-le_self, div-lt_iff_lt-mul, mod-lt, mul-le-mul_left, mul-le-mul_right}
 use Rattle.std.proofs.lemmas.Bool.{cases_Bool, cond_both, ltb-false}
-use Rattle.eventkey.proofs.Lists.{Every-get_or-default}
 use Rattle.eventkey.specs.Message.{IsRanged, Message}
+use Rattle.model.proofs.ForLaws.{word_fits}
 use Rattle.model.specs.Meaning.{IsLawful, IsSend, IsWords}
 use Rattle.model.specs.declared.Outgoing.{Outgoing}
 use Rattle.network.specs.Network.{GoodTorus, IsTorus, Torus, after_delivery, after_drop, after_packet}
@@ -32,19 +32,16 @@ record IsSwitch (s : Switch) : Type 0 where
   pub key : s.key < 2 ^ 64
   pub scratch : s.scratch < 2 ^ 64
 
-word_at : (state : List ℕ) (i : ℕ) → IsWords state → slice_index state i < 2 ^ 64
-word_at state i words = Every-get_or-default (λ w. w < 2 ^ 64) state i 0 words.1 (lit< tt)
-
 read_switch : (state : List ℕ) → IsWords state → IsSwitch (switch_of state)
 read_switch state words = record {
-  delivered = word_at state 0 words;
-  latency = word_at state 1 words;
-  slowest = word_at state 2 words;
-  longest = word_at state 3 words;
-  dropped = word_at state 4 words;
-  free_at = word_at state 5 words;
-  key = word_at state 6 words;
-  scratch = word_at state 7 words;
+  delivered = word_fits state 0 words;
+  latency = word_fits state 1 words;
+  slowest = word_fits state 2 words;
+  longest = word_fits state 3 words;
+  dropped = word_fits state 4 words;
+  free_at = word_fits state 5 words;
+  key = word_fits state 6 words;
+  scratch = word_fits state 7 words;
 }
 
 written_switch : (s : Switch) → IsSwitch s → IsWords (words_of s)

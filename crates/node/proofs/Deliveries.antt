@@ -71,7 +71,7 @@ pub record IsAccepted (n : Node) (s : Signed) (rest : List Signed) : Type 0 wher
   pub late : n.floor ≤ s.message.time
   pub rest_is : first_fault n rest ≡ None
 
-some-none : {X : Type 0} (x : X) → Some x ≡ None → ⊥
+pub some-none : {X : Type 0} (x : X) → Some x ≡ None → ⊥
 some-none x e = cc
 
 pub accepted : (n : Node) (s : Signed) (rest : List Signed) → first_fault n (s ∷ rest) ≡ None → IsAccepted n s rest

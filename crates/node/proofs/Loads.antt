@@ -1,6 +1,6 @@
 -- What a load has to be: tests that go through lists one by one, and the processes of a node as a
 -- progression.
-use Rattle.std.proofs.Common.{◌≡◌, ℕ, zero, suc, ◌+◌, ◌*◌, ◌<◌, ◌≤◌, List, [], ◌∷◌, ◌++◌, length, get_or, map, drop, set, ◌-◌, ◌^◌, replicate, Some, None, Ok, Err, refl, sym, subst, ◌∙◌, ap, arith, inl, inr}
+use Rattle.std.proofs.Common.{◌≡◌, ℕ, ◌+◌, ◌*◌, ◌<◌, ◌≤◌, List, [], ◌∷◌, ◌++◌, length, get_or, map, drop, set, ◌-◌, ◌^◌, replicate, Some, None, Ok, Err, refl, sym, subst, ◌∙◌, ap, arith, inl, inr}
 use Rattle.std.specs.List.{AllByRecursion as Every, list_any}
 use Rattle.std.proofs.Math.Nat.{mul-le-mul_left}
 use Rattle.std.specs.Prelude.{not, ◌==◌, nat_eq, nat_lt, true, false}
@@ -10,7 +10,7 @@ use Rattle.std.proofs.lemmas.List.Folds.{list_any_none}
 use Rattle.eventkey.specs.Message.{Message}
 use Rattle.std.proofs.Math.Seq.{set-append_seam}
 use Rattle.std.proofs.lemmas.Bool.{both_ways, cases_Bool, cases_lt, eq-eqb, le-ltb, ltb-false, not_from_true}
-use Rattle.std.proofs.lemmas.List.{append-nil, append_assoc, get_or-map, length-append, length-map, length-replicate, map-append}
+use Rattle.std.proofs.lemmas.List.{append-nil, append_assoc, get_or-map, length-append, length-map, length-replicate, map-append, ext_get_or, nil_from_length, drop_all}
 use Rattle.eventkey.proofs.Lists.{Every-add_all, Every-get_or, Every-right, Every-weaker, drop_here}
 use Rattle.node.proofs.Seats.{own_strided}
 use Rattle.process.specs.View.{ProcessView, has_early, has_foreign, loaded}
@@ -36,14 +36,8 @@ module _ {X : Type 0} (P : X → Type 0) where
   pub every_fails : (xs : List X) (i : ℕ) (x : X) → i < length xs → x ≡ get_or xs i x → (P x → ⊥) → Every P xs → ⊥
   every_fails xs i x l is not_here all = not_here (subst P (sym is) (Every-get_or P xs i x l all))
 
-  drop_all : (xs : List X) (i : ℕ) → length xs ≤ i → drop i xs ≡ []
-  drop_all [] zero l = refl
-  drop_all [] (suc i) l = refl
-  drop_all (x ∷ xs) zero l = absurd (omega arith)
-  drop_all (x ∷ xs) (suc i) l = drop_all xs i (omega arith)
-
   pub every_ends : (xs : List X) (i : ℕ) → length xs ≤ i → (Every P (drop i xs) → Every P xs) → Every P xs
-  every_ends xs i l so_far = so_far (subst (Every P) (sym (drop_all xs i l)) tt)
+  every_ends xs i l so_far = so_far (subst (Every P) (sym (drop_all i xs l)) tt)
 
 -- 2. The parts are those of the node's processes
 
@@ -73,13 +67,6 @@ own_more node nodes lps xs i next here l h =
       ];
     }
 
-same_lists : (xs ys : List ℕ) → length xs ≡ length ys → ((k : ℕ) → k < length xs → get_or xs k 0 ≡ get_or ys k 0) → xs ≡ ys
-same_lists [] [] l h = refl
-same_lists [] (y ∷ ys) l h = absurd (omega arith)
-same_lists (x ∷ xs) [] l h = absurd (omega arith)
-same_lists (x ∷ xs) (y ∷ ys) l h =
-    ap (λ z. z ∷ xs) (h 0 (omega arith)) ∙ ap (λ zs. y ∷ zs) (same_lists xs ys (omega arith) (λ k j. h (suc k) (omega arith)))
-
 module _ (node nodes lps : ℕ) (some : node < nodes) (xs : List ℕ) where
   pub own_all : (i next : ℕ) → length xs ≡ i → lps ≤ next → IsOwnSoFar node nodes lps xs i next → xs ≡ own_lps nodes node lps
   own_all i next len far h =
@@ -94,7 +81,7 @@ module _ (node nodes lps : ℕ) (some : node < nodes) (xs : List ℕ) where
           | inr f ↦ omega arith
         ]
       ] in
-      same_lists xs (own_lps nodes node lps) same (λ k l. h.at k (omega arith) ∙ sym (own.at k (omega arith)))
+      ext_get_or 0 xs (own_lps nodes node lps) same (λ k l. h.at k (omega arith) ∙ sym (own.at k (omega arith)))
 
   pub own_far : (i next : ℕ) → length xs ≡ i → IsOwnSoFar node nodes lps xs i next → xs ≡ own_lps nodes node lps → lps ≤ next
   own_far i next len h e =
@@ -180,14 +167,10 @@ seats_more {end} {floor} {parts} {done} {rest} {seats} {standings} rest' p seat 
           ∙ ap (standings_of end) (sym (map-append (seat_of floor) done (p ∷ []))));
     }
 
-nothing_left : (rest : List Part) → length rest ≡ 0 → rest ≡ []
-nothing_left [] e = refl
-nothing_left (p ∷ ps) e = absurd (omega arith)
-
 pub all_seated : {end floor : ℕ} {parts done rest : List Part} {seats : List ProcessView} {standings : List Standing} → IsSeatedSoFar end floor parts done rest seats standings → length rest ≡ 0 →
     (seats ≡ map (seat_of floor) parts) × (standings ≡ standings_of end (map (seat_of floor) parts))
 all_seated {end} {floor} {parts} {done} {rest} {seats} {standings} h none =
-    let empty : rest ≡ [] = nothing_left rest none in
+    let empty : rest ≡ [] = nil_from_length rest none in
     let every : done ≡ parts = sym (append-nil done) ∙ ap (λ (r : List Part). done ++ r) (sym empty) ∙ h.all in (
       h.seats_are ∙ ap (map (seat_of floor)) every,
       h.standings_are

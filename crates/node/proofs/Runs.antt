@@ -8,7 +8,7 @@ use Rattle.eventkey.specs.Message.{IsAtMost, Message}
 use Rattle.eventkey.specs.declared.Signed.{Signed}
 use Rattle.model.specs.Meaning.{Meaning}
 use Rattle.process.specs.Process.{has_room}
-use Rattle.node.proofs.Deliveries.{working}
+use Rattle.node.proofs.Deliveries.{some-none, working}
 use Rattle.node.proofs.Lesser.{lesser_comm, lesser_first, lesser_none}
 use Rattle.process.specs.View.{ProcessView}
 use Rattle.queues.specs.Queue.{first_before}
@@ -139,9 +139,6 @@ module _ (m : Meaning) (p p' : Place) (seats : List ProcessView) (standings : Li
 
 -- 4. A first turn that has no room
 
-none-is_some : (w : Work) → Some w ≡ None → ⊥
-none-is_some w e = cc
-
 -- after so many turns the work is what it was at first, or the first turn had room
 pub record HasBegun (m : Meaning) (end nodes ran : ℕ) (first now : Work) : Type 0 where
   pub same : ran ≡ 0 → now ≡ first
@@ -162,14 +159,14 @@ module _ (m : Meaning) (p p' : Place) (seats : List ProcessView) (standings : Li
   pub not_idle : (least_among standings).next ≡ None → run_here m p'.end p'.nodes 1 first ≡ None → ⊥
   not_idle e none =
       let now = at_first none in
-      none-is_some (working (processes_of seats) out 0) (sym (run_stops m p p' seats standings same staffed 1 0 out None e now.1))
+      some-none (working (processes_of seats) out 0) (sym (run_stops m p p' seats standings same staffed 1 0 out None e now.1))
 
   -- its least message has no room then
   pub lacks_at_first : (x : Message) → (least_among standings).next ≡ Some x → run_here m p'.end p'.nodes 1 first ≡ None → has_room m x (here p.nodes (working (processes_of seats) out ran) x.to) ≡ false
   lacks_at_first x e none =
       let now = at_first none in
       elim (cases_Bool (has_room m x (here p.nodes (working (processes_of seats) out 0) x.to))) [
-        | inl room ↦ absurd (none-is_some (run_one_here m p.nodes x (working (processes_of seats) out 0))
+        | inl room ↦ absurd (some-none (run_one_here m p.nodes x (working (processes_of seats) out 0))
             (run_goes_on m p p' seats standings same staffed 1 0 out None x (run_one_here m p.nodes x (working (processes_of seats) out 0)) (omega arith) e room refl now.1))
         | inr room ↦ ap (λ n. has_room m x (here p.nodes (working (processes_of seats) out n) x.to)) now.0 ∙ room
       ]

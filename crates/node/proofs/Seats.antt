@@ -1,13 +1,12 @@
 -- The processes of a node stand at their places, and stay there when one of them changes.
 use Rattle.std.proofs.Common.{◌≡◌, ℕ, zero, suc, ◌+◌, ◌*◌, ◌/◌, ◌%◌, ◌<◌, ◌≤◌, List, [], ◌∷◌, ◌++◌, length, get_or, set, sym, subst, ◌∙◌, ap, arith, inl, inr}
-use Rattle.std.specs.List.{AllByRecursion as Every}
 use Rattle.std.proofs.Math.Nat.{mul-le-mul_right, mod-add-div', mod-eq_of_lt, add-mul-mod_self_right}
 use Rattle.std.proofs.Math.Seq.{get_or-append_seam, map-set_same}
 use Rattle.std.proofs.lemmas.Bool.{both_ways, cases_Bool, cases_eq, cases_lt, cond-true, cond-false, eqb-true, eq-eqb}
 use Rattle.std.proofs.lemmas.List.{map-set, get_or-map, get_or_append_left, length-map, length-append, append-nil}
 use Rattle.std.proofs.lemmas.List.Elements.{filter-append}
 use Rattle.std.proofs.lemmas.Nat.{div-mul-add}
-use Rattle.eventkey.proofs.Lists.{Every-get_or}
+use Rattle.eventkey.proofs.Lists.{Every-get_or, Every-set}
 use Rattle.model.specs.World.{below}
 use Rattle.process.specs.Process.{nobody}
 use Rattle.node.specs.Handling.{own_lps}
@@ -133,11 +132,6 @@ picked p seats standings lp q h e l read =
       lp_is = ap (λ (v : ProcessView). v.lp) read ∙ sym (get_or-map (λ (v : ProcessView). v.lp) seats (lp / p.nodes) q 0 inside) ∙ ap (λ xs. get_or xs (lp / p.nodes) 0) h.lps ∙ o.1;
       here = get_or-map (λ (v : ProcessView). v.process) seats (lp / p.nodes) q nobody inside ∙ ap (λ (v : ProcessView). v.process) (sym read);
     }
-
-Every-set : {X : Type 0} (P : X → Type 0) (xs : List X) (i : ℕ) (x : X) → P x → Every P xs → Every P (set xs i x)
-Every-set P [] i x p h = tt
-Every-set P (y ∷ ys) zero x p h = (p, h.1)
-Every-set P (y ∷ ys) (suc i) x p h = (h.0, Every-set P ys i x p h.1)
 
 -- one process has changed, and what stands of it is known
 pub staffed_again : (p : Place) (seats : List ProcessView) (standings : List Standing) (i : ℕ) (q r : ProcessView) (standing : Standing) → IsStaffed p seats standings → q ≡ get_or seats i q →

@@ -2,14 +2,14 @@
 -- what it was handed, and each message is accounted for.
 use Rattle.std.proofs.Common.{ℕ, ◌<◌, ◌≤◌, ◌≡◌, ◌+◌, ◌*◌, ◌/◌, ◌%◌, ◌^◌, ◌++◌, ◌∙◌, List, [], ◌∷◌, flat_map, length, refl, ap, inl, inr, arith, ◌⊎◌, Option, Some, None, zero, suc, subst, get_or, true, cond, map, sym, set, length-set, get_or-set_same, get_or-set_other}
 use Rattle.std.proofs.lemmas.Bool.{cond_both, cases_eq, ltb-true, leb-true}
-use Rattle.std.proofs.lemmas.List.{length-map, map-append}
+use Rattle.std.proofs.lemmas.List.{length-map, map-append, get_or-map}
 use Rattle.std.proofs.lemmas.List.Concat.{flat_map-append}
 use Rattle.std.proofs.lemmas.Nat.{div-add-mod'}
 use Rattle.std.proofs.lemmas.Option.{none-some, same_Some}
 use Rattle.std.specs.List.{AllByRecursion as Every}
 use Rattle.std.specs.Prelude.{nat_lt}
 use Rattle.eventkey.proofs.Bags.{copies-flat_map-set, one_if_same_cases, time_from_at_most}
-use Rattle.eventkey.proofs.Lists.{Every-append, Every-both, Every-get_or, Every-left, Every-map, Every-remove_one, Every-right, Every-set, Every-weaker, IsAscending-right, copies-append_signed, copies-cons, get_or-map, minus_of_plus, plus_of_plus}
+use Rattle.eventkey.proofs.Lists.{Every-append, Every-both, Every-get_or, Every-left, Every-map, Every-remove_one, Every-right, Every-set, Every-weaker, IsAscending-right, copies-append_signed, copies-cons, minus_of_plus, plus_of_plus}
 use Rattle.eventkey.proofs.Times.{IsFrom}
 use Rattle.eventkey.specs.Bag.{IsAscending, copies, one_if_same}
 use Rattle.eventkey.specs.Message.{IsRanged, Message, is_before}

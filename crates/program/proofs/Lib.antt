@@ -1,3 +1,2 @@
-mod Ports
 mod Printed
 mod Runs

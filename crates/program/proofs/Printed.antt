@@ -1,8 +1,8 @@
 -- What the commands print, in one form.
 use Rattle.std.specs.Io.KnownBytes.{Appends}
-use Rattle.std.specs.Prelude.{◌≡◌, ◌⊎◌, ◌≢◌, ℕ, List, Option, Result, Ok, Err, OnOk, OnErr, length}
+use Rattle.std.specs.Prelude.{◌≡◌, ◌⊎◌, ◌≢◌, ◌≤◌, ℕ, List, Option, Result, Ok, Err, OnOk, OnErr, length}
 use Rattle.std.proofs.Common.{refl, inl, inr}
-use Rattle.commands.specs.Commands.{BeginsCommitted, PrintsCommitted, TellsExtended, TellsRun, TellsRunOver, extended_text, ran_text}
+use Rattle.commands.specs.Commands.{BeginsCommitted, PrintsCommitted, StandsUpto, TellsExtended, TellsRun, TellsRunOver, extended_text, ran_text}
 use Rattle.commands.specs.Migrating.{TellsMigrated, migrated_text}
 use Rattle.commands.specs.declared.fault.CommandFault.{CommandFault}
 use Rattle.commands.specs.declared.fault.CommandFault.TheVariants as on_disk
@@ -10,10 +10,12 @@ use Rattle.commitlog.specs.Records.{Holds}
 use Rattle.commitlog.specs.declared.records.Entry.{Entry}
 use Rattle.disk.specs.Disk.{DiskState}
 use Rattle.driver.specs.declared.rounds.Plan.{Plan}
-use Rattle.eventkey.specs.Writing.{TakesBeginning}
+use Rattle.eventkey.specs.Writing.{TakesBeginning, Writes}
 use Rattle.migration.specs.Old.{IsOldLog}
 use Rattle.model.specs.World.{World}
 use Rattle.model.specs.Meaning.{Meaning}
+use Rattle.recovery.specs.Replay.{IsReplayedTo}
+use Rattle.recovery.specs.Stands.{IsGenuine}
 use Rattle.texts.specs.ModelFile.{IsModelFile}
 use Rattle.wire.specs.Port.{PortState}
 use Rattle.program.specs.Command.{Begins, Describes, IsCarriedOn, IsCommitted, IsRan, IsRanBehind, IsWhole, IsWrittenAnew, Prints, PrintsBeginning, PrintsRun, run_text}
@@ -60,6 +62,8 @@ module _ {T A B : Type 0} where
   on_fault (Err (fault.Wire f)) h k = inl (k (fault.Wire f) refl (λ e. cc))
   on_fault (Err fault.Rounds) h k = inl (k fault.Rounds refl (λ e. cc))
   on_fault (Err (fault.Migrate f)) h k = inl (k (fault.Migrate f) refl (λ e. cc))
+  on_fault (Err (fault.Grow f)) h k = inl (k (fault.Grow f) refl (λ e. cc))
+  on_fault (Err (fault.Record n f)) h k = inl (k (fault.Record n f) refl (λ e. cc))
   on_fault (Err (fault.Mistake f)) h k = inl (k (fault.Mistake f) refl (λ e. cc))
   on_fault (Err fault.NoMemory) h k = inl (k fault.NoMemory refl (λ e. cc))
 
@@ -145,6 +149,33 @@ module _ {M : Type 0} (meaning : M → Meaning) (says : Describes M) (source : L
 
     pub anew_begun : (old new : Option (List ℕ)) → TellsMigrated (meaning model) header olds left (TakesBeginning old new) → Begins (IsWrittenAnew meaning says) old new
     anew_begun old new p = anew_taken p
+
+-- what is written of a text of this kind
+module _ (P : List ℕ → Type 0) (text : List ℕ) (is : P text) {T E : Type 0} {old new : Option (List ℕ)} where
+  pub prints_written : (r : Result T E) → Writes old new r text → OnOk r (Prints P old new)
+  prints_written (Ok x) h = (text, is, h.all)
+  prints_written (Err e) h = tt
+
+  pub begins_written : (A : Type 0) → (r : Result T E) → Writes old new r text → OnErr r (A ⊎ Begins P old new)
+  begins_written A (Ok x) h = tt
+  begins_written A (Err e) h = inr (text, is, h.part)
+
+-- what is written of a world to which an image is replayed
+module _ {M : Type 0} (meaning : M → Meaning) (says : Describes M) (source : List ℕ) (model : M) (end : ℕ) (file : IsModelFile says source model end) (image : List (List ℕ)) (shown : World → List ℕ) (w : World)
+    (replayed : IsReplayedTo (meaning model) end image w) (genuine : IsGenuine (meaning model) end image → StandsUpto (meaning model) end image w) (within : w.time ≤ end) where
+  pub committed_is : IsCommitted meaning says shown (shown w)
+  committed_is = record {
+    source = source;
+    model = model;
+    end = end;
+    image = image;
+    world = w;
+    file = file;
+    replayed = replayed;
+    genuine = genuine;
+    within = within;
+    is = refl;
+  }
 
 module _ {M : Type 0} (meaning : M → Meaning) (says : Describes M) {old new : Option (List ℕ)} where
   module _ (source : List ℕ) (model : M) (end : ℕ) (file : IsModelFile says source model end) where

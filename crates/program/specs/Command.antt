@@ -1,6 +1,7 @@
 -- What the program prints (this project's profile).
 use Rattle.std.specs.Io.KnownBytes.{Appends}
-use Rattle.std.specs.Prelude.{◌≡◌, ◌≤◌, ℕ, List, [], ◌++◌, None, Option, Some, codes, length}
+use Rattle.std.specs.Prelude.{◌≡◌, ◌≤◌, ◌^◌, ◌+◌, ◌-◌, ◌&&◌, ℕ, Bool, true, false, List, [], ◌++◌, None, Option, Some, codes, decimal, filter, if◌then◌else◌}
+use Rattle.std.specs.Prelude.{is_none, length, min, unwrap_or}
 use Rattle.commands.specs.Commands.{StandsUpto, extended_text, formatted_text, ran_text}
 use Rattle.commands.specs.Migrating.{migrated_text}
 use Rattle.commands.specs.declared.fault.CommandFault.{CommandFault}
@@ -10,17 +11,39 @@ use Rattle.commitlog.specs.declared.records.Entry.{Entry}
 use Rattle.disk.specs.declared.file.FileFault.{FileFault}
 use Rattle.disk.specs.declared.file.FileFault.TheVariants as opening
 use Rattle.driver.specs.Driver.{IsRunOf}
+use Rattle.driver.specs.declared.rounds.Batch.{Batch as DriverBatch}
+use Rattle.driver.specs.declared.rounds.Batch.TheVariants as driver
+use Rattle.driver.specs.declared.rounds.Plan.{Plan}
 use Rattle.recovery.specs.Ends.{IsLater}
 use Rattle.recovery.specs.Replay.{IsReplayedTo}
 use Rattle.recovery.specs.Stands.{IsGenuine}
 use Rattle.lines.specs.Line.{Says}
+use Rattle.lines.specs.declared.line.Batch.{Batch}
+use Rattle.lines.specs.declared.line.Batch.TheVariants.{Auto, Fixed}
 use Rattle.lines.specs.declared.line.Line.{Line}
 use Rattle.lines.specs.declared.line.Line.TheVariants.{Check, Extend, Log, Migrate, New, Node, Run}
-use Rattle.lines.specs.declared.line.Line.TheVariants.{Seq, Show}
+use Rattle.lines.specs.declared.line.Line.TheVariants.{Draw, Grow, Seq, Show, Stats, Status}
+use Rattle.eventkey.specs.Message.{Message}
+use Rattle.growing.specs.declared.GrowingFault.{GrowingFault}
+use Rattle.growing.specs.declared.GrowingFault.TheVariants as growing
+use Rattle.inspection.specs.Inspected.{IsInspected}
+use Rattle.inspection.specs.Text.{inspection_text}
+use Rattle.inspection.specs.declared.fault.InspectionFault.{InspectionFault}
+use Rattle.inspection.specs.declared.fault.InspectionFault.TheVariants as inspecting
+use Rattle.inspection.specs.declared.inspecting.Inspection.{Inspection}
 use Rattle.migration.specs.Migrated.{IsMigrated}
 use Rattle.migration.specs.Old.{IsOldLog}
 use Rattle.model.specs.Meaning.{Meaning}
 use Rattle.model.specs.World.{IsUpto, World}
+use Rattle.pictures.specs.Chosen.{is_chosen}
+use Rattle.pictures.specs.Drawing.{drawing_text}
+use Rattle.pictures.specs.Figures.{AreFigures}
+use Rattle.pictures.specs.Load.{load_text}
+use Rattle.pictures.specs.Run.{IsRunOf as IsRunUpto, Run as PastRun}
+use Rattle.pictures.specs.Tables.{csv_text, stats_text}
+use Rattle.pictures.specs.declared.chosen.Choice.{Choice}
+use Rattle.pictures.specs.declared.counted.Figures.{Figures}
+use Rattle.pictures.specs.declared.drawn.View.{View}
 use Rattle.toml.specs.Data.{Members}
 use Rattle.texts.specs.ModelFile.{IsModelFile}
 use Rattle.texts.specs.Text.{log_text, world_text}
@@ -57,6 +80,17 @@ of_command (on_disk.Session f) = fault.Session f
 of_command on_disk.Rounds = fault.Rounds
 of_command (on_disk.Migrate f) = fault.Migrate f
 of_command on_disk.Output = fault.Output
+
+-- for a refusal to tell of a disk's run
+abbrev pub of_inspection : InspectionFault → Fault
+of_inspection (inspecting.Log f) = fault.Log f
+of_inspection (inspecting.Recovery f) = fault.Recovery f
+of_inspection (inspecting.Record number f) = fault.Record number f
+
+-- for a refusal to make a disk longer
+abbrev pub of_growing : GrowingFault → Fault
+of_growing (growing.Recovery f) = fault.Recovery f
+of_growing (growing.Growth f) = fault.Grow f
 
 -- for a refusal of a disk's file
 abbrev pub of_file : FileFault → Fault
@@ -122,6 +156,15 @@ pub record IsCarriedOn {M : Type 0} (meaning : M → Meaning) (says : Describes 
   pub replayed : IsReplayedTo (meaning model) before image front
   pub is : text ≡ extended_text before end
 
+-- how many sectors a disk had, and how many it has now
+abbrev pub grown_text : ℕ → ℕ → List ℕ
+grown_text before sectors =
+    (codes "grown " ++ decimal before) ++ (codes " to " ++ decimal sectors) ++ codes " sectors\n"
+
+-- that the disk has this number of sectors now, no fewer than before
+abbrev pub IsGrown : ℕ → List ℕ → Type 0
+IsGrown sectors text = (before : ℕ) × (before ≤ sectors) × (text ≡ grown_text before sectors)
+
 -- The time of a world, and how many events its log has. The image of an old disk holds a log of format 1 of
 -- the model, on which the model file's end is in force, and its records, widened, stand for that world
 -- under the header of the model with the end that the old header names.
@@ -171,8 +214,85 @@ pub record IsCommitted {M : Type 0} (meaning : M → Meaning) (says : Describes 
   pub within : world.time ≤ end
   pub is : text ≡ shown world
 
-abbrev pub IsLogged : {M : Type 0} → (M → Meaning) → Describes M → List ℕ → Type 0
-IsLogged meaning says = IsCommitted meaning says (λ w. log_text w.log)
+-- which events are asked for, from a time on, before a time, and of a process
+abbrev pub choice_of : Option ℕ → Option ℕ → Option ℕ → Choice
+choice_of from to process =
+    record { from = unwrap_or from 0; to = unwrap_or to (2 ^ 64 - 1); process = process }
+
+-- these events of a log; all of them where nothing is said
+abbrev pub log_part : Option ℕ → Option ℕ → Option ℕ → List Message → List Message
+log_part from to process log = if is_none from && (is_none to && is_none process) then log
+    else filter (is_chosen (choice_of from to process)) log
+
+abbrev pub IsLogged : {M : Type 0} → (M → Meaning) → Describes M → Option ℕ → Option ℕ → Option ℕ
+    → List ℕ → Type 0
+IsLogged meaning says from to process =
+    IsCommitted meaning says (λ w. log_text (log_part from to process w.log))
+
+-- what a disk tells of the run on it
+pub record IsStatus {M : Type 0} (meaning : M → Meaning) (says : Describes M)
+    (text : List ℕ) : Type 0 where
+  pub source : List ℕ
+  pub model : M
+  pub end : ℕ
+  pub image : List (List ℕ)
+  pub told : Inspection
+  pub file : IsModelFile says source model end
+  pub inspected : IsInspected (meaning model) end image told
+  pub is : text ≡ inspection_text told
+
+-- up to which time a run is looked at: its end, or that of a world to which the image of a disk is
+-- replayed
+abbrev pub IsLookedTo : Meaning → ℕ → {S : Type 0} → Option S → ℕ → Type 0
+IsLookedTo m end None to = to ≡ end
+IsLookedTo m end (Some disk) to =
+    (image : List (List ℕ)) × (world : World) × IsReplayedTo m end image world × (to ≡ world.time)
+
+-- the sequential simulation of the model of a file, up to that time
+pub record IsTraced {M S : Type 0} (meaning : M → Meaning) (says : Describes M)
+    (disk : Option S) (run : PastRun) : Type 0 where
+  pub source : List ℕ
+  pub model : M
+  pub end : ℕ
+  pub to : ℕ
+  pub file : IsModelFile says source model end
+  pub looked : IsLookedTo (meaning model) end disk to
+  pub run_is : IsRunUpto (meaning model) end to run
+
+-- figures as comma-separated values, or as a table
+abbrev pub figures_text : Bool → Figures → List ℕ
+figures_text true figures = csv_text figures
+figures_text false figures = stats_text figures
+
+-- the figures of a run
+pub record IsStats {M S : Type 0} (meaning : M → Meaning) (says : Describes M) (disk : Option S)
+    (csv : Bool) (text : List ℕ) : Type 0 where
+  pub run : PastRun
+  pub figures : Figures
+  pub traced : IsTraced meaning says disk run
+  pub figures_are : AreFigures run figures
+  pub is : text ≡ figures_text csv figures
+
+-- what is asked for of a run; all of it where nothing is said, with the tick up to which it went
+abbrev pub view_of : PastRun → Option ℕ → Option ℕ → Option (ℕ × ℕ) → View
+view_of run from to processes = record {
+  from = unwrap_or from 0;
+  to = unwrap_or to (min (run.time + 1) (2 ^ 64 - 1));
+  first = (unwrap_or processes (0, 2 ^ 32 - 1)).0;
+  last = (unwrap_or processes (0, 2 ^ 32 - 1)).1;
+}
+
+-- its load by slices of time, or its space-time diagram
+abbrev pub picture_text : Bool → PastRun → View → List ℕ
+picture_text true run view = load_text run view
+picture_text false run view = drawing_text run view
+
+-- the picture of a run
+pub record IsDrawn {M S : Type 0} (meaning : M → Meaning) (says : Describes M) (disk : Option S)
+    (load : Bool) (from to : Option ℕ) (processes : Option (ℕ × ℕ)) (text : List ℕ) : Type 0 where
+  pub run : PastRun
+  pub traced : IsTraced meaning says disk run
+  pub is : text ≡ picture_text load run (view_of run from to processes)
 
 abbrev pub IsShown : {M : Type 0} → (M → Meaning) → Describes M → List ℕ → Type 0
 IsShown meaning says = IsCommitted meaning says world_text
@@ -201,6 +321,23 @@ IsChecked {M} says shows source text = (model : M) × (end : ℕ) × IsModelFile
 abbrev pub IsSomeChecked : {M : Type 0} → Describes M → Shows M → List ℕ → Type 0
 IsSomeChecked says shows text = (source : List ℕ) × IsChecked says shows source text
 
+-- how many messages a node may handle at a turn
+abbrev pub driven_by : Batch → DriverBatch
+driven_by (Fixed messages) = driver.Fixed messages
+driven_by Auto = driver.Adjusting
+
+-- How a run is driven, by the values of its line. A commit has room for 299,593 events, and those of
+-- a whole round come into it at once, so one is due at 250,000 at the latest.
+abbrev pub plan_of : ℕ → Batch → ℕ → Option ℕ → Option ℕ → Bool → Plan
+plan_of nodes batch rounds checkpoint commit_every together = record {
+  nodes = nodes;
+  batch = driven_by batch;
+  rounds = rounds;
+  together = together;
+  checkpoint_every = unwrap_or checkpoint 0;
+  commit_every = min (unwrap_or commit_every 0) 250000;
+}
+
 -- what a run prints, over nodes in this program, or behind sockets in a folder
 abbrev pub IsRanOver : {M : Type 0} → (M → Meaning) → Describes M → {S : Type 0} → Option S → ℕ → List ℕ → Type 0
 IsRanOver meaning says None nodes text = IsRan meaning says nodes text
@@ -209,12 +346,18 @@ IsRanOver meaning says (Some folder) nodes text = IsRanBehind says nodes text
 -- a text that the command of a line prints
 abbrev pub IsOutput : {M : Type 0} → (M → Meaning) → Describes M → Shows M → Line → List ℕ → Type 0
 IsOutput meaning says shows (New model disk sectors) text = IsFormatted sectors text
-IsOutput meaning says shows (Run model disk nodes batch rounds checkpoint sockets cut together attach) text =
+IsOutput meaning says shows (Run model disk nodes batch rounds checkpoint commit_every sockets cut together attach trace) text =
     IsRanOver meaning says sockets nodes text
 IsOutput meaning says shows (Extend model disk) text = IsCarriedOn meaning says text
+IsOutput meaning says shows (Grow model disk sectors) text = IsGrown sectors text
 IsOutput meaning says shows (Migrate model old new sectors) text = IsWrittenAnew meaning says text
-IsOutput meaning says shows (Log model disk) text = IsLogged meaning says text
+IsOutput meaning says shows (Status model disk) text = IsStatus meaning says text
+IsOutput meaning says shows (Log model disk from to process) text =
+    IsLogged meaning says from to process text
 IsOutput meaning says shows (Show model disk) text = IsShown meaning says text
+IsOutput meaning says shows (Stats model disk csv) text = IsStats meaning says disk csv text
+IsOutput meaning says shows (Draw model disk from to processes load) text =
+    IsDrawn meaning says disk load from to processes text
 IsOutput meaning says shows (Seq model) text = IsWhole meaning says text
 IsOutput meaning says shows (Check model) text = IsSomeChecked says shows text
 IsOutput meaning says shows (Node model socket parcels) text = text ≡ []

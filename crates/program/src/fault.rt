@@ -1,14 +1,16 @@
 // Why a command failed.
 
 ghost use Rattle.std.specs.Prelude.{◌≡◌};
-ghost use Rattle.program.specs.Command.{of_command, of_file, of_model};
+ghost use Rattle.program.specs.Command.{of_command, of_file, of_growing, of_inspection, of_model};
 ghost use Rattle.program.specs.declared.fault.Fault.TheVariants.{NoMemory, Output};
 ghost use Rattle.program.specs.declared.fault.Fault.TheVariants.{Wire as WireCase, World as WorldCase};
 
 use commands::CommandFault;
 use commitlog::LogFault;
 use coordinator::SessionFault;
-use disk::FileFault;
+use disk::{FileFault, GrowthFault};
+use growing::GrowingFault;
+use inspection::InspectionFault;
 use migration::MigrateFault;
 use model::WorldFault;
 use recovery::RecoveryFault;
@@ -49,6 +51,17 @@ pub enum Fault {
     /// A disk of format 1 is not migrated, or not all of it.
     #[error("Migrate {0}")]
     Migrate(MigrateFault),
+    /// A disk is not made longer.
+    #[error("Grow {0}")]
+    Grow(GrowthFault),
+    /// What `status` finds to be wrong with a record of a disk.
+    #[error("Record {number} {fault}")]
+    Record {
+        /// How many records stand before it.
+        number: u64,
+        /// What is wrong with it.
+        fault: RecoveryFault,
+    },
     /// What `check` finds to be wrong with a file that is no model file.
     #[error("{0}")]
     Mistake(Mistake),
@@ -90,9 +103,10 @@ impl Fault {
                 Some("the model file has to have a later end than the one in force on the disk")
             }
             Fault::Session(SessionFault::Full) => Some(
-                "the disk has no room for the next commit: what is committed stays; a larger \
-                 --batch takes fewer commits, and `new` makes a larger disk (--sectors)",
+                "the disk has no room for the next commit: what is committed stays; `grow` makes \
+                 the disk longer, and --commit-every takes fewer commits",
             ),
+            Fault::Grow(GrowthFault::Fewer) => Some("the disk has more sectors than asked for"),
             Fault::Rounds => Some("what is committed stays: run it again, with more --rounds"),
             _ => None,
         }
@@ -147,6 +161,29 @@ impl From<CommandFault> for Fault {
             CommandFault::Rounds => Fault::Rounds,
             CommandFault::Migrate(fault) => Fault::Migrate(fault),
             CommandFault::Output => Fault::Output,
+        }
+    }
+}
+
+impl From<InspectionFault> for Fault {
+    ghost from_gives = { λ fault e. e ≡ of_inspection fault };
+
+    fn from(fault: InspectionFault) -> Fault {
+        match fault {
+            InspectionFault::Log(fault) => Fault::Log(fault),
+            InspectionFault::Recovery(fault) => Fault::Recovery(fault),
+            InspectionFault::Record { number, fault } => Fault::Record { number, fault },
+        }
+    }
+}
+
+impl From<GrowingFault> for Fault {
+    ghost from_gives = { λ fault e. e ≡ of_growing fault };
+
+    fn from(fault: GrowingFault) -> Fault {
+        match fault {
+            GrowingFault::Recovery(fault) => Fault::Recovery(fault),
+            GrowingFault::Growth(fault) => Fault::Grow(fault),
         }
     }
 }

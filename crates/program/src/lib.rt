@@ -5,13 +5,17 @@
 mod disks;
 mod fault;
 mod files;
+mod looking;
 mod nodes;
 mod progress;
+mod running;
 mod starting;
 mod status;
+mod tracing;
 
 pub use fault::Fault;
 pub use files::{check, seq, simulated};
 pub use progress::{Progress, TerminalProgress};
 pub use starting::start;
 pub use status::{About, answer, command, refuse_words, tell, words};
+pub use tracing::{Traced, write_turn};

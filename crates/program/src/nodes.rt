@@ -119,7 +119,9 @@ where
 {
     progress.begin(of.end);
     let ended = commands::run_over(alloc, of, ports, disk, plan, progress, out);
-    Ok(ended.told?)
+    ended.told?;
+    progress.finished();
+    Ok(())
 }
 
 /// A port to each of so many node programs: all sockets are made, all programs started or waited

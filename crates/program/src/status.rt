@@ -3,17 +3,17 @@
 ghost use Rattle.std.specs.IoError.{error_kind};
 ghost use Rattle.std.specs.Prelude.{◌≡◌, ◌≤◌, ◌≢◌, ◌⊎◌, ℕ, List, [], map, IsErr, OnErr, OnOk};
 ghost use Rattle.clap.specs.Values.{kind_of};
-ghost use Rattle.clap.specs.Words.{fault_of};
-ghost use Rattle.lines.specs.Line.{program, IsRanged};
+ghost use Rattle.lines.specs.Line.{refusal_of, IsRanged};
 ghost use Rattle.program.specs.Command.{Begins, BeginsSaid, IsOutput, Prints, PrintsSaid};
 
-use crate::disks::{extend_on, format, log_of, migrate_on, run_on, show_of};
+use crate::disks::{extend_on, format, grow_on, migrate_on, show_of};
 use crate::fault::Fault;
 use crate::files::{check_of, seq_of};
-use crate::nodes::{Behind, run_behind, serve_on};
+use crate::looking::{Part, Seen, draw_of, log_of, stats_of, status_of};
+use crate::nodes::serve_on;
 use crate::progress::Progress;
+use crate::running::{Way, plan_of, run_traced, run_way};
 use clap::error::{Error as LineError, ErrorKind as LineFault};
-use driver::Plan;
 use lines::{Line, Texts, program_help, read_line, seq_help};
 use std::convert::AsStr;
 use std::env;
@@ -24,6 +24,9 @@ use std::process::Processes;
 use std::rt::{Env, Files};
 use std::time::Clock;
 use texts::{Described, Mistakes};
+
+/// The version of this program and of those over other models, and the format of their disks.
+const VERSION: &str = "0.4.0 (disks of format 2)";
 
 /// What tells one program from another that simulates models of another kind.
 #[derive(Clone, Copy)]
@@ -73,10 +76,10 @@ where
     ensures printed { result ≡ 0 →
         PrintsSaid about.entry.name.now (IsOutput M.meaning M.says M.shows)
         (map S.text words.now) (O.contents out.old) (O.contents out.new) }
-    ensures usage { fault_of (program about.entry.name.now) (map S.text words.now) ≢ [] →
+    ensures usage { refusal_of about.entry.name.now (map S.text words.now) ≢ [] →
         result ≢ 0 }
     ensures line { result ≡ 2 →
-        fault_of (program about.entry.name.now) (map S.text words.now) ≢ [] }
+        refusal_of about.entry.name.now (map S.text words.now) ≢ [] }
     ensures failed { result ≡ 1 → (out.new ≡ out.old)
         ⊎ BeginsSaid about.entry.name.now (IsOutput M.meaning M.says M.shows)
         (map S.text words.now) (O.contents out.old) (O.contents out.new) }
@@ -91,6 +94,7 @@ where
     };
     let texts = Texts {
         name: about.name,
+        version: VERSION,
         help: help.as_str(),
         seq_help: seq_help.as_str(),
     };
@@ -179,41 +183,69 @@ where
             batch,
             rounds,
             checkpoint,
+            commit_every,
             sockets,
             cut,
             together,
             attach,
+            trace,
         } => {
-            let plan = Plan {
-                nodes,
-                batch,
-                rounds,
-                together,
-                checkpoint_every: checkpoint.unwrap_or(0),
+            let plan = plan_of(nodes, batch, rounds, checkpoint, commit_every, together);
+            let way = Way {
+                program,
+                model,
+                disk,
+                plan,
+                sockets,
+                cut,
+                attach,
             };
-            match sockets {
-                None => run_on::<M, R, P, O>(rt, model, disk, plan, progress, out),
-                Some(folder) => {
-                    let behind = Behind {
-                        program,
-                        model,
-                        folder,
-                        cut,
-                        attach,
-                    };
-                    run_behind::<M, R, P, O>(rt, behind, disk, plan, progress, out)
-                }
+            match trace {
+                None => run_way::<M, R, P, O>(rt, way, progress, out),
+                Some(trace) => run_traced::<M, R, P, O>(rt, way, trace, progress, out),
             }
         }
         Line::Extend { model, disk } => extend_on::<M, R, O>(rt, model, disk, out),
+        Line::Grow {
+            model,
+            disk,
+            sectors,
+        } => grow_on::<M, R, O>(rt, model, disk, sectors, out),
         Line::Migrate {
             model,
             old,
             new,
             sectors,
         } => migrate_on::<M, R, O>(rt, model, old, new, sectors, out),
-        Line::Log { model, disk } => log_of::<M, R, O>(rt, model, disk, out),
+        Line::Status { model, disk } => status_of::<M, R, O>(rt, model, disk, out),
+        Line::Log {
+            model,
+            disk,
+            from,
+            to,
+            process,
+        } => {
+            let part = Part { from, to, process };
+            log_of::<M, R, O>(rt, model, disk, part, out)
+        }
         Line::Show { model, disk } => show_of::<M, R, O>(rt, model, disk, out),
+        Line::Stats { model, disk, csv } => stats_of::<M, R, O>(rt, model, disk, csv, out),
+        Line::Draw {
+            model,
+            disk,
+            from,
+            to,
+            processes,
+            load,
+        } => {
+            let seen = Seen {
+                from,
+                to,
+                processes,
+                load,
+            };
+            draw_of::<M, R, O>(rt, model, disk, seen, out)
+        }
         Line::Seq { model } => seq_of::<M, R, O>(rt, model, out),
         Line::Check { model } => check_of::<M, R, O>(rt, model, out, found),
         Line::Node {

@@ -174,7 +174,7 @@ commit_is_by_told m end c p may =
 
 -- 4. The move of a sound picture
 
-least_floor-le : (t : ℕ) (fs : List ℕ) → least_floor t fs ≤ t
+pub least_floor-le : (t : ℕ) (fs : List ℕ) → least_floor t fs ≤ t
 least_floor-le t [] = omega arith
 least_floor-le t (f ∷ fs) = omega (arith, least_floor-le (min t f) fs)
 

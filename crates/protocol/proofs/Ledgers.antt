@@ -1,10 +1,10 @@
 -- The ledger's floor is global virtual time, and the ledger goes with the picture.
 use Rattle.std.proofs.Common.{ℕ, ◌≤◌, ◌<◌, ◌++◌, Option, Some, None, List, [], ◌∷◌, arith, min, refl, sym, ap, set, ◌≡◌, map, flat_map, ◌∙◌}
 use Rattle.std.proofs.lemmas.Bool.{cond_both}
-use Rattle.std.proofs.lemmas.List.{ext_get_or, length-map, map-set}
+use Rattle.std.proofs.lemmas.List.{ext_get_or, length-map, map-set, get_or-map}
 use Rattle.std.specs.List.{AllByRecursion as Every}
 use Rattle.std.specs.Prelude.{if◌then◌else◌, nat_lt, not, ◌&&◌}
-use Rattle.eventkey.proofs.Lists.{get_or-map, Every-flat_map, Every-map, Every-unflat_map, Every-unmap, Every-weaker}
+use Rattle.eventkey.proofs.Lists.{Every-flat_map, Every-map, Every-unflat_map, Every-unmap, Every-weaker}
 use Rattle.eventkey.proofs.Times.{IsFrom, least_time-above, least_time-each, least_time-le}
 use Rattle.eventkey.specs.Bag.{least_time}
 use Rattle.eventkey.specs.Message.{Message}
@@ -28,7 +28,7 @@ abbrev IsLow : ℕ → Option ℕ → Type 0
 IsLow g None = Unit {0}
 IsLow g (Some low) = g ≤ low
 
-least_low-le : (t : ℕ) (lows : List (Option ℕ)) → least_low t lows ≤ t
+pub least_low-le : (t : ℕ) (lows : List (Option ℕ)) → least_low t lows ≤ t
 least_low-le t [] = omega arith
 least_low-le t (None ∷ lows) = least_low-le t lows
 least_low-le t (Some low ∷ lows) = omega (arith, least_low-le (min t low) lows)

@@ -1,9 +1,9 @@
 -- The picture with which a session begins is sound, and its nodes are what they are loaded with.
 use Rattle.std.proofs.Common.{◌^◌, ◌≡◌, ℕ, zero, suc, ◌<◌, ◌/◌, ◌%◌, ◌≤◌, [], ◌∷◌, ◌++◌, false, sym, ◌∙◌, subst, arith, get_or, flat_map, replicate, refl, Ok, Some, None, List, map, filter, ◌==◌, ap, length, mod-lt, eq-eqb}
-use Rattle.std.proofs.lemmas.List.{append-nil, length-replicate, get_or-replicate, length-map}
+use Rattle.std.proofs.lemmas.List.{append-nil, length-replicate, get_or-replicate, length-map, get_or-map}
 use Rattle.std.proofs.lemmas.Option.{none-some}
 use Rattle.std.specs.List.{AllByRecursion as Every}
-use Rattle.eventkey.proofs.Lists.{Every-all, Every-append, Every-filter, Every-get_or-default, Every-map, Every-passes, Every-replicate, Every-weaker, IsAscending-filter, copies-filter, get_or-map}
+use Rattle.eventkey.proofs.Lists.{Every-all, Every-append, Every-filter, Every-get_or-default, Every-map, Every-passes, Every-replicate, Every-weaker, IsAscending-filter, copies-filter}
 use Rattle.eventkey.proofs.Times.{IsFrom}
 use Rattle.eventkey.specs.Bag.{add_all, copies}
 use Rattle.eventkey.specs.Message.{IsAtMost, IsRanged, Message}

@@ -3,6 +3,7 @@ use Rattle.std.specs.Prelude.{is_some, not, ◌&&◌}
 use Rattle.std.proofs.Common.{◌≡◌, ℕ, zero, suc, ◌≤◌, ◌<◌, ◌%◌, Bool, true, false, cond, List, [], ◌∷◌, get_or, length, Option, None, Some, option_map, nat_lt, inl, inr, refl, arith, eq-eqb}
 use Rattle.std.specs.List.{AllByRecursion as Every}
 use Rattle.std.proofs.lemmas.Bool.{cases_lt, lt-ltb, le-ltb}
+use Rattle.std.proofs.lemmas.List.{get_or_past}
 use Rattle.eventkey.specs.declared.Signed.{Signed}
 use Rattle.eventkey.proofs.Lists.{Every-both}
 use Rattle.model.specs.Meaning.{Meaning}
@@ -28,11 +29,6 @@ post_tested true false false distinct x = refl
 post_tested true false true false x = refl
 post_tested true false true true x = refl
 
-past_end : {X : Type 0} (xs : List X) (i : ℕ) (d : X) → length xs ≤ i → get_or xs i d ≡ d
-past_end [] i d l = refl
-past_end (x ∷ xs) zero d l = absurd (omega arith)
-past_end (x ∷ xs) (suc i) d l = past_end xs i d (omega arith)
-
 take_tested : (m : Meaning) (end node : ℕ) (p : Picture) (o : Option Parcel) → is_some (take_from m end node p o) ≡ not (is_some (take_refusal m end node p o))
 take_tested m end node p None = refl
 take_tested m end node p (Some parcel) = go (work_here m end (nodes_of p) parcel (node_of p node))
@@ -46,7 +42,7 @@ made_or_refused m end (Post node picks budget) p h = post_tested (nat_lt node (n
 made_or_refused m end (Take node) p h = elim (cases_lt node (nodes_of p)) [
   | inl there ↦ rw (lt-ltb node (nodes_of p) there) (take_tested m end node p (get_or p.parcels node None))
   | inr past ↦
-      let none : get_or p.parcels node None ≡ None = let s = h.sound.seated.parcels in past_end p.parcels node None (omega arith) in
+      let none : get_or p.parcels node None ≡ None = let s = h.sound.seated.parcels in get_or_past p.parcels node None (omega arith) in
       rw (le-ltb node (nodes_of p) past, none) refl
 ]
 made_or_refused m end Commit p h = refl

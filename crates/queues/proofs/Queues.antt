@@ -11,13 +11,9 @@ use Rattle.eventkey.specs.declared.Sign.{Sign}
 use Rattle.eventkey.specs.declared.Sign.TheVariants.{Minus, Plus}
 use Rattle.queues.proofs.Arrivals.{IsQueue, arrived_copies, arrived_kept}
 use Rattle.queues.proofs.Halves.{last_kept}
-use Rattle.queues.proofs.Places.{after-le, but_last-last_of, last_of_none, those_from}
+use Rattle.queues.proofs.Places.{after-le, but_last-last_of, but_last_none, last_of_none, those_from}
 use Rattle.queues.specs.declared.Arrival.TheVariants.{Annihilated, Queued, Waits}
 use Rattle.queues.specs.Queue.{ArrivalsTellBack, IsApart, Queue, QueuesArriveByCases, QueuesCount, QueuesStayApart, QueuesStayInOrder, after, arrival, arrived, back, back_of, but_last, last_of, settle, wait_again}
-
-but_last_none : (xs : List Message) → but_last 0 xs ≡ xs
-but_last_none [] = refl
-but_last_none (x ∷ xs) = rw (le-ltb (length xs) 0 (omega arith)) (ap (λ (ys : List Message). x ∷ ys) (but_last_none xs))
 
 wait_again_none : (q : Queue) → wait_again 0 q ≡ q
 wait_again_none q = λ i. record { done = but_last_none q.done i; waiting = add_all (last_of_none q.done i) q.waiting; antis = q.antis }

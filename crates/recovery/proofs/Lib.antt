@@ -2,7 +2,6 @@ pub mod Headers
 pub mod EndBytes
 pub mod Later
 pub mod Bodies
-pub mod Givings
 pub mod Snapshots
 pub mod Contents
 pub mod Replays

@@ -6,7 +6,8 @@ use Rattle.eventkey.specs.Message.{Message, message_cmp}
 use Rattle.eventkey.specs.Reading.{number_at, items_at}
 use Rattle.eventkey.specs.Spelling.{message_bytes, message_at, signed_bytes, signed_at}
 use Rattle.process.specs.Ring.{ring_meaning}
-use Rattle.frames.specs.Bodies.{words_bytes, done_bytes, low_bytes, reply_bytes, fault_bytes, words_at, part_at, load_in, parcel_in, framed}
+use Rattle.model.specs.Spelling.{words_at, words_bytes}
+use Rattle.frames.specs.Bodies.{done_bytes, low_bytes, reply_bytes, fault_bytes, part_at, load_in, parcel_in, framed}
 use Rattle.frames.specs.Cutting.{cut}
 use Rattle.serving.specs.Reactions.{begun, reaction}
 use Rattle.serving.specs.Serving.{Served, first_turn, next_turn, served_from, served}

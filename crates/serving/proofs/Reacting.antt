@@ -36,7 +36,7 @@ fault_unwritten f fault (Err g) h (inr e) = absurd (let long = e.1 in omega (ari
 -- 2. A load
 
 pub part_ready : (parts : List Part) → Every IsPart parts → Every IsInRange parts
-part_ready parts h = Every-weaker IsPart IsInRange (λ p is. record { words = is.words.few; number = is.number }) parts h
+part_ready parts h = Every-weaker IsPart IsInRange (λ p is. record { words = is.words.0; number = is.number }) parts h
 
 pub some_load : (o : Option Load) (l : Load) → IfSome o IsLoad → o ≡ Some l → IsLoad l
 some_load (Some k) l h e = let is : k ≡ l = cc in subst IsLoad is h

@@ -9,7 +9,7 @@ use Rattle.commitlog.specs.Records.{Holds, IsBlank, IsBlankOrEmptyLog, IsFormatt
 use Rattle.commitlog.specs.declared.fault.LogFault.{LogFault}
 use Rattle.commitlog.specs.declared.fault.LogFault.TheVariants.{Corrupt, Disk, Full, NoMemory as NoMemoryOfLog, NotBlank, NotFormatted, Spent, TooLong}
 use Rattle.disk.specs.declared.disk.DiskFault.TheVariants.{Device, NoSuchSector}
-use Rattle.coordinator.proofs.Begun.{recovers-genuine}
+use Rattle.coordinator.proofs.Begun.{looked-keeps, recovers-genuine}
 use Rattle.coordinator.proofs.Driving.{followed_by}
 use Rattle.coordinator.specs.Crashes.{KeepsRecovery, Recovers}
 use Rattle.coordinator.specs.Opening.{IsAtFault, LeavesExactly}
@@ -25,7 +25,7 @@ use Rattle.recovery.specs.Recovered.{RecoveryIsRefused}
 use Rattle.recovery.specs.Stands.{IsGenuine, Stands, StandsAtLeast}
 use Rattle.recovery.specs.declared.RecoveryFault.{RecoveryFault}
 use Rattle.recovery.specs.declared.RecoveryFault.TheVariants.{BadCheckpoint, BadEnd, BadRecord, GoesBack, Log as LogOfRecovery, NoMemory, NotTheLeast, NumberLimit, OtherModel}
-use Rattle.coordinator.proofs.Extensions.{log-on, ours-of}
+use Rattle.coordinator.proofs.Extensions.{at-fault, log-on, ours-of}
 use Rattle.simulation.specs.Simulation.{IsBlankOrStands, IsBlankOrStandsSo, IsNotRecovered, PreparingIsRefused}
 use Rattle.simulation.specs.declared.fault.SimulationFault.{SimulationFault}
 use Rattle.simulation.specs.declared.fault.SimulationFault.TheVariants.{Log}
@@ -45,16 +45,8 @@ module _ (m : Meaning) (end : ℕ) (header : List ℕ) (is : header ≡ header_b
       ])
 
 module _ (m : Meaning) (end a : ℕ) where
-  -- a disk that is only looked at stands for what it stood for
-  pub looked : (old new : DiskState) → OnlyLooks old new → Recovers m end a old → KeepsRecovery m end a a old new
-  looked old new look recovers = record {
-    any_moment = weaker old new (MayLeave old.reads old.loose) (StandsAtLeast m end a) look.since recovers;
-    now_on = λ image left. recovers image (look.now image left);
-    later = omega arith;
-  }
-
   pub log_stays : (old new : DiskState) → IsDisk old.reads old.loose → (IsFormatted old.reads → OnlyLooks old new) → Recovers m end a old → KeepsRecovery m end a a old new
-  log_stays old new disk look recovers = looked old new (look (recovers old.reads (reads_left old.reads old.loose disk)).stands.holds.formatted) recovers
+  log_stays old new disk look recovers = looked-keeps m end a old new (look (recovers old.reads (reads_left old.reads old.loose disk)).stands.holds.formatted) recovers
 
   pub one_by_one : (old mid new : DiskState) → KeepsRecovery m end a a old mid → (Recovers m end a mid → KeepsRecovery m end a a mid new) → KeepsRecovery m end a a old new
   one_by_one old mid new first second = followed_by m end a a a old mid new first (second first.now_on)
@@ -115,18 +107,14 @@ module _ (fault : LogFault) (image : List (List ℕ)) (failed : Type 0) (refused
 pub at_end : (m : Meaning) (end g : ℕ) (w : World) → IsUpto m end g w → g ≤ end → end ≤ g → IsUpto m end end w
 at_end m end g w upto soon late = (let same : g ≡ end = omega arith in subst (λ (t : ℕ). IsUpto m end t w) same upto)
 
--- why a log is not recovered is why the image is not that it was opened on
-at_fault : (m : Meaning) (end : ℕ) (header : List ℕ) (records : List Entry) (image : List (List ℕ)) (fault : RecoveryFault) → Holds header records image → (ours : IsOurs m end header records) → IsFirstAtFault m ours.first records fault → IsAtFault m end image fault
-at_fault m end header records image fault held ours why = record { entries = records; log = log-on m end header records image ours held; first = why }
-
 pub not_recovered : {D : Type 0} (m : Meaning) (end : ℕ) (log : Opened D) (image : List (List ℕ)) (fault : RecoveryFault) (failed ever : Type 0) → (failed → ever) → log.spent ≡ false → Holds log.header log.records image → RecoveryIsRefused m end log fault failed → IsNotRecovered m end image fault ever
 not_recovered m end log image OtherModel failed ever so usable held h = (held.formatted, λ entries there. h.1 (ours-of m end log.header log.records entries image there held))
-not_recovered m end log image BadRecord failed ever so usable held h = at_fault m end log.header log.records image BadRecord held h.1 h.2
-not_recovered m end log image NotTheLeast failed ever so usable held h = at_fault m end log.header log.records image NotTheLeast held h.1 h.2
-not_recovered m end log image GoesBack failed ever so usable held h = at_fault m end log.header log.records image GoesBack held h.1 h.2
-not_recovered m end log image BadCheckpoint failed ever so usable held h = at_fault m end log.header log.records image BadCheckpoint held h.1 h.2
-not_recovered m end log image BadEnd failed ever so usable held h = at_fault m end log.header log.records image BadEnd held h.1 h.2
-not_recovered m end log image NumberLimit failed ever so usable held h = at_fault m end log.header log.records image NumberLimit held h.1 h.2
+not_recovered m end log image BadRecord failed ever so usable held h = at-fault m end log.header log.records image BadRecord held h.1 h.2
+not_recovered m end log image NotTheLeast failed ever so usable held h = at-fault m end log.header log.records image NotTheLeast held h.1 h.2
+not_recovered m end log image GoesBack failed ever so usable held h = at-fault m end log.header log.records image GoesBack held h.1 h.2
+not_recovered m end log image BadCheckpoint failed ever so usable held h = at-fault m end log.header log.records image BadCheckpoint held h.1 h.2
+not_recovered m end log image BadEnd failed ever so usable held h = at-fault m end log.header log.records image BadEnd held h.1 h.2
+not_recovered m end log image NumberLimit failed ever so usable held h = at-fault m end log.header log.records image NumberLimit held h.1 h.2
 not_recovered m end log image NoMemory failed ever so usable held h = tt
 not_recovered m end log image (LogOfRecovery NoMemoryOfLog) failed ever so usable held h = tt
 not_recovered m end log image (LogOfRecovery (Disk Device)) failed ever so usable held h = so h.2

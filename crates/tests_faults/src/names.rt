@@ -4,10 +4,12 @@
 use commands::CommandFault;
 use commitlog::LogFault;
 use coordinator::SessionFault;
-use disk::{DiskFault, FileFault};
+use disk::{DiskFault, FileFault, GrowthFault};
 use driver::RunFault;
 use eventkey::KeyFault;
+use growing::GrowingFault;
 use gvt::LedgerFault;
+use inspection::InspectionFault;
 use migration::MigrateFault;
 use model::WorldFault;
 use node::NodeFault;
@@ -121,6 +123,12 @@ fn disks_and_logs_name_their_faults(rt: HostRuntime) -> Result<(), Fail> {
         File => "File",
         NoMemory => "NoMemory",
     });
+    check_names!(rt; GrowthFault {
+        Fewer => "Fewer",
+        TooMany => "TooMany",
+        NoMemory => "NoMemory",
+        Device => "Device",
+    });
     check_names!(rt; LogFault {
         NotBlank => "NotBlank",
         NotFormatted => "NotFormatted",
@@ -141,6 +149,15 @@ fn disks_and_logs_name_their_faults(rt: HostRuntime) -> Result<(), Fail> {
         NumberLimit => "NumberLimit",
         Log(LogFault::Corrupt) => "Log Corrupt",
         BadEnd => "BadEnd",
+    });
+    check_names!(rt; InspectionFault {
+        Log(LogFault::NotFormatted) => "Log NotFormatted",
+        Recovery(RecoveryFault::OtherModel) => "Recovery OtherModel",
+        Record { number: 0, fault: RecoveryFault::GoesBack } => "Record 0 GoesBack",
+    });
+    check_names!(rt; GrowingFault {
+        Recovery(RecoveryFault::OtherModel) => "OtherModel",
+        Growth(GrowthFault::Device) => "Device",
     });
     check_names!(rt; MigrateFault {
         NotEmpty => "NotEmpty",
@@ -214,6 +231,8 @@ fn commands_and_programs_name_their_faults(rt: HostRuntime) -> Result<(), Fail> 
         Wire(WireFault::BadKind) => "Wire BadKind",
         Rounds => "Rounds",
         Migrate(MigrateFault::Old(RecoveryFault::BadEnd)) => "Migrate Old BadEnd",
+        Grow(GrowthFault::Fewer) => "Grow Fewer",
+        Record { number: 7, fault: RecoveryFault::BadRecord } => "Record 7 BadRecord",
         Mistake(Mistake::Missing("hold")) => "hold: missing",
         NoMemory => "NoMemory",
         Output => "Output",

@@ -24,6 +24,8 @@ pub enum Act {
     EndsAsSeq(&'static str),
     /// The other model file becomes this text.
     Writes(&'static str),
+    /// The other model file has become this text, by a command.
+    IsWritten(&'static str),
     /// The disk is removed.
     Removes,
     /// The disk is as it was at the act before of this name, if there was one.
@@ -168,6 +170,16 @@ where
     Ok(())
 }
 
+/// Looks whether a file has this text.
+fn look_at_text<R>(rt: &R, path: &str, text: &str) -> Result<(), Fail>
+where
+    R: Files<File = File> + Abort + AllocGlobal,
+{
+    let bytes = fs::read(rt, path)?;
+    assert!(rt; bytes.as_slice() == text.as_bytes());
+    Ok(())
+}
+
 fn look_for_disk<R>(rt: &R, disk: &str) -> Result<(), Fail>
 where
     R: Files<File = File> + Abort + AllocGlobal,
@@ -221,6 +233,7 @@ where
             look_at_command(rt, line, stage, (1, "", err))
         }
         Act::Writes(text) => Ok(fs::write(rt, stage.other.as_str(), *text)?),
+        Act::IsWritten(text) => look_at_text(rt, stage.other.as_str(), text),
         Act::EndsAsSeq(model) => look_at_end(rt, stage.word(model), disk),
         Act::Removes => remove(rt, disk),
         Act::Stays => look_at_disk(rt, disk, seen),

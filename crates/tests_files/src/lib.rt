@@ -9,6 +9,8 @@ mod damage;
 #[cfg(test)]
 mod later;
 #[cfg(test)]
+mod looks;
+#[cfg(test)]
 mod programs;
 #[cfg(test)]
 mod running;

@@ -224,6 +224,8 @@ impl Progress for Terminal<'_> {
         self.seen.note(b'c');
     }
 
+    fn finished(&mut self) {}
+
     fn failed(&mut self, _fault: Fault) {
         self.seen.note(b'f');
     }

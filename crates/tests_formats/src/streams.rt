@@ -5,7 +5,7 @@ use frames::{
     Frame, Kind, encode_fault, encode_load, encode_parcel, encode_reply, read_frame, read_raw,
     read_whole_frame, read_whole_raw,
 };
-use model::{SavedState, Sent, State, Words};
+use model::{SavedState, Sent, State, Words, append_words, read_words};
 use node::{Load, NodeFault, Parcel, Part, Reply};
 use process::Done;
 use std::alloc::Global;
@@ -168,6 +168,39 @@ fn frames_are_spelled(rt: HostRuntime) -> Result<(), Fail> {
         encode_fault(alloc, NodeFault::BelowFloor)?.as_slice(),
         FAULT.as_slice()
     );
+    Ok(())
+}
+
+/// No words, and then two.
+const WORDS: [u8; 18] = [0, 2, 0, 0, 0, 0, 0, 0, 1, 2, 128, 0, 0, 0, 0, 0, 0, 0];
+
+#[test]
+fn state_words_are_spelled(rt: HostRuntime) -> Result<(), Fail> {
+    let alloc = rt.alloc();
+    let mut bytes = Vec::new(alloc);
+    append_words(&mut bytes, &[])?;
+    append_words(&mut bytes, &[258, 1 << 63])?;
+    assert_eq!(rt; bytes.as_slice(), WORDS.as_slice());
+    let none = read_words(alloc, &WORDS)?;
+    assert_eq!(rt;
+        none.map(|(state, rest)| (state.words().len(), rest.len())),
+        Some((0, 17))
+    );
+    let two = read_words(alloc, &WORDS[1..])?;
+    assert_eq!(rt;
+        two.map(|(state, _)| state.words().as_slice() == [258, 1 << 63].as_slice()),
+        Some(true)
+    );
+    Ok(())
+}
+
+#[test]
+fn bytes_that_are_no_state_words_are_refused(rt: HostRuntime) -> Result<(), Fail> {
+    let alloc = rt.alloc();
+    assert!(rt; read_words(alloc, &[])?.is_none());
+    assert!(rt; read_words(alloc, &WORDS[1..17])?.is_none());
+    assert!(rt; read_words(alloc, &[16; 129])?.is_some());
+    assert!(rt; read_words(alloc, &[17; 137])?.is_none());
     Ok(())
 }
 

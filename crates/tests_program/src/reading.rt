@@ -1,11 +1,12 @@
 // Command lines.
 
 use clap::error::ErrorKind;
-use lines::{Line, Texts, read_line};
+use lines::{Batch, Line, Texts, read_line};
 use std::alloc::Global;
 
 pub const TEXTS: Texts<'static> = Texts {
     name: "timewarp",
+    version: "1",
     help: "",
     seq_help: "",
 };
@@ -19,7 +20,7 @@ fn is_refused_as(alloc: Global, words: &[&str], want: ErrorKind) -> bool {
 }
 
 /// The words of a line, and what it asks for.
-const READ: [(&[&str], Line<'static>); 16] = [
+const READ: [(&[&str], Line<'static>); 25] = [
     (
         &["timewarp", "seq", "examples/ring.toml"],
         Line::Seq {
@@ -35,6 +36,85 @@ const READ: [(&[&str], Line<'static>); 16] = [
         Line::Log {
             model: "a",
             disk: "b",
+            from: None,
+            to: None,
+            process: None,
+        },
+    ),
+    (
+        &[
+            "timewarp",
+            "log",
+            "a",
+            "--to=1099511627776",
+            "b",
+            "--process",
+            "4294967295",
+            "--from",
+            "0",
+        ],
+        Line::Log {
+            model: "a",
+            disk: "b",
+            from: Some(0),
+            to: Some(1_099_511_627_776),
+            process: Some(4_294_967_295),
+        },
+    ),
+    (
+        &["timewarp", "status", "a", "b"],
+        Line::Status {
+            model: "a",
+            disk: "b",
+        },
+    ),
+    (
+        &["timewarp", "stats", "a"],
+        Line::Stats {
+            model: "a",
+            disk: None,
+            csv: false,
+        },
+    ),
+    (
+        &["timewarp", "stats", "a", "b", "--format=csv"],
+        Line::Stats {
+            model: "a",
+            disk: Some("b"),
+            csv: true,
+        },
+    ),
+    (
+        &["timewarp", "draw", "a"],
+        Line::Draw {
+            model: "a",
+            disk: None,
+            from: None,
+            to: None,
+            processes: None,
+            load: false,
+        },
+    ),
+    (
+        &[
+            "timewarp",
+            "draw",
+            "--processes",
+            "3..3",
+            "a",
+            "b",
+            "--load",
+            "--from=5",
+            "--to",
+            "9",
+        ],
+        Line::Draw {
+            model: "a",
+            disk: Some("b"),
+            from: Some(5),
+            to: Some(9),
+            processes: Some((3, 3)),
+            load: true,
         },
     ),
     (
@@ -68,13 +148,15 @@ const READ: [(&[&str], Line<'static>); 16] = [
             model: "a",
             disk: "b",
             nodes: 1,
-            batch: 16,
+            batch: Batch::Fixed(16),
             rounds: 1_000_000,
             checkpoint: None,
+            commit_every: None,
             sockets: None,
             cut: None,
             together: false,
             attach: false,
+            trace: None,
         },
     ),
     (
@@ -93,13 +175,15 @@ const READ: [(&[&str], Line<'static>); 16] = [
             model: "a",
             disk: "b",
             nodes: 64,
-            batch: 9,
+            batch: Batch::Fixed(9),
             rounds: 7,
             checkpoint: None,
+            commit_every: None,
             sockets: None,
             cut: None,
             together: false,
             attach: false,
+            trace: None,
         },
     ),
     (
@@ -119,13 +203,15 @@ const READ: [(&[&str], Line<'static>); 16] = [
             model: "a",
             disk: "b",
             nodes: 1,
-            batch: 16,
+            batch: Batch::Fixed(16),
             rounds: 1_000_000,
             checkpoint: Some(3),
+            commit_every: None,
             sockets: Some("c"),
             cut: Some(0),
             together: true,
             attach: false,
+            trace: None,
         },
     ),
     (
@@ -134,13 +220,77 @@ const READ: [(&[&str], Line<'static>); 16] = [
             model: "a",
             disk: "b",
             nodes: 1,
-            batch: 16,
+            batch: Batch::Fixed(16),
             rounds: 1_000_000,
             checkpoint: None,
+            commit_every: None,
             sockets: Some("c"),
             cut: None,
             together: false,
             attach: true,
+            trace: None,
+        },
+    ),
+    (
+        &[
+            "timewarp",
+            "run",
+            "a",
+            "b",
+            "--commit-every=400000",
+            "--batch",
+            "auto",
+            "--trace",
+            "c",
+        ],
+        Line::Run {
+            model: "a",
+            disk: "b",
+            nodes: 1,
+            batch: Batch::Auto,
+            rounds: 1_000_000,
+            checkpoint: None,
+            commit_every: Some(400_000),
+            sockets: None,
+            cut: None,
+            together: false,
+            attach: false,
+            trace: Some("c"),
+        },
+    ),
+    (
+        &["timewarp", "run", "--batch=auto", "a", "b"],
+        Line::Run {
+            model: "a",
+            disk: "b",
+            nodes: 1,
+            batch: Batch::Auto,
+            rounds: 1_000_000,
+            checkpoint: None,
+            commit_every: None,
+            sockets: None,
+            cut: None,
+            together: false,
+            attach: false,
+            trace: None,
+        },
+    ),
+    // Behind `--` no word is an option.
+    (
+        &["timewarp", "run", "--", "--batch", "auto"],
+        Line::Run {
+            model: "--batch",
+            disk: "auto",
+            nodes: 1,
+            batch: Batch::Fixed(16),
+            rounds: 1_000_000,
+            checkpoint: None,
+            commit_every: None,
+            sockets: None,
+            cut: None,
+            together: false,
+            attach: false,
+            trace: None,
         },
     ),
     (
@@ -194,7 +344,7 @@ fn a_line_names_a_command_and_its_values(rt: HostRuntime) {
 }
 
 /// The words of a line that is refused, and the kind.
-const REFUSED: [(&[&str], ErrorKind); 24] = [
+const REFUSED: [(&[&str], ErrorKind); 39] = [
     (&["timewarp", "seq"], ErrorKind::MissingRequiredArgument),
     (&["timewarp", "seq", "a", "b"], ErrorKind::UnknownArgument),
     (
@@ -270,6 +420,64 @@ const REFUSED: [(&[&str], ErrorKind); 24] = [
         &["timewarp", "run", "a", "b", "--rounds", "4294967296"],
         ErrorKind::ValueValidation,
     ),
+    (
+        &["timewarp", "run", "a", "b", "--commit-every", "400001"],
+        ErrorKind::ValueValidation,
+    ),
+    (
+        &["timewarp", "run", "a", "b", "--commit-every=0"],
+        ErrorKind::ValueValidation,
+    ),
+    // The one word for a batch is `auto`, once.
+    (
+        &["timewarp", "run", "a", "b", "--batch", "automatic"],
+        ErrorKind::ValueValidation,
+    ),
+    (
+        &["timewarp", "run", "a", "b", "--batch", "Auto"],
+        ErrorKind::ValueValidation,
+    ),
+    (
+        &["timewarp", "run", "a", "b", "--batch", "auto", "--batch=4"],
+        ErrorKind::ArgumentConflict,
+    ),
+    (
+        &["timewarp", "seq", "a", "--batch", "auto"],
+        ErrorKind::UnknownArgument,
+    ),
+    (
+        &["timewarp", "log", "a", "b", "--from", "1099511627777"],
+        ErrorKind::ValueValidation,
+    ),
+    (
+        &["timewarp", "log", "a", "b", "--process=4294967296"],
+        ErrorKind::ValueValidation,
+    ),
+    (
+        &["timewarp", "status", "a"],
+        ErrorKind::MissingRequiredArgument,
+    ),
+    (
+        &["timewarp", "stats", "a", "--format", "json"],
+        ErrorKind::InvalidValue,
+    ),
+    (
+        &["timewarp", "stats", "a", "b", "c"],
+        ErrorKind::UnknownArgument,
+    ),
+    (
+        &["timewarp", "draw", "a", "--processes", "3..2"],
+        ErrorKind::InvalidValue,
+    ),
+    (
+        &["timewarp", "draw", "a", "--processes=3"],
+        ErrorKind::InvalidValue,
+    ),
+    (
+        &["timewarp", "draw", "a", "--processes=0..4294967296"],
+        ErrorKind::InvalidValue,
+    ),
+    (&["timewarp", "--version"], ErrorKind::DisplayVersion),
     // Help is no command.
     (&["timewarp", "help"], ErrorKind::InvalidSubcommand),
     (&["timewarp", "--help"], ErrorKind::DisplayHelp),

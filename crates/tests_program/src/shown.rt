@@ -1,7 +1,7 @@
 // What a terminal shows of a run.
 
 use coordinator::SessionFault;
-use driver::Watch;
+use driver::{Turn, Watch};
 use program::{Fault, Progress, TerminalProgress};
 use std::io::Result as IoResult;
 use std::test::Fail;
@@ -39,8 +39,8 @@ fn a_run_is_shown_twice_a_second_and_then_cleared(rt: HostRuntime) -> Result<(),
     shown.clear();
     assert_eq!(rt;
         terminal.as_slice(),
-        b"\r30% of 1000 ticks, 90 events committed, 150 a second\x1b[K\
-          \r60% of 1000 ticks, 180 events committed, 150 a second\x1b[K\r\x1b[K"
+        b"\r30% of 1000 ticks, 90 events committed, 150 a second, 1 s to go\x1b[K\
+          \r60% of 1000 ticks, 180 events committed, 150 a second, 0 s to go\x1b[K\r\x1b[K"
             .as_slice()
     );
     let mut shown = TerminalProgress::on(&clock, None::<Vec<u8>>);
@@ -65,7 +65,64 @@ fn what_is_shown_of_a_run_is_gone_at_its_end(rt: HostRuntime) -> Result<(), Fail
     shown.clear();
     assert_eq!(rt;
         terminal.as_slice(),
-        b"\r75% of 400 ticks, 90 events committed, 150 a second\x1b[K\r\x1b[K".as_slice()
+        b"\r75% of 400 ticks, 90 events committed, 150 a second, 0 s to go\x1b[K\r\x1b[K".as_slice()
+    );
+    Ok(())
+}
+
+/// A turn that handled so many messages, of which it told so many, after so many antimessages.
+fn turn(handled: u32, told: usize, antimessages: usize) -> Turn {
+    Turn {
+        round: 1,
+        node: 0,
+        budget: 16,
+        floor: 0,
+        delivered: antimessages,
+        antimessages,
+        handled,
+        sent: 0,
+        told,
+    }
+}
+
+#[test]
+fn a_run_is_summed_up_at_its_end(rt: HostRuntime) -> Result<(), Fail> {
+    let clock = Ticking {
+        looks: std::cell::Cell::new(0),
+    };
+    let mut terminal = Vec::with_capacity(rt.alloc(), 512)?;
+    let mut shown = TerminalProgress::on(&clock, Some(&mut terminal));
+    shown.begin(400);
+    for commit in 0..5 {
+        shown.turned(&turn(40, 30, 3));
+        shown.committed(100 * commit, 30 * commit as usize);
+    }
+    shown.finished();
+    assert_eq!(rt;
+        terminal.as_slice(),
+        b"\r75% of 400 ticks, 90 events committed, 150 a second, 0 s to go, efficiency 75%\x1b[K\
+          \r\x1b[K120 events, 5 commits in 0.8 seconds\n\
+          200 messages handled, efficiency 75%, 15 antimessages\n"
+            .as_slice()
+    );
+    Ok(())
+}
+
+#[test]
+fn antimessages_are_shown_where_there_is_room(rt: HostRuntime) -> Result<(), Fail> {
+    let clock = Ticking {
+        looks: std::cell::Cell::new(0),
+    };
+    let mut terminal = Vec::with_capacity(rt.alloc(), 512)?;
+    let mut shown = TerminalProgress::on(&clock, Some(&mut terminal));
+    shown.begin(9);
+    for _ in 0..4 {
+        shown.turned(&turn(0, 0, 3));
+        shown.committed(1, 1);
+    }
+    assert_eq!(rt;
+        terminal.as_slice(),
+        b"\r11% of 9 ticks, 1 events committed, 0 a second, 15 antimessages a second\x1b[K".as_slice()
     );
     Ok(())
 }
@@ -81,8 +138,8 @@ fn a_terminal_shows_what_to_do_about_a_fault(rt: HostRuntime) -> Result<(), Fail
     shown.failed(Fault::Session(SessionFault::Full));
     assert_eq!(rt;
         terminal.as_slice(),
-        b"the disk has no room for the next commit: what is committed stays; a larger \
-          --batch takes fewer commits, and `new` makes a larger disk (--sectors)\n"
+        b"the disk has no room for the next commit: what is committed stays; `grow` makes the disk \
+          longer, and --commit-every takes fewer commits\n"
             .as_slice()
     );
     Ok(())

@@ -7,7 +7,7 @@ use crate::openings::{is_of_memory, look_at_crashes};
 use commands::{CommandFault, Ended, Simulated, log, run, show};
 use commitlog::LogFault;
 use disk::MemDisk;
-use driver::{Plan, Watch};
+use driver::{Batch, Plan, Watch};
 use models::TokenRing;
 use recovery::RecoveryFault;
 use std::alloc::Global;
@@ -83,10 +83,11 @@ fn run_once(
 ) -> Ended<MemDisk> {
     let plan = Plan {
         nodes: 3,
-        batch: 16,
+        batch: Batch::Fixed(16),
         rounds: 100,
         together: false,
         checkpoint_every: every,
+        commit_every: 0,
     };
     run(alloc, &one_token(), disk, plan, last, out)
 }

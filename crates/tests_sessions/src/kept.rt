@@ -5,7 +5,7 @@ ghost use Rattle.std.specs.Prelude.{◌≡◌, ◌<◌, ◌≤◌};
 use commitlog::{Log, format};
 use coordinator::{NotOpened, Session, SessionFault};
 use disk::{MemDisk, Plan as DiskPlan, Torn};
-use driver::{Plan, RunFault, Watch, local_ports, run_local};
+use driver::{Batch, Plan, RunFault, Watch, local_ports, run_local};
 use model::Model;
 use models::{Phold, TokenRing};
 use recovery::{Front, RecoveryFault, header, recover};
@@ -26,10 +26,11 @@ pub(crate) fn plan(nodes: u32, batch: u32, every: u32) -> Plan
 {
     Plan {
         nodes,
-        batch,
+        batch: Batch::Fixed(batch),
         rounds: 1_000_000,
         together: false,
         checkpoint_every: every,
+        commit_every: 0,
     }
 }
 
@@ -184,6 +185,30 @@ fn a_run_with_checkpoints_comes_to_the_same_front(rt: HostRuntime) -> Result<(),
         let kept = front_of(alloc, &model, kept, 200)?;
         assert!(rt; plain.is_same(&kept), "{nodes} nodes, batch {batch}");
         assert!(rt; kept.g == 200 && kept.log.as_slice().len() == 562);
+    }
+    Ok(())
+}
+
+#[test]
+fn a_run_with_budgets_of_its_nodes_comes_to_the_same_front(rt: HostRuntime) -> Result<(), Fail> {
+    let alloc = rt.alloc();
+    let model = Phold::new(16, 2, 20, 7);
+    let (plain, none) = left_by(alloc, &model, 16_384, 200, plan(1, 16, 0))?;
+    assert!(rt; none.is_none());
+    let plain = front_of(alloc, &model, plain, 200)?;
+    for (nodes, commit_every, every) in [(1, 0, 0), (2, 100, 0), (5, 400_000, 0), (5, 100, 2)] {
+        let adjusting = Plan {
+            batch: Batch::Adjusting,
+            commit_every,
+            ..plan(nodes, 16, every)
+        };
+        let (left, fault) = left_by(alloc, &model, 16_384, 200, adjusting)?;
+        assert!(rt; fault.is_none());
+        let front = front_of(alloc, &model, left, 200)?;
+        assert!(rt;
+            plain.is_same(&front),
+            "{nodes} nodes, commits {commit_every}"
+        );
     }
     Ok(())
 }

@@ -7,6 +7,8 @@ mod damage;
 #[cfg(test)]
 mod extended;
 #[cfg(test)]
+mod grown;
+#[cfg(test)]
 mod kept;
 #[cfg(test)]
 mod runs;

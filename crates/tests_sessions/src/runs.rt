@@ -5,21 +5,33 @@ ghost use Rattle.std.specs.Prelude.{◌<◌, ◌≤◌};
 use commitlog::format;
 use coordinator::SessionFault;
 use disk::MemDisk;
-use driver::{Finished, Plan, RunFault, Watch, run_local};
+use driver::{Batch, Finished, Plan, RunFault, Watch, run_local};
 use models::TokenRing;
 use recovery::header;
 use std::alloc::Global;
 use std::test::Fail;
 
-/// The commits that a run told of: the last one's time and events.
+/// The commits that a run told of: how many, and the last one's time and events.
 #[derive(Drop)]
 struct Told {
+    commits: u32,
     time: u64,
     events: usize,
 }
 
+impl Told {
+    fn nothing() -> Told {
+        Told {
+            commits: 0,
+            time: 0,
+            events: 0,
+        }
+    }
+}
+
 impl Watch for Told {
     fn committed(&mut self, time: u64, events: usize) {
+        self.commits = self.commits.saturating_add(1);
         self.time = time;
         self.events = events;
     }
@@ -27,10 +39,11 @@ impl Watch for Told {
 
 const PLAN: Plan = Plan {
     nodes: 3,
-    batch: 16,
+    batch: Batch::Fixed(16),
     rounds: 100,
     together: false,
     checkpoint_every: 0,
+    commit_every: 0,
 };
 
 /// A run of one token round three processes, two ticks at each, up to time 10, on a disk of so many
@@ -52,7 +65,7 @@ fn run_on(
 
 #[test]
 fn a_ring_on_three_nodes(rt: HostRuntime) -> Result<(), Fail> {
-    let mut told = Told { time: 0, events: 0 };
+    let mut told = Told::nothing();
     let ended = run_on(rt.alloc(), 64, PLAN, &mut told)?;
     let Ok(Finished { ran, time, events }) = ended else {
         return Err(Fail::from("the run was refused"));
@@ -65,7 +78,7 @@ fn a_ring_on_three_nodes(rt: HostRuntime) -> Result<(), Fail> {
 
 #[test]
 fn a_full_disk_ends_a_run(rt: HostRuntime) -> Result<(), Fail> {
-    let mut told = Told { time: 0, events: 0 };
+    let mut told = Told::nothing();
     let ended = run_on(rt.alloc(), 8, PLAN, &mut told)?;
     assert!(rt; ended.err() == Some(RunFault::Session(SessionFault::Full)));
     assert!(rt; told.time == 7 && told.events == 3);
@@ -74,16 +87,32 @@ fn a_full_disk_ends_a_run(rt: HostRuntime) -> Result<(), Fail> {
 
 #[test]
 fn rounds_end_a_run(rt: HostRuntime) -> Result<(), Fail> {
-    let mut told = Told { time: 0, events: 0 };
-    let one = Plan {
-        nodes: 3,
-        batch: 16,
-        rounds: 1,
-        together: false,
-        checkpoint_every: 0,
-    };
+    let mut told = Told::nothing();
+    let one = Plan { rounds: 1, ..PLAN };
     let ended = run_on(rt.alloc(), 64, one, &mut told)?;
     assert!(rt; ended.err() == Some(RunFault::Rounds));
     assert!(rt; told.time == 1 && told.events == 0);
+    Ok(())
+}
+
+/// A commit comes where as many events are told as are wanted, and at the end: three are told in the
+/// second round, and the other two in the third, which comes to the end.
+#[test]
+fn a_run_commits_for_so_many_events(rt: HostRuntime) -> Result<(), Fail> {
+    for (commit_every, commits) in [(0, 3), (1, 2), (3, 2), (4, 1), (5, 1), (400_000, 1)] {
+        let mut told = Told::nothing();
+        let plan = Plan {
+            commit_every,
+            ..PLAN
+        };
+        let ended = run_on(rt.alloc(), 64, plan, &mut told)?;
+        let Ok(Finished { ran, time, events }) = ended else {
+            return Err(Fail::from("the run was refused"));
+        };
+        assert!(rt; ran.as_slice() == [2, 2, 1].as_slice());
+        assert!(rt; time == 10 && events == 5);
+        assert!(rt; told.time == 10 && told.events == 5);
+        assert!(rt; told.commits == commits, "{commit_every}");
+    }
     Ok(())
 }

@@ -12,7 +12,7 @@ use commands::{CommandFault, log, show};
 use commitlog::{LogFault, format};
 use coordinator::{Extended, NotOpened, Session, SessionFault, Step, extend};
 use disk::{MemDisk, Plan as DiskPlan, Torn};
-use driver::{Plan, RunFault, Watch, local_ports, run};
+use driver::{Batch, Plan, RunFault, Watch, local_ports, run};
 use model::{World, WorldFault, WorldParts};
 use models::AnyModel;
 use recovery::{RecoveryFault, header};
@@ -452,10 +452,11 @@ fn plan_of(nodes: u32, way: Way) -> Plan
 {
     Plan {
         nodes,
-        batch: way.batch,
+        batch: Batch::Fixed(way.batch),
         rounds: ROUNDS,
         together: false,
         checkpoint_every: way.checkpoint_every,
+        commit_every: 0,
     }
 }
 

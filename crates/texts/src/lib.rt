@@ -11,4 +11,4 @@ pub use any_model::ANY_MODEL_KEYS;
 pub use findings::{Finding, Findings, Found, Wanted, found_in};
 pub use mistakes::{Mistakes, find_mistakes};
 pub use model_file::{Described, Mistake, ModelFault, number_at, only, read_model, string_at};
-pub use text::{write_log, write_number, write_text, write_world};
+pub use text::{write_log, write_message, write_number, write_text, write_world};

@@ -7,7 +7,7 @@ use crate::{CommandFault, Ended, Simulated, extend, log, new, run, show};
 use commitlog::LogFault;
 use coordinator::SessionFault;
 use disk::{MemDisk, Plan as Faults, Torn};
-use driver::{Plan, Watch};
+use driver::{Batch, Plan, Watch};
 use models::{AnyModel, TokenRing};
 use recovery::RecoveryFault;
 use std::alloc::Global;
@@ -82,18 +82,20 @@ const RAN_AGAIN: &str = "node 0 ran 0\nnode 1 ran 0\nnode 2 ran 0\ncommitted 10 
 
 const PLAN: Plan = Plan {
     nodes: 3,
-    batch: 16,
+    batch: Batch::Fixed(16),
     rounds: 100,
     together: false,
     checkpoint_every: 0,
+    commit_every: 0,
 };
 
 const ONE_ROUND: Plan = Plan {
     nodes: 3,
-    batch: 16,
+    batch: Batch::Fixed(16),
     rounds: 1,
     together: false,
     checkpoint_every: 0,
+    commit_every: 0,
 };
 
 /// The ring, a token held for so many ticks.

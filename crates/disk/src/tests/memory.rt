@@ -1,7 +1,7 @@
 ghost use Rattle.std.specs.Prelude.{◌≡◌, length, IfOk};
 
 use super::*;
-use std::alloc::Global;
+use crate::{GrowingDisk, GrowthFault};
 
 // With ample memory each call here answers at once. `rt try --test --fail-alloc 1..` refuses each
 // allocation in turn: the call that meets it leaves all as it was, and the same call made again
@@ -95,5 +95,23 @@ fn a_file_is_opened_where_memory_was_refused_once(rt: HostRuntime) -> Result<(),
     assert_eq!(rt; again.sectors(), 8);
     assert!(rt; are_filled(&mut again, &[(0, 0), (5, 0), (6, 6), (7, 0)])?);
     fs::remove_file(&rt, path.as_path())?;
+    Ok(())
+}
+
+/// Grows a disk, a second time where memory was refused.
+fn grow<D: GrowingDisk>(alloc: Global, disk: &mut D, sectors: u32) -> Result<(), GrowthFault> {
+    match disk.grow(alloc, sectors) {
+        Err(GrowthFault::NoMemory) => disk.grow(alloc, sectors),
+        done => done,
+    }
+}
+
+#[test]
+fn a_disk_that_was_refused_memory_grows_when_asked_again(rt: HostRuntime) -> Result<(), Fail> {
+    let alloc = rt.alloc();
+    let mut disk = of_bytes(alloc)?;
+    assert_eq!(rt; grow(alloc, &mut disk, 9), Ok(()));
+    assert_eq!(rt; disk.sectors(), 9);
+    assert!(rt; are_filled(&mut disk, &[(0, 5), (7, 5), (8, 0)])?);
     Ok(())
 }

@@ -1,15 +1,18 @@
 use Rattle.std.proofs.Common.{◌≡◌, Bool, OnOk, subst, sym, true}
 use Rattle.driver.specs.Driver.{AreAsked, ArePosts, IsDrivenBy, takes_of}
+use Rattle.driver.specs.Tallies.{Tallied}
+use Rattle.driver.proofs.Counts.{both_tallied}
 use Rattle.driver.proofs.Drives.{driven_so, on_ok, then_by, then_stands}
 use Rattle.driver.proofs.Shapes.{then_takes}
 use Rattle.driver.proofs.rounds.ask.Goals as goal
 
 pub returns-in_ok-post_all-clause-driven : goal.returns-in_ok-post_all-clause-driven
 returns-in_ok-post_all-clause-driven g c =
-    subst (λ (b : Bool). OnOk c.take_all.result (IsDrivenBy g.M.Model.meaning g.P.Port.state g.D.SectorDisk.state (AreAsked b c.args.plan.batch c.args.plan.nodes) c.args.session.now c.take_all.new.session)) (sym c.if-plan.true)
+    subst (λ (b : Bool). OnOk c.take_all.result (IsDrivenBy g.M.Model.meaning g.P.Port.state g.D.SectorDisk.state (Tallied c.args.plan.commit_every (AreAsked b c.args.plan.batch c.args.plan.nodes) c.args.tally.now c.take_all.new.tally) c.args.session.now c.take_all.new.session)) (sym c.if-plan.true)
     (on_ok c.take_all.result
-    (then_by g.M.Model.meaning g.P.Port.state g.D.SectorDisk.state (ArePosts c.args.plan.batch c.args.plan.nodes) (λ ks. ks ≡ takes_of c.args.plan.nodes) (AreAsked true c.args.plan.batch c.args.plan.nodes) c.args.session.now c.post_all.new.session c.take_all.new.session
-    (then_takes c.args.plan.batch c.args.plan.nodes) c.in_ok-post_all.ensures.driven) c.take_all.ensures.driven)
+    (then_by g.M.Model.meaning g.P.Port.state g.D.SectorDisk.state _ _ _ c.args.session.now c.post_all.new.session c.take_all.new.session
+    (both_tallied c.args.plan.commit_every (ArePosts c.args.plan.batch c.args.plan.nodes) (λ moves. moves ≡ takes_of c.args.plan.nodes) (AreAsked true c.args.plan.batch c.args.plan.nodes) c.args.tally.now c.post_all.new.tally c.take_all.new.tally
+    (then_takes c.args.plan.batch c.args.plan.nodes)) c.in_ok-post_all.ensures.driven) c.take_all.ensures.driven)
 
 pub returns-in_ok-post_all-clause-keeps : goal.returns-in_ok-post_all-clause-keeps
 returns-in_ok-post_all-clause-keeps g c =

@@ -1,12 +1,15 @@
-use Rattle.std.proofs.Common.{◌≡◌, [], ◌∷◌}
-use Rattle.protocol.specs.Moves.Move.{Post}
-use Rattle.driver.specs.Driver.{IsPost}
-use Rattle.driver.proofs.Drives.{one_step_by, shaped_by}
+use Rattle.std.proofs.Common.{◌∙◌, ℕ, ap, arith}
+use Rattle.driver.specs.Driver.{IsPost, least_of}
+use Rattle.driver.specs.Tallies.{Tallied}
+use Rattle.driver.proofs.Drives.{one_step_by}
 use Rattle.driver.proofs.Shapes.{is_post}
 use Rattle.driver.proofs.rounds.post.Goals as goal
 
 pub returns-clause-driven : goal.returns-clause-driven
 returns-clause-driven g c =
-    shaped_by g.M.Model.meaning g.P.Port.state g.D.SectorDisk.state (λ ks. ks ≡ Post c.args.node c.from_vec.result c.args.plan.batch ∷ []) (IsPost c.args.plan.batch c.args.node) c.args.session.now c.step.new.self
-    (is_post c.args.plan.batch c.args.node c.from_vec.result)
-    (one_step_by g.M.Model.meaning g.P.Port.state g.D.SectorDisk.state _ c.in_ok-step.field-0 c.args.session.now c.step.new.self c.in_ok-step.ensures)
+    one_step_by g.M.Model.meaning g.P.Port.state g.D.SectorDisk.state (Tallied c.args.plan.commit_every (IsPost c.args.plan.batch c.args.node) c.args.tally.now c.posted.new.self) _ c.in_ok-answer.answer c.args.session.now c.step.new.self
+    (record {
+      shape = is_post c.args.plan.batch c.args.node c.budget-budget.result c.from_vec.result c.budget-budget.ensures;
+      tally = record { wanted = λ told is. c.posted.ensures.wanted ∙ (c.asked.ensures.wanted ∙ is); commits = omega (arith, c.posted.ensures.commits, c.asked.ensures.commits) };
+      floor = c.posted.ensures.floor ∙ ap (λ (f : ℕ). least_of f c.in_ok-answer.answer) c.asked.ensures.floor;
+    }) c.in_ok-answer.ensures

@@ -1,28 +1,23 @@
-use Rattle.std.proofs.Common.{◌≡◌, [], ◌∷◌}
-use Rattle.protocol.specs.Moves.Move.{Commit}
-use Rattle.driver.specs.Driver.{AreAsked, IsRound, kept_after}
-use Rattle.driver.proofs.Drives.{driven_so, on_ok, one_step_by, then_by, then_stands}
-use Rattle.driver.proofs.Shapes.{AreCommitted, then_commit, then_kept}
+use Rattle.std.proofs.Common.{◌≡◌, ◌∙◌, List}
+use Rattle.driver.specs.Driver.{IsRound, Made, closing_of, moves_of, told_since}
+use Rattle.driver.specs.Tallies.{IsTallied}
+use Rattle.driver.proofs.Counts.{round_made}
+use Rattle.driver.proofs.Drives.{driven_so, on_ok, then_after, then_stands}
 use Rattle.driver.proofs.rounds.round.Goals as goal
 
-pub returns-in_err-step-clause-keeps : goal.returns-in_err-step-clause-keeps
-returns-in_err-step-clause-keeps g c =
-    then_stands g.M.Model.meaning g.P.Port.state g.D.SectorDisk.state c.args.session.now c.ask.new.session c.step.new.self
-    (driven_so g.M.Model.meaning g.P.Port.state g.D.SectorDisk.state _ c.args.session.now c.ask.new.session c.in_ok-ask.ensures.driven) c.in_err-step.ensures.keeps
-
 pub returns-clause-driven : goal.returns-clause-driven
-returns-clause-driven g c =
-    let committed = then_by g.M.Model.meaning g.P.Port.state g.D.SectorDisk.state (AreAsked c.args.plan.together c.args.plan.batch c.args.plan.nodes) (λ ks. ks ≡ Commit ∷ []) (AreCommitted c.args.plan) c.args.session.now c.ask.new.session c.step.new.self
-    (then_commit c.args.plan) c.in_ok-ask.ensures.driven
-    (one_step_by g.M.Model.meaning g.P.Port.state g.D.SectorDisk.state _ c.in_ok-step.field-0 c.ask.new.session c.step.new.self c.in_ok-step.ensures) in
-    on_ok c.keep.result
-    (then_by g.M.Model.meaning g.P.Port.state g.D.SectorDisk.state (AreCommitted c.args.plan) (λ ks. ks ≡ kept_after c.args.plan.checkpoint_every c.args.number) (IsRound c.args.plan c.args.number) c.args.session.now c.step.new.self c.keep.new.session
-    (then_kept c.args.plan c.args.number) committed) c.keep.ensures.driven
+returns-clause-driven g c = λ told is.
+    let asked = c.in_ok-ask.ensures.driven in
+    on_ok c.close.result
+    (then_after g.M.Model.meaning g.P.Port.state g.D.SectorDisk.state _
+    (λ (made : List Made). (moves_of made ≡ closing_of c.args.plan c.args.end (told_since told asked.steps) c.ask.new.tally.floor c.ask.new.tally.commits) × IsTallied c.args.plan.commit_every c.ask.new.tally c.close.new.tally made)
+    (λ (made : List Made). IsRound c.args.plan c.args.end told c.args.tally.now.commits made × IsTallied c.args.plan.commit_every c.args.tally.now c.close.new.tally made)
+    c.args.session.now c.ask.new.session c.close.new.session asked
+    (λ ls closed. round_made c.args.plan c.args.end told c.args.tally.now c.begin_round.new.self c.ask.new.tally c.close.new.tally asked.steps ls
+    c.begin_round.ensures.floor c.begin_round.ensures.wanted c.begin_round.ensures.commits c.ask.ensures.commits asked.shape closed))
+    (c.close.ensures.driven (told_since told asked.steps) (asked.shape.tally.wanted told (c.begin_round.ensures.wanted ∙ is)))
 
 pub returns-clause-keeps : goal.returns-clause-keeps
 returns-clause-keeps g c =
-    let committed = then_by g.M.Model.meaning g.P.Port.state g.D.SectorDisk.state (AreAsked c.args.plan.together c.args.plan.batch c.args.plan.nodes) (λ ks. ks ≡ Commit ∷ []) (AreCommitted c.args.plan) c.args.session.now c.ask.new.session c.step.new.self
-    (then_commit c.args.plan) c.in_ok-ask.ensures.driven
-    (one_step_by g.M.Model.meaning g.P.Port.state g.D.SectorDisk.state _ c.in_ok-step.field-0 c.ask.new.session c.step.new.self c.in_ok-step.ensures) in
-    then_stands g.M.Model.meaning g.P.Port.state g.D.SectorDisk.state c.args.session.now c.step.new.self c.keep.new.session
-    (driven_so g.M.Model.meaning g.P.Port.state g.D.SectorDisk.state _ c.args.session.now c.step.new.self committed) c.keep.ensures.keeps
+    then_stands g.M.Model.meaning g.P.Port.state g.D.SectorDisk.state c.args.session.now c.ask.new.session c.close.new.session
+    (driven_so g.M.Model.meaning g.P.Port.state g.D.SectorDisk.state _ c.args.session.now c.ask.new.session c.in_ok-ask.ensures.driven) c.close.ensures.keeps

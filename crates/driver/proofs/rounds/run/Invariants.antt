@@ -1,11 +1,14 @@
 use Rattle.std.proofs.Common.{◌≡◌, ◌≤◌, ◌-◌, length}
 use Rattle.driver.specs.Driver.{AreRounds, IsDrivenBy}
+use Rattle.driver.specs.Tallies.{IsTallyOf}
 use Rattle.driver.proofs.rounds.run.Given as goal
 
 abbrev pub invariant-rounds : goal.invariant-rounds
 invariant-rounds g l = record {
   made : l.made ≤ l.plan.rounds;
-  driven : IsDrivenBy g.M.Model.meaning g.P.Port.state g.D.SectorDisk.state (AreRounds l.plan l.made) l.fn.session l.session;
+  driven : IsDrivenBy g.M.Model.meaning g.P.Port.state g.D.SectorDisk.state (λ made. AreRounds l.plan l.end l.made made × IsTallyOf l.plan.commit_every l.tally made) l.fn.session l.session;
+  commits : l.tally.commits ≤ l.made;
+  budgets : length l.tally.budgets.items ≡ l.plan.nodes;
   count : length l.ran.items ≡ l.plan.nodes;
 }
 

@@ -1,5 +1,11 @@
-use Rattle.driver.specs.Driver.{AreTurns, IsDrivenBy}
+use Rattle.std.proofs.Common.{◌≡◌, length}
+use Rattle.driver.specs.Driver.{IsDrivenBy, AreTurns}
+use Rattle.driver.specs.Tallies.{Tallied}
 use Rattle.driver.proofs.rounds.turns.Given as goal
 
 abbrev pub invariant-nodes : goal.invariant-nodes
-invariant-nodes g l = IsDrivenBy g.M.Model.meaning g.P.Port.state g.D.SectorDisk.state (AreTurns l.plan.batch l.node) l.fn.session l.session
+invariant-nodes g l = record {
+  driven : IsDrivenBy g.M.Model.meaning g.P.Port.state g.D.SectorDisk.state (Tallied l.plan.commit_every (AreTurns l.plan.batch l.node) l.fn.tally l.tally) l.fn.session l.session;
+  commits : l.tally.commits ≡ l.fn.tally.commits;
+  budgets : length l.tally.budgets.items ≡ length l.fn.tally.budgets.items;
+}

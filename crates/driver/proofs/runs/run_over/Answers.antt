@@ -1,9 +1,8 @@
-use Rattle.std.proofs.Common.{Err, ap, arith, length, map, refl, subst, sym, ◌≡◌, ◌∙◌}
+use Rattle.std.proofs.Common.{Err, ap, arith, length, refl, subst, sym, ◌≡◌, ◌∙◌}
 use Rattle.coordinator.proofs.Resuming.{driven-on}
 use Rattle.coordinator.proofs.Begun.{recovers-genuine}
 use Rattle.coordinator.specs.Session.{picture_of, running}
-use Rattle.coordinator.specs.Steps.{move_of}
-use Rattle.driver.proofs.Drives.{goes_by}
+use Rattle.driver.proofs.Drives.{answered, goes_by}
 use Rattle.driver.proofs.Kept.{comes_to, keeps}
 use Rattle.driver.proofs.Unfinished.{unfinished}
 use Rattle.driver.specs.declared.rounds.RunFault.TheVariants.{Rounds}
@@ -115,7 +114,8 @@ returns-clause-rounds g c = λ tell genuine. elim c.match-run.branch [
       let all = ap Err cause in
       let by = w.in-Err-run.ensures.all_rounds all in
       unfinished m c.args.end c.args.plan (g.D.SectorDisk.state c.args.disk).reads c.in-Ok.session.front
-      (running g.M.Model.meaning g.P.Port.state c.in-Ok.session) (running g.M.Model.meaning g.P.Port.state c.run.new.session) (map move_of by.steps)
+      (running g.M.Model.meaning g.P.Port.state c.in-Ok.session) (running g.M.Model.meaning g.P.Port.state c.run.new.session) by.steps
       opened.replayed (ap g.M.Model.meaning opened.same.0) opened.same.1 picture by.shape
-      ((goes_by g.M.Model.meaning g.P.Port.state g.D.SectorDisk.state by.steps c.in-Ok.session c.run.new.session by.made).made begun.0) (w.in-Err-run.ensures.rounds all))
+      ((goes_by g.M.Model.meaning g.P.Port.state g.D.SectorDisk.state by.steps c.in-Ok.session c.run.new.session by.made).made begun.0)
+      (answered g.M.Model.meaning g.P.Port.state g.D.SectorDisk.state by.steps c.in-Ok.session c.run.new.session by.made begun.0) (w.in-Err-run.ensures.rounds all))
 ]

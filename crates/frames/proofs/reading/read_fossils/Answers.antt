@@ -4,7 +4,7 @@ use Rattle.eventkey.specs.Reading.{items_at}
 use Rattle.process.specs.declared.Done.{Done}
 use Rattle.frames.specs.Bodies.{done_at}
 use Rattle.std.specs.declared.alloc.AllocError.{AllocError}
-use Rattle.frames.proofs.Givings.{gives_none, gives_some}
+use Rattle.eventkey.proofs.Givings.{gives_none, gives_some}
 use Rattle.frames.proofs.reading.read_fossils.Goals as goal
 
 pub returns-in-None : goal.returns-in-None

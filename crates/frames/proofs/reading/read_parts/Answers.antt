@@ -4,7 +4,7 @@ use Rattle.eventkey.specs.Reading.{items_at}
 use Rattle.node.specs.declared.Part.{Part}
 use Rattle.frames.specs.Bodies.{part_at}
 use Rattle.std.specs.declared.alloc.AllocError.{AllocError}
-use Rattle.frames.proofs.Givings.{gives_none, gives_some}
+use Rattle.eventkey.proofs.Givings.{gives_none, gives_some}
 use Rattle.frames.proofs.reading.read_parts.Goals as goal
 
 pub returns-in-None : goal.returns-in-None

@@ -1,6 +1,6 @@
 use Rattle.std.proofs.Common.{refl, sym, ◌∙◌}
 use Rattle.std.proofs.lemmas.List.{length-map}
-use Rattle.program.proofs.Ports.{all_fresh, so_many}
+use Rattle.driver.proofs.Ports.{all_fresh, so_many}
 use Rattle.sockets.specs.Socket.{state_of}
 use Rattle.sockets.specs.declared.port.Held.TheVariants.{Fresh}
 use Rattle.program.proofs.Printed.{at_err, at_ok, behind_begun, behind_printed, on_any, on_command}

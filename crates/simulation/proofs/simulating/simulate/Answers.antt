@@ -1,8 +1,8 @@
 use Rattle.std.proofs.Common.{◌≤◌, List, ℕ, subst, sym}
 use Rattle.recovery.specs.Front.{world_of}
-use Rattle.coordinator.proofs.Begun.{recovers-genuine}
+use Rattle.coordinator.proofs.Begun.{recovers-genuine, looked-keeps}
 use Rattle.recovery.specs.Stands.{Stands}
-use Rattle.simulation.proofs.Left.{at_end, exactly_recovers, looked, made_so, one_by_one, prepared_genuine, then_so}
+use Rattle.simulation.proofs.Left.{at_end, exactly_recovers, made_so, one_by_one, prepared_genuine, then_so}
 use Rattle.simulation.proofs.simulating.simulate.Goals as goal
 
 pub returns-in-Err-clause-crashes : goal.returns-in-Err-clause-crashes
@@ -58,7 +58,7 @@ returns-in-Ok-told-clause-committed g c = λ genuine.
     let begun = prepared_genuine m c.args.end (g.D.SectorDisk.state c.args.disk) made (g.met.M.Model.lawful c.args.model.now) c.requires.short (g.met.D.SectorDisk.sound c.prepare.new.disk) (λ blank. c.in_default.ensures.made blank (record { some = c.requires.begun; within = c.requires.short })) c.prepare.ensures.looks genuine in
     let ended = rw c.in-Ok.is at (c.run-disk.ensures.committed begun) in
     let left = recovers-genuine m c.args.end (g.met.M.Model.lawful c.args.model.now) c.requires.short ran (g.met.D.SectorDisk.sound c.run-disk.result.disk) c.args.end ended in
-    (looked m c.args.end c.args.end ran (g.D.SectorDisk.state c.committed-disk.result.disk) c.committed-disk.ensures.looks ended).now_on
+    (looked-keeps m c.args.end c.args.end ran (g.D.SectorDisk.state c.committed-disk.result.disk) c.committed-disk.ensures.looks ended).now_on
 
 pub returns-in-Ok-told-clause-crashes : goal.returns-in-Ok-told-clause-crashes
 returns-in-Ok-told-clause-crashes g c = λ a recovers.
@@ -69,7 +69,7 @@ returns-in-Ok-told-clause-crashes g c = λ a recovers.
     let new = g.D.SectorDisk.state c.committed-disk.result.disk in
     one_by_one m c.args.end a old ran new
     (one_by_one m c.args.end a old made ran (c.prepare.ensures.crashes m c.args.end a recovers) (c.run-disk.ensures.crashes a))
-    (looked m c.args.end a ran new c.committed-disk.ensures.looks)
+    (looked-keeps m c.args.end a ran new c.committed-disk.ensures.looks)
 
 pub returns-in-Ok-told-clause-any_moment : goal.returns-in-Ok-told-clause-any_moment
 returns-in-Ok-told-clause-any_moment g c = λ firm blank.
@@ -81,7 +81,7 @@ returns-in-Ok-told-clause-any_moment g c = λ firm blank.
     let runs = c.run-disk.ensures.crashes 0 (exactly_recovers m c.args.end made (c.in_default.ensures.made blank (record { some = c.requires.begun; within = c.requires.short }))) in
     then_so m c.args.end old ran new
     (then_so m c.args.end old made ran (made_so m c.args.end old made (c.prepare.ensures.any_moment firm blank (record { some = c.requires.begun; within = c.requires.short }))) runs)
-    (looked m c.args.end 0 ran new c.committed-disk.ensures.looks runs.now_on)
+    (looked-keeps m c.args.end 0 ran new c.committed-disk.ensures.looks runs.now_on)
 
 pub returns-in-Err-told-2-clause-crashes : goal.returns-in-Err-told-2-clause-crashes
 returns-in-Err-told-2-clause-crashes g c = λ a recovers.
@@ -92,7 +92,7 @@ returns-in-Err-told-2-clause-crashes g c = λ a recovers.
     let new = g.D.SectorDisk.state c.committed-disk.result.disk in
     one_by_one m c.args.end a old ran new
     (one_by_one m c.args.end a old made ran (c.prepare.ensures.crashes m c.args.end a recovers) (c.run-disk.ensures.crashes a))
-    (looked m c.args.end a ran new c.committed-disk.ensures.looks)
+    (looked-keeps m c.args.end a ran new c.committed-disk.ensures.looks)
 
 pub returns-in-Err-told-2-clause-any_moment : goal.returns-in-Err-told-2-clause-any_moment
 returns-in-Err-told-2-clause-any_moment g c = λ firm blank.
@@ -104,4 +104,4 @@ returns-in-Err-told-2-clause-any_moment g c = λ firm blank.
     let runs = c.run-disk.ensures.crashes 0 (exactly_recovers m c.args.end made (c.in_default.ensures.made blank (record { some = c.requires.begun; within = c.requires.short }))) in
     then_so m c.args.end old ran new
     (then_so m c.args.end old made ran (made_so m c.args.end old made (c.prepare.ensures.any_moment firm blank (record { some = c.requires.begun; within = c.requires.short }))) runs)
-    (looked m c.args.end 0 ran new c.committed-disk.ensures.looks runs.now_on)
+    (looked-keeps m c.args.end 0 ran new c.committed-disk.ensures.looks runs.now_on)

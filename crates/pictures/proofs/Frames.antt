@@ -1,0 +1,97 @@
+-- The labels of an axis, and which messages are shown.
+use Rattle.std.proofs.Common.{◌≡◌, ◌≢◌, ◌==◌, ℕ, zero, suc, ◌+◌, ◌-◌, ◌*◌, ◌/◌, ◌^◌, ◌<◌, ◌≤◌, ◌&&◌, nat_le, List, [], ◌∷◌, ◌++◌, length, get_or, set, drop, take, filter, flat_map, Bool, true, false, refl, ap, ◌∙◌, sym, arith, inl, inr, eq-eqb, eqb-true}
+use Rattle.std.proofs.lemmas.Bool.{and_parts, cases_Bool, cond_both, eqb-false, leb-true}
+use Rattle.std.proofs.lemmas.List.{drop_all, drop_more, get_or-set_other, get_or-set_same}
+use Rattle.eventkey.proofs.Lists.{drop_here}
+use Rattle.model.specs.World.{below}
+use Rattle.model.proofs.Worlds.{get_or-below, length-below}
+use Rattle.pictures.specs.Drawing.{step_from}
+use Rattle.pictures.specs.declared.drawn.TheConstants.{STEPS}
+use Rattle.pictures.proofs.Counts.{length-filter-le}
+
+-- 1. Round numbers
+
+all_round : List ℕ → Bool
+all_round [] = true
+all_round (n ∷ ns) = (nat_le 1 n && nat_le n (2 ^ 40)) && all_round ns
+
+step_in_range : (span : ℕ) (steps : List ℕ) → all_round steps ≡ true → (1 ≤ step_from span steps) × (step_from span steps ≤ 2 ^ 40)
+unfolding step_from all_round
+step_in_range span [] all = (omega arith, omega arith)
+step_in_range span (n ∷ ns) all =
+    let (here, others) = and_parts (nat_le 1 n && nat_le n (2 ^ 40)) (all_round ns) all in
+    let (low, high) = and_parts (nat_le 1 n) (nat_le n (2 ^ 40)) here in
+    cond_both (nat_le span (10 * n)) n (step_from span ns) (λ k. (1 ≤ k) × (k ≤ 2 ^ 40))
+    (λ e. (leb-true 1 n low, leb-true n (2 ^ 40) high))
+    (λ e. step_in_range span ns others)
+
+pub steps_in_range : (span : ℕ) → (1 ≤ step_from span STEPS) × (step_from span STEPS ≤ 2 ^ 40)
+unfolding all_round
+steps_in_range span = step_in_range span STEPS refl
+
+-- 2. The first messages that are shown
+
+pub filter_fits : {X : Type 0} (p : X → Bool) (xs : List X) (i n : ℕ) (x : X) → i < length xs → x ≡ get_or xs i x → p x ≡ true
+    → n + length (filter p (drop i xs)) ≡ length (filter p xs) → n + 1 ≤ length xs
+filter_fits p xs i n x l is wanted so_far =
+    let h = rw (drop_here xs i x l is, wanted) at so_far in
+    omega (arith, length-filter-le p xs, h)
+
+module _ {X : Type 0} (f : X → List ℕ) (p : X → Bool) (xs : List X) (i : ℕ) (x : X) (l : i < length xs) (is : x ≡ get_or xs i x) where
+  pub first-here : (left : ℕ) → 0 < left → p x ≡ true → flat_map f (take left (filter p (drop i xs))) ≡ f x ++ flat_map f (take (left - 1) (filter p (drop (i + 1) xs)))
+  first-here zero some wanted = absurd (omega arith)
+  first-here (suc left) some wanted = let e : suc left - 1 ≡ left = omega arith in rw (drop_here xs i x l is, wanted, e) refl
+
+  pub first-passed : (left : ℕ) → p x ≡ false → flat_map f (take left (filter p (drop i xs))) ≡ flat_map f (take left (filter p (drop (i + 1) xs)))
+  first-passed left other = rw (drop_here xs i x l is, other) refl
+
+  pub first-full : (left : ℕ) → left ≡ 0 → flat_map f (take left (filter p (drop i xs))) ≡ flat_map f (take left (filter p (drop (i + 1) xs)))
+  first-full left none = rw none refl
+
+-- 3. Rows and labels, one after another
+
+module _ {X : Type 0} (f : ℕ → List X) (n i : ℕ) where
+  pub below-next : i < n → flat_map f (drop i (below n)) ≡ f i ++ flat_map f (drop (i + 1) (below n))
+  below-next l = flat_map-here ∙ ap (λ k. f k ++ flat_map f (drop (i + 1) (below n))) (get_or-below n i 0 l)
+    where
+      flat_map-here : flat_map f (drop i (below n)) ≡ f (get_or (below n) i 0) ++ flat_map f (drop (i + 1) (below n))
+      flat_map-here = rw (drop_more (below n) i 0 (omega (arith, length-below n))) refl
+
+  pub below-done : n ≤ i → length (flat_map f (drop i (below n))) ≡ 0
+  below-done l = rw (drop_all i (below n) (omega (arith, length-below n))) refl
+
+pub first_low : (a step : ℕ) → 1 ≤ step → a / step * step ≤ a
+first_low a step some = omega arith
+
+-- 4. Counts by a key
+
+module _ {X : Type 0} (q : X → Bool) (key : X → ℕ) (xs : List X) (i : ℕ) (x : X) (l : i < length xs) (is : x ≡ get_or xs i x) where
+  pub keys-passed : (counts : List ℕ) (s all : ℕ) → q x ≡ false
+      → get_or counts s 0 + length (filter (λ y. q y && (key y == s)) (drop i xs)) ≡ all
+      → get_or counts s 0 + length (filter (λ y. q y && (key y == s)) (drop (i + 1) xs)) ≡ all
+  keys-passed counts s all other so_far = rw (drop_here xs i x l is, other) at so_far
+
+  pub keys-counted : (counts : List ℕ) (k n s all : ℕ) → q x ≡ true → k ≡ key x → k < length counts → n ≡ get_or counts k 0 + 1
+      → get_or counts s 0 + length (filter (λ y. q y && (key y == s)) (drop i xs)) ≡ all
+      → get_or (set counts k n) s 0 + length (filter (λ y. q y && (key y == s)) (drop (i + 1) xs)) ≡ all
+  keys-counted counts k n s all here k_is inside n_is so_far =
+      let h = rw (drop_here xs i x l is, here) at so_far in
+      elim (cases_Bool (key x == s)) [
+        | inl e ↦
+            let same : s ≡ k = sym (k_is ∙ eqb-true (key x) s e) in
+            let v : get_or (set counts k n) s 0 ≡ n = ap (λ j. get_or (set counts k n) j 0) same ∙ get_or-set_same counts k n 0 inside in
+            let w : get_or counts s 0 ≡ get_or counts k 0 = ap (λ j. get_or counts j 0) same in
+            let h' = rw e at h in
+            omega (arith, v, w, n_is, h')
+        | inr e ↦
+            let other : s ≢ k = λ same. eqb-false (key x) s e (sym k_is ∙ sym same) in
+            let v = get_or-set_other counts k s n 0 other in
+            let h' = rw e at h in
+            omega (arith, v, h')
+      ]
+
+  pub keys-fit : (counts : List ℕ) (k : ℕ) → q x ≡ true → k ≡ key x
+      → get_or counts k 0 + length (filter (λ y. q y && (key y == k)) (drop i xs)) ≡ length (filter (λ y. q y && (key y == k)) xs) → get_or counts k 0 + 1 ≤ length xs
+  keys-fit counts k here k_is so_far =
+      let h = rw (drop_here xs i x l is, here, eq-eqb (key x) k (sym k_is)) at so_far in
+      omega (arith, length-filter-le (λ y. q y && (key y == k)) xs, h)

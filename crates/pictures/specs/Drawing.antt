@@ -1,0 +1,117 @@
+-- The space-time diagram of a run: virtual time along x, a line for each process, a dot for each
+-- event, and a line for each message from its sending to its receiving. Coordinates are whole
+-- pixels.
+use Rattle.std.specs.List.{filter}
+use Rattle.std.specs.Prelude.{ℕ, ◌+◌, ◌-◌, ◌*◌, ◌/◌, ◌^◌, ◌&&◌, Bool, List, [], ◌∷◌, ◌++◌, drop, flat_map, if◌then◌else◌, length, max, min, nat_le, nat_lt, take}
+use Rattle.eventkey.specs.Message.{Message}
+use Rattle.model.specs.World.{below}
+use Rattle.pictures.specs.Filled.{filled}
+use Rattle.pictures.specs.Run.{Run, sent_at}
+use Rattle.pictures.specs.declared.drawn.Frame.{Frame}
+use Rattle.pictures.specs.declared.drawn.View.{View}
+use Rattle.pictures.specs.declared.drawn.TheConstants.{DOT, HEAD, LINE, NOTE, PENDING, ROW, RULE, STEPS, STYLE, TAIL, TICK}
+
+-- the part of a run that a picture shows: ticks from one to another, and so many processes, at
+-- most 64, from the first on
+abbrev pub frame_of : Run → View → Frame
+frame_of r v =
+    let from = min v.from (2 ^ 41) in
+    record {
+      from = from;
+      to = max from (min v.to (2 ^ 41));
+      first = v.first;
+      rows = min 64 (min (v.last + 1) (length r.first) - v.first);
+    }
+
+-- how many ticks it shows
+abbrev pub span_of : Frame → ℕ
+span_of f = max 1 (f.to - f.from)
+
+-- where a time lies, one outside at the edge
+abbrev pub x_of : Frame → ℕ → ℕ
+x_of f time = 60 + min (time - f.from) (span_of f) * 900 / span_of f
+
+-- where a process lies, one outside beyond the edge
+abbrev pub y_of : Frame → ℕ → ℕ
+y_of f process =
+    if nat_lt process f.first then 40 else 60 + 20 * min (process - f.first) f.rows
+
+abbrev pub bottom_of : Frame → ℕ
+bottom_of f = 60 + 20 * f.rows
+
+-- a message that is received in the frame before this time, and sent before the frame's end
+abbrev pub is_shown : Run → Frame → ℕ → Message → Bool
+is_shown r f before x =
+    nat_le f.from x.time && (nat_lt x.time before && (nat_lt (sent_at r x) f.to
+    && (nat_le f.first x.to && nat_lt (x.to - f.first) f.rows)))
+
+-- where it is sent and received, and what it is
+abbrev pub mark_numbers : Run → Frame → Message → List ℕ
+mark_numbers r f x =
+    x_of f (sent_at r x) ∷ y_of f x.from ∷ x_of f x.time ∷ y_of f x.to
+    ∷ sent_at r x ∷ x.time ∷ x.from ∷ x.number ∷ x.to ∷ x.a ∷ x.b ∷ x.c ∷ x.d ∷ []
+
+-- marks of the first 2,000 messages that are shown
+abbrev pub marks_text : Run → Frame → List ℕ → ℕ → ℕ → List Message → List ℕ
+marks_text r f text skip before xs =
+    flat_map (λ x. filled text (drop skip (mark_numbers r f x)))
+    (take 2000 (filter (is_shown r f before) xs))
+
+-- the least of the round steps of which ten span the frame
+unfoldable pub step_from : ℕ → List ℕ → ℕ
+step_from span [] = 1000000000000
+step_from span (step ∷ steps) =
+    if nat_le span (10 * step) then step else step_from span steps
+
+abbrev pub step_of : Frame → ℕ
+step_of f = step_from (span_of f) STEPS
+
+-- the first multiple of the step in the frame, and how many there are
+abbrev pub first_tick : Frame → ℕ
+first_tick f = (f.from + step_of f - 1) / step_of f * step_of f
+
+abbrev pub tick_count : Frame → ℕ
+tick_count f = (f.to + step_of f - first_tick f) / step_of f
+
+abbrev pub tick_text : Frame → ℕ → List ℕ
+tick_text f time = filled TICK.now
+    (x_of f time ∷ x_of f time ∷ bottom_of f ∷ x_of f time ∷ (bottom_of f + 16) ∷ time ∷ [])
+
+abbrev pub ticks_text : Frame → List ℕ
+ticks_text f = flat_map (λ k. tick_text f (first_tick f + k * step_of f)) (below (tick_count f))
+
+abbrev pub row_text : Frame → ℕ → List ℕ
+row_text f k = filled ROW.now
+    ((60 + 20 * k) ∷ (60 + 20 * k) ∷ (64 + 20 * k) ∷ (f.first + k) ∷ [])
+
+abbrev pub rows_text : Frame → List ℕ
+rows_text f = flat_map (row_text f) (below f.rows)
+
+-- the virtual time up to which the run went, where the frame shows it
+abbrev pub rule_text : Run → Frame → List ℕ
+rule_text r f =
+    if nat_le f.from r.time && nat_le r.time f.to then filled RULE.now
+    (x_of f r.time ∷ x_of f r.time ∷ bottom_of f ∷ r.time ∷ []) else []
+
+-- how many events lie in the frame
+abbrev pub shown_count : Run → Frame → ℕ
+shown_count r f = length (filter (is_shown r f f.to) r.events)
+
+abbrev pub note_text : Run → Frame → List ℕ
+note_text r f = filled NOTE.now
+    (min 2000 (shown_count r f) ∷ shown_count r f ∷ f.first ∷ (f.first + f.rows - 1)
+    ∷ length r.first ∷ [])
+
+abbrev pub head_text : Frame → List ℕ
+head_text f = filled HEAD.now ((bottom_of f + 40) ∷ (bottom_of f + 40) ∷ f.from ∷ f.to ∷ [])
+
+abbrev pub picture_text : Run → Frame → List ℕ
+picture_text r f =
+    head_text f ++ STYLE.now ++ ticks_text f ++ rows_text f
+    ++ marks_text r f PENDING.now 0 (2 ^ 64 - 1) r.pending
+    ++ marks_text r f LINE.now 0 f.to r.events
+    ++ marks_text r f DOT.now 2 f.to r.events
+    ++ rule_text r f ++ note_text r f ++ TAIL.now
+
+abbrev pub drawing_text : Run → View → List ℕ
+drawing_text r v = picture_text r (frame_of r v)

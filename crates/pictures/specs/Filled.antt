@@ -1,0 +1,10 @@
+-- A line of a picture or a table: a text with numbers in its holes.
+use Rattle.std.specs.Prelude.{ℕ, List, [], ◌∷◌, ◌++◌, ◌==◌, if◌then◌else◌, decimal}
+
+-- the text with these numbers in decimal digits, each in place of one `$`, from left to right;
+-- where there are fewer of them than holes, the last holes stay
+unfoldable pub filled : List ℕ → List ℕ → List ℕ
+filled [] numbers = []
+filled (byte ∷ bytes) [] = byte ∷ bytes
+filled (byte ∷ bytes) (n ∷ ns) =
+    if byte == 36 then decimal n ++ filled bytes ns else byte ∷ filled bytes (n ∷ ns)

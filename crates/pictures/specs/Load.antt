@@ -1,0 +1,56 @@
+-- The load of a run: how many events each process handled in each slice of virtual time, as a heat
+-- map.
+use Rattle.std.specs.List.{filter}
+use Rattle.std.specs.Prelude.{ℕ, ◌+◌, ◌-◌, ◌*◌, ◌/◌, ◌%◌, ◌&&◌, ◌==◌, Bool, List, [], ◌∷◌, ◌++◌, flat_map, length, min, nat_le, nat_lt}
+use Rattle.eventkey.specs.Message.{Message}
+use Rattle.model.specs.World.{below}
+use Rattle.pictures.specs.Drawing.{bottom_of, frame_of, rows_text, span_of, ticks_text}
+use Rattle.pictures.specs.Filled.{filled}
+use Rattle.pictures.specs.Run.{Run}
+use Rattle.pictures.specs.declared.drawn.Frame.{Frame}
+use Rattle.pictures.specs.declared.drawn.View.{View}
+use Rattle.pictures.specs.declared.drawn.TheConstants.{STYLE, TAIL}
+use Rattle.pictures.specs.declared.loads.TheConstants.{CELL, LEVELS, LOAD_HEAD}
+
+-- how many slices of time there are, at most 64, and in which one a time of the frame lies
+abbrev pub slices_of : Frame → ℕ
+slices_of f = min 64 (span_of f)
+
+abbrev pub slice_at : Frame → ℕ → ℕ
+slice_at f time = (time - f.from) * slices_of f / span_of f
+
+-- the first time of a slice
+abbrev pub slice_start : Frame → ℕ → ℕ
+slice_start f slice = f.from + (slice * span_of f + slices_of f - 1) / slices_of f
+
+-- an event that the process of a row handled in the frame
+abbrev pub is_in_row : Frame → ℕ → Message → Bool
+is_in_row f row x = nat_le f.from x.time && (nat_lt x.time f.to && (x.to == f.first + row))
+
+abbrev pub cell_count : Run → Frame → ℕ → ℕ → ℕ
+cell_count r f row slice =
+    length (filter (λ (x : Message). is_in_row f row x && (slice_at f x.time == slice)) r.events)
+
+-- the tenths of its colour: how many of the levels it reaches
+abbrev pub level_of : ℕ → ℕ
+level_of count = length (filter (λ level. nat_le level count) LEVELS)
+
+abbrev pub cell_text : Frame → ℕ → ℕ → ℕ → List ℕ
+cell_text f row slice count = filled CELL.now
+    ((60 + slice * 900 / slices_of f) ∷ (51 + 20 * row)
+    ∷ ((slice + 1) * 900 / slices_of f - slice * 900 / slices_of f)
+    ∷ (level_of count / 10) ∷ (level_of count % 10)
+    ∷ (f.first + row) ∷ slice_start f slice ∷ slice_start f (slice + 1) ∷ count ∷ [])
+
+abbrev pub cells_text : Run → Frame → ℕ → List ℕ
+cells_text r f row =
+    flat_map (λ slice. cell_text f row slice (cell_count r f row slice)) (below (slices_of f))
+
+abbrev pub map_text : Run → Frame → List ℕ
+map_text r f =
+    filled LOAD_HEAD.now ((bottom_of f + 40) ∷ (bottom_of f + 40) ∷ f.from ∷ f.to ∷ [])
+    ++ STYLE.now ++ ticks_text f ++ rows_text f
+    ++ flat_map (cells_text r f) (below f.rows) ++ TAIL.now
+
+abbrev pub load_text : Run → View → List ℕ
+load_text r v = map_text r (frame_of r v)

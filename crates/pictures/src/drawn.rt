@@ -1,0 +1,407 @@
+// The space-time diagram of a run.
+
+ghost use Rattle.std.specs.List.{filter};
+ghost use Rattle.std.specs.Prelude.{◌≡◌, ◌≤◌, ◌<◌, ◌+◌, ◌-◌, ◌*◌, ◌^◌, ◌++◌, drop, flat_map, length};
+ghost use Rattle.eventkey.specs.Writing.{Writes};
+ghost use Rattle.model.specs.World.{below};
+ghost use Rattle.pictures.specs.Drawing.{bottom_of, drawing_text, first_tick, frame_of, head_text};
+ghost use Rattle.pictures.specs.Drawing.{is_shown, mark_numbers, marks_text, note_text, picture_text};
+ghost use Rattle.pictures.specs.Drawing.{row_text, rows_text, rule_text, shown_count, span_of, step_from};
+ghost use Rattle.pictures.specs.Drawing.{step_of, tick_count, tick_text, ticks_text, x_of, y_of};
+ghost use Rattle.pictures.specs.Filled.{filled as filled_with};
+
+use crate::Trace;
+use crate::filled::write_filled;
+use eventkey::Message;
+use std::io::{Result, Write};
+use texts::write_text;
+
+/// The part of a run that a picture is to show.
+#[derive(Clone, Copy, Debug, PartialEq, Eq)]
+pub struct View {
+    /// The first time in ticks.
+    pub from: u64,
+    /// The time in ticks before which it ends.
+    pub to: u64,
+    /// The first process.
+    pub first: u32,
+    /// The last process.
+    pub last: u32,
+}
+
+/// What a picture shows of it: at most 64 processes, and those that are there.
+#[derive(Clone, Copy)]
+pub(crate) struct Frame {
+    pub(crate) from: u64,
+    pub(crate) to: u64,
+    pub(crate) first: u32,
+    pub(crate) rows: u32,
+}
+
+/// Round numbers of ticks, ascending.
+const STEPS: [u64; 36] = [
+    1,
+    2,
+    5,
+    10,
+    20,
+    50,
+    100,
+    200,
+    500,
+    1000,
+    2000,
+    5000,
+    10000,
+    20000,
+    50000,
+    100000,
+    200000,
+    500000,
+    1000000,
+    2000000,
+    5000000,
+    10000000,
+    20000000,
+    50000000,
+    100000000,
+    200000000,
+    500000000,
+    1000000000,
+    2000000000,
+    5000000000,
+    10000000000,
+    20000000000,
+    50000000000,
+    100000000000,
+    200000000000,
+    500000000000,
+];
+
+// Each `$` is the place of a number.
+const HEAD: &str = "\
+<svg xmlns=\"http://www.w3.org/2000/svg\" viewBox=\"0 0 1000 $\" width=\"1000\" height=\"$\" role=\"img\">
+<title>Space-time diagram, virtual time $ to $</title>
+";
+
+pub(crate) const STYLE: &str = "\
+<style>
+svg{background:#fff;font:12px sans-serif}text{fill:#000}
+.row{stroke:#999}.tick{stroke:#ddd}.message{stroke:#0072b2;stroke-opacity:.6}
+.pending{stroke:#d55e00;stroke-dasharray:4 3}.event{fill:#009e73}.load{fill:#0072b2}.time{stroke:#cc79a7;stroke-width:2}
+@media(prefers-color-scheme:dark){svg{background:#111}text{fill:#eee}.row{stroke:#777}
+.tick{stroke:#333}.message{stroke:#56b4e9}.pending{stroke:#e69f00}}
+</style>
+";
+
+const TICK: &str = "\
+<line class=\"tick\" x1=\"$\" y1=\"40\" x2=\"$\" y2=\"$\"/>\
+<text x=\"$\" y=\"$\" text-anchor=\"middle\">$</text>
+";
+
+const ROW: &str = "\
+<line class=\"row\" x1=\"60\" y1=\"$\" x2=\"960\" y2=\"$\"/>\
+<text x=\"52\" y=\"$\" text-anchor=\"end\">$</text>
+";
+
+const LINE: &str = "\
+<line class=\"message\" x1=\"$\" y1=\"$\" x2=\"$\" y2=\"$\">\
+<title>sent $, received $, from $, number $, to $: $ $ $ $</title></line>
+";
+
+const PENDING: &str = "\
+<line class=\"pending\" x1=\"$\" y1=\"$\" x2=\"$\" y2=\"$\">\
+<title>pending: sent $, received $, from $, number $, to $: $ $ $ $</title></line>
+";
+
+const DOT: &str = "\
+<circle class=\"event\" cx=\"$\" cy=\"$\" r=\"3\">\
+<title>sent $, received $, from $, number $, to $: $ $ $ $</title></circle>
+";
+
+const RULE: &str = "\
+<line class=\"time\" x1=\"$\" y1=\"40\" x2=\"$\" y2=\"$\"><title>virtual time $</title></line>
+";
+
+const NOTE: &str = "\
+<text x=\"60\" y=\"24\">shown: events 1 to $ of $, processes $ to $ of $</text>
+";
+
+pub(crate) const TAIL: &str = "</svg>\n";
+
+/// Writes the space-time diagram of a run as a stand-alone SVG: virtual time along x, a line for
+/// each process, a dot for each event in the view, a line for each of their messages, and a dashed
+/// one for each that is pending. Of a larger view it shows the first 64 processes and the first
+/// 2,000 events and pending messages, and says so. Times from 2^41 on count as that.
+///
+/// Where the writer fails, what it has taken is a beginning of the text, and the answer is its
+/// error. It costs the run's messages and takes no memory.
+pub fn write_drawing<W: Write>(trace: &Trace, view: &View, out: &mut W) -> Result<()>
+    ensures { Writes (W.contents out.old) (W.contents out.new) result
+        (drawing_text trace.now view.now) }
+{
+    let frame = framed(trace, view);
+    write_picture(trace, &frame, out)
+}
+
+/// What a view shows.
+pub(crate) fn framed(trace: &Trace, view: &View) -> Frame
+    ensures { result ≡ frame_of trace.now view.now }
+{
+    let from = view.from.min(1 << 41);
+    let lps = trace.first().len() as u64;
+    let behind = (u64::from(view.last) + 1).min(lps);
+    Frame {
+        from,
+        to: view.to.min(1 << 41).max(from),
+        first: view.first,
+        rows: behind.saturating_sub(u64::from(view.first)).min(64) as u32,
+    }
+}
+
+fn write_picture<W: Write>(trace: &Trace, frame: &Frame, out: &mut W) -> Result<()>
+    requires order { frame.now.from ≤ frame.now.to }
+    requires to { frame.now.to ≤ 2 ^ 41 }
+    requires rows { frame.now.rows ≤ 64 }
+    requires first { frame.now.first < 2 ^ 32 }
+    ensures { Writes (W.contents out.old) (W.contents out.new) result
+        (picture_text trace.now frame.now) }
+{
+    write_head(frame, out)?;
+    write_text(STYLE, out)?;
+    write_ticks(frame, out)?;
+    write_rows(frame, out)?;
+    write_marks(trace, frame, PENDING, 0, u64::MAX, trace.pending(), out)?;
+    write_marks(trace, frame, LINE, 0, frame.to, trace.events(), out)?;
+    write_marks(trace, frame, DOT, 2, frame.to, trace.events(), out)?;
+    write_rule(trace, frame, out)?;
+    write_note(trace, frame, out)?;
+    write_text(TAIL, out)
+}
+
+pub(crate) fn span(frame: &Frame) -> u64
+    ensures { result ≡ span_of frame.now }
+{
+    frame.to.saturating_sub(frame.from).max(1)
+}
+
+fn x_at(frame: &Frame, time: u64) -> u64
+    requires { frame.now.to ≤ 2 ^ 41 }
+    ensures x { result ≡ x_of frame.now time }
+    ensures within { result ≤ 960 }
+{
+    let span = span(frame);
+    60 + time.saturating_sub(frame.from).min(span) * 900 / span
+}
+
+fn y_at(frame: &Frame, process: u32) -> u64
+    requires { frame.now.rows ≤ 64 }
+    ensures { result ≡ y_of frame.now process }
+{
+    if process < frame.first {
+        return 40;
+    }
+    60 + 20 * u64::from((process - frame.first).min(frame.rows))
+}
+
+pub(crate) fn bottom(frame: &Frame) -> u64
+    requires { frame.now.rows ≤ 64 }
+    ensures y { result ≡ bottom_of frame.now }
+    ensures within { result ≤ 1340 }
+{
+    60 + 20 * u64::from(frame.rows)
+}
+
+fn write_head<W: Write>(frame: &Frame, out: &mut W) -> Result<()>
+    requires { frame.now.rows ≤ 64 }
+    ensures { Writes (W.contents out.old) (W.contents out.new) result (head_text frame.now) }
+{
+    let height = bottom(frame) + 40;
+    write_filled(HEAD, &[height, height, frame.from, frame.to], out)
+}
+
+pub(crate) fn write_ticks<W: Write>(frame: &Frame, out: &mut W) -> Result<()>
+    requires order { frame.now.from ≤ frame.now.to }
+    requires to { frame.now.to ≤ 2 ^ 41 }
+    requires rows { frame.now.rows ≤ 64 }
+    ensures { Writes (W.contents out.old) (W.contents out.new) result (ticks_text frame.now) }
+{
+    let step = step(frame);
+    let first = (frame.from + step - 1) / step * step;
+    let count = (frame.to + step - first) / step;
+    for place in 0..count {
+        write_tick(frame, first + place * step, out)?;
+    }
+    Ok(())
+}
+
+/// The ticks between two labels.
+fn step(frame: &Frame) -> u64
+    requires { frame.now.to ≤ 2 ^ 41 }
+    ensures step { result ≡ step_of frame.now }
+    ensures some { 1 ≤ result }
+    ensures fits { result ≤ 2 ^ 40 }
+{
+    first_round(span(frame), &STEPS)
+}
+
+/// The least of some ascending numbers of which ten reach so far.
+#[tactic(auto, unfolding(crate::specs::Drawing::step_from))]
+fn first_round(span: u64, steps: &[u64]) -> u64
+    requires { span ≤ 2 ^ 41 }
+    ensures { result ≡ step_from span steps.now }
+{
+    for step in steps {
+        if span.div_ceil(10) <= *step {
+            return *step;
+        }
+    }
+    1000000000000
+}
+
+fn write_tick<W: Write>(frame: &Frame, time: u64, out: &mut W) -> Result<()>
+    requires to { frame.now.to ≤ 2 ^ 41 }
+    requires rows { frame.now.rows ≤ 64 }
+    ensures { Writes (W.contents out.old) (W.contents out.new) result (tick_text frame.now time) }
+{
+    let x = x_at(frame, time);
+    let y = bottom(frame);
+    write_filled(TICK, &[x, x, y, x, y + 16, time], out)
+}
+
+pub(crate) fn write_rows<W: Write>(frame: &Frame, out: &mut W) -> Result<()>
+    requires rows { frame.now.rows ≤ 64 }
+    requires first { frame.now.first < 2 ^ 32 }
+    ensures { Writes (W.contents out.old) (W.contents out.new) result (rows_text frame.now) }
+{
+    for place in 0..frame.rows {
+        write_process(frame, place, out)?;
+    }
+    Ok(())
+}
+
+fn write_process<W: Write>(frame: &Frame, place: u32, out: &mut W) -> Result<()>
+    requires place { place ≤ 64 }
+    requires first { frame.now.first < 2 ^ 32 }
+    ensures { Writes (W.contents out.old) (W.contents out.new) result (row_text frame.now place) }
+{
+    let y = 60 + 20 * u64::from(place);
+    let process = u64::from(frame.first) + u64::from(place);
+    write_filled(ROW, &[y, y, y + 4, process], out)
+}
+
+/// Whether a message has marks.
+fn has_marks(trace: &Trace, frame: &Frame, before: u64, message: &Message) -> bool
+    ensures { result ≡ is_shown trace.now frame.now before message.now }
+{
+    let time = message.time();
+    let to = message.to();
+    if time < frame.from || time >= before || trace.sent_at(message) >= frame.to {
+        return false;
+    }
+    to >= frame.first && to - frame.first < frame.rows
+}
+
+/// A mark of each of the first 2,000 messages that are shown.
+fn write_marks<W: Write>(
+    trace: &Trace,
+    frame: &Frame,
+    text: &str,
+    skip: usize,
+    before: u64,
+    messages: &[Message],
+    out: &mut W,
+) -> Result<()>
+    requires to { frame.now.to ≤ 2 ^ 41 }
+    requires rows { frame.now.rows ≤ 64 }
+    requires skip { skip ≤ 13 }
+    ensures { Writes (W.contents out.old) (W.contents out.new) result
+        (marks_text trace.now frame.now text.now skip before messages.now) }
+{
+    let mut left = 2000usize;
+    for message in messages {
+        if left > 0 && has_marks(trace, frame, before, message) {
+            write_mark(trace, frame, text, skip, message, out)?;
+            left -= 1;
+        }
+    }
+    Ok(())
+}
+
+fn write_mark<W: Write>(
+    trace: &Trace,
+    frame: &Frame,
+    text: &str,
+    skip: usize,
+    message: &Message,
+    out: &mut W,
+) -> Result<()>
+    requires to { frame.now.to ≤ 2 ^ 41 }
+    requires rows { frame.now.rows ≤ 64 }
+    requires skip { skip ≤ 13 }
+    ensures { Writes (W.contents out.old) (W.contents out.new) result
+        (filled_with text.now (drop skip (mark_numbers trace.now frame.now message.now))) }
+{
+    let sent = trace.sent_at(message);
+    let numbers = [
+        x_at(frame, sent),
+        y_at(frame, message.from()),
+        x_at(frame, message.time()),
+        y_at(frame, message.to()),
+        sent,
+        message.time(),
+        u64::from(message.from()),
+        message.number(),
+        u64::from(message.to()),
+        message.a(),
+        message.b(),
+        message.c(),
+        message.d(),
+    ];
+    write_filled(text, numbers.split_at(skip).1, out)
+}
+
+fn write_rule<W: Write>(trace: &Trace, frame: &Frame, out: &mut W) -> Result<()>
+    requires to { frame.now.to ≤ 2 ^ 41 }
+    requires rows { frame.now.rows ≤ 64 }
+    ensures { Writes (W.contents out.old) (W.contents out.new) result
+        (rule_text trace.now frame.now) }
+{
+    let time = trace.time();
+    if time < frame.from || time > frame.to {
+        return write_text("", out);
+    }
+    let x = x_at(frame, time);
+    write_filled(RULE, &[x, x, bottom(frame), time], out)
+}
+
+fn write_note<W: Write>(trace: &Trace, frame: &Frame, out: &mut W) -> Result<()>
+    requires rows { frame.now.rows ≤ 64 }
+    requires first { frame.now.first < 2 ^ 32 }
+    ensures { Writes (W.contents out.old) (W.contents out.new) result
+        (note_text trace.now frame.now) }
+{
+    let count = count_shown(trace, frame);
+    let first = u64::from(frame.first);
+    let numbers = [
+        count.min(2000),
+        count,
+        first,
+        (first + u64::from(frame.rows)).saturating_sub(1),
+        trace.first().len() as u64,
+    ];
+    write_filled(NOTE, &numbers, out)
+}
+
+/// How many events lie in the frame.
+fn count_shown(trace: &Trace, frame: &Frame) -> u64
+    ensures { result ≡ shown_count trace.now frame.now }
+{
+    let mut count = 0u64;
+    for event in trace.events() {
+        if has_marks(trace, frame, frame.to, event) {
+            count += 1;
+        }
+    }
+    count
+}

@@ -1,0 +1,17 @@
+//! What a committed run looks like: parts of its log, figures, and drawings.
+#![tactic(auto)]
+
+mod chosen;
+mod counted;
+mod drawn;
+mod filled;
+mod loads;
+mod tables;
+mod traced;
+
+pub use chosen::{Choice, write_chosen};
+pub use counted::{Busy, Figures, Rate, Spread, figures_of};
+pub use drawn::{View, write_drawing};
+pub use loads::write_load;
+pub use tables::{write_stats, write_stats_csv};
+pub use traced::{Trace, trace_of};

@@ -1,0 +1,179 @@
+// The load of a run, as a heat map.
+
+ghost use Rattle.std.specs.List.{filter};
+ghost use Rattle.std.specs.Prelude.{◌≡◌, ◌≤◌, ◌<◌, ◌+◌, ◌-◌, ◌*◌, ◌/◌, ◌%◌, ◌^◌, ◌++◌, ℕ, flat_map};
+ghost use Rattle.std.specs.Prelude.{length, nat_le, slice_index};
+ghost use Rattle.eventkey.specs.Writing.{Writes};
+ghost use Rattle.model.specs.World.{below};
+ghost use Rattle.pictures.specs.Load.{cell_count, cell_text, cells_text, is_in_row, level_of};
+ghost use Rattle.pictures.specs.Load.{load_text, map_text, slice_at, slice_start, slices_of};
+
+use crate::Trace;
+use crate::drawn::{Frame, STYLE, TAIL, View, bottom, framed, span, write_rows, write_ticks};
+use crate::filled::write_filled;
+use eventkey::Message;
+use std::io::{Result, Write};
+use texts::write_text;
+
+/// How many events are told by each tenth of the colour.
+const LEVELS: [u64; 10] = [1, 3, 10, 30, 100, 300, 1000, 3000, 10000, 30000];
+
+// Each `$` is the place of a number.
+const LOAD_HEAD: &str = "\
+<svg xmlns=\"http://www.w3.org/2000/svg\" viewBox=\"0 0 1000 $\" width=\"1000\" height=\"$\" role=\"img\">
+<title>Events a process, virtual time $ to $</title>
+";
+
+const CELL: &str = "\
+<rect class=\"load\" x=\"$\" y=\"$\" width=\"$\" height=\"18\" fill-opacity=\"$.$\">\
+<title>process $, $ to $: $ events</title></rect>
+";
+
+/// Writes how many events each process handled in each slice of virtual time as a stand-alone SVG: a
+/// rectangle for each, up to 64 slices and the first 64 processes of the view, with a deeper colour
+/// where there are more. Times from 2^41 on count as that.
+///
+/// Where the writer fails, what it has taken is a beginning of the text, and the answer is its
+/// error. It costs the events, once for each process shown, and takes no memory.
+pub fn write_load<W: Write>(trace: &Trace, view: &View, out: &mut W) -> Result<()>
+    ensures { Writes (W.contents out.old) (W.contents out.new) result
+        (load_text trace.now view.now) }
+{
+    let frame = framed(trace, view);
+    write_map(trace, &frame, out)
+}
+
+fn write_map<W: Write>(trace: &Trace, frame: &Frame, out: &mut W) -> Result<()>
+    requires order { frame.now.from ≤ frame.now.to }
+    requires to { frame.now.to ≤ 2 ^ 41 }
+    requires rows { frame.now.rows ≤ 64 }
+    requires first { frame.now.first < 2 ^ 32 }
+    ensures { Writes (W.contents out.old) (W.contents out.new) result
+        (map_text trace.now frame.now) }
+{
+    let height = bottom(frame) + 40;
+    write_filled(LOAD_HEAD, &[height, height, frame.from, frame.to], out)?;
+    write_text(STYLE, out)?;
+    write_ticks(frame, out)?;
+    write_rows(frame, out)?;
+    write_all_cells(trace, frame, out)?;
+    write_text(TAIL, out)
+}
+
+fn write_all_cells<W: Write>(trace: &Trace, frame: &Frame, out: &mut W) -> Result<()>
+    requires order { frame.now.from ≤ frame.now.to }
+    requires to { frame.now.to ≤ 2 ^ 41 }
+    requires rows { frame.now.rows ≤ 64 }
+    requires first { frame.now.first < 2 ^ 32 }
+    ensures { Writes (W.contents out.old) (W.contents out.new) result
+        (flat_map (cells_text trace.now frame.now) (below frame.now.rows)) }
+{
+    for row in 0..frame.rows {
+        write_cells(trace, frame, row, out)?;
+    }
+    Ok(())
+}
+
+/// The cells of one row.
+fn write_cells<W: Write>(trace: &Trace, frame: &Frame, row: u32, out: &mut W) -> Result<()>
+    requires order { frame.now.from ≤ frame.now.to }
+    requires to { frame.now.to ≤ 2 ^ 41 }
+    requires row { row < 64 }
+    requires first { frame.now.first < 2 ^ 32 }
+    ensures { Writes (W.contents out.old) (W.contents out.new) result
+        (cells_text trace.now frame.now row) }
+{
+    let counts = counts_of(trace, frame, row);
+    for slice in 0..slices(frame) {
+        write_cell(frame, row, slice, counts[slice as usize], out)?;
+    }
+    Ok(())
+}
+
+fn write_cell<W: Write>(frame: &Frame, row: u32, slice: u64, count: u64, out: &mut W) -> Result<()>
+    requires order { frame.now.from ≤ frame.now.to }
+    requires to { frame.now.to ≤ 2 ^ 41 }
+    requires row { row < 64 }
+    requires first { frame.now.first < 2 ^ 32 }
+    requires slice { slice < 64 }
+    ensures { Writes (W.contents out.old) (W.contents out.new) result
+        (cell_text frame.now row slice count) }
+{
+    let slices = slices(frame);
+    let left = slice * 900 / slices;
+    let level = level(count, &LEVELS);
+    let numbers = [
+        60 + left,
+        51 + 20 * u64::from(row),
+        ((slice + 1) * 900 / slices).saturating_sub(left),
+        level / 10,
+        level % 10,
+        u64::from(frame.first) + u64::from(row),
+        start(frame, slice),
+        start(frame, slice + 1),
+        count,
+    ];
+    write_filled(CELL, &numbers, out)
+}
+
+/// How many of the levels a count reaches.
+fn level(count: u64, levels: &[u64]) -> u64
+    ensures { result ≡ length (filter (λ level. nat_le level count) levels.now) }
+{
+    levels.iter().filter(|level| **level <= count).count() as u64
+}
+
+fn slices(frame: &Frame) -> u64
+    ensures slices { result ≡ slices_of frame.now }
+    ensures some { 1 ≤ result }
+    ensures few { result ≤ 64 }
+{
+    span(frame).min(64)
+}
+
+/// The first time of a slice.
+fn start(frame: &Frame, slice: u64) -> u64
+    requires order { frame.now.from ≤ frame.now.to }
+    requires to { frame.now.to ≤ 2 ^ 41 }
+    requires slice { slice ≤ 64 }
+    ensures { result ≡ slice_start frame.now slice }
+{
+    let slices = slices(frame);
+    frame.from + (slice * span(frame) + slices - 1) / slices
+}
+
+/// How many events the process of a row handled in each slice.
+fn counts_of(trace: &Trace, frame: &Frame, row: u32) -> [u64; 64]
+    requires to { frame.now.to ≤ 2 ^ 41 }
+    ensures { (slice : ℕ) → slice < 64 →
+        slice_index result slice ≡ cell_count trace.now frame.now row slice }
+{
+    let mut counts = [0u64; 64];
+    for event in trace.events() {
+        if is_here(frame, row, event) {
+            counts[slice_of(frame, event.time())] += 1;
+        }
+    }
+    counts
+}
+
+fn is_here(frame: &Frame, row: u32, event: &Message) -> bool
+    ensures { result ≡ is_in_row frame.now row event.now }
+{
+    let time = event.time();
+    if time < frame.from || time >= frame.to {
+        return false;
+    }
+    u64::from(event.to()) == u64::from(frame.first) + u64::from(row)
+}
+
+/// The slice in which a time of the frame lies.
+fn slice_of(frame: &Frame, time: u64) -> usize
+    requires from { frame.now.from ≤ time }
+    requires to { time < frame.now.to }
+    requires early { frame.now.to ≤ 2 ^ 41 }
+    ensures slice { result ≡ slice_at frame.now time }
+    ensures few { result < 64 }
+{
+    ((time - frame.from) * slices(frame) / span(frame)) as usize
+}

@@ -1,0 +1,226 @@
+// What a run was made of.
+
+ghost use Rattle.std.specs.List.{AllByRecursion as Every};
+ghost use Rattle.std.specs.Prelude.{◌≡◌, ◌≤◌, ◌<◌, ◌^◌, ◌++◌, ℕ, Err, IfOk, OnOk, List, [], get_or};
+ghost use Rattle.std.specs.Prelude.{length, map, replicate, set};
+ghost use Rattle.model.specs.Meaning.{IsAddressed, IsWords};
+ghost use Rattle.model.specs.World.{opening as opening_of};
+ghost use Rattle.model.specs.declared.WorldFault.TheVariants.{NumberLimit};
+ghost use Rattle.pictures.specs.Inside.{IsWhole, lists};
+ghost use Rattle.pictures.specs.Run.{IsOverLimit, IsRunOf, sending_times, sends_of as sends_from, sent_at, sent_in};
+
+use eventkey::Message;
+use model::{Model, Words, World, WorldFault, WorldParts};
+use std::alloc::{AllocError, Global};
+
+/// What a run was made of: its events, how many messages each handling sent, and what is pending.
+pub struct Trace {
+    time: u64,
+    first: Vec<u64>,
+    sends: Vec<u64>,
+    events: Vec<Message>,
+    pending: Vec<Message>,
+    // For each process the times at which it sent its messages, in the order of their numbers.
+    times: Vec<Vec<u64>>,
+}
+
+// Written out, so that whoever drops one proves nothing of its parts.
+impl Drop for Trace {
+    fn drop(self) {
+        let Trace {
+            time: _,
+            first: _,
+            sends: _,
+            events: _,
+            pending: _,
+            times: _,
+        } = self;
+    }
+}
+
+impl std::marker::Model for Trace {
+    ghost use Rattle.pictures.specs.Inside.{IsTrace, run_of};
+    ghost use Rattle.pictures.specs.Run.{Run};
+
+    ghost Value = { Run };
+
+    ghost view = { run_of };
+
+    ghost invariant = { IsTrace };
+}
+
+impl Trace {
+    /// The virtual time in ticks up to which the run went.
+    pub fn time(&self) -> u64
+        ensures { result ≡ self.now.time }
+    {
+        self.time
+    }
+
+    /// How many messages each process sent at the opening.
+    pub fn first(&self) -> &[u64]
+        ensures first { result.now ≡ self.now.first }
+        ensures whole { IsWhole self.now }
+    {
+        self.first.as_slice()
+    }
+
+    /// The events, in the order of handling.
+    pub fn events(&self) -> &[Message]
+        ensures { result.now ≡ self.now.events }
+    {
+        self.events.as_slice()
+    }
+
+    /// How many messages the handling of each event sent.
+    pub fn sends(&self) -> &[u64]
+        ensures { result.now ≡ self.now.sends }
+    {
+        self.sends.as_slice()
+    }
+
+    /// The messages that were not handled, the least first.
+    pub fn pending(&self) -> &[Message]
+        ensures { result.now ≡ self.now.pending }
+    {
+        self.pending.as_slice()
+    }
+
+    /// The virtual time in ticks at which a message of the run was sent, in constant time.
+    pub fn sent_at(&self, message: &Message) -> u64
+        ensures { result ≡ sent_at self.now message.now }
+    {
+        let Some(times) = self.times.get(message.from() as usize) else {
+            return 0;
+        };
+        times.get(message.number() as usize).copied().unwrap_or(0)
+    }
+
+    /// How many messages a process sent.
+    pub fn sent_by(&self, process: u32) -> usize
+        ensures { result ≡ length (sending_times self.now process) }
+    {
+        let Some(times) = self.times.get(process as usize) else {
+            return 0;
+        };
+        times.len()
+    }
+}
+
+/// The run of a model from its opening, whose simulation ends at `end` ticks, 1 to 2^40, up to `to`
+/// ticks. `NumberLimit` comes where the send number of a process would pass 2^63 before that,
+/// `NoMemory` where memory is refused. It costs the simulation, each handling once more, and memory
+/// in proportion to the events.
+pub fn trace_of<M: Model>(alloc: Global, model: &M, end: u64, to: u64) -> Result<Trace, WorldFault>
+    requires some { 1 ≤ end }
+    requires end { end ≤ 2 ^ 40 }
+    ensures run { IfOk result (λ t. IsRunOf (M.meaning model.now) end to t) }
+    ensures whole { IfOk result (λ t. IsWhole t) }
+    ensures limit { result ≡ Err WorldFault.NumberLimit →
+        IsOverLimit (M.meaning model.now) end to }
+{
+    let mut world = World::open(alloc, model, end)?;
+    world.run_to(model, to)?;
+    let WorldParts {
+        time,
+        states: _,
+        numbers: _,
+        pending,
+        log,
+    } = world.into_parts();
+    let (states, first) = opening(alloc, model)?;
+    let sends = sends_of(alloc, model, states, log.as_slice())?;
+    let times = times_of(alloc, first.as_slice(), log.as_slice(), sends.as_slice())?;
+    Ok(Trace {
+        time,
+        first,
+        sends,
+        events: log,
+        pending,
+        times,
+    })
+}
+
+/// The states of the opening, and how many messages each process sends then.
+fn opening<M: Model>(alloc: Global, model: &M) -> Result<(Vec<Words>, Vec<u64>), AllocError>
+    ensures states { IfOk result (λ o. map (λ s. s.items) o.0.items
+        ≡ (opening_of (M.meaning model.now)).states) }
+    ensures numbers { IfOk result (λ o. o.1.items ≡ (opening_of (M.meaning model.now)).numbers) }
+{
+    let lps = model.lps();
+    let mut states = Vec::new(alloc);
+    let mut numbers = Vec::new(alloc);
+    for lp in 0..lps {
+        let (words, sends) = model.start(alloc, lp);
+        states.push(words)?;
+        numbers.push(sends.len() as u64)?;
+    }
+    Ok((states, numbers))
+}
+
+/// How many messages each handling of a log sends, from these states on.
+fn sends_of<M: Model>(
+    alloc: Global,
+    model: &M,
+    states: Vec<Words>,
+    log: &[Message],
+) -> Result<Vec<u64>, AllocError>
+    requires states { length states.items ≡ (M.meaning model.now).lps }
+    requires words { Every IsWords (map (λ s. s.items) states.items) }
+    requires log { Every (IsAddressed (M.meaning model.now).lps) log.now }
+    ensures { IfOk result (λ v. v.items
+        ≡ sends_from (M.meaning model.now) (map (λ s. s.items) states.items) log.now) }
+{
+    let mut now = states;
+    let mut counts = Vec::new(alloc);
+    for event in log {
+        let lp = event.to();
+        let place = lp as usize;
+        let (words, sends) = model.handle(alloc, lp, &now[place], event);
+        counts.push(sends.len() as u64)?;
+        now[place] = words;
+    }
+    Ok(counts)
+}
+
+/// For each process the times at which it sent its messages.
+fn times_of(
+    alloc: Global,
+    first: &[u64],
+    events: &[Message],
+    sends: &[u64],
+) -> Result<Vec<Vec<u64>>, AllocError>
+    requires sends { length sends.now ≡ length events.now }
+    requires events { Every (IsAddressed (length first.now)) events.now }
+    ensures { IfOk result (λ rows. (lp : ℕ) → get_or (lists rows.items) lp []
+        ≡ replicate (get_or first.now lp 0) 0 ++ sent_in lp events.now sends.now) }
+{
+    let mut rows = opening_rows(alloc, first)?;
+    for (place, event) in events.iter().enumerate() {
+        add_times(&mut rows[event.to() as usize], sends[place], event.time())?;
+    }
+    Ok(rows)
+}
+
+/// A row for each process, with the time 0 for each message of the opening.
+fn opening_rows(alloc: Global, first: &[u64]) -> Result<Vec<Vec<u64>>, AllocError>
+    ensures { IfOk result (λ rows. lists rows.items ≡ map (λ n. replicate n 0) first.now) }
+{
+    let mut rows = Vec::new(alloc);
+    for count in first {
+        let mut row = Vec::new(alloc);
+        add_times(&mut row, *count, 0)?;
+        rows.push(row)?;
+    }
+    Ok(rows)
+}
+
+/// A time more for each of so many messages.
+fn add_times(row: &mut Vec<u64>, count: u64, time: u64) -> Result<(), AllocError>
+    ensures { OnOk result (row.new.items ≡ row.old.items ++ replicate count time) }
+{
+    for _ in 0..count {
+        row.push(time)?;
+    }
+    Ok(())
+}

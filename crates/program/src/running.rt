@@ -1,0 +1,152 @@
+// A run, over nodes in this program or behind sockets, with its trace or without.
+
+ghost use Rattle.std.specs.Prelude.{◌≡◌, ◌≤◌, ◌⊎◌, OnErr, OnOk};
+ghost use Rattle.program.specs.Command.{plan_of, Begins, IsRanOver, Prints};
+
+use crate::disks::{are_one_file, run_on};
+use crate::fault::Fault;
+use crate::files::unreadable;
+use crate::nodes::{Behind, run_behind};
+use crate::progress::Progress;
+use crate::tracing::Traced;
+use driver::{Batch as DriverBatch, Plan};
+use lines::Batch;
+use std::fs::{File, OpenOptions};
+use std::io::{BufWriter, Write};
+use std::net::Net;
+use std::process::Processes;
+use std::rt::Files;
+use std::time::Clock;
+use texts::Described;
+
+/// A run: of which model, on which disk, by which plan, over which nodes.
+#[derive(Clone, Copy)]
+pub(crate) struct Way<'a> {
+    /// The program that is started for each node behind a socket.
+    pub program: &'a str,
+    /// The path of the model file.
+    pub model: &'a str,
+    /// The path of the disk's file.
+    pub disk: &'a str,
+    /// How it is driven.
+    pub plan: Plan,
+    /// The folder of the nodes' sockets; none where the nodes are in this program.
+    pub sockets: Option<&'a str>,
+    /// The node whose program ends after one reply.
+    pub cut: Option<u32>,
+    /// Whether no node program is started.
+    pub attach: bool,
+}
+
+/// How a run is driven, by the values of its line. A commit has room for 299,593 events, and those
+/// of a whole round come into it at once, so one is due at 250,000 at the latest.
+pub(crate) fn plan_of(
+    nodes: u32,
+    batch: Batch,
+    rounds: u32,
+    checkpoint: Option<u32>,
+    commit_every: Option<u32>,
+    together: bool,
+) -> Plan
+    ensures { result ≡ plan_of nodes batch rounds checkpoint commit_every together }
+{
+    Plan {
+        nodes,
+        batch: match batch {
+            Batch::Fixed(messages) => DriverBatch::Fixed(messages),
+            Batch::Auto => DriverBatch::Adjusting,
+        },
+        rounds,
+        together,
+        checkpoint_every: checkpoint.unwrap_or(0),
+        commit_every: commit_every.unwrap_or(0).min(250_000),
+    }
+}
+
+/// Makes a run.
+pub(crate) fn run_way<M, R, P, O>(
+    rt: &R,
+    way: Way<'_>,
+    progress: &mut P,
+    out: &mut O,
+) -> Result<(), Fault>
+where
+    M: Described,
+    R: Files<File = File> + Net + Processes + Clock + AllocGlobal,
+    P: Progress,
+    O: Write,
+    requires some { 1 ≤ way.plan.nodes }
+    requires few { way.plan.nodes ≤ 64 }
+    ensures ok { OnOk result (Prints
+        (IsRanOver M.meaning M.says way.entry.sockets way.entry.plan.nodes)
+        (O.contents out.old) (O.contents out.new)) }
+    ensures err { OnErr result ((out.new ≡ out.old) ⊎ Begins
+        (IsRanOver M.meaning M.says way.entry.sockets way.entry.plan.nodes)
+        (O.contents out.old) (O.contents out.new)) }
+{
+    let Way {
+        program,
+        model,
+        disk,
+        plan,
+        sockets,
+        cut,
+        attach,
+    } = way;
+    match sockets {
+        None => run_on::<M, R, P, O>(rt, model, disk, plan, progress, out),
+        Some(folder) => {
+            let behind = Behind {
+                program,
+                model,
+                folder,
+                cut,
+                attach,
+            };
+            run_behind::<M, R, P, O>(rt, behind, disk, plan, progress, out)
+        }
+    }
+}
+
+/// Makes a run, and writes its trace to a file, which is made or emptied first. The files of the
+/// model and of the disk are refused as `File`; so is a trace that can't be made, and, behind a
+/// run that came to its end, one of which a part was not written.
+pub(crate) fn run_traced<M, R, P, O>(
+    rt: &R,
+    way: Way<'_>,
+    trace: &str,
+    progress: &mut P,
+    out: &mut O,
+) -> Result<(), Fault>
+where
+    M: Described,
+    R: Files<File = File> + Net + Processes + Clock + AllocGlobal,
+    P: Progress,
+    O: Write,
+    requires some { 1 ≤ way.plan.nodes }
+    requires few { way.plan.nodes ≤ 64 }
+    ensures ok { OnOk result (Prints
+        (IsRanOver M.meaning M.says way.entry.sockets way.entry.plan.nodes)
+        (O.contents out.old) (O.contents out.new)) }
+    ensures err { OnErr result ((out.new ≡ out.old) ⊎ Begins
+        (IsRanOver M.meaning M.says way.entry.sockets way.entry.plan.nodes)
+        (O.contents out.old) (O.contents out.new)) }
+{
+    if are_one_file(rt, way.model, trace) || are_one_file(rt, way.disk, trace) {
+        return Err(Fault::File);
+    }
+    let opened = OpenOptions::new()
+        .write(true)
+        .create(true)
+        .truncate(true)
+        .open(rt, trace);
+    let file = opened.map_err(unreadable)?;
+    let rows = BufWriter::new(rt.alloc(), file).map_err(unreadable)?;
+    let mut traced = Traced::to(progress, rows);
+    run_way::<M, R, _, O>(rt, way, &mut traced, out)?;
+    if traced.is_whole() {
+        Ok(())
+    } else {
+        Err(Fault::File)
+    }
+}

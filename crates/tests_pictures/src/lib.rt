@@ -1,0 +1,8 @@
+//! Tests of `pictures`, through its public functions. They stand in a crate of their own, since a
+//! crate with tests is proved twice.
+#![tactic(auto)]
+
+#[cfg(test)]
+mod figures;
+#[cfg(test)]
+mod shapes;

@@ -1,0 +1,188 @@
+// Drawings.
+
+use models::{Phold, TokenRing};
+use pictures::{Trace, View, trace_of, write_drawing, write_load};
+use std::alloc::{AllocError, Global};
+use std::test::Fail;
+
+/// Whether the tags of a text balance, its attributes are quoted, and it has no stray `<` or `&`.
+fn is_well_formed(alloc: Global, text: &str) -> Result<bool, AllocError> {
+    let mut open: Vec<&str> = Vec::new(alloc);
+    if text.contains('&') || !text.starts_with('<') {
+        return Ok(false);
+    }
+    for piece in text.split('<').skip(1) {
+        let Some((tag, content)) = piece.split_once('>') else {
+            return Ok(false);
+        };
+        if tag.split('"').count() % 2 == 0 || content.contains('>') {
+            return Ok(false);
+        }
+        let name = name_of(tag);
+        if let Some(closed) = name.strip_prefix('/') {
+            if open.pop() != Some(closed) {
+                return Ok(false);
+            }
+        } else if !tag.ends_with('/') {
+            open.push(name)?;
+        }
+    }
+    Ok(open.is_empty())
+}
+
+fn name_of(tag: &str) -> &str {
+    match tag.split_once(' ') {
+        None => tag,
+        Some((name, _)) => name,
+    }
+}
+
+fn picture(alloc: Global, trace: &Trace, view: &View) -> Result<String, Fail> {
+    let mut bytes = Vec::new(alloc);
+    write_drawing(trace, view, &mut bytes)?;
+    Ok(String::from_utf8(bytes)?)
+}
+
+fn load(alloc: Global, trace: &Trace, view: &View) -> Result<String, Fail> {
+    let mut bytes = Vec::new(alloc);
+    write_load(trace, view, &mut bytes)?;
+    Ok(String::from_utf8(bytes)?)
+}
+
+#[test]
+fn the_parser_refuses_what_is_not_well_formed(rt: HostRuntime) -> Result<(), Fail> {
+    for (text, good) in [
+        ("<a b=\"1\"><c/>x</a>\n", true),
+        ("<a><b></a></b>", false),
+        ("<a>", false),
+        ("<a b=\"1></a>", false),
+        ("<a>&</a>", false),
+    ] {
+        assert!(rt; is_well_formed(rt.alloc(), text)? == good, "{text}");
+    }
+    Ok(())
+}
+
+/// What the picture of a ring has: its rows, its dots, its lines, what is pending, and its time.
+const SHAPES: [&str; 9] = [
+    "viewBox=\"0 0 1000 160\"",
+    "<circle class=\"event\" cx=\"135\" cy=\"60\" r=\"3\"><title>sent 0, received 1,",
+    "<line class=\"message\" x1=\"135\" y1=\"60\" x2=\"285\" y2=\"80\">",
+    "<circle class=\"event\" cx=\"285\" cy=\"80\" r=\"3\"><title>sent 1, received 3,",
+    "<line class=\"message\" x1=\"435\" y1=\"100\" x2=\"585\" y2=\"60\">",
+    "<line class=\"pending\" x1=\"735\" y1=\"80\" x2=\"885\" y2=\"100\">",
+    "<line class=\"time\" x1=\"810\" y1=\"40\" x2=\"810\" y2=\"120\">",
+    "shown: events 1 to 5 of 5, processes 0 to 2 of 3",
+    "text-anchor=\"middle\">10</text>",
+];
+
+#[test]
+fn a_ring_has_the_picture_that_was_computed_by_hand(rt: HostRuntime) -> Result<(), Fail> {
+    let trace = trace_of(rt.alloc(), &TokenRing::new(3, 2, 1), 10, 10)?;
+    let view = View {
+        from: 0,
+        to: 12,
+        first: 0,
+        last: 2,
+    };
+    let text = picture(rt.alloc(), &trace, &view)?;
+    assert!(rt; is_well_formed(rt.alloc(), text.as_str())?);
+    for shape in SHAPES {
+        assert!(rt; text.as_str().contains(shape), "{shape}");
+    }
+    assert!(rt; text.as_str().split("<circle").count() == 6);
+    Ok(())
+}
+
+/// Views from and to ticks, from and to processes.
+const VIEWS: [(u64, u64, u32, u32); 7] = [
+    (0, 100, 0, 99),
+    (0, 10_000, 0, 1000),
+    (50, 50, 0, 99),
+    (90, 10, 3, 2),
+    (u64::MAX, u64::MAX, 0, 0),
+    (0, u64::MAX, u32::MAX, u32::MAX),
+    (7, 19, 5, 80),
+];
+
+#[test]
+fn each_picture_is_well_formed(rt: HostRuntime) -> Result<(), Fail> {
+    let trace = trace_of(rt.alloc(), &Phold::new(100, 3, 9, 5), 200, 150)?;
+    let empty = trace_of(rt.alloc(), &Phold::new(1, 1, 9, 5), 200, 0)?;
+    for (from, to, first, last) in VIEWS {
+        let view = View {
+            from,
+            to,
+            first,
+            last,
+        };
+        let text = picture(rt.alloc(), &trace, &view)?;
+        assert!(rt; is_well_formed(rt.alloc(), text.as_str())?, "{from}");
+        let text = picture(rt.alloc(), &empty, &view)?;
+        assert!(rt; is_well_formed(rt.alloc(), text.as_str())?, "{from}");
+    }
+    Ok(())
+}
+
+#[test]
+fn a_picture_shows_the_first_events_and_processes(rt: HostRuntime) -> Result<(), Fail> {
+    let trace = trace_of(rt.alloc(), &Phold::new(100, 8, 9, 5), 200, 150)?;
+    let view = View {
+        from: 0,
+        to: 150,
+        first: 0,
+        last: 99,
+    };
+    let text = picture(rt.alloc(), &trace, &view)?;
+    assert!(rt; text.as_str().split("<circle").count() == 2001);
+    assert!(rt; text.as_str().split("class=\"row\"").count() == 65);
+    let count = trace
+        .events()
+        .iter()
+        .filter(|event| event.to() < 64)
+        .count();
+    assert!(rt; count > 2000);
+    let note = format!(in rt.alloc(); "events 1 to 2000 of {count}, processes 0 to 63 of 100")?;
+    assert!(rt; text.as_str().contains(note.as_str()));
+    Ok(())
+}
+
+/// What the heat map of a ring has: cells with an event and without.
+const CELLS: [&str; 3] = [
+    "x=\"135\" y=\"51\" width=\"75\" height=\"18\" fill-opacity=\"0.1\"><title>process 0, 1 to 2: 1 events",
+    "x=\"210\" y=\"51\" width=\"75\" height=\"18\" fill-opacity=\"0.0\"><title>process 0, 2 to 3: 0 events",
+    "x=\"735\" y=\"71\" width=\"75\" height=\"18\" fill-opacity=\"0.1\"><title>process 1, 9 to 10: 1 events",
+];
+
+#[test]
+fn a_ring_has_the_load_that_was_computed_by_hand(rt: HostRuntime) -> Result<(), Fail> {
+    let trace = trace_of(rt.alloc(), &TokenRing::new(3, 2, 1), 10, 10)?;
+    let view = View {
+        from: 0,
+        to: 12,
+        first: 0,
+        last: 2,
+    };
+    let text = load(rt.alloc(), &trace, &view)?;
+    for cell in CELLS {
+        assert!(rt; text.as_str().contains(cell), "{cell}");
+    }
+    assert!(rt; text.as_str().split("<rect").count() == 37);
+    Ok(())
+}
+
+#[test]
+fn each_heat_map_is_well_formed(rt: HostRuntime) -> Result<(), Fail> {
+    let trace = trace_of(rt.alloc(), &Phold::new(100, 3, 9, 5), 200, 150)?;
+    for (from, to, first, last) in VIEWS {
+        let view = View {
+            from,
+            to,
+            first,
+            last,
+        };
+        let text = load(rt.alloc(), &trace, &view)?;
+        assert!(rt; is_well_formed(rt.alloc(), text.as_str())?, "{from}");
+    }
+    Ok(())
+}
