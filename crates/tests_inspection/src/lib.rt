@@ -7,4 +7,4 @@ mod damage;
 #[cfg(test)]
 mod disks;
 #[cfg(test)]
-mod texts;
+mod printed;
