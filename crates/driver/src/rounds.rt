@@ -45,8 +45,8 @@ pub struct Plan {
     /// After how many commits a checkpoint follows each time; 0 for none at all.
     pub checkpoint_every: u32,
     /// How many events have to be told since the last commit before a round ends with one; 0 for a
-    /// commit in each round. A round that comes to the end has one in any case. A record holds some
-    /// 419,000 events, so more than 400,000 leaves no room for those that the last round tells.
+    /// commit in each round. A round that comes to the end has one in any case. A record has room for
+    /// 299,593 events, those of the round that ends with the commit among them.
     pub commit_every: u32,
 }
 
