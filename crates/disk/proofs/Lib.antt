@@ -3,4 +3,5 @@ pub mod Sectors
 pub mod Crashes
 pub mod Growths
 mod Spans
+mod Keeping
 mod Examples

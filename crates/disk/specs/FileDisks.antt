@@ -20,11 +20,11 @@ disk_of_file disk = record {
   failures = disk.failures;
 }
 
--- how many sectors a file may have that is opened as a disk of so many: those, or 8 to 131,072
+-- how many sectors a file may have that is opened as a disk of so many: those, or from 8 to the most
 -- where none are given
-abbrev pub MayHave : Option ℕ → ℕ → Type 0
-MayHave None count = (8 ≤ count) × (count ≤ 131072)
-MayHave (Some sectors) count = count ≡ sectors
+abbrev pub MayHave : Option ℕ → ℕ → ℕ → Type 0
+MayHave None most count = (8 ≤ count) × (count ≤ most)
+MayHave (Some sectors) most count = count ≡ sectors
 
 -- From a place on and before an end the first loose sectors that lie side by side are these: all of
 -- them, and none where both are the end.

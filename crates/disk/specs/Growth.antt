@@ -33,10 +33,10 @@ abbrev pub is_of_device : GrowthFault → Bool
 is_of_device Device = true
 is_of_device fault = false
 
--- A disk doesn't grow to so many sectors, checked in this order: it has more, these are too many,
--- no memory, the device.
-abbrev pub GrowthIsRefused : GrowthFault → ℕ → ℕ → Type 0 → Type 0
-GrowthIsRefused Fewer old sectors failed = sectors < old
-GrowthIsRefused TooMany old sectors failed = (old ≤ sectors) × (131072 < sectors)
-GrowthIsRefused NoMemory old sectors failed = (old ≤ sectors) × (sectors ≤ 131072)
-GrowthIsRefused Device old sectors failed = (old ≤ sectors) × (sectors ≤ 131072) × failed
+-- A disk doesn't grow to so many sectors, where it may have at most so many, checked in this order:
+-- it has more than are asked for, these are too many, no memory, the device.
+abbrev pub GrowthIsRefused : GrowthFault → ℕ → ℕ → ℕ → Type 0 → Type 0
+GrowthIsRefused Fewer old sectors most failed = sectors < old
+GrowthIsRefused TooMany old sectors most failed = (old ≤ sectors) × (most < sectors)
+GrowthIsRefused NoMemory old sectors most failed = (old ≤ sectors) × (sectors ≤ most)
+GrowthIsRefused Device old sectors most failed = (old ≤ sectors) × (sectors ≤ most) × failed

@@ -5,3 +5,4 @@ pub mod Memory
 pub mod MemoryInside
 pub mod FileDisks
 pub mod Growth
+pub mod KeptSectors

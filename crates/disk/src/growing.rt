@@ -9,8 +9,11 @@ use crate::SectorDisk;
 use std::alloc::{AllocError, Global};
 use thiserror::Error;
 
-/// The most sectors to which a disk grows, 64 MiB.
+/// The most sectors of a disk, where no other number is given: 64 MiB, 512 bytes a sector.
 pub const MOST_SECTORS: u32 = 131_072;
+
+/// The most sectors of a large disk: 8 GiB, 512 bytes a sector.
+pub const MOST_SECTORS_OF_LARGE: u32 = 16_777_216;
 
 /// Why a disk did not grow.
 #[derive(Clone, Copy, Debug, PartialEq, Eq, Error)]
@@ -18,7 +21,7 @@ pub enum GrowthFault {
     /// The disk has more sectors than were asked for. It never shrinks.
     #[error("Fewer")]
     Fewer,
-    /// More than 131,072 sectors were asked for.
+    /// More sectors were asked for than the disk may have.
     #[error("TooMany")]
     TooMany,
     /// Memory ran out.
@@ -39,19 +42,20 @@ impl From<AllocError> for GrowthFault {
 
 /// A disk that can get more sectors.
 pub trait GrowingDisk: SectorDisk {
-    /// Puts sectors of zeros behind the old ones until there are so many, and waits until these and
+    /// Puts sectors of zeros behind the old ones until there are so many, at most `most`, of 512
+    /// bytes each, and waits until these and
     /// all writes have reached the device. A crash at any moment of it leaves what one before might
     /// have left, alone or with some or all of the new sectors behind.
     ///
     /// Refused are, in this order: `Fewer`; `TooMany`; `NoMemory`, which all leave the disk
     /// unchanged; and `Device`, after which a read gives what it gave, and what was loose still is.
     /// How many sectors a crash leaves is then not known until the next sync that ends well.
-    fn grow(&mut self, alloc: Global, sectors: u32) -> Result<(), GrowthFault>
+    fn grow(&mut self, alloc: Global, sectors: u32, most: u32) -> Result<(), GrowthFault>
         ensures grown { OnOk result
             ((Self.state self.new).reads ≡ grown_to sectors (Self.state self.old).reads) }
         ensures firm { OnOk result (IsFirm (Self.state self.new).loose) }
         ensures ok { OnOk result ((length (Self.state self.old).reads ≤ sectors)
-            × (sectors ≤ 131072)) }
+            × (sectors ≤ most)) }
 
         // at each other exit
         ensures same_reads { OnErr result
@@ -59,7 +63,7 @@ pub trait GrowingDisk: SectorDisk {
         ensures same_loose { OnErr result
             ((Self.state self.new).loose ≡ (Self.state self.old).loose) }
         ensures refused { IfErr result (λ fault. GrowthIsRefused fault
-            (length (Self.state self.old).reads) sectors
+            (length (Self.state self.old).reads) sectors most
             ((Self.state self.old).failures < (Self.state self.new).failures)) }
         ensures unchanged { IfErr result (λ fault. is_of_device fault ≡ false →
             self.new ≡ self.old) }

@@ -1,16 +1,17 @@
 // The sectors of a disk that is kept in memory, and which of them are loose.
-ghost use Rattle.std.specs.Prelude.{◌≡◌, ◌+◌, ◌/◌, ◌<◌, ◌≤◌, ◌^◌, ◌++◌, ℕ, List, [], true, false, length};
+ghost use Rattle.std.specs.Prelude.{◌≡◌, ◌/◌, ◌<◌, ◌≤◌, ◌^◌, ℕ, List, [], true, false, length};
 ghost use Rattle.std.specs.Prelude.{replicate, slice_set, slice_index_or, IfOk};
 ghost use Rattle.disk.specs.Disk.{image_of, IsFirm, IsSector, IsSpan};
 ghost use Rattle.disk.specs.Growth.{grown_to};
 
+use crate::kept::Sectors;
 use std::alloc::{AllocError, Global};
 
 /// The sectors, whether each is loose, and a span in which all loose ones lie: a sync looks at
-/// those of the span alone.
+/// those of the span alone, which are all kept.
 #[derive(Drop)]
 pub struct Image {
-    pub sectors: Vec<[u8; 512]>,
+    pub sectors: Sectors,
     pub loose: Vec<bool>,
     pub first: usize,
     pub end: usize,
@@ -19,35 +20,7 @@ pub struct Image {
     ghost whole: { (n : ℕ) → n < length sectors.items →
         IsSector (slice_index_or sectors.items n []) },
     ghost span: { IsSpan first end loose.items },
-}
-
-/// So many sectors of zeros.
-fn zeros(alloc: Global, count: u32) -> Result<Vec<[u8; 512]>, AllocError>
-    ensures { IfOk result (λ sectors. sectors.items ≡ replicate count (replicate 512 0)) }
-{
-    vec![in alloc; [0; 512]; count as usize]
-}
-
-/// The same sectors.
-pub fn copied(alloc: Global, sectors: &[[u8; 512]]) -> Result<Vec<[u8; 512]>, AllocError>
-    ensures { IfOk result (λ copy. copy.items ≡ sectors.now) }
-{
-    sectors.to_vec(alloc)
-}
-
-/// Some sectors, and behind them others.
-fn joined(
-    alloc: Global,
-    front: &[[u8; 512]],
-    behind: &[[u8; 512]],
-) -> Result<Vec<[u8; 512]>, AllocError>
-    requires { length front.now + length behind.now < 2 ^ 32 }
-    ensures { IfOk result (λ all. all.items ≡ front.now ++ behind.now) }
-{
-    let mut all = Vec::with_capacity(alloc, front.len() + behind.len())?;
-    all.extend_from_slice(front)?;
-    all.extend_from_slice(behind)?;
-    Ok(all)
+    ghost kept: { end ≤ sectors.kept },
 }
 
 /// Makes the sectors of a span firm.
@@ -68,7 +41,7 @@ impl Image {
             (λ image. image.sectors.items ≡ replicate count (replicate 512 0)) }
         ensures firm { IfOk result (λ image. IsFirm image.loose.items) }
     {
-        Image::firm(alloc, zeros(alloc, count)?)
+        Image::firm(alloc, Sectors::blank(alloc, count)?)
     }
 
     /// An image of the whole sectors of these bytes, none of which is loose.
@@ -87,17 +60,17 @@ impl Image {
         ensures sectors { IfOk result (λ image. image.sectors.items ≡ sectors.now) }
         ensures firm { IfOk result (λ image. IsFirm image.loose.items) }
     {
-        Image::firm(alloc, copied(alloc, sectors)?)
+        Image::firm(alloc, Sectors::of(alloc, sectors)?)
     }
 
-    fn firm(alloc: Global, sectors: Vec<[u8; 512]>) -> Result<Image, AllocError>
+    fn firm(alloc: Global, sectors: Sectors) -> Result<Image, AllocError>
         requires numbered { length sectors.items < 2 ^ 32 }
         requires whole { (n : ℕ) → n < length sectors.items →
             IsSector (slice_index_or sectors.items n []) }
         ensures sectors { IfOk result (λ image. image.sectors.items ≡ sectors.items) }
         ensures firm { IfOk result (λ image. IsFirm image.loose.items) }
     {
-        let loose = vec![in alloc; false; sectors.len()]?;
+        let loose = vec![in alloc; false; sectors.count() as usize]?;
         Ok(Image {
             sectors,
             loose,
@@ -113,21 +86,20 @@ impl Image {
             (λ image. image.sectors.items ≡ grown_to count self.now.sectors.items) }
         ensures firm { IfOk result (λ image. IsFirm image.loose.items) }
     {
-        let more = zeros(alloc, count - self.count())?;
-        Image::firm(alloc, joined(alloc, &self.sectors, &more)?)
+        Image::firm(alloc, self.sectors.grown(alloc, count)?)
     }
 
     pub fn count(&self) -> u32
         ensures { result ≡ length self.now.sectors.items }
     {
-        self.sectors.len() as u32
+        self.sectors.count()
     }
 
-    pub fn sector(&self, n: u32) -> &[u8; 512]
+    pub fn sector(&self, n: u32) -> [u8; 512]
         requires { n < length self.now.sectors.items }
-        ensures { result.now ≡ slice_index_or self.now.sectors.items n [] }
+        ensures { result ≡ slice_index_or self.now.sectors.items n [] }
     {
-        &self.sectors[n as usize]
+        self.sectors.get(n as usize)
     }
 
     /// The sector gets this content.
@@ -136,7 +108,16 @@ impl Image {
         ensures sectors { self.new.sectors.items ≡ slice_set self.old.sectors.items n sector.now }
         ensures loose { self.new.loose.items ≡ self.old.loose.items }
     {
-        self.sectors[n as usize] = *sector;
+        self.sectors.put(n as usize, sector);
+    }
+
+    /// The same, but zeros take memory only before a sector that does.
+    pub fn put_sparsely(&mut self, n: u32, sector: &[u8; 512])
+        requires { n < length self.old.sectors.items }
+        ensures sectors { self.new.sectors.items ≡ slice_set self.old.sectors.items n sector.now }
+        ensures loose { self.new.loose.items ≡ self.old.loose.items }
+    {
+        self.sectors.put_sparsely(n as usize, sector);
     }
 
     pub fn loosen(&mut self, n: u32)
@@ -145,6 +126,7 @@ impl Image {
         ensures loose { self.new.loose.items ≡ slice_set self.old.loose.items n true }
     {
         let place = n as usize;
+        self.sectors.keep(place);
         if self.first == self.end {
             self.first = place;
             self.end = place + 1;

@@ -6,6 +6,7 @@ mod file;
 mod growing;
 mod history;
 mod image;
+mod kept;
 mod memory;
 mod plan;
 mod tally;
@@ -14,6 +15,6 @@ mod tests;
 
 pub use disk::{DiskFault, SectorDisk, write_through};
 pub use file::{FileDisk, FileFault};
-pub use growing::{GrowingDisk, GrowthFault, MOST_SECTORS};
+pub use growing::{GrowingDisk, GrowthFault, MOST_SECTORS, MOST_SECTORS_OF_LARGE};
 pub use memory::{MemDisk, Torn};
 pub use plan::Plan;

@@ -6,9 +6,9 @@ ghost use Rattle.std.specs.Prelude.{OnOk, OnErr, IfOk, IsErrOf};
 ghost use Rattle.disk.specs.Disk.{image_of, IsFirm, IsSector, MayLeave, Elapses, HasCause};
 
 use crate::history::History;
-use crate::image::{Image, copied};
+use crate::image::Image;
 use crate::plan::Schedule;
-use crate::{DiskFault, GrowingDisk, GrowthFault, MOST_SECTORS, Plan, SectorDisk};
+use crate::{DiskFault, GrowingDisk, GrowthFault, Plan, SectorDisk};
 use std::alloc::{AllocError, Global};
 use std::marker::Model;
 
@@ -99,7 +99,7 @@ impl SectorDisk for MemDisk {
         if self.schedule.fails() {
             return Err(DiskFault::Device);
         }
-        *sector = *self.image.sector(n);
+        *sector = self.image.sector(n);
         Ok(())
     }
 
@@ -126,7 +126,7 @@ impl SectorDisk for MemDisk {
         ensures attempted { self.new.attempted ≡ slice_set self.old.attempted n sector.now }
     {
         let place = n as usize;
-        if place >= self.image.sectors.len() {
+        if n >= self.image.count() {
             return Err(DiskFault::NoSuchSector);
         }
         self.history = self.history.and(&self.image);
@@ -177,14 +177,14 @@ impl GrowingDisk for MemDisk {
     ghost use Rattle.disk.specs.Plans.{fails, counted};
 
     #[tactic(auto, unfolding(crate::specs::Disk::left_since, crate::specs::Disk::moment))]
-    fn grow(&mut self, alloc: Global, sectors: u32) -> Result<(), GrowthFault>
+    fn grow(&mut self, alloc: Global, sectors: u32, most: u32) -> Result<(), GrowthFault>
         ensures grown { OnOk result (self.new.reads ≡ grown_to sectors self.old.reads) }
         ensures firm { OnOk result (IsFirm self.new.loose) }
-        ensures ok { OnOk result ((length self.old.reads ≤ sectors) × (sectors ≤ 131072)) }
+        ensures ok { OnOk result ((length self.old.reads ≤ sectors) × (sectors ≤ most)) }
         ensures same_reads { OnErr result (self.new.reads ≡ self.old.reads) }
         ensures same_loose { OnErr result (self.new.loose ≡ self.old.loose) }
         ensures refused { IfErr result (λ fault. GrowthIsRefused fault (length self.old.reads)
-            sectors (self.old.counts.failures < self.new.counts.failures)) }
+            sectors most (self.old.counts.failures < self.new.counts.failures)) }
         ensures unchanged { IfErr result (λ fault. is_of_device fault ≡ false →
             self.new ≡ self.old) }
         ensures any_moment { LeavesOnly (disk_of_memory self.old) (disk_of_memory self.new)
@@ -211,12 +211,12 @@ impl GrowingDisk for MemDisk {
         if sectors < self.image.count() {
             return Err(GrowthFault::Fewer);
         }
-        if sectors > MOST_SECTORS {
+        if sectors > most {
             return Err(GrowthFault::TooMany);
         }
         let grown = self.image.grown(alloc, sectors)?;
-        let synced = copied(alloc, &grown.sectors)?;
-        let attempted = copied(alloc, &grown.sectors)?;
+        let synced = grown.sectors.copied(alloc)?;
+        let attempted = grown.sectors.copied(alloc)?;
         self.history = self.history.and_growth(&self.image, &grown);
         if self.schedule.fails() {
             return Err(GrowthFault::Device);
@@ -267,8 +267,8 @@ impl MemDisk {
         ensures loose { IfOk result (λ disk. disk.loose ≡ image.loose.items) }
         ensures counts { IfOk result (λ disk. disk.counts ≡ started plan) }
     {
-        let synced = copied(alloc, &image.sectors)?;
-        let attempted = copied(alloc, &image.sectors)?;
+        let synced = image.sectors.copied(alloc)?;
+        let attempted = image.sectors.copied(alloc)?;
         Ok(MemDisk {
             image,
             synced,
@@ -285,8 +285,9 @@ impl MemDisk {
         ensures left { IfOk result
             (λ bytes. MayLeave self.now.reads self.now.loose (image_of bytes.items)) }
     {
-        let mut bytes = Vec::with_capacity(alloc, self.image.sectors.len() * 512)?;
-        for n in 0..self.image.sectors.len() {
+        let count = self.image.count() as usize;
+        let mut bytes = Vec::with_capacity(alloc, count * 512)?;
+        for n in 0..count {
             bytes.extend_from_slice(&self.left_in(torn, n))?;
         }
         Ok(bytes)
@@ -299,7 +300,7 @@ impl MemDisk {
         ensures whole { IsSector result }
     {
         if !self.image.loose[n] {
-            return self.image.sectors[n];
+            return self.image.sectors.get(n);
         }
         match torn {
             Torn::Old => self.synced[n],
@@ -329,7 +330,7 @@ fn copy_loose(synced: &mut [[u8; 512]], image: &Image)
 {
     for n in image.first..image.end {
         if image.loose[n] {
-            synced[n] = image.sectors[n];
+            synced[n] = image.sectors.get(n);
         }
     }
 }

@@ -70,6 +70,11 @@ pub trait Watch {
     /// after each commit, before the checkpoint that may follow it.
     fn committed(&mut self, time: u64, events: usize);
 
+    /// So many sectors of the disk hold the log, of so many that it has: one more is its closed
+    /// gate, and the rest is free. It is told at the beginning of a run, and after each commit and
+    /// the checkpoint that may follow it.
+    fn stored(&mut self, _used: u32, _sectors: u32) {}
+
     /// A node had its turn. It is told of each, as its reply is taken.
     fn turned(&mut self, _turn: &Turn) {}
 }
@@ -111,6 +116,7 @@ pub fn run<M: Simulated, P: Port, D: SectorDisk, W: Watch>(
     let mut ran = Vec::new(alloc);
     ran.resize(plan.nodes as usize, 0)?;
     let mut tally = Tally::new(alloc, plan)?;
+    watch.stored(session.used(), session.sectors());
     let mut made = 0;
     'rounds: while session.front().time < end {
         if made >= plan.rounds {
@@ -179,6 +185,7 @@ fn close<M: Simulated, P: Port, D: SectorDisk, W: Watch>(
 {
     if tally.is_due(end) {
         commit(session, plan, tally, watch)?;
+        watch.stored(session.used(), session.sectors());
     }
     Ok(())
 }

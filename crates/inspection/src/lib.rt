@@ -1,12 +1,9 @@
 //! Inspection: what a disk tells of the run on it, and the text of that.
 #![tactic(auto)]
 
-mod believing;
 mod counting;
-mod decoding;
 mod fault;
 mod inspecting;
-mod locating;
 mod writing;
 
 pub use fault::InspectionFault;

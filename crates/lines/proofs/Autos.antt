@@ -1,4 +1,4 @@
--- A batch as a word, word by word.
+-- A batch as a word, and large disks, word by word.
 use Rattle.std.specs.Prelude.{◌≡◌, ◌==◌, ◌-◌, ◌&&◌, ◌||◌, drop, length, map, take, Bool, true, false, List, [], ◌∷◌, codes}
 use Rattle.std.specs.Str.{bytes_eq}
 use Rattle.std.proofs.Common.{refl, ap, arith, inl, inr}
@@ -6,7 +6,7 @@ use Rattle.std.proofs.lemmas.List.{take_all}
 use Rattle.std.proofs.lemmas.Bool.{cases_Bool, eqb-true}
 use Rattle.std.proofs.lemmas.Slice.Eq.{bytes_eq-Decides}
 use Rattle.clap.specs.Words.{Text}
-use Rattle.lines.specs.Line.{begins_auto, says_auto}
+use Rattle.lines.specs.Line.{begins_auto, says_auto, says_large}
 
 -- what the words that are left say, where the word before them is `--batch` or not
 abbrev pub left_say : Bool → List Text → Bool
@@ -59,9 +59,36 @@ pub behind_first : {X : Type 0} (text : X → Text) (words : List X) → map tex
 behind_first text [] = refl
 behind_first text (word ∷ rest) = ap (map text) (take_all (length (word ∷ rest) - 1) rest (omega (arith)))
 
-pub none_behind : {X : Type 0} (text : X → Text) (words : List X) → (length words == 0) ≡ true → says_auto (drop 1 (map text words)) ≡ false
-unfolding says_auto
+pub none_behind : {X : Type 0} (text : X → Text) (words : List X) → (length words == 0) ≡ true → drop 1 (map text words) ≡ []
 none_behind text [] e = refl
 none_behind text (word ∷ rest) e =
     let none : length (word ∷ rest) ≡ 0 = eqb-true (length (word ∷ rest)) 0 e in
     absurd (omega (arith, none))
+
+-- nothing is said where there are no words
+pub auto_none : says_auto [] ≡ false
+unfolding says_auto
+auto_none = refl
+
+pub large_none : says_large [] ≡ false
+unfolding says_large
+large_none = refl
+
+-- `--` and `--large` decide it, and each other word leaves it to those behind it
+pub large_met : (word : Text) (rest : List Text) → (bytes_eq word (codes "--") || bytes_eq word (codes "--large")) ≡ true → says_large (word ∷ rest) ≡ bytes_eq word (codes "--large")
+unfolding says_large
+large_met word rest met = elim (cases_Bool (bytes_eq word (codes "--"))) [
+  | inl e ↦
+      let is : word ≡ codes "--" = (bytes_eq-Decides word (codes "--")).0 e in
+      let other : bytes_eq word (codes "--large") ≡ false = rw is refl in
+      rw (e, other) refl
+  | inr e ↦
+      let is : bytes_eq word (codes "--large") ≡ true = rw e at met in
+      rw (e, is) refl
+]
+
+pub large_more : (word : Text) (rest : List Text) → (bytes_eq word (codes "--") || bytes_eq word (codes "--large")) ≡ false → says_large (word ∷ rest) ≡ says_large rest
+unfolding says_large
+large_more word rest e =
+    let parts = neither (bytes_eq word (codes "--")) (bytes_eq word (codes "--large")) e in
+    rw (parts.0, parts.1) refl

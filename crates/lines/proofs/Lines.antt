@@ -24,15 +24,19 @@ use Rattle.clap.specs.declared.parser.matches.ArgMatches.{ArgMatches}
 use Rattle.clap.specs.declared.parser.matches.ArgMatches.TheViews.{out-ArgMatches, out-SubCommand}
 use Rattle.lines.specs.Line.{AddsArgument, AddsCommand, IsApp, grammar_of, is_named, number_of, program_by, refusal_of, unread_fault, value_fault}
 
-pub program_is_simple : (word : Bool) (called : Text) → is_simple (program_by word called) ≡ true
+pub program_is_simple : (word large : Bool) (called : Text) → is_simple (program_by word large called) ≡ true
 unfolding clap_on_literals
-program_is_simple false called = refl
-program_is_simple true called = refl
+program_is_simple false false called = refl
+program_is_simple false true called = refl
+program_is_simple true false called = refl
+program_is_simple true true called = refl
 
-pub program_is_free : (word : Bool) (called : Text) → is_simple_and_free (program_by word called) ≡ true
+pub program_is_free : (word large : Bool) (called : Text) → is_simple_and_free (program_by word large called) ≡ true
 unfolding clap_on_literals
-program_is_free false called = refl
-program_is_free true called = refl
+program_is_free false false called = refl
+program_is_free false true called = refl
+program_is_free true false called = refl
+program_is_free true true called = refl
 
 module _ {X N R : Type 0} (f : X → N) (g : X → R) where
   -- a name and rows that are found apart are found together
@@ -62,9 +66,9 @@ found_among test f (x ∷ xs) y h = elim (cases_Bool (test x)) [
 ]
 
 -- there are no other commands
-entered_named : (word : Bool) (called : Text) (stop : Option (Text × List Text)) (found : Text × List Row) → entered (built (program_by word called)) stop ≡ Some found → is_named found.0
-entered_named word called None found h = cc
-entered_named word called (Some p) found h = elim (found_among (λ s. answers_to p.0 (label_of s)) (λ s. rows_at s p.1) (built (program_by word called)).subs found h) [
+entered_named : (word large : Bool) (called : Text) (stop : Option (Text × List Text)) (found : Text × List Row) → entered (built (program_by word large called)) stop ≡ Some found → is_named found.0
+entered_named word large called None found h = cc
+entered_named word large called (Some p) found h = elim (found_among (λ s. answers_to p.0 (label_of s)) (λ s. rows_at s p.1) (built (program_by word large called)).subs found h) [
   | inl e ↦ inl (sym (ap (λ r. r.0) e))
   | inr (inl e) ↦ inr (inl (sym (ap (λ r. r.0) e)))
   | inr (inr (inl e)) ↦ inr (inr (inl (sym (ap (λ r. r.0) e))))
@@ -81,9 +85,9 @@ entered_named word called (Some p) found h = elim (found_among (λ s. answers_to
   | inr (inr (inr (inr (inr (inr (inr (inr (inr (inr (inr (inr (inr e)))))))))))) ↦ absurd e
 ]
 
-pub only_named : (word : Bool) (called : Text) (words : List Text) (name : Text) (rows : List Row) → subcommand_of (program_by word called) words ≡ Some (name, rows) → is_named name
-only_named word called words name rows h =
-    entered_named word called (stop_after (built (program_by word called)).top.rules (names_of (built (program_by word called))) (argument_words (program_by word called) words)) (name, rows) h
+pub only_named : (word large : Bool) (called : Text) (words : List Text) (name : Text) (rows : List Row) → subcommand_of (program_by word large called) words ≡ Some (name, rows) → is_named name
+only_named word large called words name rows h =
+    entered_named word large called (stop_after (built (program_by word large called)).top.rules (names_of (built (program_by word large called))) (argument_words (program_by word large called) words)) (name, rows) h
 
 pub now_or : (o : Option (Bor (List ℕ))) (d : Bor (List ℕ)) → (unwrap_or o d).now ≡ unwrap_or (option_map (λ s. s.now) o) d.now
 now_or None d = refl

@@ -73,13 +73,22 @@ optional_text name = record (new_rule name) { long = Some name; value_names = 1 
 abbrev pub time_option : Text → Rule
 time_option name = optional_number name 0 1099511627776
 
--- a disk has 8 to 131,072 sectors
-abbrev pub sectors_option : Rule
-sectors_option = number_option (codes "sectors") 8 131072 (codes "4096")
+-- how many sectors of 512 bytes a disk has at most: one that is asked for as a large one, and another
+abbrev pub most_sectors : Bool → ℕ
+most_sectors false = 131072
+most_sectors true = 16777216
+
+-- how many sectors a disk has, at least 8
+abbrev pub sectors_option : Bool → Text → Rule
+sectors_option large default = number_option (codes "sectors") 8 (most_sectors large) default
 
 -- an option without a value
 abbrev pub flag : Text → Rule
 flag name = record (new_rule name) { long = Some name; action = Some SetTrue }
+
+-- the disk is asked for as a large one
+abbrev pub large_option : Rule
+large_option = flag (codes "large")
 
 -- ---- the commands
 
@@ -91,9 +100,15 @@ on_model name = with_rule (new_app name) (path_argument (codes "MODEL"))
 abbrev pub on_disk : Text → App
 on_disk name = with_rule (on_model name) (path_argument (codes "DISK"))
 
--- a disk of so many sectors
-abbrev pub new_command : App
-new_command = with_rule (on_disk (codes "new")) sectors_option
+-- the same with nothing else, and the disk may be a large one
+abbrev pub on_any_disk : Text → App
+on_any_disk name = with_rule (on_disk name) large_option
+
+-- a disk of so many sectors, which may be a large one
+abbrev pub new_command : Bool → App
+new_command large = with_rule (with_rule (on_disk (codes "new"))
+    (sectors_option large (codes "4096")))
+    large_option
 
 -- a batch is a number of messages, 1 to 2^32 - 1; or, where it is given as a word, any text
 abbrev pub batch_option : Bool → Rule
@@ -102,11 +117,11 @@ batch_option true = text_option (codes "batch") (codes "16")
 
 -- 1 to 64 nodes, batches, and 1 to 2^32 - 1 rounds; a checkpoint each so many rounds, 1 to
 -- 1,000,000; a commit for so many events, 1 to 400,000; programs of their own as nodes, one of which
--- is cut short; nodes that work at one time; programs that are not started, but waited for; and a
--- file for a trace
+-- is cut short; nodes that work at one time; programs that are not started, but waited for; a file
+-- for a trace; and the disk may be a large one
 abbrev pub run_command : Bool → App
 run_command word = with_rule (with_rule (with_rule (with_rule (with_rule (with_rule (with_rule
-    (with_rule (with_rule
+    (with_rule (with_rule (with_rule
     (with_rule (on_disk (codes "run")) (number_option (codes "nodes") 1 64 (codes "1")))
     (batch_option word))
     (number_option (codes "rounds") 1 4294967295 (codes "1000000")))
@@ -116,40 +131,55 @@ run_command word = with_rule (with_rule (with_rule (with_rule (with_rule (with_r
     (optional_number (codes "cut") 0 4294967295))
     (flag (codes "together")))
     (flag (codes "attach")))
-    (optional_text (codes "trace"))
+    (optional_text (codes "trace")))
+    large_option
 
--- a disk that has so many sectors then
-abbrev pub grow_command : App
-grow_command = with_rule (on_disk (codes "grow"))
-    (number_option (codes "sectors") 8 131072 (codes "131072"))
+-- the most sectors, as the value of an option
+abbrev pub most_text : Bool → Text
+most_text false = codes "131072"
+most_text true = codes "16777216"
 
--- a disk of format 1, and one of format 2 of so many sectors
-abbrev pub migrate_command : App
-migrate_command = with_rule (with_rule (with_rule (on_model (codes "migrate"))
+-- a disk that has so many sectors then, and may be a large one
+abbrev pub grow_command : Bool → App
+grow_command large = with_rule (with_rule (on_disk (codes "grow"))
+    (sectors_option large (most_text large)))
+    large_option
+
+-- a disk of format 1, and one of format 2 of so many sectors; both may be large ones
+abbrev pub migrate_command : Bool → App
+migrate_command large = with_rule (with_rule (with_rule (with_rule (on_model (codes "migrate"))
     (path_argument (codes "OLD")))
     (path_argument (codes "NEW")))
-    sectors_option
+    (sectors_option large (codes "4096")))
+    large_option
 
--- the events of a log from a time on, before a time, and of one process
+-- the events of a log from a time on, before a time, and of one process; the disk may be a large one
 abbrev pub log_command : App
-log_command = with_rule (with_rule (with_rule (on_disk (codes "log"))
+log_command = with_rule (with_rule (with_rule (with_rule (on_disk (codes "log"))
     (time_option (codes "from")))
     (time_option (codes "to")))
-    (optional_number (codes "process") 0 4294967295)
+    (optional_number (codes "process") 0 4294967295))
+    large_option
 
--- the figures of a run, in one of two formats
+-- the figures of a run, in one of two formats; the disk may be a large one
 abbrev pub stats_command : App
-stats_command = with_rule (with_rule (on_model (codes "stats")) (optional_argument (codes "DISK")))
-    (text_option (codes "format") (codes "text"))
+stats_command = with_rule (with_rule (with_rule (on_model (codes "stats"))
+    (optional_argument (codes "DISK")))
+    (text_option (codes "format") (codes "text")))
+    large_option
 
--- a picture of a run, from a time on, before a time, of some processes; or of its load
+-- a picture of a run, from a time on, before a time, of some processes; or of its load; or of the
+-- course that a trace tells; the disk may be a large one
 abbrev pub draw_command : App
-draw_command = with_rule (with_rule (with_rule (with_rule (with_rule (on_model (codes "draw"))
+draw_command = with_rule (with_rule (with_rule (with_rule (with_rule (with_rule (with_rule
+    (on_model (codes "draw"))
     (optional_argument (codes "DISK")))
     (time_option (codes "from")))
     (time_option (codes "to")))
     (optional_text (codes "processes")))
-    (flag (codes "load"))
+    (flag (codes "load")))
+    (optional_text (codes "trace")))
+    large_option
 
 -- a node behind a socket, for 1 to 2^32 - 1 replies
 abbrev pub node_command : App
@@ -168,14 +198,15 @@ without_commands called = record (new_app called) {
   };
 }
 
--- the program of this name, where a batch is given as a word or as a number
-abbrev pub program_by : Bool → Text → App
-program_by word called = with_subcommand (with_subcommand (with_subcommand (with_subcommand
+-- the program of this name, where a batch is given as a word or as a number, and disks are asked for as
+-- large ones or not
+abbrev pub program_by : Bool → Bool → Text → App
+program_by word large called = with_subcommand (with_subcommand (with_subcommand (with_subcommand
     (with_subcommand (with_subcommand (with_subcommand (with_subcommand (with_subcommand
     (with_subcommand (with_subcommand (with_subcommand (with_subcommand (without_commands called)
-    new_command.top) (run_command word).top) (on_disk (codes "extend")).top) grow_command.top)
-    migrate_command.top)
-    (on_disk (codes "status")).top) log_command.top) (on_disk (codes "show")).top)
+    (new_command large).top) (run_command word).top) (on_any_disk (codes "extend")).top)
+    (grow_command large).top) (migrate_command large).top)
+    (on_any_disk (codes "status")).top) log_command.top) (on_any_disk (codes "show")).top)
     stats_command.top) draw_command.top) (on_model (codes "seq")).top)
     (on_model (codes "check")).top) node_command.top
 
@@ -198,9 +229,17 @@ says_auto (word ∷ rest) = not (bytes_eq word (codes "--"))
     && (bytes_eq word (codes "--batch=auto")
     || (bytes_eq word (codes "--batch") && begins_auto rest) || says_auto rest)
 
+-- ---- large disks
+
+-- disks are asked for as large ones: by the word `--large`, before a word `--`
+unfoldable pub says_large : List Text → Bool
+says_large [] = false
+says_large (word ∷ rest) = not (bytes_eq word (codes "--"))
+    && (bytes_eq word (codes "--large") || says_large rest)
+
 -- the program of this name, by which these words are read; the first is that of the program itself
 abbrev pub grammar_of : Text → List Text → App
-grammar_of called words = program_by (says_auto (drop 1 words)) called
+grammar_of called words = program_by (says_auto (drop 1 words)) (says_large (drop 1 words)) called
 
 -- ---- building them
 
@@ -330,13 +369,21 @@ abbrev pub SaysTimes : Option ℕ → Option ℕ → List Row → Type 0
 SaysTimes from to rows = (from ≡ optional_number_in (codes "from") 0 1099511627776 rows)
     × (to ≡ optional_number_in (codes "to") 0 1099511627776 rows)
 
+-- the line has the number of sectors, and whether a disk may be a large one. What clap read for the flag
+-- gives the range, and not the words by which it was chosen: so it holds of each line, whatever words
+-- clap takes as another option's value.
+abbrev pub SaysSectors : ℕ → Bool → List Row → Type 0
+SaysSectors sectors large rows =
+    (sectors ≡ number_in (codes "sectors") 8 (most_sectors large) rows)
+    × IsFlagIn (codes "large") rows large
+
 -- the values of these rows, as clap gives them
 abbrev pub SaysRows : Line → Text → List Row → Type 0
-SaysRows (New model disk sectors) name rows = (name ≡ codes "new")
+SaysRows (New model disk sectors large) name rows = (name ≡ codes "new")
     × SaysDisk model.now disk.now rows
-    × (sectors ≡ number_in (codes "sectors") 8 131072 rows)
+    × SaysSectors sectors large rows
 SaysRows
-    (Run model disk nodes batch rounds checkpoint commit_every sockets cut together attach trace)
+    (Run model disk nodes batch rounds checkpoint commit_every sockets cut together attach trace large)
     name rows = (name ≡ codes "run")
     × SaysDisk model.now disk.now rows
     × (nodes ≡ number_in (codes "nodes") 1 64 rows)
@@ -349,29 +396,40 @@ SaysRows
     × IsFlagIn (codes "together") rows together
     × IsFlagIn (codes "attach") rows attach
     × (option_map (λ path. path.now) trace ≡ first_of (codes "trace") rows)
-SaysRows (Extend model disk) name rows = (name ≡ codes "extend") × SaysDisk model.now disk.now rows
-SaysRows (Grow model disk sectors) name rows = (name ≡ codes "grow")
+    × IsFlagIn (codes "large") rows large
+SaysRows (Extend model disk large) name rows = (name ≡ codes "extend")
     × SaysDisk model.now disk.now rows
-    × (sectors ≡ number_in (codes "sectors") 8 131072 rows)
-SaysRows (Migrate model old new sectors) name rows = (name ≡ codes "migrate")
+    × IsFlagIn (codes "large") rows large
+SaysRows (Grow model disk sectors large) name rows = (name ≡ codes "grow")
+    × SaysDisk model.now disk.now rows
+    × SaysSectors sectors large rows
+SaysRows (Migrate model old new sectors large) name rows = (name ≡ codes "migrate")
     × (model.now ≡ text_in (codes "MODEL") rows)
     × (old.now ≡ text_in (codes "OLD") rows)
     × (new.now ≡ text_in (codes "NEW") rows)
-    × (sectors ≡ number_in (codes "sectors") 8 131072 rows)
-SaysRows (Status model disk) name rows = (name ≡ codes "status") × SaysDisk model.now disk.now rows
-SaysRows (Log model disk from to process) name rows = (name ≡ codes "log")
+    × SaysSectors sectors large rows
+SaysRows (Status model disk large) name rows = (name ≡ codes "status")
+    × SaysDisk model.now disk.now rows
+    × IsFlagIn (codes "large") rows large
+SaysRows (Log model disk from to process large) name rows = (name ≡ codes "log")
     × SaysDisk model.now disk.now rows
     × SaysTimes from to rows
     × (process ≡ optional_number_in (codes "process") 0 4294967295 rows)
-SaysRows (Show model disk) name rows = (name ≡ codes "show") × SaysDisk model.now disk.now rows
-SaysRows (Stats model disk csv) name rows = (name ≡ codes "stats")
+    × IsFlagIn (codes "large") rows large
+SaysRows (Show model disk large) name rows = (name ≡ codes "show")
+    × SaysDisk model.now disk.now rows
+    × IsFlagIn (codes "large") rows large
+SaysRows (Stats model disk csv large) name rows = (name ≡ codes "stats")
     × SaysMaybeDisk model.now (option_map (λ path. path.now) disk) rows
     × (csv ≡ is_text (first_of (codes "format") rows) (codes "csv"))
-SaysRows (Draw model disk from to processes load) name rows = (name ≡ codes "draw")
+    × IsFlagIn (codes "large") rows large
+SaysRows (Draw model disk from to processes load trace large) name rows = (name ≡ codes "draw")
     × SaysMaybeDisk model.now (option_map (λ path. path.now) disk) rows
     × SaysTimes from to rows
     × (processes ≡ option_and_then range_of (first_of (codes "processes") rows))
     × IsFlagIn (codes "load") rows load
+    × (option_map (λ path. path.now) trace ≡ first_of (codes "trace") rows)
+    × IsFlagIn (codes "large") rows large
 SaysRows (Seq model) name rows =
     (name ≡ codes "seq") × (model.now ≡ text_in (codes "MODEL") rows)
 SaysRows (Check model) name rows =
@@ -400,16 +458,16 @@ IsWithin least most number = IfSome number (λ n. (least ≤ n) × (n ≤ most))
 
 -- the numbers of a line lie in their ranges
 abbrev pub IsRanged : Line → Type 0
-IsRanged (New model disk sectors) = (8 ≤ sectors) × (sectors ≤ 131072)
+IsRanged (New model disk sectors large) = (8 ≤ sectors) × (sectors ≤ most_sectors large)
 IsRanged
-    (Run model disk nodes batch rounds checkpoint commit_every sockets cut together attach trace) =
+    (Run model disk nodes batch rounds checkpoint commit_every sockets cut together attach trace large) =
     (1 ≤ nodes) × (nodes ≤ 64) × IsBatchRanged batch × (1 ≤ rounds)
     × IsWithin 1 1000000 checkpoint × IsWithin 1 400000 commit_every
-IsRanged (Grow model disk sectors) = (8 ≤ sectors) × (sectors ≤ 131072)
-IsRanged (Migrate model old new sectors) = (8 ≤ sectors) × (sectors ≤ 131072)
-IsRanged (Log model disk from to process) =
+IsRanged (Grow model disk sectors large) = (8 ≤ sectors) × (sectors ≤ most_sectors large)
+IsRanged (Migrate model old new sectors large) = (8 ≤ sectors) × (sectors ≤ most_sectors large)
+IsRanged (Log model disk from to process large) =
     IsWithin 0 1099511627776 from × IsWithin 0 1099511627776 to
-IsRanged (Draw model disk from to processes load) =
+IsRanged (Draw model disk from to processes load trace large) =
     IsWithin 0 1099511627776 from × IsWithin 0 1099511627776 to
     × IfSome processes (λ range. range.0 ≤ range.1)
 IsRanged (Node model socket parcels) = 1 ≤ parcels

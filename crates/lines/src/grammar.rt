@@ -1,11 +1,12 @@
 // The commands, their arguments and their help, as `clap` takes them.
 
-ghost use Rattle.std.specs.Prelude.{◌≡◌, false, true, IfOk};
+ghost use Rattle.std.specs.Prelude.{◌≡◌, ◌≤◌, false, true, IfOk};
 ghost use Rattle.clap.specs.Words.{app_of, rule_of};
 ghost use Rattle.clap.specs.declared.builder.command.Command.TheViews.{out-Command as fields_of};
 ghost use Rattle.clap.specs.declared.builder.value_parser.ValueParser.TheVariants.{Names};
 ghost use Rattle.lines.specs.Line.{batch_option, choice_option, draw_command, flag, log_command};
-ghost use Rattle.lines.specs.Line.{grow_command, migrate_command, refusing};
+ghost use Rattle.lines.specs.Line.{grow_command, large_option, migrate_command, refusing};
+ghost use Rattle.lines.specs.Line.{most_sectors, most_text, on_any_disk};
 ghost use Rattle.lines.specs.Line.{new_command, node_command, number_option, on_disk, on_model};
 ghost use Rattle.lines.specs.Line.{optional_argument, optional_number, optional_text};
 ghost use Rattle.lines.specs.Line.{path_argument, program_by, run_command, sectors_option};
@@ -29,9 +30,15 @@ pub struct Texts<'a> {
     pub seq_help: &'a str,
 }
 
-/// All commands. A batch of `run` is a number; or, where it is given as a word, any text.
-pub fn program<'a>(alloc: Global, texts: Texts<'a>, word: bool) -> Result<Command<'a>, AllocError>
-    ensures is { IfOk result (IsApp (program_by word texts.entry.name.now)) }
+/// All commands. A batch of `run` is a number; or, where it is given as a word, any text. Disks have the
+/// sectors of large ones or not.
+pub fn program<'a>(
+    alloc: Global,
+    texts: Texts<'a>,
+    word: bool,
+    large: bool,
+) -> Result<Command<'a>, AllocError>
+    ensures is { IfOk result (IsApp (program_by word large texts.entry.name.now)) }
     ensures required { IfOk result (λ c. (fields_of c).subcommand_required ≡ true) }
 {
     let Texts {
@@ -40,14 +47,23 @@ pub fn program<'a>(alloc: Global, texts: Texts<'a>, word: bool) -> Result<Comman
         help,
         seq_help,
     } = texts;
-    let program = with_command(Ok(without_commands(alloc, name, version, help)), new(alloc));
+    let program = with_command(
+        Ok(without_commands(alloc, name, version, help)),
+        new(alloc, large),
+    );
     let program = with_command(program, run(alloc, word));
-    let program = with_command(program, on_disk(alloc, "extend", EXTEND_ABOUT, EXTEND_HELP));
-    let program = with_command(program, grow(alloc));
-    let program = with_command(program, migrate(alloc));
-    let program = with_command(program, on_disk(alloc, "status", STATUS_ABOUT, STATUS_HELP));
+    let program = with_command(
+        program,
+        on_any_disk(alloc, "extend", EXTEND_ABOUT, EXTEND_HELP),
+    );
+    let program = with_command(program, grow(alloc, large));
+    let program = with_command(program, migrate(alloc, large));
+    let program = with_command(
+        program,
+        on_any_disk(alloc, "status", STATUS_ABOUT, STATUS_HELP),
+    );
     let program = with_command(program, log(alloc));
-    let program = with_command(program, on_disk(alloc, "show", SHOW_ABOUT, SHOW_HELP));
+    let program = with_command(program, on_any_disk(alloc, "show", SHOW_ABOUT, SHOW_HELP));
     let program = with_command(program, stats(alloc));
     let program = with_command(program, draw(alloc));
     let program = with_command(program, on_model(alloc, "seq", SEQ_ABOUT, seq_help));
@@ -104,6 +120,7 @@ Faults:
   Record N ..  'status' finds the record behind N others at fault: BadRecord, NotTheLeast, ..
   World ..     'seq', 'stats' or 'draw' stops: NoMemory, or NumberLimit past 2^63 messages of one
                process
+  BadTrace     'draw --trace' finds that the file is not as 'run --trace' writes one
   Wire ..      'node' stops: Truncated, TooLong, BadKind, BadBody (what came is no frame that
                has its place there), Io, NoMemory
   NoMemory     memory ran out elsewhere
@@ -112,19 +129,26 @@ Faults:
 }
 
 /// The command `new`.
-fn new<'a>(alloc: Global) -> Result<Command<'a>, AllocError>
-    ensures { IfOk result (IsApp new_command) }
+fn new<'a>(alloc: Global, large: bool) -> Result<Command<'a>, AllocError>
+    ensures { IfOk result (IsApp (new_command large)) }
 {
     let command = on_disk(alloc, "new", NEW_ABOUT, NEW_HELP);
-    with_argument(command, sectors(alloc, SECTORS_HELP))
+    let command = with_argument(command, sectors(alloc, large, "4096", SECTORS_HELP));
+    with_argument(command, large_option(alloc))
 }
 
 const NEW_ABOUT: &str = "Makes a disk with an empty log for a model";
 
-const SECTORS_HELP: &str = "How many sectors of 512 bytes the disk has, 8 to 131072";
+const SECTORS_HELP: &str =
+    "How many sectors of 512 bytes the disk has, 8 to 131072, or with --large to 16777216";
+
+const LARGE_HELP: &str = "The disk may have up to 16777216 sectors, and not 131072";
 
 const NEW_HELP: &str = "\
 A file that is there has to have the size that is asked for, and must not have a log.
+
+In memory a disk takes 512 bytes for each sector that is used, and a byte for each that it has.
+The commands take a disk of more than 131072 sectors only with --large.
 
 Output:
   formatted N sectors";
@@ -146,7 +170,8 @@ fn run<'a>(alloc: Global, word: bool) -> Result<Command<'a>, AllocError>
     let command = with_argument(with_argument(command, sockets), cut);
     let command = with_argument(command, flag(alloc, "together", TOGETHER_HELP));
     let command = with_argument(command, flag(alloc, "attach", ATTACH_HELP));
-    with_argument(command, optional_text(alloc, "trace", "FILE", TRACE_HELP))
+    let command = with_argument(command, optional_text(alloc, "trace", "FILE", TRACE_HELP));
+    with_argument(command, large_option(alloc))
 }
 
 /// How many messages a node handles at a turn: a number, or any text.
@@ -220,17 +245,25 @@ Output:
   extended E0 to E1   the end before and this one, in ticks";
 
 /// The command `grow`.
-fn grow<'a>(alloc: Global) -> Result<Command<'a>, AllocError>
-    ensures { IfOk result (IsApp grow_command) }
+fn grow<'a>(alloc: Global, large: bool) -> Result<Command<'a>, AllocError>
+    ensures { IfOk result (IsApp (grow_command large)) }
 {
     let command = on_disk(alloc, "grow", GROW_ABOUT, GROW_HELP);
-    let sectors = number_option(alloc, "sectors", "131072", 8, 131_072, GROWN_HELP);
-    with_argument(command, sectors)
+    let command = with_argument(command, sectors(alloc, large, most_text(large), GROWN_HELP));
+    with_argument(command, large_option(alloc))
+}
+
+/// The most sectors that a disk may have, as a text.
+fn most_text<'a>(large: bool) -> &'a str
+    ensures { result.now ≡ most_text large }
+{
+    if large { "16777216" } else { "131072" }
 }
 
 const GROW_ABOUT: &str = "Makes a disk longer, so that its run has room again";
 
-const GROWN_HELP: &str = "How many sectors of 512 bytes the disk has then, 8 to 131072";
+const GROWN_HELP: &str =
+    "How many sectors of 512 bytes the disk has then, 8 to 131072, or with --large to 16777216";
 
 const GROW_HELP: &str = "\
 The disk gets sectors of zeros behind those that it has; what is committed stays, whenever the power
@@ -240,8 +273,8 @@ Output:
   grown S0 to S1 sectors   how many it had, and has now";
 
 /// The command `migrate`.
-fn migrate<'a>(alloc: Global) -> Result<Command<'a>, AllocError>
-    ensures { IfOk result (IsApp migrate_command) }
+fn migrate<'a>(alloc: Global, large: bool) -> Result<Command<'a>, AllocError>
+    ensures { IfOk result (IsApp (migrate_command large)) }
 {
     let command = on_model(alloc, "migrate", MIGRATE_ABOUT, MIGRATE_HELP);
     let command = with_argument(
@@ -252,12 +285,14 @@ fn migrate<'a>(alloc: Global) -> Result<Command<'a>, AllocError>
         command,
         path(alloc, "NEW", "The file of the disk of format 2"),
     );
-    with_argument(command, sectors(alloc, NEW_SECTORS_HELP))
+    let command = with_argument(command, sectors(alloc, large, "4096", NEW_SECTORS_HELP));
+    with_argument(command, large_option(alloc))
 }
 
 const MIGRATE_ABOUT: &str = "Writes a disk of format 1 anew in format 2";
 
-const NEW_SECTORS_HELP: &str = "How many sectors of 512 bytes the disk NEW has, 8 to 131072";
+const NEW_SECTORS_HELP: &str =
+    "How many sectors of 512 bytes the disk NEW has, 8 to 131072, or with --large to 16777216";
 
 const MIGRATE_HELP: &str = "\
 Reads a disk of format 1 (OLD), as earlier versions made it, and writes NEW in format 2 with what is
@@ -291,7 +326,8 @@ fn log<'a>(alloc: Global) -> Result<Command<'a>, AllocError>
     let command = with_argument(command, time_option(alloc, "from", FROM_HELP));
     let command = with_argument(command, time_option(alloc, "to", TO_HELP));
     let process = optional_number(alloc, "process", "L", 0, 4_294_967_295, PROCESS_HELP);
-    with_argument(command, process)
+    let command = with_argument(command, process);
+    with_argument(command, large_option(alloc))
 }
 
 const FROM_HELP: &str = "Only events at T ticks or later, 0 to 1099511627776";
@@ -324,10 +360,9 @@ fn stats<'a>(alloc: Global) -> Result<Command<'a>, AllocError>
 {
     let command = on_model(alloc, "stats", STATS_ABOUT, STATS_HELP);
     let command = with_argument(command, optional_argument(alloc, "DISK", MAYBE_DISK_HELP));
-    with_argument(
-        command,
-        text_option(alloc, "format", "F", "text", FORMAT_HELP),
-    )
+    let format = text_option(alloc, "format", "F", "text", FORMAT_HELP);
+    let command = with_argument(command, format);
+    with_argument(command, large_option(alloc))
 }
 
 const STATS_ABOUT: &str = "Prints how many events, sends and delays a run had";
@@ -354,7 +389,10 @@ fn draw<'a>(alloc: Global) -> Result<Command<'a>, AllocError>
     let command = with_argument(command, time_option(alloc, "to", TO_HELP));
     let processes = optional_text(alloc, "processes", "A..B", PROCESSES_HELP);
     let command = with_argument(command, processes);
-    with_argument(command, flag(alloc, "load", LOAD_HELP))
+    let command = with_argument(command, flag(alloc, "load", LOAD_HELP));
+    let trace = optional_text(alloc, "trace", "FILE", COURSE_HELP);
+    let command = with_argument(command, trace);
+    with_argument(command, large_option(alloc))
 }
 
 const DRAW_ABOUT: &str = "Prints a picture of a run, as SVG";
@@ -363,9 +401,13 @@ const PROCESSES_HELP: &str = "Only processes A to B, both too, 0 to 4294967295";
 
 const LOAD_HELP: &str = "Draws how many events each process handled, by slices of virtual time";
 
+const COURSE_HELP: &str = "Draws the course of the run that wrote FILE by 'run --trace FILE'";
+
 const DRAW_HELP: &str = "\
 With a disk this is a picture of what is committed there. The disk is only read.
 Without one it is that of the whole run, which is made by the plain runner, as by 'seq'.
+With --trace it shows, over the rounds, GVT, the efficiency, antimessages and commits; the file is
+all that is looked at then.
 
 Output:
   an SVG document, which a browser shows";
@@ -417,6 +459,19 @@ const NODE_HELP: &str = "\
 'run --sockets' starts it. It takes the run's word for what it simulates, and ends where the run
 closes the connection, after a fault of the node, which it tells the run, or after N replies.
 It prints nothing.";
+
+/// A command on a model file and a disk, which may be a large one, with nothing else.
+fn on_any_disk<'a>(
+    alloc: Global,
+    name: &'a str,
+    about: &'a str,
+    help: &'a str,
+) -> Result<Command<'a>, AllocError>
+    ensures { IfOk result (IsApp (on_any_disk name.entry.now)) }
+{
+    let command = on_disk(alloc, name, about, help);
+    with_argument(command, large_option(alloc))
+}
 
 /// A command on a model file and a disk.
 fn on_disk<'a>(
@@ -503,11 +558,28 @@ fn optional_argument<'a>(alloc: Global, id: &'a str, help: &'a str) -> Arg<'a>
 }
 
 /// The option for the number of a disk's sectors.
-fn sectors<'a>(alloc: Global, help: &'a str) -> Arg<'a>
-    ensures rule { rule_of result ≡ sectors_option }
+fn sectors<'a>(alloc: Global, large: bool, default: &'a str, help: &'a str) -> Arg<'a>
+    ensures rule { rule_of result ≡ sectors_option large default.entry.now }
     ensures local { result.global ≡ false }
 {
-    number_option(alloc, "sectors", "4096", 8, 131_072, help)
+    let most = u64::from(most_sectors(large));
+    number_option(alloc, "sectors", default, 8, most, help)
+}
+
+/// The option by which a disk may be a large one.
+fn large_option<'a>(alloc: Global) -> Arg<'a>
+    ensures rule { rule_of result ≡ large_option }
+    ensures local { result.global ≡ false }
+{
+    flag(alloc, "large", LARGE_HELP)
+}
+
+/// How many sectors a disk has at most: a large one, or another.
+pub fn most_sectors(large: bool) -> u32
+    ensures most { result ≡ most_sectors large }
+    ensures some { 8 ≤ result }
+{
+    if large { 16_777_216 } else { 131_072 }
 }
 
 /// An option whose value is a number from `least` to `most`.

@@ -4,12 +4,12 @@ ghost use Rattle.std.specs.Prelude.{◌≡◌, map, IfOk};
 ghost use Rattle.clap.specs.Words.{found_of, rows_of, FailsBy};
 ghost use Rattle.lines.specs.Line.{is_named, refusal_of, IsRanged, Says, SaysRows};
 
-use crate::grammar::{Texts, program};
+use crate::grammar::{Texts, most_sectors, program};
 use crate::values::{
     batch, is_flagged, is_text, optional_number, optional_small_number, optional_text, range,
     refusal, small_number, text,
 };
-use crate::words::says_auto;
+use crate::words::{says_auto, says_large};
 use clap::{ArgMatches, Error};
 use std::alloc::Global;
 use std::convert::AsStr;
@@ -32,8 +32,10 @@ pub enum Line<'a> {
         model: &'a str,
         /// The path of the disk's file.
         disk: &'a str,
-        /// How many sectors the disk has, 8 to 131,072.
+        /// How many sectors the disk has, 8 to 131,072, or of a large one to 16,777,216.
         sectors: u32,
+        /// Whether the disk may have up to 16,777,216 sectors, and not 131,072.
+        large: bool,
     },
     /// Run a model on its disk.
     Run {
@@ -65,6 +67,8 @@ pub enum Line<'a> {
         attach: bool,
         /// The path of the file for a row of each turn of a node; none for no trace.
         trace: Option<&'a str>,
+        /// Whether the disk may have up to 16,777,216 sectors, and not 131,072.
+        large: bool,
     },
     /// Carry a disk on to a later end.
     Extend {
@@ -72,6 +76,8 @@ pub enum Line<'a> {
         model: &'a str,
         /// The path of the disk's file.
         disk: &'a str,
+        /// Whether the disk may have up to 16,777,216 sectors, and not 131,072.
+        large: bool,
     },
     /// Make a disk longer.
     Grow {
@@ -79,8 +85,10 @@ pub enum Line<'a> {
         model: &'a str,
         /// The path of the disk's file.
         disk: &'a str,
-        /// How many sectors the disk has then, 8 to 131,072.
+        /// How many sectors the disk has then, 8 to 131,072, or of a large one to 16,777,216.
         sectors: u32,
+        /// Whether the disk may have up to 16,777,216 sectors, and not 131,072.
+        large: bool,
     },
     /// Write a disk of format 1 anew in format 2.
     Migrate {
@@ -90,8 +98,10 @@ pub enum Line<'a> {
         old: &'a str,
         /// The path of the file of the disk of format 2.
         new: &'a str,
-        /// How many sectors the disk of format 2 has, 8 to 131,072.
+        /// How many sectors the disk of format 2 has, 8 to 131,072, or of a large one to 16,777,216.
         sectors: u32,
+        /// Whether each disk may have up to 16,777,216 sectors, and not 131,072.
+        large: bool,
     },
     /// Say how far the run of a disk has come.
     Status {
@@ -99,6 +109,8 @@ pub enum Line<'a> {
         model: &'a str,
         /// The path of the disk's file.
         disk: &'a str,
+        /// Whether the disk may have up to 16,777,216 sectors, and not 131,072.
+        large: bool,
     },
     /// Print the committed events of a disk.
     Log {
@@ -112,6 +124,8 @@ pub enum Line<'a> {
         to: Option<u64>,
         /// The process whose events are meant: those that it handled; none for all.
         process: Option<u32>,
+        /// Whether the disk may have up to 16,777,216 sectors, and not 131,072.
+        large: bool,
     },
     /// Print the committed world of a disk.
     Show {
@@ -119,6 +133,8 @@ pub enum Line<'a> {
         model: &'a str,
         /// The path of the disk's file.
         disk: &'a str,
+        /// Whether the disk may have up to 16,777,216 sectors, and not 131,072.
+        large: bool,
     },
     /// Print the figures of a run.
     Stats {
@@ -128,6 +144,8 @@ pub enum Line<'a> {
         disk: Option<&'a str>,
         /// Whether they are printed as comma-separated values, and not as a text.
         csv: bool,
+        /// Whether the disk may have up to 16,777,216 sectors, and not 131,072.
+        large: bool,
     },
     /// Print a picture of a run.
     Draw {
@@ -144,6 +162,11 @@ pub enum Line<'a> {
         processes: Option<(u32, u32)>,
         /// Whether the load of the processes is drawn, and not each event.
         load: bool,
+        /// The path of a trace's file, whose course is drawn, and nothing else; none for a picture
+        /// of the run.
+        trace: Option<&'a str>,
+        /// Whether the disk may have up to 16,777,216 sectors, and not 131,072.
+        large: bool,
     },
     /// Run a model by the plain runner.
     Seq {
@@ -183,7 +206,9 @@ pub fn read_line<'a, S: AsStr>(
     ensures refused { FailsBy (refusal_of texts.entry.name.now (map S.text words.entry.now))
         result }
 {
-    let matches = program(alloc, texts, says_auto(words))?.try_get_matches_from(words)?;
+    let word = says_auto(words);
+    let large = says_large(words);
+    let matches = program(alloc, texts, word, large)?.try_get_matches_from(words)?;
     match matches.subcommand() {
         Some((name, values)) => match refusal(alloc, values) {
             Some(error) => Err(error),
@@ -200,11 +225,13 @@ fn line_of<'a>(name: &str, values: &ArgMatches<'a>) -> Line<'a>
     ensures ranged { IsRanged result }
 {
     let model = text(values, "MODEL");
+    let large = is_flagged(values, "large");
     match name {
         "new" => Line::New {
             model,
             disk: text(values, "DISK"),
-            sectors: small_number(values, "sectors", 8, 131_072),
+            sectors: small_number(values, "sectors", 8, most_sectors(large)),
+            large,
         },
         "run" => Line::Run {
             model,
@@ -219,25 +246,30 @@ fn line_of<'a>(name: &str, values: &ArgMatches<'a>) -> Line<'a>
             together: is_flagged(values, "together"),
             attach: is_flagged(values, "attach"),
             trace: optional_text(values, "trace"),
+            large,
         },
         "extend" => Line::Extend {
             model,
             disk: text(values, "DISK"),
+            large,
         },
         "grow" => Line::Grow {
             model,
             disk: text(values, "DISK"),
-            sectors: small_number(values, "sectors", 8, 131_072),
+            sectors: small_number(values, "sectors", 8, most_sectors(large)),
+            large,
         },
         "migrate" => Line::Migrate {
             model,
             old: text(values, "OLD"),
             new: text(values, "NEW"),
-            sectors: small_number(values, "sectors", 8, 131_072),
+            sectors: small_number(values, "sectors", 8, most_sectors(large)),
+            large,
         },
         "status" => Line::Status {
             model,
             disk: text(values, "DISK"),
+            large,
         },
         "log" => Line::Log {
             model,
@@ -245,15 +277,18 @@ fn line_of<'a>(name: &str, values: &ArgMatches<'a>) -> Line<'a>
             from: optional_number(values, "from", 0, LAST_TIME),
             to: optional_number(values, "to", 0, LAST_TIME),
             process: optional_small_number(values, "process", 0, u32::MAX),
+            large,
         },
         "show" => Line::Show {
             model,
             disk: text(values, "DISK"),
+            large,
         },
         "stats" => Line::Stats {
             model,
             disk: optional_text(values, "DISK"),
             csv: is_text(optional_text(values, "format"), "csv"),
+            large,
         },
         "draw" => Line::Draw {
             model,
@@ -262,6 +297,8 @@ fn line_of<'a>(name: &str, values: &ArgMatches<'a>) -> Line<'a>
             to: optional_number(values, "to", 0, LAST_TIME),
             processes: range(values),
             load: is_flagged(values, "load"),
+            trace: optional_text(values, "trace"),
+            large,
         },
         "seq" => Line::Seq { model },
         "check" => Line::Check { model },

@@ -4,3 +4,4 @@ pub mod Sendings
 pub mod Traces
 pub mod Counts
 pub mod Frames
+pub mod Rounds

@@ -64,6 +64,7 @@ module _ {T A B : Type 0} where
   on_fault (Err (fault.Migrate f)) h k = inl (k (fault.Migrate f) refl (λ e. cc))
   on_fault (Err (fault.Grow f)) h k = inl (k (fault.Grow f) refl (λ e. cc))
   on_fault (Err (fault.Record n f)) h k = inl (k (fault.Record n f) refl (λ e. cc))
+  on_fault (Err fault.BadTrace) h k = inl (k fault.BadTrace refl (λ e. cc))
   on_fault (Err (fault.Mistake f)) h k = inl (k (fault.Mistake f) refl (λ e. cc))
   on_fault (Err fault.NoMemory) h k = inl (k fault.NoMemory refl (λ e. cc))
 

@@ -36,6 +36,7 @@ use Rattle.migration.specs.Old.{IsOldLog}
 use Rattle.model.specs.Meaning.{Meaning}
 use Rattle.model.specs.World.{IsUpto, World}
 use Rattle.pictures.specs.Chosen.{is_chosen}
+use Rattle.pictures.specs.Course.{course_text}
 use Rattle.pictures.specs.Drawing.{drawing_text}
 use Rattle.pictures.specs.Figures.{AreFigures}
 use Rattle.pictures.specs.Load.{load_text}
@@ -44,6 +45,9 @@ use Rattle.pictures.specs.Tables.{csv_text, stats_text}
 use Rattle.pictures.specs.declared.chosen.Choice.{Choice}
 use Rattle.pictures.specs.declared.counted.Figures.{Figures}
 use Rattle.pictures.specs.declared.drawn.View.{View}
+use Rattle.pictures.specs.declared.turns.NotRead.{NotRead}
+use Rattle.pictures.specs.declared.turns.NotRead.TheVariants as reading
+use Rattle.pictures.specs.declared.turns.Row.{Row}
 use Rattle.toml.specs.Data.{Members}
 use Rattle.texts.specs.ModelFile.{IsModelFile}
 use Rattle.texts.specs.Text.{log_text, world_text}
@@ -51,7 +55,7 @@ use Rattle.eventkey.specs.Writing.{TakesBeginning}
 use Rattle.texts.specs.declared.model_file.ModelFault.{ModelFault}
 use Rattle.texts.specs.declared.model_file.ModelFault.TheVariants as file
 use Rattle.program.specs.declared.fault.Fault.{Fault}
-use Rattle.program.specs.declared.fault.Fault.TheVariants.{BadModel, NoMemory}
+use Rattle.program.specs.declared.fault.Fault.TheVariants.{BadModel, BadTrace, NoMemory}
 use Rattle.program.specs.declared.fault.Fault.TheVariants as fault
 
 -- of which kind of model: how a table describes one, and what `check` prints of one
@@ -70,6 +74,11 @@ run_text w = log_text w.log ++ world_text w
 abbrev pub of_model : ModelFault → Fault
 of_model (file.BadModel mistake) = BadModel
 of_model file.NoMemory = NoMemory
+
+-- for a refusal of a trace
+abbrev pub of_trace : NotRead → Fault
+of_trace reading.BadTrace = BadTrace
+of_trace reading.NoMemory = NoMemory
 
 -- for a refusal of a command on a disk
 abbrev pub of_command : CommandFault → Fault
@@ -294,6 +303,10 @@ pub record IsDrawn {M S : Type 0} (meaning : M → Meaning) (says : Describes M)
   pub traced : IsTraced meaning says disk run
   pub is : text ≡ picture_text load run (view_of run from to processes)
 
+-- the picture of the course that some rows of a trace tell
+abbrev pub IsCourse : List ℕ → Type 0
+IsCourse text = (rows : List Row) × (text ≡ course_text rows)
+
 abbrev pub IsShown : {M : Type 0} → (M → Meaning) → Describes M → List ℕ → Type 0
 IsShown meaning says = IsCommitted meaning says world_text
 
@@ -345,19 +358,21 @@ IsRanOver meaning says (Some folder) nodes text = IsRanBehind says nodes text
 
 -- a text that the command of a line prints
 abbrev pub IsOutput : {M : Type 0} → (M → Meaning) → Describes M → Shows M → Line → List ℕ → Type 0
-IsOutput meaning says shows (New model disk sectors) text = IsFormatted sectors text
-IsOutput meaning says shows (Run model disk nodes batch rounds checkpoint commit_every sockets cut together attach trace) text =
+IsOutput meaning says shows (New model disk sectors large) text = IsFormatted sectors text
+IsOutput meaning says shows (Run model disk nodes batch rounds checkpoint commit_every sockets cut together attach trace large) text =
     IsRanOver meaning says sockets nodes text
-IsOutput meaning says shows (Extend model disk) text = IsCarriedOn meaning says text
-IsOutput meaning says shows (Grow model disk sectors) text = IsGrown sectors text
-IsOutput meaning says shows (Migrate model old new sectors) text = IsWrittenAnew meaning says text
-IsOutput meaning says shows (Status model disk) text = IsStatus meaning says text
-IsOutput meaning says shows (Log model disk from to process) text =
+IsOutput meaning says shows (Extend model disk large) text = IsCarriedOn meaning says text
+IsOutput meaning says shows (Grow model disk sectors large) text = IsGrown sectors text
+IsOutput meaning says shows (Migrate model old new sectors large) text = IsWrittenAnew meaning says text
+IsOutput meaning says shows (Status model disk large) text = IsStatus meaning says text
+IsOutput meaning says shows (Log model disk from to process large) text =
     IsLogged meaning says from to process text
-IsOutput meaning says shows (Show model disk) text = IsShown meaning says text
-IsOutput meaning says shows (Stats model disk csv) text = IsStats meaning says disk csv text
-IsOutput meaning says shows (Draw model disk from to processes load) text =
+IsOutput meaning says shows (Show model disk large) text = IsShown meaning says text
+IsOutput meaning says shows (Stats model disk csv large) text = IsStats meaning says disk csv text
+IsOutput meaning says shows (Draw model disk from to processes load None large) text =
     IsDrawn meaning says disk load from to processes text
+IsOutput meaning says shows (Draw model disk from to processes load (Some trace) large) text =
+    IsCourse text
 IsOutput meaning says shows (Seq model) text = IsWhole meaning says text
 IsOutput meaning says shows (Check model) text = IsSomeChecked says shows text
 IsOutput meaning says shows (Node model socket parcels) text = text ≡ []

@@ -1,7 +1,7 @@
 // Why a command failed.
 
 ghost use Rattle.std.specs.Prelude.{◌≡◌};
-ghost use Rattle.program.specs.Command.{of_command, of_file, of_growing, of_inspection, of_model};
+ghost use Rattle.program.specs.Command.{of_command, of_file, of_growing, of_inspection, of_model, of_trace};
 ghost use Rattle.program.specs.declared.fault.Fault.TheVariants.{NoMemory, Output};
 ghost use Rattle.program.specs.declared.fault.Fault.TheVariants.{Wire as WireCase, World as WorldCase};
 
@@ -13,6 +13,7 @@ use growing::GrowingFault;
 use inspection::InspectionFault;
 use migration::MigrateFault;
 use model::WorldFault;
+use pictures::NotRead;
 use recovery::RecoveryFault;
 use std::alloc::{AllocError, AllocFailed};
 use std::io::Error as IoError;
@@ -62,6 +63,9 @@ pub enum Fault {
         /// What is wrong with it.
         fault: RecoveryFault,
     },
+    /// The text is no trace of a run.
+    #[error("BadTrace")]
+    BadTrace,
     /// What `check` finds to be wrong with a file that is no model file.
     #[error("{0}")]
     Mistake(Mistake),
@@ -81,8 +85,9 @@ impl Fault {
             Fault::BadModel => Some("the command `check` says what is wrong with the model file"),
             Fault::File => Some(
                 "see that both files are there and may be read, that the disk has 8 to 131072 \
-                 sectors of 512 bytes (with `new` as many as asked for), and that no other run has \
-                 it; with --sockets, that the folder is there and holds no socket of an earlier run",
+                 sectors of 512 bytes, or with --large to 16777216 (with `new` as many as asked \
+                 for), and that no other run has it; with --sockets, that the folder is there and \
+                 holds no socket of an earlier run",
             ),
             Fault::Log(LogFault::NotBlank) => Some("the disk has a log already, which `new` keeps"),
             Fault::Log(LogFault::NotFormatted) => Some("`new` makes a log on a disk"),
@@ -106,9 +111,21 @@ impl Fault {
                 "the disk has no room for the next commit: what is committed stays; `grow` makes \
                  the disk longer, and --commit-every takes fewer commits",
             ),
+            Fault::BadTrace => Some("the file is not as `run --trace` writes one"),
             Fault::Grow(GrowthFault::Fewer) => Some("the disk has more sectors than asked for"),
             Fault::Rounds => Some("what is committed stays: run it again, with more --rounds"),
             _ => None,
+        }
+    }
+}
+
+impl From<NotRead> for Fault {
+    ghost from_gives = { λ fault e. e ≡ of_trace fault };
+
+    fn from(fault: NotRead) -> Fault {
+        match fault {
+            NotRead::BadTrace => Fault::BadTrace,
+            NotRead::NoMemory => Fault::NoMemory,
         }
     }
 }

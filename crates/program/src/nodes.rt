@@ -51,7 +51,7 @@ struct Met<P: OpenProcess + Drop> {
     stream: Option<UnixStream>,
 }
 
-/// Runs the model of a file on its disk, over node programs.
+/// Runs the model of a file on its disk, of at most `most` sectors, over node programs.
 ///
 /// The faults come in this order: those of the model file and of the disk's file; `File` where a
 /// socket is not made, a program is not started, or one ends before it connects, or `NoMemory`;
@@ -64,6 +64,7 @@ pub(crate) fn run_behind<M, R, P, O>(
     rt: &R,
     behind: Behind<'_>,
     disk: &str,
+    most: u32,
     plan: Plan,
     progress: &mut P,
     out: &mut O,
@@ -81,7 +82,7 @@ where
         (O.contents out.old) (O.contents out.new)) }
 {
     let of: Simulated<M> = simulated(rt, behind.model)?;
-    let disk = FileDisk::open(rt, rt.alloc(), disk, None)?;
+    let disk = FileDisk::open_up_to(rt, rt.alloc(), disk, None, most)?;
     let mut met = Vec::with_capacity(rt.alloc(), plan.nodes as usize)?;
     // the one way out from here on leads through the clearing up
     let told = match meet(rt, behind, plan.nodes, &mut met, progress) {

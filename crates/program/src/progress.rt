@@ -34,6 +34,9 @@ pub struct TerminalProgress<'c, C, T> {
     // The first commit of the run, and the one that was last shown.
     first: Option<Mark>,
     last: Option<Mark>,
+    // How many sectors of the disk are in use, of how many; 0 of 0 where that is not known.
+    used: u64,
+    sectors: u64,
     // What all turns and commits of the run come to.
     totals: Totals,
     is_written: bool,
@@ -91,13 +94,15 @@ impl<'c, C: Clock, T: Write> TerminalProgress<'c, C, T> {
             end: 0,
             first: None,
             last: None,
+            used: 0,
+            sectors: 0,
             totals: NOTHING,
             is_written: false,
         }
     }
 
     /// Writes how far the run has come at a commit, after an earlier commit that was shown, or the
-    /// first. It is one line of at most 79 columns, so what has no room is left out.
+    /// first. It is one line of at most 79 columns: what has no room is left out.
     fn show(&mut self, first: Mark, last: Mark, now: Mark) {
         let Some(terminal) = &mut self.terminal else {
             return;
@@ -107,14 +112,11 @@ impl<'c, C: Clock, T: Write> TerminalProgress<'c, C, T> {
         let percent = u128::from(now.time) * 100 / u128::from(end.max(1));
         let events = now.events;
         let rate = per_second(events.saturating_sub(last.events) as u128, past);
-        let mut columns = 41usize;
-        for number in [percent, u128::from(end), events as u128, rate] {
+        let mut columns = 15usize;
+        for number in [percent, events as u128, rate] {
             columns = columns.saturating_add(digits(number));
         }
-        let _ = write!(
-            terminal,
-            "\r{percent}% of {end} ticks, {events} events committed, {rate} a second"
-        );
+        let _ = write!(terminal, "\r{percent}%, {events} events ({rate}/s)");
         if let Some(left) = seconds_left(first, now, end) {
             columns = columns.saturating_add(10).saturating_add(digits(left));
             if columns <= COLUMNS {
@@ -129,11 +131,18 @@ impl<'c, C: Clock, T: Write> TerminalProgress<'c, C, T> {
                 let _ = write!(terminal, ", efficiency {efficiency}%");
             }
         }
+        if self.sectors > 0 {
+            let full = u128::from(self.used) * 100 / u128::from(self.sectors);
+            columns = columns.saturating_add(13).saturating_add(digits(full));
+            if columns <= COLUMNS {
+                let _ = write!(terminal, ", disk {full}% full");
+            }
+        }
         let undone = now.antimessages.saturating_sub(last.antimessages);
         let undone = per_second(u128::from(undone), past);
-        columns = columns.saturating_add(24).saturating_add(digits(undone));
+        columns = columns.saturating_add(17).saturating_add(digits(undone));
         if columns <= COLUMNS {
-            let _ = write!(terminal, ", {undone} antimessages a second");
+            let _ = write!(terminal, ", {undone} antimessages/s");
         }
         let _ = terminal.write_all(b"\x1b[K");
         let _ = terminal.flush();
@@ -211,6 +220,11 @@ impl<C: Clock, T: Write> Watch for TerminalProgress<'_, C, T> {
         self.is_written = true;
     }
 
+    fn stored(&mut self, used: u32, sectors: u32) {
+        self.used = u64::from(used) + 1;
+        self.sectors = u64::from(sectors);
+    }
+
     fn turned(&mut self, turn: &Turn) {
         let totals = &mut self.totals;
         totals.handled = totals.handled.saturating_add(u64::from(turn.handled));
@@ -280,6 +294,10 @@ impl<C: Clock, T: Write> Progress for TerminalProgress<'_, C, T> {
                 terminal,
                 "{handled} messages handled, efficiency {efficiency}%, {antimessages} antimessages"
             );
+        }
+        let (used, sectors) = (self.used, self.sectors);
+        if sectors > 0 {
+            let _ = writeln!(terminal, "{used} of {sectors} sectors of the disk are used");
         }
     }
 

@@ -28,6 +28,8 @@ pub(crate) struct Way<'a> {
     pub model: &'a str,
     /// The path of the disk's file.
     pub disk: &'a str,
+    /// How many sectors the disk has at most.
+    pub most: u32,
     /// How it is driven.
     pub plan: Plan,
     /// The folder of the nodes' sockets; none where the nodes are in this program.
@@ -88,13 +90,14 @@ where
         program,
         model,
         disk,
+        most,
         plan,
         sockets,
         cut,
         attach,
     } = way;
     match sockets {
-        None => run_on::<M, R, P, O>(rt, model, disk, plan, progress, out),
+        None => run_on::<M, R, P, O>(rt, model, disk, most, plan, progress, out),
         Some(folder) => {
             let behind = Behind {
                 program,
@@ -103,7 +106,7 @@ where
                 cut,
                 attach,
             };
-            run_behind::<M, R, P, O>(rt, behind, disk, plan, progress, out)
+            run_behind::<M, R, P, O>(rt, behind, disk, most, plan, progress, out)
         }
     }
 }

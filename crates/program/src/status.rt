@@ -6,10 +6,10 @@ ghost use Rattle.clap.specs.Values.{kind_of};
 ghost use Rattle.lines.specs.Line.{refusal_of, IsRanged};
 ghost use Rattle.program.specs.Command.{Begins, BeginsSaid, IsOutput, Prints, PrintsSaid};
 
-use crate::disks::{extend_on, format, grow_on, migrate_on, show_of};
+use crate::disks::{extend_on, format, grow_on, migrate_on, most_sectors, show_of};
 use crate::fault::Fault;
 use crate::files::{check_of, seq_of};
-use crate::looking::{Part, Seen, draw_of, log_of, stats_of, status_of};
+use crate::looking::{Part, Seen, course_of, draw_of, log_of, stats_of, status_of};
 use crate::nodes::serve_on;
 use crate::progress::Progress;
 use crate::running::{Way, plan_of, run_traced, run_way};
@@ -175,7 +175,8 @@ where
             model,
             disk,
             sectors,
-        } => format::<M, R, O>(rt, model, disk, sectors, out),
+            large,
+        } => format::<M, R, O>(rt, model, disk, sectors, most_sectors(large), out),
         Line::Run {
             model,
             disk,
@@ -189,12 +190,14 @@ where
             together,
             attach,
             trace,
+            large,
         } => {
             let plan = plan_of(nodes, batch, rounds, checkpoint, commit_every, together);
             let way = Way {
                 program,
                 model,
                 disk,
+                most: most_sectors(large),
                 plan,
                 sockets,
                 cut,
@@ -205,31 +208,45 @@ where
                 Some(trace) => run_traced::<M, R, P, O>(rt, way, trace, progress, out),
             }
         }
-        Line::Extend { model, disk } => extend_on::<M, R, O>(rt, model, disk, out),
+        Line::Extend { model, disk, large } => {
+            extend_on::<M, R, O>(rt, model, disk, most_sectors(large), out)
+        }
         Line::Grow {
             model,
             disk,
             sectors,
-        } => grow_on::<M, R, O>(rt, model, disk, sectors, out),
+            large,
+        } => grow_on::<M, R, O>(rt, model, disk, sectors, most_sectors(large), out),
         Line::Migrate {
             model,
             old,
             new,
             sectors,
-        } => migrate_on::<M, R, O>(rt, model, old, new, sectors, out),
-        Line::Status { model, disk } => status_of::<M, R, O>(rt, model, disk, out),
+            large,
+        } => migrate_on::<M, R, O>(rt, model, old, new, sectors, most_sectors(large), out),
+        Line::Status { model, disk, large } => {
+            status_of::<M, R, O>(rt, model, disk, most_sectors(large), out)
+        }
         Line::Log {
             model,
             disk,
             from,
             to,
             process,
+            large,
         } => {
             let part = Part { from, to, process };
-            log_of::<M, R, O>(rt, model, disk, part, out)
+            log_of::<M, R, O>(rt, model, disk, most_sectors(large), part, out)
         }
-        Line::Show { model, disk } => show_of::<M, R, O>(rt, model, disk, out),
-        Line::Stats { model, disk, csv } => stats_of::<M, R, O>(rt, model, disk, csv, out),
+        Line::Show { model, disk, large } => {
+            show_of::<M, R, O>(rt, model, disk, most_sectors(large), out)
+        }
+        Line::Stats {
+            model,
+            disk,
+            csv,
+            large,
+        } => stats_of::<M, R, O>(rt, model, disk, most_sectors(large), csv, out),
         Line::Draw {
             model,
             disk,
@@ -237,6 +254,8 @@ where
             to,
             processes,
             load,
+            trace: None,
+            large,
         } => {
             let seen = Seen {
                 from,
@@ -244,8 +263,12 @@ where
                 processes,
                 load,
             };
-            draw_of::<M, R, O>(rt, model, disk, seen, out)
+            draw_of::<M, R, O>(rt, model, disk, most_sectors(large), seen, out)
         }
+        Line::Draw {
+            trace: Some(trace),
+            ..
+        } => course_of::<R, O>(rt, trace, out),
         Line::Seq { model } => seq_of::<M, R, O>(rt, model, out),
         Line::Check { model } => check_of::<M, R, O>(rt, model, out, found),
         Line::Node {

@@ -86,6 +86,10 @@ impl<P: Progress, W: Write> Watch for Traced<'_, P, W> {
         self.progress.committed(time, events);
     }
 
+    fn stored(&mut self, used: u32, sectors: u32) {
+        self.progress.stored(used, sectors);
+    }
+
     fn turned(&mut self, turn: &Turn) {
         if !self.is_lost {
             self.is_lost = write_turn(turn, self.time, self.events, &mut self.rows).is_err();

@@ -233,6 +233,7 @@ fn commands_and_programs_name_their_faults(rt: HostRuntime) -> Result<(), Fail> 
         Migrate(MigrateFault::Old(RecoveryFault::BadEnd)) => "Migrate Old BadEnd",
         Grow(GrowthFault::Fewer) => "Grow Fewer",
         Record { number: 7, fault: RecoveryFault::BadRecord } => "Record 7 BadRecord",
+        BadTrace => "BadTrace",
         Mistake(Mistake::Missing("hold")) => "hold: missing",
         NoMemory => "NoMemory",
         Output => "Output",

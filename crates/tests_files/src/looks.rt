@@ -45,6 +45,14 @@ sectors 9 used of 64, 55 free
 room to the end at the pace of the last 3 commits
 ";
 
+const STATUS_OF_LARGE: &str = "\
+virtual time 10 of 10 ticks, 100 percent
+events 5, 922 bytes of disk an event
+records 3, of them 0 checkpoints and 0 ends
+sectors 9 used of 131073, 131064 free
+room to the end at the pace of the last 3 commits
+";
+
 const STATS: &str = "\
 5 events and 1 pending messages of 3 processes, up to virtual time 10: 0.500 events a tick
 
@@ -72,6 +80,9 @@ const TRACED: Script = Script {
         Act::Stays,
         Act::Prints("run MODEL DISK --nodes 3 --trace OTHER", RAN),
         Act::IsWritten(TRACE),
+        Act::Does("draw MODEL --trace OTHER"),
+        Act::Fails("draw MODEL --trace MODEL", "timewarp: BadTrace\n"),
+        Act::Fails("draw MODEL --trace no-such-file", FILE),
         Act::Writes(OTHER_RING),
         Act::EndsAsSeq("MODEL"),
     ],
@@ -115,6 +126,59 @@ const GROWN: Script = Script {
         Act::Prints("grow MODEL DISK --sectors 64", "grown 64 to 64 sectors\n"),
         Act::Does("run MODEL DISK --nodes 3"),
         Act::EndsAsSeq("MODEL"),
+    ],
+};
+
+/// A disk of more than 131,072 sectors is one only where it is asked for as a large one.
+const LARGE: Script = Script {
+    name: "large",
+    model: RING,
+    other: OTHER_RING,
+    acts: &[
+        Act::Prints(
+            "new MODEL DISK --large --sectors 131073",
+            "formatted 131073 sectors\n",
+        ),
+        Act::Fails("run MODEL DISK --nodes 3", FILE),
+        Act::Prints("run MODEL DISK --nodes 3 --large", RAN),
+        Act::Fails("extend MODEL DISK", FILE),
+        Act::Fails(
+            "extend MODEL DISK --large",
+            "timewarp: Session EndRefused\n",
+        ),
+        Act::Fails("log MODEL DISK", FILE),
+        Act::Prints(
+            "log MODEL DISK --large --to 7",
+            "1 0 0 0 0 0 0 0\n3 0 1 1 0 1 0 0\n5 1 0 2 0 2 0 0\n",
+        ),
+        Act::Fails("show MODEL DISK", FILE),
+        Act::Does("show MODEL DISK --large"),
+        Act::Fails("status MODEL DISK", FILE),
+        Act::Prints("status MODEL DISK --large", STATUS_OF_LARGE),
+        Act::Fails("stats MODEL DISK", FILE),
+        Act::Prints("stats MODEL DISK --large", STATS),
+        Act::Fails("draw MODEL DISK", FILE),
+        Act::Does("draw MODEL DISK --large"),
+        Act::Fails("grow MODEL DISK", FILE),
+        Act::Prints(
+            "grow MODEL DISK --large --sectors 131074",
+            "grown 131073 to 131074 sectors\n",
+        ),
+        Act::Removes,
+        Act::Prints(
+            "new MODEL DISK --large --sectors 8",
+            "formatted 8 sectors\n",
+        ),
+        Act::Fails("run MODEL DISK --nodes 3", "timewarp: Session Full\n"),
+        Act::Prints(
+            "grow MODEL DISK --large --sectors 131073",
+            "grown 8 to 131073 sectors\n",
+        ),
+        Act::Does("run MODEL DISK --nodes 3 --large"),
+        Act::Prints(
+            "log MODEL DISK --large --process 0",
+            "1 0 0 0 0 0 0 0\n7 2 0 0 0 3 0 0\n",
+        ),
     ],
 };
 
@@ -162,6 +226,11 @@ fn budgets_and_commits_come_to_the_plain_end(rt: HostRuntime) -> Result<(), Fail
 #[test]
 fn a_full_disk_grows_and_goes_on(rt: HostRuntime) -> Result<(), Fail> {
     play(&rt, &GROWN)
+}
+
+#[test]
+fn a_large_disk_is_asked_for(rt: HostRuntime) -> Result<(), Fail> {
+    play(&rt, &LARGE)
 }
 
 #[test]

@@ -71,6 +71,16 @@ impl<const K: usize> Counting<K> {
         saved <= (len / K).saturating_add(2) && len <= saved.saturating_mul(K)
     }
 
+    /// How many handlings it takes at the most to rebuild the states before so many records in a
+    /// row: before the first those since the last state that is kept, then one a record, but none
+    /// for one in `K`.
+    fn most_made(&self, count: usize) -> usize {
+        let _ = &self.history;
+        let others = count.saturating_sub(1);
+        K.saturating_sub(1)
+            .saturating_add(others.saturating_sub(others / K))
+    }
+
     /// The message of the time after the last.
     fn next(&self) -> Result<Message, KeyFault>
         ensures { IfOk result (λ message. message.to ≡ 1) }
@@ -178,35 +188,36 @@ impl<const K: usize> Counting<K> {
         Ok(())
     }
 
-    /// So many are taken back, again where memory was refused, which changed nothing. Each of them is
-    /// handled once at the most, and before them as many as there are from one state to the next.
+    /// So many are taken back, again where memory was refused, which changed nothing; to take none
+    /// back wants no memory.
     fn go_back(&mut self, rt: &impl Abort, count: usize) -> Result<(), Fail> {
         let before = self.look();
         let mut made = self.ring.handled();
         let undone = match self.take_back(count) {
             Ok(undone) => undone,
             Err(_) => {
-                assert!(rt; self.look() == before);
+                assert!(rt; count > 0 && self.look() == before);
                 made = self.ring.handled();
                 self.take_back(count)?
             }
         };
         let made = self.ring.handled().saturating_sub(made);
-        assert!(rt; made <= (K as u64).saturating_add(count as u64));
+        assert!(rt; made <= self.most_made(count) as u64);
         assert!(rt; undone.len() == count && are_after(undone.as_slice(), self.count()));
         assert!(rt; self.look().0.checked_add(count) == Some(before.0) && self.is_sparse());
         Ok(())
     }
 
-    /// So many are rolled back in place, again where memory was refused, which changed nothing. To
-    /// rebuild a state takes no more handlings than there are records from one state to the next.
+    /// So many are rolled back in place, again where memory was refused, which changed nothing; to
+    /// roll none back wants no memory. To rebuild a state takes no more handlings than there are
+    /// records from one state to the next.
     fn undo(&mut self, rt: &impl Abort, count: usize) -> Result<(), Fail> {
         let (before, handled) = (self.look(), self.count());
         let mut made = self.ring.handled();
         let number = match self.roll_back(count) {
             Ok(number) => number,
             Err(_) => {
-                assert!(rt; self.look() == before && self.count() == handled);
+                assert!(rt; count > 0 && self.look() == before && self.count() == handled);
                 made = self.ring.handled();
                 self.roll_back(count)?
             }

@@ -6,3 +6,5 @@
 mod counted;
 #[cfg(test)]
 mod histories;
+#[cfg(test)]
+mod rollbacks;

@@ -3,6 +3,8 @@
 #![tactic(auto)]
 
 #[cfg(test)]
+mod course;
+#[cfg(test)]
 mod figures;
 #[cfg(test)]
 mod shapes;

@@ -6,7 +6,7 @@ use std::alloc::{AllocError, Global};
 use std::test::Fail;
 
 /// Whether the tags of a text balance, its attributes are quoted, and it has no stray `<` or `&`.
-fn is_well_formed(alloc: Global, text: &str) -> Result<bool, AllocError> {
+pub fn is_well_formed(alloc: Global, text: &str) -> Result<bool, AllocError> {
     let mut open: Vec<&str> = Vec::new(alloc);
     if text.contains('&') || !text.starts_with('<') {
         return Ok(false);

@@ -72,15 +72,20 @@ fn run_again<R: Files<File = File> + Net + Processes + Clock + AllocGlobal>(
     }
 }
 
+/// What `check` prints of the ring.
+const CHECKED: &str = "ok\nmodel: ring\nlps: 3\nend: 10\nhold: 2\ntokens: 1\n";
+
 #[test]
 fn a_command_that_finds_no_memory_tells_so(rt: HostRuntime) -> Result<(), Fail> {
     let path = temporary(&rt, "timewarp-memory.toml")?;
     let path = path.as_path().to_str().ok_or("a path of text")?;
     fs::write(&rt, path, RING)?;
-    let told = run_again(&rt, &["timewarp", "seq", path])?;
+    for (command, text) in [("seq", RING_TEXT), ("check", CHECKED)] {
+        let told = run_again(&rt, &["timewarp", command, path])?;
+        assert_eq!(rt; told.out.as_slice(), text.as_bytes());
+        assert_eq!(rt; (told.status, told.err.len()), (0, 0));
+    }
     fs::remove_file(&rt, path)?;
-    assert_eq!(rt; told.out.as_slice(), RING_TEXT.as_bytes());
-    assert_eq!(rt; (told.status, told.err.len()), (0, 0));
     Ok(())
 }
 

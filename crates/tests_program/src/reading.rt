@@ -20,7 +20,7 @@ fn is_refused_as(alloc: Global, words: &[&str], want: ErrorKind) -> bool {
 }
 
 /// The words of a line, and what it asks for.
-const READ: [(&[&str], Line<'static>); 25] = [
+const READ: [(&[&str], Line<'static>); 37] = [
     (
         &["timewarp", "seq", "examples/ring.toml"],
         Line::Seq {
@@ -39,6 +39,7 @@ const READ: [(&[&str], Line<'static>); 25] = [
             from: None,
             to: None,
             process: None,
+            large: false,
         },
     ),
     (
@@ -59,6 +60,7 @@ const READ: [(&[&str], Line<'static>); 25] = [
             from: Some(0),
             to: Some(1_099_511_627_776),
             process: Some(4_294_967_295),
+            large: false,
         },
     ),
     (
@@ -66,6 +68,7 @@ const READ: [(&[&str], Line<'static>); 25] = [
         Line::Status {
             model: "a",
             disk: "b",
+            large: false,
         },
     ),
     (
@@ -74,6 +77,7 @@ const READ: [(&[&str], Line<'static>); 25] = [
             model: "a",
             disk: None,
             csv: false,
+            large: false,
         },
     ),
     (
@@ -82,6 +86,7 @@ const READ: [(&[&str], Line<'static>); 25] = [
             model: "a",
             disk: Some("b"),
             csv: true,
+            large: false,
         },
     ),
     (
@@ -93,6 +98,8 @@ const READ: [(&[&str], Line<'static>); 25] = [
             to: None,
             processes: None,
             load: false,
+            trace: None,
+            large: false,
         },
     ),
     (
@@ -104,6 +111,7 @@ const READ: [(&[&str], Line<'static>); 25] = [
             "a",
             "b",
             "--load",
+            "--trace=t",
             "--from=5",
             "--to",
             "9",
@@ -115,6 +123,8 @@ const READ: [(&[&str], Line<'static>); 25] = [
             to: Some(9),
             processes: Some((3, 3)),
             load: true,
+            trace: Some("t"),
+            large: false,
         },
     ),
     (
@@ -122,6 +132,7 @@ const READ: [(&[&str], Line<'static>); 25] = [
         Line::Show {
             model: "a",
             disk: "b",
+            large: false,
         },
     ),
     (&["timewarp", "check", "a"], Line::Check { model: "a" }),
@@ -132,6 +143,7 @@ const READ: [(&[&str], Line<'static>); 25] = [
             model: "a",
             disk: "b",
             sectors: 4096,
+            large: false,
         },
     ),
     (
@@ -140,6 +152,7 @@ const READ: [(&[&str], Line<'static>); 25] = [
             model: "a",
             disk: "b",
             sectors: 131_072,
+            large: false,
         },
     ),
     (
@@ -157,6 +170,7 @@ const READ: [(&[&str], Line<'static>); 25] = [
             together: false,
             attach: false,
             trace: None,
+            large: false,
         },
     ),
     (
@@ -184,6 +198,7 @@ const READ: [(&[&str], Line<'static>); 25] = [
             together: false,
             attach: false,
             trace: None,
+            large: false,
         },
     ),
     (
@@ -212,6 +227,7 @@ const READ: [(&[&str], Line<'static>); 25] = [
             together: true,
             attach: false,
             trace: None,
+            large: false,
         },
     ),
     (
@@ -229,6 +245,7 @@ const READ: [(&[&str], Line<'static>); 25] = [
             together: false,
             attach: true,
             trace: None,
+            large: false,
         },
     ),
     (
@@ -256,6 +273,7 @@ const READ: [(&[&str], Line<'static>); 25] = [
             together: false,
             attach: false,
             trace: Some("c"),
+            large: false,
         },
     ),
     (
@@ -273,6 +291,7 @@ const READ: [(&[&str], Line<'static>); 25] = [
             together: false,
             attach: false,
             trace: None,
+            large: false,
         },
     ),
     // Behind `--` no word is an option.
@@ -291,6 +310,7 @@ const READ: [(&[&str], Line<'static>); 25] = [
             together: false,
             attach: false,
             trace: None,
+            large: false,
         },
     ),
     (
@@ -298,6 +318,7 @@ const READ: [(&[&str], Line<'static>); 25] = [
         Line::Extend {
             model: "a",
             disk: "b",
+            large: false,
         },
     ),
     (
@@ -307,6 +328,7 @@ const READ: [(&[&str], Line<'static>); 25] = [
             old: "b",
             new: "c",
             sectors: 4096,
+            large: false,
         },
     ),
     (
@@ -316,6 +338,145 @@ const READ: [(&[&str], Line<'static>); 25] = [
             old: "b",
             new: "c",
             sectors: 8,
+            large: false,
+        },
+    ),
+    // With `--large` more sectors may be asked for, and the most are what `grow` makes.
+    (
+        &[
+            "timewarp",
+            "new",
+            "--large",
+            "a",
+            "b",
+            "--sectors",
+            "16777216",
+        ],
+        Line::New {
+            model: "a",
+            disk: "b",
+            sectors: 16_777_216,
+            large: true,
+        },
+    ),
+    (
+        &["timewarp", "new", "a", "b", "--large"],
+        Line::New {
+            model: "a",
+            disk: "b",
+            sectors: 4096,
+            large: true,
+        },
+    ),
+    (
+        &["timewarp", "run", "a", "b", "--trace", "c", "--large"],
+        Line::Run {
+            model: "a",
+            disk: "b",
+            nodes: 1,
+            batch: Batch::Fixed(16),
+            rounds: 1_000_000,
+            checkpoint: None,
+            commit_every: None,
+            sockets: None,
+            cut: None,
+            together: false,
+            attach: false,
+            trace: Some("c"),
+            large: true,
+        },
+    ),
+    (
+        &["timewarp", "grow", "a", "b", "--large"],
+        Line::Grow {
+            model: "a",
+            disk: "b",
+            sectors: 16_777_216,
+            large: true,
+        },
+    ),
+    (
+        &[
+            "timewarp",
+            "migrate",
+            "a",
+            "b",
+            "c",
+            "--sectors=131073",
+            "--large",
+        ],
+        Line::Migrate {
+            model: "a",
+            old: "b",
+            new: "c",
+            sectors: 131_073,
+            large: true,
+        },
+    ),
+    (
+        &["timewarp", "extend", "a", "--large", "b"],
+        Line::Extend {
+            model: "a",
+            disk: "b",
+            large: true,
+        },
+    ),
+    (
+        &["timewarp", "status", "--large", "a", "b"],
+        Line::Status {
+            model: "a",
+            disk: "b",
+            large: true,
+        },
+    ),
+    (
+        &["timewarp", "log", "a", "b", "--large"],
+        Line::Log {
+            model: "a",
+            disk: "b",
+            from: None,
+            to: None,
+            process: None,
+            large: true,
+        },
+    ),
+    (
+        &["timewarp", "show", "a", "b", "--large"],
+        Line::Show {
+            model: "a",
+            disk: "b",
+            large: true,
+        },
+    ),
+    // Behind `--` it is no option.
+    (
+        &["timewarp", "show", "a", "--", "--large"],
+        Line::Show {
+            model: "a",
+            disk: "--large",
+            large: false,
+        },
+    ),
+    (
+        &["timewarp", "stats", "a", "b", "--large"],
+        Line::Stats {
+            model: "a",
+            disk: Some("b"),
+            csv: false,
+            large: true,
+        },
+    ),
+    (
+        &["timewarp", "draw", "a", "b", "--large"],
+        Line::Draw {
+            model: "a",
+            disk: Some("b"),
+            from: None,
+            to: None,
+            processes: None,
+            load: false,
+            trace: None,
+            large: true,
         },
     ),
     (
@@ -344,7 +505,7 @@ fn a_line_names_a_command_and_its_values(rt: HostRuntime) {
 }
 
 /// The words of a line that is refused, and the kind.
-const REFUSED: [(&[&str], ErrorKind); 39] = [
+const REFUSED: [(&[&str], ErrorKind); 51] = [
     (&["timewarp", "seq"], ErrorKind::MissingRequiredArgument),
     (&["timewarp", "seq", "a", "b"], ErrorKind::UnknownArgument),
     (
@@ -407,6 +568,79 @@ const REFUSED: [(&[&str], ErrorKind); 39] = [
     (
         &["timewarp", "migrate", "a", "b", "c", "--sectors=131073"],
         ErrorKind::ValueValidation,
+    ),
+    // So many only with `--large`, of which no word behind `--` is one, and no value of an option.
+    (
+        &[
+            "timewarp",
+            "new",
+            "a",
+            "b",
+            "--large",
+            "--sectors",
+            "16777217",
+        ],
+        ErrorKind::ValueValidation,
+    ),
+    (
+        &[
+            "timewarp",
+            "grow",
+            "a",
+            "b",
+            "--sectors=16777217",
+            "--large",
+        ],
+        ErrorKind::ValueValidation,
+    ),
+    (
+        &[
+            "timewarp",
+            "migrate",
+            "a",
+            "b",
+            "c",
+            "--large",
+            "--sectors",
+            "7",
+        ],
+        ErrorKind::ValueValidation,
+    ),
+    (
+        &["timewarp", "new", "a", "--sectors=131073", "--", "--large"],
+        ErrorKind::ValueValidation,
+    ),
+    (
+        &["timewarp", "run", "a", "b", "--trace", "--large"],
+        ErrorKind::InvalidValue,
+    ),
+    (
+        &["timewarp", "grow", "a", "b", "--sectors", "--large"],
+        ErrorKind::InvalidValue,
+    ),
+    (
+        &["timewarp", "log", "a", "b", "--large=true"],
+        ErrorKind::TooManyValues,
+    ),
+    (
+        &["timewarp", "status", "a", "b", "--large", "--large"],
+        ErrorKind::ArgumentConflict,
+    ),
+    (
+        &["timewarp", "--large", "show", "a", "b"],
+        ErrorKind::UnknownArgument,
+    ),
+    (
+        &["timewarp", "seq", "a", "--large"],
+        ErrorKind::UnknownArgument,
+    ),
+    (
+        &["timewarp", "check", "a", "--large"],
+        ErrorKind::UnknownArgument,
+    ),
+    (
+        &["timewarp", "node", "a", "b", "--large"],
+        ErrorKind::UnknownArgument,
     ),
     (
         &["timewarp", "run", "a", "b", "--nodes", "65"],

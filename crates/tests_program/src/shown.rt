@@ -39,8 +39,8 @@ fn a_run_is_shown_twice_a_second_and_then_cleared(rt: HostRuntime) -> Result<(),
     shown.clear();
     assert_eq!(rt;
         terminal.as_slice(),
-        b"\r30% of 1000 ticks, 90 events committed, 150 a second, 1 s to go\x1b[K\
-          \r60% of 1000 ticks, 180 events committed, 150 a second, 0 s to go\x1b[K\r\x1b[K"
+        b"\r30%, 90 events (150/s), 1 s to go, 0 antimessages/s\x1b[K\
+          \r60%, 180 events (150/s), 0 s to go, 0 antimessages/s\x1b[K\r\x1b[K"
             .as_slice()
     );
     let mut shown = TerminalProgress::on(&clock, None::<Vec<u8>>);
@@ -65,7 +65,7 @@ fn what_is_shown_of_a_run_is_gone_at_its_end(rt: HostRuntime) -> Result<(), Fail
     shown.clear();
     assert_eq!(rt;
         terminal.as_slice(),
-        b"\r75% of 400 ticks, 90 events committed, 150 a second, 0 s to go\x1b[K\r\x1b[K".as_slice()
+        b"\r75%, 90 events (150/s), 0 s to go, 0 antimessages/s\x1b[K\r\x1b[K".as_slice()
     );
     Ok(())
 }
@@ -93,16 +93,19 @@ fn a_run_is_summed_up_at_its_end(rt: HostRuntime) -> Result<(), Fail> {
     let mut terminal = Vec::with_capacity(rt.alloc(), 512)?;
     let mut shown = TerminalProgress::on(&clock, Some(&mut terminal));
     shown.begin(400);
+    shown.stored(2, 64);
     for commit in 0..5 {
         shown.turned(&turn(40, 30, 3));
         shown.committed(100 * commit, 30 * commit as usize);
+        shown.stored(4 + 2 * commit as u32, 64);
     }
     shown.finished();
     assert_eq!(rt;
         terminal.as_slice(),
-        b"\r75% of 400 ticks, 90 events committed, 150 a second, 0 s to go, efficiency 75%\x1b[K\
+        b"\r75%, 90 events (150/s), 0 s to go, efficiency 75%, disk 14% full\x1b[K\
           \r\x1b[K120 events, 5 commits in 0.8 seconds\n\
-          200 messages handled, efficiency 75%, 15 antimessages\n"
+          200 messages handled, efficiency 75%, 15 antimessages\n\
+          13 of 64 sectors of the disk are used\n"
             .as_slice()
     );
     Ok(())
@@ -122,7 +125,7 @@ fn antimessages_are_shown_where_there_is_room(rt: HostRuntime) -> Result<(), Fai
     }
     assert_eq!(rt;
         terminal.as_slice(),
-        b"\r11% of 9 ticks, 1 events committed, 0 a second, 15 antimessages a second\x1b[K".as_slice()
+        b"\r11%, 1 events (0/s), 15 antimessages/s\x1b[K".as_slice()
     );
     Ok(())
 }

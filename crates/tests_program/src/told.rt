@@ -229,7 +229,7 @@ const PROGRAM: &[&str] = &["timewarp", "--help"];
 const SEQ: &[&str] = &["timewarp", "seq", "--help"];
 
 /// Lines that are mistaken or ask for help, and a part of what is told.
-const USAGES: [(&[&str], &str); 43] = [
+const USAGES: [(&[&str], &str); 50] = [
     (&[], "Usage: timewarp <COMMAND>"),
     (&["timewarp"], "Usage: timewarp <COMMAND>"),
     (&["timewarp", "seq"], "<MODEL>"),
@@ -259,6 +259,28 @@ const USAGES: [(&[&str], &str); 43] = [
     (
         &["timewarp", "new", "a", "b", "--sectors", "7"],
         "7 is not in 8..=131072",
+    ),
+    (
+        &["timewarp", "new", "a", "b", "--large", "--sectors=16777217"],
+        "16777217 is not in 8..=16777216",
+    ),
+    (
+        &["timewarp", "grow", "a", "b", "--sectors", "131073"],
+        "131073 is not in 8..=131072",
+    ),
+    (&["timewarp", "node", "a", "b", "--large"], "'--large'"),
+    (
+        &["timewarp", "new", "--help"],
+        "8 to 131072, or with --large to 16777216 [default: 4096]\n",
+    ),
+    (
+        &["timewarp", "status", "--help"],
+        "--large  The disk may have up to 16777216 sectors, and not 131072\n",
+    ),
+    (&["timewarp", "grow", "--help"], "[default: 131072]\n"),
+    (
+        &["timewarp", "grow", "--large", "--help"],
+        "[default: 16777216]\n",
     ),
     (&["timewarp", "help"], "'help'"),
     (&["timewarp", "--nodes"], "'--nodes'"),

@@ -5,7 +5,7 @@ ghost use Rattle.std.specs.Prelude.{◌≡◌};
 use crate::kept::{Nobody, front_of, left_by, plan, ring};
 use commitlog::LogFault;
 use coordinator::SessionFault;
-use disk::{DiskFault, GrowthFault, MemDisk, Plan as DiskPlan, SectorDisk, Torn};
+use disk::{DiskFault, GrowthFault, MOST_SECTORS, MemDisk, Plan as DiskPlan, SectorDisk, Torn};
 use driver::{RunFault, run_local};
 use growing::{GrowingFault, Grown, NotGrown, grow};
 use models::TokenRing;
@@ -36,7 +36,7 @@ fn grown(
     disk: MemDisk,
     sectors: u32,
 ) -> Result<Grown<MemDisk>, NotGrown<MemDisk>> {
-    match grow(alloc, ring, disk, sectors) {
+    match grow(alloc, ring, disk, sectors, MOST_SECTORS) {
         // once more where memory was refused
         Err(
             NotGrown {
@@ -45,7 +45,7 @@ fn grown(
                 | GrowingFault::Recovery(RecoveryFault::Log(LogFault::NoMemory)),
                 disk,
             },
-        ) => grow(alloc, ring, disk, sectors),
+        ) => grow(alloc, ring, disk, sectors, MOST_SECTORS),
         done => done,
     }
 }

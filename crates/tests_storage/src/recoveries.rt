@@ -14,6 +14,7 @@ mod device;
 mod ends;
 mod faults;
 mod memory;
+mod stops;
 
 fn ring() -> TokenRing {
     TokenRing::new(3, 2, 1)

@@ -150,14 +150,14 @@ fn a_disk_over_a_file_grows(rt: HostRuntime) -> Result<(), Fail> {
     let path = free_path(&rt, "growing")?;
     let mut disk = opened(&rt, &path, Some(8))?;
     disk.write(7, &[7; 512])?;
-    assert_eq!(rt; disk.grow(alloc, 7), Err(GrowthFault::Fewer));
+    assert_eq!(rt; disk.grow(alloc, 7, MOST_SECTORS), Err(GrowthFault::Fewer));
     assert_eq!(rt;
-        disk.grow(alloc, MOST_SECTORS + 1),
+        disk.grow(alloc, MOST_SECTORS + 1, MOST_SECTORS),
         Err(GrowthFault::TooMany)
     );
     assert_eq!(rt; (disk.sectors(), size_of(&rt, &path)?), (8, 8 * 512));
-    assert_eq!(rt; disk.grow(alloc, 8), Ok(()));
-    assert_eq!(rt; disk.grow(alloc, 20), Ok(()));
+    assert_eq!(rt; disk.grow(alloc, 8, MOST_SECTORS), Ok(()));
+    assert_eq!(rt; disk.grow(alloc, 20, MOST_SECTORS), Ok(()));
     assert_eq!(rt; (disk.sectors(), size_of(&rt, &path)?), (20, 20 * 512));
     let grown = [(0, 0), (6, 0), (7, 7), (8, 0), (19, 0)];
     assert!(rt; are_filled(&mut disk, &grown)?);
@@ -181,7 +181,10 @@ fn a_disk_that_may_only_be_read_does_not_grow(rt: HostRuntime) -> Result<(), Fai
     let path = free_path(&rt, "growing-read")?;
     drop(opened(&rt, &path, Some(8))?);
     let mut seen = FileDisk::open_to_read(&rt, alloc, path.as_str())?;
-    assert_eq!(rt; seen.grow(alloc, 20), Err(GrowthFault::Device));
+    assert_eq!(rt;
+        seen.grow(alloc, 20, MOST_SECTORS),
+        Err(GrowthFault::Device)
+    );
     assert_eq!(rt; (seen.sectors(), size_of(&rt, &path)?), (8, 8 * 512));
     assert!(rt; are_filled(&mut seen, &[(0, 0), (7, 0)])?);
     // it can't give the file its size again
@@ -199,13 +202,16 @@ fn a_disk_in_memory_grows_by_its_plan(rt: HostRuntime) -> Result<(), Fail> {
     };
     let mut disk = MemDisk::of(alloc, vec![in alloc; 4; 2048]?, plan)?;
     disk.write(1, &[1; 512])?;
-    assert_eq!(rt; disk.grow(alloc, 3), Err(GrowthFault::Fewer));
-    assert_eq!(rt; disk.grow(alloc, u32::MAX), Err(GrowthFault::TooMany));
-    assert_eq!(rt; disk.grow(alloc, 6), Err(GrowthFault::Device));
+    assert_eq!(rt; disk.grow(alloc, 3, MOST_SECTORS), Err(GrowthFault::Fewer));
+    assert_eq!(rt;
+        disk.grow(alloc, u32::MAX, MOST_SECTORS),
+        Err(GrowthFault::TooMany)
+    );
+    assert_eq!(rt; disk.grow(alloc, 6, MOST_SECTORS), Err(GrowthFault::Device));
     assert_eq!(rt; disk.sectors(), 4);
     let image = disk.crash(alloc, Torn::Fill(9))?;
     assert_eq!(rt; (byte_of(&image, 1), image.len()), (Some(9), 4 * 512));
-    assert_eq!(rt; disk.grow(alloc, 6), Ok(()));
+    assert_eq!(rt; disk.grow(alloc, 6, MOST_SECTORS), Ok(()));
     assert_eq!(rt; disk.sectors(), 6);
     for torn in [Torn::Old, Torn::New, Torn::Fill(9), Torn::Cut(100)] {
         let image = disk.crash(alloc, torn)?;
@@ -218,5 +224,29 @@ fn a_disk_in_memory_grows_by_its_plan(rt: HostRuntime) -> Result<(), Fail> {
     assert_eq!(rt; (byte_of(&image, 5), image.len()), (Some(0), 6 * 512));
     let image = disk.crash(alloc, Torn::New)?;
     assert_eq!(rt; byte_of(&image, 5), Some(5));
+    Ok(())
+}
+
+#[test]
+fn a_disk_grows_as_far_as_it_may(rt: HostRuntime) -> Result<(), Fail> {
+    let alloc = rt.alloc();
+    let path = free_path(&rt, "growing-large")?;
+    let mut disk = opened(&rt, &path, Some(8))?;
+    assert_eq!(rt; disk.grow(alloc, 20, 19), Err(GrowthFault::TooMany));
+    assert_eq!(rt; disk.grow(alloc, 7, 6), Err(GrowthFault::Fewer));
+    assert_eq!(rt;
+        disk.grow(alloc, 131_073, MOST_SECTORS),
+        Err(GrowthFault::TooMany)
+    );
+    assert_eq!(rt; disk.sectors(), 8);
+    assert_eq!(rt; disk.grow(alloc, 131_073, 131_073), Ok(()));
+    assert_eq!(rt;
+        (disk.sectors(), size_of(&rt, &path)?),
+        (131_073, 131_073 * 512)
+    );
+    disk.write(131_072, &[3; 512])?;
+    disk.sync()?;
+    assert!(rt; are_filled(&mut disk, &[(7, 0), (131_071, 0), (131_072, 3)])?);
+    fs::remove_file(&rt, path.as_path())?;
     Ok(())
 }

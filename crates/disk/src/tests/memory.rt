@@ -1,7 +1,7 @@
 ghost use Rattle.std.specs.Prelude.{◌≡◌, length, IfOk};
 
 use super::*;
-use crate::{GrowingDisk, GrowthFault};
+use crate::{GrowingDisk, GrowthFault, MOST_SECTORS};
 
 // With ample memory each call here answers at once. `rt try --test --fail-alloc 1..` refuses each
 // allocation in turn: the call that meets it leaves all as it was, and the same call made again
@@ -100,8 +100,8 @@ fn a_file_is_opened_where_memory_was_refused_once(rt: HostRuntime) -> Result<(),
 
 /// Grows a disk, a second time where memory was refused.
 fn grow<D: GrowingDisk>(alloc: Global, disk: &mut D, sectors: u32) -> Result<(), GrowthFault> {
-    match disk.grow(alloc, sectors) {
-        Err(GrowthFault::NoMemory) => disk.grow(alloc, sectors),
+    match disk.grow(alloc, sectors, MOST_SECTORS) {
+        Err(GrowthFault::NoMemory) => disk.grow(alloc, sectors, MOST_SECTORS),
         done => done,
     }
 }

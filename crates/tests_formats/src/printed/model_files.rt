@@ -146,8 +146,9 @@ end: -1 is not within 1 to 1099511627776
         "model = 'Ring'\nlps = 3\nend = 10\nhold = 'x'\n",
         "  model: a string; wanted is \"ring\", \"phold\" or \"jobshop\"\n",
     ),
+    // The line is that on which the mistake begins.
     (
-        "# one\n# two\nlps = 3\nlps = 4\n",
+        "# one\n# two\nlps = 3\nlps = [\n  4,\n]\n",
         "  line 4: duplicate key\n",
     ),
 ];

@@ -112,6 +112,31 @@ fn what_a_failing_writer_has_of_a_world_is_a_beginning(
     Ok(())
 }
 
+/// What a writer may answer that is not tried again.
+const KINDS: [ErrorKind; 4] = [
+    ErrorKind::BrokenPipe,
+    ErrorKind::WouldBlock,
+    ErrorKind::TimedOut,
+    ErrorKind::StorageFull,
+];
+
+#[test]
+fn an_error_of_the_writer_is_told_as_it_is(rt: HostRuntime) -> std::result::Result<(), Fail> {
+    let log = log().ok_or("log")?;
+    for kind in KINDS {
+        let mut out = Faulty {
+            taken: Vec::new(rt.alloc()),
+            count: 2,
+            calls: 0,
+            fail: 3,
+            kind,
+        };
+        assert!(rt; write_log(&log, &mut out).is_err_and(|error| error.kind() == kind));
+        assert_eq!(rt; out.calls, 4);
+    }
+    Ok(())
+}
+
 #[test]
 fn an_interrupted_write_is_made_again(rt: HostRuntime) -> std::result::Result<(), Fail> {
     let log = log().ok_or("log")?;

@@ -22,7 +22,7 @@ loop-n-preserved c =
 
 -- the loop has gone through all sectors
 through : (c : After-loop-n) → c.loop-n.n ≡ length c.args.self.now.reads
-through c = omega (arith, c.loop-n.auto.n-end, c.loop-n-test.false, c.len-n-end.ensures, ap (λ (disk : MemoryState). length disk.reads) c.self.view_is, c.self.inside.image.sectors.ok.0)
+through c = omega (arith, c.loop-n.auto.n-end, c.loop-n-test.false, c.count-count.ensures, ap (λ (disk : MemoryState). length disk.reads) c.self.view_is)
 
 crashed : (c : After-loop-n) → IsCrashed c.args.torn c.args.self.now (image_of c.loop-n.bytes.items)
 crashed c =

@@ -1,0 +1,20 @@
+-- The sectors of an image, of which memory holds the first ones. (This project's profile.)
+use Rattle.std.specs.Prelude.{◌-◌, ◌≤◌, ℕ, List, ◌++◌, length, vec_capacity}
+use Rattle.disk.specs.Growth.{zero_sectors}
+use Rattle.disk.specs.declared.kept.Sectors.TheInside.{Inside}
+
+-- all of them, and how many of the first ones are kept in memory; those behind are zeros
+pub record SectorList : Type 0 where
+  pub items : List (List ℕ)
+  pub kept : ℕ
+
+abbrev pub list_of : Inside → SectorList
+list_of s = record {
+  items = s.kept.items ++ zero_sectors (s.count - length s.kept.items);
+  kept = length s.kept.items;
+}
+
+-- room for each of them, so that no sector needs memory when it is written
+pub record HasRoom (s : Inside) : Type 0 where
+  pub within : length s.kept.items ≤ s.count
+  pub room : s.count ≤ vec_capacity s.kept

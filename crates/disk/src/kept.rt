@@ -1,0 +1,154 @@
+// The sectors of an image, of which memory holds those up to the last one that was put there.
+ghost use Rattle.std.specs.Prelude.{◌≡◌, ◌+◌, ◌<◌, ◌≤◌, ◌^◌, ◌++◌, ℕ, List, [], true, length};
+ghost use Rattle.std.specs.Prelude.{replicate, slice_set, slice_index_or, take, IfOk};
+ghost use Rattle.disk.specs.Growth.{grown_to, zero_sectors};
+
+use std::alloc::{AllocError, Global};
+use std::marker::Model;
+
+/// A number of sectors. The first ones are kept in memory, and those behind them are zeros. It asks
+/// for room for all of them when it is made, which the system gives page by page as it is used: so
+/// no later call needs memory, and what was never put takes none.
+#[derive(Drop)]
+pub struct Sectors {
+    kept: Vec<[u8; 512]>,
+    count: u32,
+}
+
+impl Model for Sectors {
+    ghost use Rattle.disk.specs.KeptSectors.{SectorList, list_of, HasRoom};
+
+    ghost Value = { SectorList };
+
+    ghost view = { list_of };
+
+    ghost invariant = { HasRoom };
+}
+
+/// So many sectors of zeros.
+fn zeros(alloc: Global, count: u32) -> Result<Vec<[u8; 512]>, AllocError>
+    ensures { IfOk result (λ sectors. sectors.items ≡ zero_sectors count) }
+{
+    vec![in alloc; [0; 512]; count as usize]
+}
+
+/// Some sectors, and behind them others.
+fn joined(
+    alloc: Global,
+    front: &[[u8; 512]],
+    behind: &[[u8; 512]],
+) -> Result<Vec<[u8; 512]>, AllocError>
+    requires { length front.now + length behind.now < 2 ^ 32 }
+    ensures { IfOk result (λ all. all.items ≡ front.now ++ behind.now) }
+{
+    let mut all = Vec::with_capacity(alloc, front.len() + behind.len())?;
+    all.extend_from_slice(front)?;
+    all.extend_from_slice(behind)?;
+    Ok(all)
+}
+
+fn is_zero(sector: &[u8; 512]) -> bool
+    ensures { result ≡ true → sector.now ≡ replicate 512 0 }
+{
+    *sector == [0; 512]
+}
+
+impl Sectors {
+    /// So many sectors of zeros, none of which is kept.
+    pub fn blank(alloc: Global, count: u32) -> Result<Sectors, AllocError>
+        ensures items { IfOk result (λ sectors. sectors.items ≡ zero_sectors count) }
+    {
+        let kept = Vec::with_capacity(alloc, count as usize)?;
+        Ok(Sectors { kept, count })
+    }
+
+    /// These sectors, all of them kept.
+    pub fn of(alloc: Global, sectors: &[[u8; 512]]) -> Result<Sectors, AllocError>
+        requires { length sectors.now < 2 ^ 32 }
+        ensures items { IfOk result (λ all. all.items ≡ sectors.now) }
+    {
+        let mut kept = Vec::with_capacity(alloc, sectors.len())?;
+        kept.extend_from_slice(sectors)?;
+        Ok(Sectors {
+            kept,
+            count: sectors.len() as u32,
+        })
+    }
+
+    /// The same sectors, with zeros behind them until there are so many. It takes memory for the
+    /// kept ones.
+    pub fn grown(&self, alloc: Global, count: u32) -> Result<Sectors, AllocError>
+        requires { length self.now.items ≤ count }
+        ensures items { IfOk result (λ all. all.items ≡ grown_to count self.now.items) }
+    {
+        let mut kept = Vec::with_capacity(alloc, count as usize)?;
+        kept.extend_from_slice(&self.kept)?;
+        Ok(Sectors { kept, count })
+    }
+
+    /// All of them, also the zeros behind the kept ones.
+    pub fn copied(&self, alloc: Global) -> Result<Vec<[u8; 512]>, AllocError>
+        ensures { IfOk result (λ all. all.items ≡ self.now.items) }
+    {
+        let behind = zeros(alloc, self.count - self.kept.len() as u32)?;
+        joined(alloc, &self.kept, &behind)
+    }
+
+    pub fn count(&self) -> u32
+        ensures { result ≡ length self.now.items }
+    {
+        self.count
+    }
+
+    /// The sectors that are kept.
+    pub fn kept(&self) -> &[[u8; 512]]
+        ensures kept { length result.now ≡ self.now.kept }
+        ensures first { result.now ≡ take self.now.kept self.now.items }
+    {
+        &self.kept
+    }
+
+    pub fn get(&self, n: usize) -> [u8; 512]
+        requires { n < length self.now.items }
+        ensures { result ≡ slice_index_or self.now.items n [] }
+    {
+        if n < self.kept.len() {
+            self.kept[n]
+        } else {
+            [0; 512]
+        }
+    }
+
+    /// Keeps the sectors up to this one.
+    pub fn keep(&mut self, n: usize)
+        requires { n < length self.old.items }
+        ensures items { self.new.items ≡ self.old.items }
+        ensures kept { n < self.new.kept }
+        ensures more { self.old.kept ≤ self.new.kept }
+    {
+        while self.kept.len() <= n {
+            self.kept.push_reserved([0; 512]);
+        }
+    }
+
+    /// The sector gets this content.
+    pub fn put(&mut self, n: usize, sector: &[u8; 512])
+        requires { n < length self.old.items }
+        ensures items { self.new.items ≡ slice_set self.old.items n sector.now }
+        ensures more { self.old.kept ≤ self.new.kept }
+    {
+        self.keep(n);
+        self.kept[n] = *sector;
+    }
+
+    /// The same, but zeros are kept only before sectors that are.
+    pub fn put_sparsely(&mut self, n: usize, sector: &[u8; 512])
+        requires { n < length self.old.items }
+        ensures items { self.new.items ≡ slice_set self.old.items n sector.now }
+        ensures more { self.old.kept ≤ self.new.kept }
+    {
+        if n < self.kept.len() || !is_zero(sector) {
+            self.put(n, sector);
+        }
+    }
+}

@@ -1,0 +1,153 @@
+-- The course of a run, by the rows of its trace: over its rounds, in at most 90 columns, how far GVT
+-- came, how many of the messages handled were worth it, and how many antimessages there were. Rounds
+-- from 2^32 on count as that, other numbers and sums from 2^56 on as that.
+use Rattle.std.specs.List.{filter}
+use Rattle.std.specs.Prelude.{ℕ, ◌+◌, ◌-◌, ◌*◌, ◌/◌, ◌^◌, ◌&&◌, ◌==◌, Bool, suc, zero, List, [], ◌∷◌, ◌++◌, flat_map, if◌then◌else◌, length, max, min, nat_le, nat_lt}
+use Rattle.model.specs.World.{below}
+use Rattle.pictures.specs.Filled.{filled}
+use Rattle.pictures.specs.declared.courses.Slice.{Slice}
+use Rattle.pictures.specs.declared.courses.Window.{Window}
+use Rattle.pictures.specs.declared.courses.TheConstants.{COLUMN, COURSE_FOOT, COURSE_HEAD}
+use Rattle.pictures.specs.declared.drawn.TheConstants.{STYLE}
+use Rattle.pictures.specs.declared.turns.Row.{Row}
+
+abbrev pub round_of : Row → ℕ
+round_of r = min (2 ^ 32) r.round
+
+abbrev pub capped : ℕ → ℕ
+capped n = min (2 ^ 56) n
+
+-- 1. Over some rows
+
+-- the first and the last round
+abbrev pub least_round : List Row → ℕ
+least_round [] = 2 ^ 32
+least_round (r ∷ rs) = min (round_of r) (least_round rs)
+
+abbrev pub last_round : List Row → ℕ
+last_round [] = 0
+last_round (r ∷ rs) = max (round_of r) (last_round rs)
+
+abbrev pub sum_of : (Row → ℕ) → List Row → ℕ
+sum_of f [] = 0
+sum_of f (r ∷ rs) = f r + sum_of f rs
+
+abbrev pub greatest_of : (Row → ℕ) → List Row → ℕ
+greatest_of f [] = 0
+greatest_of f (r ∷ rs) = max (f r) (greatest_of f rs)
+
+-- the rows with another commit than the row before, the first of which comes after one with this time
+abbrev pub committing : ℕ → List Row → List Row
+committing time [] = []
+committing time (r ∷ rs) =
+    if r.committed == time then committing r.committed rs else r ∷ committing r.committed rs
+
+-- what the first row has; 0 of none
+abbrev pub at_first : (Row → ℕ) → List Row → ℕ
+at_first f [] = 0
+at_first f (r ∷ rs) = f r
+
+-- 2. Over some rounds
+
+-- whether a row is of the rounds from one to before another
+abbrev pub is_between : ℕ → ℕ → Row → Bool
+is_between from to r = nat_le from (round_of r) && nat_lt (round_of r) to
+
+abbrev pub sum_between : (Row → ℕ) → ℕ → ℕ → List Row → ℕ
+sum_between f from to rows = capped (sum_of f (filter (is_between from to) rows))
+
+-- the greatest number up to before a round
+abbrev pub reached : (Row → ℕ) → ℕ → List Row → ℕ
+reached f to rows = capped (greatest_of f (filter (is_between 0 to) rows))
+
+-- how many events were committed before a round, those before the first row among them
+abbrev pub events_before : ℕ → List Row → ℕ
+events_before to rows =
+    max (capped (at_first (λ r. r.events) rows)) (reached (λ r. r.events) to rows)
+
+abbrev pub slice_of : List Row → ℕ → ℕ → Slice
+slice_of rows from to = record {
+  from = from;
+  to = to;
+  gvt = reached (λ r. r.gvt) to rows;
+  events = events_before to rows - events_before from rows;
+  handled = sum_between (λ r. r.handled) from to rows;
+  antimessages = sum_between (λ r. r.antimessages) from to rows;
+  commits = capped (length (filter (is_between from to) (committing (at_first (λ r. r.committed) rows) rows)));
+}
+
+-- events committed of messages handled, in percent
+abbrev pub efficiency_of : Slice → ℕ
+efficiency_of s = if s.handled == 0 then 0 else min 100 (100 * s.events / s.handled)
+
+-- 3. The columns
+
+abbrev pub window_of : List Row → Window
+window_of rows = record {
+  first = min (least_round rows) (last_round rows);
+  rounds = last_round rows + 1 - least_round rows;
+  columns = min 90 (last_round rows + 1 - least_round rows);
+}
+
+-- the first round of a column
+abbrev pub column_start : Window → ℕ → ℕ
+column_start w k = w.first + k * w.rounds / w.columns
+
+abbrev pub column_of : List Row → Window → ℕ → Slice
+column_of rows w k = slice_of rows (column_start w k) (column_start w (k + 1))
+
+-- the most antimessages of one of the first columns
+abbrev pub most_antimessages : List Row → Window → ℕ → ℕ
+most_antimessages rows w zero = 0
+most_antimessages rows w (suc k) =
+    max (most_antimessages rows w k) (column_of rows w k).antimessages
+
+-- 4. The picture
+
+-- the pixels of a number where 100 are the greatest
+abbrev pub pixels_of : ℕ → ℕ → ℕ
+pixels_of n greatest = 100 * n / max 1 greatest
+
+-- a column's left edge and width
+abbrev pub column_left : Window → ℕ → ℕ
+column_left w k = 60 + k * 900 / w.columns
+
+abbrev pub column_width : Window → ℕ → ℕ
+column_width w k = (k + 1) * 900 / w.columns - k * 900 / w.columns
+
+-- a column, with its words; GVT and antimessages are scaled to these
+abbrev pub slice_text : Window → ℕ → ℕ → ℕ → Slice → List ℕ
+slice_text w gvt antimessages k s = filled COLUMN.now
+    (s.from ∷ (s.to - 1) ∷ s.gvt ∷ s.handled ∷ s.events ∷ efficiency_of s ∷ s.antimessages
+    ∷ s.commits
+    ∷ column_left w k ∷ column_width w k
+    ∷ column_left w k ∷ (160 - pixels_of s.gvt gvt) ∷ column_width w k ∷ pixels_of s.gvt gvt
+    ∷ column_left w k ∷ (300 - efficiency_of s) ∷ column_width w k ∷ efficiency_of s
+    ∷ column_left w k ∷ (440 - pixels_of s.antimessages antimessages) ∷ column_width w k
+    ∷ pixels_of s.antimessages antimessages
+    ∷ column_left w k ∷ column_width w k ∷ (8 * min 1 s.commits) ∷ [])
+
+abbrev pub column_text : List Row → Window → ℕ → ℕ → ℕ → List ℕ
+column_text rows w gvt antimessages k =
+    slice_text w gvt antimessages k (column_of rows w k)
+
+-- under the columns: scales, the first and the last round, and what the whole run did
+abbrev pub foot_text : Window → ℕ → ℕ → Slice → List ℕ
+foot_text w antimessages rows s = filled COURSE_FOOT.now
+    (s.gvt ∷ antimessages ∷ w.first ∷ (w.first + w.rounds - 1) ∷ w.rounds ∷ rows ∷ s.handled
+    ∷ s.events ∷ efficiency_of s ∷ s.antimessages ∷ s.commits ∷ [])
+
+abbrev pub columns_text : List Row → Window → Slice → ℕ → List ℕ
+columns_text rows w whole antimessages =
+    flat_map (column_text rows w whole.gvt antimessages) (below w.columns)
+
+abbrev pub picture_text : List Row → Window → Slice → ℕ → List ℕ
+picture_text rows w whole antimessages =
+    filled COURSE_HEAD.now (w.rounds ∷ []) ++ STYLE.now ++ columns_text rows w whole antimessages
+    ++ foot_text w antimessages (length rows) whole
+
+abbrev pub course_text : List Row → List ℕ
+course_text rows =
+    let w = window_of rows in
+    picture_text rows w (slice_of rows w.first (w.first + w.rounds))
+    (most_antimessages rows w w.columns)

@@ -1,0 +1,478 @@
+// The course of a run: what it did, round by round.
+
+ghost use Rattle.std.specs.List.{filter};
+ghost use Rattle.std.specs.Prelude.{◌≡◌, ◌≤◌, ◌<◌, ◌+◌, ◌-◌, ◌*◌, ◌/◌, ◌^◌, ◌++◌, ◌&&◌, ◌==◌, ℕ, flat_map, length, not};
+ghost use Rattle.eventkey.specs.Writing.{Writes};
+ghost use Rattle.model.specs.World.{below};
+ghost use Rattle.pictures.specs.Course.{at_first, capped, column_of, column_start, column_text};
+ghost use Rattle.pictures.specs.Course.{column_left, column_width, slice_text};
+ghost use Rattle.pictures.specs.Course.{columns_text, committing, course_text, efficiency_of};
+ghost use Rattle.pictures.specs.Course.{events_before, foot_text, is_between as is_within};
+ghost use Rattle.pictures.specs.Course.{last_round as last_of, least_round as least_of};
+ghost use Rattle.pictures.specs.Course.{most_antimessages as most_of, picture_text, pixels_of};
+ghost use Rattle.pictures.specs.Course.{reached, round_of as round_at, slice_of as slice_from};
+ghost use Rattle.pictures.specs.Course.{sum_between, window_of as window_from};
+ghost use Rattle.pictures.specs.declared.turns.Row.{Row};
+
+use crate::drawn::STYLE;
+use crate::filled::write_filled;
+use crate::turns::Row;
+use std::io::{Result, Write};
+use texts::write_text;
+
+/// The rounds of a run, and in how many columns they are shown.
+#[derive(Clone, Copy)]
+struct Window {
+    first: u64,
+    rounds: u64,
+    columns: u64,
+}
+
+/// What a run did in some of its rounds.
+#[derive(Clone, Copy)]
+struct Slice {
+    /// The first round.
+    from: u64,
+    /// The round before which it ends.
+    to: u64,
+    /// GVT at its end, in ticks.
+    gvt: u64,
+    /// Events committed in it.
+    events: u64,
+    /// Messages handled in it.
+    handled: u64,
+    /// Antimessages delivered in it.
+    antimessages: u64,
+    /// Commits in it.
+    commits: u64,
+}
+
+/// How far a run came before a round: GVT in ticks, and events committed.
+#[derive(Clone, Copy)]
+struct Reached {
+    gvt: u64,
+    events: u64,
+}
+
+/// How much work there was in some rounds.
+#[derive(Clone, Copy)]
+struct Work {
+    handled: u64,
+    antimessages: u64,
+}
+
+/// What numbers and sums are cut to, so that none overflows.
+const MOST: u64 = 1 << 56;
+
+// Each `$` is the place of a number.
+const COURSE_HEAD: &str = "\
+<svg xmlns=\"http://www.w3.org/2000/svg\" viewBox=\"0 0 1000 520\" width=\"1000\" height=\"520\" role=\"img\">
+<title>Course of a run of $ rounds</title>
+<style>
+.gvt{fill:#0072b2}.efficiency{fill:#009e73}.antimessages{fill:#d55e00}.commit{fill:#cc79a7}
+.slice{fill:#999;fill-opacity:0}.slice:hover{fill-opacity:.2}
+@media(prefers-color-scheme:dark){.gvt{fill:#56b4e9}.antimessages{fill:#e69f00}}
+</style>
+";
+
+const COLUMN: &str = "\
+<g><title>rounds $ to $: GVT $, $ handled, $ events committed, efficiency $ %, $ antimessages, $ commits</title>
+<rect class=\"slice\" x=\"$\" y=\"40\" width=\"$\" height=\"420\"/>\
+<rect class=\"gvt\" x=\"$\" y=\"$\" width=\"$\" height=\"$\"/>\
+<rect class=\"efficiency\" x=\"$\" y=\"$\" width=\"$\" height=\"$\"/>\
+<rect class=\"antimessages\" x=\"$\" y=\"$\" width=\"$\" height=\"$\"/>\
+<rect class=\"commit\" x=\"$\" y=\"450\" width=\"$\" height=\"$\"/></g>
+";
+
+const COURSE_FOOT: &str = "\
+<line class=\"row\" x1=\"60\" y1=\"160\" x2=\"960\" y2=\"160\"/><text x=\"60\" y=\"50\">GVT, 0 to $ ticks</text>
+<line class=\"row\" x1=\"60\" y1=\"300\" x2=\"960\" y2=\"300\"/>\
+<text x=\"60\" y=\"190\">efficiency, 0 to 100 %: events committed of messages handled</text>
+<line class=\"row\" x1=\"60\" y1=\"440\" x2=\"960\" y2=\"440\"/>\
+<text x=\"60\" y=\"330\">antimessages delivered, 0 to $</text>
+<text x=\"52\" y=\"458\" text-anchor=\"end\">commits</text>
+<text x=\"60\" y=\"476\">round $</text><text x=\"960\" y=\"476\" text-anchor=\"end\">round $</text>
+<text x=\"60\" y=\"504\">$ rounds, $ rows, $ messages handled, $ events committed, efficiency $ %, \
+$ antimessages, $ commits</text>
+</svg>
+";
+
+/// Writes the course of a run, of the rows of its trace, as a stand-alone SVG: at most 90 columns, each
+/// for a slice of the rounds, with GVT at its end, how many events were committed in it of the messages
+/// handled in it, in percent, how many antimessages were delivered in it, and whether there was a commit
+/// in it; and a line of words with the sums. Rounds from 2^32 on count as that, other numbers and sums
+/// from 2^56 on as that.
+///
+/// Where the writer fails, what it has taken is a beginning of the text, and the answer is its error. It
+/// costs the rows, eight times for each column, and takes no memory.
+pub fn write_course<W: Write>(rows: &[Row], out: &mut W) -> Result<()>
+    ensures { Writes (W.contents out.old) (W.contents out.new) result (course_text rows.now) }
+{
+    let window = window_of(rows);
+    let whole = slice_of(rows, window.first, window.first + window.rounds);
+    let most = most_antimessages(rows, &window);
+    write_picture(rows, &window, &whole, most, out)
+}
+
+fn write_picture<W: Write>(
+    rows: &[Row],
+    window: &Window,
+    whole: &Slice,
+    most: u64,
+    out: &mut W,
+) -> Result<()>
+    requires first { window.now.first ≤ 2 ^ 32 }
+    requires rounds { window.now.rounds ≤ 2 ^ 32 + 1 }
+    requires columns { window.now.columns ≤ 90 }
+    requires events { whole.now.events ≤ 2 ^ 56 }
+    ensures { Writes (W.contents out.old) (W.contents out.new) result
+        (picture_text rows.now window.now whole.now most) }
+{
+    write_filled(COURSE_HEAD, &[window.rounds], out)?;
+    write_text(STYLE, out)?;
+    write_columns(rows, window, whole.gvt, most, out)?;
+    write_foot(window, most, rows.len() as u64, whole, out)
+}
+
+fn write_columns<W: Write>(
+    rows: &[Row],
+    window: &Window,
+    gvt: u64,
+    most: u64,
+    out: &mut W,
+) -> Result<()>
+    requires first { window.now.first ≤ 2 ^ 32 }
+    requires rounds { window.now.rounds ≤ 2 ^ 32 + 1 }
+    requires columns { window.now.columns ≤ 90 }
+    ensures { Writes (W.contents out.old) (W.contents out.new) result
+        (flat_map (column_text rows.now window.now gvt most) (below window.now.columns)) }
+{
+    for place in 0..window.columns {
+        write_column(rows, window, gvt, most, place, out)?;
+    }
+    Ok(())
+}
+
+fn write_column<W: Write>(
+    rows: &[Row],
+    window: &Window,
+    gvt: u64,
+    most: u64,
+    place: u64,
+    out: &mut W,
+) -> Result<()>
+    requires first { window.now.first ≤ 2 ^ 32 }
+    requires rounds { window.now.rounds ≤ 2 ^ 32 + 1 }
+    requires columns { window.now.columns ≤ 90 }
+    requires place { place < window.now.columns }
+    ensures { Writes (W.contents out.old) (W.contents out.new) result
+        (column_text rows.now window.now gvt most place) }
+{
+    let slice = column(rows, window, place);
+    write_slice(window, gvt, most, place, &slice, out)
+}
+
+/// The column at a place, which shows this slice.
+fn write_slice<W: Write>(
+    window: &Window,
+    gvt: u64,
+    most: u64,
+    place: u64,
+    slice: &Slice,
+    out: &mut W,
+) -> Result<()>
+    requires columns { window.now.columns ≤ 90 }
+    requires place { place < window.now.columns }
+    requires gvt { slice.now.gvt ≤ 2 ^ 56 }
+    requires events { slice.now.events ≤ 2 ^ 56 }
+    requires antimessages { slice.now.antimessages ≤ 2 ^ 56 }
+    ensures { Writes (W.contents out.old) (W.contents out.new) result
+        (slice_text window.now gvt most place slice.now) }
+{
+    let x = left(window, place);
+    let width = width(window, place);
+    let efficiency = efficiency(slice);
+    let far = pixels(slice.gvt, gvt);
+    let back = pixels(slice.antimessages, most);
+    let numbers = [
+        slice.from,
+        slice.to.saturating_sub(1),
+        slice.gvt,
+        slice.handled,
+        slice.events,
+        efficiency,
+        slice.antimessages,
+        slice.commits,
+        x,
+        width,
+        x,
+        160u64.saturating_sub(far),
+        width,
+        far,
+        x,
+        300u64.saturating_sub(efficiency),
+        width,
+        efficiency,
+        x,
+        440u64.saturating_sub(back),
+        width,
+        back,
+        x,
+        width,
+        8 * slice.commits.min(1),
+    ];
+    write_filled(COLUMN, &numbers, out)
+}
+
+/// Where a column begins.
+fn left(window: &Window, place: u64) -> u64
+    requires some { 1 ≤ window.now.columns }
+    requires place { place ≤ 90 }
+    ensures { result ≡ column_left window.now place }
+{
+    60 + place * 900 / window.columns
+}
+
+fn width(window: &Window, place: u64) -> u64
+    requires some { 1 ≤ window.now.columns }
+    requires place { place < 90 }
+    ensures { result ≡ column_width window.now place }
+{
+    let columns = window.columns;
+    ((place + 1) * 900 / columns).saturating_sub(place * 900 / columns)
+}
+
+fn write_foot<W: Write>(
+    window: &Window,
+    most: u64,
+    rows: u64,
+    whole: &Slice,
+    out: &mut W,
+) -> Result<()>
+    requires first { window.now.first ≤ 2 ^ 32 }
+    requires rounds { window.now.rounds ≤ 2 ^ 32 + 1 }
+    requires events { whole.now.events ≤ 2 ^ 56 }
+    ensures { Writes (W.contents out.old) (W.contents out.new) result
+        (foot_text window.now most rows whole.now) }
+{
+    let numbers = [
+        whole.gvt,
+        most,
+        window.first,
+        (window.first + window.rounds).saturating_sub(1),
+        window.rounds,
+        rows,
+        whole.handled,
+        whole.events,
+        efficiency(whole),
+        whole.antimessages,
+        whole.commits,
+    ];
+    write_filled(COURSE_FOOT, &numbers, out)
+}
+
+/// The pixels of a number where 100 are the greatest.
+fn pixels(number: u64, greatest: u64) -> u64
+    requires { number ≤ 2 ^ 56 }
+    ensures { result ≡ pixels_of number greatest }
+{
+    100 * number / greatest.max(1)
+}
+
+/// Events committed of messages handled, in percent.
+fn efficiency(slice: &Slice) -> u64
+    requires { slice.now.events ≤ 2 ^ 56 }
+    ensures { result ≡ efficiency_of slice.now }
+{
+    if slice.handled == 0 {
+        return 0;
+    }
+    (100 * slice.events / slice.handled).min(100)
+}
+
+/// The most antimessages of a column.
+fn most_antimessages(rows: &[Row], window: &Window) -> u64
+    requires first { window.now.first ≤ 2 ^ 32 }
+    requires rounds { window.now.rounds ≤ 2 ^ 32 + 1 }
+    requires columns { window.now.columns ≤ 90 }
+    ensures { result ≡ most_of rows.now window.now window.now.columns }
+{
+    let mut most = 0u64;
+    for place in 0..window.columns {
+        most = most.max(column(rows, window, place).antimessages);
+    }
+    most
+}
+
+/// What the run did in the rounds of a column.
+fn column(rows: &[Row], window: &Window, place: u64) -> Slice
+    requires first { window.now.first ≤ 2 ^ 32 }
+    requires rounds { window.now.rounds ≤ 2 ^ 32 + 1 }
+    requires columns { window.now.columns ≤ 90 }
+    requires place { place < window.now.columns }
+    ensures slice { result ≡ column_of rows.now window.now place }
+    ensures gvt { result.gvt ≤ 2 ^ 56 }
+    ensures events { result.events ≤ 2 ^ 56 }
+    ensures antimessages { result.antimessages ≤ 2 ^ 56 }
+{
+    slice_of(rows, start(window, place), start(window, place + 1))
+}
+
+/// The first round of a column.
+fn start(window: &Window, place: u64) -> u64
+    requires first { window.now.first ≤ 2 ^ 32 }
+    requires rounds { window.now.rounds ≤ 2 ^ 32 + 1 }
+    requires some { 1 ≤ window.now.columns }
+    requires place { place ≤ 90 }
+    ensures { result ≡ column_start window.now place }
+{
+    window.first + place * window.rounds / window.columns
+}
+
+/// The rounds of a run, from the least to the greatest.
+fn window_of(rows: &[Row]) -> Window
+    ensures window { result ≡ window_from rows.now }
+    ensures first { result.first ≤ 2 ^ 32 }
+    ensures rounds { result.rounds ≤ 2 ^ 32 + 1 }
+    ensures columns { result.columns ≤ 90 }
+{
+    let least = least_round(rows);
+    let last = last_round(rows);
+    let rounds = (last + 1).saturating_sub(least);
+    Window {
+        first: least.min(last),
+        rounds,
+        columns: rounds.min(90),
+    }
+}
+
+fn least_round(rows: &[Row]) -> u64
+    ensures round { result ≡ least_of rows.now }
+    ensures within { result ≤ 2 ^ 32 }
+{
+    let mut least = 1u64 << 32;
+    for row in rows {
+        least = least.min(row.round);
+    }
+    least
+}
+
+fn last_round(rows: &[Row]) -> u64
+    ensures round { result ≡ last_of rows.now }
+    ensures within { result ≤ 2 ^ 32 }
+{
+    let mut last = 0u64;
+    for row in rows {
+        last = last.max(row.round.min(1 << 32));
+    }
+    last
+}
+
+/// What the run did in the rounds from one to before another.
+fn slice_of(rows: &[Row], from: u64, to: u64) -> Slice
+    ensures slice { result ≡ slice_from rows.now from to }
+    ensures gvt { result.gvt ≤ 2 ^ 56 }
+    ensures events { result.events ≤ 2 ^ 56 }
+    ensures antimessages { result.antimessages ≤ 2 ^ 56 }
+{
+    let reached = reached_before(rows, to);
+    let work = work_between(rows, from, to);
+    Slice {
+        from,
+        to,
+        gvt: reached.gvt,
+        events: reached
+            .events
+            .saturating_sub(reached_before(rows, from).events),
+        handled: work.handled,
+        antimessages: work.antimessages,
+        commits: commits_between(rows, from, to),
+    }
+}
+
+/// Whether a row is of the rounds from one to before another.
+fn is_between(row: &Row, from: u64, to: u64) -> bool
+    ensures { result ≡ is_within from to row.now }
+{
+    let round = row.round.min(1 << 32);
+    from <= round && round < to
+}
+
+/// How far the run came before a round.
+fn reached_before(rows: &[Row], to: u64) -> Reached
+    ensures gvt { result.gvt ≡ reached (λ (r : Row). r.gvt) to rows.now }
+    ensures events { result.events ≡ events_before to rows.now }
+{
+    let mut gvt = 0u64;
+    let mut events = events_at_first(rows);
+    for row in rows {
+        if is_between(row, 0, to) {
+            gvt = gvt.max(row.gvt.min(MOST));
+            events = events.max(row.events.min(MOST));
+        }
+    }
+    Reached { gvt, events }
+}
+
+/// How many events were committed at the first row.
+fn events_at_first(rows: &[Row]) -> u64
+    ensures { result ≡ capped (at_first (λ (r : Row). r.events) rows.now) }
+{
+    match rows.first() {
+        None => 0,
+        Some(row) => row.events.min(MOST),
+    }
+}
+
+/// How much work there was in the rounds from one to before another.
+fn work_between(rows: &[Row], from: u64, to: u64) -> Work
+    ensures handled { result.handled ≡ sum_between (λ (r : Row). r.handled) from to rows.now }
+    ensures antimessages { result.antimessages
+        ≡ sum_between (λ (r : Row). r.antimessages) from to rows.now }
+{
+    let mut handled = 0u64;
+    let mut antimessages = 0u64;
+    for row in rows {
+        if is_between(row, from, to) {
+            handled = handled.saturating_add(row.handled).min(MOST);
+            antimessages = antimessages.saturating_add(row.antimessages).min(MOST);
+        }
+    }
+    Work {
+        handled,
+        antimessages,
+    }
+}
+
+/// How many rows of these rounds have another commit than the row before.
+fn commits_between(rows: &[Row], from: u64, to: u64) -> u64
+    ensures { result ≡ capped (length (filter (is_within from to)
+        (committing (at_first (λ (r : Row). r.committed) rows.now) rows.now))) }
+{
+    let mut time = time_at_first(rows);
+    let mut commits = 0u64;
+    for row in rows {
+        if is_commit(row, time, from, to) {
+            commits = commits.saturating_add(1).min(MOST);
+        }
+        time = row.committed;
+    }
+    commits
+}
+
+/// Whether a row of these rounds has another commit than one at this time.
+fn is_commit(row: &Row, time: u64, from: u64, to: u64) -> bool
+    ensures { result ≡ not (row.now.committed == time) && is_within from to row.now }
+{
+    row.committed != time && is_between(row, from, to)
+}
+
+/// The time of the last commit before the first row.
+fn time_at_first(rows: &[Row]) -> u64
+    ensures { result ≡ at_first (λ (r : Row). r.committed) rows.now }
+{
+    match rows.first() {
+        None => 0,
+        Some(row) => row.committed,
+    }
+}

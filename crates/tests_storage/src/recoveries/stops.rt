@@ -1,0 +1,48 @@
+use super::*;
+use recovery::{Stop, behind_checkpoints, front_of, replay_log};
+
+/// Where the replay of a log stops whose last record is of this kind and has no body, behind three commits.
+fn stop_at(alloc: Global, kind: u8) -> Result<Option<Stop>, Fail> {
+    let mut log = log_of_all(alloc)?;
+    log.append(kind, &[])?;
+    Ok(replay_log(alloc, &ring(), &mut log, END).err())
+}
+
+#[test]
+fn a_replay_comes_to_the_last_record(rt: HostRuntime) -> Result<(), Fail> {
+    let alloc = rt.alloc();
+    let mut log = log_of_all(alloc)?;
+    assert!(rt; !log.is_spent());
+    let (world, time) = match replay_log(alloc, &ring(), &mut log, END) {
+        Ok(done) => done,
+        Err(stop) => return Err(Fail::from(stop.fault)),
+    };
+    let front = front_of(alloc, world, time)?;
+    assert!(rt; front.is_same(&front_at_the_end(alloc)?));
+    Ok(())
+}
+
+#[test]
+fn a_replay_stops_at_the_record_at_fault(rt: HostRuntime) -> Result<(), Fail> {
+    let alloc = rt.alloc();
+    for (kind, fault) in [
+        (1, RecoveryFault::BadRecord),
+        (2, RecoveryFault::BadCheckpoint),
+    ] {
+        assert_eq!(rt; stop_at(alloc, kind)?, Some(Stop { number: 3, fault }));
+    }
+    Ok(())
+}
+
+#[test]
+fn the_last_checkpoint_is_found(rt: HostRuntime) -> Result<(), Fail> {
+    let alloc = rt.alloc();
+    let mut log = log_of_all(alloc)?;
+    assert!(rt; !log.is_spent());
+    assert_eq!(rt; behind_checkpoints(&log), 0);
+    for place in [4, 5] {
+        log.append(2, &[])?;
+        assert_eq!(rt; behind_checkpoints(&log), place);
+    }
+    Ok(())
+}
