@@ -1,7 +1,7 @@
 -- The load of a run: how many events each process handled in each slice of virtual time, as a heat
 -- map.
 use Rattle.std.specs.List.{filter}
-use Rattle.std.specs.Prelude.{ℕ, ◌+◌, ◌-◌, ◌*◌, ◌/◌, ◌%◌, ◌&&◌, ◌==◌, Bool, List, [], ◌∷◌, ◌++◌, flat_map, length, min, nat_le, nat_lt}
+use Rattle.std.specs.Prelude.{ℕ, ◌+◌, ◌-◌, ◌*◌, ◌/◌, ◌%◌, ◌^◌, ◌&&◌, ◌==◌, Bool, List, [], ◌∷◌, ◌++◌, flat_map, length, max, min, nat_le, nat_lt, suc, zero}
 use Rattle.eventkey.specs.Message.{Message}
 use Rattle.model.specs.World.{below}
 use Rattle.pictures.specs.Drawing.{bottom_of, frame_of, rows_text, span_of, ticks_text}
@@ -10,7 +10,7 @@ use Rattle.pictures.specs.Run.{Run}
 use Rattle.pictures.specs.declared.drawn.Frame.{Frame}
 use Rattle.pictures.specs.declared.drawn.View.{View}
 use Rattle.pictures.specs.declared.drawn.TheConstants.{STYLE, TAIL}
-use Rattle.pictures.specs.declared.loads.TheConstants.{CELL, LEVELS, LOAD_HEAD}
+use Rattle.pictures.specs.declared.loads.TheConstants.{CELL, LOAD_HEAD}
 
 -- how many slices of time there are, at most 64, and in which one a time of the frame lies
 abbrev pub slices_of : Frame → ℕ
@@ -31,26 +31,40 @@ abbrev pub cell_count : Run → Frame → ℕ → ℕ → ℕ
 cell_count r f row slice =
     length (filter (λ (x : Message). is_in_row f row x && (slice_at f x.time == slice)) r.events)
 
--- the tenths of its colour: how many of the levels it reaches
-abbrev pub level_of : ℕ → ℕ
-level_of count = length (filter (λ level. nat_le level count) LEVELS)
+-- the most events of a cell, in the first slices of a row, and in the first rows
+abbrev pub most_in_row : Run → Frame → ℕ → ℕ → ℕ
+most_in_row r f row zero = 0
+most_in_row r f row (suc slice) = max (most_in_row r f row slice) (cell_count r f row slice)
 
-abbrev pub cell_text : Frame → ℕ → ℕ → ℕ → List ℕ
-cell_text f row slice count = filled CELL.now
+abbrev pub most_in_rows : Run → Frame → ℕ → ℕ
+most_in_rows r f zero = 0
+most_in_rows r f (suc row) = max (most_in_rows r f row) (most_in_row r f row (slices_of f))
+
+-- the tenths of its colour, ten where it has the most, and none where it has no event; counts from
+-- 2^56 on as that
+abbrev pub level_of : ℕ → ℕ → ℕ
+level_of most count =
+    (10 * min (2 ^ 56) count + min (2 ^ 56) most - 1) / max 1 (min (2 ^ 56) most)
+
+abbrev pub cell_text : Frame → ℕ → ℕ → ℕ → ℕ → List ℕ
+cell_text f most row slice count = filled CELL.now
     ((60 + slice * 900 / slices_of f) ∷ (51 + 20 * row)
     ∷ ((slice + 1) * 900 / slices_of f - slice * 900 / slices_of f)
-    ∷ (level_of count / 10) ∷ (level_of count % 10)
+    ∷ (level_of most count / 10) ∷ (level_of most count % 10)
     ∷ (f.first + row) ∷ slice_start f slice ∷ slice_start f (slice + 1) ∷ count ∷ [])
 
-abbrev pub cells_text : Run → Frame → ℕ → List ℕ
-cells_text r f row =
-    flat_map (λ slice. cell_text f row slice (cell_count r f row slice)) (below (slices_of f))
+abbrev pub cells_text : Run → Frame → ℕ → ℕ → List ℕ
+cells_text r f most row =
+    flat_map (λ slice. cell_text f most row slice (cell_count r f row slice)) (below (slices_of f))
 
-abbrev pub map_text : Run → Frame → List ℕ
-map_text r f =
-    filled LOAD_HEAD.now ((bottom_of f + 40) ∷ (bottom_of f + 40) ∷ f.from ∷ f.to ∷ [])
+abbrev pub map_text : Run → Frame → ℕ → List ℕ
+map_text r f most =
+    filled LOAD_HEAD.now
+    ((bottom_of f + 40) ∷ (bottom_of f + 40) ∷ f.from ∷ f.to ∷ most ∷ slices_of f ∷ [])
     ++ STYLE.now ++ ticks_text f ++ rows_text f
-    ++ flat_map (cells_text r f) (below f.rows) ++ TAIL.now
+    ++ flat_map (cells_text r f most) (below f.rows) ++ TAIL.now
 
 abbrev pub load_text : Run → View → List ℕ
-load_text r v = map_text r (frame_of r v)
+load_text r v =
+    let f = frame_of r v in
+    map_text r f (most_in_rows r f f.rows)

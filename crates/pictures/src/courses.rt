@@ -90,7 +90,7 @@ const COURSE_FOOT: &str = "\
 <text x=\"60\" y=\"190\">efficiency, 0 to 100 %: events committed of messages handled</text>
 <line class=\"row\" x1=\"60\" y1=\"440\" x2=\"960\" y2=\"440\"/>\
 <text x=\"60\" y=\"330\">antimessages delivered, 0 to $</text>
-<text x=\"52\" y=\"458\" text-anchor=\"end\">commits</text>
+<text x=\"2\" y=\"458\">commits</text>
 <text x=\"60\" y=\"476\">round $</text><text x=\"960\" y=\"476\" text-anchor=\"end\">round $</text>
 <text x=\"60\" y=\"504\">$ rounds, $ rows, $ messages handled, $ events committed, efficiency $ %, \
 $ antimessages, $ commits</text>

@@ -90,7 +90,7 @@ svg{background:#fff;font:12px sans-serif}text{fill:#000}
 .row{stroke:#999}.tick{stroke:#ddd}.message{stroke:#0072b2;stroke-opacity:.6}
 .pending{stroke:#d55e00;stroke-dasharray:4 3}.event{fill:#009e73}.load{fill:#0072b2}.time{stroke:#cc79a7;stroke-width:2}
 @media(prefers-color-scheme:dark){svg{background:#111}text{fill:#eee}.row{stroke:#777}
-.tick{stroke:#333}.message{stroke:#56b4e9}.pending{stroke:#e69f00}}
+.tick{stroke:#333}.message{stroke:#56b4e9}.pending{stroke:#e69f00}.load{fill:#56b4e9}}
 </style>
 ";
 

@@ -18,4 +18,4 @@ pub use drawn::{View, write_drawing};
 pub use loads::write_load;
 pub use tables::{write_stats, write_stats_csv};
 pub use traced::{Trace, trace_of};
-pub use turns::{NotRead, Row, read_rows};
+pub use turns::{NotRead, Row, read_rows, write_names, write_turn};

@@ -1,12 +1,12 @@
 // The load of a run, as a heat map.
 
-ghost use Rattle.std.specs.List.{filter};
 ghost use Rattle.std.specs.Prelude.{◌≡◌, ◌≤◌, ◌<◌, ◌+◌, ◌-◌, ◌*◌, ◌/◌, ◌%◌, ◌^◌, ◌++◌, ℕ, flat_map};
-ghost use Rattle.std.specs.Prelude.{length, nat_le, slice_index};
+ghost use Rattle.std.specs.Prelude.{slice_index};
 ghost use Rattle.eventkey.specs.Writing.{Writes};
 ghost use Rattle.model.specs.World.{below};
 ghost use Rattle.pictures.specs.Load.{cell_count, cell_text, cells_text, is_in_row, level_of};
-ghost use Rattle.pictures.specs.Load.{load_text, map_text, slice_at, slice_start, slices_of};
+ghost use Rattle.pictures.specs.Load.{load_text, map_text, most_in_row, most_in_rows, slice_at};
+ghost use Rattle.pictures.specs.Load.{slice_start, slices_of};
 
 use crate::Trace;
 use crate::drawn::{Frame, STYLE, TAIL, View, bottom, framed, span, write_rows, write_ticks};
@@ -15,13 +15,14 @@ use eventkey::Message;
 use std::io::{Result, Write};
 use texts::write_text;
 
-/// How many events are told by each tenth of the colour.
-const LEVELS: [u64; 10] = [1, 3, 10, 30, 100, 300, 1000, 3000, 10000, 30000];
+/// Greater numbers count as this.
+const MOST: u64 = 1 << 56;
 
 // Each `$` is the place of a number.
 const LOAD_HEAD: &str = "\
 <svg xmlns=\"http://www.w3.org/2000/svg\" viewBox=\"0 0 1000 $\" width=\"1000\" height=\"$\" role=\"img\">
 <title>Events a process, virtual time $ to $</title>
+<text x=\"60\" y=\"24\">deepest: $ events of a process in one of $ slices</text>
 ";
 
 const CELL: &str = "\
@@ -30,78 +31,93 @@ const CELL: &str = "\
 ";
 
 /// Writes how many events each process handled in each slice of virtual time as a stand-alone SVG: a
-/// rectangle for each, up to 64 slices and the first 64 processes of the view, with a deeper colour
-/// where there are more. Times from 2^41 on count as that.
+/// rectangle for each, up to 64 slices and the first 64 processes of the view, in ten depths of colour
+/// of which the last is that of the most events. Times from 2^41 on count as that.
 ///
 /// Where the writer fails, what it has taken is a beginning of the text, and the answer is its
-/// error. It costs the events, once for each process shown, and takes no memory.
+/// error. It costs the events, twice for each process shown, and takes no memory.
 pub fn write_load<W: Write>(trace: &Trace, view: &View, out: &mut W) -> Result<()>
     ensures { Writes (W.contents out.old) (W.contents out.new) result
         (load_text trace.now view.now) }
 {
     let frame = framed(trace, view);
-    write_map(trace, &frame, out)
+    let most = most_in_rows(trace, &frame);
+    write_map(trace, &frame, most, out)
 }
 
-fn write_map<W: Write>(trace: &Trace, frame: &Frame, out: &mut W) -> Result<()>
+fn write_map<W: Write>(trace: &Trace, frame: &Frame, most: u64, out: &mut W) -> Result<()>
     requires order { frame.now.from ≤ frame.now.to }
     requires to { frame.now.to ≤ 2 ^ 41 }
     requires rows { frame.now.rows ≤ 64 }
     requires first { frame.now.first < 2 ^ 32 }
     ensures { Writes (W.contents out.old) (W.contents out.new) result
-        (map_text trace.now frame.now) }
+        (map_text trace.now frame.now most) }
 {
     let height = bottom(frame) + 40;
-    write_filled(LOAD_HEAD, &[height, height, frame.from, frame.to], out)?;
+    let numbers = [height, height, frame.from, frame.to, most, slices(frame)];
+    write_filled(LOAD_HEAD, &numbers, out)?;
     write_text(STYLE, out)?;
     write_ticks(frame, out)?;
     write_rows(frame, out)?;
-    write_all_cells(trace, frame, out)?;
+    write_all_cells(trace, frame, most, out)?;
     write_text(TAIL, out)
 }
 
-fn write_all_cells<W: Write>(trace: &Trace, frame: &Frame, out: &mut W) -> Result<()>
+fn write_all_cells<W: Write>(trace: &Trace, frame: &Frame, most: u64, out: &mut W) -> Result<()>
     requires order { frame.now.from ≤ frame.now.to }
     requires to { frame.now.to ≤ 2 ^ 41 }
     requires rows { frame.now.rows ≤ 64 }
     requires first { frame.now.first < 2 ^ 32 }
     ensures { Writes (W.contents out.old) (W.contents out.new) result
-        (flat_map (cells_text trace.now frame.now) (below frame.now.rows)) }
+        (flat_map (cells_text trace.now frame.now most) (below frame.now.rows)) }
 {
     for row in 0..frame.rows {
-        write_cells(trace, frame, row, out)?;
+        write_cells(trace, frame, most, row, out)?;
     }
     Ok(())
 }
 
 /// The cells of one row.
-fn write_cells<W: Write>(trace: &Trace, frame: &Frame, row: u32, out: &mut W) -> Result<()>
+fn write_cells<W: Write>(
+    trace: &Trace,
+    frame: &Frame,
+    most: u64,
+    row: u32,
+    out: &mut W,
+) -> Result<()>
     requires order { frame.now.from ≤ frame.now.to }
     requires to { frame.now.to ≤ 2 ^ 41 }
     requires row { row < 64 }
     requires first { frame.now.first < 2 ^ 32 }
     ensures { Writes (W.contents out.old) (W.contents out.new) result
-        (cells_text trace.now frame.now row) }
+        (cells_text trace.now frame.now most row) }
 {
     let counts = counts_of(trace, frame, row);
     for slice in 0..slices(frame) {
-        write_cell(frame, row, slice, counts[slice as usize], out)?;
+        write_cell(frame, most, row, slice, counts[slice as usize], out)?;
     }
     Ok(())
 }
 
-fn write_cell<W: Write>(frame: &Frame, row: u32, slice: u64, count: u64, out: &mut W) -> Result<()>
+fn write_cell<W: Write>(
+    frame: &Frame,
+    most: u64,
+    row: u32,
+    slice: u64,
+    count: u64,
+    out: &mut W,
+) -> Result<()>
     requires order { frame.now.from ≤ frame.now.to }
     requires to { frame.now.to ≤ 2 ^ 41 }
     requires row { row < 64 }
     requires first { frame.now.first < 2 ^ 32 }
     requires slice { slice < 64 }
     ensures { Writes (W.contents out.old) (W.contents out.new) result
-        (cell_text frame.now row slice count) }
+        (cell_text frame.now most row slice count) }
 {
     let slices = slices(frame);
     let left = slice * 900 / slices;
-    let level = level(count, &LEVELS);
+    let level = level(count, most);
     let numbers = [
         60 + left,
         51 + 20 * u64::from(row),
@@ -116,11 +132,36 @@ fn write_cell<W: Write>(frame: &Frame, row: u32, slice: u64, count: u64, out: &m
     write_filled(CELL, &numbers, out)
 }
 
-/// How many of the levels a count reaches.
-fn level(count: u64, levels: &[u64]) -> u64
-    ensures { result ≡ length (filter (λ level. nat_le level count) levels.now) }
+/// The tenths of colour of a count, where this is the most.
+fn level(count: u64, most: u64) -> u64
+    ensures { result ≡ level_of most count }
 {
-    levels.iter().filter(|level| **level <= count).count() as u64
+    let most = most.min(MOST);
+    (10 * count.min(MOST) + most).saturating_sub(1) / most.max(1)
+}
+
+/// The most events of a process in a slice.
+fn most_in_rows(trace: &Trace, frame: &Frame) -> u64
+    requires to { frame.now.to ≤ 2 ^ 41 }
+    ensures { result ≡ most_in_rows trace.now frame.now frame.now.rows }
+{
+    let mut most = 0u64;
+    for row in 0..frame.rows {
+        most = most.max(most_in_row(trace, frame, row));
+    }
+    most
+}
+
+fn most_in_row(trace: &Trace, frame: &Frame, row: u32) -> u64
+    requires to { frame.now.to ≤ 2 ^ 41 }
+    ensures { result ≡ most_in_row trace.now frame.now row (slices_of frame.now) }
+{
+    let counts = counts_of(trace, frame, row);
+    let mut most = 0u64;
+    for slice in 0..slices(frame) {
+        most = most.max(counts[slice as usize]);
+    }
+    most
 }
 
 fn slices(frame: &Frame) -> u64

@@ -3,6 +3,7 @@
 ghost use Rattle.std.specs.Prelude.{◌≡◌, IfOk, flat_map, true};
 ghost use Rattle.eventkey.specs.Writing.{Writes};
 ghost use Rattle.pictures.specs.Turns.{trace_text, turn_text};
+ghost use Rattle.pictures.specs.declared.turns.TheConstants.{TRACE_HEAD};
 
 use crate::filled::write_filled;
 use std::alloc::{AllocError, AllocFailed, Global};
@@ -130,11 +131,20 @@ fn is_text_of(alloc: Global, rows: &[Row], text: &[u8]) -> Result<bool, NotRead>
     Ok(written.as_slice() == text)
 }
 
+/// Writes the line of a trace that names the fields of its rows.
+///
+/// Where the writer fails, what it has taken is a beginning of the line, and the answer is its error.
+pub fn write_names<W: Write>(out: &mut W) -> IoResult<()>
+    ensures { Writes (W.contents out.old) (W.contents out.new) result TRACE_HEAD.now }
+{
+    write_text(TRACE_HEAD, out)
+}
+
 /// Writes the line of names and the rows.
 fn write_rows<W: Write>(rows: &[Row], out: &mut W) -> IoResult<()>
     ensures { Writes (W.contents out.old) (W.contents out.new) result (trace_text rows.now) }
 {
-    write_text(TRACE_HEAD, out)?;
+    write_names(out)?;
     write_turns(rows, out)
 }
 
@@ -148,7 +158,10 @@ fn write_turns<W: Write>(rows: &[Row], out: &mut W) -> IoResult<()>
     Ok(())
 }
 
-fn write_turn<W: Write>(row: &Row, out: &mut W) -> IoResult<()>
+/// Writes the row of a turn.
+///
+/// Where the writer fails, what it has taken is a beginning of the row, and the answer is its error.
+pub fn write_turn<W: Write>(row: &Row, out: &mut W) -> IoResult<()>
     ensures { Writes (W.contents out.old) (W.contents out.new) result (turn_text row.now) }
 {
     let numbers = [

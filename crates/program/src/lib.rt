@@ -18,4 +18,4 @@ pub use files::{check, seq, simulated};
 pub use progress::{Progress, TerminalProgress};
 pub use starting::start;
 pub use status::{About, answer, command, refuse_words, tell, words};
-pub use tracing::{Traced, write_turn};
+pub use tracing::Traced;

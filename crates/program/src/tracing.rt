@@ -1,13 +1,13 @@
 // The trace of a run: a row for each turn of a node, in a file.
 
-ghost use Rattle.eventkey.specs.Writing.{Writes};
-ghost use Rattle.program.specs.Trace.{turn_text, with_commas};
+ghost use Rattle.std.specs.Prelude.{◌≡◌};
+ghost use Rattle.program.specs.Trace.{row_of};
 
 use crate::fault::Fault;
 use crate::progress::Progress;
 use driver::{Turn, Watch};
-use std::io::{Result as IoResult, Write};
-use texts::{write_number, write_text};
+use pictures::{Row, write_names, write_turn};
+use std::io::Write;
 
 /// Tells another of a run, and writes a row for each turn of a node besides.
 #[derive(Drop)]
@@ -21,15 +21,11 @@ pub struct Traced<'p, P, W> {
     events: usize,
 }
 
-/// The names of a row's fields.
-const HEAD: &str =
-    "round,node,budget,gvt,delivered,antimessages,handled,sent,told,committed,events\n";
-
 impl<'p, P: Progress, W: Write> Traced<'p, P, W> {
     /// Tells this one, and writes the names of the fields and then the rows to `rows`.
     pub fn to(progress: &'p mut P, rows: W) -> Traced<'p, P, W> {
         let mut rows = rows;
-        let is_lost = write_text(HEAD, &mut rows).is_err();
+        let is_lost = write_names(&mut rows).is_err();
         Traced {
             progress,
             rows,
@@ -45,38 +41,23 @@ impl<'p, P: Progress, W: Write> Traced<'p, P, W> {
     }
 }
 
-/// Writes the row of a turn, before which so many events were committed up to this time, in ticks.
-///
-/// Where the writer fails, what it has taken is a beginning of the row, and the answer is its error.
-pub fn write_turn<W: Write>(turn: &Turn, time: u64, events: usize, out: &mut W) -> IoResult<()>
-    ensures { Writes (W.contents out.old) (W.contents out.new) result
-        (turn_text turn.now time events) }
+/// The row of a turn, before which so many events were committed up to this time, in ticks.
+fn row_of(turn: &Turn, time: u64, events: usize) -> Row
+    ensures { result ≡ row_of turn.now time events }
 {
-    let others = [
-        u64::from(turn.node),
-        u64::from(turn.budget),
-        turn.floor,
-        turn.delivered as u64,
-        turn.antimessages as u64,
-        u64::from(turn.handled),
-        turn.sent as u64,
-        turn.told as u64,
-        time,
-        events as u64,
-    ];
-    write_number("", u64::from(turn.round), out)?;
-    write_commas(&others, out)?;
-    write_text("\n", out)
-}
-
-/// Numbers, a comma before each.
-fn write_commas<W: Write>(numbers: &[u64], out: &mut W) -> IoResult<()>
-    ensures { Writes (W.contents out.old) (W.contents out.new) result (with_commas numbers.now) }
-{
-    for number in numbers {
-        write_number(",", *number, out)?;
+    Row {
+        round: u64::from(turn.round),
+        node: u64::from(turn.node),
+        budget: u64::from(turn.budget),
+        gvt: turn.floor,
+        delivered: turn.delivered as u64,
+        antimessages: turn.antimessages as u64,
+        handled: u64::from(turn.handled),
+        sent: turn.sent as u64,
+        told: turn.told as u64,
+        committed: time,
+        events: events as u64,
     }
-    Ok(())
 }
 
 impl<P: Progress, W: Write> Watch for Traced<'_, P, W> {
@@ -92,7 +73,8 @@ impl<P: Progress, W: Write> Watch for Traced<'_, P, W> {
 
     fn turned(&mut self, turn: &Turn) {
         if !self.is_lost {
-            self.is_lost = write_turn(turn, self.time, self.events, &mut self.rows).is_err();
+            let row = row_of(turn, self.time, self.events);
+            self.is_lost = write_turn(&row, &mut self.rows).is_err();
         }
         self.progress.turned(turn);
     }

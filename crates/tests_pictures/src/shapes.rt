@@ -147,27 +147,60 @@ fn a_picture_shows_the_first_events_and_processes(rt: HostRuntime) -> Result<(),
     Ok(())
 }
 
-/// What the heat map of a ring has: cells with an event and without.
-const CELLS: [&str; 3] = [
-    "x=\"135\" y=\"51\" width=\"75\" height=\"18\" fill-opacity=\"0.1\"><title>process 0, 1 to 2: 1 events",
-    "x=\"210\" y=\"51\" width=\"75\" height=\"18\" fill-opacity=\"0.0\"><title>process 0, 2 to 3: 0 events",
-    "x=\"735\" y=\"71\" width=\"75\" height=\"18\" fill-opacity=\"0.1\"><title>process 1, 9 to 10: 1 events",
+/// What the heat map of a ring has up to a time: how many rectangles and one more, the deepest count,
+/// and cells with an event, with two, and without.
+const LOADS: [(u64, usize, &str); 7] = [
+    (
+        12,
+        37,
+        "y=\"24\">deepest: 1 events of a process in one of 12 slices</text>",
+    ),
+    (
+        12,
+        37,
+        "x=\"135\" y=\"51\" width=\"75\" height=\"18\" fill-opacity=\"1.0\"><title>process 0, 1 to 2: 1 events",
+    ),
+    (
+        12,
+        37,
+        "x=\"210\" y=\"51\" width=\"75\" height=\"18\" fill-opacity=\"0.0\"><title>process 0, 2 to 3: 0 events",
+    ),
+    (
+        12,
+        37,
+        "x=\"735\" y=\"71\" width=\"75\" height=\"18\" fill-opacity=\"1.0\"><title>process 1, 9 to 10: 1 events",
+    ),
+    (
+        640,
+        193,
+        "y=\"24\">deepest: 2 events of a process in one of 64 slices</text>",
+    ),
+    (
+        640,
+        193,
+        "x=\"60\" y=\"51\" width=\"14\" height=\"18\" fill-opacity=\"1.0\"><title>process 0, 0 to 10: 2 events",
+    ),
+    (
+        640,
+        193,
+        "x=\"88\" y=\"51\" width=\"14\" height=\"18\" fill-opacity=\"0.5\"><title>process 0, 20 to 30: 1 events",
+    ),
 ];
 
 #[test]
 fn a_ring_has_the_load_that_was_computed_by_hand(rt: HostRuntime) -> Result<(), Fail> {
-    let trace = trace_of(rt.alloc(), &TokenRing::new(3, 2, 1), 10, 10)?;
-    let view = View {
-        from: 0,
-        to: 12,
-        first: 0,
-        last: 2,
-    };
-    let text = load(rt.alloc(), &trace, &view)?;
-    for cell in CELLS {
-        assert!(rt; text.as_str().contains(cell), "{cell}");
+    for (to, shapes, wanted) in LOADS {
+        let trace = trace_of(rt.alloc(), &TokenRing::new(3, 2, 1), to, to)?;
+        let view = View {
+            from: 0,
+            to,
+            first: 0,
+            last: 2,
+        };
+        let text = load(rt.alloc(), &trace, &view)?;
+        assert!(rt; text.as_str().contains(wanted), "{wanted}");
+        assert!(rt; text.as_str().split("<rect").count() == shapes);
     }
-    assert!(rt; text.as_str().split("<rect").count() == 37);
     Ok(())
 }
 

@@ -1,4 +1,4 @@
-//! Tests of the command line and of what the program does with it, through their public functions.
+//! Tests of what the program does with a command line, through its public functions.
 //! They stand in a crate of their own, since a crate with tests is proved twice.
 #![tactic(auto)]
 
@@ -6,8 +6,6 @@
 mod memory;
 #[cfg(test)]
 mod migrating;
-#[cfg(test)]
-mod reading;
 #[cfg(test)]
 mod running;
 #[cfg(test)]

@@ -1,10 +1,7 @@
 // Want of memory is told by its name, and a second try then answers as if there had been none. This
 // shows where one allocation fails; with ample memory the first try succeeds.
 
-use crate::reading::TEXTS;
 use crate::running::{RING, RING_TEXT, Told, run, temporary};
-use clap::error::ErrorKind;
-use lines::{Line, read_line};
 use model::WorldFault;
 use models::AnyModel;
 use program::{Fault, seq};
@@ -14,24 +11,6 @@ use std::net::Net;
 use std::process::Processes;
 use std::rt::{Clock, Files};
 use std::test::Fail;
-
-/// Whether the line runs `ring.toml`, or its error's kind.
-fn runs_ring(alloc: Global, words: &[&str]) -> Result<bool, ErrorKind> {
-    match read_line(alloc, TEXTS, words) {
-        Ok(line) => Ok(line == Line::Seq { model: "ring.toml" }),
-        Err(error) => Err(error.kind()),
-    }
-}
-
-#[test]
-fn a_line_is_read_at_a_second_try(rt: HostRuntime) {
-    let words = ["timewarp", "seq", "ring.toml"].as_slice();
-    let mut read = runs_ring(rt.alloc(), words);
-    if read == Err(ErrorKind::OutOfMemory) {
-        read = runs_ring(rt.alloc(), words);
-    }
-    assert!(rt; read == Ok(true));
-}
 
 /// Runs the ring.
 fn run_ring(alloc: Global, out: &mut Vec<u8>) -> Result<(), Fault> {

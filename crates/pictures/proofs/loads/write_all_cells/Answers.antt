@@ -7,17 +7,17 @@ use Rattle.pictures.proofs.loads.write_all_cells.Goals as goal
 
 pub returns-in_err-write_cells : goal.returns-in_err-write_cells
 returns-in_err-write_cells g c =
-    let f = cells_text c.args.trace.now c.args.frame.now in
+    let f = cells_text c.args.trace.now c.args.frame.now c.args.most in
     let n = c.args.frame.now.rows in
     writes_broken (flat_map f (drop (c.loop-row.row + 1) (below n))) c.from_residual.result c.loop-row.invariant (below-next f n c.loop-row.row (omega arith))
     c.write_cells.ensures c.in_err-write_cells.was c.from_residual.ensures.0
 
 pub loop-row-preserved : goal.loop-row-preserved
 loop-row-preserved g c =
-    let f = cells_text c.args.trace.now c.args.frame.now in
+    let f = cells_text c.args.trace.now c.args.frame.now c.args.most in
     let n = c.args.frame.now.rows in
     written_next (flat_map f (drop (c.loop-row.row + 1) (below n))) c.loop-row.invariant (below-next f n c.loop-row.row (omega arith))
     c.write_cells.ensures c.in_ok-write_cells.was
 
 pub returns : goal.returns
-returns g c = writes_end tt (below-done (cells_text c.args.trace.now c.args.frame.now) c.args.frame.now.rows c.loop-row.row (omega arith)) c.loop-row.invariant
+returns g c = writes_end tt (below-done (cells_text c.args.trace.now c.args.frame.now c.args.most) c.args.frame.now.rows c.loop-row.row (omega arith)) c.loop-row.invariant

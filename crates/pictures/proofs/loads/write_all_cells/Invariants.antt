@@ -6,5 +6,5 @@ use Rattle.pictures.proofs.loads.write_all_cells.Given as goal
 
 abbrev pub invariant-loop-row : goal.invariant-loop-row
 invariant-loop-row g l =
-    HasWritten (g.W.Write.contents l.initial.out) (g.W.Write.contents l.out) (flat_map (cells_text l.trace l.frame) (below l.frame.rows))
-    (flat_map (cells_text l.trace l.frame) (drop l.row (below l.frame.rows)))
+    HasWritten (g.W.Write.contents l.initial.out) (g.W.Write.contents l.out) (flat_map (cells_text l.trace l.frame l.most) (below l.frame.rows))
+    (flat_map (cells_text l.trace l.frame l.most) (drop l.row (below l.frame.rows)))

@@ -6,5 +6,5 @@ use Rattle.pictures.proofs.loads.write_cells.Given as goal
 
 abbrev pub invariant-loop-slice : goal.invariant-loop-slice
 invariant-loop-slice g l =
-    HasWritten (g.W.Write.contents l.initial.out) (g.W.Write.contents l.out) (cells_text l.trace l.frame l.row)
-    (flat_map (λ s. cell_text l.frame l.row s (cell_count l.trace l.frame l.row s)) (drop l.slice (below (slices_of l.frame))))
+    HasWritten (g.W.Write.contents l.initial.out) (g.W.Write.contents l.out) (cells_text l.trace l.frame l.most l.row)
+    (flat_map (λ s. cell_text l.frame l.most l.row s (cell_count l.trace l.frame l.row s)) (drop l.slice (below (slices_of l.frame))))

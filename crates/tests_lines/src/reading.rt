@@ -4,7 +4,7 @@ use clap::error::ErrorKind;
 use lines::{Batch, Line, Texts, read_line};
 use std::alloc::Global;
 
-pub const TEXTS: Texts<'static> = Texts {
+const TEXTS: Texts<'static> = Texts {
     name: "timewarp",
     version: "1",
     help: "",
@@ -727,4 +727,23 @@ fn other_words_are_refused_by_their_kind(rt: HostRuntime) {
     for (words, kind) in REFUSED {
         assert!(rt; is_refused_as(rt.alloc(), words, kind), "{words:?}");
     }
+}
+
+/// Whether the line runs `ring.toml`, or its error's kind.
+fn runs_ring(alloc: Global, words: &[&str]) -> Result<bool, ErrorKind> {
+    match read_line(alloc, TEXTS, words) {
+        Ok(line) => Ok(line == Line::Seq { model: "ring.toml" }),
+        Err(error) => Err(error.kind()),
+    }
+}
+
+// Want of memory is told by its name, and a second try then answers as if there had been none.
+#[test]
+fn a_line_is_read_at_a_second_try(rt: HostRuntime) {
+    let words = ["timewarp", "seq", "ring.toml"].as_slice();
+    let mut read = runs_ring(rt.alloc(), words);
+    if read == Err(ErrorKind::OutOfMemory) {
+        read = runs_ring(rt.alloc(), words);
+    }
+    assert!(rt; read == Ok(true));
 }
