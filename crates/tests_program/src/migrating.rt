@@ -207,6 +207,30 @@ fn an_old_disk_is_written_anew(rt: HostRuntime) -> Result<(), Fail> {
 }
 
 #[test]
+fn an_old_disk_is_written_to_a_large_one(rt: HostRuntime) -> Result<(), Fail> {
+    let stage = Stage::set(&rt, "large")?;
+    let (model, old, new) = (stage.model.as_str(), stage.old.as_str(), stage.new.as_str());
+    let migrate = [
+        "timewarp",
+        "migrate",
+        model,
+        old,
+        new,
+        "--large",
+        "--sectors",
+        "131073",
+    ];
+    assert!(rt; tells(&rt, &migrate, 0, "migrated 10 events 5\n", "")?);
+    assert_eq!(rt; fs::metadata(&rt, new)?.len(), 131_073 * 512);
+    let show = ["timewarp", "show", model, new, "--large"];
+    assert!(rt; tells(&rt, &show, 0, SHOWN, "")?);
+    // It is one only where it is asked for as a large one.
+    assert!(rt; tells(&rt, &show[..4], 1, "", "timewarp: File\n")?);
+    assert!(rt; stage.is_cleared(&rt)?);
+    Ok(())
+}
+
+#[test]
 fn a_new_disk_without_room_keeps_the_first_records(rt: HostRuntime) -> Result<(), Fail> {
     let stage = Stage::set(&rt, "room")?;
     let (model, old, new) = (stage.model.as_str(), stage.old.as_str(), stage.new.as_str());

@@ -56,8 +56,8 @@ const COMMANDS: [&[&str]; 31] = [
     ],
     // nor is a program waited for where there are none
     &["run", "ring.toml", "whole", "--nodes", "3", "--attach"],
-    // all nodes are posted to before a reply is taken
-    &["new", "ring.toml", "t", "--sectors", "64"],
+    // all nodes are posted to before a reply is taken; the disk is a large one
+    &["new", "ring.toml", "t", "--large", "--sectors", "131073"],
     &[
         "run",
         "ring.toml",
@@ -67,6 +67,7 @@ const COMMANDS: [&[&str]; 31] = [
         "--sockets",
         "S",
         "--together",
+        "--large",
     ],
     &["new", "ring.toml", "u", "--sectors", "64"],
     &["run", "ring.toml", "u", "--nodes", "3", "--together"],
