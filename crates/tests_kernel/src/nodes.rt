@@ -8,7 +8,7 @@ ghost use Rattle.node.specs.Handling.{IsInRange};
 mod plain;
 mod schedules;
 
-use crate::rows::{Row, are, are_signed, messages, row, signed_list};
+use crate::rows::{Row, are, are_signed, messages, row, signed, signed_list};
 use eventkey::{Listed, Message, Sign, Signed};
 use model::{Model as Simulated, State, Words};
 use models::TokenRing;
@@ -191,6 +191,48 @@ fn a_great_budget_takes_no_room(rt: HostRuntime) -> Result<(), Fail> {
     assert_eq!(rt; (reply.ran, reply.fossils.as_slice().len()), (1, 0));
     let reply = node.handle(parcel(rt.alloc(), &(&[], u32::MAX, 10))?)?;
     assert_eq!(rt; (reply.ran, reply.fossils.as_slice().len()), (0, 1));
+    Ok(())
+}
+
+/// So many messages for process 0 at time 1, the last of their order first.
+fn many(alloc: Global, count: u64) -> Result<Vec<Signed>, Fail> {
+    let mut list = Vec::new(alloc);
+    for number in (0..count).rev() {
+        list.push(signed(Sign::Plus, (1, 2, number, 0, 0, 0, 0, 0))?)?;
+    }
+    Ok(list)
+}
+
+/// How many messages a parcel of these has handled and let go, and how many went out.
+fn handle_many(
+    node: &mut Tried<TokenRing>,
+    deliver: Vec<Signed>,
+    budget: u32,
+    floor: u64,
+) -> Result<(u32, usize, usize), NodeFault> {
+    let reply = node.handle(Parcel {
+        deliver: Listed::from_vec(deliver),
+        budget,
+        floor,
+    })?;
+    Ok((
+        reply.ran,
+        reply.out.as_slice().len(),
+        reply.fossils.as_slice().len(),
+    ))
+}
+
+// All at one process, which has handled them when a straggler comes before them: it takes them all
+// back, and handles them again.
+#[test]
+fn a_hundred_thousand_messages_are_handled_twice(rt: HostRuntime) -> Result<(), Fail> {
+    let mut node = load(rt.alloc(), 0, 3, &[(0, 1, &[])])?;
+    let deliver = many(rt.alloc(), 100_000)?;
+    let told = handle_many(&mut node, deliver, 100_000, 0)?;
+    assert_eq!(rt; told, (100_000, 100_000, 0));
+    let straggler = signed_list(rt.alloc(), &[plus((0, 2, 0, 0, 0, 0, 0, 0))])?;
+    let told = handle_many(&mut node, straggler, 200_000, 2)?;
+    assert_eq!(rt; told, (100_001, 200_001, 100_001));
     Ok(())
 }
 
