@@ -1,6 +1,7 @@
--- What the table of a circuit's model file says: exactly `end`, and lists of gates and of wires; and
--- what is wrong with one that says nothing.
-use Rattle.std.specs.Prelude.{◌≡◌, ℕ, ◌+◌, ◌-◌, ◌^◌, List, [], ◌∷◌, ◌++◌, Option, Some, None, codes, length}
+-- What the table of a circuit's model file says: exactly `end`, and lists of gates and of wires;
+-- and what is wrong with one that says nothing.
+use Rattle.std.specs.Prelude.{◌≡◌, ℕ, ◌+◌, ◌-◌, ◌^◌, List, [], ◌∷◌, ◌++◌, Option, Some, None, codes}
+use Rattle.std.specs.Prelude.{length}
 use Rattle.std.specs.Prelude.{Bool, false, ◌&&◌, ◌==◌, if◌then◌else◌, is_some, map, nat_le, not}
 use Rattle.std.specs.Prelude.{option_and_then, option_map}
 use Rattle.std.specs.Prelude.{string_bytes}
@@ -13,7 +14,8 @@ use Rattle.texts.specs.AnyModel.{line_then}
 use Rattle.texts.specs.ModelFile.{Wrong, found_of, item_wrong, number_at, number_key, numbers_wrong}
 use Rattle.texts.specs.ModelFile.{unknown_wrong, words_wrong}
 use Rattle.texts.specs.declared.findings.Found.TheVariants as found
-use Rattle.toml.specs.Data.{Data, Items, Members, as_array, as_str, as_table, get_member, item, no_items}
+use Rattle.toml.specs.Data.{Data, Items, Members, as_array, as_str, as_table, get_member, item}
+use Rattle.toml.specs.Data.{no_items}
 
 -- what is read of each item, where there is something in each
 abbrev pub all_of : {X : Type 0} → (Data → Option X) → Items → Option (List X)
@@ -78,7 +80,8 @@ pub record IsCircuitTable (table : Members) (c : Circuit) (end : ℕ) : Type 0 w
 
 -- whether an item is the table of a gate, with a name or none
 abbrev pub fits_gate : Data → Bool
-fits_gate d = is_some (option_and_then gate_of (as_table d)) && is_some (option_and_then name_of (as_table d))
+fits_gate d = is_some (option_and_then gate_of (as_table d))
+    && is_some (option_and_then name_of (as_table d))
 
 -- of a wire
 abbrev pub fits_wire : Data → Bool
@@ -88,13 +91,15 @@ fits_wire d = is_some (option_and_then wire_of (as_table d))
 unfoldable pub items_wrong : (Data → Bool) → List ℕ → List ℕ → ℕ → Items → List Wrong
 items_wrong fits key text place no_items = []
 items_wrong fits key text place (item d ds) =
-    item_wrong (fits d) key place (found_of (Some d)) text ++ items_wrong fits key text (place + 1) ds
+    item_wrong (fits d) key place (found_of (Some d)) text ++ items_wrong fits key text (place + 1)
+    ds
 
 -- what is wrong with the list of gates, and with that of wires
 
 abbrev pub gates_wrong : Members → Option Items → List Wrong
 gates_wrong t None =
-    words_wrong false (codes "gates") (codes "a list of tables with table, delay, first and count") t
+    words_wrong false (codes "gates") (codes "a list of tables with table, delay, first and count")
+    t
 gates_wrong t (Some ds) = items_wrong fits_gate (codes "gates")
     (codes "a table with table, delay, first and count, and perhaps a name without blanks") 0 ds
 
@@ -113,9 +118,12 @@ unfit fits key text place (x ∷ xs) =
 -- is no gate or no wire beside the others
 abbrev pub netlist_wrong : List Gate → List Wire → Members → List Wrong
 netlist_wrong gates wires t =
-    words_wrong (nat_le 1 (length gates) && nat_le (length gates) 1024) (codes "gates") (codes "1 to 1024 gates") t
-    ++ unfit (is_gate (length wires)) (codes "gates") (codes "a delay, and at most 8 of the listed wires") 0 gates
-    ++ unfit (is_wire (length gates)) (codes "wires") (codes "a wire to one of the listed gates") 0 wires
+    words_wrong (nat_le 1 (length gates) && nat_le (length gates) 1024) (codes "gates")
+    (codes "1 to 1024 gates") t
+    ++ unfit (is_gate (length wires)) (codes "gates")
+    (codes "a delay, and at most 8 of the listed wires") 0 gates
+    ++ unfit (is_wire (length gates)) (codes "wires") (codes "a wire to one of the listed gates") 0
+    wires
 
 abbrev pub parts_wrong : Option (List Gate) → Option (List Wire) → Members → List Wrong
 parts_wrong None wires t = []

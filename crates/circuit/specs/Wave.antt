@@ -2,7 +2,8 @@
 -- output of each gate. These are words 0 to 3 of the state of its process, as the model's meaning
 -- makes them of a log's events.
 use Rattle.std.specs.Prelude.{ℕ, zero, suc, List, [], ◌∷◌, ◌++◌, ◌==◌, ◌&&◌, ◌||◌, Bool, false}
-use Rattle.std.specs.Prelude.{codes, decimal, get_or, if◌then◌else◌, length, nat_le, nat_lt, set, slice_index}
+use Rattle.std.specs.Prelude.{codes, decimal, get_or, if◌then◌else◌, length, nat_le, nat_lt, set}
+use Rattle.std.specs.Prelude.{slice_index}
 use Rattle.std.specs.List.{list_all}
 use Rattle.eventkey.specs.Message.{Message}
 use Rattle.circuit.specs.Circuit.{Netlist, circuit_meaning}
@@ -41,7 +42,8 @@ declared_signal letter name lp = codes "$var wire 1 " ++ letter ++ decimal lp ++
 abbrev pub declared_signals : ℕ → List ℕ
 declared_signals lp =
     declared_signal (codes "o") (codes "output") lp ++ declared_signal (codes "p") (codes "pin0") lp
-    ++ declared_signal (codes "q") (codes "pin1") lp ++ declared_signal (codes "r") (codes "pin2") lp
+    ++ declared_signal (codes "q") (codes "pin1") lp ++ declared_signal (codes "r") (codes "pin2")
+    lp
 
 abbrev pub begun_gate : List (List ℕ) → ℕ → List ℕ
 begun_gate names lp = codes "$scope module " ++ name_text names lp ++ codes " $end\n"
@@ -62,8 +64,10 @@ value_text letter lp value = decimal value ++ letter ++ decimal lp ++ codes "\n"
 -- all signals of a gate with this state
 abbrev pub state_text : ℕ → List ℕ → List ℕ
 state_text lp state =
-    value_text (codes "o") lp (slice_index state 3) ++ value_text (codes "p") lp (slice_index state 0)
-    ++ value_text (codes "q") lp (slice_index state 1) ++ value_text (codes "r") lp (slice_index state 2)
+    value_text (codes "o") lp (slice_index state 3) ++ value_text (codes "p") lp
+    (slice_index state 0)
+    ++ value_text (codes "q") lp (slice_index state 1) ++ value_text (codes "r") lp
+    (slice_index state 2)
 
 -- the states in which so many processes start
 abbrev pub starts : Netlist → ℕ → List (List ℕ)

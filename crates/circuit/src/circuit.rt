@@ -2,7 +2,8 @@
 
 ghost use Rattle.std.specs.Prelude.{◌≡◌, ℕ, IsTrue, ◌<◌, ◌≤◌, ◌*◌, ◌+◌, ◌^◌, ◌↔◌, length};
 ghost use Rattle.std.specs.Prelude.{IfSome, IsNone, slice_index, map, take, drop};
-ghost use Rattle.circuit.specs.Circuit.{IsGate, IsNetlist, IsWire, along, changed, gate_at, gate_in};
+ghost use Rattle.circuit.specs.Circuit.{IsGate, IsNetlist, IsWire, along, changed, gate_at};
+ghost use Rattle.circuit.specs.Circuit.{gate_in};
 ghost use Rattle.circuit.specs.Circuit.{circuit_meaning, netlist_of, output_of, pin_after};
 ghost use Rattle.circuit.specs.Circuit.{is_gate, is_wire, wire_at, wires_of};
 ghost use Rattle.circuit.specs.CircuitLaws.{circuit_lawful};

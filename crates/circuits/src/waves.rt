@@ -58,8 +58,8 @@ Usage: circuits wave MODEL [DISK]
 /// simulation.
 ///
 /// Refused are, in this order, the model file (`File`, `BadModel`), the disk (`File`, `Log`,
-/// `Recovery`) or the plain runner (`World`), and then `Output` where the writer refuses. `NoMemory`
-/// comes where memory runs out. Before `Output` nothing is written.
+/// `Recovery`) or the plain runner (`World`), and then `Output` where the writer refuses.
+/// `NoMemory` comes where memory runs out. Before `Output` nothing is written.
 fn print_wave<R, O>(rt: &R, model: &str, disk: Option<&str>, out: &mut O) -> Result<(), Fault>
 where
     R: Files<File = File> + AllocGlobal,

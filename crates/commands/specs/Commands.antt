@@ -1,8 +1,10 @@
 -- What the commands on a disk print (this project's profile).
 use Rattle.std.specs.Io.KnownBytes.{Appends}
-use Rattle.std.specs.Prelude.{◌≡◌, ◌≤◌, ◌⊎◌, ℕ, List, ◌++◌, Option, codes, decimal, flat_map, get_or, length}
+use Rattle.std.specs.Prelude.{◌≡◌, ◌≤◌, ◌⊎◌, ℕ, List, ◌++◌, Option, codes, decimal, flat_map}
+use Rattle.std.specs.Prelude.{get_or, length}
 use Rattle.commands.specs.declared.fault.CommandFault.{CommandFault}
-use Rattle.commands.specs.declared.fault.CommandFault.TheVariants.{Log, NoMemory, Output, Recovery, Rounds, Session}
+use Rattle.commands.specs.declared.fault.CommandFault.TheVariants.{Log, NoMemory, Output, Recovery}
+use Rattle.commands.specs.declared.fault.CommandFault.TheVariants.{Rounds, Session}
 use Rattle.commitlog.specs.Faults.{FormatIsRefused, OpenIsRefused}
 use Rattle.commitlog.specs.Records.{IsBlank, IsFormatted}
 use Rattle.commitlog.specs.declared.fault.LogFault.TheVariants as log
@@ -73,9 +75,9 @@ pub record BeginsCommitted (m : Meaning) (end : ℕ) (image : List (List ℕ)) (
   pub within : world.time ≤ end
   pub part : TakesBeginning old new (text world)
 
--- This has been taken of what a run from this image tells: what so many nodes handled, the time that
--- was reached, and how many events are committed. Where the image is genuine they are those of the
--- sequential simulation up to the end.
+-- This has been taken of what a run from this image tells: what so many nodes handled, the time
+-- that was reached, and how many events are committed. Where the image is genuine they are those of
+-- the sequential simulation up to the end.
 pub record TellsRun (m : Meaning) (end nodes : ℕ) (image : List (List ℕ))
     (Taken : List ℕ → Type 0) : Type 0 where
   pub ran : List ℕ
@@ -98,8 +100,8 @@ pub record TellsRunOver {M P D : Type 0} (meaning : M → Meaning) (state : P �
   pub over : IsRunOver meaning state disk model end plan begun left time events
   pub taken : Taken (ran_text ran time events)
 
--- This has been taken of what is told of a later end: it is in force behind the records that were on
--- the disk, which were replayed under the end before.
+-- This has been taken of what is told of a later end: it is in force behind the records that were
+-- on the disk, which were replayed under the end before.
 pub record TellsExtended (m : Meaning) (end : ℕ) (old new : DiskState)
     (Taken : List ℕ → Type 0) : Type 0 where
   pub before : ℕ
@@ -124,8 +126,8 @@ MakingIsRefused (Log fault) image failed = FormatIsRefused fault image failed
 MakingIsRefused Output image failed = Unit {0}
 MakingIsRefused fault image failed = ⊥
 
--- Why no world is recovered from the log of an image: want of memory, a device that failed, that it is
--- no log of this model with this end in force, or the first record that is at fault.
+-- Why no world is recovered from the log of an image: want of memory, a device that failed, that it
+-- is no log of this model with this end in force, or the first record that is at fault.
 abbrev pub IsNotRecovered : Meaning → ℕ → List (List ℕ) → RecoveryFault → Type 0
 IsNotRecovered m end image recovery.NoMemory = Unit {0}
 IsNotRecovered m end image (recovery.Log log.NoMemory) = Unit {0}

@@ -13,7 +13,8 @@ use texts::{write_number, write_text};
 
 /// Writes how many sectors a disk has that is formatted now, and flushes the writer.
 pub fn write_formatted<O: Write>(sectors: u32, out: &mut O) -> Result<(), CommandFault>
-    ensures written { Writes (O.contents out.old) (O.contents out.new) result (formatted_text sectors) }
+    ensures written { Writes (O.contents out.old) (O.contents out.new) result
+        (formatted_text sectors) }
     ensures fault { IsOkUnless result Output }
 {
     write_number("formatted ", u64::from(sectors), out)?;
@@ -24,7 +25,8 @@ pub fn write_formatted<O: Write>(sectors: u32, out: &mut O) -> Result<(), Comman
 
 /// Writes which end was in force, and which one is now, and flushes the writer.
 pub fn write_extended<O: Write>(before: u64, end: u64, out: &mut O) -> Result<(), CommandFault>
-    ensures written { Writes (O.contents out.old) (O.contents out.new) result (extended_text before end) }
+    ensures written { Writes (O.contents out.old) (O.contents out.new) result
+        (extended_text before end) }
     ensures fault { IsOkUnless result Output }
 {
     write_number("extended ", before, out)?;
@@ -34,9 +36,11 @@ pub fn write_extended<O: Write>(before: u64, end: u64, out: &mut O) -> Result<()
     Ok(())
 }
 
-/// Writes at which time a migrated disk stands, and how many events its log has. Flushes the writer.
+/// Writes at which time a migrated disk stands, and how many events its log has. Flushes the
+/// writer.
 pub fn write_migrated<O: Write>(time: u64, count: usize, out: &mut O) -> Result<(), CommandFault>
-    ensures written { Writes (O.contents out.old) (O.contents out.new) result (migrated_text time count) }
+    ensures written { Writes (O.contents out.old) (O.contents out.new) result
+        (migrated_text time count) }
     ensures fault { IsOkUnless result Output }
 {
     write_number("migrated ", time, out)?;
@@ -49,15 +53,16 @@ pub fn write_migrated<O: Write>(time: u64, count: usize, out: &mut O) -> Result<
 /// Writes what a run has to tell: how many messages each node handled, and what is committed.
 /// Flushes the writer.
 pub fn write_ran<O: Write>(
-    ran: &[u64],
+    handled_per_node: &[u64],
     time: u64,
     events: usize,
     out: &mut O,
 ) -> Result<(), CommandFault>
-    ensures written { Writes (O.contents out.old) (O.contents out.new) result (ran_text ran.now time events) }
+    ensures written { Writes (O.contents out.old) (O.contents out.new) result
+        (ran_text handled_per_node.now time events) }
     ensures fault { IsOkUnless result Output }
 {
-    write_nodes(ran, out)?;
+    write_nodes(handled_per_node, out)?;
     write_number("committed ", time, out)?;
     write_number(" events ", events as u64, out)?;
     write_text("\n", out)?;
@@ -66,12 +71,12 @@ pub fn write_ran<O: Write>(
 }
 
 /// A line for each node.
-fn write_nodes<O: Write>(ran: &[u64], out: &mut O) -> IoResult<()>
+fn write_nodes<O: Write>(handled_per_node: &[u64], out: &mut O) -> IoResult<()>
     ensures { Writes (O.contents out.old) (O.contents out.new) result
-        (flat_map (node_text ran.now) (below (length ran.now))) }
+        (flat_map (node_text handled_per_node.now) (below (length handled_per_node.now))) }
 {
-    for node in 0..ran.len() {
-        write_node(node, ran[node], out)?;
+    for node in 0..handled_per_node.len() {
+        write_node(node, handled_per_node[node], out)?;
     }
     Ok(())
 }

@@ -18,7 +18,7 @@ use Rattle.wire.specs.Port.{PortState}
 use Rattle.coordinator.proofs.Committing.{stays}
 use Rattle.coordinator.specs.Crashes.{IsWritten, KeepsRecovery, KeepsStanding, Recovers, StaysWritten, SurvivesCrashes}
 use Rattle.coordinator.specs.Drives.{AreSteps, Goes, IsStep, StepsAreMade}
-use Rattle.coordinator.specs.Session.{HasSameNodes, IsTold, Running, Session, picture_of, running}
+use Rattle.coordinator.specs.Session.{HasSameNodes, IsToldSession, Running, Session, picture_of, running}
 use Rattle.coordinator.specs.Steps.{Appends, HasCause, IsLogged, IsMade, IsStepped, leaves_all, move_of, next_time}
 use Rattle.coordinator.specs.declared.SessionFault.{SessionFault}
 use Rattle.coordinator.specs.declared.SessionFault.TheVariants.{Disk, Full, Spent}
@@ -33,7 +33,7 @@ followed_by m end a b c old mid new first second = record {
 }
 
 -- the later picture goes on from the earlier one
-pub goes-on : (k : Move) (old new : Running) (result : Result Answer SessionFault) → (IsTold old → IfOk result (λ answer. IsMade k old new answer)) → IsTold old
+pub goes-on : (k : Move) (old new : Running) (result : Result Answer SessionFault) → (IsToldSession old → IfOk result (λ answer. IsMade k old new answer)) → IsToldSession old
     → OnOk result (GoesOnFrom old.end (picture_of old) (picture_of new))
 goes-on k old new (Ok answer) made told = (moves_are_sound old.meaning old.end k (picture_of old) (picture_of new) told.system (made told).move_is).1
 goes-on k old new (Err fault) made told = tt
@@ -222,7 +222,7 @@ module _ {M P D : Type 0} (meaning : M → Meaning) (state : P → PortState) (d
     nodes = record { nodes = refl; ports = refl };
   }
 
-pub all-go-on : (ks : List Move) (old new : Running) → (IsTold old → StepsAreMade ks old new) → IsTold old → GoesOnFrom old.end (picture_of old) (picture_of new)
+pub all-go-on : (ks : List Move) (old new : Running) → (IsToldSession old → StepsAreMade ks old new) → IsToldSession old → GoesOnFrom old.end (picture_of old) (picture_of new)
 all-go-on ks old new made told = (moves_made_are_sound old.meaning old.end ks (picture_of old) (picture_of new) told.system (made told).moves_are).goes_on
 
 pub steps-taken : (steps : List Step) (k : ℕ) (x : Step) → k < length steps → x ≡ get_or steps k x → take (k + 1) steps ≡ take k steps ++ x ∷ []

@@ -15,7 +15,7 @@ use Rattle.coordinator.proofs.Resuming.{stopped-front}
 use Rattle.coordinator.specs.Crashes.{IsWritten, KeepsRecovery, Recovers, RecoversUnderItsEnd}
 use Rattle.coordinator.specs.Drives.{AreDrives, IsDrive}
 use Rattle.coordinator.specs.Headline.{SessionsGoOn}
-use Rattle.coordinator.specs.Session.{IsTold, Session, picture_of, running}
+use Rattle.coordinator.specs.Session.{IsToldSession, Session, picture_of, running}
 use Rattle.coordinator.specs.Steps.{leaves_all}
 use Rattle.coordinator.specs.declared.DriveFault.{DriveFault}
 use Rattle.coordinator.specs.declared.Step.{Step}
@@ -30,18 +30,18 @@ module _ {M P D : Type 0} (meaning : M → Meaning) (state : P → PortState) (d
     record HasGoneOn (now : Session M P D) : Type 0 where
       model_is : now.model ≡ first.model
       end_is : now.end ≡ first.end
-      usable : now.spent ≡ false → IsTold (running meaning state now) × IsWritten (meaning now.model) now.end now.front now.log
+      usable : now.spent ≡ false → IsToldSession (running meaning state now) × IsWritten (meaning now.model) now.end now.front now.log
       front : IsUpto (meaning first.model) first.end now.front.time now.front × (now.front.time ≤ first.end)
       crashes : Stood → KeepsRecovery (meaning first.model) first.end first.front.time now.front.time (disk first.log.disk) (disk now.log.disk)
 
-    told_front : (s : Session M P D) → s.model ≡ first.model → s.end ≡ first.end → IsTold (running meaning state s) →
+    told_front : (s : Session M P D) → s.model ≡ first.model → s.end ≡ first.end → IsToldSession (running meaning state s) →
         IsUpto (meaning first.model) first.end s.front.time s.front × (s.front.time ≤ first.end)
     told_front s model_is end_is told =
         carry meaning state disk (λ (x : M) (e : ℕ). IsUpto (meaning x) e s.front.time s.front × (s.front.time ≤ e)) first.model s.model first.end s.end model_is end_is
         (told.system.sound.front, (fronts_open (meaning s.model) s.end 1 (picture_of (running meaning state s)) told.system (omega arith)).soon)
 
     survives : (steps : List Step) (mid new : Session M P D) (result : Result ℕ DriveFault) → HasGoneOn mid → IsDrive meaning state disk steps mid new result →
-        IsTold (running meaning state mid) → IsWritten (meaning mid.model) mid.end mid.front mid.log →
+        IsToldSession (running meaning state mid) → IsWritten (meaning mid.model) mid.end mid.front mid.log →
         Stood → KeepsRecovery (meaning first.model) first.end first.front.time new.front.time (disk first.log.disk) (disk new.log.disk)
     survives steps mid new result was is told written recovers =
         let keeps = was.crashes recovers in
@@ -51,13 +51,13 @@ module _ {M P D : Type 0} (meaning : M → Meaning) (state : P → PortState) (d
         (carry meaning state disk (λ (x : M) (e : ℕ). Recovers (meaning x) e mid.front.time (disk mid.log.disk)) mid.model first.model mid.end first.end (sym was.model_is) (sym was.end_is) keeps.now_on)))
 
     still_written : (steps : List Step) (mid new : Session M P D) (result : Result ℕ DriveFault) → IsDrive meaning state disk steps mid new result →
-        IsTold (running meaning state mid) → IsWritten (meaning mid.model) mid.end mid.front mid.log → new.spent ≡ false → IsWritten (meaning new.model) new.end new.front new.log
+        IsToldSession (running meaning state mid) → IsWritten (meaning mid.model) mid.end mid.front mid.log → new.spent ≡ false → IsWritten (meaning new.model) new.end new.front new.log
     still_written steps mid new result is told written unspent =
         carry meaning state disk (λ (x : M) (e : ℕ). IsWritten (meaning x) e new.front new.log) new.model mid.model new.end mid.end (sym is.same.0) (sym is.same.1)
         (is.keeps.written unspent told written)
 
     driven : (steps : List Step) (mid new : Session M P D) (result : Result ℕ DriveFault) → HasGoneOn mid → IsDrive meaning state disk steps mid new result →
-        IsTold (running meaning state mid) → IsWritten (meaning mid.model) mid.end mid.front mid.log → HasGoneOn new
+        IsToldSession (running meaning state mid) → IsWritten (meaning mid.model) mid.end mid.front mid.log → HasGoneOn new
     driven steps mid new (Ok done) was is told written =
         let model_is = is.same.0 ∙ was.model_is in
         let end_is = is.same.1 ∙ was.end_is in
@@ -79,7 +79,7 @@ module _ {M P D : Type 0} (meaning : M → Meaning) (state : P → PortState) (d
           end_is = end_is;
           usable = λ unspent. (
             elim (cases_Bool (leaves_all stop.fault)) [
-              | inl leaves ↦ subst (λ (s : Session M P D). IsTold (running meaning state s)) (sym (stopped.refused.unchanged leaves)) made
+              | inl leaves ↦ subst (λ (s : Session M P D). IsToldSession (running meaning state s)) (sym (stopped.refused.unchanged leaves)) made
               | inr ends ↦ (let spent = (stopped.refused.spends ends).1 in absurd (cc))
             ],
             still_written steps mid new (Err stop) is told written unspent,

@@ -16,7 +16,7 @@ use Rattle.commitlog.specs.Log.{Opened}
 use Rattle.coordinator.specs.Crashes.{IsWritten, KeepsRecovery, KeepsUnderItsEnd, Recovers, RecoversUnderItsEnd}
 use Rattle.coordinator.specs.Drives.{IsStopped, StepsAreMade}
 use Rattle.coordinator.specs.Headline.{IsResumed}
-use Rattle.coordinator.specs.Session.{IsTold, Running, Session, picture_of}
+use Rattle.coordinator.specs.Session.{IsToldSession, Running, Session, picture_of}
 use Rattle.coordinator.specs.Steps.{leaves_all, move_of}
 use Rattle.coordinator.specs.declared.DriveFault.{DriveFault}
 use Rattle.wire.specs.Port.{PortState}
@@ -51,7 +51,7 @@ made-all done steps old new is made = subst (λ (ss : List Step). StepsAreMade (
 
 module _ (m : Meaning) (end nodes : ℕ) (v first : World) (disk mid : DiskState) (replayed : IsReplayedTo m end disk.reads first) (opened_kept : RecoversUnderItsEnd m v.time disk → KeepsUnderItsEnd m v.time first.time disk mid × Recovers m end first.time mid)
     (begun : Running) (model_is : begun.meaning ≡ m) (end_is : begun.end ≡ end) (moves : List Move) where
-  module _ (told : IsTold begun) (picture_is : picture_of begun ≡ opened m.lps nodes first) where
+  module _ (told : IsToldSession begun) (picture_is : picture_of begun ≡ opened m.lps nodes first) where
     moved : (made : Running) → StepsAreMade moves begun made → moves_made m end moves (opened m.lps nodes first) ≡ Some (picture_of made)
     moved made steps =
         subst (λ (p : Picture). moves_made m end moves p ≡ Some (picture_of made)) picture_is
@@ -69,7 +69,7 @@ module _ (m : Meaning) (end nodes : ℕ) (v first : World) (disk mid : DiskState
     soon : (made : Running) → StepsAreMade moves begun made → made.front.time ≤ end
     soon made steps = (fronts_open m end 1 (picture_of made) (moves_made_are_sound m end moves (opened m.lps nodes first) (picture_of made) system (moved made steps)).system (omega arith)).soon
 
-  pub resumed : (made : Running) (last : World) (new : DiskState) → (RecoversUnderItsEnd m v.time disk → IsTold begun × (picture_of begun ≡ opened m.lps nodes first)) → (IsTold begun → StepsAreMade moves begun made) → last ≡ made.front
+  pub resumed : (made : Running) (last : World) (new : DiskState) → (RecoversUnderItsEnd m v.time disk → IsToldSession begun × (picture_of begun ≡ opened m.lps nodes first)) → (IsToldSession begun → StepsAreMade moves begun made) → last ≡ made.front
       → (RecoversUnderItsEnd m v.time disk → Recovers m end first.time mid → KeepsRecovery m end first.time last.time mid new) → IsResumed m end nodes moves v disk new (Some last.time)
   resumed made last new begin steps last_is driven = record {
     front = Some last;

@@ -1,13 +1,16 @@
 -- A step of a session, and lists of steps.
-use Rattle.std.specs.Prelude.{Err, IfErr, IfOk, IsErrOf, List, Ok, OnOk, Result, Some, [], drop, false, length, map, take, true, ℕ, ◌<◌, ◌∷◌, ◌≡◌, ◌≤◌, ◌↔◌}
+use Rattle.std.specs.Prelude.{Err, IfErr, IfOk, IsErrOf, List, Ok, OnOk, Result, Some, [], drop}
+use Rattle.std.specs.Prelude.{false, length, map, take, true, ℕ, ◌<◌, ◌∷◌, ◌≡◌, ◌≤◌, ◌↔◌}
 use Rattle.disk.specs.Disk.{DiskState}
 use Rattle.model.specs.Meaning.{Meaning}
 use Rattle.protocol.specs.Moves.{Move, moves_made}
 use Rattle.protocol.specs.Sound.{GoesOnFrom}
 use Rattle.wire.specs.Port.{PortState}
 use Rattle.coordinator.specs.Crashes.{KeepsStanding, StaysWritten, SurvivesCrashes}
-use Rattle.coordinator.specs.Session.{HasSameNodes, IsTold, Running, Session, picture_of, running}
-use Rattle.coordinator.specs.Steps.{HasCause, IsLogged, IsMade, first_refusal, leaves_all, move_of, next_time}
+use Rattle.coordinator.specs.Session.{HasSameNodes, IsToldSession, Running, Session}
+use Rattle.coordinator.specs.Session.{picture_of, running}
+use Rattle.coordinator.specs.Steps.{HasCause, IsLogged, IsMade, first_refusal}
+use Rattle.coordinator.specs.Steps.{leaves_all, move_of, next_time}
 use Rattle.coordinator.specs.declared.DriveFault.{DriveFault}
 use Rattle.coordinator.specs.declared.SessionFault.{SessionFault}
 use Rattle.coordinator.specs.declared.SessionFault.TheVariants.{Disk, Spent}
@@ -19,14 +22,15 @@ use Rattle.protocol.specs.declared.Answer.TheVariants.{AlreadyAt}
 -- These moves of the picture were made, one after another, and what is told is so.
 pub record StepsAreMade (moves : List Move) (old new : Running) : Type 0 where
   pub moves_are : moves_made old.meaning old.end moves (picture_of old) ≡ Some (picture_of new)
-  pub told : IsTold new
+  pub told : IsToldSession new
 
-module _ {M P D : Type 0} (meaning : M → Meaning) (state : P → PortState) (disk : D → DiskState) where
+module _ {M P D : Type 0} (meaning : M → Meaning) (state : P → PortState) (disk : D →
+    DiskState) where
   -- these moves were made between the two, and the disk goes on recovering
   pub record Goes (moves : List Move) (old new : Session M P D) : Type 0 where
     pub model_is : new.model ≡ old.model
     pub end_is : new.end ≡ old.end
-    pub made : IsTold (running meaning state old) →
+    pub made : IsToldSession (running meaning state old) →
         StepsAreMade moves (running meaning state old) (running meaning state new)
     pub written : StaysWritten meaning state old new
     pub crashes : SurvivesCrashes meaning state disk old new
@@ -34,11 +38,11 @@ module _ {M P D : Type 0} (meaning : M → Meaning) (state : P → PortState) (d
   -- What `step` says, at whichever exit.
   pub record IsStep (step : Step) (old new : Session M P D)
       (result : Result Answer SessionFault) : Type 0 where
-    -- From told to told the step is the move of the picture, and answers that move's numbers.
-    pub made : IsTold (running meaning state old) → IfOk result (λ answer.
+    -- Over a told session the step is its move of the picture, and answers that move's numbers.
+    pub made : IsToldSession (running meaning state old) → IfOk result (λ answer.
         IsMade (move_of step) (running meaning state old) (running meaning state new) answer)
     -- Global virtual time, the floors of the nodes and the front's time do not fall.
-    pub goes_on : IsTold (running meaning state old) → OnOk result
+    pub goes_on : IsToldSession (running meaning state old) → OnOk result
         (GoesOnFrom old.end (picture_of (running meaning state old))
         (picture_of (running meaning state new)))
     -- What is refused, and why, whatever the ports and the disk.
@@ -80,7 +84,7 @@ module _ {M P D : Type 0} (meaning : M → Meaning) (state : P → PortState) (d
     pub more : List Step
     pub next_is : drop stop.done steps ≡ next ∷ more
     pub steps_are : AreSteps (take stop.done steps) old made
-    pub moves : IsTold (running meaning state old) →
+    pub moves : IsToldSession (running meaning state old) →
         StepsAreMade (map move_of (take stop.done steps)) (running meaning state old)
         (running meaning state made)
     pub refused : IsStep next made new (Err stop.fault)
@@ -88,10 +92,10 @@ module _ {M P D : Type 0} (meaning : M → Meaning) (state : P → PortState) (d
   -- What `drive` says of these steps, at whichever exit.
   pub record IsDrive (steps : List Step) (old new : Session M P D)
       (result : Result ℕ DriveFault) : Type 0 where
-    -- From told to told the steps are the moves of the picture, one after another.
-    pub made : IsTold (running meaning state old) → OnOk result
+    -- Over a told session the steps are their moves of the picture, one after another.
+    pub made : IsToldSession (running meaning state old) → OnOk result
         (StepsAreMade (map move_of steps) (running meaning state old) (running meaning state new))
-    pub goes_on : IsTold (running meaning state old) → OnOk result
+    pub goes_on : IsToldSession (running meaning state old) → OnOk result
         (GoesOnFrom old.end (picture_of (running meaning state old))
         (picture_of (running meaning state new)))
     pub count : IfOk result (λ done. done ≡ length steps)

@@ -1,5 +1,6 @@
 -- Three processes that hand two tokens round, each after two ticks, for the tests.
-use Rattle.std.specs.Prelude.{Bool, List, [], false, if◌then◌else◌, min, nat_lt, slice_index, true, ℕ, ◌%◌, ◌+◌, ◌-◌, ◌<◌, ◌^◌, ◌∷◌, ◌≡◌}
+use Rattle.std.specs.Prelude.{Bool, List, [], false, if◌then◌else◌, min, nat_lt, slice_index, true}
+use Rattle.std.specs.Prelude.{ℕ, ◌%◌, ◌+◌, ◌-◌, ◌<◌, ◌^◌, ◌∷◌, ◌≡◌}
 use Rattle.std.specs.List.{AllByRecursion as Every}
 use Rattle.std.proofs.Common.{arith, length, lit<, lit≤, refl, ◌≤◌}
 use Rattle.std.proofs.Math.Nat.{mod-lt}
@@ -13,7 +14,8 @@ counted state = min (slice_index state 0 + 1) (2 ^ 64 - 1)
 
 -- token 0 starts at process 0, and token 1 at process 1
 abbrev pub token_at : ℕ → Bool → List Outgoing
-token_at lp here = if here then record { to = lp; delay = 1; a = lp; b = 0; c = 0; d = 0 } ∷ [] else []
+token_at lp here = if here then record { to = lp; delay = 1; a = lp; b = 0; c = 0; d = 0 }
+    ∷ [] else []
 
 abbrev pub ring_meaning : Meaning
 ring_meaning = record {
@@ -22,7 +24,14 @@ ring_meaning = record {
   start_state = λ lp. 0 ∷ [];
   start_sends = λ lp. token_at lp (nat_lt lp 2);
   next_state = λ lp state x. counted state ∷ [];
-  sends = λ lp state x. record { to = (lp + 1) % 3; delay = 2; a = x.a; b = (x.b + 1) % 2 ^ 64; c = x.c; d = x.d } ∷ [];
+  sends = λ lp state x. record {
+    to = (lp + 1) % 3;
+    delay = 2;
+    a = x.a;
+    b = (x.b + 1) % 2 ^ 64;
+    c = x.c;
+    d = x.d;
+  } ∷ [];
 }
 
 few_starts : (lp : ℕ) (v : Bool) → length (token_at lp v) ≤ 8
@@ -31,8 +40,19 @@ few_starts lp false = lit≤ tt
 
 starts : (lp : ℕ) (v : Bool) → nat_lt lp 2 ≡ v → Every (IsSend 3) (token_at lp v)
 starts lp true is =
-    let below : lp < 2 = ltb-true lp 2 is in
-    (record { delay = lit≤ tt; delay_fits = lit< tt; to = omega (arith, below); a = omega (arith, below); b = lit< tt; c = lit< tt; d = lit< tt }, tt)
+    let below : lp < 2 = ltb-true lp 2 is in (
+      record {
+        delay = lit≤ tt;
+        delay_fits = lit< tt;
+        to = omega (arith, below);
+        a = omega
+            (arith, below);
+        b = lit< tt;
+        c = lit< tt;
+        d = lit< tt;
+      },
+      tt,
+    )
 starts lp false is = tt
 
 pub ring_lawful : IsLawful ring_meaning
@@ -46,5 +66,17 @@ ring_lawful = record {
   start = λ lp l. starts lp (nat_lt lp 2) refl;
   words = λ lp state x l words is. (lit≤ tt, (omega arith, tt));
   few = λ lp state x l words is. lit≤ tt;
-  each = λ lp state x l words is. (record { delay = lit≤ tt; delay_fits = lit< tt; to = mod-lt (lp + 1) (lit≤ tt); a = is.a; b = mod-lt (x.b + 1) (lit< tt); c = is.c; d = is.d }, tt);
+  each = λ lp state x l words is. (
+    record {
+      delay = lit≤ tt;
+      delay_fits = lit< tt;
+      to = mod-lt
+          (lp + 1) (lit≤ tt);
+      a = is.a;
+      b = mod-lt (x.b + 1) (lit< tt);
+      c = is.c;
+      d = is.d;
+    },
+    tt,
+  );
 }

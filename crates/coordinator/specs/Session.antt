@@ -1,6 +1,7 @@
 -- A session: what can be said of it between two steps.
 use Rattle.std.specs.List.{AllByRecursion as Every}
-use Rattle.std.specs.Prelude.{Bool, List, None, Option, Some, [], false, get_or, length, map, true, ℕ, ◌<◌, ◌^◌, ◌≡◌, ◌≤◌}
+use Rattle.std.specs.Prelude.{Bool, List, None, Option, Some, [], false, get_or, length, map, true}
+use Rattle.std.specs.Prelude.{ℕ, ◌<◌, ◌^◌, ◌≡◌, ◌≤◌}
 use Rattle.commitlog.specs.Log.{Opened}
 use Rattle.eventkey.specs.Bag.{IsAscending}
 use Rattle.gvt.specs.Ledger.{Ledger, nodes_of}
@@ -107,7 +108,7 @@ pub record IsPortOf (r : Running) (k : ℕ) (p : PortState) : Type 0 where
   pub node_is : p.node ≡ node_view r.meaning r.end (picture_of r) k
 
 -- A session whose ports tell their nodes, which run its model, and whose picture is sound.
-pub record IsTold (r : Running) : Type 0 where
+pub record IsToldSession (r : Running) : Type 0 where
   pub ports : (k : ℕ) → k < length r.ports → IsPortOf r k (port_at r.ports k)
   pub lows : r.ledger.lows ≡ lows_of (picture_of r)
   pub system : IsSystem r.meaning r.end (picture_of r)

@@ -1,5 +1,7 @@
 -- What a step does, what it answers, what it appends, and why it is refused.
-use Rattle.std.specs.Prelude.{Bool, IfErr, IfOk, IsErrOf, List, None, OnOk, Option, Result, Some, Err, [], false, if◌then◌else◌, length, nat_lt, not, true, ℕ, ◌&&◌, ◌*◌, ◌++◌, ◌+◌, ◌<◌, ◌^◌, ◌∷◌, ◌≡◌, ◌≤◌, ◌⊎◌}
+use Rattle.std.specs.Prelude.{Bool, IfErr, IfOk, IsErrOf, List, None, OnOk, Option, Result, Some}
+use Rattle.std.specs.Prelude.{Err, [], false, if◌then◌else◌, length, nat_lt, not, true, ℕ, ◌&&◌}
+use Rattle.std.specs.Prelude.{◌*◌, ◌++◌, ◌+◌, ◌<◌, ◌^◌, ◌∷◌, ◌≡◌, ◌≤◌, ◌⊎◌}
 use Rattle.commitlog.specs.Records.{HasRoom, entry_with}
 use Rattle.commitlog.specs.declared.records.Entry.{Entry}
 use Rattle.disk.specs.Disk.{DiskState}
@@ -8,7 +10,8 @@ use Rattle.model.specs.Meaning.{Meaning}
 use Rattle.gvt.specs.Picks.{are_distinct, can_pick}
 use Rattle.node.specs.declared.NodeFault.TheVariants as node
 use Rattle.protocol.specs.Moves.{Move, answer_of, is_busy, merged, move, refusal, told_before}
-use Rattle.protocol.specs.Moves.Move.{Checkpoint as CheckpointMove, Commit as CommitMove, Post as PostMove, Take as TakeMove}
+use Rattle.protocol.specs.Moves.Move.{Checkpoint as CheckpointMove, Commit as CommitMove}
+use Rattle.protocol.specs.Moves.Move.{Post as PostMove, Take as TakeMove}
 use Rattle.protocol.specs.Moves.Refusal.{NumberLimit as NumberLimitRefusal}
 use Rattle.protocol.specs.Picture.{Picture, nodes_of}
 use Rattle.recovery.specs.Bodies.{events_body}
@@ -16,10 +19,12 @@ use Rattle.recovery.specs.Checkpoints.{checkpoint_body, checkpoint_of}
 use Rattle.wire.specs.Port.{IsForWant, PortState}
 use Rattle.wire.specs.declared.port.PortFault.{PortFault}
 use Rattle.wire.specs.declared.port.PortFault.TheVariants.{Peer}
-use Rattle.coordinator.specs.Session.{IsTold, Running, Session, picture_of, running}
+use Rattle.coordinator.specs.Session.{IsToldSession, Running, Session, picture_of, running}
 use Rattle.protocol.specs.declared.Answer.{Answer}
 use Rattle.coordinator.specs.declared.SessionFault.{SessionFault}
-use Rattle.coordinator.specs.declared.SessionFault.TheVariants.{Busy, Disk, Full, Idle, NoMemory, NoSuchNode, NoSuchPick, NumberLimit, Port, Recovery, Spent, TooLong}
+use Rattle.coordinator.specs.declared.SessionFault.TheVariants.{Busy, Disk, Full, Idle, NoMemory}
+use Rattle.coordinator.specs.declared.SessionFault.TheVariants.{NoSuchNode, NoSuchPick, NumberLimit}
+use Rattle.coordinator.specs.declared.SessionFault.TheVariants.{Port, Recovery, Spent, TooLong}
 use Rattle.coordinator.specs.declared.Step.{Step}
 use Rattle.coordinator.specs.declared.Step.TheVariants.{Checkpoint, Commit, Post, Take}
 
@@ -55,7 +60,7 @@ kept_body p = checkpoint_body (checkpoint_of p.front)
 -- The step is the move of the picture, from told to told, and answers its numbers.
 pub record IsMade (k : Move) (old new : Running) (answer : Answer) : Type 0 where
   pub move_is : move old.meaning old.end k (picture_of old) ≡ Some (picture_of new)
-  pub told : IsTold new
+  pub told : IsToldSession new
   pub answer_is : answer_of old.meaning old.end k (picture_of old) ≡ Some answer
 
 -- why a step is refused before it is begun, whatever the ports and the disk: the first that holds
@@ -85,7 +90,7 @@ IsPortFault k old fault = IsForWant fault
 -- is
 abbrev pub HasCause : Move → Running → SessionFault → Type 0
 HasCause k old (Port fault) = (first_refusal old.end k (picture_of old) ≡ None)
-    × (IsTold old → IsPortFault k old fault)
+    × (IsToldSession old → IsPortFault k old fault)
 HasCause k old NoMemory = first_refusal old.end k (picture_of old) ≡ None
 HasCause k old Full = Appends k × (first_refusal old.end k (picture_of old) ≡ None)
 HasCause k old Disk = Appends k × (first_refusal old.end k (picture_of old) ≡ None)
@@ -108,7 +113,7 @@ leaves_all fault = false
 -- What a step of a session that is not spent does, in the picture.
 pub record IsStepped (k : Move) (old new : Running) (spent : Bool)
     (result : Result Answer SessionFault) : Type 0 where
-  pub made : IsTold old → IfOk result (λ answer. IsMade k old new answer)
+  pub made : IsToldSession old → IfOk result (λ answer. IsMade k old new answer)
   pub refused : (fault : SessionFault) →
       first_refusal old.end k (picture_of old) ≡ Some fault → result ≡ Err fault
   pub cause : IfErr result (λ fault. HasCause k old fault)
@@ -119,7 +124,8 @@ pub record IsStepped (k : Move) (old new : Running) (spent : Bool)
   pub meaning_is : new.meaning ≡ old.meaning
   pub end_is : new.end ≡ old.end
 
-module _ {M P D : Type 0} (meaning : M → Meaning) (state : P → PortState) (disk : D → DiskState) where
+module _ {M P D : Type 0} (meaning : M → Meaning) (state : P → PortState) (disk : D →
+    DiskState) where
   -- the disk of a session has room for the record that a commit would append
   abbrev pub HasRoomToCommit : Session M P D → Type 0
   HasRoomToCommit s =

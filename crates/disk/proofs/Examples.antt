@@ -5,7 +5,7 @@ use Rattle.disk.specs.Disk.{image_of, IsDisk, IsSector, MayLeave}
 use Rattle.disk.specs.Memory.{MemoryState, crash_content}
 use Rattle.disk.specs.declared.memory.Torn.TheVariants.{Old, New, Fill, Cut}
 use Rattle.disk.proofs.Sectors.{replicate_whole}
-use Rattle.disk.specs.Plans.{Counts, started, counted, write_counted, fails, write_fails}
+use Rattle.disk.specs.Plans.{Counts, started, operation_counted, write_counted, fails, write_fails}
 
 -- less than a sector is left out
 two_sectors : image_of (replicate 1030 7) ≡ replicate 512 7 ∷ (replicate 512 7 ∷ [])
@@ -18,10 +18,10 @@ second_fails = started (record { fail = Some 1; stop = None })
 first_done : fails second_fails ≡ false
 first_done = refl
 
-second_failed : fails (counted second_fails) ≡ true
+second_failed : fails (operation_counted second_fails) ≡ true
 second_failed = refl
 
-third_done : fails (counted (counted second_fails)) ≡ false
+third_done : fails (operation_counted (operation_counted second_fails)) ≡ false
 third_done = refl
 
 -- from write 0 on nothing works, be it a write or not

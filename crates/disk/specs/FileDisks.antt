@@ -20,8 +20,8 @@ disk_of_file disk = record {
   failures = disk.failures;
 }
 
--- how many sectors a file may have that is opened as a disk of so many: those, or from 8 to the most
--- where none are given
+-- how many sectors a file may have that is opened as a disk of so many: those, or from 8 to the
+-- most where none are given
 abbrev pub MayHave : Option ℕ → ℕ → ℕ → Type 0
 MayHave None most count = (8 ≤ count) × (count ≤ most)
 MayHave (Some sectors) most count = count ≡ sectors

@@ -21,8 +21,8 @@ pub record MayLeaveGrown (reads : List (List ℕ)) (loose : List Bool) (most : �
   pub few : zeros ≤ most
   pub is : image ≡ before ++ zero_sectors zeros
 
--- The moments while a disk that stands so gets more sectors, the latest first: a crash may leave any
--- number of them.
+-- The moments while a disk that stands so gets more sectors, the latest first: a crash may leave
+-- any number of them.
 abbrev pub growth : List (List ℕ) → List Bool → ℕ → List Standing
 growth reads loose zero = standing_of reads loose ∷ []
 growth reads loose (suc more) =

@@ -20,7 +20,7 @@ pub record AreSectors (count : ℕ) (sectors : List (List ℕ)) : Type 0 where
   pub size : length sectors ≡ count
   pub whole : (n : ℕ) → n < count → IsSector (slice_index_or sectors n [])
 
-pub record IsKept (m : Inside) : Type 0 where
+pub record IsMemoryKept (m : Inside) : Type 0 where
   pub synced : AreSectors (length m.image.sectors.items) m.synced.items
   pub attempted : AreSectors (length m.image.sectors.items) m.attempted.items
   -- a firm sector was last synced as a read gives it

@@ -36,8 +36,8 @@ write_fails now = (now.stopped || is_at now.plan.stop now.writes)
     || is_at now.plan.fail now.operations
 
 -- after an operation that is no write
-abbrev pub counted : Counts → Counts
-counted now = record {
+abbrev pub operation_counted : Counts → Counts
+operation_counted now = record {
   plan = now.plan;
   operations = one_more now.operations;
   writes = now.writes;

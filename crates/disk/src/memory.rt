@@ -21,8 +21,9 @@ pub enum Torn {
     New,
     /// This byte 512 times.
     Fill(u8),
-    /// So many first bytes of what the last write was to put there, failed or not, and behind them what
-    /// was there at the last successful sync. 512 and more leave what [`New`](Torn::New) leaves.
+    /// So many first bytes of what the last write was to put there, failed or not, and behind them
+    /// what was there at the last successful sync. 512 and more leave what [`New`](Torn::New)
+    /// leaves.
     Cut(u16),
 }
 
@@ -36,7 +37,7 @@ pub struct MemDisk {
     history: History,
 }
 
-// Written out, so that whoever drops one proves nothing of its parts.
+// Not derived: each caller that drops one would prove again how its parts are dropped.
 impl Drop for MemDisk {
     fn drop(self) {
         let MemDisk {
@@ -54,16 +55,16 @@ impl Model for MemDisk {
 
     ghost Value = { MemoryState };
 
-    ghost use Rattle.disk.specs.MemoryInside.{state_of, IsKept};
+    ghost use Rattle.disk.specs.MemoryInside.{state_of, IsMemoryKept};
 
     ghost view = { state_of };
 
-    ghost invariant = { IsKept };
+    ghost invariant = { IsMemoryKept };
 }
 
 impl SectorDisk for MemDisk {
     ghost use Rattle.disk.specs.Memory.{disk_of_memory};
-    ghost use Rattle.disk.specs.Plans.{fails, counted, write_fails, write_counted};
+    ghost use Rattle.disk.specs.Plans.{fails, operation_counted, write_fails, write_counted};
 
     ghost state = { disk_of_memory };
 
@@ -87,7 +88,8 @@ impl SectorDisk for MemDisk {
         // by the plan
         ensures planned { n < length self.old.reads →
             (IsErrOf result DiskFault.Device ↔ (fails self.old.counts ≡ true)) }
-        ensures counts { n < length self.old.reads → self.new.counts ≡ counted self.old.counts }
+        ensures counts { n < length self.old.reads →
+            self.new.counts ≡ operation_counted self.old.counts }
 
         // for a crash
         ensures same_synced { self.new.synced ≡ self.old.synced }
@@ -152,7 +154,7 @@ impl SectorDisk for MemDisk {
 
         // by the plan
         ensures planned { IsErrOf result DiskFault.Device ↔ (fails self.old.counts ≡ true) }
-        ensures counts { self.new.counts ≡ counted self.old.counts }
+        ensures counts { self.new.counts ≡ operation_counted self.old.counts }
 
         // for a crash
         ensures synced { OnOk result (self.new.synced ≡ self.old.reads) }
@@ -174,7 +176,7 @@ impl GrowingDisk for MemDisk {
     ghost use Rattle.disk.specs.Disk.{LeavesOnly, moment, left_since};
     ghost use Rattle.disk.specs.Growth.{grown_to, MayLeaveGrown, GrowthIsRefused, is_of_device};
     ghost use Rattle.disk.specs.Memory.{disk_of_memory};
-    ghost use Rattle.disk.specs.Plans.{fails, counted};
+    ghost use Rattle.disk.specs.Plans.{fails, operation_counted};
 
     #[tactic(auto, unfolding(crate::specs::Disk::left_since, crate::specs::Disk::moment))]
     fn grow(&mut self, alloc: Global, sectors: u32, most: u32) -> Result<(), GrowthFault>
@@ -198,9 +200,9 @@ impl GrowingDisk for MemDisk {
         // by the plan; it is one operation
         ensures planned { IsErrOf result GrowthFault.Device → fails self.old.counts ≡ true }
         ensures not_planned { OnOk result (fails self.old.counts ≡ false) }
-        ensures counts { OnOk result (self.new.counts ≡ counted self.old.counts) }
+        ensures counts { OnOk result (self.new.counts ≡ operation_counted self.old.counts) }
         ensures failed_counts { IsErrOf result GrowthFault.Device →
-            self.new.counts ≡ counted self.old.counts }
+            self.new.counts ≡ operation_counted self.old.counts }
 
         // for a crash
         ensures synced { OnOk result (self.new.synced ≡ self.new.reads) }
@@ -245,7 +247,7 @@ impl MemDisk {
         MemDisk::on(alloc, Image::blank(alloc, sectors)?, Plan::default())
     }
 
-    /// A disk that holds the whole sectors of these bytes, all of them synced.
+    /// A disk that holds the whole sectors of these bytes, fewer than 2^32, all of them synced.
     /// It answers `AllocError` where memory is refused.
     pub fn of(alloc: Global, image: Vec<u8>, plan: Plan) -> Result<MemDisk, AllocError>
         requires { length image.items / 512 < 2 ^ 32 }

@@ -41,7 +41,8 @@ impl Model for Schedule {
 }
 
 impl Schedule {
-    ghost use Rattle.disk.specs.Plans.{is_at, started, fails, counted, write_fails, write_counted};
+    ghost use Rattle.disk.specs.Plans.{is_at, started, fails, operation_counted};
+    ghost use Rattle.disk.specs.Plans.{write_fails, write_counted};
 
     fn is_at(planned: Option<u64>, number: u64) -> bool
         ensures { result ≡ is_at planned number }
@@ -67,7 +68,7 @@ impl Schedule {
     /// Counts an operation, and says whether it fails.
     pub fn fails(&mut self) -> bool
         ensures fails { result ≡ fails self.old }
-        ensures counts { self.new ≡ counted self.old }
+        ensures counts { self.new ≡ operation_counted self.old }
     {
         let fails = self.stopped || Schedule::is_at(self.plan.fail, self.operations);
         self.operations = self.operations.saturating_add(1);

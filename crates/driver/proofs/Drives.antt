@@ -4,7 +4,7 @@ use Rattle.std.specs.Prelude.{unwrap_or}
 use Rattle.coordinator.proofs.Driving.{carry, goes_keeps, joined, none_made, one_made, then_keeps}
 use Rattle.coordinator.specs.Crashes.{KeepsStanding}
 use Rattle.coordinator.specs.Drives.{Goes, IsStep}
-use Rattle.coordinator.specs.Session.{IsTold, Session, picture_of, running}
+use Rattle.coordinator.specs.Session.{IsToldSession, Session, picture_of, running}
 use Rattle.coordinator.specs.Steps.{move_of}
 use Rattle.coordinator.specs.declared.Step.{Step}
 use Rattle.disk.specs.Disk.{DiskState}
@@ -34,7 +34,7 @@ module _ {M P D : Type 0} (meaning : M → Meaning) (state : P → PortState) (d
       (one_made meaning state disk x.step x.answer old made.0 made.1) (goes_by xs made.0 new made.2)
 
   -- and are answered as those are
-  pub answered : (xs : List Made) (old new : Session M P D) → AreMade meaning state disk xs old new → IsTold (running meaning state old)
+  pub answered : (xs : List Made) (old new : Session M P D) → AreMade meaning state disk xs old new → IsToldSession (running meaning state old)
       → map (λ (k : Made). Some k.answer) xs ≡ answers_of (meaning old.model) old.end (moves_of xs) (picture_of (running meaning state old))
   answered [] old new made told = refl
   answered (x ∷ xs) old new made told =

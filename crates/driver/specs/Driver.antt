@@ -1,8 +1,10 @@
 -- What a driver does to a session (this project's profile): it makes steps of it, and nothing else.
-use Rattle.std.specs.Prelude.{Bool, true, false, ℕ, zero, suc, List, [], ◌∷◌, ◌++◌, ◌+◌, ◌%◌, ◌==◌, ◌&&◌, ◌||◌, nat_le, nat_lt, min, ◌<◌, ◌≤◌, if◌then◌else◌, ◌≡◌, length, map, Ok, Option, Some, unwrap_or}
+use Rattle.std.specs.Prelude.{Bool, true, false, ℕ, zero, suc, List, [], ◌∷◌, ◌++◌, ◌+◌, ◌%◌, ◌==◌}
+use Rattle.std.specs.Prelude.{◌&&◌, ◌||◌, nat_le, nat_lt, min, ◌<◌, ◌≤◌, if◌then◌else◌, ◌≡◌, length}
+use Rattle.std.specs.Prelude.{map, Ok, Option, Some, unwrap_or}
 use Rattle.coordinator.specs.Drives.{Goes, IsStep}
 use Rattle.coordinator.specs.Headline.{IsDriven as IsDrivenFrom}
-use Rattle.coordinator.specs.Session.{IsTold, Session, running}
+use Rattle.coordinator.specs.Session.{IsToldSession, Session, running}
 use Rattle.coordinator.specs.Steps.{move_of}
 use Rattle.coordinator.specs.declared.Step.{Step}
 use Rattle.disk.specs.Disk.{DiskState}
@@ -177,7 +179,7 @@ module _ {M P D : Type 0} (meaning : M → Meaning) (state : P → PortState) wh
   -- over ports that tell, the front is the sequential simulation up to the end
   abbrev pub IsFinished : ℕ → Session M P D → Session M P D → Type 0
   IsFinished end old new =
-      IsTold (running meaning state old) → IsUpto (meaning old.model) end end new.front
+      IsToldSession (running meaning state old) → IsUpto (meaning old.model) end end new.front
 
   -- Over whatever ports: a session was opened on a disk, at the front to which its records are
   -- replayed; so many rounds of it were made, and have come to this front; and a disk was left.
@@ -225,8 +227,8 @@ answers_of m end [] p = []
 answers_of m end (k ∷ ks) p =
     answer_of m end k p ∷ answers_of m end ks (unwrap_or (move m end k p) p)
 
--- all rounds of a run from this image are made, with the answers of its moves, and its front has not
--- come to the end
+-- all rounds of a run from this image are made, with the answers of its moves, and its front has
+-- not come to the end
 pub record IsUnfinished (m : Meaning) (end : ℕ) (plan : Plan) (image : List (List ℕ)) : Type 0 where
   pub made : List Made
   pub rounds_are : AreRounds plan end plan.rounds made

@@ -33,8 +33,8 @@ pub fn run_local<M: Simulated, D: SectorDisk + Drop, W: Watch>(
     requires few { plan.nodes ≤ 64 }
     requires begun { 1 ≤ end }
     requires short { end ≤ 2 ^ 40 }
-    // On a disk whose records are genuine all that is told is of the sequential simulation up to the
-    // end.
+    // On a disk whose records are genuine all that is told is of the sequential simulation up to
+    // the end.
     ensures finished { IsGenuine (M.meaning model.now) end (D.state disk).reads →
         IfOk result.told (λ told. IsRunOf (M.meaning model.now) end told.time told.events) }
     ensures reached { IfOk result.told (λ told. end ≤ told.time) }

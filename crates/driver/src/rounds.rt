@@ -33,7 +33,7 @@ pub enum Batch {
 /// How a session is driven.
 #[derive(Clone, Copy, Debug, PartialEq, Eq)]
 pub struct Plan {
-    /// How many nodes it has, 1 to 64.
+    /// How many nodes the session has, 1 to 64: the number of its ports.
     pub nodes: u32,
     /// How many messages a node may handle at a turn.
     pub batch: Batch,
@@ -45,8 +45,8 @@ pub struct Plan {
     /// After how many commits a checkpoint follows each time; 0 for none at all.
     pub checkpoint_every: u32,
     /// How many events have to be told since the last commit before a round ends with one; 0 for a
-    /// commit in each round. A round that comes to the end has one in any case. A record has room for
-    /// 299,593 events, those of the round that ends with the commit among them.
+    /// commit in each round. A round that comes to the end has one in any case. A record has room
+    /// for 299,593 events, those of the round that ends with the commit among them.
     pub commit_every: u32,
 }
 
@@ -111,10 +111,10 @@ pub fn run<M: Simulated, P: Port, D: SectorDisk, W: Watch>(
     ensures all_rounds { IsErrOf result RunFault.Rounds →
         IsDrivenBy M.meaning P.state D.state (AreRounds plan end plan.rounds)
         session.old session.new }
-    ensures count { IfOk result (λ ran. length ran.items ≡ plan.nodes) }
+    ensures count { IfOk result (λ handled_per_node. length handled_per_node.items ≡ plan.nodes) }
 {
-    let mut ran = Vec::new(alloc);
-    ran.resize(plan.nodes as usize, 0)?;
+    let mut handled_per_node = Vec::new(alloc);
+    handled_per_node.resize(plan.nodes as usize, 0)?;
     let mut tally = Tally::new(alloc, plan)?;
     watch.stored(session.used(), session.sectors());
     let mut made = 0;
@@ -129,25 +129,25 @@ pub fn run<M: Simulated, P: Port, D: SectorDisk, W: Watch>(
             end,
             plan,
             &mut tally,
-            ran.as_mut_slice(),
+            handled_per_node.as_mut_slice(),
             watch,
         )?;
     }
-    Ok(ran)
+    Ok(handled_per_node)
 }
 
-/// Makes a round: asks all nodes, and ends with a commit where one is due. There is a count for each
-/// node, to which what it handled is added.
+/// Makes a round: asks all nodes, and ends with a commit where one is due. There is a count for
+/// each node, to which what it handled is added.
 fn round<M: Simulated, P: Port, D: SectorDisk, W: Watch>(
     alloc: Global,
     session: &mut Session<'_, M, P, D>,
     end: u64,
     plan: Plan,
     tally: &mut Tally,
-    ran: &mut [u64],
+    handled_per_node: &mut [u64],
     watch: &mut W,
 ) -> Result<(), RunFault>
-    requires counts { length ran.old ≡ plan.nodes }
+    requires counts { length handled_per_node.old ≡ plan.nodes }
     requires budgets { length tally.old.budgets.items ≡ plan.nodes }
     requires commits { tally.old.commits < 2 ^ 32 - 1 }
     ensures driven { (told : ℕ) → tally.old.wanted ≡ plan.commit_every - told →
@@ -160,12 +160,12 @@ fn round<M: Simulated, P: Port, D: SectorDisk, W: Watch>(
     ensures rounds { IsErrOf result RunFault.Rounds → ⊥ }
 {
     tally.begin_round(end);
-    ask(alloc, session, plan, tally, ran, watch)?;
+    ask(alloc, session, plan, tally, handled_per_node, watch)?;
     close(session, end, plan, tally, watch)
 }
 
-/// Ends a round: with a commit where one is due, of which the watch is told, and a checkpoint behind
-/// it where its turn has come.
+/// Ends a round: with a commit where one is due, of which the watch is told, and a checkpoint
+/// behind it where its turn has come.
 fn close<M: Simulated, P: Port, D: SectorDisk, W: Watch>(
     session: &mut Session<'_, M, P, D>,
     end: u64,
@@ -245,13 +245,14 @@ fn ask<M: Simulated, P: Port, D: SectorDisk, W: Watch>(
     session: &mut Session<'_, M, P, D>,
     plan: Plan,
     tally: &mut Tally,
-    ran: &mut [u64],
+    handled_per_node: &mut [u64],
     watch: &mut W,
 ) -> Result<(), RunFault>
-    requires counts { length ran.old ≡ plan.nodes }
+    requires counts { length handled_per_node.old ≡ plan.nodes }
     requires budgets { length tally.old.budgets.items ≡ plan.nodes }
     ensures driven { OnOk result (IsDrivenBy M.meaning P.state D.state
-        (Tallied plan.commit_every (AreAsked plan.together plan.batch plan.nodes) tally.old tally.new)
+        (Tallied plan.commit_every (AreAsked plan.together plan.batch plan.nodes) tally.old
+        tally.new)
         session.old session.new) }
     ensures commits { tally.new.commits ≡ tally.old.commits }
     ensures budgets { length tally.new.budgets.items ≡ length tally.old.budgets.items }
@@ -260,9 +261,9 @@ fn ask<M: Simulated, P: Port, D: SectorDisk, W: Watch>(
 {
     if plan.together {
         post_all(alloc, session, plan, tally)?;
-        take_all(session, plan, tally, ran, watch)
+        take_all(session, plan, tally, handled_per_node, watch)
     } else {
-        turns(alloc, session, plan, tally, ran, watch)
+        turns(alloc, session, plan, tally, handled_per_node, watch)
     }
 }
 
@@ -272,10 +273,10 @@ fn turns<M: Simulated, P: Port, D: SectorDisk, W: Watch>(
     session: &mut Session<'_, M, P, D>,
     plan: Plan,
     tally: &mut Tally,
-    ran: &mut [u64],
+    handled_per_node: &mut [u64],
     watch: &mut W,
 ) -> Result<(), RunFault>
-    requires counts { length ran.old ≡ plan.nodes }
+    requires counts { length handled_per_node.old ≡ plan.nodes }
     requires budgets { length tally.old.budgets.items ≡ plan.nodes }
     ensures driven { OnOk result (IsDrivenBy M.meaning P.state D.state
         (Tallied plan.commit_every (AreTurns plan.batch plan.nodes) tally.old tally.new)
@@ -286,7 +287,7 @@ fn turns<M: Simulated, P: Port, D: SectorDisk, W: Watch>(
     ensures rounds { IsErrOf result RunFault.Rounds → ⊥ }
 {
     'nodes: for node in 0..plan.nodes {
-        turn(alloc, session, node, plan, tally, ran, watch)?;
+        turn(alloc, session, node, plan, tally, handled_per_node, watch)?;
     }
     Ok(())
 }
@@ -318,10 +319,10 @@ fn take_all<M: Simulated, P: Port, D: SectorDisk, W: Watch>(
     session: &mut Session<'_, M, P, D>,
     plan: Plan,
     tally: &mut Tally,
-    ran: &mut [u64],
+    handled_per_node: &mut [u64],
     watch: &mut W,
 ) -> Result<(), RunFault>
-    requires counts { length ran.old ≡ plan.nodes }
+    requires counts { length handled_per_node.old ≡ plan.nodes }
     requires budgets { length tally.old.budgets.items ≡ plan.nodes }
     ensures driven { OnOk result (IsDrivenBy M.meaning P.state D.state
         (Tallied plan.commit_every (λ moves. moves ≡ takes_of plan.nodes) tally.old tally.new)
@@ -332,7 +333,7 @@ fn take_all<M: Simulated, P: Port, D: SectorDisk, W: Watch>(
     ensures rounds { IsErrOf result RunFault.Rounds → ⊥ }
 {
     'nodes: for node in 0..plan.nodes {
-        take(session, node, tally, ran, watch)?;
+        take(session, node, tally, handled_per_node, watch)?;
     }
     Ok(())
 }
@@ -344,21 +345,22 @@ fn turn<M: Simulated, P: Port, D: SectorDisk, W: Watch>(
     node: u32,
     plan: Plan,
     tally: &mut Tally,
-    ran: &mut [u64],
+    handled_per_node: &mut [u64],
     watch: &mut W,
 ) -> Result<(), RunFault>
     requires node { node < plan.nodes }
-    requires counts { node < length ran.old }
+    requires counts { node < length handled_per_node.old }
     requires budgets { node < length tally.old.budgets.items }
     ensures driven { OnOk result (IsDrivenBy M.meaning P.state D.state
-        (Tallied plan.commit_every (IsTurn plan.batch node) tally.old tally.new) session.old session.new) }
+        (Tallied plan.commit_every (IsTurn plan.batch node) tally.old tally.new) session.old
+        session.new) }
     ensures commits { tally.new.commits ≡ tally.old.commits }
     ensures budgets { length tally.new.budgets.items ≡ length tally.old.budgets.items }
     ensures keeps { KeepsStanding M.meaning P.state D.state session.old session.new }
     ensures rounds { IsErrOf result RunFault.Rounds → ⊥ }
 {
     post(alloc, session, node, plan, tally)?;
-    take(session, node, tally, ran, watch)
+    take(session, node, tally, handled_per_node, watch)
 }
 
 /// Posts a node all that is in transit for it.
@@ -372,7 +374,8 @@ fn post<M: Simulated, P: Port, D: SectorDisk>(
     requires node { node < plan.nodes }
     requires budgets { node < length tally.old.budgets.items }
     ensures driven { OnOk result (IsDrivenBy M.meaning P.state D.state
-        (Tallied plan.commit_every (IsPost plan.batch node) tally.old tally.new) session.old session.new) }
+        (Tallied plan.commit_every (IsPost plan.batch node) tally.old tally.new) session.old
+        session.new) }
     ensures commits { tally.new.commits ≡ tally.old.commits }
     ensures budgets { tally.new.budgets ≡ tally.old.budgets }
     ensures keeps { KeepsStanding M.meaning P.state D.state session.old session.new }
@@ -397,10 +400,10 @@ fn take<M: Simulated, P: Port, D: SectorDisk, W: Watch>(
     session: &mut Session<'_, M, P, D>,
     node: u32,
     tally: &mut Tally,
-    ran: &mut [u64],
+    handled_per_node: &mut [u64],
     watch: &mut W,
 ) -> Result<(), RunFault>
-    requires counts { node < length ran.old }
+    requires counts { node < length handled_per_node.old }
     requires budgets { node < length tally.old.budgets.items }
     ensures driven { (every : ℕ) → OnOk result (IsDrivenBy M.meaning P.state D.state
         (Tallied every (λ moves. moves ≡ TakeMove node ∷ []) tally.old tally.new)
@@ -415,7 +418,7 @@ fn take<M: Simulated, P: Port, D: SectorDisk, W: Watch>(
     watch.turned(&tally.turn(node, &answer));
     if let Answer::Taken { ran: handled, .. } = answer {
         let place = node as usize;
-        ran[place] = ran[place].saturating_add(u64::from(handled));
+        handled_per_node[place] = handled_per_node[place].saturating_add(u64::from(handled));
     }
     Ok(())
 }

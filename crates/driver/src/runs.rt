@@ -13,7 +13,7 @@ use model::Model as Simulated;
 use std::alloc::Global;
 use wire::Port;
 
-/// What a run that came to its end has to tell.
+/// The result of a finished run.
 #[derive(Drop)]
 pub struct Finished {
     /// How many messages each node handled, those too that were undone again.
@@ -39,8 +39,8 @@ pub struct Ran<D> {
 ///
 /// The faults are those of the session's opening and steps (`Session`), of the rounds (`Rounds`),
 /// and `NoMemory` where memory is refused. Over ports that tell their nodes, which run this model,
-/// what was committed stands on the disk, whatever is answered. Of other ports no more is known than
-/// that they are asked as the plan says.
+/// what was committed stands on the disk, whatever is answered. Of other ports no more is known
+/// than that they are asked as the plan says.
 pub fn run_over<M: Simulated, P: Port + Drop, D: SectorDisk + Drop, W: Watch>(
     alloc: Global,
     model: &M,

@@ -1,6 +1,7 @@
 // What a run counts of its steps.
 
-ghost use Rattle.std.specs.Prelude.{◌≡◌, ◌<◌, ◌≤◌, ◌+◌, ◌-◌, ◌^◌, ◌||◌, IfOk, get_or, length, nat_le, set};
+ghost use Rattle.std.specs.Prelude.{◌≡◌, ◌<◌, ◌≤◌, ◌+◌, ◌-◌, ◌^◌, ◌||◌, IfOk, get_or, length};
+ghost use Rattle.std.specs.Prelude.{nat_le, set};
 ghost use Rattle.driver.specs.Budgets.{budget_answered, first_budget};
 ghost use Rattle.driver.specs.Driver.{IsBudget, least_of, told_of};
 ghost use Rattle.driver.specs.Tallies.{turn_answered};

@@ -10,7 +10,7 @@ pub struct Listed<T: Drop> {
     items: Vec<T>,
 }
 
-// Written out, so that whoever drops one proves nothing of its parts.
+// Not derived: each caller that drops one would prove again how its parts are dropped.
 impl<T: Drop> Drop for Listed<T> {
     fn drop(self) {
         let Listed { items: _ } = self;

@@ -1,5 +1,5 @@
-//! Simulates a token ring over three nodes to its end, on a disk in memory and on a file, and prints
-//! what each of them then has committed.
+//! Simulates a token ring over three nodes to its end, on a disk in memory and on a file, and
+//! prints what each of them then has committed.
 #![tactic(auto)]
 
 use disk::{FileDisk, MemDisk, SectorDisk};

@@ -7,7 +7,7 @@ use Rattle.node.specs.declared.Load.{Load}
 use Rattle.node.specs.declared.Parcel.{Parcel}
 use Rattle.node.specs.declared.Part.{Part}
 use Rattle.model.specs.Spelling.{words_bytes}
-use Rattle.frames.specs.Bodies.{counted, load_bytes, parcel_bytes, part_bytes}
+use Rattle.frames.specs.Bodies.{counted_bytes, load_bytes, parcel_bytes, part_bytes}
 
 behind : (v w z x y : List ℕ) → w ≡ v ++ x → z ≡ w ++ y → z ≡ v ++ (x ++ y)
 behind v w z x y e f = f ∙ ap (λ (l : List ℕ). l ++ y) e ∙ append_assoc v x y
@@ -24,7 +24,7 @@ module _ (v0 v1 v2 v3 v4 : List ℕ) where
       v5 ≡ v4 ++ flat_map message_bytes p.pending → v5 ≡ v0 ++ part_bytes p
   unfolding part_bytes
   part_joined v5 p e1 e2 e3 e4 e5 =
-      let pending = counted 4 message_bytes p.pending in
+      let pending = counted_bytes 4 message_bytes p.pending in
       let words = words_bytes p.words in
       behind v0 v1 v5 (big_bytes 4 p.lp) (big_bytes 8 p.number ++ (words ++ pending)) e1
       (behind v1 v2 v5 (big_bytes 8 p.number) (words ++ pending) e2
@@ -34,7 +34,7 @@ module _ (v0 v1 v2 v3 v4 : List ℕ) where
       v5 ≡ v4 ++ big_bytes 4 (length l.parts) → v6 ≡ v5 ++ flat_map part_bytes l.parts → v6 ≡ v0 ++ load_bytes l
   unfolding load_bytes
   load_joined v5 v6 l e1 e2 e3 e4 e5 e6 =
-      let parts = counted 4 part_bytes l.parts in
+      let parts = counted_bytes 4 part_bytes l.parts in
       behind v0 v1 v6 (big_bytes 4 l.node) (big_bytes 4 l.nodes ++ (big_bytes 8 l.end ++ (big_bytes 8 l.floor ++ parts))) e1
       (behind v1 v2 v6 (big_bytes 4 l.nodes) (big_bytes 8 l.end ++ (big_bytes 8 l.floor ++ parts)) e2
       (behind v2 v3 v6 (big_bytes 8 l.end) (big_bytes 8 l.floor ++ parts) e3

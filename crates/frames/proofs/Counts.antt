@@ -16,7 +16,7 @@ use Rattle.node.specs.declared.Reply.{Reply}
 use Rattle.process.specs.View.{IsDoneInRange}
 use Rattle.process.specs.declared.Done.{Done}
 use Rattle.wire.specs.Port.{IsLoadInRange}
-use Rattle.frames.specs.Bodies.{counted, done_bytes, load_bytes, low_bytes, parcel_bytes, part_bytes, reply_bytes}
+use Rattle.frames.specs.Bodies.{counted_bytes, done_bytes, load_bytes, low_bytes, parcel_bytes, part_bytes, reply_bytes}
 use Rattle.frames.specs.Ranges.{IsDone, IsLoad, IsParcel, IsPart, IsReply}
 
 pub words_fit : (words : List ℕ) → All (λ (w : ℕ). w < 2 ^ 64) words → Every (λ (w : ℕ). w < 2 ^ 64) words
@@ -35,8 +35,8 @@ module _ {X : Type 0} (spelled : X → List ℕ) where
       (omega (arith, both, h), each_short most xs (omega (arith, both, h)))
 
   -- what is counted is no longer than all that it stands in
-  counted_within : (xs : List X) (rest : List ℕ) → length (flat_map spelled xs) ≤ length (counted 4 spelled xs ++ rest)
-  counted_within xs rest = omega (arith, length-append (counted 4 spelled xs) rest, length-append (big_bytes 4 (length xs)) (flat_map spelled xs))
+  counted_within : (xs : List X) (rest : List ℕ) → length (flat_map spelled xs) ≤ length (counted_bytes 4 spelled xs ++ rest)
+  counted_within xs rest = omega (arith, length-append (counted_bytes 4 spelled xs) rest, length-append (big_bytes 4 (length xs)) (flat_map spelled xs))
 
 some_message : (x : Message) → 1 ≤ length (message_bytes x)
 some_message x = omega (arith, spellings_are_as_long.0 x)
@@ -98,8 +98,8 @@ done_fits d message sent after is = record {
 pub reply_fits : (r : Reply) → Every (λ (s : Signed). IsRanged s.message) r.out → Every (λ (d : Done). IsDoneInRange d → IsDone d) r.fossils → r.ran < 2 ^ 32 → IsReplyInRange r → length (reply_bytes r) ≤ 2 ^ 24 → IsReply r
 unfolding reply_bytes
 reply_fits r out fossils ran is short =
-    let told = counted 4 done_bytes r.fossils ++ big_bytes 4 r.ran in
-    let behind = length-append (counted 4 signed_bytes r.out) (low_bytes r.low ++ told) in
+    let told = counted_bytes 4 done_bytes r.fossils ++ big_bytes 4 r.ran in
+    let behind = length-append (counted_bytes 4 signed_bytes r.out) (low_bytes r.low ++ told) in
     record {
       count = omega (arith, counted_within signed_bytes r.out (low_bytes r.low ++ told), few signed_bytes some_signed r.out, short);
       out = out;

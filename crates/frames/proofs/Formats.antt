@@ -7,7 +7,7 @@ use Rattle.std.proofs.lemmas.Option.{same_Some}
 use Rattle.byteorder.specs.Endian.{big_bytes}
 use Rattle.eventkey.specs.Reading.{IsBytes, ◌>>=◌, Reader, number_at, items_at}
 use Rattle.eventkey.proofs.Fields.{IsFormat, IsStep, Takes, Takes-then, bind_some, format1, format4, items_again, items_take, step_of, when_some}
-use Rattle.frames.specs.Bodies.{counted, counted_at}
+use Rattle.frames.specs.Bodies.{counted_bytes, counted_at}
 
 -- 1. A reader that begins with another one, over what was written
 
@@ -34,7 +34,7 @@ pick b k x f more e = elim (cases_Bool (nat_eq b k)) [
 module _ {X Y : Type 0} {Fits : X → Type 0} {write : X → List ℕ} {read : Reader X} (format : IsFormat Fits write read) where
   pub counted_step : (bytes : List ℕ) → IsBytes bytes → (f : List X × List ℕ → Option Y) (y : Y) →
       (number_at 4 bytes >>= λ count. items_at read count.0 count.1 >>= f) ≡ Some y →
-      IsStep (λ (xs : List X). (length xs < 2 ^ 32) × Every Fits xs) (counted 4 write) bytes f y
+      IsStep (λ (xs : List X). (length xs < 2 ^ 32) × Every Fits xs) (counted_bytes 4 write) bytes f y
   counted_step bytes fits f y e =
       let n = step_of format4 bytes fits (λ count. items_at read count.0 count.1 >>= f) y e in
       let b = bind_some (items_at read n.got.0 n.got.1) f y n.rest in
@@ -48,15 +48,15 @@ module _ {X Y : Type 0} {Fits : X → Type 0} {write : X → List ℕ} {read : R
       }
 
   pub counted_last : (xs : List X) (rest : List ℕ) (f : List X × List ℕ → Option Y) → length xs < 2 ^ 32 → Every Fits xs →
-      (number_at 4 (counted 4 write xs ++ rest) >>= λ count. items_at read count.0 count.1 >>= f) ≡ f (xs, rest)
+      (number_at 4 (counted_bytes 4 write xs ++ rest) >>= λ count. items_at read count.0 count.1 >>= f) ≡ f (xs, rest)
   counted_last xs rest f few fits =
       again_step format4 (length xs) (flat_map write xs) rest (λ count. items_at read count.0 count.1 >>= f) few
       ∙ ap (λ (o : Option (List X × List ℕ)). o >>= f) (items_again Fits write read format xs rest fits)
 
   pub counted_again : (xs : List X) (tail rest : List ℕ) (f : List X × List ℕ → Option Y) → length xs < 2 ^ 32 → Every Fits xs →
-      (number_at 4 ((counted 4 write xs ++ tail) ++ rest) >>= λ count. items_at read count.0 count.1 >>= f) ≡ f (xs, tail ++ rest)
+      (number_at 4 ((counted_bytes 4 write xs ++ tail) ++ rest) >>= λ count. items_at read count.0 count.1 >>= f) ≡ f (xs, tail ++ rest)
   counted_again xs tail rest f few fits =
-      ap (λ (b : List ℕ). number_at 4 b >>= λ count. items_at read count.0 count.1 >>= f) (append_assoc (counted 4 write xs) tail rest)
+      ap (λ (b : List ℕ). number_at 4 b >>= λ count. items_at read count.0 count.1 >>= f) (append_assoc (counted_bytes 4 write xs) tail rest)
       ∙ counted_last xs (tail ++ rest) f few fits
 
 -- a count of one byte, at most so much
@@ -64,7 +64,7 @@ module _ {X : Type 0} {Fits : X → Type 0} {write : X → List ℕ} {read : Rea
   abbrev pub Few : List X → Type 0
   Few xs = (length xs ≤ most) × Every Fits xs
 
-  few_takes : (bytes : List ℕ) (x : List X × List ℕ) → IsBytes bytes → counted_at 1 most read bytes ≡ Some x → Takes bytes (counted 1 write x.0) x.1 × Few x.0
+  few_takes : (bytes : List ℕ) (x : List X × List ℕ) → IsBytes bytes → counted_at 1 most read bytes ≡ Some x → Takes bytes (counted_bytes 1 write x.0) x.1 × Few x.0
   few_takes bytes x fits e =
       let n = step_of format1 bytes fits (λ count. cond (nat_le count.0 most) (items_at read count.0 count.1) None) x e in
       let is = when_some (nat_le n.got.0 most) (items_at read n.got.0 n.got.1) x n.rest in
@@ -74,11 +74,11 @@ module _ {X : Type 0} {Fits : X → Type 0} {write : X → List ℕ} {read : Rea
         (subst (λ (k : ℕ). k ≤ most) (sym t.1) (leb-true n.got.0 most is.0), t.2),
       )
 
-  few_again : (xs : List X) (rest : List ℕ) → Few xs → counted_at 1 most read (counted 1 write xs ++ rest) ≡ Some (xs, rest)
+  few_again : (xs : List X) (rest : List ℕ) → Few xs → counted_at 1 most read (counted_bytes 1 write xs ++ rest) ≡ Some (xs, rest)
   few_again xs rest fits =
       let few = fits.0 in
       again_step format1 (length xs) (flat_map write xs) rest (λ count. cond (nat_le count.0 most) (items_at read count.0 count.1) None) (omega arith)
       ∙ rw (le-leb (length xs) most few) (items_again Fits write read format xs rest fits.1)
 
-  pub few_format : IsFormat Few (counted 1 write) (counted_at 1 most read)
+  pub few_format : IsFormat Few (counted_bytes 1 write) (counted_at 1 most read)
   few_format = record { takes = few_takes; again = few_again }

@@ -14,7 +14,7 @@ use Rattle.model.proofs.Spelling.{words_format}
 use Rattle.model.specs.Spelling.{words_at, words_bytes}
 use Rattle.node.specs.declared.Part.{Part}
 use Rattle.process.specs.declared.Done.{Done}
-use Rattle.frames.specs.Bodies.{counted, counted_at, done_at, done_bytes, low_at, low_bytes, part_at, part_bytes}
+use Rattle.frames.specs.Bodies.{counted_bytes, counted_at, done_at, done_bytes, low_at, low_bytes, part_at, part_bytes}
 use Rattle.frames.specs.Ranges.{IsDone, IsPart}
 use Rattle.frames.proofs.Formats.{again_last, again_step, counted_last, counted_step, few_format}
 
@@ -56,7 +56,7 @@ part_again : (p : Part) (rest : List ℕ) → IsPart p → part_at (part_bytes p
 unfolding part_at part_bytes
 part_again p rest is =
     let n = is.number in
-    let pending = counted 4 message_bytes p.pending in
+    let pending = counted_bytes 4 message_bytes p.pending in
     again_step format4 p.lp (big_bytes 8 p.number ++ (words_bytes p.words ++ pending)) rest part_after_lp is.lp
     ∙ again_step format8 p.number (words_bytes p.words ++ pending) rest (part_after_number p.lp) (omega arith)
     ∙ again_step words_format p.words pending rest (part_after_words p.lp p.number) is.words
@@ -121,7 +121,7 @@ done_after_sent message sent = words_at sent.1 >>= done_after_words message sent
 abbrev done_after_message : Message × List ℕ → Option (Done × List ℕ)
 done_after_message message = counted_at 1 8 message_at message.1 >>= done_after_sent message.0
 
-sent_format : IsFormat (λ (sent : List Message). (length sent ≤ 8) × Every IsRanged sent) (counted 1 message_bytes) (counted_at 1 8 message_at)
+sent_format : IsFormat (λ (sent : List Message). (length sent ≤ 8) × Every IsRanged sent) (counted_bytes 1 message_bytes) (counted_at 1 8 message_at)
 sent_format = few_format message_format 8 (omega arith)
 
 done_takes : (bytes : List ℕ) (x : Done × List ℕ) → IsBytes bytes → done_at bytes ≡ Some x → Takes bytes (done_bytes x.0) x.1 × IsDone x.0
@@ -141,7 +141,7 @@ done_again : (d : Done) (rest : List ℕ) → IsDone d → done_at (done_bytes d
 unfolding done_at done_bytes
 done_again d rest is =
     let n = is.number in
-    again_step message_format d.message (counted 1 message_bytes d.sent ++ (words_bytes d.after ++ big_bytes 8 d.number_after)) rest done_after_message is.message
+    again_step message_format d.message (counted_bytes 1 message_bytes d.sent ++ (words_bytes d.after ++ big_bytes 8 d.number_after)) rest done_after_message is.message
     ∙ again_step sent_format d.sent (words_bytes d.after ++ big_bytes 8 d.number_after) rest (done_after_sent d.message) (is.few, is.sent)
     ∙ again_step words_format d.after (big_bytes 8 d.number_after) rest (done_after_words d.message d.sent) is.after
     ∙ again_last format8 d.number_after rest (done_told d.message d.sent d.after) (omega arith)

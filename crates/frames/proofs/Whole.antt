@@ -17,7 +17,7 @@ use Rattle.node.specs.declared.Parcel.{Parcel}
 use Rattle.node.specs.declared.Part.{Part}
 use Rattle.node.specs.declared.Reply.{Reply}
 use Rattle.process.specs.declared.Done.{Done}
-use Rattle.frames.specs.Bodies.{counted, done_at, done_bytes, fault_bytes, fault_in, fault_of, is_place, load_bytes, load_in, low_at, low_bytes, number_of, parcel_bytes, parcel_in, part_at, part_bytes, reply_bytes, reply_in}
+use Rattle.frames.specs.Bodies.{counted_bytes, done_at, done_bytes, fault_bytes, fault_in, fault_of, is_place, load_bytes, load_in, low_at, low_bytes, number_of, parcel_bytes, parcel_in, part_at, part_bytes, reply_bytes, reply_in}
 use Rattle.frames.specs.Ranges.{IsLoad, IsParcel, IsReply}
 use Rattle.frames.proofs.Formats.{again_last, again_step, counted_again, counted_last, counted_step, pick, whole}
 use Rattle.frames.proofs.Items.{Field, done_format, low_format, part_format}
@@ -97,7 +97,7 @@ load_again l rest is =
     let nodes = is.nodes in
     let end = is.end in
     let floor = is.floor in
-    let parts = counted 4 part_bytes l.parts in
+    let parts = counted_bytes 4 part_bytes l.parts in
     again_step format4 l.node (big_bytes 4 l.nodes ++ (big_bytes 8 l.end ++ (big_bytes 8 l.floor ++ parts))) rest load_after_node (omega arith)
     ∙ again_step format4 l.nodes (big_bytes 8 l.end ++ (big_bytes 8 l.floor ++ parts)) rest (load_after_nodes l.node) (omega arith)
     ∙ again_step format8 l.end (big_bytes 8 l.floor ++ parts) rest (load_after_end l.node l.nodes) (omega arith)
@@ -180,7 +180,7 @@ reply_takes bytes r fits e =
 pub reply_again : (r : Reply) (rest : List ℕ) → IsReply r → reply_in (reply_bytes r ++ rest) ≡ alone rest r
 unfolding reply_in reply_bytes
 reply_again r rest is =
-    let fossils = counted 4 done_bytes r.fossils in
+    let fossils = counted_bytes 4 done_bytes r.fossils in
     counted_again signed_format r.out (low_bytes r.low ++ (fossils ++ big_bytes 4 r.ran)) rest reply_after_out is.count is.out
     ∙ again_step low_format r.low (fossils ++ big_bytes 4 r.ran) rest (reply_after_low r.out) is.low
     ∙ counted_again done_format r.fossils (big_bytes 4 r.ran) rest (reply_after_fossils r.out r.low) is.told is.fossils

@@ -22,23 +22,23 @@ use Rattle.frames.specs.declared.Kind.TheVariants as kind
 -- 1. How they are spelled
 
 -- how many there are, in so many bytes, and then they
-abbrev pub counted : {X : Type 0} → ℕ → (X → List ℕ) → List X → List ℕ
-counted n spelled xs = big_bytes n (length xs) ++ flat_map spelled xs
+abbrev pub counted_bytes : {X : Type 0} → ℕ → (X → List ℕ) → List X → List ℕ
+counted_bytes n spelled xs = big_bytes n (length xs) ++ flat_map spelled xs
 
 unfoldable pub part_bytes : Part → List ℕ
 part_bytes p =
     big_bytes 4 p.lp
-    ++ (big_bytes 8 p.number ++ (words_bytes p.words ++ counted 4 message_bytes p.pending))
+    ++ (big_bytes 8 p.number ++ (words_bytes p.words ++ counted_bytes 4 message_bytes p.pending))
 
 unfoldable pub load_bytes : Load → List ℕ
 load_bytes l =
     big_bytes 4 l.node
     ++ (big_bytes 4 l.nodes
-    ++ (big_bytes 8 l.end ++ (big_bytes 8 l.floor ++ counted 4 part_bytes l.parts)))
+    ++ (big_bytes 8 l.end ++ (big_bytes 8 l.floor ++ counted_bytes 4 part_bytes l.parts)))
 
 unfoldable pub parcel_bytes : Parcel → List ℕ
 parcel_bytes p =
-    counted 4 signed_bytes p.deliver ++ (big_bytes 4 p.budget ++ big_bytes 8 p.floor)
+    counted_bytes 4 signed_bytes p.deliver ++ (big_bytes 4 p.budget ++ big_bytes 8 p.floor)
 
 -- a time, where there is one
 unfoldable pub low_bytes : Option ℕ → List ℕ
@@ -48,12 +48,12 @@ low_bytes (Some time) = big_bytes 1 1 ++ big_bytes 8 time
 unfoldable pub done_bytes : Done → List ℕ
 done_bytes d =
     message_bytes d.message
-    ++ (counted 1 message_bytes d.sent ++ (words_bytes d.after ++ big_bytes 8 d.number_after))
+    ++ (counted_bytes 1 message_bytes d.sent ++ (words_bytes d.after ++ big_bytes 8 d.number_after))
 
 unfoldable pub reply_bytes : Reply → List ℕ
 reply_bytes r =
-    counted 4 signed_bytes r.out
-    ++ (low_bytes r.low ++ (counted 4 done_bytes r.fossils ++ big_bytes 4 r.ran))
+    counted_bytes 4 signed_bytes r.out
+    ++ (low_bytes r.low ++ (counted_bytes 4 done_bytes r.fossils ++ big_bytes 4 r.ran))
 
 abbrev pub number_of : NodeFault → ℕ
 number_of node.NotMine = 1

@@ -24,7 +24,11 @@ abbrev pub cut_body : ℕ → List ℕ → Option Kind → Cut Raw
 cut_body n bytes None = fails BadKind bytes
 cut_body n bytes (Some kind) =
     if nat_lt (length bytes) n then fails Truncated []
-    else record { found = Ok (Some (record { kind = kind; body = take n bytes })); rest = drop n bytes }
+    else record {
+      found = Ok (Some (record { kind = kind; body = take n bytes }));
+      rest = drop n
+          bytes;
+    }
 
 abbrev pub cut_kind : ℕ → List ℕ → Cut Raw
 cut_kind n [] = fails Truncated []

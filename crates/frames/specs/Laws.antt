@@ -36,7 +36,8 @@ pub record IsBodyOf (kind : Kind) (body : List ℕ) (f : Frame) : Type 0 where
 
 abbrev pub BodiesAreSpelled : Type 0
 BodiesAreSpelled =
-    (kind : Kind) (body : List ℕ) (f : Frame) → IsBytes body → frame_in kind body ≡ Some f → IsBodyOf kind body f
+    (kind : Kind) (body : List ℕ) (f : Frame) → IsBytes body → frame_in kind body ≡ Some f →
+    IsBodyOf kind body f
 
 -- behind a body that is read there is no further byte
 abbrev pub NoByteIsLeftOver : Type 0

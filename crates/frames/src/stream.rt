@@ -1,6 +1,7 @@
 // Frames are read from a stream.
 
-ghost use Rattle.std.specs.Prelude.{◌≡◌, ◌<◌, ◌≤◌, ◌++◌, ◌^◌, IfOk, OnErr, length, take, Option, Ok, Err, Some, None, List, ℕ};
+ghost use Rattle.std.specs.Prelude.{◌≡◌, ◌<◌, ◌≤◌, ◌++◌, ◌^◌, IfOk, OnErr, length, take, Option};
+ghost use Rattle.std.specs.Prelude.{Ok, Err, Some, None, List, ℕ};
 ghost use Rattle.std.specs.Io.KnownBytes.{Consumes, IsAtEnd};
 ghost use Rattle.frames.specs.Bodies.{kind_of};
 ghost use Rattle.frames.specs.Cutting.{cut, frame_cut};
@@ -30,9 +31,11 @@ pub struct Raw {
 /// Reads until the buffer is full or the input has ended, and answers how many bytes came.
 fn fill<R: Read>(reader: &mut R, buffer: &mut [u8]) -> io::Result<usize>
     ensures bound { IfOk result (λ n. n ≤ length buffer.new) }
-    ensures bytes { IfOk result (λ n. Consumes (R.remaining reader.old) (R.remaining reader.new) (take n buffer.new)) }
+    ensures bytes { IfOk result (λ n. Consumes (R.remaining reader.old) (R.remaining reader.new)
+        (take n buffer.new)) }
     ensures end { IfOk result (λ n. n < length buffer.new → IsAtEnd (R.remaining reader.new)) }
-    ensures err { OnErr result (GivesUpTo (length buffer.new) (R.remaining reader.old) (R.remaining reader.new)) }
+    ensures err { OnErr result (GivesUpTo (length buffer.new) (R.remaining reader.old)
+        (R.remaining reader.new)) }
 {
     let mut filled = 0;
     for _ in 0..u64::MAX {

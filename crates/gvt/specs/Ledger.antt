@@ -1,6 +1,7 @@
 -- The ledger of a running system: what travels, what the nodes told last, and the floor that
 -- follows (global virtual time: Jefferson 1985, Fujimoto 1990).
-use Rattle.std.specs.Prelude.{ℕ, List, [], ◌∷◌, min, Option, Some, None, ◌++◌, map, flat_map, Bool, is_some, get_or, set, length, ◌&&◌, replicate}
+use Rattle.std.specs.Prelude.{ℕ, List, [], ◌∷◌, min, Option, Some, None, ◌++◌, map, flat_map, Bool}
+use Rattle.std.specs.Prelude.{is_some, get_or, set, length, ◌&&◌, replicate}
 use Rattle.eventkey.specs.Bag.{least_time}
 use Rattle.eventkey.specs.declared.Signed.{Signed}
 use Rattle.node.specs.declared.Parcel.{Parcel}
@@ -23,7 +24,8 @@ delivered_by (Some parcel) = parcel.deliver
 abbrev pub ledger_floor : ℕ → List Signed → List (Option Parcel) → List (Option ℕ) → ℕ
 ledger_floor end transit parcels lows =
     least_low
-    (least_time end (map (λ (s : Signed). s.message) (transit ++ flat_map delivered_by parcels))) lows
+    (least_time end (map (λ (s : Signed). s.message) (transit ++ flat_map delivered_by parcels)))
+    lows
 
 abbrev pub least_floor : ℕ → List ℕ → ℕ  -- of a time and of the floors that nodes have answered
 least_floor t [] = t

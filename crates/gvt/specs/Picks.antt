@@ -1,5 +1,6 @@
 -- Picks: places in transit whose messages a node is posted.
-use Rattle.std.specs.Prelude.{ℕ, Bool, false, List, [], ◌∷◌, nat_eq, ◌||◌, true, ◌&&◌, not, map, get_or, ◌+◌, if◌then◌else◌, length, nat_lt}
+use Rattle.std.specs.Prelude.{ℕ, Bool, false, List, [], ◌∷◌, nat_eq, ◌||◌, true, ◌&&◌, not, map}
+use Rattle.std.specs.Prelude.{get_or, ◌+◌, if◌then◌else◌, length, nat_lt}
 use Rattle.eventkey.specs.Message.{zero_message}
 use Rattle.eventkey.specs.Signed.{plus}
 use Rattle.eventkey.specs.declared.Signed.{Signed}

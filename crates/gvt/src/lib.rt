@@ -72,7 +72,7 @@ pub struct Ledger {
     accounts: Vec<Account>,
 }
 
-// Written out, so that whoever drops one proves nothing of its parts.
+// Not derived: each caller that drops one would prove again how its parts are dropped.
 impl Drop for Ledger {
     fn drop(self) {
         let Ledger {
@@ -92,7 +92,14 @@ impl Model for Ledger {
 
     ghost use Rattle.gvt.specs.Accounts.{floors_in, lows_in, parcels_in};
 
-    ghost view = { λ l. record { end = l.end; transit = l.transit; parcels = parcels_in l.accounts.items; lows = lows_in l.accounts.items; floors = floors_in l.accounts.items } };
+    ghost view = { λ l. record {
+      end = l.end;
+      transit = l.transit;
+      parcels = parcels_in
+          l.accounts.items;
+      lows = lows_in l.accounts.items;
+      floors = floors_in l.accounts.items;
+    } };
 
     ghost invariant = { λ l. length l.accounts.items ≡ l.nodes };
 }

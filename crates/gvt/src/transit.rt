@@ -33,7 +33,8 @@ impl Model for Transit {
 
     ghost view = { λ t. t.messages.items };
 
-    ghost invariant = { λ t. (t.marks.items ≡ replicate (length t.messages.items) false) × (t.least ≡ low_in t.messages.items) };
+    ghost invariant = { λ t. (t.marks.items ≡ replicate (length t.messages.items) false)
+        × (t.least ≡ low_in t.messages.items) };
 }
 
 impl Transit {

@@ -37,7 +37,8 @@ time_text i =
 
 abbrev pub events_text : Inspection → List ℕ
 events_text i =
-    if i.events == 0 then line ((codes "events ", i.events) ∷ []) (codes ", - bytes of disk an event\n")
+    if i.events == 0 then line ((codes "events ", i.events) ∷ [])
+    (codes ", - bytes of disk an event\n")
     else line ((codes "events ", i.events) ∷ (codes ", ", bytes_each i.used i.events) ∷ [])
     (codes " bytes of disk an event\n")
 
@@ -48,7 +49,8 @@ checkpoints_text None records checkpoints ends =
     ∷ (codes " checkpoints and ", ends) ∷ []) (codes " ends\n")
 checkpoints_text (Some time) records checkpoints ends =
     line ((codes "records ", records) ∷ (codes ", of them ", checkpoints)
-    ∷ (codes " checkpoints (the last at ", time) ∷ (codes " ticks) and ", ends) ∷ []) (codes " ends\n")
+    ∷ (codes " checkpoints (the last at ", time) ∷ (codes " ticks) and ", ends) ∷ [])
+    (codes " ends\n")
 
 abbrev pub records_text : Inspection → List ℕ
 records_text i = checkpoints_text i.last_checkpoint i.records i.checkpoints i.ends

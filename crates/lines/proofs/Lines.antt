@@ -22,7 +22,7 @@ use Rattle.clap.specs.declared.error.Error.{Error}
 use Rattle.clap.specs.declared.builder.value_parser.ValueParser.TheVariants.{Unsigned}
 use Rattle.clap.specs.declared.parser.matches.ArgMatches.{ArgMatches}
 use Rattle.clap.specs.declared.parser.matches.ArgMatches.TheViews.{out-ArgMatches, out-SubCommand}
-use Rattle.lines.specs.Line.{AddsArgument, AddsCommand, IsApp, grammar_of, is_named, number_of, program_by, refusal_of, unread_fault, value_fault}
+use Rattle.lines.specs.Line.{AddsArgument, AddsCommand, IsApp, grammar_of, IsNamed, number_of, program_by, refusal_of, unread_fault, value_fault}
 
 pub program_is_simple : (word large : Bool) (called : Text) → is_simple (program_by word large called) ≡ true
 unfolding clap_on_literals
@@ -66,7 +66,7 @@ found_among test f (x ∷ xs) y h = elim (cases_Bool (test x)) [
 ]
 
 -- there are no other commands
-entered_named : (word large : Bool) (called : Text) (stop : Option (Text × List Text)) (found : Text × List Row) → entered (built (program_by word large called)) stop ≡ Some found → is_named found.0
+entered_named : (word large : Bool) (called : Text) (stop : Option (Text × List Text)) (found : Text × List Row) → entered (built (program_by word large called)) stop ≡ Some found → IsNamed found.0
 entered_named word large called None found h = cc
 entered_named word large called (Some p) found h = elim (found_among (λ s. answers_to p.0 (label_of s)) (λ s. rows_at s p.1) (built (program_by word large called)).subs found h) [
   | inl e ↦ inl (sym (ap (λ r. r.0) e))
@@ -85,7 +85,7 @@ entered_named word large called (Some p) found h = elim (found_among (λ s. answ
   | inr (inr (inr (inr (inr (inr (inr (inr (inr (inr (inr (inr (inr e)))))))))))) ↦ absurd e
 ]
 
-pub only_named : (word large : Bool) (called : Text) (words : List Text) (name : Text) (rows : List Row) → subcommand_of (program_by word large called) words ≡ Some (name, rows) → is_named name
+pub only_named : (word large : Bool) (called : Text) (words : List Text) (name : Text) (rows : List Row) → subcommand_of (program_by word large called) words ≡ Some (name, rows) → IsNamed name
 only_named word large called words name rows h =
     entered_named word large called (stop_after (built (program_by word large called)).top.rules (names_of (built (program_by word large called))) (argument_words (program_by word large called) words)) (name, rows) h
 

@@ -19,8 +19,8 @@ use Rattle.clap.specs.declared.builder.action.ArgAction.TheVariants.{SetTrue}
 use Rattle.clap.specs.declared.builder.value_parser.ValueParser.{ValueParser}
 use Rattle.clap.specs.declared.builder.value_parser.ValueParser.TheVariants.{Unsigned}
 use Rattle.clap.specs.declared.error.kind.ErrorKind.TheVariants.{InvalidValue}
-use Rattle.lines.specs.declared.line.Batch.{Batch}
-use Rattle.lines.specs.declared.line.Batch.TheVariants.{Auto, Fixed}
+use Rattle.lines.specs.declared.line.BatchOption.{BatchOption}
+use Rattle.lines.specs.declared.line.BatchOption.TheVariants.{Auto, Fixed}
 use Rattle.lines.specs.declared.line.Line.{Line}
 use Rattle.lines.specs.declared.line.Line.TheVariants.{Grow}
 use Rattle.lines.specs.declared.line.Line.TheVariants.{Check, Draw, Extend, Log, Migrate, New, Node}
@@ -73,7 +73,8 @@ optional_text name = record (new_rule name) { long = Some name; value_names = 1 
 abbrev pub time_option : Text → Rule
 time_option name = optional_number name 0 1099511627776
 
--- how many sectors of 512 bytes a disk has at most: one that is asked for as a large one, and another
+-- how many sectors of 512 bytes a disk has at most: one that is asked for as a large one, and
+-- another
 abbrev pub most_sectors : Bool → ℕ
 most_sectors false = 131072
 most_sectors true = 16777216
@@ -116,9 +117,9 @@ batch_option false = number_option (codes "batch") 1 4294967295 (codes "16")
 batch_option true = text_option (codes "batch") (codes "16")
 
 -- 1 to 64 nodes, batches, and 1 to 2^32 - 1 rounds; a checkpoint each so many rounds, 1 to
--- 1,000,000; a commit for so many events, 1 to 400,000; programs of their own as nodes, one of which
--- is cut short; nodes that work at one time; programs that are not started, but waited for; a file
--- for a trace; and the disk may be a large one
+-- 1,000,000; a commit for so many events, 1 to 400,000; programs of their own as nodes, one of
+-- which is cut short; nodes that work at one time; programs that are not started, but waited for; a
+-- file for a trace; and the disk may be a large one
 abbrev pub run_command : Bool → App
 run_command word = with_rule (with_rule (with_rule (with_rule (with_rule (with_rule (with_rule
     (with_rule (with_rule (with_rule
@@ -153,7 +154,8 @@ migrate_command large = with_rule (with_rule (with_rule (with_rule (on_model (co
     (sectors_option large (codes "4096")))
     large_option
 
--- the events of a log from a time on, before a time, and of one process; the disk may be a large one
+-- the events of a log from a time on, before a time, and of one process; the disk may be a large
+-- one
 abbrev pub log_command : App
 log_command = with_rule (with_rule (with_rule (with_rule (on_disk (codes "log"))
     (time_option (codes "from")))
@@ -198,8 +200,8 @@ without_commands called = record (new_app called) {
   };
 }
 
--- the program of this name, where a batch is given as a word or as a number, and disks are asked for as
--- large ones or not
+-- the program of this name, where a batch is given as a word or as a number, and disks are asked
+-- for as large ones or not
 abbrev pub program_by : Bool → Bool → Text → App
 program_by word large called = with_subcommand (with_subcommand (with_subcommand (with_subcommand
     (with_subcommand (with_subcommand (with_subcommand (with_subcommand (with_subcommand
@@ -284,7 +286,7 @@ is_text None word = false
 is_text (Some text) word = bytes_eq text word
 
 -- the batch: `auto`, or a number
-abbrev pub batch_in : List Row → Batch
+abbrev pub batch_in : List Row → BatchOption
 batch_in rows = if is_text (first_of (codes "batch") rows) (codes "auto") then Auto
     else Fixed (number_in (codes "batch") 1 4294967295 rows)
 
@@ -369,9 +371,9 @@ abbrev pub SaysTimes : Option ℕ → Option ℕ → List Row → Type 0
 SaysTimes from to rows = (from ≡ optional_number_in (codes "from") 0 1099511627776 rows)
     × (to ≡ optional_number_in (codes "to") 0 1099511627776 rows)
 
--- the line has the number of sectors, and whether a disk may be a large one. What clap read for the flag
--- gives the range, and not the words by which it was chosen: so it holds of each line, whatever words
--- clap takes as another option's value.
+-- the line has the number of sectors, and whether a disk may be a large one. What clap read for the
+-- flag gives the range, and not the words by which it was chosen: so it holds of each line,
+-- whatever words clap takes as another option's value.
 abbrev pub SaysSectors : ℕ → Bool → List Row → Type 0
 SaysSectors sectors large rows =
     (sectors ≡ number_in (codes "sectors") 8 (most_sectors large) rows)
@@ -383,7 +385,8 @@ SaysRows (New model disk sectors large) name rows = (name ≡ codes "new")
     × SaysDisk model.now disk.now rows
     × SaysSectors sectors large rows
 SaysRows
-    (Run model disk nodes batch rounds checkpoint commit_every sockets cut together attach trace large)
+    (Run model disk nodes batch rounds checkpoint commit_every sockets cut together attach trace
+    large)
     name rows = (name ≡ codes "run")
     × SaysDisk model.now disk.now rows
     × (nodes ≡ number_in (codes "nodes") 1 64 rows)
@@ -448,7 +451,7 @@ pub record Says (called : Text) (words : List Text) (line : Line) : Type 0 where
   pub values : SaysRows line name rows
 
 -- a batch that is a number is at least 1
-abbrev pub IsBatchRanged : Batch → Type 0
+abbrev pub IsBatchRanged : BatchOption → Type 0
 IsBatchRanged (Fixed messages) = 1 ≤ messages
 IsBatchRanged Auto = ⊤
 
@@ -460,7 +463,8 @@ IsWithin least most number = IfSome number (λ n. (least ≤ n) × (n ≤ most))
 abbrev pub IsRanged : Line → Type 0
 IsRanged (New model disk sectors large) = (8 ≤ sectors) × (sectors ≤ most_sectors large)
 IsRanged
-    (Run model disk nodes batch rounds checkpoint commit_every sockets cut together attach trace large) =
+    (Run model disk nodes batch rounds checkpoint commit_every sockets cut together attach trace
+    large) =
     (1 ≤ nodes) × (nodes ≤ 64) × IsBatchRanged batch × (1 ≤ rounds)
     × IsWithin 1 1000000 checkpoint × IsWithin 1 400000 commit_every
 IsRanged (Grow model disk sectors large) = (8 ≤ sectors) × (sectors ≤ most_sectors large)
@@ -474,8 +478,9 @@ IsRanged (Node model socket parcels) = 1 ≤ parcels
 IsRanged _ = ⊤
 
 -- the name is that of a command
-abbrev pub is_named : Text → Type 0
-is_named name = (name ≡ codes "new") ⊎ ((name ≡ codes "run") ⊎ ((name ≡ codes "extend")
-    ⊎ ((name ≡ codes "grow") ⊎ ((name ≡ codes "migrate") ⊎ ((name ≡ codes "status") ⊎ ((name ≡ codes "log")
+abbrev pub IsNamed : Text → Type 0
+IsNamed name = (name ≡ codes "new") ⊎ ((name ≡ codes "run") ⊎ ((name ≡ codes "extend")
+    ⊎ ((name ≡ codes "grow") ⊎ ((name ≡ codes "migrate") ⊎ ((name ≡ codes "status")
+    ⊎ ((name ≡ codes "log")
     ⊎ ((name ≡ codes "show") ⊎ ((name ≡ codes "stats") ⊎ ((name ≡ codes "draw")
     ⊎ ((name ≡ codes "seq") ⊎ ((name ≡ codes "check") ⊎ (name ≡ codes "node"))))))))))))

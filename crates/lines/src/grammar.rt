@@ -30,8 +30,8 @@ pub struct Texts<'a> {
     pub seq_help: &'a str,
 }
 
-/// All commands. A batch of `run` is a number; or, where it is given as a word, any text. Disks have the
-/// sectors of large ones or not.
+/// All commands. A batch of `run` is a number; or, where it is given as a word, any text. Disks
+/// have the sectors of large ones or not.
 pub fn program<'a>(
     alloc: Global,
     texts: Texts<'a>,
@@ -192,9 +192,10 @@ const NODES_HELP: &str = "How many nodes share the processes, 1 to 64";
 
 const BATCH_HELP: &str = "How many messages a node handles at a turn, 1 to 4294967295, or 'auto'";
 
-const ROUNDS_HELP: &str = "After how many rounds the run stops, 1 to 4294967295";
+const ROUNDS_HELP: &str =
+    "After how many rounds the run stops, 1 to 4294967295; runs of 1 never get on (see below)";
 
-const CHECKPOINT_HELP: &str = "Keeps the state in a record each E rounds, 1 to 1000000";
+const CHECKPOINT_HELP: &str = "Keeps the state in a record after each E-th commit, 1 to 1000000";
 
 const COMMIT_HELP: &str =
     "Commits where E events more can be committed, 1 to 400000, and at the end";
@@ -213,11 +214,14 @@ const RUN_HELP: &str = "\
 In a round each node has its turn, and what no rollback can reach any more is committed.
 Whatever ends the run, what was committed stands on the disk, and the next run goes on there.
 
+Several runs with --rounds 1 never get on, however many they are: each opening begins with a floor
+that one round cannot pass. Those with --rounds 2 do.
+
 With --batch auto each node has a batch of its own, which follows how much of what it handles is
 committed.
 
 A commit waits for the disk twice. With --commit-every a power cut can cost what was done since the
-last one, and --checkpoint counts the rounds that commit.
+last one. Rounds that do not commit do not count for --checkpoint.
 
 A checkpoint takes one record of the disk, as long as the state of all processes and what is
 pending. The next opening begins at the last one, and replays only the events behind it.
@@ -340,6 +344,8 @@ const LOG_ABOUT: &str = "Prints the committed events of a disk";
 
 const LOG_HELP: &str = "\
 A disk of format 1 is told as Recovery OtherModel; 'migrate' alone reads it.
+
+Where what is printed is not read to its end, as with '| head', it ends with Output and status 1.
 
 Output, all numbers decimal:
   TIME FROM NUMBER TO A B C D   each committed event";

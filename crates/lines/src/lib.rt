@@ -8,4 +8,4 @@ mod values;
 mod words;
 
 pub use grammar::{Texts, program_help, seq_help};
-pub use line::{Batch, Line, read_line};
+pub use line::{BatchOption, Line, read_line};

@@ -2,7 +2,7 @@
 
 ghost use Rattle.std.specs.Prelude.{◌≡◌, map, IfOk};
 ghost use Rattle.clap.specs.Words.{found_of, rows_of, FailsBy};
-ghost use Rattle.lines.specs.Line.{is_named, refusal_of, IsRanged, Says, SaysRows};
+ghost use Rattle.lines.specs.Line.{IsNamed, refusal_of, IsRanged, Says, SaysRows};
 
 use crate::grammar::{Texts, most_sectors, program};
 use crate::values::{
@@ -16,7 +16,7 @@ use std::convert::AsStr;
 
 /// How many messages a node may handle at a turn.
 #[derive(Clone, Copy, Debug, PartialEq, Eq)]
-pub enum Batch {
+pub enum BatchOption {
     /// So many, at least 1.
     Fixed(u32),
     /// As many as the node finds for itself, by how much of what it handles is committed.
@@ -46,17 +46,17 @@ pub enum Line<'a> {
         /// How many nodes there are, 1 to 64.
         nodes: u32,
         /// How many messages a node may handle at a turn.
-        batch: Batch,
+        batch: BatchOption,
         /// How many rounds are made at most, at least 1.
         rounds: u32,
-        /// After how many rounds a checkpoint follows the commit each time, at least 1; none for no
+        /// After how many commits a checkpoint follows each time, at least 1; none for no
         /// checkpoints.
         checkpoint: Option<u32>,
         /// How many events more than were committed there have to be before a round commits, 1 to
         /// 400,000; none for a commit in each round.
         commit_every: Option<u32>,
-        /// The folder with the sockets of nodes that are programs of their own; none where the nodes
-        /// are in this program.
+        /// The folder with the sockets of nodes that are programs of their own; none where the
+        /// nodes are in this program.
         sockets: Option<&'a str>,
         /// The node whose program ends after one reply.
         cut: Option<u32>,
@@ -98,7 +98,8 @@ pub enum Line<'a> {
         old: &'a str,
         /// The path of the file of the disk of format 2.
         new: &'a str,
-        /// How many sectors the disk of format 2 has, 8 to 131,072, or of a large one to 16,777,216.
+        /// How many sectors the disk of format 2 has, 8 to 131,072, or of a large one to
+        /// 16,777,216.
         sectors: u32,
         /// Whether each disk may have up to 16,777,216 sectors, and not 131,072.
         large: bool,
@@ -220,7 +221,7 @@ pub fn read_line<'a, S: AsStr>(
 
 /// What the values of a command ask for.
 fn line_of<'a>(name: &str, values: &ArgMatches<'a>) -> Line<'a>
-    requires { is_named name.now }
+    requires { IsNamed name.now }
     ensures says { SaysRows result name.now (rows_of (found_of values.now)) }
     ensures ranged { IsRanged result }
 {

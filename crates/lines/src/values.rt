@@ -12,7 +12,7 @@ ghost use Rattle.lines.specs.Line.{unread_fault, written_number};
 ghost use Rattle.lines.specs.Line.{IsBatchRanged, IsFlagIn, IsWithin};
 
 use crate::grammar::refusing;
-use crate::line::Batch;
+use crate::line::BatchOption;
 use clap::{ArgMatches, Error};
 use std::alloc::Global;
 
@@ -25,7 +25,8 @@ pub fn text<'a>(values: &ArgMatches<'a>, id: &str) -> &'a str
 
 /// The text of an option or an argument, where it has one.
 pub fn optional_text<'a>(values: &ArgMatches<'a>, id: &str) -> Option<&'a str>
-    ensures { option_map (λ text. text.now) result ≡ first_of id.now (rows_of (found_of values.now)) }
+    ensures { option_map (λ text. text.now) result ≡ first_of id.now
+        (rows_of (found_of values.now)) }
 {
     values.get_str(id)
 }
@@ -100,14 +101,14 @@ pub fn optional_small_number(
 }
 
 /// The batch of a run.
-pub fn batch(values: &ArgMatches<'_>) -> Batch
+pub fn batch(values: &ArgMatches<'_>) -> BatchOption
     ensures value { result ≡ batch_in (rows_of (found_of values.now)) }
     ensures ranged { IsBatchRanged result }
 {
     if is_text(optional_text(values, "batch"), "auto") {
-        Batch::Auto
+        BatchOption::Auto
     } else {
-        Batch::Fixed(small_number(values, "batch", 1, u32::MAX))
+        BatchOption::Fixed(small_number(values, "batch", 1, u32::MAX))
     }
 }
 

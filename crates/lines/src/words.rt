@@ -42,8 +42,8 @@ fn is_auto(after_batch: bool, word: &str) -> bool
     word == "--batch=auto" || (after_batch && word == "auto")
 }
 
-/// Whether the word `--large` stands among these, before a word `--`. The first word is the program's
-/// own name.
+/// Whether the word `--large` stands among these, before a word `--`. The first word is the
+/// program's own name.
 pub fn says_large<S: AsStr>(words: &[S]) -> bool
     ensures { result ≡ says_large (drop 1 (map S.text words.now)) }
 {

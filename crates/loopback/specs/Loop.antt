@@ -38,14 +38,15 @@ stage_of (Idle node) = AtRest
 stage_of (Posted node bytes) = AtWork (posted_in bytes)
 stage_of Ended = AtEnd
 
-abbrev pub node_of : Held → Node
-node_of Fresh = nobody
-node_of (Idle node) = node
-node_of (Posted node bytes) = node
-node_of Ended = nobody
+abbrev pub loopback_node : Held → Node
+loopback_node Fresh = nobody
+loopback_node (Idle node) = node
+loopback_node (Posted node bytes) = node
+loopback_node Ended = nobody
 
 abbrev pub state_of : Meaning → Held → PortState
-state_of m held = record { stage = stage_of held; tells = true; meaning = m; node = node_of held }
+state_of m held =
+    record { stage = stage_of held; tells = true; meaning = m; node = loopback_node held }
 
 -- the same of a port
 abbrev pub state_by : {M : Type 0} → (M → Meaning) → Loop M → PortState

@@ -41,7 +41,7 @@ pub struct LoopPort<'m, M: Simulated> {
     held: Held,
 }
 
-// Written out, so that whoever drops one proves nothing of its parts.
+// Not derived: each caller that drops one would prove again how its parts are dropped.
 impl<M: Simulated> Drop for LoopPort<'_, M> {
     fn drop(self) {
         let LoopPort {
@@ -135,7 +135,8 @@ impl<'m, M: Simulated> Port for LoopPort<'m, M> {
     }
 
     fn take(&mut self) -> Result<Reply, PortFault>
-        requires posted { (parcel : Parcel) × ((state_by M.meaning self.old).stage ≡ AtWork parcel) }
+        requires posted { (parcel : Parcel) × ((state_by M.meaning self.old).stage
+            ≡ AtWork parcel) }
         ensures idle { OnOk result ((state_by M.meaning self.new).stage ≡ AtRest) }
         ensures ended { OnErr result ((state_by M.meaning self.new).stage ≡ AtEnd) }
         ensures same { IsSamePort (state_by M.meaning self.old) (state_by M.meaning self.new) }

@@ -35,8 +35,10 @@ pub fn resume_behind_bytes<M: Simulated, D: SectorDisk + Drop>(
     requires short { end ≤ 2 ^ 40 }
 
     // The headline for one session, whatever front was told last on the disk.
-    ensures kept { IfOk result (λ left. let made = map move_of (take left.done steps.now) in (v : World) →
-        IsResumed (M.meaning model.now) end nodes made v (D.state disk) (D.state left.disk) left.time) }
+    ensures kept { IfOk result (λ left. let made = map move_of (take left.done steps.now)
+        in (v : World) →
+        IsResumed (M.meaning model.now) end nodes made v (D.state disk) (D.state left.disk)
+        left.time) }
     ensures all { IfOk result (λ left. left.fault ≡ None →
         (left.done ≡ length steps.now) × IsSome left.time) }
     ensures refused { IfErr result (λ back. back ≡ disk) }

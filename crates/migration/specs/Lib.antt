@@ -1,4 +1,5 @@
--- For callers: disks of format 1, their records widened, and what a migration leaves of the new disk
+-- For callers: disks of format 1, their records widened, and what a migration leaves of the new
+-- disk
 pub mod Old
 pub mod Widened
 pub mod Migrated

@@ -17,8 +17,8 @@ use thiserror::Error;
 /// Why a disk is not migrated, or not all of it.
 #[derive(Clone, Copy, Debug, PartialEq, Eq, Error)]
 pub enum MigrateFault {
-    /// The new log has records, or its header is not the model's with the end that the old header names.
-    /// Nothing is written.
+    /// The new log has records, or its header is not the model's with the end that the old header
+    /// names. Nothing is written.
     #[error("NotEmpty")]
     NotEmpty,
     /// The old log is not recovered. Nothing is written.

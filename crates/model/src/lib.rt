@@ -1,7 +1,7 @@
 //! Models of a simulation, and the plain runner.
 #![tactic(auto)]
 
-ghost use Rattle.std.specs.Prelude.{◌≡◌, ◌<◌, ◌≤◌, ◌+◌, ◌^◌, length, slice_index, ℕ, All};
+ghost use Rattle.std.specs.Prelude.{◌≡◌, ◌<◌, ◌≤◌, ◌+◌, ◌^◌, [], length, slice_index, ℕ, All};
 ghost use Rattle.eventkey.specs.Message.{Message};
 ghost use Rattle.model.specs.Meaning.{Meaning, IsLawful, IsWords, stamped};
 
@@ -87,6 +87,32 @@ pub trait Model {
         ensures state { result.0.items
             ≡ (meaning self.now).next_state lp state.now.items message.now }
         ensures sends { result.1.items ≡ (meaning self.now).sends lp state.now.items message.now };
+
+    /// The same as `handle`, written into `next` and `sends`, which are empty. A runner that keeps
+    /// these two neither clears nor moves a whole answer for each message; a model that is to run
+    /// fast writes it out, and has `handle` call it.
+    fn handle_into(
+        &self,
+        alloc: Global,
+        lp: u32,
+        state: &Words,
+        message: &Message,
+        next: &mut Words,
+        sends: &mut Sends,
+    )
+        requires in_range { lp < (meaning self.now).lps }
+        requires few { length state.now.items ≤ 16 }
+        requires next { (next.old.items ≡ []) × (16 ≤ next.old.capacity) }
+        requires sends { (sends.old.items ≡ []) × (8 ≤ sends.old.capacity) }
+        ensures state { next.new.items
+            ≡ (meaning self.now).next_state lp state.now.items message.now }
+        ensures sends { sends.new.items
+            ≡ (meaning self.now).sends lp state.now.items message.now }
+    {
+        let (words, sent) = self.handle(alloc, lp, state, message);
+        *next = words;
+        *sends = sent;
+    }
 
     ghost lawful: { (m : Self) → IsLawful (meaning m) };
 }

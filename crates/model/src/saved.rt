@@ -12,7 +12,7 @@ pub struct SavedState {
     words: SmallVec<u64, 2>,
 }
 
-// Written out, so that whoever drops one proves nothing of its parts.
+// Not derived: each caller that drops one would prove again how its parts are dropped.
 impl Drop for SavedState {
     fn drop(self) {
         let SavedState { words: _ } = self;

@@ -14,7 +14,7 @@ pub struct Sent {
     messages: SmallVec<Message, 1>,
 }
 
-// Written out, so that whoever drops one proves nothing of its parts.
+// Not derived: each caller that drops one would prove again how its parts are dropped.
 impl Drop for Sent {
     fn drop(self) {
         let Sent { messages: _ } = self;

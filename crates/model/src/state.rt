@@ -10,7 +10,7 @@ pub struct State {
     words: Words,
 }
 
-// Written out, so that whoever drops one proves nothing of its parts.
+// Not derived: each caller that drops one would prove again how its parts are dropped.
 impl Drop for State {
     fn drop(self) {
         let State { words: _ } = self;

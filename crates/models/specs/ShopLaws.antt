@@ -47,8 +47,13 @@ served_words : (s : Shop) (lp : ℕ) (state : List ℕ) (t : ℕ) → t < 2 ^ 41
     → IsWords (after_service s lp state t)
 served_words s lp state t early stays is =
     let soon : ended s lp state t - t ≤ 2 ^ 32 - 1 = ltb-false (2 ^ 32 - 1)
-    (ended s lp state t - t) stays in
-    (lit≤ tt, (omega arith, (omega arith, (omega arith, (word_fits state 3 is, (key_lt (shop_key state) lp 1, tt))))))
+    (ended s lp state t - t) stays in (
+      lit≤ tt,
+      (
+        omega arith,
+        (omega arith, (omega arith, (word_fits state 3 is, (key_lt (shop_key state) lp 1, tt)))),
+      ),
+    )
 
 next_words : (s : Shop) (lp : ℕ) (state : List ℕ) (t : ℕ) → t < 2 ^ 41 → IsWords state
     → IsWords (if is_turned_away s lp state t then after_refusal lp state

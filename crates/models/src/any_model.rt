@@ -57,4 +57,20 @@ impl Simulated for AnyModel {
             AnyModel::JobShop(shop) => shop.handle(alloc, lp, state, message),
         }
     }
+
+    fn handle_into(
+        &self,
+        alloc: Global,
+        lp: u32,
+        state: &Words,
+        message: &Message,
+        next: &mut Words,
+        sends: &mut Sends,
+    ) {
+        match self {
+            AnyModel::TokenRing(ring) => ring.handle_into(alloc, lp, state, message, next, sends),
+            AnyModel::Phold(hold) => hold.handle_into(alloc, lp, state, message, next, sends),
+            AnyModel::JobShop(shop) => shop.handle_into(alloc, lp, state, message, next, sends),
+        }
+    }
 }

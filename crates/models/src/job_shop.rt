@@ -69,6 +69,27 @@ impl JobShop {
         }
     }
 
+    /// How many jobs each machine starts with.
+    pub fn jobs(&self) -> u32
+        ensures { result ≡ self.now.shop.jobs }
+    {
+        self.jobs
+    }
+
+    /// The most ticks for which a machine serves a job.
+    pub fn service(&self) -> u32
+        ensures { result ≡ self.now.shop.service }
+    {
+        self.service
+    }
+
+    /// What begins the drawn words.
+    pub fn seed(&self) -> u64
+        ensures { result ≡ self.now.shop.seed }
+    {
+        self.seed
+    }
+
     /// The jobs that come to a machine first.
     fn first_sends(&self, alloc: Global, lp: u32) -> Sends
         requires { lp < self.now.shop.lps }
@@ -125,17 +146,33 @@ impl Simulated for JobShop {
             turned_away: 0,
             key: next_key(self.seed, lp, 0),
         };
-        (machine.words(alloc), self.first_sends(alloc, lp))
+        let mut words = SmallVec::new(alloc);
+        machine.write(&mut words);
+        (words, self.first_sends(alloc, lp))
     }
 
     fn handle(&self, alloc: Global, lp: u32, state: &Words, message: &Message) -> (Words, Sends) {
+        let mut next = SmallVec::new(alloc);
+        let mut sends = SmallVec::new(alloc);
+        self.handle_into(alloc, lp, state, message, &mut next, &mut sends);
+        (next, sends)
+    }
+
+    fn handle_into(
+        &self,
+        _alloc: Global,
+        lp: u32,
+        state: &Words,
+        message: &Message,
+        next: &mut Words,
+        sends: &mut Sends,
+    ) {
         let mut machine = Machine::of(state.as_slice());
         message.ranged();
         let time = message.time();
         let begun = time.max(machine.free_at);
         let work = 1 + u64::from(word(machine.key, lp, 0) % self.service);
         machine.key = next_key(machine.key, lp, 1);
-        let mut sends = SmallVec::new(alloc);
         // A sum that does not fit is far past every delay.
         match u32::try_from((begun - time).saturating_add(work)) {
             Ok(delay) => {
@@ -153,7 +190,7 @@ impl Simulated for JobShop {
             }
             Err(_) => machine.turned_away = machine.turned_away.saturating_add(1),
         }
-        (machine.words(alloc), sends)
+        machine.write(next);
     }
 }
 
@@ -177,16 +214,16 @@ impl Machine {
         }
     }
 
-    fn words(self, alloc: Global) -> Words
-        ensures { result.items ≡ self.free_at ∷ self.served ∷ self.waited ∷ self.turned_away
-            ∷ self.key ∷ [] }
+    /// Writes the words, where there are none.
+    fn write(self, words: &mut Words)
+        requires { (words.old.items ≡ []) × (16 ≤ words.old.capacity) }
+        ensures { words.new.items ≡ self.free_at ∷ self.served ∷ self.waited
+            ∷ self.turned_away ∷ self.key ∷ [] }
     {
-        let mut words = SmallVec::new(alloc);
         words.push_reserved(self.free_at);
         words.push_reserved(self.served);
         words.push_reserved(self.waited);
         words.push_reserved(self.turned_away);
         words.push_reserved(self.key);
-        words
     }
 }

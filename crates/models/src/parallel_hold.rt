@@ -76,6 +76,27 @@ impl Phold {
         }
     }
 
+    /// How many messages each process starts with.
+    pub fn population(&self) -> u32
+        ensures { result ≡ self.now.hold.population }
+    {
+        self.population
+    }
+
+    /// The greatest delay, in ticks.
+    pub fn spread(&self) -> u32
+        ensures { result ≡ self.now.hold.spread }
+    {
+        self.spread
+    }
+
+    /// What begins the drawn words.
+    pub fn seed(&self) -> u64
+        ensures { result ≡ self.now.hold.seed }
+    {
+        self.seed
+    }
+
     /// What a process sends at its start.
     fn first_sends(&self, alloc: Global, lp: u32) -> Sends
         requires { lp < self.now.hold.lps }
@@ -132,10 +153,24 @@ impl Simulated for Phold {
     }
 
     fn handle(&self, alloc: Global, lp: u32, state: &Words, message: &Message) -> (Words, Sends) {
+        let mut next = SmallVec::new(alloc);
+        let mut sends = SmallVec::new(alloc);
+        self.handle_into(alloc, lp, state, message, &mut next, &mut sends);
+        (next, sends)
+    }
+
+    fn handle_into(
+        &self,
+        _alloc: Global,
+        lp: u32,
+        state: &Words,
+        message: &Message,
+        next: &mut Words,
+        sends: &mut Sends,
+    ) {
         let state = state.as_slice();
         let key = state.first().copied().unwrap_or(0);
         let count = state.get(1).copied().unwrap_or(0);
-        let mut sends = SmallVec::new(alloc);
         sends.push_reserved(Outgoing {
             to: word(key, lp, 0) % self.lps,
             delay: delay_by(self.spread, word(key, lp, 1)),
@@ -144,9 +179,7 @@ impl Simulated for Phold {
             c: message.c(),
             d: message.d(),
         });
-        let mut words = SmallVec::new(alloc);
-        words.push_reserved(next_key(key, lp, 2));
-        words.push_reserved(count.saturating_add(1));
-        (words, sends)
+        next.push_reserved(next_key(key, lp, 2));
+        next.push_reserved(count.saturating_add(1));
     }
 }

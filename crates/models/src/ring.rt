@@ -54,6 +54,20 @@ impl TokenRing {
     {
         TokenRing { lps, hold, tokens }
     }
+
+    /// For how many ticks a process holds a token.
+    pub fn hold(&self) -> u32
+        ensures { result ≡ self.now.ring.hold }
+    {
+        self.hold
+    }
+
+    /// How many tokens there are.
+    pub fn tokens(&self) -> u32
+        ensures { result ≡ self.now.ring.tokens }
+    {
+        self.tokens
+    }
 }
 
 impl Simulated for TokenRing {
@@ -80,10 +94,23 @@ impl Simulated for TokenRing {
     }
 
     fn handle(&self, alloc: Global, lp: u32, state: &Words, message: &Message) -> (Words, Sends) {
-        let count = state.as_slice().first().copied().unwrap_or(0);
-        let mut words = SmallVec::new(alloc);
-        words.push_reserved(count.saturating_add(1));
+        let mut next = SmallVec::new(alloc);
         let mut sends = SmallVec::new(alloc);
+        self.handle_into(alloc, lp, state, message, &mut next, &mut sends);
+        (next, sends)
+    }
+
+    fn handle_into(
+        &self,
+        _alloc: Global,
+        lp: u32,
+        state: &Words,
+        message: &Message,
+        next: &mut Words,
+        sends: &mut Sends,
+    ) {
+        let count = state.as_slice().first().copied().unwrap_or(0);
+        next.push_reserved(count.saturating_add(1));
         sends.push_reserved(Outgoing {
             to: (lp + 1) % self.lps,
             delay: self.hold,
@@ -92,7 +119,6 @@ impl Simulated for TokenRing {
             c: message.c(),
             d: message.d(),
         });
-        (words, sends)
     }
 }
 

@@ -1,6 +1,6 @@
 -- What a network of switches on a torus does: packets go from switch to switch, first along the row
--- and then along the column, and each switch serves one packet at a time, in the order in which they
--- come.
+-- and then along the column, and each switch serves one packet at a time, in the order in which
+-- they come.
 use Rattle.std.specs.Int.{div_ceil}
 use Rattle.std.specs.Prelude.{ℕ, ◌+◌, ◌-◌, ◌*◌, ◌/◌, ◌%◌, ◌^◌, ◌<◌, ◌≤◌, ◌==◌, List, [], ◌∷◌}
 use Rattle.std.specs.Prelude.{Bool, Option, Some, None, if◌then◌else◌, max, min, nat_le, nat_lt}
@@ -83,7 +83,14 @@ is_wake x = x.a == 1024
 
 -- word 0 of a key draws a destination, and word 1 the ticks until the source is woken again
 abbrev pub waked : Torus → ℕ → ℕ → Outgoing
-waked n lp key = record { to = lp; delay = 1 + word key lp 1 % n.gap; a = 1024; b = 0; c = 0; d = 0 }
+waked n lp key = record {
+  to = lp;
+  delay = 1 + word key lp 1 % n.gap;
+  a = 1024;
+  b = 0;
+  c = 0;
+  d = 0;
+}
 
 -- a source that is woken makes a packet; any other message is one
 abbrev pub packet_of : Torus → ℕ → ℕ → Message → Packet

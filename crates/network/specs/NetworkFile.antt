@@ -3,7 +3,8 @@
 use Rattle.std.specs.Prelude.{◌≡◌, ℕ, ◌-◌, ◌/◌, ◌^◌, List, [], ◌∷◌, ◌++◌, Some, codes, unwrap_or}
 use Rattle.network.specs.Network.{Torus}
 use Rattle.texts.specs.AnyModel.{line_then}
-use Rattle.texts.specs.ModelFile.{NumberKey, Wrong, number_at, number_key, numbers_wrong, unknown_wrong}
+use Rattle.texts.specs.ModelFile.{NumberKey, Wrong, number_at, number_key, numbers_wrong}
+use Rattle.texts.specs.ModelFile.{unknown_wrong}
 use Rattle.toml.specs.Data.{Members}
 
 -- the keys of a network

@@ -5,13 +5,15 @@ use Rattle.std.specs.Prelude.{◌≡◌, ℕ, ◌+◌, ◌-◌, ◌*◌, ◌/◌
 use Rattle.std.specs.Prelude.{Bool, Option, Some, None, true, false, cond, length, min, nat_le}
 use Rattle.std.specs.Prelude.{slice_index}
 use Rattle.std.proofs.Common.{arith, lit<, lit≤, inl, inr}
-use Rattle.std.proofs.Math.Nat.{div-le_self, div-lt_iff_lt-mul, mod-lt, mul-le-mul_left, mul-le-mul_right}
+use Rattle.std.proofs.Math.Nat.{div-le_self, div-lt_iff_lt-mul, mod-lt, mul-le-mul_left}
+use Rattle.std.proofs.Math.Nat.{mul-le-mul_right}
 use Rattle.std.proofs.lemmas.Bool.{cases_Bool, cond_both, ltb-false}
 use Rattle.eventkey.specs.Message.{IsRanged, Message}
 use Rattle.model.proofs.ForLaws.{word_fits}
 use Rattle.model.specs.Meaning.{IsLawful, IsSend, IsWords}
 use Rattle.model.specs.declared.Outgoing.{Outgoing}
-use Rattle.network.specs.Network.{GoodTorus, IsTorus, Torus, after_delivery, after_drop, after_packet}
+use Rattle.network.specs.Network.{GoodTorus, IsTorus, Torus, after_delivery, after_drop}
+use Rattle.network.specs.Network.{after_packet}
 use Rattle.network.specs.Network.{after_service, drawn, handled, hop, is_dropped, is_wake, listed}
 use Rattle.network.specs.Network.{network_meaning, next_switch, onward, packet_of, queue, sent}
 use Rattle.network.specs.Network.{served_at, switch_of, switches, toward, waked, words_of}
@@ -45,11 +47,22 @@ read_switch state words = record {
 }
 
 written_switch : (s : Switch) → IsSwitch s → IsWords (words_of s)
-written_switch s is = (lit≤ tt, (is.delivered, (is.latency, (is.slowest, (is.longest, (is.dropped, (is.free_at, (is.key, (is.scratch, tt)))))))))
+written_switch s
+    is = (
+      lit≤ tt,
+      (
+        is.delivered,
+        (
+          is.latency,
+          (is.slowest, (is.longest, (is.dropped, (is.free_at, (is.key, (is.scratch, tt)))))),
+        ),
+      ),
+    )
 
 -- a packet's switch
 
-delivered_is : (s : Switch) (ticks : ℕ) → ticks < 2 ^ 64 → IsSwitch s → IsSwitch (after_delivery s ticks)
+delivered_is : (s : Switch) (ticks : ℕ) → ticks < 2 ^ 64 → IsSwitch s →
+    IsSwitch (after_delivery s ticks)
 delivered_is s ticks fits is = record {
   delivered = omega arith;
   latency = omega arith;
@@ -73,13 +86,15 @@ dropped_is s is = record {
   scratch = is.scratch;
 }
 
-module _ (n : Torus) (good : IsTorus n) (s : Switch) (t : ℕ) (early : t < 2 ^ 41) (stays : is_dropped n s t ≡ false) where
+module _ (n : Torus) (good : IsTorus n) (s : Switch) (t : ℕ) (early : t < 2 ^ 41)
+    (stays : is_dropped n s t ≡ false) where
   near : hop n s t ≤ 2 ^ 32 - 1
   near = ltb-false (2 ^ 32 - 1) (hop n s t) stays
 
   queue_lt : queue n s t < 2 ^ 64
   queue_lt =
-      let whole : (served_at n s t - t) / n.service ≤ served_at n s t - t = div-le_self (served_at n s t - t) n.service in
+      let whole : (served_at n s t - t) / n.service ≤ served_at n s t - t = div-le_self
+      (served_at n s t - t) n.service in
       omega (arith, near)
 
   served_is : IsSwitch s → IsSwitch (after_service n s t)
@@ -94,7 +109,8 @@ module _ (n : Torus) (good : IsTorus n) (s : Switch) (t : ℕ) (early : t < 2 ^ 
     scratch = is.scratch;
   }
 
-packet_is : (n : Torus) → IsTorus n → (lp : ℕ) (s : Switch) (p : Packet) (t : ℕ) → t < 2 ^ 41 → IsSwitch s → IsSwitch (after_packet n lp s p t)
+packet_is : (n : Torus) → IsTorus n → (lp : ℕ) (s : Switch) (p : Packet) (t : ℕ) → t < 2 ^ 41 →
+    IsSwitch s → IsSwitch (after_packet n lp s p t)
 packet_is n good lp s p t early is = elim (cases_Bool (p.destination == lp)) [
   | inl e ↦ rw e (delivered_is s (t - p.born) (omega arith) is)
   | inr e ↦ rw e (elim (cases_Bool (is_dropped n s t)) [
@@ -119,7 +135,8 @@ drawn_is n lp s x is = record {
   scratch = worked_lt n.work lp s.scratch is.scratch;
 }
 
-handled_is : (n : Torus) → IsTorus n → (lp : ℕ) (s : Switch) (x : Message) → IsRanged x → IsSwitch s → IsSwitch (handled n lp s x)
+handled_is : (n : Torus) → IsTorus n → (lp : ℕ) (s : Switch) (x : Message) → IsRanged x →
+    IsSwitch s → IsSwitch (handled n lp s x)
 handled_is n good lp s x ranged is =
     let p : Packet = packet_of n lp s.key x in
     drawn_is n lp (after_packet n lp s p x.time) x (packet_is n good lp s p x.time ranged.time is)
@@ -128,12 +145,14 @@ handled_is n good lp s x ranged is =
 
 toward_lt : (size from to : ℕ) → 1 ≤ size → toward size from to < size
 toward_lt size from to some =
-    elim (nat_le (2 * ((to + size - from) % size)) size) as (λ b. cond b ((from + 1) % size) ((from + size - 1) % size) < size) [
+    elim (nat_le (2 * ((to + size - from) % size)) size) as (λ b. cond b ((from + 1) % size)
+    ((from + size - 1) % size) < size) [
       | true ↦ mod-lt (from + 1) some
       | false ↦ mod-lt (from + size - 1) some
     ]
 
-place_lt : (rows columns row column : ℕ) → row < rows → column < columns → row * columns + column < rows * columns
+place_lt : (rows columns row column : ℕ) → row < rows → column < columns → row * columns + column
+    < rows * columns
 place_lt rows columns row column r c = omega (arith, mul-le-mul_right columns r)
 
 next_lt : (n : Torus) → IsTorus n → (at to : ℕ) → at < switches n → next_switch n at to < switches n
@@ -142,9 +161,12 @@ next_lt n good at to there =
     elim (at % n.width == to % n.width) as (λ b. cond b
     (toward n.height (at / n.width) (to / n.width) * n.width + at % n.width)
     (at / n.width * n.width + toward n.width (at % n.width) (to % n.width)) < switches n) [
-      | true ↦ place_lt n.height n.width (toward n.height (at / n.width) (to / n.width)) (at % n.width)
-          (toward_lt n.height (at / n.width) (to / n.width) good.some_rows) (mod-lt at good.some_columns)
-      | false ↦ place_lt n.height n.width (at / n.width) (toward n.width (at % n.width) (to % n.width))
+      | true ↦ place_lt n.height n.width (toward n.height (at / n.width) (to / n.width))
+          (at % n.width)
+          (toward_lt n.height (at / n.width) (to / n.width) good.some_rows)
+          (mod-lt at good.some_columns)
+      | false ↦ place_lt n.height n.width (at / n.width) (toward n.width (at % n.width)
+          (to % n.width))
           row (toward_lt n.width (at % n.width) (to % n.width) good.some_columns)
     ]
 
@@ -157,13 +179,15 @@ packet_there n good lp key x some = elim (cases_Bool (is_wake x)) [
   | inr e ↦ rw e (mod-lt x.a some)
 ]
 
-packet_born : (n : Torus) (lp key : ℕ) (x : Message) → IsRanged x → (packet_of n lp key x).born < 2 ^ 64
+packet_born : (n : Torus) (lp key : ℕ) (x : Message) → IsRanged x → (packet_of n lp key x).born
+    < 2 ^ 64
 packet_born n lp key x ranged = elim (cases_Bool (is_wake x)) [
   | inl e ↦ rw e (omega (arith, ranged.time))
   | inr e ↦ rw e ranged.b
 ]
 
-waked_lawful : (n : Torus) → IsTorus n → (lp key : ℕ) → lp < switches n → IsSend (switches n) (waked n lp key)
+waked_lawful : (n : Torus) → IsTorus n → (lp key : ℕ) → lp < switches n → IsSend (switches n)
+    (waked n lp key)
 waked_lawful n good lp key there =
     let gap : word key lp 1 % n.gap < n.gap = mod-lt (word key lp 1) good.some_gap in
     record {
@@ -176,8 +200,10 @@ waked_lawful n good lp key there =
       d = lit< tt;
     }
 
-onward_lawful : (n : Torus) → IsTorus n → (lp : ℕ) (s : Switch) (p : Packet) (t : ℕ) → lp < switches n →
-    p.destination < switches n → p.born < 2 ^ 64 → Every (IsSend (switches n)) (listed (onward n lp s p t))
+onward_lawful : (n : Torus) → IsTorus n → (lp : ℕ) (s : Switch) (p : Packet) (t : ℕ) → lp
+    < switches n →
+    p.destination < switches n → p.born < 2 ^ 64 → Every (IsSend (switches n))
+    (listed (onward n lp s p t))
 onward_lawful n good lp s p t there somewhere born = elim (cases_Bool (p.destination == lp)) [
   | inl e ↦ rw e tt
   | inr e ↦ rw e (elim (cases_Bool (is_dropped n s t)) [
@@ -207,13 +233,16 @@ few_sent n lp s x =
     cond_both (is_wake x) (waked n lp s.key ∷ listed o) (listed o) (λ v. length v ≤ 8)
     (λ _. omega (arith, few_onward o)) (λ _. omega (arith, few_onward o))
 
-each_sent : (n : Torus) → IsTorus n → (lp : ℕ) (s : Switch) (x : Message) → lp < switches n → IsRanged x →
+each_sent : (n : Torus) → IsTorus n → (lp : ℕ) (s : Switch) (x : Message) → lp < switches n →
+    IsRanged x →
     Every (IsSend (switches n)) (sent n lp s x)
 each_sent n good lp s x there ranged =
     let p : Packet = packet_of n lp s.key x in
     let rest : Every (IsSend (switches n)) (listed (onward n lp s p x.time)) =
-    onward_lawful n good lp s p x.time there (packet_there n good lp s.key x (omega arith)) (packet_born n lp s.key x ranged) in
-    cond_both (is_wake x) (waked n lp s.key ∷ listed (onward n lp s p x.time)) (listed (onward n lp s p x.time))
+    onward_lawful n good lp s p x.time there (packet_there n good lp s.key x (omega arith))
+    (packet_born n lp s.key x ranged) in
+    cond_both (is_wake x) (waked n lp s.key ∷ listed (onward n lp s p x.time))
+    (listed (onward n lp s p x.time))
     (Every (IsSend (switches n))) (λ _. (waked_lawful n good lp s.key there, rest)) (λ _. rest)
 
 width_few : (n : Torus) → IsTorus n → n.width ≤ 1024
@@ -230,11 +259,39 @@ network_lawful n = record {
   some = some_switches n.torus n.good;
   few_lps = n.good.few;
   identity_few = lit≤ tt;
-  identity_words = (lit< tt, (omega (arith, width_few n.torus n.good), (omega (arith, height_few n.torus n.good), (omega (arith, n.good.service_fits), (omega (arith, n.good.wire_fits), (omega (arith, n.good.gap_fits), (omega (arith, n.good.seed_fits), (omega (arith, n.good.work_fits), tt))))))));
-  start_words = λ lp l. (lit≤ tt, (lit< tt, (lit< tt, (lit< tt, (lit< tt, (lit< tt, (lit< tt, (key_lt n.torus.seed lp 2, (lit< tt, tt)))))))));
+  identity_words = (
+    lit< tt,
+    (
+      omega (arith, width_few n.torus n.good),
+      (
+        omega (arith, height_few n.torus n.good),
+        (
+          omega (arith, n.good.service_fits),
+          (
+            omega (arith, n.good.wire_fits),
+            (
+              omega (arith, n.good.gap_fits),
+              (omega (arith, n.good.seed_fits), (omega (arith, n.good.work_fits), tt)),
+            ),
+          ),
+        ),
+      ),
+    ),
+  );
+  start_words = λ lp l. (
+    lit≤ tt,
+    (
+      lit< tt,
+      (
+        lit< tt,
+        (lit< tt, (lit< tt, (lit< tt, (lit< tt, (key_lt n.torus.seed lp 2, (lit< tt, tt)))))),
+      ),
+    ),
+  );
   start_few = λ lp l. lit≤ tt;
   start = λ lp l. (waked_lawful n.torus n.good lp n.torus.seed l, tt);
-  words = λ lp state x l words ranged. written_switch (handled n.torus lp (switch_of state) x) (handled_is n.torus n.good lp (switch_of state) x ranged (read_switch state words));
+  words = λ lp state x l words ranged. written_switch (handled n.torus lp (switch_of state) x)
+      (handled_is n.torus n.good lp (switch_of state) x ranged (read_switch state words));
   few = λ lp state x l words ranged. few_sent n.torus lp (switch_of state) x;
   each = λ lp state x l words ranged. each_sent n.torus n.good lp (switch_of state) x l ranged;
 }

@@ -15,7 +15,7 @@ use Rattle.node.proofs.Deliveries.{node_at}
 use Rattle.node.proofs.Seats.{length-lps, own_at, picked, place_inside}
 use Rattle.node.specs.Handling.{Node, first_fault, own_lps, refusal}
 use Rattle.node.specs.Kept.{HasHistories, HistoriesBegin}
-use Rattle.node.specs.Roster.{IsModelled, IsReady, IsStaffed, Place, node_of, place_of, processes_of}
+use Rattle.node.specs.Roster.{IsModelled, IsReady, IsStaffed, Place, node_of_roster, place_of, processes_of}
 use Rattle.node.specs.declared.NodeFault.TheVariants.{FloorFell, Spent}
 use Rattle.node.specs.declared.Parcel.{Parcel}
 use Rattle.node.specs.declared.Part.{Part}
@@ -78,10 +78,10 @@ refusal_unspent n parcel e = elim (cases_Bool n.spent) [
   | inr unspent ↦ unspent
 ]
 
-pub modelled_where_accepted : (m : Meaning) (parcel : Parcel) (spent : Bool) (r : Roster) (old : Node) → node_of spent r ≡ old → refusal old parcel ≡ None → (spent ≡ false → IsReady r) →
+pub modelled_where_accepted : (m : Meaning) (parcel : Parcel) (spent : Bool) (r : Roster) (old : Node) → node_of_roster spent r ≡ old → refusal old parcel ≡ None → (spent ≡ false → IsReady r) →
     (old.spent ≡ false → m.lps ≡ old.lps) → HasHistories m old → Every (IsModelled m) r.processes.items
 modelled_where_accepted m parcel spent r old view fine ready lps histories =
-    let unspent : spent ≡ false = refusal_unspent (node_of spent r) parcel (subst (λ (n : Node). refusal n parcel ≡ None) (sym view) fine) in
+    let unspent : spent ≡ false = refusal_unspent (node_of_roster spent r) parcel (subst (λ (n : Node). refusal n parcel ≡ None) (sym view) fine) in
     are_modelled m (place_of r) r.processes.items r.standings (ready unspent)
     (subst (λ (n : Node). n.spent ≡ false → m.lps ≡ n.lps) (sym view) lps unspent)
-    (subst (λ (b : Bool). HasHistories m (node_of b r)) unspent (subst (HasHistories m) (sym view) histories))
+    (subst (λ (b : Bool). HasHistories m (node_of_roster b r)) unspent (subst (HasHistories m) (sym view) histories))

@@ -30,7 +30,7 @@ use Rattle.process.specs.declared.Done.{Done}
 use Rattle.node.proofs.Arrived.{arrived_parts, fine_arrive, fine_taken_back}
 use Rattle.node.proofs.Seats.{own_at, own_place}
 use Rattle.node.specs.Handling.{own_lps}
-use Rattle.node.specs.Kept.{HasRanged, IsKept, IsPast, IsUnderWay, Past, ReleasingIsKept, WorkIsKept, own}
+use Rattle.node.specs.Kept.{HasRanged, IsNodeKept, IsPast, IsUnderWay, Past, ReleasingIsKept, WorkIsKept, own}
 use Rattle.node.specs.Node.{Work, deliver_here, deliver_one_here, first, here, least_of, lesser, run_here, run_one_here, start, turn_here}
 
 -- 1. One process
@@ -108,7 +108,7 @@ module _ (m : Meaning) (nodes node floor low : ℕ) (small : node < nodes) (past
   abbrev Waits : Process → Type 0
   Waits q = Every (IsFrom low) (q.waiting ++ q.antis)
 
-  module _ (qs : List Process) (h : IsKept m nodes node floor low past qs) (lp : ℕ) (l : lp < m.lps) (on : lp % nodes ≡ node) where
+  module _ (qs : List Process) (h : IsNodeKept m nodes node floor low past qs) (lp : ℕ) (l : lp < m.lps) (on : lp % nodes ≡ node) where
     pub place : lp / nodes < length qs
     place = let a = (own_place nodes node small m.lps lp on l).0 in let b = h.size in omega arith
 
@@ -124,7 +124,7 @@ module _ (m : Meaning) (nodes node floor low : ℕ) (small : node < nodes) (past
     pub own_other : (q : Process) (k : ℕ) → k % nodes ≡ node → (k ≡ lp → ⊥) → own nodes (set qs (lp / nodes) q) k ≡ own nodes qs k
     own_other q k e apart = get_or-set_other qs (lp / nodes) (k / nodes) q nobody (λ f. apart (same_place nodes k lp (e ∙ sym on) f))
 
-    pub kept_set : (q : Process) → ToldAt lp q → HasRanged q → Waits q → IsKept m nodes node floor low past (set qs (lp / nodes) q)
+    pub kept_set : (q : Process) → ToldAt lp q → HasRanged q → Waits q → IsNodeKept m nodes node floor low past (set qs (lp / nodes) q)
     kept_set q told ranged waits = record {
       size = length-set qs (lp / nodes) q ∙ h.size;
       told = λ k k_there k_on. elim (cases_eq k lp) [
@@ -142,7 +142,7 @@ module _ (m : Meaning) (nodes node floor low : ℕ) (small : node < nodes) (past
     rest : List Message
     heads : (own nodes qs x.to).waiting ≡ x ∷ rest
 
-  least_known : (qs : List Process) (x : Message) → IsKept m nodes node floor low past qs → least_of qs ≡ Some x → IsLeast qs x
+  least_known : (qs : List Process) (x : Message) → IsNodeKept m nodes node floor low past qs → least_of qs ≡ Some x → IsLeast qs x
   least_known qs x h e =
       let r = least_of_is x qs e in
       let k : ℕ = r.0 in
@@ -163,7 +163,7 @@ module _ (m : Meaning) (nodes node floor low : ℕ) (small : node < nodes) (past
 module _ (m : Meaning) (law : IsLawful m) (end : ℕ) (short : end ≤ 2 ^ 40) (nodes node floor low : ℕ) (there : node < nodes) (under : floor ≤ low) (past : Past) (known : IsPast m past) (all : List Signed) (qs : List Process) where
   -- these are still to be delivered
   record IsGoing (ss : List Signed) (w : Work) : Type 0 where
-    kept : IsKept m nodes node floor low past w.processes
+    kept : IsNodeKept m nodes node floor low past w.processes
     out : Every (IsUnderWay m.lps low) w.out
     held_is : (x : Message) → x.to < m.lps → x.to % nodes ≡ node →
         held x (own nodes w.processes x.to) + copies x (own nodes qs x.to).antis + copies x (of_sign Minus all) + copies x (of_sign Plus ss)
@@ -313,7 +313,7 @@ work_is_kept m end nodes node floor low past parcel qs w law short there under k
 
 -- 5. Letting go of what is told
 
-pub own_released : (m : Meaning) (nodes node floor low : ℕ) (past : Past) (qs : List Process) (floor' lp : ℕ) → node < nodes → IsKept m nodes node floor low past qs → lp < m.lps → lp % nodes ≡ node →
+pub own_released : (m : Meaning) (nodes node floor low : ℕ) (past : Past) (qs : List Process) (floor' lp : ℕ) → node < nodes → IsNodeKept m nodes node floor low past qs → lp < m.lps → lp % nodes ≡ node →
     own nodes (map (λ (q : Process). release floor' q) qs) lp ≡ release floor' (own nodes qs lp)
 own_released m nodes node floor low past qs floor' lp there h l on = get_or-map (λ (q : Process). release floor' q) qs (lp / nodes) nobody nobody (place m nodes node floor low there past qs h lp l on)
 

@@ -2,7 +2,8 @@
 use Rattle.node.specs.declared.NodeFault.{NodeFault}
 use Rattle.node.specs.declared.NodeFault.TheVariants as node
 use Rattle.process.specs.declared.ProcessFault.{ProcessFault}
-use Rattle.process.specs.declared.ProcessFault.TheVariants.{NotMine, BelowFloor, NoMemory, NumberLimit, Spent}
+use Rattle.process.specs.declared.ProcessFault.TheVariants.{NotMine, BelowFloor, NoMemory}
+use Rattle.process.specs.declared.ProcessFault.TheVariants.{NumberLimit, Spent}
 
 abbrev pub fault_of : ProcessFault → NodeFault
 fault_of NotMine = node.NotMine

@@ -2,16 +2,19 @@
 -- parcel (this project's profile).
 use Rattle.std.specs.List.{AllByRecursion as Every, list_any}
 use Rattle.std.specs.Cmp.Lexicographic.{pointwise}
-use Rattle.std.specs.Prelude.{ℕ, Bool, List, [], ◌∷◌, Option, Some, None, Result, Ok, Err, IfSome, map, filter, true, false, not, nat_eq, nat_lt, ◌&&◌, ◌||◌, if◌then◌else◌, ◌≡◌, ◌<◌, ◌≤◌, ◌⊎◌, ◌^◌, length}
+use Rattle.std.specs.Prelude.{ℕ, Bool, List, [], ◌∷◌, Option, Some, None, Result, Ok, Err, IfSome}
+use Rattle.std.specs.Prelude.{map, filter, true, false, not, nat_eq, nat_lt, ◌&&◌, ◌||◌}
+use Rattle.std.specs.Prelude.{if◌then◌else◌, ◌≡◌, ◌<◌, ◌≤◌, ◌⊎◌, ◌^◌, length}
 use Rattle.eventkey.specs.declared.Signed.{Signed}
 use Rattle.model.specs.Meaning.{Meaning}
 use Rattle.model.specs.World.{below}
 use Rattle.process.specs.Process.{Process}
 use Rattle.process.specs.View.{IsDoneInRange, has_early, has_foreign, loaded}
-use Rattle.node.specs.Node.{Work, released, reply_of, run_here, sits_on, start, work_here}
+use Rattle.node.specs.Node.{Work, released_processes, reply_of, run_here, sits_on, start, work_here}
 use Rattle.node.specs.declared.Load.{Load}
 use Rattle.node.specs.declared.NodeFault.{NodeFault}
-use Rattle.node.specs.declared.NodeFault.TheVariants.{BelowFloor, FloorFell, NoMemory, NotMine, NumberLimit, Spent}
+use Rattle.node.specs.declared.NodeFault.TheVariants.{BelowFloor, FloorFell, NoMemory, NotMine}
+use Rattle.node.specs.declared.NodeFault.TheVariants.{NumberLimit, Spent}
 use Rattle.node.specs.declared.Parcel.{Parcel}
 use Rattle.node.specs.declared.Part.{Part}
 use Rattle.node.specs.declared.Reply.{Reply}
@@ -39,13 +42,15 @@ pub record IsInRange (p : Part) : Type 0 where
 
 -- the parts are those of the node's processes, ascending
 abbrev pub is_own_load : ℕ → Load → Bool
-is_own_load lps load = pointwise nat_eq (map (λ (p : Part). p.lp) load.parts) (own_lps load.nodes load.node lps)
+is_own_load lps load = pointwise nat_eq (map (λ (p : Part). p.lp) load.parts)
+    (own_lps load.nodes load.node lps)
 
 -- why a load is refused, if it is: for what is not the node's or not for the process of its part,
 -- or for what is pending before the floor
 abbrev pub load_refusal : ℕ → Load → Option NodeFault
 load_refusal lps load =
-    if not (is_own_load lps load) || list_any (λ (p : Part). has_foreign p.lp p.pending) load.parts then Some NotMine
+    if not (is_own_load lps load) || list_any (λ (p : Part). has_foreign p.lp p.pending) load.parts
+    then Some NotMine
     else if list_any (λ (p : Part). has_early load.floor p.pending) load.parts then Some BelowFloor
     else None
 
@@ -62,11 +67,16 @@ loaded_node lps load = record {
 
 -- what a load makes of a model of so many processes
 abbrev pub load_answer : ℕ → Load → Result Node NodeFault
-load_answer lps load = elim (load_refusal lps load) [ Some fault ↦ Err fault | None ↦ Ok (loaded_node lps load) ]
+load_answer lps load = elim (load_refusal lps load) [
+  | Some fault ↦ Err fault
+  | None ↦ Ok
+      (loaded_node lps load)
+]
 
 -- this was made of a load; or there was no memory
 abbrev pub IsLoaded : ℕ → Load → Result Node NodeFault → Type 0
-IsLoaded lps load result = (result ≡ load_answer lps load) ⊎ ((load_refusal lps load ≡ None) × (result ≡ Err NoMemory))
+IsLoaded lps load result = (result ≡ load_answer lps load) ⊎ ((load_refusal lps load ≡ None)
+    × (result ≡ Err NoMemory))
 
 -- Handling a parcel
 
@@ -78,15 +88,17 @@ is_own n lp = sits_on n.nodes n.node lp && nat_lt lp n.lps
 abbrev pub first_fault : Node → List Signed → Option NodeFault
 first_fault n [] = None
 first_fault n (s ∷ ss) =
-    if is_own n s.message.to then (if nat_lt s.message.time n.floor then Some BelowFloor else first_fault n ss) else Some NotMine
+    if is_own n s.message.to then (if nat_lt s.message.time n.floor then Some BelowFloor else
+    first_fault n ss) else Some NotMine
 
 -- why a node refuses the whole parcel, if it does
 abbrev pub refusal : Node → Parcel → Option NodeFault
-refusal n parcel = if n.spent then Some Spent else if nat_lt parcel.floor n.floor then Some FloorFell else first_fault n parcel.deliver
+refusal n parcel = if n.spent then Some Spent else if nat_lt parcel.floor n.floor then Some
+    FloorFell else first_fault n parcel.deliver
 
 -- the node after this work, when it has let go of what is below the floor
 abbrev pub after : ℕ → Work → Node → Node
-after floor w n = record n { floor = floor; processes = released floor w }
+after floor w n = record n { floor = floor; processes = released_processes floor w }
 
 -- a node that has ended
 abbrev pub ended : Node → Node

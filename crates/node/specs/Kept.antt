@@ -1,7 +1,8 @@
 -- What a node keeps of its processes while it handles a parcel: they are told truly, nothing before
 -- a time comes into being, and each message is accounted for.
 use Rattle.std.specs.List.{AllByRecursion as Every}
-use Rattle.std.specs.Prelude.{ℕ, ◌%◌, ◌+◌, ◌++◌, ◌/◌, ◌<◌, ◌≡◌, ◌≤◌, ◌^◌, List, Some, flat_map, get_or, length, map}
+use Rattle.std.specs.Prelude.{ℕ, ◌%◌, ◌+◌, ◌++◌, ◌/◌, ◌<◌, ◌≡◌, ◌≤◌, ◌^◌, List, Some, flat_map}
+use Rattle.std.specs.Prelude.{get_or, length, map}
 use Rattle.eventkey.specs.Bag.{copies}
 use Rattle.eventkey.specs.Message.{IsRanged, Message}
 use Rattle.eventkey.specs.Signed.{of_sign}
@@ -23,7 +24,8 @@ own nodes qs lp = get_or qs (lp / nodes) nobody
 
 -- What each process of the node has handled and not told is what the model does.
 abbrev pub HasHistories : Meaning → Node → Type 0
-HasHistories m n = (lp : ℕ) → lp < n.lps → lp % n.nodes ≡ n.node → IsHistory m lp (own n.nodes n.processes lp)
+HasHistories m n = (lp : ℕ) → lp < n.lps → lp % n.nodes ≡ n.node → IsHistory m lp
+    (own n.nodes n.processes lp)
 
 -- A node that is loaded has handled nothing.
 abbrev pub HistoriesBegin : Type 0
@@ -50,11 +52,14 @@ pub record HasRanged (q : Process) : Type 0 where
 
 -- The processes of a node: each is told truly, its messages are in their ranges, and none waits
 -- before low.
-pub record IsKept (m : Meaning) (nodes node floor low : ℕ) (past : Past) (qs : List Process) : Type 0 where
+pub record IsNodeKept (m : Meaning) (nodes node floor low : ℕ) (past : Past) (qs : List Process) :
+    Type 0 where
   pub size : length qs ≡ length (own_lps nodes node m.lps)
-  pub told : (lp : ℕ) → lp < m.lps → lp % nodes ≡ node → IsTold m lp past.time (past.state lp) (past.number lp) floor (past.told lp) (own nodes qs lp)
+  pub told : (lp : ℕ) → lp < m.lps → lp % nodes ≡ node → IsTold m lp past.time (past.state lp)
+      (past.number lp) floor (past.told lp) (own nodes qs lp)
   pub ranged : Every HasRanged qs
-  pub late : Every (λ (q : Process). Every (λ (x : Message). low ≤ x.time) (q.waiting ++ q.antis)) qs
+  pub late : Every (λ (q : Process). Every (λ (x : Message). low ≤ x.time) (q.waiting ++ q.antis))
+      qs
 
 -- a message or an antimessage under way: for a process that exists, in its ranges, and not before
 -- low
@@ -65,28 +70,42 @@ pub record IsUnderWay (lps low : ℕ) (s : Signed) : Type 0 where
 
 -- What a node makes of what is delivered to it: its processes stay so, what it sends is not before
 -- low, and each message is accounted for.
-pub record IsWorkKept (m : Meaning) (nodes node floor low : ℕ) (past : Past) (deliver : List Signed) (qs : List Process) (w : Work) : Type 0 where
-  pub kept : IsKept m nodes node floor low past w.processes
+pub record IsWorkKept (m : Meaning) (nodes node floor low : ℕ) (past : Past) (deliver : List Signed)
+    (qs : List Process) (w : Work) : Type 0 where
+  pub kept : IsNodeKept m nodes node floor low past w.processes
   pub out : Every (IsUnderWay m.lps low) w.out
   -- what its process has of a message and the antimessages there, against what was delivered
   pub held_is : (x : Message) → x.to < m.lps → x.to % nodes ≡ node →
-      held x (own nodes w.processes x.to) + copies x (own nodes qs x.to).antis + copies x (of_sign Minus deliver)
-      ≡ held x (own nodes qs x.to) + copies x (own nodes w.processes x.to).antis + copies x (of_sign Plus deliver)
+      held x (own nodes w.processes x.to) + copies x (own nodes qs x.to).antis
+      + copies x (of_sign Minus deliver)
+      ≡ held x (own nodes qs x.to) + copies x (own nodes w.processes x.to).antis
+      + copies x (of_sign Plus deliver)
   -- what was sent, against what went out
-  pub sent_is : (x : Message) → copies x (flat_map sent_by w.processes) + copies x (of_sign Minus w.out) ≡ copies x (flat_map sent_by qs) + copies x (of_sign Plus w.out)
+  pub sent_is : (x : Message) → copies x (flat_map sent_by w.processes)
+      + copies x (of_sign Minus w.out) ≡ copies x (flat_map sent_by qs)
+      + copies x (of_sign Plus w.out)
 
 -- A node that is handed what is under way for its processes works so.
 abbrev pub WorkIsKept : Type 0
-WorkIsKept = (m : Meaning) (end nodes node floor low : ℕ) (past : Past) (parcel : Parcel) (qs : List Process) (w : Work) → IsLawful m → end ≤ 2 ^ 40 → node < nodes → floor ≤ low → IsPast m past →
-    Every (IsUnderWay m.lps low) parcel.deliver → Every (λ (s : Signed). s.message.to % nodes ≡ node) parcel.deliver → IsKept m nodes node floor low past qs →
-    work_here m end nodes parcel qs ≡ Some w → IsWorkKept m nodes node floor low past parcel.deliver qs w
+WorkIsKept = (m : Meaning) (end nodes node floor low : ℕ) (past : Past) (parcel : Parcel)
+    (qs : List Process) (w : Work) → IsLawful m → end ≤ 2 ^ 40 → node < nodes → floor ≤ low →
+    IsPast m past →
+    Every (IsUnderWay m.lps low) parcel.deliver → Every (λ (s : Signed). s.message.to % nodes
+    ≡ node) parcel.deliver → IsNodeKept m nodes node floor low past qs →
+    work_here m end nodes parcel qs ≡ Some w → IsWorkKept m nodes node floor low past parcel.deliver
+    qs w
 
 -- what was told until now, and what these processes tell of their handlings before a floor
 abbrev pub told_too : ℕ → ℕ → List Process → Past → Past
-told_too nodes floor qs past = record past { told = λ (lp : ℕ). past.told lp ++ fossils_of floor (own nodes qs lp) }
+told_too nodes floor qs past = record past {
+  told = λ (lp : ℕ). past.told lp ++ fossils_of floor
+      (own nodes qs lp);
+}
 
 -- A node that tells what is below a floor that nothing is before, and lets go of it, keeps its
 -- processes so.
 abbrev pub ReleasingIsKept : Type 0
-ReleasingIsKept = (m : Meaning) (nodes node floor floor' low : ℕ) (past : Past) (qs : List Process) → node < nodes → past.time ≤ floor → floor ≤ floor' → floor' ≤ low →
-    IsKept m nodes node floor low past qs → IsKept m nodes node floor' low (told_too nodes floor' qs past) (map (λ (q : Process). release floor' q) qs)
+ReleasingIsKept = (m : Meaning) (nodes node floor floor' low : ℕ) (past : Past) (qs : List Process)
+    → node < nodes → past.time ≤ floor → floor ≤ floor' → floor' ≤ low →
+    IsNodeKept m nodes node floor low past qs → IsNodeKept m nodes node floor' low
+    (told_too nodes floor' qs past) (map (λ (q : Process). release floor' q) qs)

@@ -1,11 +1,14 @@
 -- A node at work on its own processes: deliveries, turns, collection. Process lp is its number lp /
 -- nodes.
-use Rattle.std.specs.Prelude.{ℕ, List, [], ◌∷◌, Option, Some, None, ◌++◌, flat_map, ◌%◌, Bool, nat_eq, if◌then◌else◌, ◌/◌, get_or, ◌+◌, set, map, nat_lt, zero, suc, min}
+use Rattle.std.specs.Prelude.{ℕ, List, [], ◌∷◌, Option, Some, None, ◌++◌, flat_map, ◌%◌, Bool}
+use Rattle.std.specs.Prelude.{nat_eq, if◌then◌else◌, ◌/◌, get_or, ◌+◌, set, map, nat_lt, zero, suc}
+use Rattle.std.specs.Prelude.{min}
 use Rattle.eventkey.specs.Message.{Message, is_before}
 use Rattle.eventkey.specs.Signed.{plus}
 use Rattle.eventkey.specs.declared.Signed.{Signed}
 use Rattle.model.specs.Meaning.{Meaning}
-use Rattle.process.specs.Process.{Process, arrive, fossils_of, handle, handling_of, has_room, nobody, release, taken_back}
+use Rattle.process.specs.Process.{Process, arrive, fossils_of, handle, handling_of, has_room}
+use Rattle.process.specs.Process.{nobody, release, taken_back}
 pub use Rattle.queues.specs.Queue.{first_time}
 use Rattle.node.specs.declared.Parcel.{Parcel}
 use Rattle.node.specs.declared.Reply.{Reply}
@@ -75,19 +78,28 @@ run_one_here m nodes x w = record {
 
 abbrev pub turn_here : Meaning → ℕ → ℕ → (Work → Option Work) → Work → Option Message → Option Work
 turn_here m end nodes rest w None = Some w
-turn_here m end nodes rest w (Some x) = if nat_lt x.time end then (if has_room m x (here nodes w x.to) then rest (run_one_here m nodes x w) else None) else Some w
+turn_here m end nodes rest w (Some x) = if nat_lt x.time end then
+    (if has_room m x (here nodes w x.to) then rest (run_one_here m nodes x w) else None) else Some w
 
 abbrev pub run_here : Meaning → ℕ → ℕ → ℕ → Work → Option Work
 run_here m end nodes zero w = Some w
-run_here m end nodes (suc budget) w = turn_here m end nodes (λ (v : Work). run_here m end nodes budget v) w (least_of w.processes)
+run_here m end nodes (suc budget) w = turn_here m end nodes (λ (v : Work). run_here m end nodes
+    budget v) w (least_of w.processes)
 
 -- what the node makes of a parcel before it collects
 abbrev pub work_here : Meaning → ℕ → ℕ → Parcel → List Process → Option Work
-work_here m end nodes parcel qs = run_here m end nodes parcel.budget (deliver_here nodes parcel.deliver (start qs))
+work_here m end nodes parcel qs = run_here m end nodes parcel.budget
+    (deliver_here nodes parcel.deliver (start qs))
 
 abbrev pub reply_of : ℕ → Work → Reply
-reply_of floor w = record { out = w.out; low = low_of w.processes; fossils = flat_map (λ (q : Process). fossils_of floor q) w.processes; ran = w.ran }
+reply_of floor w = record {
+  out = w.out;
+  low = low_of w.processes;
+  fossils = flat_map
+      (λ (q : Process). fossils_of floor q) w.processes;
+  ran = w.ran;
+}
 
 -- the processes of the node afterwards
-abbrev pub released : ℕ → Work → List Process
-released floor w = map (λ (q : Process). release floor q) w.processes
+abbrev pub released_processes : ℕ → Work → List Process
+released_processes floor w = map (λ (q : Process). release floor q) w.processes

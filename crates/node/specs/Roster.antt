@@ -1,7 +1,8 @@
 -- How the roster of a node stands: its processes, each at its place, and the tournament of what is
 -- known of them.
 use Rattle.std.specs.List.{AllByRecursion as Every}
-use Rattle.std.specs.Prelude.{ℕ, Bool, false, List, [], Some, None, map, if◌then◌else◌, ◌≡◌, ◌≤◌, ◌<◌, ◌⊎◌, ◌^◌}
+use Rattle.std.specs.Prelude.{ℕ, Bool, false, List, [], Some, None, map, if◌then◌else◌, ◌≡◌, ◌≤◌}
+use Rattle.std.specs.Prelude.{◌<◌, ◌⊎◌, ◌^◌}
 use Rattle.eventkey.specs.Message.{Message}
 use Rattle.eventkey.specs.declared.Signed.{Signed}
 use Rattle.process.specs.Process.{Process}
@@ -32,7 +33,13 @@ place_of r = record { node = r.node; nodes = r.nodes; lps = r.lps; end = r.end; 
 
 -- the same with another floor
 abbrev pub at_floor : ℕ → Place → Place
-at_floor floor p = record { node = p.node; nodes = p.nodes; lps = p.lps; end = p.end; floor = floor }
+at_floor floor p = record {
+  node = p.node;
+  nodes = p.nodes;
+  lps = p.lps;
+  end = p.end;
+  floor = floor;
+}
 
 abbrev pub processes_of : List ProcessView → List Process
 processes_of seats = map (λ (q : ProcessView). q.process) seats
@@ -53,7 +60,8 @@ pub record IsModelled (m : Meaning) (q : ProcessView) : Type 0 where
   pub history : IsHistory m q.lp q.process
 
 -- the processes of a node that is not spent, and what stands of them in its tournament
-pub record IsStaffed (p : Place) (seats : List ProcessView) (standings : List Standing) : Type 0 where
+pub record IsStaffed (p : Place) (seats : List ProcessView) (standings : List Standing) :
+    Type 0 where
   pub node : p.node < p.nodes
   pub end : p.end ≤ 2 ^ 40
   pub lps : lps_of seats ≡ own_lps p.nodes p.node p.lps
@@ -68,8 +76,17 @@ abbrev pub work_of : Roster → List Signed → ℕ → Work
 work_of r out ran = record { processes = processes_of r.processes.items; out = out; ran = ran }
 
 -- nothing is seen of the processes of a node that has ended
-abbrev pub node_of : Bool → Roster → Node
-node_of spent r = record { node = r.node; nodes = r.nodes; lps = r.lps; end = r.end; floor = r.floor; spent = spent; processes = if spent then [] else processes_of r.processes.items }
+abbrev pub node_of_roster : Bool → Roster → Node
+node_of_roster spent r = record {
+  node = r.node;
+  nodes = r.nodes;
+  lps = r.lps;
+  end = r.end;
+  floor = r.floor;
+  spent = spent;
+  processes = if spent then [] else processes_of
+      r.processes.items;
+}
 
 -- the reply to a parcel that is not refused, and the node then
 pub record IsWorked (m : Meaning) (parcel : Parcel) (old new : Node) (reply : Reply) : Type 0 where
@@ -80,4 +97,5 @@ pub record IsWorked (m : Meaning) (parcel : Parcel) (old new : Node) (reply : Re
 
 -- a parcel that is not refused fails: there is no memory, or a send number would pass its limit
 abbrev pub Fails : Meaning → Parcel → Node → NodeFault → Type 0
-Fails m parcel old fault = (fault ≡ NoMemory) ⊎ ((fault ≡ NumberLimit) × (work_here m old.end old.nodes parcel old.processes ≡ None))
+Fails m parcel old fault = (fault ≡ NoMemory) ⊎ ((fault ≡ NumberLimit)
+    × (work_here m old.end old.nodes parcel old.processes ≡ None))

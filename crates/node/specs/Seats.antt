@@ -25,4 +25,10 @@ is_due floor (Some time) = nat_lt time floor
 
 -- the process of a part, as it is loaded
 abbrev pub seat_of : ℕ → Part → ProcessView
-seat_of floor p = record { lp = p.lp; floor = floor; spent = false; process = loaded p.words p.number p.pending }
+seat_of floor p = record {
+  lp = p.lp;
+  floor = floor;
+  spent = false;
+  process = loaded p.words
+      p.number p.pending;
+}

@@ -1,6 +1,7 @@
 -- A tournament (Knuth, The Art of Computer Programming 3, tree selection): leaves, and a tree of
 -- the places of those that won, so that the leaf whose message comes first is known at any time.
-use Rattle.std.specs.Prelude.{ℕ, List, [], ◌∷◌, Option, None, IfSome, length, get_or, ◌+◌, ◌*◌, ◌/◌, ◌≡◌, ◌≤◌, ◌<◌, ◌^◌, zero, suc}
+use Rattle.std.specs.Prelude.{ℕ, List, [], ◌∷◌, Option, None, IfSome, length, get_or, ◌+◌, ◌*◌, ◌/◌}
+use Rattle.std.specs.Prelude.{◌≡◌, ◌≤◌, ◌<◌, ◌^◌, zero, suc}
 use Rattle.eventkey.specs.Message.{Message}
 use Rattle.node.specs.Node.{earliest, lesser}
 use Rattle.node.specs.declared.standing.Standing.{Standing}

@@ -24,7 +24,7 @@ pub struct Node {
     roster: Roster,
 }
 
-// Written out, so that whoever drops one proves nothing of its parts.
+// Not derived: each caller that drops one would prove again how its parts are dropped.
 impl Drop for Node {
     fn drop(self) {
         let Node {
@@ -40,9 +40,9 @@ impl std::marker::Model for Node {
 
     ghost Value = { Node };
 
-    ghost use Rattle.node.specs.Roster.{IsReady, node_of};
+    ghost use Rattle.node.specs.Roster.{IsReady, node_of_roster};
 
-    ghost view = { λ n. node_of n.spent n.roster };
+    ghost view = { λ n. node_of_roster n.spent n.roster };
 
     ghost invariant = { λ n. n.spent ≡ false → IsReady n.roster };
 }
@@ -120,7 +120,7 @@ impl Node {
         if let Some(fault) = self.refusal(&parcel) {
             return Err(fault);
         }
-        // Until all is done: want of memory may come halfway.
+        // Cleared at the end: where memory is refused midway, the value stays spent.
         self.spent = true;
         let reply = self.roster.handle(model, parcel)?;
         self.spent = false;

@@ -10,7 +10,7 @@ ghost use Rattle.node.specs.Handling.{IsReplyInRange, after, first_fault, is_own
 ghost use Rattle.node.specs.Node.{deliver_here, deliver_one_here, here, reply_of, run_here};
 ghost use Rattle.node.specs.Node.{run_one_here, start};
 ghost use Rattle.node.specs.Roster.{Fails, IsModelled, IsReady, IsStaffed, IsWorked, at_floor};
-ghost use Rattle.node.specs.Roster.{node_of, place_of, processes_of, work_of};
+ghost use Rattle.node.specs.Roster.{node_of_roster, place_of, processes_of, work_of};
 ghost use Rattle.node.specs.Tournament.{least_among};
 ghost use Rattle.node.specs.declared.NodeFault.TheVariants.{NoMemory, NumberLimit};
 
@@ -40,7 +40,7 @@ impl Roster {
     /// Whether process `lp` is one of the node's.
     pub(crate) fn is_own(&self, lp: u32) -> bool
         requires { self.now.node < self.now.nodes }
-        ensures { result ≡ is_own (node_of false self.now) lp }
+        ensures { result ≡ is_own (node_of_roster false self.now) lp }
     {
         lp % self.nodes == self.node && lp < self.lps
     }
@@ -48,7 +48,7 @@ impl Roster {
     /// Why the first delivery at fault is refused, if there is one.
     pub(crate) fn first_fault(&self, deliveries: &[Signed]) -> Option<NodeFault>
         requires { self.now.node < self.now.nodes }
-        ensures { result ≡ first_fault (node_of false self.now) deliveries.now }
+        ensures { result ≡ first_fault (node_of_roster false self.now) deliveries.now }
     {
         for delivery in deliveries {
             if !self.is_own(delivery.message.to()) {
@@ -70,7 +70,7 @@ impl Roster {
     ) -> Result<(), NodeFault>
         requires ready { IsReady self.old }
         requires modelled { Every (IsModelled (M.meaning model.now)) self.old.processes.items }
-        requires own { is_own (node_of false self.old) delivery.now.message.to ≡ true }
+        requires own { is_own (node_of_roster false self.old) delivery.now.message.to ≡ true }
         requires late { self.old.floor ≤ delivery.now.message.time }
         ensures ready { OnOk result (IsReady self.new) }
         ensures modelled { OnOk result
@@ -97,7 +97,7 @@ impl Roster {
     ) -> Result<(), NodeFault>
         requires ready { IsReady self.old }
         requires modelled { Every (IsModelled (M.meaning model.now)) self.old.processes.items }
-        requires accepted { first_fault (node_of false self.old) deliveries.now ≡ None }
+        requires accepted { first_fault (node_of_roster false self.old) deliveries.now ≡ None }
         ensures ready { OnOk result (IsReady self.new) }
         ensures modelled { OnOk result
             (Every (IsModelled (M.meaning model.now)) self.new.processes.items) }
@@ -229,8 +229,8 @@ impl Roster {
         ensures ready { OnOk result (IsReady self.new) }
         ensures modelled { OnOk result
             (Every (IsModelled (M.meaning model.now)) self.new.processes.items) }
-        ensures node { OnOk result (node_of false self.new ≡ after floor (work_of self.old [] 0)
-            (node_of false self.old)) }
+        ensures node { OnOk result (node_of_roster false self.new
+            ≡ after floor (work_of self.old [] 0) (node_of_roster false self.old)) }
         ensures fossils { IfOk result (λ fossils. fossils.items
             ≡ (reply_of floor (work_of self.old [] 0)).fossils) }
         ensures range { IfOk result (λ fossils. Every IsDoneInRange fossils.items) }
@@ -258,17 +258,17 @@ impl Roster {
         requires ready { IsReady self.old }
         requires lps { (M.meaning model.now).lps ≡ self.old.lps }
         requires modelled { Every (IsModelled (M.meaning model.now)) self.old.processes.items }
-        requires accepted { first_fault (node_of false self.old) parcel.deliver ≡ None }
+        requires accepted { first_fault (node_of_roster false self.old) parcel.deliver ≡ None }
         requires floor { self.old.floor ≤ parcel.floor }
         ensures ready { OnOk result (IsReady self.new) }
         ensures modelled { OnOk result
             (Every (IsModelled (M.meaning model.now)) self.new.processes.items) }
         ensures handled { IfOk result (λ reply. IsWorked (M.meaning model.now) parcel
-            (node_of false self.old) (node_of false self.new) reply) }
+            (node_of_roster false self.old) (node_of_roster false self.new) reply) }
         ensures range { IfOk result IsReplyInRange }
         ensures place { OnErr result (place_of self.new ≡ place_of self.old) }
         ensures failed { IfErr result (λ fault. Fails (M.meaning model.now) parcel
-            (node_of false self.old) fault) }
+            (node_of_roster false self.old) fault) }
         ensures limit { parcel.deliver ≡ [] → 0 < parcel.budget → run_here
             (M.meaning model.now) self.old.end self.old.nodes 1
             (start (processes_of self.old.processes.items)) ≡ None → result ≡ Err NumberLimit }

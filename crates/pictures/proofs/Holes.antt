@@ -5,13 +5,13 @@ use Rattle.std.proofs.lemmas.List.{drop_all, drop_more}
 use Rattle.pictures.specs.Filled.{filled}
 
 -- no hole is in these bytes
-abbrev pub IsWhole : List ℕ → Type 0
-IsWhole bytes = (i : ℕ) → i < length bytes → get_or bytes i 0 ≢ 36
+abbrev pub HasNoHole : List ℕ → Type 0
+HasNoHole bytes = (i : ℕ) → i < length bytes → get_or bytes i 0 ≢ 36
 
-tail_whole : (b : ℕ) (bs : List ℕ) → IsWhole (b ∷ bs) → IsWhole bs
+tail_whole : (b : ℕ) (bs : List ℕ) → HasNoHole (b ∷ bs) → HasNoHole bs
 tail_whole b bs h = λ i l. h (suc i) (omega arith)
 
-pub filled-hole : (before after : List ℕ) (n : ℕ) (ns : List ℕ) → IsWhole before
+pub filled-hole : (before after : List ℕ) (n : ℕ) (ns : List ℕ) → HasNoHole before
     → filled (before ++ (36 ∷ after)) (n ∷ ns) ≡ before ++ decimal n ++ filled after ns
 unfolding filled
 filled-hole [] after n ns h = refl
@@ -25,7 +25,7 @@ unfolding filled
 filled-none [] = refl
 filled-none (b ∷ bs) = refl
 
-pub filled-whole : (bytes ns : List ℕ) → IsWhole bytes → filled bytes ns ≡ bytes
+pub filled-whole : (bytes ns : List ℕ) → HasNoHole bytes → filled bytes ns ≡ bytes
 unfolding filled
 filled-whole [] ns h = refl
 filled-whole (b ∷ bs) [] h = refl
@@ -35,7 +35,7 @@ filled-whole (b ∷ bs) (n ∷ ns) h =
     (λ e. ap (λ t. b ∷ t) (filled-whole bs (n ∷ ns) (tail_whole b bs h)))
 
 -- the text from a number on begins with what stands before its hole, and the number
-pub filled-next : (text before after numbers : List ℕ) (i : ℕ) → text ≡ before ++ (36 ∷ after) → IsWhole before → i < length numbers
+pub filled-next : (text before after numbers : List ℕ) (i : ℕ) → text ≡ before ++ (36 ∷ after) → HasNoHole before → i < length numbers
     → filled text (drop i numbers) ≡ before ++ decimal (get_or numbers i 0) ++ filled after (drop (i + 1) numbers)
 filled-next text before after numbers i parts whole l =
     ap (λ t. filled t (drop i numbers)) parts ∙ ap (filled (before ++ (36 ∷ after))) (drop_more numbers i 0 l) ∙ filled-hole before after (get_or numbers i 0) (drop (i + 1) numbers) whole

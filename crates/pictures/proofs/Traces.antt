@@ -7,7 +7,7 @@ use Rattle.model.specs.Runner.{IsReached, Simulation}
 use Rattle.model.specs.World.{IsUpto, World, opening}
 use Rattle.model.proofs.Steps.{IsUpto_IsReached, opening_is_upto}
 use Rattle.model.proofs.Worlds.{opening_IsWorld}
-use Rattle.pictures.specs.Inside.{IsWhole}
+use Rattle.pictures.specs.Inside.{IsWholeRun}
 use Rattle.pictures.specs.Run.{Run, sends_of}
 
 pub length-sends_of : (m : Meaning) (states : List (List ℕ)) (log : List Message) → length (sends_of m states log) ≡ length log
@@ -35,7 +35,7 @@ pub length-opening : (m : Meaning) → IsLawful m → (first : List ℕ) → fir
 length-opening m law first e = ap length e ∙ (opening_IsWorld m law).numbers
 
 pub run_whole : (m : Meaning) (w : World) (r : Run) → IsLawful m → IsReached m.lps w → r.time ≤ 2 ^ 40 → r.events ≡ w.log → r.pending ≡ w.pending → r.first ≡ (opening m).numbers
-    → (states : List (List ℕ)) → r.sends ≡ sends_of m states r.events → IsWhole r
+    → (states : List (List ℕ)) → r.sends ≡ sends_of m states r.events → IsWholeRun r
 run_whole m w r law is early events pending first states sends =
     let lps = length-opening m law r.first first in
     record {

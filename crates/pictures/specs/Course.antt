@@ -1,8 +1,9 @@
--- The course of a run, by the rows of its trace: over its rounds, in at most 90 columns, how far GVT
--- came, how many of the messages handled were worth it, and how many antimessages there were. Rounds
--- from 2^32 on count as that, other numbers and sums from 2^56 on as that.
+-- The course of a run, by the rows of its trace: over its rounds, in at most 90 columns, how far
+-- GVT came, how many of the messages handled were worth it, and how many antimessages there were.
+-- Rounds from 2^32 on count as that, other numbers and sums from 2^56 on as that.
 use Rattle.std.specs.List.{filter}
-use Rattle.std.specs.Prelude.{ℕ, ◌+◌, ◌-◌, ◌*◌, ◌/◌, ◌^◌, ◌&&◌, ◌==◌, Bool, suc, zero, List, [], ◌∷◌, ◌++◌, flat_map, if◌then◌else◌, length, max, min, nat_le, nat_lt}
+use Rattle.std.specs.Prelude.{ℕ, ◌+◌, ◌-◌, ◌*◌, ◌/◌, ◌^◌, ◌&&◌, ◌==◌, Bool, suc, zero, List, []}
+use Rattle.std.specs.Prelude.{◌∷◌, ◌++◌, flat_map, if◌then◌else◌, length, max, min, nat_le, nat_lt}
 use Rattle.model.specs.World.{below}
 use Rattle.pictures.specs.Filled.{filled}
 use Rattle.pictures.specs.declared.courses.Slice.{Slice}
@@ -36,7 +37,8 @@ abbrev pub greatest_of : (Row → ℕ) → List Row → ℕ
 greatest_of f [] = 0
 greatest_of f (r ∷ rs) = max (f r) (greatest_of f rs)
 
--- the rows with another commit than the row before, the first of which comes after one with this time
+-- the rows with another commit than the row before, the first of which comes after one with this
+-- time
 abbrev pub committing : ℕ → List Row → List Row
 committing time [] = []
 committing time (r ∷ rs) =
@@ -73,7 +75,8 @@ slice_of rows from to = record {
   events = events_before to rows - events_before from rows;
   handled = sum_between (λ r. r.handled) from to rows;
   antimessages = sum_between (λ r. r.antimessages) from to rows;
-  commits = capped (length (filter (is_between from to) (committing (at_first (λ r. r.committed) rows) rows)));
+  commits = capped
+      (length (filter (is_between from to) (committing (at_first (λ r. r.committed) rows) rows)));
 }
 
 -- events committed of messages handled, in percent

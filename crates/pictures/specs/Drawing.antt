@@ -2,14 +2,16 @@
 -- event, and a line for each message from its sending to its receiving. Coordinates are whole
 -- pixels.
 use Rattle.std.specs.List.{filter}
-use Rattle.std.specs.Prelude.{ℕ, ◌+◌, ◌-◌, ◌*◌, ◌/◌, ◌^◌, ◌&&◌, Bool, List, [], ◌∷◌, ◌++◌, drop, flat_map, if◌then◌else◌, length, max, min, nat_le, nat_lt, take}
+use Rattle.std.specs.Prelude.{ℕ, ◌+◌, ◌-◌, ◌*◌, ◌/◌, ◌^◌, ◌&&◌, Bool, List, [], ◌∷◌, ◌++◌, drop}
+use Rattle.std.specs.Prelude.{flat_map, if◌then◌else◌, length, max, min, nat_le, nat_lt, take}
 use Rattle.eventkey.specs.Message.{Message}
 use Rattle.model.specs.World.{below}
 use Rattle.pictures.specs.Filled.{filled}
 use Rattle.pictures.specs.Run.{Run, sent_at}
 use Rattle.pictures.specs.declared.drawn.Frame.{Frame}
 use Rattle.pictures.specs.declared.drawn.View.{View}
-use Rattle.pictures.specs.declared.drawn.TheConstants.{DOT, HEAD, LINE, NOTE, PENDING, ROW, RULE, STEPS, STYLE, TAIL, TICK}
+use Rattle.pictures.specs.declared.drawn.TheConstants.{DOT, HEAD, LINE, NOTE, PENDING, ROW, RULE}
+use Rattle.pictures.specs.declared.drawn.TheConstants.{STEPS, STYLE, TAIL, TICK}
 
 -- the part of a run that a picture shows: ticks from one to another, and so many processes, at
 -- most 64, from the first on

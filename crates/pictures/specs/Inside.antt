@@ -20,7 +20,7 @@ abbrev pub lists : List (Vec ℕ Global) → List (List ℕ)
 lists rows = map (λ (row : Vec ℕ Global). row.items) rows
 
 -- what holds of each run
-pub record IsWhole (r : Run) : Type 0 where
+pub record IsWholeRun (r : Run) : Type 0 where
   pub time : r.time ≤ 2 ^ 40
   pub few : length r.first ≤ 1024
   pub sends : length r.sends ≡ length r.events
@@ -28,5 +28,5 @@ pub record IsWhole (r : Run) : Type 0 where
   pub pending : Every (IsAddressed (length r.first)) r.pending
 
 pub record IsTrace (t : Inside) : Type 0 where
-  pub whole : IsWhole (run_of t)
+  pub whole : IsWholeRun (run_of t)
   pub times : (lp : ℕ) → get_or (lists t.times.items) lp [] ≡ sending_times (run_of t) lp

@@ -1,7 +1,8 @@
 -- The load of a run: how many events each process handled in each slice of virtual time, as a heat
 -- map.
 use Rattle.std.specs.List.{filter}
-use Rattle.std.specs.Prelude.{ℕ, ◌+◌, ◌-◌, ◌*◌, ◌/◌, ◌%◌, ◌^◌, ◌&&◌, ◌==◌, Bool, List, [], ◌∷◌, ◌++◌, flat_map, length, max, min, nat_le, nat_lt, suc, zero}
+use Rattle.std.specs.Prelude.{ℕ, ◌+◌, ◌-◌, ◌*◌, ◌/◌, ◌%◌, ◌^◌, ◌&&◌, ◌==◌, Bool, List, [], ◌∷◌}
+use Rattle.std.specs.Prelude.{◌++◌, flat_map, length, max, min, nat_le, nat_lt, suc, zero}
 use Rattle.eventkey.specs.Message.{Message}
 use Rattle.model.specs.World.{below}
 use Rattle.pictures.specs.Drawing.{bottom_of, frame_of, rows_text, span_of, ticks_text}

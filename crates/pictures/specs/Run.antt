@@ -1,6 +1,7 @@
 -- What a run was made of: its events, how many messages each handling sent, and so when each
 -- message was sent.
-use Rattle.std.specs.Prelude.{ℕ, ◌≡◌, ◌==◌, List, [], ◌∷◌, ◌++◌, if◌then◌else◌, get_or, length, min, replicate, set}
+use Rattle.std.specs.Prelude.{ℕ, ◌≡◌, ◌==◌, List, [], ◌∷◌, ◌++◌, if◌then◌else◌, get_or, length, min}
+use Rattle.std.specs.Prelude.{replicate, set}
 use Rattle.eventkey.specs.Message.{Message}
 use Rattle.model.specs.Meaning.{Meaning}
 use Rattle.model.specs.Runner.{IsLimited, IsRun}

@@ -1,5 +1,6 @@
 -- The figures of a run as texts: a table, and comma-separated values.
-use Rattle.std.specs.Prelude.{ℕ, ◌-◌, ◌/◌, ◌%◌, List, [], ◌∷◌, ◌++◌, codes, decimal, flat_map, length, replicate}
+use Rattle.std.specs.Prelude.{ℕ, ◌-◌, ◌/◌, ◌%◌, List, [], ◌∷◌, ◌++◌, codes, decimal, flat_map}
+use Rattle.std.specs.Prelude.{length, replicate}
 use Rattle.pictures.specs.Filled.{filled}
 use Rattle.pictures.specs.declared.counted.Busy.{Busy}
 use Rattle.pictures.specs.declared.counted.Figures.{Figures}

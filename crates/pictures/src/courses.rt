@@ -1,7 +1,8 @@
 // The course of a run: what it did, round by round.
 
 ghost use Rattle.std.specs.List.{filter};
-ghost use Rattle.std.specs.Prelude.{◌≡◌, ◌≤◌, ◌<◌, ◌+◌, ◌-◌, ◌*◌, ◌/◌, ◌^◌, ◌++◌, ◌&&◌, ◌==◌, ℕ, flat_map, length, not};
+ghost use Rattle.std.specs.Prelude.{◌≡◌, ◌≤◌, ◌<◌, ◌+◌, ◌-◌, ◌*◌, ◌/◌, ◌^◌, ◌++◌, ◌&&◌, ◌==◌, ℕ};
+ghost use Rattle.std.specs.Prelude.{flat_map, length, not};
 ghost use Rattle.eventkey.specs.Writing.{Writes};
 ghost use Rattle.model.specs.World.{below};
 ghost use Rattle.pictures.specs.Course.{at_first, capped, column_of, column_start, column_text};
@@ -97,14 +98,14 @@ $ antimessages, $ commits</text>
 </svg>
 ";
 
-/// Writes the course of a run, of the rows of its trace, as a stand-alone SVG: at most 90 columns, each
-/// for a slice of the rounds, with GVT at its end, how many events were committed in it of the messages
-/// handled in it, in percent, how many antimessages were delivered in it, and whether there was a commit
-/// in it; and a line of words with the sums. Rounds from 2^32 on count as that, other numbers and sums
-/// from 2^56 on as that.
+/// Writes the course of a run, of the rows of its trace, as a stand-alone SVG: at most 90 columns,
+/// each for a slice of the rounds, with GVT at its end, how many events were committed in it of the
+/// messages handled in it, in percent, how many antimessages were delivered in it, and whether
+/// there was a commit in it; and a line of words with the sums. Rounds from 2^32 on count as that,
+/// other numbers and sums from 2^56 on as that.
 ///
-/// Where the writer fails, what it has taken is a beginning of the text, and the answer is its error. It
-/// costs the rows, eight times for each column, and takes no memory.
+/// Where the writer fails, what it has taken is a beginning of the text, and the answer is its
+/// error. It costs the rows, eight times for each column, and takes no memory.
 pub fn write_course<W: Write>(rows: &[Row], out: &mut W) -> Result<()>
     ensures { Writes (W.contents out.old) (W.contents out.new) result (course_text rows.now) }
 {

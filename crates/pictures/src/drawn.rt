@@ -1,12 +1,15 @@
 // The space-time diagram of a run.
 
 ghost use Rattle.std.specs.List.{filter};
-ghost use Rattle.std.specs.Prelude.{◌≡◌, ◌≤◌, ◌<◌, ◌+◌, ◌-◌, ◌*◌, ◌^◌, ◌++◌, drop, flat_map, length};
+ghost use Rattle.std.specs.Prelude.{◌≡◌, ◌≤◌, ◌<◌, ◌+◌, ◌-◌, ◌*◌, ◌^◌, ◌++◌, drop, flat_map};
+ghost use Rattle.std.specs.Prelude.{length};
 ghost use Rattle.eventkey.specs.Writing.{Writes};
 ghost use Rattle.model.specs.World.{below};
 ghost use Rattle.pictures.specs.Drawing.{bottom_of, drawing_text, first_tick, frame_of, head_text};
-ghost use Rattle.pictures.specs.Drawing.{is_shown, mark_numbers, marks_text, note_text, picture_text};
-ghost use Rattle.pictures.specs.Drawing.{row_text, rows_text, rule_text, shown_count, span_of, step_from};
+ghost use Rattle.pictures.specs.Drawing.{is_shown, mark_numbers, marks_text, note_text};
+ghost use Rattle.pictures.specs.Drawing.{picture_text};
+ghost use Rattle.pictures.specs.Drawing.{row_text, rows_text, rule_text, shown_count, span_of};
+ghost use Rattle.pictures.specs.Drawing.{step_from};
 ghost use Rattle.pictures.specs.Drawing.{step_of, tick_count, tick_text, ticks_text, x_of, y_of};
 ghost use Rattle.pictures.specs.Filled.{filled as filled_with};
 

@@ -30,9 +30,9 @@ const CELL: &str = "\
 <title>process $, $ to $: $ events</title></rect>
 ";
 
-/// Writes how many events each process handled in each slice of virtual time as a stand-alone SVG: a
-/// rectangle for each, up to 64 slices and the first 64 processes of the view, in ten depths of colour
-/// of which the last is that of the most events. Times from 2^41 on count as that.
+/// Writes how many events each process handled in each slice of virtual time as a stand-alone SVG:
+/// a rectangle for each, up to 64 slices and the first 64 processes of the view, in ten depths of
+/// colour of which the last is that of the most events. Times from 2^41 on count as that.
 ///
 /// Where the writer fails, what it has taken is a beginning of the text, and the answer is its
 /// error. It costs the events, twice for each process shown, and takes no memory.

@@ -40,8 +40,8 @@ process,handled,sent
 const CSV_ROW: &str = "$,$,$\n";
 
 /// Writes the figures of a run as a table: a line of words; the least, the lower median and the
-/// greatest of the events handled and the messages sent by a process and of the ticks that a message
-/// was on its way; and the ten busiest processes.
+/// greatest of the events handled and the messages sent by a process and of the ticks that a
+/// message was on its way; and the ten busiest processes.
 ///
 /// Where the writer fails, what it has taken is a beginning of the text, and the answer is its
 /// error.

@@ -6,8 +6,9 @@ ghost use Rattle.std.specs.Prelude.{length, map, replicate, set};
 ghost use Rattle.model.specs.Meaning.{IsAddressed, IsWords};
 ghost use Rattle.model.specs.World.{opening as opening_of};
 ghost use Rattle.model.specs.declared.WorldFault.TheVariants.{NumberLimit};
-ghost use Rattle.pictures.specs.Inside.{IsWhole, lists};
-ghost use Rattle.pictures.specs.Run.{IsOverLimit, IsRunOf, sending_times, sends_of as sends_from, sent_at, sent_in};
+ghost use Rattle.pictures.specs.Inside.{IsWholeRun, lists};
+ghost use Rattle.pictures.specs.Run.{IsOverLimit, IsRunOf, sending_times, sends_of as sends_from};
+ghost use Rattle.pictures.specs.Run.{sent_at, sent_in};
 
 use eventkey::Message;
 use model::{Model, Words, World, WorldFault, WorldParts};
@@ -24,7 +25,7 @@ pub struct Trace {
     times: Vec<Vec<u64>>,
 }
 
-// Written out, so that whoever drops one proves nothing of its parts.
+// Not derived: each caller that drops one would prove again how its parts are dropped.
 impl Drop for Trace {
     fn drop(self) {
         let Trace {
@@ -60,7 +61,7 @@ impl Trace {
     /// How many messages each process sent at the opening.
     pub fn first(&self) -> &[u64]
         ensures first { result.now ≡ self.now.first }
-        ensures whole { IsWhole self.now }
+        ensures whole { IsWholeRun self.now }
     {
         self.first.as_slice()
     }
@@ -115,7 +116,7 @@ pub fn trace_of<M: Model>(alloc: Global, model: &M, end: u64, to: u64) -> Result
     requires some { 1 ≤ end }
     requires end { end ≤ 2 ^ 40 }
     ensures run { IfOk result (λ t. IsRunOf (M.meaning model.now) end to t) }
-    ensures whole { IfOk result (λ t. IsWhole t) }
+    ensures whole { IfOk result (λ t. IsWholeRun t) }
     ensures limit { result ≡ Err WorldFault.NumberLimit →
         IsOverLimit (M.meaning model.now) end to }
 {

@@ -90,9 +90,9 @@ impl From<IoError> for NotRead {
 
 /// The rows of a trace's text.
 ///
-/// A text is `BadTrace` that is not the line of names and then rows: each of 11 numbers below 2^64 in
-/// plain decimal digits, with commas between and a line feed behind. It costs the text's bytes, and
-/// memory for the rows and for the text once more.
+/// A text is `BadTrace` that is not the line of names and then rows: each of 11 numbers below 2^64
+/// in plain decimal digits, with commas between and a line feed behind. It costs the text's bytes,
+/// and memory for the rows and for the text once more.
 pub fn read_rows(alloc: Global, text: &[u8]) -> Result<Vec<Row>, NotRead>
     ensures { IfOk result (λ rows. trace_text rows.items ≡ text.now) }
 {
@@ -133,7 +133,8 @@ fn is_text_of(alloc: Global, rows: &[Row], text: &[u8]) -> Result<bool, NotRead>
 
 /// Writes the line of a trace that names the fields of its rows.
 ///
-/// Where the writer fails, what it has taken is a beginning of the line, and the answer is its error.
+/// Where the writer fails, what it has taken is a beginning of the line, and the answer is its
+/// error.
 pub fn write_names<W: Write>(out: &mut W) -> IoResult<()>
     ensures { Writes (W.contents out.old) (W.contents out.new) result TRACE_HEAD.now }
 {
@@ -160,7 +161,8 @@ fn write_turns<W: Write>(rows: &[Row], out: &mut W) -> IoResult<()>
 
 /// Writes the row of a turn.
 ///
-/// Where the writer fails, what it has taken is a beginning of the row, and the answer is its error.
+/// Where the writer fails, what it has taken is a beginning of the row, and the answer is its
+/// error.
 pub fn write_turn<W: Write>(row: &Row, out: &mut W) -> IoResult<()>
     ensures { Writes (W.contents out.old) (W.contents out.new) result (turn_text row.now) }
 {

@@ -9,9 +9,15 @@ view_of p = record {
   lp = p.lp;
   floor = p.floor;
   spent = p.spent;
-  process = record { done = p.history; waiting = p.queue.waiting; antis = p.queue.antis; state = p.state; number = p.number };
+  process = record {
+    done = p.history;
+    waiting = p.queue.waiting;
+    antis = p.queue.antis;
+    state = p.state;
+    number = p.number;
+  };
 }
 
 -- a process that is not spent is sound, and its queue has done what its history tells
-abbrev pub IsWhole : Inside → Type 0
-IsWhole p = p.spent ≡ false → (p.queue.done ≡ messages p.history) × IsSound (view_of p)
+abbrev pub IsWholeProcess : Inside → Type 0
+IsWholeProcess p = p.spent ≡ false → (p.queue.done ≡ messages p.history) × IsSound (view_of p)

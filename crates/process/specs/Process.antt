@@ -7,7 +7,8 @@ use Rattle.eventkey.specs.Message.{Message}
 use Rattle.eventkey.specs.Signed.{minus}
 use Rattle.eventkey.specs.declared.Signed.{Signed}
 use Rattle.model.specs.Meaning.{Meaning, stamp}
-use Rattle.queues.specs.Record.{handled_before, handled_from, messages, number_before, sent_in, state_before}
+use Rattle.queues.specs.Record.{handled_before, handled_from, messages, number_before, sent_in}
+use Rattle.queues.specs.Record.{state_before}
 use Rattle.queues.specs.declared.Record.{Record}
 use Rattle.queues.specs.Queue.{Queue, arrived, back, but_last, last_of}
 
@@ -40,7 +41,12 @@ taken_back s q = map minus (sent_in (last_of (back s (queue_of q)) q.done))
 
 -- What one process makes of a message: the handling, and the process after it
 abbrev pub handling_of : Meaning → ℕ → Message → Process → Record
-handling_of m lp x q = record { message = x; before = q.state; number_before = q.number; sent = stamp lp x.time q.number (m.sends lp q.state x) }
+handling_of m lp x q = record {
+  message = x;
+  before = q.state;
+  number_before = q.number;
+  sent = stamp lp x.time q.number (m.sends lp q.state x);
+}
 
 abbrev pub handle : Meaning → ℕ → Message → Process → Process
 handle m lp x q = record {
@@ -69,10 +75,17 @@ release floor q = record q { done = handled_from floor q.done }
 -- these handlings are told, where this state and number came after them
 abbrev pub told : List Record → List ℕ → ℕ → List Done
 told [] state number = []
-told (h ∷ hs) state number = record { message = h.message; sent = h.sent; after = state_before hs state; number_after = number_before hs number } ∷ told hs state number
+told (h ∷ hs) state number = record {
+  message = h.message;
+  sent = h.sent;
+  after = state_before hs
+      state;
+  number_after = number_before hs number;
+} ∷ told hs state number
 
 abbrev pub fossils_of : ℕ → Process → List Done
-fossils_of floor q = told (handled_before floor q.done) (state_before (handled_from floor q.done) q.state) (number_before (handled_from floor q.done) q.number)
+fossils_of floor q = told (handled_before floor q.done) (state_before (handled_from floor q.done)
+    q.state) (number_before (handled_from floor q.done) q.number)
 
 -- the state after these handlings that were told, or this one where there are none
 abbrev pub state_after : List Done → List ℕ → List ℕ

@@ -15,7 +15,14 @@ ring_meaning = record {
   start_state = λ lp. 0 ∷ [];
   start_sends = λ lp. [];
   next_state = λ lp state x. counted state ∷ [];
-  sends = λ lp state x. record { to = (lp + 1) % 3; delay = 2; a = x.a; b = (x.b + 1) % 2 ^ 64; c = x.c; d = x.d } ∷ [];
+  sends = λ lp state x. record {
+    to = (lp + 1) % 3;
+    delay = 2;
+    a = x.a;
+    b = (x.b + 1) % 2 ^ 64;
+    c = x.c;
+    d = x.d;
+  } ∷ [];
 }
 
 pub ring_lawful : IsLawful ring_meaning
@@ -29,5 +36,17 @@ ring_lawful = record {
   start = λ lp l. tt;
   words = λ lp state x l words is. (lit≤ tt, (omega arith, tt));
   few = λ lp state x l words is. lit≤ tt;
-  each = λ lp state x l words is. (record { delay = lit≤ tt; delay_fits = lit< tt; to = mod-lt (lp + 1) (lit≤ tt); a = is.a; b = mod-lt (x.b + 1) (lit< tt); c = is.c; d = is.d }, tt);
+  each = λ lp state x l words is. (
+    record {
+      delay = lit≤ tt;
+      delay_fits = lit< tt;
+      to = mod-lt
+          (lp + 1) (lit≤ tt);
+      a = is.a;
+      b = mod-lt (x.b + 1) (lit< tt);
+      c = is.c;
+      d = is.d;
+    },
+    tt,
+  );
 }

@@ -1,7 +1,8 @@
 -- What a caller sees of a logical process, and what its calls answer and leave (this project's
 -- profile).
 use Rattle.std.specs.List.{AllByRecursion as Every, list_any}
-use Rattle.std.specs.Prelude.{not, nat_lt, ◌==◌, ℕ, Bool, false, true, List, [], ◌++◌, map, Some, length, ◌≡◌, ◌≤◌, ◌^◌}
+use Rattle.std.specs.Prelude.{not, nat_lt, ◌==◌, ℕ, Bool, false, true, List, [], ◌++◌, map, Some}
+use Rattle.std.specs.Prelude.{length, ◌≡◌, ◌≤◌, ◌^◌}
 use Rattle.eventkey.specs.Bag.{add_all}
 use Rattle.eventkey.specs.Message.{Message}
 use Rattle.eventkey.specs.Signed.{plus}
@@ -14,7 +15,8 @@ use Rattle.process.specs.Process.{Process, handle, handling_of, has_room, queue_
 use Rattle.process.specs.Told.{IsFold, IsHistory}
 use Rattle.process.specs.declared.Done.{Done}
 use Rattle.process.specs.declared.ProcessFault.{ProcessFault}
-use Rattle.process.specs.declared.ProcessFault.TheVariants.{BelowFloor, NoMemory, NotMine, NumberLimit, Spent}
+use Rattle.process.specs.declared.ProcessFault.TheVariants.{BelowFloor, NoMemory, NotMine}
+use Rattle.process.specs.declared.ProcessFault.TheVariants.{NumberLimit, Spent}
 
 -- a process, its number, the floor before which it takes nothing, and whether it has ended at want
 -- of memory or at the number limit
@@ -39,7 +41,8 @@ pub record IsSound (v : ProcessView) : Type 0 where
 -- What the process has done is what the model does, from this state and send number on to those
 -- that it has.
 abbrev pub HasDone : Meaning → ProcessView → List ℕ → ℕ → Type 0
-HasDone m v state number = IsFold m v.lp state number v.process.done v.process.state v.process.number
+HasDone m v state number = IsFold m v.lp state number v.process.done v.process.state
+    v.process.number
 
 -- what is told of a handling, in range
 pub record IsDoneInRange (d : Done) : Type 0 where
@@ -49,11 +52,18 @@ pub record IsDoneInRange (d : Done) : Type 0 where
 
 -- the process in this state, with this send number, for which these messages wait
 abbrev pub loaded : List ℕ → ℕ → List Message → Process
-loaded state number pending = record { done = []; waiting = add_all pending []; antis = []; state = state; number = number }
+loaded state number pending = record {
+  done = [];
+  waiting = add_all pending [];
+  antis = [];
+  state = state;
+  number = number;
+}
 
 -- A process that is loaded has nothing handled.
 abbrev pub HistoriesBegin : Type 0
-HistoriesBegin = (m : Meaning) (lp : ℕ) (state : List ℕ) (number : ℕ) (pending : List Message) → IsHistory m lp (loaded state number pending)
+HistoriesBegin = (m : Meaning) (lp : ℕ) (state : List ℕ) (number : ℕ) (pending : List Message) →
+    IsHistory m lp (loaded state number pending)
 
 -- one of these messages is for another process; the time of one is below the floor
 abbrev pub has_foreign : ℕ → List Message → Bool
@@ -67,12 +77,15 @@ has_early floor xs = list_any (λ (x : Message). nat_lt x.time floor) xs
 abbrev pub IsRefused : ProcessFault → ProcessView → ProcessView → List Signed → List Signed → Type 0
 IsRefused NotMine old new before after = (new ≡ old) × (after ≡ before)
 IsRefused BelowFloor old new before after = (new ≡ old) × (after ≡ before)
-IsRefused NoMemory old new before after = (new.spent ≡ true) × (more : List Signed) × (after ≡ before ++ more)
-IsRefused NumberLimit old new before after = (new.spent ≡ true) × (more : List Signed) × (after ≡ before ++ more)
+IsRefused NoMemory old new before after = (new.spent ≡ true) × (more : List Signed)
+    × (after ≡ before ++ more)
+IsRefused NumberLimit old new before after = (new.spent ≡ true) × (more : List Signed)
+    × (after ≡ before ++ more)
 IsRefused Spent old new before after = (new ≡ old) × (after ≡ before)
 
 -- the least waiting message below the end was handled, and what it sends was appended
-pub record HasRun (m : Meaning) (end : ℕ) (old new : ProcessView) (before after : List Signed) : Type 0 where
+pub record HasRun (m : Meaning) (end : ℕ) (old new : ProcessView) (before after : List Signed) :
+    Type 0 where
   pub message : Message
   pub next : first_before end old.process.waiting ≡ Some message
   pub process : new ≡ record old { process = handle m old.lp message old.process }

@@ -23,7 +23,7 @@ use std::alloc::{AllocError, AllocFailed};
 use thiserror::Error;
 
 /// What a process handled. State words are kept for one handling in eight, and the others are
-/// rebuilt by going forward.
+/// rebuilt by coasting forward.
 pub(crate) type Handled = History<8>;
 
 /// Why a process refuses a call.

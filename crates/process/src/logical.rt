@@ -39,7 +39,7 @@ pub struct Process {
     number: u64,
 }
 
-// Written out, so that whoever drops one proves nothing of its parts.
+// Not derived: each caller that drops one would prove again how its parts are dropped.
 impl Drop for Process {
     fn drop(self) {
         let Process {
@@ -57,21 +57,22 @@ impl Drop for Process {
 
 impl std::marker::Model for Process {
     ghost use Rattle.process.specs.View.{ProcessView};
-    ghost use Rattle.process.specs.Inside.{view_of, IsWhole};
+    ghost use Rattle.process.specs.Inside.{view_of, IsWholeProcess};
 
     ghost Value = { ProcessView };
 
     ghost view = { view_of };
 
-    ghost invariant = { IsWhole };
+    ghost invariant = { IsWholeProcess };
 }
 
 impl Process {
     /// The greatest send number.
     pub const NUMBER_LIMIT: u64 = 1 << 63;
 
-    /// The process number `lp` in the state of these words, whose next send has this number, and
-    /// for which these messages wait, in whatever order they are handed in. NotMine where one of
+    /// The process number `lp` in the state of these words, at most 16, whose next send has this
+    /// number, at most 2^63, and for which these messages wait, in whatever order they are handed
+    /// in. NotMine where one of
     /// them is for another process; else BelowFloor where the time of one is below the floor, in
     /// ticks.
     pub fn load(
@@ -84,7 +85,12 @@ impl Process {
     ) -> Result<Process, ProcessFault>
         requires few { length words.items ≤ 16 }
         requires number { number ≤ 2 ^ 63 }
-        ensures loaded { IfOk result (λ p. p ≡ record { lp = lp; floor = floor; spent = false; process = loaded words.items number pending.items }) }
+        ensures loaded { IfOk result (λ p. p ≡ record {
+          lp = lp;
+          floor = floor;
+          spent = false;
+          process = loaded words.items number pending.items;
+        }) }
         ensures not_mine { (result ≡ Err NotMine) ↔ (has_foreign lp pending.items ≡ true) }
         ensures below_floor { (result ≡ Err BelowFloor) ↔ ((has_foreign lp pending.items ≡ false)
             × (has_early floor pending.items ≡ true)) }
@@ -175,9 +181,10 @@ impl Process {
         self.queue.antis_len()
     }
 
-    /// A message or an antimessage arrives. What it undoes is taken back: state and send number are
-    /// again those from before it, and the antimessages of its sends are appended to `out`, those
-    /// of the earliest handling first.
+    /// A message or an antimessage arrives. Where it is a straggler, or takes back a message that
+    /// is handled, what it undoes is taken back: state and send number are again those from before
+    /// it, and the antimessages of its sends are appended to `out`, those of the earliest handling
+    /// first.
     ///
     /// Spent where the process is; NotMine where the message is for another process; BelowFloor
     /// where its time is below the floor, whatever its sign. These change nothing; want of memory
@@ -219,7 +226,7 @@ impl Process {
         if signed.message.time() < self.floor {
             return Err(ProcessFault::BelowFloor);
         }
-        // Until all is done: want of memory may come halfway.
+        // Cleared at the end: where memory is refused midway, the value stays spent.
         self.spent = true;
         let arrival = self.queue.arrive(signed)?;
         let back = arrival.back();
@@ -257,8 +264,8 @@ impl Process {
         }
     }
 
-    /// Handles the least waiting message, if its time is below `end`, in ticks, and appends what it
-    /// sends to `out`. It answers whether there was one.
+    /// Handles the least waiting message, if its time is below `end`, at most 2^40 ticks, and
+    /// appends what it sends to `out`. It answers whether there was one.
     ///
     /// Spent where the process is. NumberLimit where the sends would take the send number past its
     /// limit: then, and after want of memory, the process is spent.
@@ -304,7 +311,7 @@ impl Process {
         model::ranged(self.state.words().as_slice());
         let (words, sends) = model.handle(self.alloc, self.lp, self.state.words(), &message);
         let count = sends.len() as u64;
-        // Until all is done: want of memory may come halfway.
+        // Cleared at the end: where memory is refused midway, the value stays spent.
         self.spent = true;
         if count > Process::NUMBER_LIMIT - self.number {
             return Err(ProcessFault::NumberLimit);
@@ -327,7 +334,8 @@ impl Process {
     }
 
     /// Takes the handlings below the floor, in ticks, out and answers them in their order, each
-    /// with what the process was after it. The floor is then the process's.
+    /// with what the process was after it. The floor, which is not below the process's, is then its
+    /// own.
     ///
     /// Spent where the process is, which changes nothing; want of memory leaves the process spent.
     pub fn collect<M: Simulated>(
@@ -361,8 +369,8 @@ impl Process {
         Ok(fossils)
     }
 
-    /// The same, but the handlings go straight to the end of `fossils`; at want of memory some of
-    /// them may be there.
+    /// As `collect`, but appends the handlings to `fossils`, which may hold some of them where
+    /// memory is refused.
     pub fn collect_into<M: Simulated>(
         &mut self,
         model: &M,
@@ -382,7 +390,10 @@ impl Process {
         ensures lp { self.new.lp ≡ self.old.lp }
         ensures floor { OnErr result (self.new.floor ≡ self.old.floor) }
         ensures range { OnOk result (Every IsDoneInRange (fossils_of floor self.old.process)) }
-        ensures done { (m : Meaning) (state : List ℕ) (number : ℕ) → HasDone m self.old state number → OnOk result (let told = fossils_of floor self.old.process in IsToldFold m self.old.lp state number told × HasDone m self.new (state_after told state) (number_after told number)) }
+        ensures done { (m : Meaning) (state : List ℕ) (number : ℕ) → HasDone m self.old state number
+            → OnOk result (let told = fossils_of floor self.old.process in IsToldFold m self.old.lp
+            state number told × HasDone m self.new (state_after told state)
+            (number_after told number)) }
         ensures history { self.new.spent ≡ false →
             IsHistory (M.meaning model.now) self.new.lp self.new.process }
         ensures refused { IfErr result (λ fault. IsRefused fault self.old self.new [] []) }
@@ -390,7 +401,7 @@ impl Process {
         if self.spent {
             return Err(ProcessFault::Spent);
         }
-        // Until all is done: want of memory may come halfway.
+        // Cleared at the end: where memory is refused midway, the value stays spent.
         self.spent = true;
         self.queue.release(floor);
         tell(

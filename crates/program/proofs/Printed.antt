@@ -18,7 +18,7 @@ use Rattle.recovery.specs.Replay.{IsReplayedTo}
 use Rattle.recovery.specs.Stands.{IsGenuine}
 use Rattle.texts.specs.ModelFile.{IsModelFile}
 use Rattle.wire.specs.Port.{PortState}
-use Rattle.program.specs.Command.{Begins, Describes, IsCarriedOn, IsCommitted, IsRan, IsRanBehind, IsWhole, IsWrittenAnew, Prints, PrintsBeginning, PrintsRun, run_text}
+use Rattle.program.specs.Command.{Begins, Describes, IsCarriedOn, IsCommitted, IsRan, IsRanBehind, IsWholeSimulation, IsWrittenAnew, Prints, PrintsBeginning, PrintsRun, run_text}
 use Rattle.program.specs.declared.fault.Fault.{Fault}
 use Rattle.program.specs.declared.fault.Fault.TheVariants as fault
 
@@ -216,10 +216,10 @@ module _ {M : Type 0} (meaning : M → Meaning) (says : Describes M) {old new : 
       p.part,
     )
 
-  pub whole_printed : (source : List ℕ) → PrintsRun meaning says source old new → Prints (IsWhole meaning says) old new
+  pub whole_printed : (source : List ℕ) → PrintsRun meaning says source old new → Prints (IsWholeSimulation meaning says) old new
   whole_printed source p = (run_text p.world, record { source = source; model = p.model; end = p.end; world = p.world; file = p.file; upto = p.upto; is = refl }, p.printed)
 
-  pub whole_begun : (source : List ℕ) → PrintsBeginning meaning says source old new → Begins (IsWhole meaning says) old new
+  pub whole_begun : (source : List ℕ) → PrintsBeginning meaning says source old new → Begins (IsWholeSimulation meaning says) old new
   whole_begun source p = (run_text p.world, record { source = source; model = p.model; end = p.end; world = p.world; file = p.file; upto = p.upto; is = refl }, p.part)
 
 -- a run over whatever ports

@@ -1,6 +1,7 @@
 -- What the program prints (this project's profile).
 use Rattle.std.specs.Io.KnownBytes.{Appends}
-use Rattle.std.specs.Prelude.{◌≡◌, ◌≤◌, ◌^◌, ◌+◌, ◌-◌, ◌&&◌, ℕ, Bool, true, false, List, [], ◌++◌, None, Option, Some, codes, decimal, filter, if◌then◌else◌}
+use Rattle.std.specs.Prelude.{◌≡◌, ◌≤◌, ◌^◌, ◌+◌, ◌-◌, ◌&&◌, ℕ, Bool, true, false, List, [], ◌++◌}
+use Rattle.std.specs.Prelude.{None, Option, Some, codes, decimal, filter, if◌then◌else◌}
 use Rattle.std.specs.Prelude.{is_none, length, min, unwrap_or}
 use Rattle.commands.specs.Commands.{StandsUpto, extended_text, formatted_text, ran_text}
 use Rattle.commands.specs.Migrating.{migrated_text}
@@ -18,8 +19,8 @@ use Rattle.recovery.specs.Ends.{IsLater}
 use Rattle.recovery.specs.Replay.{IsReplayedTo}
 use Rattle.recovery.specs.Stands.{IsGenuine}
 use Rattle.lines.specs.Line.{Says}
-use Rattle.lines.specs.declared.line.Batch.{Batch}
-use Rattle.lines.specs.declared.line.Batch.TheVariants.{Auto, Fixed}
+use Rattle.lines.specs.declared.line.BatchOption.{BatchOption}
+use Rattle.lines.specs.declared.line.BatchOption.TheVariants.{Auto, Fixed}
 use Rattle.lines.specs.declared.line.Line.{Line}
 use Rattle.lines.specs.declared.line.Line.TheVariants.{Check, Extend, Log, Migrate, New, Node, Run}
 use Rattle.lines.specs.declared.line.Line.TheVariants.{Draw, Grow, Seq, Show, Stats, Status}
@@ -150,8 +151,8 @@ pub record IsRan {M : Type 0} (meaning : M → Meaning) (says : Describes M)
   pub genuine : IsGenuine (meaning model) end image → IsRunOf (meaning model) end time events
   pub is : text ≡ ran_text ran time events
 
--- The end that was in force on a disk, whose image is replayed under it, and the later one of the model
--- file.
+-- The end that was in force on a disk, whose image is replayed under it, and the later one of the
+-- model file.
 pub record IsCarriedOn {M : Type 0} (meaning : M → Meaning) (says : Describes M)
     (text : List ℕ) : Type 0 where
   pub source : List ℕ
@@ -174,9 +175,9 @@ grown_text before sectors =
 abbrev pub IsGrown : ℕ → List ℕ → Type 0
 IsGrown sectors text = (before : ℕ) × (before ≤ sectors) × (text ≡ grown_text before sectors)
 
--- The time of a world, and how many events its log has. The image of an old disk holds a log of format 1 of
--- the model, on which the model file's end is in force, and its records, widened, stand for that world
--- under the header of the model with the end that the old header names.
+-- The time of a world, and how many events its log has. The image of an old disk holds a log of
+-- format 1 of the model, on which the model file's end is in force, and its records, widened, stand
+-- for that world under the header of the model with the end that the old header names.
 pub record IsWrittenAnew {M : Type 0} (meaning : M → Meaning) (says : Describes M)
     (text : List ℕ) : Type 0 where
   pub source : List ℕ
@@ -311,7 +312,7 @@ abbrev pub IsShown : {M : Type 0} → (M → Meaning) → Describes M → List �
 IsShown meaning says = IsCommitted meaning says world_text
 
 -- the log and the world of a sequential simulation up to its end
-pub record IsWhole {M : Type 0} (meaning : M → Meaning) (says : Describes M)
+pub record IsWholeSimulation {M : Type 0} (meaning : M → Meaning) (says : Describes M)
     (text : List ℕ) : Type 0 where
   pub source : List ℕ
   pub model : M
@@ -335,13 +336,13 @@ abbrev pub IsSomeChecked : {M : Type 0} → Describes M → Shows M → List ℕ
 IsSomeChecked says shows text = (source : List ℕ) × IsChecked says shows source text
 
 -- how many messages a node may handle at a turn
-abbrev pub driven_by : Batch → DriverBatch
+abbrev pub driven_by : BatchOption → DriverBatch
 driven_by (Fixed messages) = driver.Fixed messages
 driven_by Auto = driver.Adjusting
 
--- How a run is driven, by the values of its line. A commit has room for 299,593 events, and those of
--- a whole round come into it at once, so one is due at 250,000 at the latest.
-abbrev pub plan_of : ℕ → Batch → ℕ → Option ℕ → Option ℕ → Bool → Plan
+-- How a run is driven, by the values of its line. A commit has room for 299,593 events, and those
+-- of a whole round come into it at once, so one is due at 250,000 at the latest.
+abbrev pub plan_of : ℕ → BatchOption → ℕ → Option ℕ → Option ℕ → Bool → Plan
 plan_of nodes batch rounds checkpoint commit_every together = record {
   nodes = nodes;
   batch = driven_by batch;
@@ -352,18 +353,21 @@ plan_of nodes batch rounds checkpoint commit_every together = record {
 }
 
 -- what a run prints, over nodes in this program, or behind sockets in a folder
-abbrev pub IsRanOver : {M : Type 0} → (M → Meaning) → Describes M → {S : Type 0} → Option S → ℕ → List ℕ → Type 0
+abbrev pub IsRanOver : {M : Type 0} → (M → Meaning) → Describes M → {S : Type 0} → Option S → ℕ →
+    List ℕ → Type 0
 IsRanOver meaning says None nodes text = IsRan meaning says nodes text
 IsRanOver meaning says (Some folder) nodes text = IsRanBehind says nodes text
 
 -- a text that the command of a line prints
 abbrev pub IsOutput : {M : Type 0} → (M → Meaning) → Describes M → Shows M → Line → List ℕ → Type 0
 IsOutput meaning says shows (New model disk sectors large) text = IsFormatted sectors text
-IsOutput meaning says shows (Run model disk nodes batch rounds checkpoint commit_every sockets cut together attach trace large) text =
+IsOutput meaning says shows (Run model disk nodes batch rounds checkpoint commit_every sockets cut
+    together attach trace large) text =
     IsRanOver meaning says sockets nodes text
 IsOutput meaning says shows (Extend model disk large) text = IsCarriedOn meaning says text
 IsOutput meaning says shows (Grow model disk sectors large) text = IsGrown sectors text
-IsOutput meaning says shows (Migrate model old new sectors large) text = IsWrittenAnew meaning says text
+IsOutput meaning says shows (Migrate model old new sectors large) text = IsWrittenAnew meaning says
+    text
 IsOutput meaning says shows (Status model disk large) text = IsStatus meaning says text
 IsOutput meaning says shows (Log model disk from to process large) text =
     IsLogged meaning says from to process text
@@ -373,7 +377,7 @@ IsOutput meaning says shows (Draw model disk from to processes load None large) 
     IsDrawn meaning says disk load from to processes text
 IsOutput meaning says shows (Draw model disk from to processes load (Some trace) large) text =
     IsCourse text
-IsOutput meaning says shows (Seq model) text = IsWhole meaning says text
+IsOutput meaning says shows (Seq model) text = IsWholeSimulation meaning says text
 IsOutput meaning says shows (Check model) text = IsSomeChecked says shows text
 IsOutput meaning says shows (Node model socket parcels) text = text ≡ []
 

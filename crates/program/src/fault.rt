@@ -1,9 +1,11 @@
 // Why a command failed.
 
 ghost use Rattle.std.specs.Prelude.{◌≡◌};
-ghost use Rattle.program.specs.Command.{of_command, of_file, of_growing, of_inspection, of_model, of_trace};
+ghost use Rattle.program.specs.Command.{of_command, of_file, of_growing, of_inspection, of_model};
+ghost use Rattle.program.specs.Command.{of_trace};
 ghost use Rattle.program.specs.declared.fault.Fault.TheVariants.{NoMemory, Output};
-ghost use Rattle.program.specs.declared.fault.Fault.TheVariants.{Wire as WireCase, World as WorldCase};
+ghost use Rattle.program.specs.declared.fault.Fault.TheVariants.{Wire as WireCase};
+ghost use Rattle.program.specs.declared.fault.Fault.TheVariants.{World as WorldCase};
 
 use commands::CommandFault;
 use commitlog::LogFault;
@@ -19,7 +21,7 @@ use std::alloc::{AllocError, AllocFailed};
 use std::io::Error as IoError;
 use texts::{Mistake, ModelFault};
 use thiserror::Error;
-use wire::WireFault;
+use wire::{PortFault, WireFault};
 
 /// Why a command failed. Its text is its name, and after a blank that of the fault that it carries.
 #[derive(Clone, Copy, Debug, PartialEq, Eq, Error)]
@@ -89,33 +91,154 @@ impl Fault {
                  for), and that no other run has it; with --sockets, that the folder is there and \
                  holds no socket of an earlier run",
             ),
-            Fault::Log(LogFault::NotBlank) => Some("the disk has a log already, which `new` keeps"),
-            Fault::Log(LogFault::NotFormatted) => Some("`new` makes a log on a disk"),
-            Fault::Recovery(RecoveryFault::OtherModel)
-            | Fault::Session(SessionFault::Recovery(RecoveryFault::OtherModel)) => Some(
-                "the disk was made for another model, another end is in force on it, or it has \
-                 format 1, which `migrate` writes anew",
-            ),
-            Fault::Migrate(MigrateFault::Old(RecoveryFault::OtherModel)) => Some(
-                "the old disk does not have format 1, was made for another model, or another end \
-                 is in force on it",
-            ),
-            Fault::Migrate(MigrateFault::New(LogFault::Full)) => Some(
-                "the new disk has no room for the old one's records: remove its file, and try \
-                 again with more --sectors",
-            ),
-            Fault::Session(SessionFault::EndRefused) => {
-                Some("the model file has to have a later end than the one in force on the disk")
-            }
-            Fault::Session(SessionFault::Full) => Some(
-                "the disk has no room for the next commit: what is committed stays; `grow` makes \
-                 the disk longer, and --commit-every takes fewer commits",
+            Fault::World(fault) => of_world(fault),
+            Fault::Log(fault) => of_log(fault),
+            Fault::Recovery(fault) => of_recovery(fault),
+            Fault::Session(fault) => of_session(fault),
+            Fault::Wire(fault) => of_wire(fault),
+            Fault::Rounds => Some("what is committed stays: run it again, with more --rounds"),
+            Fault::Migrate(fault) => of_migration(fault),
+            Fault::Grow(fault) => Some(of_growth(fault)),
+            Fault::Record { .. } => Some(
+                "the disk is damaged at this record: go on with a copy that was made before, or \
+                 begin anew on another disk",
             ),
             Fault::BadTrace => Some("the file is not as `run --trace` writes one"),
-            Fault::Grow(GrowthFault::Fewer) => Some("the disk has more sectors than asked for"),
-            Fault::Rounds => Some("what is committed stays: run it again, with more --rounds"),
-            _ => None,
+            Fault::Mistake(_) => None,
+            Fault::NoMemory => Some(NO_MEMORY),
+            Fault::Output => Some(
+                "standard output was closed, as by `| head`, or has no room: what is committed \
+                 stays",
+            ),
         }
+    }
+}
+
+/// Where memory ran out.
+const NO_MEMORY: &str =
+    "what is committed stays: run it again with more memory, or take a smaller model";
+
+/// Where the device of a disk failed.
+const NO_DEVICE: &str = "the disk's file could not be written: see that its device has room and \
+                         works; what is committed stays";
+
+/// Where a record of a disk is at fault.
+const DAMAGED: &str = "the disk is damaged: `status` says at which record";
+
+/// Where a log is cut off.
+const CUT_OFF: &str =
+    "the disk is damaged at the beginning of a record: go on with a copy that was \
+                       made before, or begin anew on another disk";
+
+/// What to do about a fault of the plain runner.
+fn of_world(fault: WorldFault) -> Option<&'static str> {
+    match fault {
+        WorldFault::NoMemory => Some(NO_MEMORY),
+        WorldFault::NumberLimit => None,
+    }
+}
+
+/// What to do about a fault of a log.
+fn of_log(fault: LogFault) -> Option<&'static str> {
+    match fault {
+        LogFault::NotBlank => Some("the disk has a log already, which `new` keeps"),
+        LogFault::NotFormatted => Some("`new` makes a log on a disk"),
+        LogFault::Corrupt => Some(CUT_OFF),
+        LogFault::Disk(_) => Some(NO_DEVICE),
+        LogFault::NoMemory => Some(NO_MEMORY),
+        LogFault::Full | LogFault::TooLong | LogFault::Spent => None,
+    }
+}
+
+/// What to do where no world is recovered.
+fn of_recovery(fault: RecoveryFault) -> Option<&'static str> {
+    match fault {
+        RecoveryFault::OtherModel => Some(
+            "the disk was made for another model, another end is in force on it, or it has format \
+             1, which `migrate` writes anew",
+        ),
+        RecoveryFault::Log(fault) => of_log(fault),
+        RecoveryFault::NoMemory => Some(NO_MEMORY),
+        _ => Some(DAMAGED),
+    }
+}
+
+/// What to do where a session stops.
+fn of_session(fault: SessionFault) -> Option<&'static str> {
+    match fault {
+        SessionFault::EndRefused => {
+            Some("the model file has to have a later end than the one in force on the disk")
+        }
+        SessionFault::Full => Some(
+            "the disk has no room for the next commit: what is committed stays; `grow` makes the \
+             disk longer, and --commit-every takes fewer commits",
+        ),
+        SessionFault::TooLong => Some(
+            "a commit has more than a record takes: what is committed stays; run it again with a \
+             lower --batch or --commit-every",
+        ),
+        SessionFault::Port(fault) => Some(of_port(fault)),
+        SessionFault::Disk => Some(NO_DEVICE),
+        SessionFault::NoMemory => Some(NO_MEMORY),
+        SessionFault::Recovery(fault) => of_recovery(fault),
+        _ => None,
+    }
+}
+
+/// What to do where a node is lost to its run.
+fn of_port(fault: PortFault) -> &'static str {
+    match fault {
+        PortFault::Wire(WireFault::NoMemory) => NO_MEMORY,
+        PortFault::Peer(_) => {
+            "a node refused its work, as where its memory ran out: what is committed stays; run it \
+             again"
+        }
+        _ => {
+            "a node's program ended, or its connection failed: what is committed stays; run it \
+             again"
+        }
+    }
+}
+
+/// What to do where a node's program stops.
+fn of_wire(fault: WireFault) -> Option<&'static str> {
+    match fault {
+        WireFault::NoMemory => Some(NO_MEMORY),
+        _ => Some(
+            "the connection to the run failed, or something else than a run is at its other end: \
+             what is committed stays; start the run again",
+        ),
+    }
+}
+
+/// What to do where a disk is not migrated.
+fn of_migration(fault: MigrateFault) -> Option<&'static str> {
+    match fault {
+        MigrateFault::Old(RecoveryFault::OtherModel) => Some(
+            "the old disk does not have format 1, was made for another model, or another end is \
+             in force on it",
+        ),
+        MigrateFault::Old(RecoveryFault::NoMemory) => Some(NO_MEMORY),
+        MigrateFault::Old(RecoveryFault::Log(fault)) => of_log(fault),
+        MigrateFault::Old(_) => Some("the old disk is damaged: go on with a copy of it"),
+        MigrateFault::New(LogFault::Full) => Some(
+            "the new disk has no room for the old one's records: remove its file, and try again \
+             with more --sectors",
+        ),
+        MigrateFault::New(fault) => of_log(fault),
+        MigrateFault::NotEmpty => None,
+    }
+}
+
+/// What to do where a disk does not grow.
+fn of_growth(fault: GrowthFault) -> &'static str {
+    match fault {
+        GrowthFault::Fewer => "the disk has more sectors than asked for",
+        GrowthFault::TooMany => {
+            "a disk has at most 131072 sectors, or with --large 16777216: ask for fewer"
+        }
+        GrowthFault::Device => NO_DEVICE,
+        GrowthFault::NoMemory => NO_MEMORY,
     }
 }
 

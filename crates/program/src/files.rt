@@ -8,7 +8,7 @@ ghost use Rattle.eventkey.specs.Writing.{Writes};
 ghost use Rattle.texts.specs.Mistakes.{AreMistakes};
 ghost use Rattle.texts.specs.ModelFile.{IsModelFile};
 ghost use Rattle.program.specs.Command.{checked_text, run_text, Begins, IsChecked, IsSomeChecked};
-ghost use Rattle.program.specs.Command.{IsWhole, Prints, PrintsBeginning, PrintsRun};
+ghost use Rattle.program.specs.Command.{IsWholeSimulation, Prints, PrintsBeginning, PrintsRun};
 ghost use Rattle.program.specs.declared.fault.Fault.TheVariants.{Output};
 
 use crate::fault::Fault;
@@ -30,9 +30,9 @@ where
     R: Files + AllocGlobal,
     O: Write,
     ensures ok { OnOk result
-        (Prints (IsWhole M.meaning M.says) (O.contents out.old) (O.contents out.new)) }
+        (Prints (IsWholeSimulation M.meaning M.says) (O.contents out.old) (O.contents out.new)) }
     ensures err { OnErr result ((out.new ≡ out.old)
-        ⊎ Begins (IsWhole M.meaning M.says) (O.contents out.old) (O.contents out.new)) }
+        ⊎ Begins (IsWholeSimulation M.meaning M.says) (O.contents out.old) (O.contents out.new)) }
 {
     let bytes = fs::read(rt, model).map_err(unreadable)?;
     let text = text_of(bytes.as_slice()).map_err(ModelFault::BadModel)?;
@@ -91,7 +91,8 @@ pub fn seq<M: Described, O: Write>(alloc: Global, text: &str, out: &mut O) -> Re
 /// Writes a world's log and then the world, and flushes the writer.
 fn write_run<O: Write>(world: World, out: &mut O) -> Result<(), Fault>
     requires { length world.world.states ≡ length world.world.numbers }
-    ensures written { Writes (O.contents out.old) (O.contents out.new) result (run_text world.world) }
+    ensures written { Writes (O.contents out.old) (O.contents out.new) result
+        (run_text world.world) }
     ensures fault { IsOkUnless result Fault.Output }
 {
     let parts = world.into_parts();

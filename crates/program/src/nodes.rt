@@ -93,7 +93,8 @@ where
     told
 }
 
-/// Runs a model on its disk over node programs that are connected. At its end no connection is left.
+/// Runs a model on its disk over node programs that are connected. At its end no connection is
+/// left.
 fn run_met<M, P, O>(
     alloc: Global,
     of: &Simulated<M>,
@@ -109,7 +110,8 @@ where
     O: Write,
     requires nodes { 1 ≤ plan.nodes }
     requires few { plan.nodes ≤ 64 }
-    requires ports { map (λ p. state_of p.held) ports.items ≡ replicate plan.nodes (state_of Fresh) }
+    requires ports { map (λ p. state_of p.held) ports.items ≡ replicate plan.nodes
+        (state_of Fresh) }
     requires file { (text : List ℕ) × IsModelFile M.says text of.now.model of.now.end }
     requires some { 1 ≤ of.now.end }
     requires short { of.now.end ≤ 2 ^ 40 }

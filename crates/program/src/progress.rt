@@ -1,5 +1,6 @@
 // How far a run has come, as a terminal shows it.
 
+use crate::cause::Cause;
 use crate::fault::Fault;
 use driver::{Turn, Watch};
 use std::io::Write;
@@ -19,8 +20,11 @@ pub trait Progress: Watch {
     /// A run has come to its end, and what it prints is printed.
     fn finished(&mut self);
 
-    /// A command has failed, and its fault is told.
-    fn failed(&mut self, fault: Fault);
+    /// Whether somebody sees what is shown.
+    fn is_seen(&self) -> bool;
+
+    /// A command has failed, and its fault is told; of `File` the cause may be known.
+    fn failed(&mut self, fault: Fault, cause: Option<Cause<'_>>);
 }
 
 /// Shows on one line of a terminal which nodes a run waits for, and how far it has come, at most
@@ -301,8 +305,17 @@ impl<C: Clock, T: Write> Progress for TerminalProgress<'_, C, T> {
         }
     }
 
-    fn failed(&mut self, fault: Fault) {
-        if let (Some(terminal), Some(advice)) = (&mut self.terminal, fault.advice()) {
+    fn is_seen(&self) -> bool {
+        self.terminal.is_some()
+    }
+
+    fn failed(&mut self, fault: Fault, cause: Option<Cause<'_>>) {
+        let Some(terminal) = &mut self.terminal else {
+            return;
+        };
+        if let Some(cause) = cause {
+            let _ = writeln!(terminal, "{cause}");
+        } else if let Some(advice) = fault.advice() {
             let _ = writeln!(terminal, "{advice}");
         }
     }

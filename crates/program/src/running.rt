@@ -10,7 +10,7 @@ use crate::nodes::{Behind, run_behind};
 use crate::progress::Progress;
 use crate::tracing::Traced;
 use driver::{Batch as DriverBatch, Plan};
-use lines::Batch;
+use lines::BatchOption;
 use std::fs::{File, OpenOptions};
 use std::io::{BufWriter, Write};
 use std::net::Net;
@@ -44,7 +44,7 @@ pub(crate) struct Way<'a> {
 /// of a whole round come into it at once, so one is due at 250,000 at the latest.
 pub(crate) fn plan_of(
     nodes: u32,
-    batch: Batch,
+    batch: BatchOption,
     rounds: u32,
     checkpoint: Option<u32>,
     commit_every: Option<u32>,
@@ -55,8 +55,8 @@ pub(crate) fn plan_of(
     Plan {
         nodes,
         batch: match batch {
-            Batch::Fixed(messages) => DriverBatch::Fixed(messages),
-            Batch::Auto => DriverBatch::Adjusting,
+            BatchOption::Fixed(messages) => DriverBatch::Fixed(messages),
+            BatchOption::Auto => DriverBatch::Adjusting,
         },
         rounds,
         together,

@@ -6,6 +6,7 @@ ghost use Rattle.clap.specs.Values.{kind_of};
 ghost use Rattle.lines.specs.Line.{refusal_of, IsRanged};
 ghost use Rattle.program.specs.Command.{Begins, BeginsSaid, IsOutput, Prints, PrintsSaid};
 
+use crate::cause::cause_of;
 use crate::disks::{extend_on, format, grow_on, migrate_on, most_sectors, show_of};
 use crate::fault::Fault;
 use crate::files::{check_of, seq_of};
@@ -110,7 +111,7 @@ where
             progress.clear();
             let status = tell(about.name, fault, err);
             tell_all(&found, err);
-            progress.failed(fault);
+            advise(rt, line, fault, progress);
             status
         }
     }
@@ -146,6 +147,21 @@ where
         }
         Err(error) => refuse_words(about.name, error, err),
     }
+}
+
+/// Tells `progress` of the fault with which the command of this line has ended. Where somebody sees
+/// it, the cause of a `File` is looked for.
+fn advise<R, P>(rt: &R, line: Line<'_>, fault: Fault, progress: &mut P)
+where
+    R: Files<File = File> + AllocGlobal,
+    P: Progress,
+{
+    let cause = if matches!(fault, Fault::File) && progress.is_seen() {
+        cause_of(rt, line)
+    } else {
+        None
+    };
+    progress.failed(fault, cause);
 }
 
 /// Does what a line asks for. Node programs are started by this program's name. Where `check` tells

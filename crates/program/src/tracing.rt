@@ -3,6 +3,7 @@
 ghost use Rattle.std.specs.Prelude.{◌≡◌};
 ghost use Rattle.program.specs.Trace.{row_of};
 
+use crate::cause::Cause;
 use crate::fault::Fault;
 use crate::progress::Progress;
 use driver::{Turn, Watch};
@@ -97,7 +98,11 @@ impl<P: Progress, W: Write> Progress for Traced<'_, P, W> {
         self.progress.finished();
     }
 
-    fn failed(&mut self, fault: Fault) {
-        self.progress.failed(fault);
+    fn is_seen(&self) -> bool {
+        self.progress.is_seen()
+    }
+
+    fn failed(&mut self, fault: Fault, cause: Option<Cause<'_>>) {
+        self.progress.failed(fault, cause);
     }
 }

@@ -7,7 +7,7 @@ use Rattle.eventkey.proofs.Lists.{option_map-none}
 use Rattle.model.specs.Meaning.{Meaning}
 use Rattle.process.specs.Process.{Process}
 use Rattle.node.specs.Handling.{Answer, Node, after, answer, answer_by}
-use Rattle.node.specs.Node.{Work, released, reply_of, work_here}
+use Rattle.node.specs.Node.{Work, released_processes, reply_of, work_here}
 use Rattle.node.specs.declared.Parcel.{Parcel}
 use Rattle.node.specs.declared.Reply.{Reply}
 use Rattle.gvt.specs.Ledger.{least_floor}
@@ -25,19 +25,19 @@ node_with m end node nodes floor qs = record { node = node; nodes = nodes; lps =
 
 module _ (m : Meaning) (end node : ℕ) (p : Picture) (parcel : Parcel) (w : Work) where
   many : nodes_of (picture_after_answer node parcel p w) ≡ nodes_of p
-  many = length-set p.nodes node (released parcel.floor w)
+  many = length-set p.nodes node (released_processes parcel.floor w)
 
   -- the node itself
   view_here : node < nodes_of p → node < length p.floors → node_view m end (picture_after_answer node parcel p w) node ≡ after parcel.floor w (node_view m end p node)
   view_here there place =
-      ap (λ (n : ℕ). node_with m end node n (get_or (set p.floors node parcel.floor) node 0) (get_or (set p.nodes node (released parcel.floor w)) node [])) many
-      ∙ ap₂ (λ (floor : ℕ) (qs : List Process). node_with m end node (nodes_of p) floor qs) (get_or-set_same p.floors node parcel.floor 0 place) (get_or-set_same p.nodes node (released parcel.floor w) [] there)
+      ap (λ (n : ℕ). node_with m end node n (get_or (set p.floors node parcel.floor) node 0) (get_or (set p.nodes node (released_processes parcel.floor w)) node [])) many
+      ∙ ap₂ (λ (floor : ℕ) (qs : List Process). node_with m end node (nodes_of p) floor qs) (get_or-set_same p.floors node parcel.floor 0 place) (get_or-set_same p.nodes node (released_processes parcel.floor w) [] there)
 
   -- another one
   view_other : (k : ℕ) → (k ≡ node → ⊥) → node_view m end (picture_after_answer node parcel p w) k ≡ node_view m end p k
   view_other k apart =
-      ap (λ (n : ℕ). node_with m end k n (get_or (set p.floors node parcel.floor) k 0) (get_or (set p.nodes node (released parcel.floor w)) k [])) many
-      ∙ ap₂ (λ (floor : ℕ) (qs : List Process). node_with m end k (nodes_of p) floor qs) (get_or-set_other p.floors node k parcel.floor 0 apart) (get_or-set_other p.nodes node k (released parcel.floor w) [] apart)
+      ap (λ (n : ℕ). node_with m end k n (get_or (set p.floors node parcel.floor) k 0) (get_or (set p.nodes node (released_processes parcel.floor w)) k [])) many
+      ∙ ap₂ (λ (floor : ℕ) (qs : List Process). node_with m end k (nodes_of p) floor qs) (get_or-set_other p.floors node k parcel.floor 0 apart) (get_or-set_other p.nodes node k (released_processes parcel.floor w) [] apart)
 
 -- a node that does not refuse the parcel
 answer_is : (m : Meaning) (end node : ℕ) (p : Picture) (parcel : Parcel) → IsSystem m end p → get_or p.parcels node None ≡ Some parcel →

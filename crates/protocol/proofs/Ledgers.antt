@@ -12,7 +12,7 @@ use Rattle.eventkey.specs.declared.Signed.{Signed}
 use Rattle.model.proofs.Worlds.{get_or-below, length-below}
 use Rattle.model.specs.World.{below}
 use Rattle.process.specs.Process.{Process, release}
-use Rattle.node.specs.Node.{Work, first_time, low_of, released}
+use Rattle.node.specs.Node.{Work, first_time, low_of, released_processes}
 use Rattle.gvt.specs.Ledger.{ledger_floor, least_floor, least_low}
 use Rattle.gvt.specs.Picks.{are_distinct, can_pick, not_picked, picked}
 use Rattle.protocol.proofs.Gvt.{KeptFrom, gvt-le, gvt_above, gvt_nodes, gvt_travelling, kept_by}
@@ -84,7 +84,7 @@ kept_released : (floor : ℕ) (qs : List Process) → flat_map kept_by (map (λ 
 kept_released floor [] = refl
 kept_released floor (q ∷ qs) = ap (λ (xs : List Message). kept_by q ++ xs) (kept_released floor qs)
 
-low_released : (floor : ℕ) (w : Work) → low_of (released floor w) ≡ low_of w.processes
+low_released : (floor : ℕ) (w : Work) → low_of (released_processes floor w) ≡ low_of w.processes
 low_released floor w = ap first_time (kept_released floor w.processes)
 
 pub ledgers_follow : LedgersFollowPictures
@@ -107,7 +107,7 @@ ledgers_follow m end = record {
         parcels = set p.parcels node None;
         lows = lows;
         floors = set p.floors node parcel.floor;
-      }) (ap (λ (low : Option ℕ). set (lows_of p) node low) (sym (low_released parcel.floor w)) ∙ sym (map-set low_of p.nodes node (released parcel.floor w)));
+      }) (ap (λ (low : Option ℕ). set (lows_of p) node low) (sym (low_released parcel.floor w)) ∙ sym (map-set low_of p.nodes node (released_processes parcel.floor w)));
   commits = λ p.
       cond_both (nat_lt p.front.time (least_floor end p.floors)) (commit m (least_floor end p.floors) p) p (λ (q : Picture). ledger_of end q ≡ ledger_of end p) (λ _. refl) (λ _. refl);
 }

@@ -28,8 +28,8 @@ use Rattle.process.specs.declared.Done.{Done}
 use Rattle.node.proofs.Seats.{own_at}
 use Rattle.node.proofs.Works.{not_for, own_released, place, releasing_is_kept, told_words, work_is_kept}
 use Rattle.node.specs.Handling.{own_lps}
-use Rattle.node.specs.Kept.{HasRanged, IsKept, IsPast, IsUnderWay, IsWorkKept, Past, own, told_too}
-use Rattle.node.specs.Node.{Work, released, work_here}
+use Rattle.node.specs.Kept.{HasRanged, IsNodeKept, IsPast, IsUnderWay, IsWorkKept, Past, own, told_too}
+use Rattle.node.specs.Node.{Work, released_processes, work_here}
 use Rattle.node.specs.declared.Parcel.{Parcel}
 use Rattle.gvt.specs.Ledger.{delivered_by}
 use Rattle.protocol.proofs.Fossils.{copies-messages_told, copies-sent_nodes, copies-sent_told, sent-released, told_by-all, told_by-flat_none, told_by-flat_one, told_by-none}
@@ -135,7 +135,7 @@ module _ (m : Meaning) (end : ℕ) (p : Picture) (system : IsSystem m end p) whe
   at_ranged : (node i : ℕ) → node < nodes_of p → i < length (node_of p node) → HasRanged (get_or (node_of p node) i nobody)
   at_ranged = at_place m.lps p system.sound.seated HasRanged (λ lp l. let r = process_in_range lp in record { done = r.0; waiting = r.1; antis = r.2; sent = sent_in_range lp l })
 
-  pub node_kept : (node : ℕ) → node < nodes_of p → IsKept m (nodes_of p) node (get_or p.floors node 0) (gvt end p) (past_of p) (node_of p node)
+  pub node_kept : (node : ℕ) → node < nodes_of p → IsNodeKept m (nodes_of p) node (get_or p.floors node 0) (gvt end p) (past_of p) (node_of p node)
   node_kept node here =
       let h = system.sound in
       let n : ℕ = nodes_of p in
@@ -187,7 +187,7 @@ module _ (m : Meaning) (end node : ℕ) (p : Picture) (system : IsSystem m end p
     pub worked : IsWorkKept m (nodes_of p) node (get_or p.floors node 0) (gvt end p) (past_of p) parcel.deliver (node_of p node) w
     worked = work_is_kept m end (nodes_of p) node (get_or p.floors node 0) (gvt end p) (past_of p) parcel (node_of p node) w system.lawful system.short here floor_under (past_known m end p system) under_way fits.on_node (node_kept m end p system node here) done
 
-    pub let_go : IsKept m (nodes_of p) node parcel.floor (gvt end p) (told_too (nodes_of p) parcel.floor w.processes (past_of p)) (released parcel.floor w)
+    pub let_go : IsNodeKept m (nodes_of p) node parcel.floor (gvt end p) (told_too (nodes_of p) parcel.floor w.processes (past_of p)) (released_processes parcel.floor w)
     let_go = releasing_is_kept m (nodes_of p) node (get_or p.floors node 0) parcel.floor (gvt end p) (past_of p) w.processes here front_under fits.from fits.upto worked.kept
 
     fossils : List Done
@@ -198,7 +198,7 @@ module _ (m : Meaning) (end node : ℕ) (p : Picture) (system : IsSystem m end p
 
     same_nodes : nodes_of new ≡ nodes_of p
     unfolding new
-    same_nodes = length-set p.nodes node (released parcel.floor w)
+    same_nodes = length-set p.nodes node (released_processes parcel.floor w)
 
     -- where the processes of the node are
     own_fossils : (lp : ℕ) → lp < m.lps → lp % nodes_of p ≡ node → Every (λ (d : Done). d.message.to ≡ lp) (fossils_of parcel.floor (own (nodes_of p) w.processes lp))
@@ -232,10 +232,10 @@ module _ (m : Meaning) (end node : ℕ) (p : Picture) (system : IsSystem m end p
         (λ i j. none_there lp i j (λ e. other (ap (λ (k : ℕ). k % nodes_of p) (sym e) ∙ (own_fossils_at i j).2)))
 
     -- where the processes are afterwards
-    process_here : (lp : ℕ) → lp % nodes_of p ≡ node → process_at new lp ≡ own (nodes_of p) (released parcel.floor w) lp
+    process_here : (lp : ℕ) → lp % nodes_of p ≡ node → process_at new lp ≡ own (nodes_of p) (released_processes parcel.floor w) lp
     unfolding new
     process_here lp on =
-        let qs = released parcel.floor w in
+        let qs = released_processes parcel.floor w in
         ap (λ (k : ℕ). get_or (get_or (set p.nodes node qs) (lp % k) []) (lp / k) nobody) (length-set p.nodes node qs)
         ∙ ap (λ (k : ℕ). get_or (get_or (set p.nodes node qs) k []) (lp / nodes_of p) nobody) on
         ∙ ap (λ (ps : List Process). get_or ps (lp / nodes_of p) nobody) (get_or-set_same p.nodes node qs [] here)
@@ -243,21 +243,21 @@ module _ (m : Meaning) (end node : ℕ) (p : Picture) (system : IsSystem m end p
     process_other : (lp : ℕ) → (lp % nodes_of p ≡ node → ⊥) → process_at new lp ≡ process_at p lp
     unfolding new
     process_other lp other =
-        let qs = released parcel.floor w in
+        let qs = released_processes parcel.floor w in
         ap (λ (k : ℕ). get_or (get_or (set p.nodes node qs) (lp % k) []) (lp / k) nobody) (length-set p.nodes node qs)
         ∙ ap (λ (ps : List Process). get_or ps (lp / nodes_of p) nobody) (get_or-set_other p.nodes node (lp % nodes_of p) qs [] other)
 
     floor_here : (lp : ℕ) → lp % nodes_of p ≡ node → floor_at new lp ≡ parcel.floor
     unfolding new
     floor_here lp on =
-        ap (λ (k : ℕ). get_or (set p.floors node parcel.floor) (lp % k) 0) (length-set p.nodes node (released parcel.floor w))
+        ap (λ (k : ℕ). get_or (set p.floors node parcel.floor) (lp % k) 0) (length-set p.nodes node (released_processes parcel.floor w))
         ∙ ap (λ (k : ℕ). get_or (set p.floors node parcel.floor) k 0) on
         ∙ get_or-set_same p.floors node parcel.floor 0 (let a = here in let b = system.sound.seated.floors in omega arith)
 
     floor_other : (lp : ℕ) → (lp % nodes_of p ≡ node → ⊥) → floor_at new lp ≡ floor_at p lp
     unfolding new
     floor_other lp other =
-        ap (λ (k : ℕ). get_or (set p.floors node parcel.floor) (lp % k) 0) (length-set p.nodes node (released parcel.floor w))
+        ap (λ (k : ℕ). get_or (set p.floors node parcel.floor) (lp % k) 0) (length-set p.nodes node (released_processes parcel.floor w))
         ∙ get_or-set_other p.floors node (lp % nodes_of p) parcel.floor 0 other
 
     -- what is told of each process
@@ -289,7 +289,7 @@ module _ (m : Meaning) (end node : ℕ) (p : Picture) (system : IsSystem m end p
     unfolding new
     gvt_kept =
         gvt_above end (gvt end p) new (gvt-le end p)
-        (Every-set (λ (qs : List Process). Every (KeptFrom (gvt end p)) qs) p.nodes node (released parcel.floor w) let_go.late (gvt_nodes end p))
+        (Every-set (λ (qs : List Process). Every (KeptFrom (gvt end p)) qs) p.nodes node (released_processes parcel.floor w) let_go.late (gvt_nodes end p))
         (new_travelling (SignedFrom (gvt end p)) (gvt_travelling end p) (Every-weaker (IsUnderWay m.lps (gvt end p)) (SignedFrom (gvt end p)) (λ s a. a.late) w.out worked.out))
 
     travels : (x : Message) (sign : Sign) → copies x (of_sign sign (travelling new)) + copies x (of_sign sign parcel.deliver) ≡ copies x (of_sign sign (travelling p)) + copies x (of_sign sign w.out)
@@ -313,7 +313,7 @@ module _ (m : Meaning) (end node : ℕ) (p : Picture) (system : IsSystem m end p
     sends : (x : Message) → copies x (all_sent new) + copies x (flat_map sent_by (node_of p node)) ≡ copies x (all_sent p) + copies x (flat_map sent_by w.processes)
     unfolding new
     sends x =
-        let qs = released parcel.floor w in
+        let qs = released_processes parcel.floor w in
         let f = λ (qs : List Process). flat_map sent_by qs in
         omega (
           arith,
@@ -382,8 +382,8 @@ module _ (m : Meaning) (end node : ℕ) (p : Picture) (system : IsSystem m end p
       Every-map IsRanged (λ (d : Done). d.message) new.gathered
           (Every-append (λ (d : Done). IsRanged d.message) p.gathered (flat_map (λ (q : Process). fossils_of parcel.floor q) w.processes)
           (Every-unmap IsRanged (λ (d : Done). d.message) p.gathered system.sound.in_range.0) fossils_ranged),
-      Every-set (λ (qs : List Process). Every IsProcessInRange qs) p.nodes node (released parcel.floor w)
-          (Every-weaker HasRanged IsProcessInRange (λ q a. (a.done, a.waiting, a.antis)) (released parcel.floor w) let_go.ranged) system.sound.in_range.1,
+      Every-set (λ (qs : List Process). Every IsProcessInRange qs) p.nodes node (released_processes parcel.floor w)
+          (Every-weaker HasRanged IsProcessInRange (λ q a. (a.done, a.waiting, a.antis)) (released_processes parcel.floor w) let_go.ranged) system.sound.in_range.1,
       new_travelling (λ (s : Signed). IsRanged s.message) system.sound.in_range.2 (Every-weaker (IsUnderWay m.lps (gvt end p)) (λ (s : Signed). IsRanged s.message) (λ s a. a.ranged) w.out worked.out),
     )
 
@@ -391,7 +391,7 @@ module _ (m : Meaning) (end node : ℕ) (p : Picture) (system : IsSystem m end p
     unfolding new fossils
     new_seated =
         let h = system.sound.seated in
-        let qs = released parcel.floor w in
+        let qs = released_processes parcel.floor w in
         record {
           seats = λ k l. elim (cases_eq k node) [
             | inl e ↦
@@ -430,7 +430,7 @@ module _ (m : Meaning) (end node : ℕ) (p : Picture) (system : IsSystem m end p
             from = omega arith;
             upto = omega arith;
             there = good.there;
-            on_node = subst (λ (n : ℕ). Every (λ (s : Signed). s.message.to % n ≡ k) other.deliver) (sym (length-set p.nodes node (released parcel.floor w))) good.on_node;
+            on_node = subst (λ (n : ℕ). Every (λ (s : Signed). s.message.to % n ≡ k) other.deliver) (sym (length-set p.nodes node (released_processes parcel.floor w))) good.on_node;
           }
     ]
 
@@ -444,7 +444,7 @@ module _ (m : Meaning) (end node : ℕ) (p : Picture) (system : IsSystem m end p
         let start = front_under in
         record {
           front = h.front;
-          some = (let a = h.some in let b = length-set p.nodes node (released parcel.floor w) in omega arith);
+          some = (let a = h.some in let b = length-set p.nodes node (released_processes parcel.floor w) in omega arith);
           seated = new_seated;
           in_range = new_in_range;
           told = new_told;

@@ -118,7 +118,7 @@ MovesMadeAreSound = (m : Meaning) (end : ℕ) (ks : List Move) (p q : Picture) �
 
 -- After any runs of any numbers of nodes the front is the sequential simulation up to its time,
 -- which is not past the end, and its log begins with that of the front after fewer of them.
-pub record IsOneSimulation (m : Meaning) (end : ℕ) (v w : World) : Type 0 where
+pub record AreFrontsOfOneSimulation (m : Meaning) (end : ℕ) (v w : World) : Type 0 where
   pub front : IsUpto m end w.time w
   pub soon : w.time ≤ end
   pub time_rises : v.time ≤ w.time
@@ -127,7 +127,7 @@ pub record IsOneSimulation (m : Meaning) (end : ℕ) (v w : World) : Type 0 wher
 abbrev pub RunsAreOneSimulation : Type 0
 RunsAreOneSimulation = (m : Meaning) (end : ℕ) (rs ss : List Run) → IsLawful m → end ≤ 2 ^ 40 →
     Every (λ (r : Run). 1 ≤ r.nodes) (rs ++ ss) →
-    IsOneSimulation m end (after_runs m end rs (opening m))
+    AreFrontsOfOneSimulation m end (after_runs m end rs (opening m))
     (after_runs m end (rs ++ ss) (opening m))
 
 -- 4. Commits

@@ -9,7 +9,7 @@ use Rattle.gvt.specs.Ledger.{least_floor}
 use Rattle.gvt.specs.Picks.{are_distinct, can_pick, not_picked, picked}
 use Rattle.model.specs.Meaning.{Meaning}
 use Rattle.model.specs.World.{World, at_time, handled}
-use Rattle.node.specs.Node.{Work, released, reply_of, work_here}
+use Rattle.node.specs.Node.{Work, released_processes, reply_of, work_here}
 use Rattle.node.specs.declared.Parcel.{Parcel}
 use Rattle.process.specs.Process.{Process, fossils_of}
 use Rattle.process.specs.declared.Done.{Done}
@@ -39,7 +39,7 @@ picture_after_post end node picks budget p =
 abbrev pub picture_after_answer : ℕ → Parcel → Picture → Work → Picture  -- by this work
 picture_after_answer node parcel p w = record p {
   gathered = p.gathered ++ flat_map (λ (q : Process). fossils_of parcel.floor q) w.processes;
-  nodes = set p.nodes node (released parcel.floor w);
+  nodes = set p.nodes node (released_processes parcel.floor w);
   transit = p.transit ++ w.out;
   parcels = set p.parcels node None;
   floors = set p.floors node parcel.floor;

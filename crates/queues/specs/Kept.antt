@@ -1,4 +1,4 @@
--- How the code keeps records of which not all have their state words.
+-- How the code holds records of which only some keep their state words.
 use Rattle.std.specs.Option.{option_to_list}
 use Rattle.std.specs.Prelude.{Bool, List, [], ◌++◌, map, ◌≡◌, None}
 use Rattle.queues.specs.Sparse.{SparseRecords}
@@ -18,5 +18,5 @@ records_of r = record {
 }
 
 -- only after a first record there are others
-abbrev pub IsWhole : Inside → Type 0
-IsWhole r = r.first ≡ None → r.later.items ≡ []
+abbrev pub HasFirstBeforeOthers : Inside → Type 0
+HasFirstBeforeOthers r = r.first ≡ None → r.later.items ≡ []

@@ -1,7 +1,8 @@
 -- The input queue of a process (Jefferson 1985): what an arrival undoes, meets or leaves, and its
 -- five cases.
 use Rattle.std.specs.List.{AllByRecursion as Every, filter}
-use Rattle.std.specs.Prelude.{ℕ, List, [], ◌∷◌, ◌++◌, length, if◌then◌else◌, nat_le, nat_lt, ◌+◌, ◌≡◌, ◌≤◌, true, false, Option, Some, None}
+use Rattle.std.specs.Prelude.{ℕ, List, [], ◌∷◌, ◌++◌, length, if◌then◌else◌, nat_le, nat_lt, ◌+◌}
+use Rattle.std.specs.Prelude.{◌≡◌, ◌≤◌, true, false, Option, Some, None}
 use Rattle.eventkey.specs.Bag.{IsAscending, add, add_all, copies, is_among, least_time, remove_one}
 use Rattle.eventkey.specs.Message.{IsAtMost, Message, is_before}
 use Rattle.eventkey.specs.Signed.{minus, of_sign, plus}
@@ -35,19 +36,27 @@ pub record Queue : Type 0 where
 abbrev pub back : Signed → Queue → ℕ
 back s q = elim s.sign [
   | Plus ↦ if is_among s.message q.antis then 0 else after s.message q.done
-  | Minus ↦ if is_among s.message q.waiting then 0 else if is_among s.message q.done then after s.message q.done + 1 else 0
+  | Minus ↦ if is_among s.message q.waiting then 0 else if is_among s.message q.done then after
+      s.message q.done + 1 else 0
 ]
 
 -- the last n done messages undone: they wait again
 abbrev pub wait_again : ℕ → Queue → Queue
-wait_again n q = record { done = but_last n q.done; waiting = add_all (last_of n q.done) q.waiting; antis = q.antis }
+wait_again n q = record {
+  done = but_last n q.done;
+  waiting = add_all (last_of n q.done) q.waiting;
+  antis = q.antis;
+}
 
 -- then the message meets its antimessage, or stays for it
 abbrev pub settle : Signed → Queue → Queue
 settle s q = elim s.sign [
   | Plus ↦ if is_among s.message q.antis then record q { antis = remove_one s.message q.antis }
       else record q { waiting = add s.message q.waiting }
-  | Minus ↦ if is_among s.message q.waiting then record q { waiting = remove_one s.message q.waiting }
+  | Minus ↦ if is_among s.message q.waiting then record q {
+    waiting = remove_one s.message
+        q.waiting;
+  }
       else record q { antis = add s.message q.antis }
 ]
 
@@ -57,7 +66,8 @@ arrived s q = settle s (wait_again (back s q) q)
 abbrev pub arrival : Signed → Queue → Arrival
 arrival s q = elim s.sign [
   | Plus ↦ if is_among s.message q.antis then Annihilated 0 else Queued (back s q)
-  | Minus ↦ if is_among s.message q.waiting then Annihilated 0 else if is_among s.message q.done then Annihilated (back s q) else Waits
+  | Minus ↦ if is_among s.message q.waiting then Annihilated 0 else if is_among s.message q.done
+      then Annihilated (back s q) else Waits
 ]
 
 -- how many done messages an arrival undid
@@ -102,14 +112,28 @@ pub record IsInOrder (q : Queue) : Type 0 where
 
 -- the five cases
 pub record ArrivesByCases (m : Message) (q : Queue) : Type 0 where
-  pub plus_meets : is_among m q.antis ≡ true → (back (plus m) q ≡ 0) × (arrived (plus m) q ≡ record q { antis = remove_one m q.antis })
+  pub plus_meets : is_among m q.antis ≡ true → (back (plus m) q ≡ 0)
+      × (arrived (plus m) q ≡ record q { antis = remove_one m q.antis })
   pub plus_waits : is_among m q.antis ≡ false → (back (plus m) q ≡ after m q.done)
-      × (arrived (plus m) q ≡ record { done = but_last (after m q.done) q.done; waiting = add m (add_all (last_of (after m q.done) q.done) q.waiting); antis = q.antis })
-  pub minus_meets : is_among m q.waiting ≡ true → (back (minus m) q ≡ 0) × (arrived (minus m) q ≡ record q { waiting = remove_one m q.waiting })
-  pub minus_undoes : is_among m q.waiting ≡ false → is_among m q.done ≡ true → (back (minus m) q ≡ after m q.done + 1)
-      × (arrived (minus m) q ≡ record { done = but_last (after m q.done + 1) q.done; waiting = remove_one m (add_all (last_of (after m q.done + 1) q.done) q.waiting); antis = q.antis })
+      × (arrived (plus m) q ≡ record {
+        done = but_last (after m q.done) q.done;
+        waiting = add m
+            (add_all (last_of (after m q.done) q.done) q.waiting);
+        antis = q.antis;
+      })
+  pub minus_meets : is_among m q.waiting ≡ true → (back (minus m) q ≡ 0)
+      × (arrived (minus m) q ≡ record q { waiting = remove_one m q.waiting })
+  pub minus_undoes : is_among m q.waiting ≡ false → is_among m q.done ≡ true →
+      (back (minus m) q ≡ after m q.done + 1)
+      × (arrived (minus m) q ≡ record {
+        done = but_last (after m q.done + 1) q.done;
+        waiting =
+            remove_one m (add_all (last_of (after m q.done + 1) q.done) q.waiting);
+        antis = q.antis;
+      })
       × (1 ≤ copies m (last_of (after m q.done + 1) q.done))
-  pub minus_waits : is_among m q.waiting ≡ false → is_among m q.done ≡ false → (back (minus m) q ≡ 0) × (arrived (minus m) q ≡ record q { antis = add m q.antis })
+  pub minus_waits : is_among m q.waiting ≡ false → is_among m q.done ≡ false →
+      (back (minus m) q ≡ 0) × (arrived (minus m) q ≡ record q { antis = add m q.antis })
 
 abbrev pub QueuesArriveByCases : Type 0
 QueuesArriveByCases = (m : Message) (q : Queue) → IsAscending q.done → ArrivesByCases m q
@@ -123,9 +147,12 @@ QueuesStayInOrder = (s : Signed) (q : Queue) → IsInOrder q → IsInOrder (arri
 -- Of every message: what is done or waits and its antimessages, against what arrived
 abbrev pub QueuesCount : Type 0
 QueuesCount = (x : Message) (s : Signed) (q : Queue) →
-    copies x (arrived s q).done + copies x (arrived s q).waiting + copies x q.antis + copies x (of_sign Minus (s ∷ []))
-    ≡ copies x q.done + copies x q.waiting + copies x (arrived s q).antis + copies x (of_sign Plus (s ∷ []))
+    copies x (arrived s q).done + copies x (arrived s q).waiting + copies x q.antis
+    + copies x (of_sign Minus (s ∷ []))
+    ≡ copies x q.done + copies x q.waiting + copies x (arrived s q).antis
+    + copies x (of_sign Plus (s ∷ []))
 
 -- What an arrival answers tells how many done messages it undid, no more than there were.
 abbrev pub ArrivalsTellBack : Type 0
-ArrivalsTellBack = (s : Signed) (q : Queue) → IsAscending q.done → (back_of (arrival s q) ≡ back s q) × (back s q ≤ length q.done)
+ArrivalsTellBack = (s : Signed) (q : Queue) → IsAscending q.done →
+    (back_of (arrival s q) ≡ back s q) × (back s q ≤ length q.done)

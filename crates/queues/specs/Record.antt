@@ -2,7 +2,8 @@
 -- Jefferson 1985).
 use Rattle.queues.specs.declared.Record.{Record}
 use Rattle.std.specs.List.{filter}
-use Rattle.std.specs.Prelude.{ℕ, List, [], ◌∷◌, ◌++◌, if◌then◌else◌, nat_le, nat_lt, flat_map, map, length, ◌≡◌, ◌<◌, ◌≤◌, ⊤, Option, Some, None}
+use Rattle.std.specs.Prelude.{ℕ, List, [], ◌∷◌, ◌++◌, if◌then◌else◌, nat_le, nat_lt, flat_map, map}
+use Rattle.std.specs.Prelude.{length, ◌≡◌, ◌<◌, ◌≤◌, ⊤, Option, Some, None}
 use Rattle.eventkey.specs.Bag.{IsAscending}
 use Rattle.eventkey.specs.Message.{Message}
 use Rattle.model.specs.Meaning.{Meaning}
@@ -48,7 +49,7 @@ left_by m h = m.next_state h.message.to h.before h.message
 
 -- Handlings by this model, one after another: of messages to its processes, in states of at most 16
 -- words, and each in the state that the one before it left. So the state words before any of them
--- can be rebuilt by going forward from an earlier one.
+-- can be rebuilt by coasting forward from an earlier one.
 abbrev pub AreHandlings : Meaning → List Record → Type 0
 AreHandlings m [] = ⊤
 AreHandlings m (h ∷ hs) =
@@ -71,7 +72,8 @@ IsFirstTaken c old new (Some h) = (old ≡ h ∷ new) × (h.message.time < c)
 -- all records from it on.
 abbrev pub RecordsPart : Type 0
 RecordsPart = (c : ℕ) (hs : List Record) → IsAscending (messages hs) →
-    (handled_before c hs ≡ filter (λ (h : Record). nat_lt h.message.time c) hs) × (handled_from c hs ≡ filter (λ (h : Record). nat_le c h.message.time) hs)
+    (handled_before c hs ≡ filter (λ (h : Record). nat_lt h.message.time c) hs)
+    × (handled_from c hs ≡ filter (λ (h : Record). nat_le c h.message.time) hs)
 
 -- Handlings by a model stay so, whatever happens to a history: one more in the state to which they
 -- lead, the last n taken back with their states, the first released.

@@ -1,6 +1,7 @@
 // What waits at a process.
 
-ghost use Rattle.std.specs.Prelude.{◌≡◌, ◌<◌, ◌^◌, [], length, drop, vec_len, vec_capacity, slice_get};
+ghost use Rattle.std.specs.Prelude.{◌≡◌, ◌<◌, ◌^◌, [], length, drop, vec_len, vec_capacity};
+ghost use Rattle.std.specs.Prelude.{slice_get};
 ghost use Rattle.std.specs.Prelude.{IfSome, OnOk, OnErr};
 ghost use Rattle.eventkey.specs.Bag.{IsAscending, add, is_among, remove_one};
 ghost use Rattle.queues.specs.Queue.{first_time};

@@ -20,16 +20,16 @@ use std::alloc::{AllocError, Global};
 /// in one (Jefferson 1985), seen as the list of records.
 ///
 /// State words are kept for the first record and for one in any `K` in a row, `K` from 1 to 64. The
-/// others are rebuilt by going forward with the model (infrequent state saving: Fujimoto 1990).
+/// others are rebuilt by coasting forward with the model (infrequent state saving: Fujimoto 1990).
 pub struct History<const K: usize> {
     alloc: Global,
-    /// The place of the first record, below `K`: a record after it keeps its words where its place
-    /// is 0, and the places go round.
+    /// The place of the first record, below `K`. Record i > 0 keeps its words where (place + i) mod
+    /// K = 0.
     place: usize,
     records: SparseRecords,
 }
 
-// Written out, so that whoever drops one proves nothing of its parts.
+// Not derived: each caller that drops one would prove again how its parts are dropped.
 impl<const K: usize> Drop for History<K> {
     fn drop(self) {
         let History {
@@ -134,9 +134,9 @@ impl<const K: usize> History<K> {
             .push(message, before, number_before, sent, place == 0)
     }
 
-    /// Takes the last `count` records out and answers them in their order. It is refused only for
-    /// want of memory, and then the history is unchanged. It takes at most `count` and `K`
-    /// handlings; none, and no memory, where `count` is 0.
+    /// Takes the last `count` records, no more than there are, out and answers them in their order.
+    /// It is refused only for want of memory, and then the history is unchanged. It takes at most
+    /// `count` + `K` handlings; none, and no memory, where `count` is 0.
     pub fn take_back<M: Simulated>(
         &mut self,
         model: &M,

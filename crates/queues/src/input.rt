@@ -24,7 +24,7 @@ pub struct InputQueue {
     antis: Bag,
 }
 
-// Written out, so that whoever drops one proves nothing of its parts.
+// Not derived: each caller that drops one would prove again how its parts are dropped.
 impl Drop for InputQueue {
     fn drop(self) {
         let InputQueue {
@@ -37,13 +37,13 @@ impl Drop for InputQueue {
 
 impl std::marker::Model for InputQueue {
     ghost use Rattle.queues.specs.Queue.{Queue, IsInOrder};
-    ghost use Rattle.queues.specs.Inside.{queue_of};
+    ghost use Rattle.queues.specs.Inside.{queue_inside};
 
     ghost Value = { Queue };
 
-    ghost view = { queue_of };
+    ghost view = { queue_inside };
 
-    ghost invariant = { λ q. IsInOrder (queue_of q) };
+    ghost invariant = { λ q. IsInOrder (queue_inside q) };
 }
 
 impl InputQueue {

@@ -1,4 +1,4 @@
-// Records of which not all have their state words.
+// Records of which only some keep their state words.
 
 ghost use Rattle.std.specs.Prelude.{◌≡◌, ◌<◌, ◌≤◌, ◌-◌, ◌+◌, ◌++◌, ◌∷◌, [], length, IfOk, IfSome};
 ghost use Rattle.std.specs.Prelude.{OnOk, OnErr, take, drop, ◌^◌, Some, None};
@@ -28,13 +28,13 @@ pub(crate) struct SparseRecords {
 
 impl std::marker::Model for SparseRecords {
     ghost use Rattle.queues.specs.Sparse.{SparseRecords};
-    ghost use Rattle.queues.specs.Kept.{IsWhole, records_of};
+    ghost use Rattle.queues.specs.Kept.{HasFirstBeforeOthers, records_of};
 
     ghost Value = { SparseRecords };
 
     ghost view = { records_of };
 
-    ghost invariant = { IsWhole };
+    ghost invariant = { HasFirstBeforeOthers };
 }
 
 impl SparseRecords {

@@ -1,6 +1,7 @@
 -- One frame's place in a node's loop (this project's profile): what the loop does with a frame
 -- whose body is not yet looked at.
-use Rattle.std.specs.Prelude.{ℕ, ◌^◌, Bool, true, false, nat_lt, if◌then◌else◌, ◌≡◌, ◌⊎◌, length, List}
+use Rattle.std.specs.Prelude.{ℕ, ◌^◌, Bool, true, false, nat_lt, if◌then◌else◌, ◌≡◌, ◌⊎◌, length}
+use Rattle.std.specs.Prelude.{List}
 use Rattle.std.specs.Prelude.{Option, Some, None, Result, Ok, Err, IfOk}
 use Rattle.model.specs.Meaning.{Meaning}
 use Rattle.node.specs.Handling.{Answer, Node, answer, ended, load_answer, load_refusal, refusal}

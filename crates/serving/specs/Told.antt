@@ -2,11 +2,13 @@
 -- served; or it met an error or want of memory at one frame, wrote a beginning of it, and read
 -- nothing behind that frame.
 use Rattle.std.specs.Io.KnownBytes.{Appends}
-use Rattle.std.specs.Prelude.{ℕ, Bool, true, false, ◌≡◌, ◌<◌, ◌⊎◌, List, ◌++◌, Option, Some, None, Result, Ok, Err}
+use Rattle.std.specs.Prelude.{ℕ, Bool, true, false, ◌≡◌, ◌<◌, ◌⊎◌, List, ◌++◌, Option, Some, None}
+use Rattle.std.specs.Prelude.{Result, Ok, Err}
 use Rattle.model.specs.Meaning.{Meaning}
 use Rattle.node.specs.Handling.{Node}
 use Rattle.frames.specs.Streams.{IsFront, IsWithin}
-use Rattle.serving.specs.Serving.{Lacks, Served, Turn, first_turn, later, next_turn, served, served_from}
+use Rattle.serving.specs.Serving.{Lacks, Served, Turn, first_turn, later, next_turn, served}
+use Rattle.serving.specs.Serving.{served_from}
 use Rattle.eventkey.specs.Writing.{TakesBeginning}
 use Rattle.wire.specs.declared.port.WireFault.{WireFault}
 use Rattle.wire.specs.declared.port.WireFault.TheVariants.{BadBody, BadKind, Io}
@@ -19,7 +21,8 @@ Leaves result is text rest left old new = (is ≡ result) × Appends old new tex
 
 -- The loop stopped at a parcel: all before it were answered, their replies were written whole, and
 -- nothing behind it was read
-pub record StopsFrom (m : Meaning) (lacks : Lacks) (limit : ℕ) (n : Node) (old new : Option (List ℕ)) (bytes rest : List ℕ) : Type 0 where
+pub record StopsFrom (m : Meaning) (lacks : Lacks) (limit : ℕ) (n : Node)
+    (old new : Option (List ℕ)) (bytes rest : List ℕ) : Type 0 where
   pub count : ℕ
   pub few : count < limit
   pub answered : (served_from m lacks count n bytes).result ≡ Ok count
@@ -84,7 +87,8 @@ TurnTells t rest old new (Err BadBody) n = Leaves (Err BadBody) t.result t.text 
 TurnTells t rest old new (Ok true) n = Leaves (Ok (Some n)) t.result t.text t.rest rest old new
 TurnTells t rest old new (Ok false) n = Leaves (Ok None) t.result t.text t.rest rest old new
 
-pub record IsTurn (m : Meaning) (n n' : Node) (old new : Option (List ℕ)) (result : Result Bool WireFault) (bytes rest : List ℕ) : Type 0 where
+pub record IsTurn (m : Meaning) (n n' : Node) (old new : Option (List ℕ))
+    (result : Result Bool WireFault) (bytes rest : List ℕ) : Type 0 where
   pub lacks : Bool
   pub within : IsWithin bytes rest
   pub tells : TurnTells (next_turn lacks m n bytes) rest old new result n'

@@ -4,7 +4,8 @@ ghost use Rattle.std.specs.Prelude.{◌≡◌, ◌⊎◌, Err, IfOk, OnOk, false
 ghost use Rattle.frames.specs.Ranges.{IsReply};
 ghost use Rattle.node.specs.Handling.{IsReplyInRange};
 ghost use Rattle.node.specs.Kept.{HasHistories};
-ghost use Rattle.serving.specs.Reactions.{Begins, FollowsModel, HasProcesses, Reacts, RepliesInRange, response_to};
+ghost use Rattle.serving.specs.Reactions.{Begins, FollowsModel, HasProcesses, Reacts};
+ghost use Rattle.serving.specs.Reactions.{RepliesInRange, response_to};
 ghost use Rattle.wire.specs.declared.port.WireFault.TheVariants.{NoMemory};
 
 use eventkey::Listed;

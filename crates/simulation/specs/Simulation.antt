@@ -17,7 +17,8 @@ use Rattle.recovery.specs.Stands.{Stands, StandsAtLeast}
 use Rattle.recovery.specs.declared.RecoveryFault.{RecoveryFault}
 use Rattle.recovery.specs.declared.RecoveryFault.TheVariants as recovery
 use Rattle.simulation.specs.declared.fault.SimulationFault.{SimulationFault}
-use Rattle.simulation.specs.declared.fault.SimulationFault.TheVariants.{File, Log, NoMemory, Recovery, Rounds, Session}
+use Rattle.simulation.specs.declared.fault.SimulationFault.TheVariants.{File, Log, NoMemory}
+use Rattle.simulation.specs.declared.fault.SimulationFault.TheVariants.{Recovery, Rounds, Session}
 
 -- 1. What is left
 
@@ -37,8 +38,8 @@ PreparingIsRefused (Log log.NotBlank) image failed = ⊥
 PreparingIsRefused (Log fault) image failed = FormatIsRefused fault image failed
 PreparingIsRefused fault image failed = ⊥
 
--- Why no world is recovered from the log of an image: want of memory, a device that failed, that it is
--- no log of this model with this end in force, or the first record that is at fault.
+-- Why no world is recovered from the log of an image: want of memory, a device that failed, that it
+-- is no log of this model with this end in force, or the first record that is at fault.
 abbrev pub IsNotRecovered : Meaning → ℕ → List (List ℕ) → RecoveryFault → Type 0 → Type 0
 IsNotRecovered m end image recovery.NoMemory failed = Unit {0}
 IsNotRecovered m end image (recovery.Log log.NoMemory) failed = Unit {0}

@@ -116,8 +116,8 @@ fn names_have_no_blanks(rt: HostRuntime) {
     }
 }
 
-/// Model files, and all that is wrong with each; of a first number out of its range the mistake that
-/// is told first says all.
+/// Model files, and all that is wrong with each; of a first number out of its range the mistake
+/// that is told first says all.
 const WRONG: [(&str, &str); 4] = [
     (
         "\

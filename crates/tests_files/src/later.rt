@@ -62,7 +62,8 @@ const FULL: &str = "timewarp: Session Full\n";
 
 const OUT_OF_ROUNDS: &str = "timewarp: Rounds\n";
 
-/// A later end takes one record, and the run that goes on behind it ends as one that was made for it.
+/// A later end takes one record, and the run that goes on behind it ends as one that was made for
+/// it.
 const CARRIED_ON: Script = Script {
     name: "carried-on",
     model: RING,
@@ -139,8 +140,8 @@ const NO_ROOM: Script = Script {
     ],
 };
 
-/// Ends, runs and checkpoints in another order: an end before the first run, and one where a run was
-/// cut short.
+/// Ends, runs and checkpoints in another order: an end before the first run, and one where a run
+/// was cut short.
 const ORDERS: Script = Script {
     name: "ends-in-another-order",
     model: RING,

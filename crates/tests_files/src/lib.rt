@@ -5,6 +5,8 @@
 #[cfg(test)]
 mod acting;
 #[cfg(test)]
+mod causes;
+#[cfg(test)]
 mod damage;
 #[cfg(test)]
 mod later;

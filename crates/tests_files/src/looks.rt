@@ -1,4 +1,5 @@
-// Budgets that adjust themselves, fewer commits, traces, disks that grow, and the commands that look.
+// Budgets that adjust themselves, fewer commits, traces, disks that grow, and the commands that
+// look.
 
 use crate::acting::{Act, Script, play};
 use std::test::Fail;

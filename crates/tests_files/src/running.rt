@@ -1,5 +1,5 @@
-// A command with writers in memory. It has no contract, so that the tests are proved without those of
-// the program.
+// A command with writers in memory. It has no contract, so that the tests are proved without those
+// of the program.
 
 use models::AnyModel;
 use program::{About, TerminalProgress, command};

@@ -145,7 +145,8 @@ const FULL: Script = Script {
     ],
 };
 
-/// A run ends by its rounds, and three are enough. With five nodes and a batch of 7, PHOLD takes 28.
+/// A run ends by its rounds, and three are enough. With five nodes and a batch of 7, PHOLD takes
+/// 28.
 const ROUNDS: Script = Script {
     name: "rounds",
     model: RING,
@@ -259,8 +260,8 @@ const TOGETHER: Script = Script {
     ],
 };
 
-/// The record of a checkpoint of the ring at time 10: its kind, the length of its body, the time, the
-/// send number and the state of each process, and the one pending message.
+/// The record of a checkpoint of the ring at time 10: its kind, the length of its body, the time,
+/// the send number and the state of each process, and the one pending message.
 const RECORD: [u8; 124] = [
     2, 0, 0, 0, 119, 0, 0, 0, 0, 0, 0, 0, 10, //
     0, 0, 0, 0, 0, 0, 0, 3, 1, 0, 0, 0, 0, 0, 0, 0, 2, //

@@ -4,7 +4,7 @@ use crate::acting::{look_at_disk, path_of, remove};
 use crate::running::{ABOUT, Told, run};
 use driver::Watch;
 use models::AnyModel;
-use program::{Fault, Progress, TerminalProgress, command};
+use program::{Cause, Fault, Progress, TerminalProgress, command};
 use std::alloc::{AllocError, Global};
 use std::cell::Cell;
 use std::fs::{self, File};
@@ -183,8 +183,8 @@ fn each_command_flushes_all_that_it_writes(rt: HostRuntime) -> Result<(), Fail> 
     Ok(())
 }
 
-/// What a user sees, in its order: 'c' where what is shown of a run is taken away, 'e' where a fault is
-/// told, in however many pieces, and 'f' where a terminal is told of it.
+/// What a user sees, in its order: 'c' where what is shown of a run is taken away, 'e' where a
+/// fault is told, in however many pieces, and 'f' where a terminal is told of it.
 #[derive(Drop)]
 struct Seen {
     kinds: Cell<[u8; 4]>,
@@ -226,7 +226,11 @@ impl Progress for Terminal<'_> {
 
     fn finished(&mut self) {}
 
-    fn failed(&mut self, _fault: Fault) {
+    fn is_seen(&self) -> bool {
+        false
+    }
+
+    fn failed(&mut self, _fault: Fault, _cause: Option<Cause<'_>>) {
         self.seen.note(b'f');
     }
 }

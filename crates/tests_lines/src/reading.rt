@@ -1,7 +1,7 @@
 // Command lines.
 
 use clap::error::ErrorKind;
-use lines::{Batch, Line, Texts, read_line};
+use lines::{BatchOption, Line, Texts, read_line};
 use std::alloc::Global;
 
 const TEXTS: Texts<'static> = Texts {
@@ -161,7 +161,7 @@ const READ: [(&[&str], Line<'static>); 37] = [
             model: "a",
             disk: "b",
             nodes: 1,
-            batch: Batch::Fixed(16),
+            batch: BatchOption::Fixed(16),
             rounds: 1_000_000,
             checkpoint: None,
             commit_every: None,
@@ -189,7 +189,7 @@ const READ: [(&[&str], Line<'static>); 37] = [
             model: "a",
             disk: "b",
             nodes: 64,
-            batch: Batch::Fixed(9),
+            batch: BatchOption::Fixed(9),
             rounds: 7,
             checkpoint: None,
             commit_every: None,
@@ -218,7 +218,7 @@ const READ: [(&[&str], Line<'static>); 37] = [
             model: "a",
             disk: "b",
             nodes: 1,
-            batch: Batch::Fixed(16),
+            batch: BatchOption::Fixed(16),
             rounds: 1_000_000,
             checkpoint: Some(3),
             commit_every: None,
@@ -236,7 +236,7 @@ const READ: [(&[&str], Line<'static>); 37] = [
             model: "a",
             disk: "b",
             nodes: 1,
-            batch: Batch::Fixed(16),
+            batch: BatchOption::Fixed(16),
             rounds: 1_000_000,
             checkpoint: None,
             commit_every: None,
@@ -264,7 +264,7 @@ const READ: [(&[&str], Line<'static>); 37] = [
             model: "a",
             disk: "b",
             nodes: 1,
-            batch: Batch::Auto,
+            batch: BatchOption::Auto,
             rounds: 1_000_000,
             checkpoint: None,
             commit_every: Some(400_000),
@@ -282,7 +282,7 @@ const READ: [(&[&str], Line<'static>); 37] = [
             model: "a",
             disk: "b",
             nodes: 1,
-            batch: Batch::Auto,
+            batch: BatchOption::Auto,
             rounds: 1_000_000,
             checkpoint: None,
             commit_every: None,
@@ -301,7 +301,7 @@ const READ: [(&[&str], Line<'static>); 37] = [
             model: "--batch",
             disk: "auto",
             nodes: 1,
-            batch: Batch::Fixed(16),
+            batch: BatchOption::Fixed(16),
             rounds: 1_000_000,
             checkpoint: None,
             commit_every: None,
@@ -374,7 +374,7 @@ const READ: [(&[&str], Line<'static>); 37] = [
             model: "a",
             disk: "b",
             nodes: 1,
-            batch: Batch::Fixed(16),
+            batch: BatchOption::Fixed(16),
             rounds: 1_000_000,
             checkpoint: None,
             commit_every: None,

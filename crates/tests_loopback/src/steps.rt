@@ -1,5 +1,5 @@
-// The steps of a session of three nodes: a straggler, its rollback, an antimessage, and a commit; and
-// steps that are refused on the way.
+// The steps of a session of three nodes: a straggler, its rollback, an antimessage, and a commit;
+// and steps that are refused on the way.
 
 use coordinator::Step;
 use eventkey::Listed;

@@ -1,5 +1,5 @@
-// Kept disks of which one byte is another: each is refused, or what is migrated is a beginning of what the
-// plain run handles.
+// Kept disks of which one byte is another: each is refused, or what is migrated is a beginning of
+// what the plain run handles.
 
 ghost use Rattle.std.specs.Prelude.{◌≤◌, ◌^◌};
 

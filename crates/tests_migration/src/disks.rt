@@ -135,7 +135,8 @@ where
     writeln!(report, "ends with {status}, {is}")
 }
 
-/// Does a command, whose text goes to `out`; what it tells of faults goes to the report. Answers its status.
+/// Does a command, whose text goes to `out`; what it tells of faults goes to the report. Answers
+/// its status.
 fn done<R>(rt: &R, line: &[&str], out: &mut Vec<u8>, report: &mut Vec<u8>) -> io::Result<u8>
 where
     R: Files<File = File> + Net + Processes + Clock + AllocGlobal,

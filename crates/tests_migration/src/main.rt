@@ -1,7 +1,8 @@
-//! Migrates the disks of format 1 in `data`, which an earlier program wrote, and reports what comes of
-//! each: what `log` and `show` print of the new disk is what that program printed of the old one, with the
-//! words c and d of each message behind it; a run goes on from it to what `seq` prints; and the old disk is
-//! only read. Then each byte of some of them is damaged in turn, in memory.
+//! Migrates the disks of format 1 in `data`, which an earlier program wrote, and reports what comes
+//! of each: what `log` and `show` print of the new disk is what that program printed of the old
+//! one, with the words c and d of each message behind it; a run goes on from it to what `seq`
+//! prints; and the old disk is only read. Then each byte of some of them is damaged in turn, in
+//! memory.
 #![tactic(auto)]
 
 mod damage;

@@ -147,8 +147,8 @@ fn a_picture_shows_the_first_events_and_processes(rt: HostRuntime) -> Result<(),
     Ok(())
 }
 
-/// What the heat map of a ring has up to a time: how many rectangles and one more, the deepest count,
-/// and cells with an event, with two, and without.
+/// What the heat map of a ring has up to a time: how many rectangles and one more, the deepest
+/// count, and cells with an event, with two, and without.
 const LOADS: [(u64, usize, &str); 7] = [
     (
         12,

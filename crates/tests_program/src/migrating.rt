@@ -248,7 +248,8 @@ fn what_is_no_old_disk_is_refused_before_the_new_one_is_made(rt: HostRuntime) ->
     let later = stage.later.as_str();
     let file = "timewarp: File\n";
     let other = "timewarp: Migrate Old OtherModel\n";
-    // another end, and a file that is no disk, is not there, or is the old disk or the model file itself
+    // another end, and a file that is no disk, is not there, or is the old disk or the model file
+    // itself
     assert!(rt; tells(&rt, &["timewarp", "migrate", later, old, new], 1, "", other)?);
     assert!(rt;
         tells(

@@ -1,11 +1,18 @@
 // What a terminal shows of a run.
 
+use commitlog::LogFault;
 use coordinator::SessionFault;
+use disk::{DiskFault, GrowthFault};
 use driver::{Turn, Watch};
+use migration::MigrateFault;
+use model::WorldFault;
 use program::{Fault, Progress, TerminalProgress};
+use recovery::RecoveryFault;
 use std::io::Result as IoResult;
 use std::test::Fail;
 use std::time::{Clock, Duration};
+use texts::Mistake;
+use wire::{PortFault, WireFault};
 
 /// A clock that goes on by 200 milliseconds at each look.
 #[derive(Drop)]
@@ -47,7 +54,7 @@ fn a_run_is_shown_twice_a_second_and_then_cleared(rt: HostRuntime) -> Result<(),
     shown.begin(10);
     shown.committed(10, 5);
     shown.clear();
-    shown.failed(Fault::File);
+    shown.failed(Fault::File, None);
     Ok(())
 }
 
@@ -130,21 +137,93 @@ fn antimessages_are_shown_where_there_is_room(rt: HostRuntime) -> Result<(), Fai
     Ok(())
 }
 
-#[test]
-fn a_terminal_shows_what_to_do_about_a_fault(rt: HostRuntime) -> Result<(), Fail> {
+/// The line that a terminal shows after a fault, if there is one.
+fn advice(rt: &HostRuntime, fault: Fault) -> Vec<u8> {
     let clock = Ticking {
         looks: std::cell::Cell::new(0),
     };
-    let mut terminal = Vec::with_capacity(rt.alloc(), 512)?;
+    let mut terminal = Vec::new(rt.alloc());
     let mut shown = TerminalProgress::on(&clock, Some(&mut terminal));
-    shown.failed(Fault::Output);
-    shown.failed(Fault::Session(SessionFault::Full));
-    assert_eq!(rt;
-        terminal.as_slice(),
-        b"the disk has no room for the next commit: what is committed stays; `grow` makes the disk \
-          longer, and --commit-every takes fewer commits\n"
-            .as_slice()
-    );
+    shown.failed(fault, None);
+    terminal
+}
+
+const MEMORY: &str = "with more memory, or take a smaller model\n";
+
+const DEVICE: &str = "see that its device has room and works; what is committed stays\n";
+
+const DAMAGED: &str = "the disk is damaged: `status` says at which record\n";
+
+/// Faults, and what the line after each ends with.
+const ADVICE: [(Fault, &str); 22] = [
+    (Fault::BadModel, "what is wrong with the model file\n"),
+    (
+        Fault::File,
+        "that the folder is there and holds no socket of an earlier run\n",
+    ),
+    (Fault::World(WorldFault::NoMemory), MEMORY),
+    (Fault::Log(LogFault::NotBlank), "which `new` keeps\n"),
+    (
+        Fault::Log(LogFault::NotFormatted),
+        "`new` makes a log on a disk\n",
+    ),
+    (Fault::Log(LogFault::Disk(DiskFault::Device)), DEVICE),
+    (Fault::Recovery(RecoveryFault::BadRecord), DAMAGED),
+    (
+        Fault::Recovery(RecoveryFault::Log(LogFault::Corrupt)),
+        "or begin anew on another disk\n",
+    ),
+    (
+        Fault::Session(SessionFault::Recovery(RecoveryFault::Log(LogFault::NotFormatted))),
+        "`new` makes a log on a disk\n",
+    ),
+    (
+        Fault::Session(SessionFault::Full),
+        "the disk has no room for the next commit: what is committed stays; `grow` makes the disk \
+         longer, and --commit-every takes fewer commits\n",
+    ),
+    (
+        Fault::Session(SessionFault::TooLong),
+        "run it again with a lower --batch or --commit-every\n",
+    ),
+    (
+        Fault::Session(SessionFault::Port(PortFault::Closed)),
+        "a node's program ended, or its connection failed: what is committed stays; run it again\n",
+    ),
+    (Fault::Session(SessionFault::Disk), DEVICE),
+    (Fault::Session(SessionFault::NoMemory), MEMORY),
+    (Fault::Wire(WireFault::Io), "start the run again\n"),
+    (Fault::Rounds, "with more --rounds\n"),
+    (
+        Fault::Migrate(MigrateFault::New(LogFault::Full)),
+        "with more --sectors\n",
+    ),
+    (Fault::Grow(GrowthFault::TooMany), "ask for fewer\n"),
+    (
+        Fault::Record {
+            number: 3,
+            fault: RecoveryFault::GoesBack,
+        },
+        "or begin anew on another disk\n",
+    ),
+    (Fault::BadTrace, "as `run --trace` writes one\n"),
+    (Fault::NoMemory, MEMORY),
+    (
+        Fault::Output,
+        "standard output was closed, as by `| head`, or has no room: what is committed stays\n",
+    ),
+];
+
+#[test]
+fn a_terminal_shows_what_to_do_about_a_fault(rt: HostRuntime) -> Result<(), Fail> {
+    for (fault, end) in ADVICE {
+        let shown = advice(&rt, fault);
+        assert!(rt;
+            shown.as_slice().ends_with(end.as_bytes()),
+            "{fault}: {shown:?}"
+        );
+    }
+    assert!(rt; advice(&rt, Fault::Mistake(Mistake::Missing("hold"))).is_empty());
     Ok(())
 }
 

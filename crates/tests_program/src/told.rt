@@ -229,7 +229,7 @@ const PROGRAM: &[&str] = &["timewarp", "--help"];
 const SEQ: &[&str] = &["timewarp", "seq", "--help"];
 
 /// Lines that are mistaken or ask for help, and a part of what is told.
-const USAGES: [(&[&str], &str); 50] = [
+const USAGES: [(&[&str], &str); 54] = [
     (&[], "Usage: timewarp <COMMAND>"),
     (&["timewarp"], "Usage: timewarp <COMMAND>"),
     (&["timewarp", "seq"], "<MODEL>"),
@@ -312,6 +312,22 @@ const USAGES: [(&[&str], &str); 50] = [
     (
         &["timewarp", "run", "--help"],
         "\nA disk of format 1 is told as Session Recovery OtherModel; 'migrate' alone reads it.\n",
+    ),
+    (
+        &["timewarp", "run", "--help"],
+        "After how many rounds the run stops, 1 to 4294967295; runs of 1 never get on (see below)",
+    ),
+    (
+        &["timewarp", "run", "--help"],
+        "each opening begins with a floor\nthat one round cannot pass.",
+    ),
+    (
+        &["timewarp", "run", "--help"],
+        "Keeps the state in a record after each E-th commit, 1 to 1000000\n",
+    ),
+    (
+        &["timewarp", "log", "--help"],
+        "as with '| head', it ends with Output and status 1.\n",
     ),
     (
         &["timewarp", "log", "--help"],

@@ -13,8 +13,8 @@ use std::test::Fail;
 
 const LATER: u64 = 20;
 
-/// Puts the later end in force. Where memory is refused, the disk that is handed back is as it was: each
-/// crash of it opens under the end before, and the next call puts the later one in force.
+/// Puts the later end in force. Where memory is refused, the disk that is handed back is as it was:
+/// each crash of it opens under the end before, and the next call puts the later one in force.
 fn carried_on<M: Simulated>(
     rt: &impl Abort,
     alloc: Global,

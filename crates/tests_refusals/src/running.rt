@@ -1,4 +1,5 @@
-// Commands to which an allocation is refused: a run, and what is printed of the disk that it leaves.
+// Commands to which an allocation is refused: a run, and what is printed of the disk that it
+// leaves.
 
 ghost use Rattle.std.specs.Prelude.{◌≡◌};
 
@@ -92,8 +93,8 @@ fn run_once(
     run(alloc, &one_token(), disk, plan, last, out)
 }
 
-/// What a whole run leaves on a disk of so many sectors. Where memory is refused to it, it has printed
-/// nothing, its disk has what it told, and it is run on to the end.
+/// What a whole run leaves on a disk of so many sectors. Where memory is refused to it, it has
+/// printed nothing, its disk has what it told, and it is run on to the end.
 pub fn ran(rt: &impl Abort, alloc: Global, sectors: u32, every: u32) -> Result<MemDisk, Fail> {
     let disk = formatted(alloc, &one_token().model, sectors)?;
     let mut out = room(alloc)?;

@@ -1,5 +1,5 @@
-// The steps of a session of three nodes, to which an allocation is refused: a straggler, its rollback,
-// an antimessage, a commit, and a checkpoint.
+// The steps of a session of three nodes, to which an allocation is refused: a straggler, its
+// rollback, an antimessage, a commit, and a checkpoint.
 
 use crate::disks::formatted;
 use crate::openings::{Far, Near, is_of_memory, look_at_crashes, opened_far, opened_near};
@@ -114,8 +114,8 @@ fn led<M: Simulated, P: Port, D: SectorDisk>(
     }
 }
 
-/// Looks at a session to which memory was refused: it answers Spent to each step, and its front is the
-/// one of this time.
+/// Looks at a session to which memory was refused: it answers Spent to each step, and its front is
+/// the one of this time.
 fn look_at_spent<M: Simulated, P: Port, D: SectorDisk>(
     rt: &impl Abort,
     session: &mut Session<'_, M, P, D>,
@@ -136,7 +136,8 @@ fn look_at_spent<M: Simulated, P: Port, D: SectorDisk>(
     Ok(())
 }
 
-/// Leads a session through all steps, and looks at what there is then, and at what each crash leaves.
+/// Leads a session through all steps, and looks at what there is then, and at what each crash
+/// leaves.
 fn look_at_steps<M: Simulated, P: Port + Drop>(
     rt: &impl Abort,
     alloc: Global,

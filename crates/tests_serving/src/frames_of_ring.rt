@@ -1,5 +1,5 @@
-// The frames of a whole run: a ring of three processes, each on a node of its own, through which one
-// token goes that each holds for two ticks, up to time 10. And frames that are refused.
+// The frames of a whole run: a ring of three processes, each on a node of its own, through which
+// one token goes that each holds for two ticks, up to time 10. And frames that are refused.
 
 /// What one node is sent, the load and then parcels of three rounds, and its replies.
 #[derive(Clone, Copy)]

@@ -40,8 +40,8 @@ const FOREIGN: &[u8] = &[
     0, 0, 0, 0, 0, 0, 0, 0, 0, 0, 0, 0, 0, 0, 0, 0, 0, 0, 0,
 ];
 
-/// A frame that claims a body of 2^24 bytes, of which one comes. `tools/largest-blocks` looks at what is
-/// asked for.
+/// A frame that claims a body of 2^24 bytes, of which one comes. `tools/largest-blocks` looks at
+/// what is asked for.
 const CLAIMED: &[u8] = &[1, 0, 0, 0, 2, 9];
 
 const ROWS: [Row; 15] = [

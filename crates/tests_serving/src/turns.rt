@@ -1,5 +1,5 @@
-// A peer that gives the next parcel only when it has taken the reply to the one before, as a session
-// does: a loop that kept its replies, or read ahead, would wait for it for ever.
+// A peer that gives the next parcel only when it has taken the reply to the one before, as a
+// session does: a loop that kept its replies, or read ahead, would wait for it for ever.
 
 ghost use Rattle.std.specs.Prelude.{◌≤◌, IfOk, length};
 

@@ -15,8 +15,8 @@ use std::test::Fail;
 /// What is done with a disk, each time after an opening of its own.
 #[derive(Clone, Copy)]
 enum Call {
-    /// Runs over so many nodes with this batch, a checkpoint each so many rounds, and so many rounds at
-    /// most.
+    /// Runs over so many nodes with this batch, a checkpoint each so many rounds, and so many
+    /// rounds at most.
     Run(u32, u32, u32, u32),
     /// Puts this end in force.
     Extend(u64),

@@ -95,8 +95,8 @@ fn rounds_end_a_run(rt: HostRuntime) -> Result<(), Fail> {
     Ok(())
 }
 
-/// A commit comes where as many events are told as are wanted, and at the end: three are told in the
-/// second round, and the other two in the third, which comes to the end.
+/// A commit comes where as many events are told as are wanted, and at the end: three are told in
+/// the second round, and the other two in the third, which comes to the end.
 #[test]
 fn a_run_commits_for_so_many_events(rt: HostRuntime) -> Result<(), Fail> {
     for (commit_every, commits) in [(0, 3), (1, 2), (3, 2), (4, 1), (5, 1), (400_000, 1)] {

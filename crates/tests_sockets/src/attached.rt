@@ -12,8 +12,8 @@ use std::rt::Files;
 use std::thread;
 use std::time::{Clock, Duration};
 
-/// A model, the words behind `run MODEL a --sockets S --attach`, and its nodes in the order in which
-/// they are started. The last one's socket is made last.
+/// A model, the words behind `run MODEL a --sockets S --attach`, and its nodes in the order in
+/// which they are started. The last one's socket is made last.
 const RUNS: [(&str, &[&str], &[&str]); 2] = [
     ("ring.toml", &["--nodes", "3"], &["1", "0", "2"]),
     (

@@ -1,7 +1,7 @@
 //! Runs a model on a disk in memory that stops at each of its writes in turn, or fails at each
 //! operation, crashes the disk, opens it over another number of nodes and goes on to the end, where
-//! the world must be that of the plain runner, and so must be what `log` and `show` print of the disk.
-//! The disk is made for that end, or for an earlier one, to which it is run first.
+//! the world must be that of the plain runner, and so must be what `log` and `show` print of the
+//! disk. The disk is made for that end, or for an earlier one, to which it is run first.
 #![tactic(auto)]
 
 ghost use Rattle.std.specs.Prelude.{◌≡◌, ◌≤◌, ◌<◌, ◌^◌, IfOk};
@@ -113,7 +113,7 @@ impl From<RunFault> for Failure {
 
 /// What is simulated, and what the plain runner makes of it.
 #[derive(Drop)]
-struct Simulated {
+struct ModelWithPlainRun {
     model: AnyModel,
     /// The end for which the disk is made, in ticks, and to which it is run first.
     first: u64,
@@ -205,7 +205,7 @@ struct Left {
 }
 
 /// Runs on a disk that fails by this plan: to the first end, and then to the later one.
-fn left_by(alloc: Global, of: &Simulated, way: Way, plan: DiskPlan) -> Result<Left, Failure>
+fn left_by(alloc: Global, of: &ModelWithPlainRun, way: Way, plan: DiskPlan) -> Result<Left, Failure>
     requires some { 0 < way.nodes }
     requires few { way.nodes ≤ 64 }
     requires begun { 1 ≤ of.now.first }
@@ -240,7 +240,7 @@ fn left_by(alloc: Global, of: &Simulated, way: Way, plan: DiskPlan) -> Result<Le
 /// Runs to an end, and answers whether it got there before the disk failed.
 fn run_to(
     alloc: Global,
-    of: &Simulated,
+    of: &ModelWithPlainRun,
     end: u64,
     way: Way,
     disk: MemDisk,
@@ -274,7 +274,7 @@ fn is_of_disk(fault: SessionFault) -> bool {
 /// disk failed.
 fn carried_on(
     alloc: Global,
-    of: &Simulated,
+    of: &ModelWithPlainRun,
     told: u64,
     disk: MemDisk,
 ) -> Result<(bool, MemDisk), Failure> {
@@ -319,7 +319,7 @@ fn is_run(
 /// Opens what a crash left over another number of nodes, and goes on to the end.
 fn resumed(
     alloc: Global,
-    of: &Simulated,
+    of: &ModelWithPlainRun,
     way: Way,
     left: &Left,
     image: &Vec<u8>,
@@ -357,7 +357,7 @@ fn resumed(
 /// opened under one of them, and not under the other.
 fn under_the_end(
     alloc: Global,
-    of: &Simulated,
+    of: &ModelWithPlainRun,
     nodes: u32,
     left: &Left,
     image: &Vec<u8>,
@@ -391,7 +391,7 @@ fn under_the_end(
 /// Whether a disk with this image is opened under an end. If not, it is since another is in force.
 fn is_opened(
     alloc: Global,
-    of: &Simulated,
+    of: &ModelWithPlainRun,
     end: u64,
     nodes: u32,
     image: &Vec<u8>,
@@ -416,7 +416,7 @@ fn is_opened(
 }
 
 /// What `log` and then `show` print of a disk, opened again, is what `seq` prints.
-fn look_at_texts(alloc: Global, of: &Simulated, disk: &MemDisk) -> Result<(), Failure>
+fn look_at_texts(alloc: Global, of: &ModelWithPlainRun, disk: &MemDisk) -> Result<(), Failure>
     requires begun { 1 ≤ of.now.end }
     requires short { of.now.end ≤ 2 ^ 40 }
 {
@@ -497,7 +497,7 @@ impl Counts {
 }
 
 /// Lets a disk fail at each of its writes or operations in turn.
-fn stops(alloc: Global, of: &Simulated, way: Way, at: At) -> Result<Counts, Failure>
+fn stops(alloc: Global, of: &ModelWithPlainRun, way: Way, at: At) -> Result<Counts, Failure>
     requires some { 0 < way.nodes }
     requires few { way.nodes ≤ 64 }
     requires next { 0 < way.resumed }
@@ -532,9 +532,9 @@ fn stops(alloc: Global, of: &Simulated, way: Way, at: At) -> Result<Counts, Fail
     Ok(counts)
 }
 
-/// Crashes what a run left in each way, resumes the run on each image that is another, and answers how
-/// many there are.
-fn crashes(alloc: Global, of: &Simulated, way: Way, left: &Left) -> Result<u64, Failure>
+/// Crashes what a run left in each way, resumes the run on each image that is another, and answers
+/// how many there are.
+fn crashes(alloc: Global, of: &ModelWithPlainRun, way: Way, left: &Left) -> Result<u64, Failure>
     requires next { 0 < way.resumed }
     requires next_few { way.resumed ≤ 64 }
     requires begun { 1 ≤ of.now.first }
@@ -566,12 +566,12 @@ const SOME_WAYS: Ways<'static> = &[(7, 1)];
 
 const SOME_USUAL_WAYS: Ways<'static> = &[(16, 0)];
 
-/// Lets disks of runs fail over so many nodes, resumed over so many, in each of these ways, and prints
-/// how often.
+/// Lets disks of runs fail over so many nodes, resumed over so many, in each of these ways, and
+/// prints how often.
 fn all_ways(
     rt: &HostRuntime,
     alloc: Global,
-    of: &Simulated,
+    of: &ModelWithPlainRun,
     nodes: u32,
     resumed: u32,
     ways: Ways<'_>,
@@ -603,7 +603,7 @@ fn all_ways(
 /// Prints how often disks failed in a way.
 fn tell(
     rt: &HostRuntime,
-    of: &Simulated,
+    of: &ModelWithPlainRun,
     way: Way,
     writes: Counts,
     operations: Counts,
@@ -624,15 +624,15 @@ fn tell(
     .map_err(Failure::Output)
 }
 
-/// The simulation that a model file tells, with a disk of so many sectors that is made for its end, or
-/// for half of it.
+/// The simulation that a model file tells, with a disk of so many sectors that is made for its end,
+/// or for half of it.
 fn read_simulation(
     rt: &HostRuntime,
     alloc: Global,
     path: &str,
     sectors: u32,
     is_extended: bool,
-) -> Result<Simulated, Failure>
+) -> Result<ModelWithPlainRun, Failure>
     ensures begun { IfOk result (λ of. 1 ≤ of.first) }
     ensures order { IfOk result (λ of. of.first ≤ of.end) }
     ensures short { IfOk result (λ of. of.end ≤ 2 ^ 40) }
@@ -647,7 +647,7 @@ fn read_simulation(
     let plain = plain_world(alloc, &model, end)?.into_parts();
     let text = text_of(alloc, &plain)?;
     let formatted = formatted(alloc, &model, first, sectors)?;
-    Ok(Simulated {
+    Ok(ModelWithPlainRun {
         model,
         first,
         end,
@@ -661,7 +661,7 @@ fn read_simulation(
 fn try_model(
     rt: &HostRuntime,
     alloc: Global,
-    of: &Simulated,
+    of: &ModelWithPlainRun,
     ways: Ways<'_>,
     usual_ways: Ways<'_>,
 ) -> Result<Counts, Failure>
@@ -679,8 +679,8 @@ fn try_model(
     Ok(total)
 }
 
-/// Lets the disks of a model's runs fail: those that are made for its end in all ways, and those that are
-/// carried on in all or in some.
+/// Lets the disks of a model's runs fail: those that are made for its end in all ways, and those
+/// that are carried on in all or in some.
 fn try_both(
     rt: &HostRuntime,
     alloc: Global,

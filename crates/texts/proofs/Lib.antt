@@ -1,4 +1,5 @@
 pub mod Written
+pub mod Lines
 pub mod Tables
 pub mod Right
 pub mod KindsRight

@@ -1,6 +1,7 @@
 -- What the table of a model file says of this project's models (its profile): exactly the keys of
 -- its model; what is wrong with one that says nothing; and what `check` prints of one.
-use Rattle.std.specs.Prelude.{◌≡◌, ℕ, ◌*◌, ◌-◌, ◌^◌, List, [], ◌∷◌, ◌++◌, Option, Some, None, codes, decimal}
+use Rattle.std.specs.Prelude.{◌≡◌, ℕ, ◌*◌, ◌-◌, ◌^◌, List, [], ◌∷◌, ◌++◌, Option, Some, None, codes}
+use Rattle.std.specs.Prelude.{decimal}
 use Rattle.std.specs.Prelude.{false, if◌then◌else◌, nat_eq, option_and_then, unwrap_or}
 use Rattle.std.specs.Cmp.Lexicographic.{pointwise}
 use Rattle.models.specs.JobShop.{Shop}
@@ -8,7 +9,8 @@ use Rattle.models.specs.Phold.{Hold}
 use Rattle.models.specs.Ring.{Ring}
 use Rattle.models.specs.declared.any_model.AnyModel.{AnyModel}
 use Rattle.models.specs.declared.any_model.AnyModel.TheVariants.{JobShop, Phold, TokenRing}
-use Rattle.texts.specs.ModelFile.{NumberKey, Wrong, number_at, number_key, numbers_from, numbers_wrong}
+use Rattle.texts.specs.ModelFile.{NumberKey, Wrong, number_at, number_key, numbers_from}
+use Rattle.texts.specs.ModelFile.{numbers_wrong}
 use Rattle.texts.specs.ModelFile.{unknown_wrong, words_wrong}
 use Rattle.toml.specs.Data.{Members, as_str, get_member, string}
 
@@ -19,7 +21,8 @@ ring_keys = codes "model" ∷ codes "lps" ∷ codes "end" ∷ codes "hold" ∷ c
 
 abbrev pub hold_keys : List (List ℕ)
 hold_keys =
-    codes "model" ∷ codes "lps" ∷ codes "end" ∷ codes "population" ∷ codes "spread" ∷ codes "seed" ∷ []
+    codes "model" ∷ codes "lps" ∷ codes "end" ∷ codes "population" ∷ codes "spread" ∷ codes "seed"
+    ∷ []
 
 abbrev pub shop_keys : List (List ℕ)
 shop_keys =

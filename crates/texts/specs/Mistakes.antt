@@ -1,5 +1,6 @@
 -- What is wrong with a text that is no model file.
-use Rattle.std.specs.Prelude.{◌≡◌, ℕ, ◌+◌, ◌-◌, ◌^◌, ◌≤◌, ◌==◌, List, None, Some, IsUtf8, count_by, length, min, take}
+use Rattle.std.specs.Prelude.{◌≡◌, ℕ, ◌+◌, ◌-◌, ◌^◌, ◌≤◌, ◌==◌, List, None, Some, IsUtf8, count_by}
+use Rattle.std.specs.Prelude.{length, min, take}
 use Rattle.texts.specs.ModelFile.{Wrong}
 use Rattle.texts.specs.declared.mistakes.Mistakes.{Mistakes}
 use Rattle.texts.specs.declared.mistakes.Mistakes.TheVariants.{Keys, Toml}

@@ -1,6 +1,7 @@
 -- What a model file is, of any kind of model: a TOML table that describes one; and what is wrong
 -- with a table that does not, key by key.
-use Rattle.std.specs.Prelude.{◌≡◌, ℕ, List, [], ◌∷◌, ◌++◌, ◌&&◌, suc, nat_eq, nat_le, map, Option, Some, None}
+use Rattle.std.specs.Prelude.{◌≡◌, ℕ, List, [], ◌∷◌, ◌++◌, ◌&&◌, suc, nat_eq, nat_le, map, Option}
+use Rattle.std.specs.Prelude.{Some, None}
 use Rattle.std.specs.Prelude.{if◌then◌else◌, ℤ, pos, negsuc, option_and_then, unwrap_or, is_some}
 use Rattle.std.specs.Prelude.{Bool, true, false, codes, decimal, string_bytes}
 use Rattle.std.specs.Cmp.Lexicographic.{pointwise}
@@ -94,7 +95,8 @@ numbers_from before (k ∷ ks) table =
 abbrev pub numbers_wrong : List NumberKey → Members → List Wrong
 numbers_wrong keys table = numbers_from [] keys table
 
--- what is wrong at a key where something else has to be, which these words tell: one thing where it is not
+-- what is wrong at a key where something else has to be, which these words tell: one thing where it
+-- is not
 unfoldable pub words_wrong : Bool → List ℕ → List ℕ → Members → List Wrong
 words_wrong right key text table = unless right (record {
   key = key;

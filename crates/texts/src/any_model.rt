@@ -270,15 +270,12 @@ fn kindless_mistakes(alloc: Global, table: &Table) -> Result<Findings, AllocErro
     Ok(found)
 }
 
-/// The values of a token ring. The first word of an identity is the kind of the model.
+/// The values of a token ring.
 fn ring_values(alloc: Global, ring: &TokenRing, end: u64) -> Result<String, AllocError>
     ensures { IfOk result (λ text.
         string_bytes text ≡ model_text (AnyModel.TokenRing ring.now) end) }
 {
-    let lps = ring.lps();
-    let words = ring.identity(alloc);
-    let words = words.as_slice();
-    let (hold, tokens) = (words[1], words[2]);
+    let (lps, hold, tokens) = (ring.lps(), ring.hold(), ring.tokens());
     format!(in alloc; "model: ring\nlps: {lps}\nend: {end}\nhold: {hold}\ntokens: {tokens}\n")
 }
 
@@ -287,10 +284,8 @@ fn hold_values(alloc: Global, hold: &Phold, end: u64) -> Result<String, AllocErr
     ensures { IfOk result (λ text.
         string_bytes text ≡ model_text (AnyModel.Phold hold.now) end) }
 {
-    let lps = hold.lps();
-    let words = hold.identity(alloc);
-    let words = words.as_slice();
-    let (population, spread, seed) = (words[1], words[2], words[3]);
+    let (lps, population) = (hold.lps(), hold.population());
+    let (spread, seed) = (hold.spread(), hold.seed());
     format!(in alloc;
         "model: phold\nlps: {lps}\nend: {end}\npopulation: {population}\nspread: {spread}\nseed: {seed}\n"
     )
@@ -301,10 +296,8 @@ fn shop_values(alloc: Global, shop: &JobShop, end: u64) -> Result<String, AllocE
     ensures { IfOk result (λ text.
         string_bytes text ≡ model_text (AnyModel.JobShop shop.now) end) }
 {
-    let lps = shop.lps();
-    let words = shop.identity(alloc);
-    let words = words.as_slice();
-    let (jobs, service, seed) = (words[1], words[2], words[3]);
+    let (lps, jobs) = (shop.lps(), shop.jobs());
+    let (service, seed) = (shop.service(), shop.seed());
     format!(in alloc;
         "model: jobshop\nlps: {lps}\nend: {end}\njobs: {jobs}\nservice: {service}\nseed: {seed}\n"
     )

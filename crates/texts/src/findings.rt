@@ -1,6 +1,7 @@
 // What is wrong with the table of a model file, key by key.
 
-ghost use Rattle.std.specs.Prelude.{◌≡◌, ◌++◌, [], ◌∷◌, map, IfOk, IfSome, OnOk, codes, string_bytes};
+ghost use Rattle.std.specs.Prelude.{◌≡◌, ◌++◌, [], ◌∷◌, map, IfOk, IfSome, OnOk, codes};
+ghost use Rattle.std.specs.Prelude.{string_bytes};
 ghost use Rattle.std.specs.Prelude.{◌≤◌, Some};
 ghost use Rattle.texts.specs.ModelFile.{found_of, is_among, item_wrong, nothing, number_at};
 ghost use Rattle.texts.specs.ModelFile.{number_wrong};
@@ -146,8 +147,8 @@ impl Findings {
     }
 
     #[tactic(auto, unfolding(crate::specs::ModelFile::item_wrong))]
-    /// Where `right` does not hold of the item at a place of a list, that is one finding more, whose
-    /// key has the place too: `gates[3]`.
+    /// Where `right` does not hold of the item at a place of a list, that is one finding more,
+    /// whose key has the place too: `gates[3]`.
     pub fn item_at(
         &mut self,
         alloc: Global,

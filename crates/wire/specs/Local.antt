@@ -25,14 +25,15 @@ stage_of (Idle node) = AtRest
 stage_of (Posted node parcel) = AtWork parcel
 stage_of Ended = AtEnd
 
-abbrev pub node_of : Held → Node
-node_of Fresh = nobody
-node_of (Idle node) = node
-node_of (Posted node parcel) = node
-node_of Ended = nobody
+abbrev pub local_node : Held → Node
+local_node Fresh = nobody
+local_node (Idle node) = node
+local_node (Posted node parcel) = node
+local_node Ended = nobody
 
 abbrev pub state_of : Meaning → Held → PortState
-state_of m held = record { stage = stage_of held; tells = true; meaning = m; node = node_of held }
+state_of m held =
+    record { stage = stage_of held; tells = true; meaning = m; node = local_node held }
 
 -- the same of a port
 abbrev pub state_by : {M : Type 0} → (M → Meaning) → Local M → PortState

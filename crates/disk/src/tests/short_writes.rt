@@ -47,8 +47,8 @@ fn numbered(n: u8) -> [u8; 512] {
     sector
 }
 
-/// Stores sectors 1, 3, 4 and 7 in a new file of eight sectors that takes at most so many bytes at a
-/// call.
+/// Stores sectors 1, 3, 4 and 7 in a new file of eight sectors that takes at most so many bytes at
+/// a call.
 fn store_sparing(rt: &HostRuntime, path: &PathBuf, most: usize) -> Result<bool, Fail> {
     let mut image = Image::blank(rt.alloc(), 8)?;
     for n in [1u8, 3, 4, 7] {

@@ -1,7 +1,8 @@
 use super::*;
 use recovery::{Stop, behind_checkpoints, front_of, replay_log};
 
-/// Where the replay of a log stops whose last record is of this kind and has no body, behind three commits.
+/// Where the replay of a log stops whose last record is of this kind and has no body, behind three
+/// commits.
 fn stop_at(alloc: Global, kind: u8) -> Result<Option<Stop>, Fail> {
     let mut log = log_of_all(alloc)?;
     log.append(kind, &[])?;

@@ -7,13 +7,13 @@ use Rattle.commands.proofs.printing.write_nodes.Goals as goal
 
 pub returns-in_err-write_node : goal.returns-in_err-write_node
 returns-in_err-write_node g c =
-    writes_broken (flat_map (node_text c.args.ran.now) (drop (c.loop-node.node + 1) (below (length c.args.ran.now)))) c.from_residual.result c.loop-node.invariant
-    (node_next c.args.ran.now c.loop-node.node (omega arith)) c.write_node.ensures c.in_err-write_node.was c.from_residual.ensures.0
+    writes_broken (flat_map (node_text c.args.handled_per_node.now) (drop (c.loop-node.node + 1) (below (length c.args.handled_per_node.now)))) c.from_residual.result c.loop-node.invariant
+    (node_next c.args.handled_per_node.now c.loop-node.node (omega arith)) c.write_node.ensures c.in_err-write_node.was c.from_residual.ensures.0
 
 pub loop-node-preserved : goal.loop-node-preserved
 loop-node-preserved g c =
-    written_next (flat_map (node_text c.args.ran.now) (drop (c.loop-node.node + 1) (below (length c.args.ran.now)))) c.loop-node.invariant
-    (node_next c.args.ran.now c.loop-node.node (omega arith)) c.write_node.ensures c.in_ok-write_node.was
+    written_next (flat_map (node_text c.args.handled_per_node.now) (drop (c.loop-node.node + 1) (below (length c.args.handled_per_node.now)))) c.loop-node.invariant
+    (node_next c.args.handled_per_node.now c.loop-node.node (omega arith)) c.write_node.ensures c.in_ok-write_node.was
 
 pub returns : goal.returns
-returns g c = writes_end tt (nodes_done c.args.ran.now c.loop-node.node (omega arith)) c.loop-node.invariant
+returns g c = writes_end tt (nodes_done c.args.handled_per_node.now c.loop-node.node (omega arith)) c.loop-node.invariant

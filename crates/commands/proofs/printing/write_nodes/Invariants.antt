@@ -7,4 +7,4 @@ use Rattle.commands.proofs.printing.write_nodes.Given as goal
 abbrev pub invariant-loop-node : goal.invariant-loop-node
 invariant-loop-node g l =
     HasWritten (g.O.Write.contents l.initial.out) (g.O.Write.contents l.out)
-    (flat_map (node_text l.ran) (below (length l.ran))) (flat_map (node_text l.ran) (drop l.node (below (length l.ran))))
+    (flat_map (node_text l.handled_per_node) (below (length l.handled_per_node))) (flat_map (node_text l.handled_per_node) (drop l.node (below (length l.handled_per_node))))

@@ -34,7 +34,7 @@ rounds-preserved g c = (let before = c.rounds.invariant.driven in record {
       (c.in_ok-round.ensures.driven (told_since 0 before.steps) before.shape.1.wanted);
   commits = omega (arith, c.in_ok-round.ensures.commits, c.rounds.invariant.commits);
   budgets = c.round.ensures.budgets ∙ c.rounds.invariant.budgets;
-  count = as_long c.rounds.ran.len c.round.new.ran c.rounds.ran.items (omega (arith, c.as_mut_slice.ensures.len, c.rounds.ran.ok)) (omega (arith, c.round.auto.ran, c.as_mut_slice.ensures.len)) ∙ c.rounds.invariant.count;
+  count = as_long c.rounds.handled_per_node.len c.round.new.handled_per_node c.rounds.handled_per_node.items (omega (arith, c.as_mut_slice.ensures.len, c.rounds.handled_per_node.ok)) (omega (arith, c.round.auto.handled_per_node, c.as_mut_slice.ensures.len)) ∙ c.rounds.invariant.count;
 })
 
 pub returns-clause-finished : goal.returns-clause-finished

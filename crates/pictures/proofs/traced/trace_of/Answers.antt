@@ -1,7 +1,7 @@
 use Rattle.std.specs.List.{AllByRecursion as Every}
 use Rattle.std.proofs.Common.{◌∙◌, ap, length, map, subst, sym}
 use Rattle.model.specs.Meaning.{IsAddressed}
-use Rattle.pictures.specs.Inside.{IsWhole}
+use Rattle.pictures.specs.Inside.{IsWholeRun}
 use Rattle.pictures.specs.Run.{Run, sends_of}
 use Rattle.pictures.proofs.Traces.{length-opening, length-sends_of, run_addressed, run_early, run_reached, run_whole}
 use Rattle.pictures.proofs.traced.trace_of.Given as given
@@ -40,7 +40,7 @@ run_at g c = record {
   pending = c.into_parts-time.result.pending.items;
 }
 
-whole : (g : given.Over) (c : goal.In_ok-times g) → IsWhole (run_at g c)
+whole : (g : given.Over) (c : goal.In_ok-times g) → IsWholeRun (run_at g c)
 whole g c =
     let m = g.M.Model.meaning c.args.model.now in
     let law = g.met.M.Model.lawful c.args.model.now in

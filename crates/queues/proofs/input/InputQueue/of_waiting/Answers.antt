@@ -5,7 +5,7 @@ use Rattle.eventkey.specs.Bag.{IsAscending, add, add_all}
 use Rattle.eventkey.specs.Message.{Message}
 use Rattle.queues.proofs.Firsts.{waiting_in_order}
 use Rattle.queues.proofs.Undone.{add_all-last}
-use Rattle.queues.specs.Inside.{queue_of}
+use Rattle.queues.specs.Inside.{queue_inside}
 use Rattle.queues.proofs.input.InputQueue.of_waiting.Goals as goal
 
 pub loop-place-preserved : goal.loop-place-preserved
@@ -18,4 +18,4 @@ loop-place-preserved c =
     c.in_ok-add.ensures.added ∙ (ap (add e) c.loop-place.invariant ∙ (sym (add_all-last so_far [] e) ∙ ap (λ (ms : List Message). add_all ms []) (sym more)))
 
 pub invariant_of-result : goal.invariant_of-result
-invariant_of-result c = waiting_in_order (queue_of (record { done = c.new.result; waiting = c.loop-place.waiting; antis = c.new-2.result })) (search rules) (subst IsAscending (sym c.loop-place.invariant) (IsAscending-add_all (take c.loop-place.place c.args.messages.items) [] tt)) (search rules)
+invariant_of-result c = waiting_in_order (queue_inside (record { done = c.new.result; waiting = c.loop-place.waiting; antis = c.new-2.result })) (search rules) (subst IsAscending (sym c.loop-place.invariant) (IsAscending-add_all (take c.loop-place.place c.args.messages.items) [] tt)) (search rules)
