@@ -8,7 +8,7 @@ use Rattle.disk.specs.Laws.{followed, weaker}
 use Rattle.model.specs.Meaning.{Meaning}
 use Rattle.protocol.proofs.Runs.{moves_are_sound, moves_made_are_sound, moves_made_join}
 use Rattle.protocol.specs.Moves.{Move, moves_made}
-use Rattle.protocol.specs.Moves.Move.{Checkpoint as CheckpointMove, Commit as CommitMove}
+use Rattle.protocol.specs.Moves.Move.{Checkpoint as CheckpointMove, Commit as CommitMove, Take as TakeMove}
 use Rattle.protocol.specs.Sound.{GoesOnFrom}
 use Rattle.protocol.specs.declared.Answer.{Answer}
 use Rattle.protocol.specs.declared.Answer.TheVariants.{AlreadyAt}
@@ -19,7 +19,7 @@ use Rattle.coordinator.proofs.Committing.{stays}
 use Rattle.coordinator.specs.Crashes.{IsWritten, KeepsRecovery, KeepsStanding, Recovers, StaysWritten, SurvivesCrashes}
 use Rattle.coordinator.specs.Drives.{AreSteps, Goes, IsStep, StepsAreMade}
 use Rattle.coordinator.specs.Session.{HasSameNodes, IsToldSession, Running, Session, picture_of, running}
-use Rattle.coordinator.specs.Steps.{Appends, HasCause, IsLogged, IsMade, IsStepped, leaves_all, move_of, next_time}
+use Rattle.coordinator.specs.Steps.{Appends, HasCause, IsLogged, IsMade, IsReplyTaken, IsStepped, leaves_all, move_of, next_time}
 use Rattle.coordinator.specs.declared.SessionFault.{SessionFault}
 use Rattle.coordinator.specs.declared.SessionFault.TheVariants.{Disk, Full, Spent}
 use Rattle.coordinator.specs.declared.Step.{Step}
@@ -40,6 +40,9 @@ goes-on k old new (Err fault) made told = tt
 
 pub same_fault : (f g : SessionFault) → ◌≡◌ {A = Result Answer SessionFault} (Err f) (Err g) → f ≡ g
 same_fault f g e = cc
+
+same_node : (a b : ℕ) → TakeMove a ≡ TakeMove b → a ≡ b
+same_node a b e = cc
 
 commit_appends : (k : Move) → k ≡ CommitMove → Appends k
 commit_appends k is = subst Appends (sym is) tt
@@ -133,19 +136,28 @@ module _ {M P D : Type 0} (meaning : M → Meaning) (state : P → PortState) (d
   not_spent k old (Ok answer) cause e = absurd (cc)
   not_spent k old (Err fault) cause e = subst (λ (f : SessionFault). HasCause k old f) (same_fault fault Spent e) cause
 
+  -- what is said of a step that is a take
+  abbrev pub Takes : Step → Session M P D → Session M P D → Result Answer SessionFault → Type 0
+  Takes step old new result = (node : ℕ) → move_of step ≡ TakeMove node → IfOk result (λ answer. IsReplyTaken node (running meaning state old) (running meaning state new) answer)
+
+  pub taken_by : (node : ℕ) (old new : Session M P D) (result : Result Answer SessionFault) → IfOk result (λ answer. IsReplyTaken node (running meaning state old) (running meaning state new) answer)
+      → (k : ℕ) → TakeMove node ≡ TakeMove k → IfOk result (λ answer. IsReplyTaken k (running meaning state old) (running meaning state new) answer)
+  taken_by node old new result taken k is = subst (λ (n : ℕ). IfOk result (λ answer. IsReplyTaken n (running meaning state old) (running meaning state new) answer)) (same_node node k is) taken
+
   -- what is said of a step of a session that is not spent
   pub is_step : (step : Step) (old new : Session M P D) (result : Result Answer SessionFault) → old.spent ≡ false
       → IsStepped (move_of step) (running meaning state old) (running meaning state new) new.spent result
       → IfErr result (λ fault. leaves_all fault ≡ true → new ≡ old)
       → (move_of step ≡ CommitMove → next_time old.end (picture_of (running meaning state old)) ≤ old.front.time → (result ≡ Ok (AlreadyAt old.front.time)) × (new ≡ old))
       → IsLogged meaning state disk (move_of step) old new result → OnOk result (StaysWritten meaning state old new) → SurvivesCrashes meaning state disk old new
-      → (new.model ≡ old.model) × (new.end ≡ old.end) → HasSameNodes old new → IsStep meaning state disk step old new result
-  is_step step old new result unspent stepped unchanged already logged written crashes same nodes = record {
+      → (new.model ≡ old.model) × (new.end ≡ old.end) → HasSameNodes old new → Takes step old new result → IsStep meaning state disk step old new result
+  is_step step old new result unspent stepped unchanged already logged written crashes same nodes taken = record {
     made = stepped.made;
     goes_on = goes-on (move_of step) (running meaning state old) (running meaning state new) result stepped.made;
     refused = λ fault un is. stepped.refused fault is;
     cause = λ un. stepped.cause;
     already = λ un. already;
+    taken = taken;
     logged = logged;
     keeps = record { written = still_written old new result written unchanged stepped.spends; crashes = crashes };
     unchanged = unchanged;
@@ -186,12 +198,12 @@ module _ {M P D : Type 0} (meaning : M → Meaning) (state : P → PortState) (d
   pub aside : (step : Step) (old new : Session M P D) (result : Result Answer SessionFault) → old.spent ≡ false → (Appends (move_of step) → ⊥)
       → IsStepped (move_of step) (running meaning state old) (running meaning state new) new.spent result
       → IfErr result (λ fault. leaves_all fault ≡ true → new ≡ old)
-      → new.log ≡ old.log → new.front ≡ old.front → (new.model ≡ old.model) × (new.end ≡ old.end) → HasSameNodes old new → IsStep meaning state disk step old new result
-  aside step old new result unspent other stepped unchanged log front same nodes =
+      → new.log ≡ old.log → new.front ≡ old.front → (new.model ≡ old.model) × (new.end ≡ old.end) → HasSameNodes old new → Takes step old new result → IsStep meaning state disk step old new result
+  aside step old new result unspent other stepped unchanged log front same nodes taken =
       is_step step old new result unspent stepped unchanged (λ is. absurd (other (commit_appends (move_of step) is))) (untouched (move_of step) old new result other log stepped.cause)
       (stays-written old new result log front)
       (λ told is recovers. rw (log, front) (stays (meaning old.model) old.end old.front.time (disk old.log.disk) recovers))
-      same nodes
+      same nodes taken
 
   -- a spent session refuses, and stays as it is
   pub spent_step : (step : Step) (old : Session M P D) → old.spent ≡ true → IsStep meaning state disk step old old (Err Spent)
@@ -201,6 +213,7 @@ module _ {M P D : Type 0} (meaning : M → Meaning) (state : P → PortState) (d
     refused = λ fault un is. absurd (cc);
     cause = λ un. absurd (cc);
     already = λ un is le. absurd (cc);
+    taken = λ node is. tt;
     logged = record {
       stays = λ other. refl;
       appended = λ is less. tt;

@@ -9,13 +9,13 @@ use Rattle.wire.specs.Port.{PortState}
 use Rattle.coordinator.specs.Crashes.{KeepsStanding, StaysWritten, SurvivesCrashes}
 use Rattle.coordinator.specs.Session.{HasSameNodes, IsToldSession, Running, Session}
 use Rattle.coordinator.specs.Session.{picture_of, running}
-use Rattle.coordinator.specs.Steps.{HasCause, IsLogged, IsMade, first_refusal}
+use Rattle.coordinator.specs.Steps.{HasCause, IsLogged, IsMade, IsReplyTaken, first_refusal}
 use Rattle.coordinator.specs.Steps.{leaves_all, move_of, next_time}
 use Rattle.coordinator.specs.declared.DriveFault.{DriveFault}
 use Rattle.coordinator.specs.declared.SessionFault.{SessionFault}
 use Rattle.coordinator.specs.declared.SessionFault.TheVariants.{Disk, Spent}
 use Rattle.coordinator.specs.declared.Step.{Step}
-use Rattle.protocol.specs.Moves.Move.{Commit as CommitMove}
+use Rattle.protocol.specs.Moves.Move.{Commit as CommitMove, Take as TakeMove}
 use Rattle.protocol.specs.declared.Answer.{Answer}
 use Rattle.protocol.specs.declared.Answer.TheVariants.{AlreadyAt}
 
@@ -55,6 +55,10 @@ module _ {M P D : Type 0} (meaning : M → Meaning) (state : P → PortState) (d
     pub already : old.spent ≡ false → move_of step ≡ CommitMove →
         next_time old.end (picture_of (running meaning state old)) ≤ old.front.time →
         (result ≡ Ok (AlreadyAt old.front.time)) × (new ≡ old)
+    -- A take puts what a reply sent in transit, and gathers what it told. Over whatever ports, all
+    -- that was sent is for processes that are there, and all that was told of the node's own.
+    pub taken : (node : ℕ) → move_of step ≡ TakeMove node → IfOk result (λ answer.
+        IsReplyTaken node (running meaning state old) (running meaning state new) answer)
     -- A commit that gets on and a checkpoint append one record, and all else leaves the log. Full
     -- comes where there is no room, Disk exactly where the device has failed.
     pub logged : IsLogged meaning state disk (move_of step) old new result

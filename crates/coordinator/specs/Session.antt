@@ -4,6 +4,7 @@ use Rattle.std.specs.Prelude.{Bool, List, None, Option, Some, [], false, get_or,
 use Rattle.std.specs.Prelude.{ℕ, ◌<◌, ◌^◌, ◌≡◌, ◌≤◌}
 use Rattle.commitlog.specs.Log.{Opened}
 use Rattle.eventkey.specs.Bag.{IsAscending}
+use Rattle.eventkey.specs.declared.Signed.{Signed}
 use Rattle.gvt.specs.Ledger.{Ledger, nodes_of}
 use Rattle.model.specs.Meaning.{Meaning}
 use Rattle.model.specs.World.{World}
@@ -100,6 +101,7 @@ pub record IsFit (r : Running) : Type 0 where
   pub numbers : length r.front.numbers ≡ r.meaning.lps
   pub ascending : IsAscending r.front.pending
   pub there : Every (λ (d : Done). d.message.to < r.meaning.lps) r.gathered
+  pub transit : Every (λ (s : Signed). s.message.to < r.meaning.lps) r.ledger.transit
 
 -- this port tells its node, which is that of the picture
 pub record IsPortOf (r : Running) (k : ℕ) (p : PortState) : Type 0 where

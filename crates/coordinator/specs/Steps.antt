@@ -9,11 +9,13 @@ use Rattle.gvt.specs.Ledger.{least_floor}
 use Rattle.model.specs.Meaning.{Meaning}
 use Rattle.gvt.specs.Picks.{are_distinct, can_pick}
 use Rattle.node.specs.declared.NodeFault.TheVariants as node
+use Rattle.node.specs.declared.Reply.{Reply}
 use Rattle.protocol.specs.Moves.{Move, answer_of, is_busy, merged, move, refusal, told_before}
 use Rattle.protocol.specs.Moves.Move.{Checkpoint as CheckpointMove, Commit as CommitMove}
 use Rattle.protocol.specs.Moves.Move.{Post as PostMove, Take as TakeMove}
 use Rattle.protocol.specs.Moves.Refusal.{NumberLimit as NumberLimitRefusal}
 use Rattle.protocol.specs.Picture.{Picture, nodes_of}
+use Rattle.protocol.specs.Replies.{names_there}
 use Rattle.recovery.specs.Bodies.{events_body}
 use Rattle.recovery.specs.Checkpoints.{checkpoint_body, checkpoint_of}
 use Rattle.wire.specs.Port.{IsForWant, PortState}
@@ -21,6 +23,7 @@ use Rattle.wire.specs.declared.port.PortFault.{PortFault}
 use Rattle.wire.specs.declared.port.PortFault.TheVariants.{Peer}
 use Rattle.coordinator.specs.Session.{IsToldSession, Running, Session, picture_of, running}
 use Rattle.protocol.specs.declared.Answer.{Answer}
+use Rattle.protocol.specs.declared.Answer.TheVariants.{Taken}
 use Rattle.coordinator.specs.declared.SessionFault.{SessionFault}
 use Rattle.coordinator.specs.declared.SessionFault.TheVariants.{Busy, Disk, Full, Idle, NoMemory}
 use Rattle.coordinator.specs.declared.SessionFault.TheVariants.{NoSuchNode, NoSuchPick, NumberLimit}
@@ -123,6 +126,15 @@ pub record IsStepped (k : Move) (old new : Running) (spent : Bool)
   pub usable : OnOk result (spent ≡ false)
   pub meaning_is : new.meaning ≡ old.meaning
   pub end_is : new.end ≡ old.end
+
+-- The reply of a node was taken, whatever the ports: its sends are in transit, what it told is
+-- gathered, and all that it names is there.
+pub record IsReplyTaken (node : ℕ) (old new : Running) (answer : Answer) : Type 0 where
+  pub reply : Reply
+  pub valid : names_there old.meaning.lps (length old.ports) node reply ≡ true
+  pub transit : new.ledger.transit ≡ old.ledger.transit ++ reply.out
+  pub gathered : new.gathered ≡ old.gathered ++ reply.fossils
+  pub answer_is : answer ≡ Taken reply.ran (length reply.out) (length reply.fossils)
 
 module _ {M P D : Type 0} (meaning : M → Meaning) (state : P → PortState) (disk : D →
     DiskState) where

@@ -1,6 +1,6 @@
 -- What a driver does to a session (this project's profile): it makes steps of it, and nothing else.
 use Rattle.std.specs.Prelude.{Bool, true, false, ℕ, zero, suc, List, [], ◌∷◌, ◌++◌, ◌+◌, ◌%◌, ◌==◌}
-use Rattle.std.specs.Prelude.{◌&&◌, ◌||◌, nat_le, nat_lt, min, ◌<◌, ◌≤◌, if◌then◌else◌, ◌≡◌, length}
+use Rattle.std.specs.Prelude.{◌&&◌, ◌||◌, nat_le, nat_lt, max, min, ◌<◌, ◌≤◌, if◌then◌else◌, ◌≡◌, length}
 use Rattle.std.specs.Prelude.{map, Ok, Option, Some, unwrap_or}
 use Rattle.coordinator.specs.Drives.{Goes, IsStep}
 use Rattle.coordinator.specs.Headline.{IsDriven as IsDrivenFrom}
@@ -79,11 +79,11 @@ commits_in (k ∷ ks) = commits_by (move_of k.step) + commits_in ks
 
 -- 2. Rounds
 
--- how many messages a parcel lets its node handle: the fixed batch; or some, where each node has a
--- budget that follows what it tells
+-- how many messages a parcel lets its node handle: the fixed batch; or some, and no more than the
+-- most, where each node has a budget that follows what it tells
 abbrev pub IsBudget : Batch → ℕ → Type 0
 IsBudget (Fixed messages) budget = budget ≡ messages
-IsBudget Adjusting budget = (1 ≤ budget) × (budget ≤ 65536)
+IsBudget (Adjusting most) budget = (1 ≤ budget) × (budget ≤ 65536) × (budget ≤ max most 1)
 
 -- a node is posted a parcel with such a budget
 abbrev pub IsPost : Batch → ℕ → List Move → Type 0

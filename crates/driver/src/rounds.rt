@@ -24,10 +24,13 @@ use wire::Port;
 pub enum Batch {
     /// So many, whatever the node is.
     Fixed(u32),
-    /// At least 2 and at most 65,536: each node has a budget of its own, which is set after each of
-    /// its takes by how much it handled and how much of that it told. It follows what the model
-    /// lets a node handle before most of it is undone again.
-    Adjusting,
+    /// Each node has a budget of its own, which is set after each of its takes by how much it
+    /// handled and how much of that it told. It follows what the model lets a node handle before
+    /// most of it is undone again.
+    Adjusting {
+        /// The most messages that a budget allows; 0 counts as 1, and more than 65,536 as that.
+        most: u32,
+    },
 }
 
 /// How a session is driven.

@@ -80,7 +80,7 @@ impl Tally {
     {
         match batch {
             Batch::Fixed(messages) => messages,
-            Batch::Adjusting => self.budgets[node as usize].messages(),
+            Batch::Adjusting { most } => { self.budgets[node as usize].messages().min(most.max(1)) }
         }
     }
 

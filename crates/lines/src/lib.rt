@@ -7,5 +7,5 @@ mod line;
 mod values;
 mod words;
 
-pub use grammar::{Texts, program_help, seq_help};
+pub use grammar::{Texts, most_sectors, program_help, seq_help};
 pub use line::{BatchOption, Line, read_line};

@@ -1,6 +1,7 @@
 -- What the program prints (this project's profile).
 use Rattle.std.specs.Io.KnownBytes.{Appends}
-use Rattle.std.specs.Prelude.{◌≡◌, ◌≤◌, ◌^◌, ◌+◌, ◌-◌, ◌&&◌, ℕ, Bool, true, false, List, [], ◌++◌}
+use Rattle.std.specs.Prelude.{◌≡◌, ◌≤◌, ◌^◌, ◌+◌, ◌-◌, ◌*◌, ◌&&◌, ℕ, Bool, true, false, List, []}
+use Rattle.std.specs.Prelude.{◌++◌, nat_le, not}
 use Rattle.std.specs.Prelude.{None, Option, Some, codes, decimal, filter, if◌then◌else◌}
 use Rattle.std.specs.Prelude.{is_none, length, min, unwrap_or}
 use Rattle.commands.specs.Commands.{StandsUpto, extended_text, formatted_text, ran_text}
@@ -335,17 +336,23 @@ IsChecked {M} says shows source text = (model : M) × (end : ℕ) × IsModelFile
 abbrev pub IsSomeChecked : {M : Type 0} → Describes M → Shows M → List ℕ → Type 0
 IsSomeChecked says shows text = (source : List ℕ) × IsChecked says shows source text
 
--- how many messages a node may handle at a turn
-abbrev pub driven_by : BatchOption → DriverBatch
-driven_by (Fixed messages) = driver.Fixed messages
-driven_by Auto = driver.Adjusting
+-- The most messages that a node with a budget of its own may handle at a turn: 128 where the nodes
+-- live in this process and tell fewer in a round than a commit waits for, else 65,536.
+abbrev pub most_of : ℕ → Option ℕ → Bool → ℕ
+most_of nodes commit_every apart =
+    if not apart && nat_le (nodes * 128) (unwrap_or commit_every 0) then 128 else 65536
+
+-- how many messages a node may handle at a turn, where a budget of its own has this most
+abbrev pub driven_by : BatchOption → ℕ → DriverBatch
+driven_by (Fixed messages) most = driver.Fixed messages
+driven_by Auto most = driver.Adjusting most
 
 -- How a run is driven, by the values of its line. A commit has room for 299,593 events, and those
 -- of a whole round come into it at once, so one is due at 250,000 at the latest.
-abbrev pub plan_of : ℕ → BatchOption → ℕ → Option ℕ → Option ℕ → Bool → Plan
-plan_of nodes batch rounds checkpoint commit_every together = record {
+abbrev pub plan_of : ℕ → BatchOption → ℕ → Option ℕ → Option ℕ → Bool → Bool → Plan
+plan_of nodes batch rounds checkpoint commit_every together apart = record {
   nodes = nodes;
-  batch = driven_by batch;
+  batch = driven_by batch (most_of nodes commit_every apart);
   rounds = rounds;
   together = together;
   checkpoint_every = unwrap_or checkpoint 0;

@@ -2,7 +2,6 @@
 //! of its command line.
 #![tactic(auto)]
 
-mod cause;
 mod disks;
 mod fault;
 mod files;
@@ -14,7 +13,6 @@ mod starting;
 mod status;
 mod tracing;
 
-pub use cause::Cause;
 pub use fault::Fault;
 pub use files::{check, seq, simulated};
 pub use progress::{Progress, TerminalProgress};

@@ -1,7 +1,7 @@
 // How far a run has come, as a terminal shows it.
 
-use crate::cause::Cause;
 use crate::fault::Fault;
+use causes::Cause;
 use driver::{Turn, Watch};
 use std::io::Write;
 use std::time::{Clock, Duration};

@@ -1,14 +1,15 @@
 // A run, over nodes in this program or behind sockets, with its trace or without.
 
 ghost use Rattle.std.specs.Prelude.{◌≡◌, ◌≤◌, ◌⊎◌, OnErr, OnOk};
-ghost use Rattle.program.specs.Command.{plan_of, Begins, IsRanOver, Prints};
+ghost use Rattle.program.specs.Command.{most_of, plan_of, Begins, IsRanOver, Prints};
 
-use crate::disks::{are_one_file, run_on};
+use crate::disks::run_on;
 use crate::fault::Fault;
 use crate::files::unreadable;
 use crate::nodes::{Behind, run_behind};
 use crate::progress::Progress;
 use crate::tracing::Traced;
+use causes::are_one_file;
 use driver::{Batch as DriverBatch, Plan};
 use lines::BatchOption;
 use std::fs::{File, OpenOptions};
@@ -40,8 +41,23 @@ pub(crate) struct Way<'a> {
     pub attach: bool,
 }
 
-/// How a run is driven, by the values of its line. A commit has room for 299,593 events, and those
-/// of a whole round come into it at once, so one is due at 250,000 at the latest.
+/// The most messages that a node with a budget of its own may handle at a turn: 128 where the nodes
+/// live in this process and tell fewer in a round than a commit waits for, else 65,536. Rounds of
+/// more messages would save no sync there, and undo more; between programs they save round trips.
+fn most_of(nodes: u32, commit_every: Option<u32>, apart: bool) -> u32
+    ensures { result ≡ most_of nodes commit_every apart }
+{
+    let in_a_round = u64::from(nodes) * 128;
+    if !apart && in_a_round <= u64::from(commit_every.unwrap_or(0)) {
+        128
+    } else {
+        65_536
+    }
+}
+
+/// How a run is driven, by the values of its line; `apart` tells that its nodes are programs of
+/// their own. A commit has room for 299,593 events, and those of a whole round come into it at
+/// once, so one is due at 250,000 at the latest.
 pub(crate) fn plan_of(
     nodes: u32,
     batch: BatchOption,
@@ -49,14 +65,17 @@ pub(crate) fn plan_of(
     checkpoint: Option<u32>,
     commit_every: Option<u32>,
     together: bool,
+    apart: bool,
 ) -> Plan
-    ensures { result ≡ plan_of nodes batch rounds checkpoint commit_every together }
+    ensures { result ≡ plan_of nodes batch rounds checkpoint commit_every together apart }
 {
     Plan {
         nodes,
         batch: match batch {
             BatchOption::Fixed(messages) => DriverBatch::Fixed(messages),
-            BatchOption::Auto => DriverBatch::Adjusting,
+            BatchOption::Auto => DriverBatch::Adjusting {
+                most: most_of(nodes, commit_every, apart),
+            },
         },
         rounds,
         together,

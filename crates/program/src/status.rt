@@ -6,16 +6,16 @@ ghost use Rattle.clap.specs.Values.{kind_of};
 ghost use Rattle.lines.specs.Line.{refusal_of, IsRanged};
 ghost use Rattle.program.specs.Command.{Begins, BeginsSaid, IsOutput, Prints, PrintsSaid};
 
-use crate::cause::cause_of;
-use crate::disks::{extend_on, format, grow_on, migrate_on, most_sectors, show_of};
+use crate::disks::{extend_on, format, grow_on, migrate_on, show_of};
 use crate::fault::Fault;
 use crate::files::{check_of, seq_of};
 use crate::looking::{Part, Seen, course_of, draw_of, log_of, stats_of, status_of};
 use crate::nodes::serve_on;
 use crate::progress::Progress;
 use crate::running::{Way, plan_of, run_traced, run_way};
+use causes::cause_of;
 use clap::error::{Error as LineError, ErrorKind as LineFault};
-use lines::{Line, Texts, program_help, read_line, seq_help};
+use lines::{Line, Texts, most_sectors, program_help, read_line, seq_help};
 use std::convert::AsStr;
 use std::env;
 use std::fs::File;
@@ -208,7 +208,15 @@ where
             trace,
             large,
         } => {
-            let plan = plan_of(nodes, batch, rounds, checkpoint, commit_every, together);
+            let plan = plan_of(
+                nodes,
+                batch,
+                rounds,
+                checkpoint,
+                commit_every,
+                together,
+                sockets.is_some(),
+            );
             let way = Way {
                 program,
                 model,

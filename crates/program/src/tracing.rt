@@ -3,9 +3,9 @@
 ghost use Rattle.std.specs.Prelude.{◌≡◌};
 ghost use Rattle.program.specs.Trace.{row_of};
 
-use crate::cause::Cause;
 use crate::fault::Fault;
 use crate::progress::Progress;
+use causes::Cause;
 use driver::{Turn, Watch};
 use pictures::{Row, write_names, write_turn};
 use std::io::Write;

@@ -2,9 +2,10 @@
 
 use crate::acting::{look_at_disk, path_of, remove};
 use crate::running::{ABOUT, Told, run};
+use causes::Cause;
 use driver::Watch;
 use models::AnyModel;
-use program::{Cause, Fault, Progress, TerminalProgress, command};
+use program::{Fault, Progress, TerminalProgress, command};
 use std::alloc::{AllocError, Global};
 use std::cell::Cell;
 use std::fs::{self, File};

@@ -18,6 +18,7 @@ use std::test::Fail;
 use wire::LocalPort;
 
 mod opening;
+mod replies;
 mod stepping;
 
 #[derive(Drop)]

@@ -49,7 +49,7 @@ const TRANSIT: [&[(Sign, [u64; 8])]; 13] = [
 ];
 
 /// Makes a step, of a session that no proof here looks into.
-fn stepped<M: Simulated, P: Port, D: SectorDisk>(
+pub(super) fn stepped<M: Simulated, P: Port, D: SectorDisk>(
     session: &mut Session<'_, M, P, D>,
     step: &Step,
 ) -> Result<Answer, SessionFault> {

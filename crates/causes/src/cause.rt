@@ -1,9 +1,9 @@
 // Which file or folder is the cause of the fault `File`. What is looked at is as it is once the
 // command has failed, so the answer is advice alone; what fails in the looking is no cause.
 
-use crate::disks::{are_one_file, most_sectors};
+use crate::paths::are_one_file;
 use disk::{MOST_SECTORS, MOST_SECTORS_OF_LARGE};
-use lines::Line;
+use lines::{Line, most_sectors};
 use std::fs::{self, File, Metadata, OpenOptions, TryLockError};
 use std::io::{Error as IoError, ErrorKind};
 use std::path::Path;
@@ -84,7 +84,7 @@ enum Step<'a> {
 
 /// The cause of the fault `File` with which the command of this line has ended, if one is seen: the
 /// first one in the order in which the command takes its paths.
-pub(crate) fn cause_of<'a, R>(rt: &R, line: Line<'a>) -> Option<Cause<'a>>
+pub fn cause_of<'a, R>(rt: &R, line: Line<'a>) -> Option<Cause<'a>>
 where
     R: Files<File = File> + AllocGlobal,
 {

@@ -1,0 +1,72 @@
+use super::*;
+use crate::sessions::stepping::stepped;
+use sockets::SocketPort;
+use std::io::Write;
+use std::os::unix::net::UnixStream;
+use wire::PortFault;
+
+// Sessions over a socket, behind whose other end no node stands: what it answers is written there.
+
+/// The frame of a reply: one handling, which sent a message of time 3 to process 1.
+const REPLY: [u8; 75] = [
+    0, 0, 0, 70, 3, 0, 0, 0, 1, 0, 0, 0, 0, 0, 0, 0, 0, 3, 0, 0, 0, 0, 0, 0, 0, 0, 0, 0, 0, 1, 0,
+    0, 0, 1, 0, 0, 0, 0, 0, 0, 0, 0, 0, 0, 0, 0, 0, 0, 0, 1, 0, 0, 0, 0, 0, 0, 0, 0, 0, 0, 0, 0, 0,
+    0, 0, 0, 0, 0, 0, 0, 0, 0, 0, 0, 1,
+];
+
+/// What a take answers where the reply's message is for this process, what a post answers then, and
+/// how many messages are in transit.
+fn answered(
+    rt: HostRuntime,
+    to: u8,
+) -> Result<
+    (
+        Result<Answer, SessionFault>,
+        Result<Answer, SessionFault>,
+        usize,
+    ),
+    Fail,
+> {
+    let alloc = rt.alloc();
+    let ring = Ring;
+    let (near, mut far) = UnixStream::pair(&rt)?;
+    let mut reply = REPLY;
+    reply[33] = to;
+    far.write_all(&reply)?;
+    let mut ports = Vec::new(alloc);
+    ports.push(SocketPort::new(alloc, near))?;
+    let mut session = match Session::open(alloc, &ring, ports, formatted(alloc, &ring)?, END) {
+        Ok(session) => session,
+        Err(NotOpened { fault, disk: _ }) => return Err(Fail::from(fault)),
+    };
+    let post = step_of(alloc, Row::Post(0, &[], 1))?;
+    stepped(&mut session, &post)?;
+    let taken = stepped(&mut session, &Step::Take { node: 0 });
+    let again = stepped(&mut session, &post);
+    Ok((taken, again, session.transit().len()))
+}
+
+#[test]
+fn a_reply_for_a_process_that_is_there_is_taken(rt: HostRuntime) -> Result<(), Fail> {
+    let (taken, again, travels) = answered(rt, 2)?;
+    assert!(rt;
+        taken
+            == Ok(Answer::Taken {
+                ran: 1,
+                out: 1,
+                fossils: 0
+            })
+    );
+    assert!(rt; again.is_ok());
+    assert_eq!(rt; travels, 1);
+    Ok(())
+}
+
+#[test]
+fn a_reply_for_a_process_that_is_not_there_ends_the_session(rt: HostRuntime) -> Result<(), Fail> {
+    let (taken, again, travels) = answered(rt, 3)?;
+    assert!(rt; taken == Err(SessionFault::Port(PortFault::BadReply)));
+    assert!(rt; again == Err(SessionFault::Spent));
+    assert_eq!(rt; travels, 0);
+    Ok(())
+}
