@@ -45,9 +45,9 @@ cmp_equal x y e =
     let d = nat_cmp_equal x.d y.d h7.1 in
     λ i. record { time = time i; from = from i; number = number i; to = to i; a = a i; b = b i; c = c i; d = d i }
 
-cmp_earlier : (x y : Message) → x.time < y.time → message_cmp x y ≡ Less
+cmp_earlier : (x y : Message) (earlier : x.time < y.time) → message_cmp x y ≡ Less
 unfolding message_cmp
-cmp_earlier x y h = rw (nat_cmp_less x.time y.time h)
+cmp_earlier x y earlier = rw (nat_cmp_less x.time y.time earlier)
 
 pub messages_are_ordered : MessagesAreOrdered
 messages_are_ordered = record {

@@ -70,22 +70,20 @@ floor_is end transit accounts =
     ∙ (nodes_floor (least_time end (messages transit)) accounts
     ∙ ap (λ n. least_low n lows) (sym (ap (least_time end) (map-append (λ (s : Signed). s.message) transit posted) ∙ least_time-append end (messages transit) (messages posted))))
 
--- The floor of one node more
-pub floor_more : (t : ℕ) (accounts : List Account) (i : ℕ) (account : Account) (floor floor' : ℕ) → i < length accounts → account ≡ get_or accounts i account →
-    floor ≡ fold with_node t (take i accounts) → floor' ≡ with_node floor account → floor' ≡ fold with_node t (take (i + 1) accounts)
-floor_more t accounts i account floor floor' within at so_far next =
-    next ∙ (ap (λ n. with_node n account) so_far ∙ (ap (with_node (fold with_node t (take i accounts))) at ∙ sym (fold_more with_node t accounts i account within)))
-
 least_floor-push : (t : ℕ) (fs : List ℕ) (f : ℕ) → least_floor t (fs ++ f ∷ []) ≡ min (least_floor t fs) f
 least_floor-push t [] f = refl
 least_floor-push t (g ∷ fs) f = least_floor-push (min t g) fs f
 
--- the least floor answered by one node more
-pub least_answered_more : (t : ℕ) (accounts : List Account) (i : ℕ) (account : Account) (least least' : ℕ) → i < length accounts → account ≡ get_or accounts i account →
-    least ≡ least_floor t (floors_in (take i accounts)) → least' ≡ min least account.answered → least' ≡ least_floor t (floors_in (take (i + 1) accounts))
-least_answered_more t accounts i account least least' within at so_far next =
-    let more : floors_in (take (i + 1) accounts) ≡ floors_in (take i accounts) ++ account.answered ∷ [] =
-    ap floors_in (take_more accounts i account within)
-    ∙ (map-append (λ (a : Account). a.answered) (take i accounts) (get_or accounts i account ∷ [])
-    ∙ ap (λ (a : Account). floors_in (take i accounts) ++ a.answered ∷ []) (sym at)) in
-    next ∙ (ap (λ n. min n account.answered) so_far ∙ sym (ap (least_floor t) more ∙ least_floor-push t (floors_in (take i accounts)) account.answered))
+-- With one node more: the floor, and the least floor answered
+module _ (t : ℕ) (accounts : List Account) (i : ℕ) (account : Account) (before after : ℕ) (within : i < length accounts) (at : account ≡ get_or accounts i account) where
+  pub floor_more : before ≡ fold with_node t (take i accounts) → after ≡ with_node before account → after ≡ fold with_node t (take (i + 1) accounts)
+  floor_more so_far next =
+      next ∙ (ap (λ n. with_node n account) so_far ∙ (ap (with_node (fold with_node t (take i accounts))) at ∙ sym (fold_more with_node t accounts i account within)))
+
+  pub least_answered_more : before ≡ least_floor t (floors_in (take i accounts)) → after ≡ min before account.answered → after ≡ least_floor t (floors_in (take (i + 1) accounts))
+  least_answered_more so_far next =
+      let more : floors_in (take (i + 1) accounts) ≡ floors_in (take i accounts) ++ account.answered ∷ [] =
+      ap floors_in (take_more accounts i account within)
+      ∙ (map-append (λ (a : Account). a.answered) (take i accounts) (get_or accounts i account ∷ [])
+      ∙ ap (λ (a : Account). floors_in (take i accounts) ++ a.answered ∷ []) (sym at)) in
+      next ∙ (ap (λ n. min n account.answered) so_far ∙ sym (ap (least_floor t) more ∙ least_floor-push t (floors_in (take i accounts)) account.answered))

@@ -189,15 +189,16 @@ module _ (m : Meaning) (old new : Node) (raw : Raw) (p : Parcel) where
   outcome_fault (frame.Load l) fault h read = absurd h
   outcome_fault (frame.Parcel q) fault h read = absurd h
 
-  pub take_ok : (response : Response) (r : Result Reply PortFault) → frame_in raw.kind raw.body ≡ Some (frame.Parcel p) → Reacts m old new raw (Ok response) → RepliesInRange m old raw response →
-      ((f : Frame) → IsSpelled response.frame f [] → IfOk r (λ reply. f ≡ frame.Reply reply)) → IfOk r (λ reply. IsReplyBy (answer m old p) new reply × (length (reply_bytes reply) ≤ 2 ^ 24))
-  take_ok response (Ok reply) is h range read = let out = answered response is h range in outcome_reply out.0 reply out.2 (read out.0 out.1)
-  take_ok response (Err fault) is h range read = tt
+  module _ (response : Response) (is : frame_in raw.kind raw.body ≡ Some (frame.Parcel p)) (h : Reacts m old new raw (Ok response)) (range : RepliesInRange m old raw response) where
+    pub take_ok : (r : Result Reply PortFault) →
+        ((f : Frame) → IsSpelled response.frame f [] → IfOk r (λ reply. f ≡ frame.Reply reply)) → IfOk r (λ reply. IsReplyBy (answer m old p) new reply × (length (reply_bytes reply) ≤ 2 ^ 24))
+    take_ok (Ok reply) read = let out = answered response is h range in outcome_reply out.0 reply out.2 (read out.0 out.1)
+    take_ok (Err fault) read = tt
 
-  pub take_err : (response : Response) (r : Result Reply PortFault) → frame_in raw.kind raw.body ≡ Some (frame.Parcel p) → Reacts m old new raw (Ok response) → RepliesInRange m old raw response →
-      ((f : Frame) → IsSpelled response.frame f [] → IfErr r (λ fault. IsReadOf f fault)) → IfErr r (λ fault. IsTakeCause m old p fault)
-  take_err response (Ok reply) is h range read = tt
-  take_err response (Err fault) is h range read = let out = answered response is h range in outcome_fault out.0 fault out.2 (read out.0 out.1)
+    pub take_err : (r : Result Reply PortFault) →
+        ((f : Frame) → IsSpelled response.frame f [] → IfErr r (λ fault. IsReadOf f fault)) → IfErr r (λ fault. IsTakeCause m old p fault)
+    take_err (Ok reply) read = tt
+    take_err (Err fault) read = let out = answered response is h range in outcome_fault out.0 fault out.2 (read out.0 out.1)
 
   -- no frame came back
   long_so : (lacks : Bool) (r : Result Reply NodeFault) (fault : WireFault) → (answer_at lacks m old p).result ≡ r → Err fault ≡ response_to r → IsTakeCause m old p (Wire fault)

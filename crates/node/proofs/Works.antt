@@ -21,7 +21,7 @@ use Rattle.model.proofs.Worlds.{stamp_addressed}
 use Rattle.model.specs.Meaning.{IsAddressed, IsLawful, IsWords, Meaning}
 use Rattle.queues.specs.Record.{handled_before, handled_from, messages, number_before, sent_in, state_before}
 use Rattle.queues.specs.declared.Record.{Record}
-use Rattle.process.proofs.Arrivals.{IsFine, IsLater, fold_words, stamp_later}
+use Rattle.process.proofs.Arrivals.{IsFine, IsLater, fold_kept, stamp_later}
 use Rattle.process.proofs.Handlings.{fine_handle, handled_before-from}
 use Rattle.process.proofs.Laws.{arrival_is_balanced, arrival_is_told, arrival_looks_ahead, arrival_takes_back, handling_is_balanced, handling_is_told, telling_is_told}
 use Rattle.process.specs.Process.{Process, arrive, fossils_of, handle, handling_of, has_room, nobody, queue_of, release, sent_by, state_after, taken_back}
@@ -242,7 +242,7 @@ module _ (m : Meaning) (law : IsLawful m) (end : ℕ) (short : end ≤ 2 ^ 40) (
       let waits = own_waits m nodes node floor low there past w.processes k lp l on in
       let ranged : Every IsRanged (x ∷ rest) = subst (Every IsRanged) heads fine.waiting in
       let from : Every (IsFrom low) (x ∷ rest) = subst (Every (IsFrom low)) heads (Every-left (IsFrom low) q.waiting q.antis waits) in
-      let now : IsWords q.state = fold_words m lp law l q.done (state_before q.done q.state) (number_before q.done q.number) q.state q.number (words_before lp q l told) fine.handled told.history in
+      let now : IsWords q.state = (fold_kept m lp law l q.done (state_before q.done q.state) (number_before q.done q.number) q.state q.number (words_before lp q l told) fine.handled told.history).1 in
       let goes = law.each lp q.state x l now ranged.0 in
       let fits : q.number + length (m.sends lp q.state x) ≤ 2 ^ 63 = leb-true (q.number + length (m.sends lp q.state x)) (2 ^ 63) room in
       let later = stamp_later m.lps lp x.time q.number (m.sends lp q.state x) goes in

@@ -36,19 +36,13 @@ stamp_later lps lp time number [] h = tt
 stamp_later lps lp time number (o ∷ os) h = (let d : 1 ≤ o.delay = h.0.delay in (omega arith, h.0.to), stamp_later lps lp time (number + 1) os h.1)
 
 module _ (m : Meaning) (lp : ℕ) (law : IsLawful m) (here : lp < m.lps) where
-  pub fold_later : (hs : List Record) (state : List ℕ) (number : ℕ) (state' : List ℕ) (number' : ℕ) → IsWords state → Every IsRanged (messages hs) →
-      IsFold m lp state number hs state' number' → Every (SendsLater m.lps) hs
-  fold_later [] state number state' number' words ranged f = tt
-  fold_later (h ∷ hs) state number state' number' words ranged f = (
-    rw f.2 (stamp_later m.lps lp h.message.time number (m.sends lp state h.message) (law.each lp state h.message here words ranged.0)),
-    fold_later hs (m.next_state lp state h.message) (number + length h.sent) state' number' (law.words lp state h.message here words ranged.0) ranged.1 f.4,
-  )
-
-  pub fold_words : (hs : List Record) (state : List ℕ) (number : ℕ) (state' : List ℕ) (number' : ℕ) → IsWords state → Every IsRanged (messages hs) →
-      IsFold m lp state number hs state' number' → IsWords state'
-  fold_words [] state number state' number' words ranged f = rw f.0 words
-  fold_words (h ∷ hs) state number state' number' words ranged f =
-      fold_words hs (m.next_state lp state h.message) (number + length h.sent) state' number' (law.words lp state h.message here words ranged.0) ranged.1 f.4
+  -- each handling sends to later times, and the state behind the last one has words
+  pub fold_kept : (hs : List Record) (state : List ℕ) (number : ℕ) (state' : List ℕ) (number' : ℕ) → IsWords state → Every IsRanged (messages hs) →
+      IsFold m lp state number hs state' number' → Every (SendsLater m.lps) hs × IsWords state'
+  fold_kept [] state number state' number' words ranged f = (tt, rw f.0 words)
+  fold_kept (h ∷ hs) state number state' number' words ranged f =
+      let rest = fold_kept hs (m.next_state lp state h.message) (number + length h.sent) state' number' (law.words lp state h.message here words ranged.0) ranged.1 f.4 in
+      ((rw f.2 (stamp_later m.lps lp h.message.time number (m.sends lp state h.message) (law.each lp state h.message here words ranged.0)), rest.0), rest.1)
 
 -- 2. The process
 
@@ -161,7 +155,7 @@ pub taken_back_later : (m : Meaning) (lp : ℕ) (s : Signed) (q : Process) → I
     Every (λ (t : Signed). (s.message.time ≤ t.message.time) × (t.message.to < m.lps)) (taken_back s q)
 taken_back_later m lp s q law here h words ranged up =
     let n = back s (queue_of q) in
-    let later = fold_later m lp law here q.done (state_before q.done q.state) (number_before q.done q.number) q.state q.number words ranged h in
+    let later = (fold_kept m lp law here q.done (state_before q.done q.state) (number_before q.done q.number) q.state q.number words ranged h).0 in
     let later' : Every (SendsLater m.lps) (but_last n q.done ++ last_of n q.done) = rw (but_last-last_of n q.done) later in
     let undone : Every (IsAtMost s.message) (messages (last_of n q.done)) = rw map-last_of (undone_from s (queue_of q) up) in
     Every-map (λ (t : Signed). (s.message.time ≤ t.message.time) × (t.message.to < m.lps)) minus (sent_in (last_of n q.done))

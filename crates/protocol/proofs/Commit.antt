@@ -53,6 +53,10 @@ told_none m lp state number (d ∷ ds) x law l words ranged f late =
 
 -- 2. A picture at which a commit stands: these messages are still to be handled
 
+-- nothing that is before c is under way
+abbrev pub NothingTravels : ℕ → Picture → Type 0
+NothingTravels c p = (x : Message) → x.time < c → (copies x (of_sign Plus (travelling p)) ≡ 0) × (copies x (of_sign Minus (travelling p)) ≡ 0)
+
 pub record IsReady (m : Meaning) (c : ℕ) (p : Picture) (xs : List Message) : Type 0 where
   pub told : IsToldTruly m p
   pub balanced : IsBalanced m p
@@ -62,7 +66,7 @@ pub record IsReady (m : Meaning) (c : ℕ) (p : Picture) (xs : List Message) : T
   pub ranged_told : Every (λ (d : Done). IsRanged d.message) p.gathered
   pub ranged_done : (lp : ℕ) → Every IsRanged (messages (process_at p lp).done)
   pub floors : (lp : ℕ) → c ≤ floor_at p lp
-  pub clear : (x : Message) → x.time < c → (copies x (of_sign Plus (travelling p)) ≡ 0) × (copies x (of_sign Minus (travelling p)) ≡ 0)
+  pub clear : NothingTravels c p
   pub ascending : IsAscending xs
   pub below : Every (λ (x : Message). (x.to < m.lps) × (x.time < c)) xs
   pub are : (x : Message) → copies x xs ≡ copies x (messages_told (told_before c p.gathered))

@@ -20,7 +20,7 @@ use Rattle.queues.specs.Record.{messages}
 use Rattle.process.specs.declared.Done.{Done}
 use Rattle.process.specs.Process.{Process, nobody, number_after, state_after}
 use Rattle.gvt.specs.Ledger.{least_floor}
-use Rattle.protocol.proofs.Commit.{IsDone, IsReady, finish}
+use Rattle.protocol.proofs.Commit.{IsDone, IsReady, NothingTravels, finish}
 use Rattle.protocol.proofs.Gathered.{before_is_early, filter_swap, length-numbers_told, length-states_told, numbers_told-at, states_told-at}
 use Rattle.protocol.specs.Picture.{IsProcessInRange, Picture, floor_at, gvt, messages_told, node_of, nodes_of, process_at, processes_of, sent_told, told_by, travelling}
 use Rattle.protocol.specs.Moves.{Commit, after_messages, commit, merged, move, numbers_told, picture_after_commit, states_told, told_before, told_from}
@@ -63,7 +63,7 @@ module _ (m : Meaning) (end c : ℕ) (p : Picture) (law : IsLawful m) (short : e
         Every-member (λ (x : Message). x.time < c) (messages_told (told_before c p.gathered)) x early some,
       ))
 
-  nothing_travels : (x : Message) → x.time < c → (copies x (of_sign Plus (travelling p)) ≡ 0) × (copies x (of_sign Minus (travelling p)) ≡ 0)
+  nothing_travels : NothingTravels c p
   nothing_travels x h =
       let waits : List Message = flat_map (λ (q : Process). q.waiting ++ q.antis) (processes_of p) in
       let moves : List Message = map (λ (s : Signed). s.message) (travelling p) in
@@ -74,10 +74,10 @@ module _ (m : Meaning) (end c : ℕ) (p : Picture) (law : IsLawful m) (short : e
       let b = le.1 in
       (omega arith, omega arith)
 
-  ranged_at : (lp : ℕ) → Every IsRanged (messages (process_at p lp).done)
-  ranged_at lp =
+  in_range_at : (lp : ℕ) → IsProcessInRange (process_at p lp)
+  in_range_at lp =
       let qs : Every IsProcessInRange (node_of p (lp % nodes_of p)) = Every-get_or-default (λ (qs : List Process). Every IsProcessInRange qs) p.nodes (lp % nodes_of p) [] may.in_range.1 tt in
-      (Every-get_or-default IsProcessInRange (node_of p (lp % nodes_of p)) (lp / nodes_of p) nobody qs (tt, tt, tt)).0
+      Every-get_or-default IsProcessInRange (node_of p (lp % nodes_of p)) (lp / nodes_of p) nobody qs (tt, tt, tt)
 
   ready : IsReady m c p (merged c p.gathered)
   ready = record {
@@ -87,7 +87,7 @@ module _ (m : Meaning) (end c : ℕ) (p : Picture) (law : IsLawful m) (short : e
     some = may.some;
     world = IsUpto_IsWorld m end p.front.time p.front law short may.front;
     ranged_told = Every-unmap IsRanged (λ (d : Done). d.message) p.gathered may.in_range.0;
-    ranged_done = ranged_at;
+    ranged_done = λ lp. (in_range_at lp).0;
     floors = floors_above;
     clear = nothing_travels;
     ascending = IsAscending-add_all (messages_told (told_before c p.gathered)) [] tt;

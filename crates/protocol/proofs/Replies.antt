@@ -35,14 +35,15 @@ module _ {X : Type 0} (test : X → Bool) (P : X → Type 0) (passes : (x : X) �
 abbrev SentThere : ℕ → Done → Type 0
 SentThere lps d = Every (λ (x : Message). x.to < lps) d.sent
 
-sent_there : (m : Meaning) (lp : ℕ) → IsLawful m → lp < m.lps → (ds : List Done) (state : List ℕ) (number : ℕ) → IsWords state → Every (λ (d : Done). IsRanged d.message) ds →
-    IsToldFold m lp state number ds → Every (SentThere m.lps) ds
-sent_there m lp law there [] state number words ranged f = tt
-sent_there m lp law there (d ∷ ds) state number words ranged f = (
-  Every-weaker (IsLater m.lps d.message.time) (λ (x : Message). x.to < m.lps) (λ x later. later.1) d.sent
-      (rw f.0 (stamp_later m.lps lp d.message.time number (m.sends lp state d.message) (law.each lp state d.message there words ranged.0))),
-  sent_there m lp law there ds d.after d.number_after (rw f.1 (law.words lp state d.message there words ranged.0)) ranged.1 f.4,
-)
+module _ (m : Meaning) (lp : ℕ) (law : IsLawful m) (there : lp < m.lps) where
+  sent_there : (ds : List Done) (state : List ℕ) (number : ℕ) → IsWords state → Every (λ (d : Done). IsRanged d.message) ds →
+      IsToldFold m lp state number ds → Every (SentThere m.lps) ds
+  sent_there [] state number words ranged f = tt
+  sent_there (d ∷ ds) state number words ranged f = (
+    Every-weaker (IsLater m.lps d.message.time) (λ (x : Message). x.to < m.lps) (λ x later. later.1) d.sent
+        (rw f.0 (stamp_later m.lps lp d.message.time number (m.sends lp state d.message) (law.each lp state d.message there words ranged.0))),
+    sent_there ds d.after d.number_after (rw f.1 (law.words lp state d.message there words ranged.0)) ranged.1 f.4,
+  )
 
 -- the messages of what is told are among those that were done
 fossils_ranged : (floor : ℕ) (q : Process) → Every IsRanged (messages q.done) → Every (λ (d : Done). IsRanged d.message) (fossils_of floor q)

@@ -19,7 +19,7 @@ use Rattle.model.specs.World.{number_of, state_of}
 use Rattle.queues.proofs.Releases.{copies-handled_before-le}
 use Rattle.queues.specs.Record.{handled_before, handled_from, messages, number_before, state_before}
 use Rattle.queues.specs.declared.Record.{Record}
-use Rattle.process.proofs.Arrivals.{IsLater, fold_later}
+use Rattle.process.proofs.Arrivals.{IsLater, fold_kept}
 use Rattle.process.proofs.Histories.{messages_told as messages_of_told}
 use Rattle.process.proofs.Laws.{telling_is_balanced}
 use Rattle.process.specs.Process.{Process, fossils_of, nobody, sent_by}
@@ -108,7 +108,7 @@ module _ (m : Meaning) (end : ℕ) (p : Picture) (system : IsSystem m end p) whe
       let told = h.told lp l in
       let words : IsWords (state_before q.done q.state) =
       rw told.state_meets (told_words m lp law l (told_by lp p.gathered) (state_of p.front lp) (number_of p.front lp) (past_known.words lp l) (past_known.told lp l) told.told_fold) in
-      let later = fold_later m lp law l q.done (state_before q.done q.state) (number_before q.done q.number) q.state q.number words (process_in_range lp).0 told.history in
+      let later = (fold_kept m lp law l q.done (state_before q.done q.state) (number_before q.done q.number) q.state q.number words (process_in_range lp).0 told.history).0 in
       let there : Every (λ (x : Message). x.to < m.lps) (sent_by q) =
       Every-flat_map (λ (x : Message). x.to < m.lps) (λ (h : Record). h.sent) q.done
       (Every-weaker (λ (h : Record). Every (IsLater m.lps h.message.time) h.sent) (λ (h : Record). Every (λ (x : Message). x.to < m.lps) h.sent)
