@@ -5,7 +5,7 @@
 #[cfg(test)]
 mod acting;
 #[cfg(test)]
-mod causes;
+mod blamed;
 #[cfg(test)]
 mod damage;
 #[cfg(test)]
