@@ -1,4 +1,4 @@
-//! The baseline of `run --sockets`: round trips of frames between a program and its node programs, by hand, with nothing but the
+//! The baseline of `run --sockets`: hand-written round trips of frames between a program and its node programs, with nothing but the
 //! bytes. Prints the parcels a second.
 //!
 //! Usage: round-trips NODES ROUNDS PARCEL REPLY [together], where PARCEL and REPLY are bytes of a body. It starts itself for each

@@ -1,4 +1,4 @@
-// The baseline of `run`: PHOLD on Time Warp by hand in plain Rust, over nodes in one process, by the same plan of rounds, with the same
+// The baseline of `run`: PHOLD on hand-written Time Warp in plain Rust, over nodes in one process, by the same plan of rounds, with the same
 // commits to a file. It handles as many messages as the program does. Usage: time-warp MODEL FILE NODES BATCH
 use std::collections::VecDeque;
 use std::fs::File;

@@ -106,8 +106,9 @@ Exit status:
 
 Faults:
   BadModel     the file is no model file ('{name} check' tells why)
-  File         a file cannot be read, or is no disk, or one of another size; or a node's
-               socket is not made, or its program does not start or does not connect
+  File         a file cannot be read, or is no disk, or one of another size, or another run has
+               it; or a node's socket is not made, or its program does not start or does not
+               connect
   Log ..       the disk: NotBlank (it has a log), NotFormatted, Corrupt, Disk ..
   Recovery ..  the disk is of another simulation or of format 1 (OtherModel), or is damaged
   Session ..   a run stops: Full (the disk has no room), Recovery .., Disk, NoMemory, or
@@ -213,6 +214,9 @@ const TRACE_HELP: &str = "Writes a row for each turn of a node to FILE, by comma
 const RUN_HELP: &str = "\
 In a round each node has its turn, and what no rollback can reach any more is committed.
 Whatever ends the run, what was committed stands on the disk, and the next run goes on there.
+
+One command at a time writes to a disk: another is refused at once (File). 'log', 'show', 'status',
+'stats' and 'draw' may be called beside it, and see what was committed when they read the disk.
 
 Several runs with --rounds 1 never get on, however many they are: each opening begins with a floor
 that one round cannot pass. Those with --rounds 2 do.

@@ -8,6 +8,7 @@ use crate::status::{About, answer, tell, words};
 use std::fs::File;
 use std::io::{self, BufWriter, IsTerminal, Print, Write};
 use std::net::Net;
+use std::os::fd::AsRawFd;
 use std::process::Processes;
 use std::rt::{Env, Files};
 use std::time::Clock;
@@ -25,6 +26,7 @@ where
     E: Write + IsTerminal + Copy,
     ensures { result ≤ 2 }
 {
+    let _filled = fill_streams(rt);
     let Ok(mut out) = BufWriter::new(rt.alloc(), io::writer(rt)) else {
         return tell(about.name, Fault::NoMemory, &mut err);
     };
@@ -34,4 +36,23 @@ where
     // each command flushes what it writes: what is left was refused, and is not tried again
     let (_writer, _left) = out.into_parts();
     status
+}
+
+/// Opens the null device in the place of each standard stream that the caller has closed, until
+/// these files are dropped: a file or a socket of a command gets another number, so that nothing
+/// printed goes to it.
+fn fill_streams<R>(rt: &R) -> Vec<File>
+where
+    R: Files<File = File> + AllocGlobal,
+{
+    let mut filled = Vec::new(rt.alloc());
+    for _ in 0..3 {
+        let Ok(file) = File::open(rt, "/dev/null") else {
+            break;
+        };
+        if file.as_raw_fd() > 2 || filled.push(file).is_err() {
+            break;
+        }
+    }
+    filled
 }

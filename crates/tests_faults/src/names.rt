@@ -16,6 +16,7 @@ use node::NodeFault;
 use process::ProcessFault;
 use program::{Fault, tell};
 use recovery::RecoveryFault;
+use simulation::SimulationFault;
 use std::fmt::Display;
 use std::process::Abort;
 use std::test::Fail;
@@ -219,6 +220,16 @@ fn commands_and_programs_name_their_faults(rt: HostRuntime) -> Result<(), Fail> 
         Session(SessionFault::Disk) => "Session Disk",
         Rounds => "Rounds",
         Migrate(MigrateFault::NotEmpty) => "Migrate NotEmpty",
+        Output => "Output",
+    });
+    check_names!(rt; SimulationFault {
+        File => "File",
+        Log(LogFault::Full) => "Log Full",
+        Recovery(RecoveryFault::GoesBack) => "Recovery GoesBack",
+        Session(SessionFault::Disk) => "Session Disk",
+        Rounds => "Rounds",
+        World(WorldFault::NumberLimit) => "World NumberLimit",
+        NoMemory => "NoMemory",
         Output => "Output",
     });
     check_names!(rt; Fault {

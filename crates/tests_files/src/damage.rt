@@ -24,7 +24,7 @@ const NOT_THE_LEAST: &str = "timewarp: Recovery NotTheLeast\n";
 const GOES_BACK: &str = "timewarp: Recovery GoesBack\n";
 
 /// The world of the ring at time 1, before its first event.
-const WORLD_AT_1: &str = "\
+pub(crate) const WORLD_AT_1: &str = "\
 virtual time 1
 lp 0 sent 1 state 0
 lp 1 sent 0 state 0

@@ -1,6 +1,7 @@
 // The scripts.
 
 use crate::acting::{Act, Script, play};
+use crate::damage::WORLD_AT_1;
 use std::test::Fail;
 
 const RING: &str = "model = \"ring\"\nlps = 3\nend = 10\nhold = 2\ntokens = 1\n";
@@ -145,13 +146,20 @@ const FULL: Script = Script {
     ],
 };
 
-/// A run ends by its rounds, and three are enough. With five nodes and a batch of 7, PHOLD takes
-/// 28.
+/// A run ends by its rounds, and three are enough; of one round each, no run comes past time 1.
+/// With five nodes and a batch of 7, PHOLD takes 28.
 const ROUNDS: Script = Script {
     name: "rounds",
     model: RING,
     other: PHOLD,
     acts: &[
+        Act::Prints("new MODEL DISK --sectors 64", FORMATTED_64),
+        Act::Fails("run MODEL DISK --nodes 3 --rounds 1", OUT_OF_ROUNDS),
+        Act::Prints("log MODEL DISK", ""),
+        Act::Prints("show MODEL DISK", WORLD_AT_1),
+        Act::Fails("run MODEL DISK --nodes 3 --rounds 1", OUT_OF_ROUNDS),
+        Act::Prints("show MODEL DISK", WORLD_AT_1),
+        Act::Removes,
         Act::Prints("new MODEL DISK --sectors 64", FORMATTED_64),
         Act::Fails("run MODEL DISK --nodes 3 --rounds 2", OUT_OF_ROUNDS),
         Act::Prints("log MODEL DISK", LOG_TO_7),

@@ -74,6 +74,15 @@ const LINES: [(&[&str], &[&str]); 7] = [
     (&["extend", "LATER", "DISK"], &["extended 10 to 20\n"]),
 ];
 
+/// Commands on the disk that these leave, of which it is looked at how they end.
+const LOOKS: [&[&str]; 5] = [
+    &["grow", "LATER", "DISK", "--sectors", "128"],
+    &["status", "LATER", "DISK"],
+    &["stats", "LATER", "DISK"],
+    &["stats", "LATER", "DISK", "--format", "csv"],
+    &["draw", "LATER", "DISK"],
+];
+
 /// The paths of the files.
 #[derive(Drop)]
 struct Stage {
@@ -142,7 +151,7 @@ fn are_parts(bytes: &[u8], parts: &[&str]) -> bool {
     rest.is_empty()
 }
 
-/// Looks at a command whose last flush is refused, or not.
+/// Looks at a command whose last flush is refused, or not, and at what it writes.
 fn look_at_flush<R>(
     rt: &R,
     stage: &Stage,
@@ -153,6 +162,16 @@ where
     R: Files<File = File> + Net + Processes + Clock + Abort + AllocGlobal,
 {
     let (words, parts) = line;
+    let taken = taken_of(rt, stage, words, refuses)?;
+    assert!(rt; are_parts(taken.as_slice(), parts), "{words:?}");
+    Ok(())
+}
+
+/// Looks at a command whose last flush is refused, or not. Answers what the writer has taken.
+fn taken_of<R>(rt: &R, stage: &Stage, words: &[&str], refuses: bool) -> Result<Vec<u8>, Fail>
+where
+    R: Files<File = File> + Net + Processes + Clock + Abort + AllocGlobal,
+{
     let words = words_of(rt.alloc(), words, stage)?;
     let mut out = Held {
         taken: Vec::new(rt.alloc()),
@@ -160,7 +179,6 @@ where
         refuses,
     };
     let (status, err) = run_held(rt, words.as_slice(), &mut out);
-    assert!(rt; are_parts(out.taken.as_slice(), parts), "{words:?}");
     if refuses {
         assert_eq!(rt;
             (status, err.as_slice()),
@@ -169,7 +187,7 @@ where
     } else {
         assert_eq!(rt; (status, err.len(), out.waiting), (0, 0, 0), "{words:?}");
     }
-    Ok(())
+    Ok(out.taken)
 }
 
 #[test]
@@ -178,6 +196,10 @@ fn each_command_flushes_all_that_it_writes(rt: HostRuntime) -> Result<(), Fail> 
         let stage = begin(&rt, "flushed")?;
         for line in LINES {
             look_at_flush(&rt, &stage, line, refuses)?;
+        }
+        for words in LOOKS {
+            let taken = taken_of(&rt, &stage, words, refuses)?;
+            assert!(rt; taken.len() > 0, "{words:?}");
         }
         finish(&rt, &stage)?;
     }
@@ -267,6 +289,65 @@ fn a_fault_is_told_between_what_is_shown_and_what_to_do(rt: HostRuntime) -> Resu
     );
     assert_eq!(rt; (status, out.len(), seen.kinds.get()), (1, 0, *b"cef\0"));
     Ok(())
+}
+
+/// The numbers that a run tells on its way: the end, the time and the events of each commit, and
+/// then `u64::MAX`.
+#[derive(Drop)]
+struct Numbers {
+    told: Vec<u64>,
+}
+
+impl Watch for Numbers {
+    fn committed(&mut self, time: u64, events: usize) {
+        let _ = self.told.extend_from_slice(&[time, events as u64]);
+    }
+}
+
+impl Progress for Numbers {
+    fn begin(&mut self, end: u64) {
+        let _ = self.told.push(end);
+    }
+
+    fn waiting(&mut self, _nodes: &[usize]) {}
+
+    fn clear(&mut self) {}
+
+    fn finished(&mut self) {
+        let _ = self.told.push(u64::MAX);
+    }
+
+    fn is_seen(&self) -> bool {
+        false
+    }
+
+    fn failed(&mut self, _fault: Fault, _cause: Option<Cause<'_>>) {}
+}
+
+#[test]
+fn a_run_tells_its_end_and_each_commit(rt: HostRuntime) -> Result<(), Fail> {
+    let stage = begin(&rt, "numbers")?;
+    look_at_flush(&rt, &stage, LINES[0], false)?;
+    let mut numbers = Numbers {
+        told: Vec::new(rt.alloc()),
+    };
+    let words = words_of(rt.alloc(), LINES[1].0, &stage)?;
+    let mut out = Vec::new(rt.alloc());
+    let mut err = Vec::new(rt.alloc());
+    let status = command::<AnyModel, _, _, _, _, _>(
+        &rt,
+        ABOUT,
+        words.as_slice(),
+        &mut numbers,
+        &mut out,
+        &mut err,
+    );
+    assert_eq!(rt; (status, err.len()), (0, 0));
+    assert_eq!(rt;
+        numbers.told.as_slice(),
+        [10, 1, 0, 7, 3, 10, 5, u64::MAX].as_slice()
+    );
+    finish(&rt, &stage)
 }
 
 /// Looks at what a command tells.

@@ -5,6 +5,7 @@
 mod attached;
 mod nodes;
 mod runs;
+mod streams;
 
 use models::AnyModel;
 use program::{About, start, words};
@@ -52,5 +53,6 @@ where
 {
     runs::try_all(rt, name, report)?;
     attached::try_all(rt, name, report)?;
-    nodes::try_all(rt, name, report)
+    nodes::try_all(rt, name, report)?;
+    streams::try_all(rt, name, report)
 }
