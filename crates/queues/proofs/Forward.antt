@@ -64,6 +64,18 @@ kept_at (Some f) later (suc n) k whole ne e l =
     let rest = in_later later n k (e ∙ ap (λ (i : ℕ). get_or later i k) {x = suc n - 1} {y = n} (omega arith)) (omega arith) in
     record { words = rest.words; message = rest.message; number = rest.number; sent = rest.sent }
 
+-- whether it is saved
+saved_later : (later : List (Record × Bool)) (n : ℕ) (k : Record × Bool) → k ≡ get_or later n k → n < length (wholes later) → slice_get (saved_in later) n ≡ Some k.1
+saved_later [] n k e l = absurd (omega arith)
+saved_later (h ∷ hs) zero k e l = ap (λ (r : Record × Bool). Some r.1) (sym e)
+saved_later (h ∷ hs) (suc n) k e l = saved_later hs n k e (omega arith)
+
+pub saved_at : (first : Option Record) (later : List (Record × Bool)) (at : ℕ) (k : Record × Bool) → (first ≡ None → later ≡ []) → (at ≡ 0 → ⊥) → k ≡ get_or later (at - 1) k →
+    at < length (option_to_list first ++ wholes later) → slice_get (saved_in later) (at - 1) ≡ Some k.1
+saved_at None later at k whole ne e l = let none : length (wholes later) ≡ 0 = ap (λ (ks : List (Record × Bool)). length (wholes ks)) (whole refl) in absurd (omega (arith, none))
+saved_at (Some f) later zero k whole ne e l = absurd (ne refl)
+saved_at (Some f) later (suc n) k whole ne e l = saved_later later (suc n - 1) k e (omega arith)
+
 -- before some records it is no matter what came after them
 pub state_of_some : (hs : List Record) (s t : List ℕ) → 0 < length hs → state_before hs s ≡ state_before hs t
 state_of_some [] s t l = absurd (omega arith)

@@ -88,20 +88,21 @@ module _ (near far : List Message) (g : Message) (some : 0 < length near) (is : 
       ap (λ (ys : List Message). rest ++ ys) least ∙ (sym (append_assoc rest (g ∷ []) far) ∙ ap (λ (xs : List Message). xs ++ far) (sym greatest_last))
 
   -- what comes after it
-  pub goes_far : (m : Message) → is_before g m ≡ true → IsSplit near (add m far) × (both near (add m far) ≡ add m (both near far))
-  goes_far m e =
+  pub goes_far : (m : Message) → is_before g m ≡ true → length near ≤ 32 → IsSplit near (add m far) × (both near (add m far) ≡ add m (both near far))
+  goes_far m e few =
       let least = Every-weaker (λ (x : Message). IsAtMost x g) (λ (x : Message). IsAtMost x m) (λ x h. at_most_trans x g m h (at_most_from_before g m e)) (reverse near) at_most_greatest in
-      (record { ascending = ascends-right m (reverse near) far up least; some = λ _. some }, add-right m (reverse near) far up least)
+      (record { ascending = ascends-right m (reverse near) far up least; some = λ _. some; few = few }, add-right m (reverse near) far up least)
 
   pub near_enough : (m : Message) → is_before g m ≡ false → Every (IsAtMost m) far
   near_enough m e = Every-weaker (IsAtMost g) (IsAtMost m) (λ y h. at_most_trans m g y e h) far greatest_at_most
 
-pub goes_near : (m : Message) (near far more : List Message) → IsAscending (both near far) → Every (IsAtMost m) far → reverse more ≡ add m (reverse near) → IsSplit more far × (both more far ≡ add m (both near far))
-goes_near m near far more up most is =
+pub goes_near : (m : Message) (near far more : List Message) → IsAscending (both near far) → Every (IsAtMost m) far → reverse more ≡ add m (reverse near) → length near < 32 → IsSplit more far × (both more far ≡ add m (both near far))
+goes_near m near far more up most is room =
     let same : both more far ≡ add m (both near far) = ap (λ (xs : List Message). xs ++ far) is ∙ add-left m (reverse near) far up most in (
       record {
         ascending = subst IsAscending (sym same) (IsAscending-add m (both near far) up);
         some = λ _. omega (arith, length-reverse more, ap length is, length-add m (reverse near));
+        few = omega (arith, length-reverse more, ap length is, length-add m (reverse near), length-reverse near);
       },
       same,
     )
@@ -129,7 +130,7 @@ taken_far m near far k gone =
     let same : both near (remove_one m far) ≡ remove_one m (both near far) = sym (remove_one-right m (reverse near) far n) in (
       ap (λ (c : ℕ). nat_lt 0 c) (let e : copies m (both near far) ≡ copies m far = omega (arith, copies-append m (reverse near) far) in e),
       same,
-      record { ascending = subst IsAscending (sym same) (IsAscending-remove_one m (both near far) k.ascending); some = λ h. k.some (some-removed m far h) },
+      record { ascending = subst IsAscending (sym same) (IsAscending-remove_one m (both near far) k.ascending); some = λ h. k.some (some-removed m far h); few = k.few },
     )
 
 pub none_at_hand : (near : List Message) → length near ≤ 0 → near ≡ []

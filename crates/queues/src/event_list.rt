@@ -1,6 +1,6 @@
 // What waits at a process.
 
-ghost use Rattle.std.specs.Prelude.{◌≡◌, ◌<◌, ◌^◌, [], length, drop, vec_len, vec_capacity};
+ghost use Rattle.std.specs.Prelude.{◌≡◌, ◌<◌, ◌≤◌, ◌^◌, [], length, drop, vec_len, vec_capacity};
 ghost use Rattle.std.specs.Prelude.{slice_get};
 ghost use Rattle.std.specs.Prelude.{IfSome, OnOk, OnErr};
 ghost use Rattle.eventkey.specs.Bag.{IsAscending, add, is_among, remove_one};
@@ -142,6 +142,7 @@ fn put_in(near: &mut Vec<Message>, far: &mut Bag, message: Message) -> Result<()
 fn make_room(near: &mut Vec<Message>, far: &mut Bag) -> Result<(), AllocError>
     requires { IsSplit near.old.items far.old }
     ensures split { IsSplit near.new.items far.new }
+    ensures room { OnOk result (length near.new.items < 32) }
     ensures same { both near.new.items far.new ≡ both near.old.items far.old }
 {
     if near.len() < AT_HAND {
@@ -173,6 +174,7 @@ fn take_out(near: &mut Vec<Message>, far: &mut Bag, message: &Message) -> bool
 /// Where nothing is at hand, the least of the others comes there. It takes no memory.
 fn refill(near: &mut Vec<Message>, far: &mut Bag)
     requires ascending { IsAscending (both near.old.items far.old) }
+    requires few { length near.old.items ≤ 32 }
     requires room { 0 < vec_capacity near.old }
     ensures split { IsSplit near.new.items far.new }
     ensures same { both near.new.items far.new ≡ both near.old.items far.old }

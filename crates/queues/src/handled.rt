@@ -1,7 +1,7 @@
 // The history of a logical process.
 
 ghost use Rattle.std.specs.Prelude.{◌≡◌, ◌<◌, ◌≤◌, ◌+◌, ◌*◌, ◌/◌, ◌++◌, ◌∷◌, [], length, IfOk};
-ghost use Rattle.std.specs.Prelude.{OnOk, OnErr, Some, take, drop, nat_le, nat_lt, vec_len};
+ghost use Rattle.std.specs.Prelude.{IsOk, OnOk, OnErr, Some, take, drop, nat_le, nat_lt, vec_len};
 ghost use Rattle.std.specs.Prelude.{vec_capacity};
 ghost use Rattle.std.specs.Option.{option_copied};
 ghost use Rattle.std.specs.List.{filter, slice_get};
@@ -145,6 +145,7 @@ impl<const K: usize> History<K> {
         requires there { count ≤ length self.old }
         requires handlings { AreHandlings (M.meaning model.now) self.old }
         ensures answer { IfOk result (λ undone. undone.items ≡ last_of count self.old) }
+        ensures none { count ≡ 0 → IsOk result }
         ensures left { OnOk result (self.new ≡ but_last count self.old) }
         ensures unchanged { OnErr result (self.new ≡ self.old) }
     {
@@ -171,6 +172,7 @@ impl<const K: usize> History<K> {
     ) -> Result<(), AllocError>
         requires there { count ≤ length self.old }
         requires handlings { AreHandlings (M.meaning model.now) self.old }
+        ensures none { count ≡ 0 → IsOk result }
         ensures left { OnOk result (self.new ≡ but_last count self.old) }
         ensures state { OnOk result (state.new ≡ state_before (last_of count self.old) state.old) }
         ensures number { OnOk result

@@ -1,7 +1,7 @@
 // Records of which only some keep their state words.
 
 ghost use Rattle.std.specs.Prelude.{◌≡◌, ◌<◌, ◌≤◌, ◌-◌, ◌+◌, ◌++◌, ◌∷◌, [], length, IfOk, IfSome};
-ghost use Rattle.std.specs.Prelude.{OnOk, OnErr, take, drop, ◌^◌, Some, None};
+ghost use Rattle.std.specs.Prelude.{OnOk, OnErr, take, drop, is_some, ◌^◌, Some, None};
 ghost use Rattle.std.specs.Option.{option_copied};
 ghost use Rattle.std.specs.List.{slice_get};
 ghost use Rattle.queues.specs.Record.{AreHandlings, messages, number_before, sends, state_before};
@@ -237,6 +237,7 @@ impl SparseRecords {
         ensures words { IfSome result (λ words.
             words.now ≡ state_before (drop at self.now.records) []) }
         ensures first { result ≡ None → 0 < at }
+        ensures saved { 0 < at → slice_get self.now.saved (at - 1) ≡ Some (is_some result) }
     {
         if at == 0 {
             return Some(self.first.as_ref()?.before.words().as_slice());

@@ -13,7 +13,7 @@ returns-then-is_before-clause-split c =
     let near = c.make_room.new.near.items in
     let far = c.make_room.new.far in
     let split = c.make_room.ensures.split in
-    let goes = goes_far near far c.index.result.now (split.some (omega (arith, c.if-len-gt0.true, c.len.ensures))) c.index.ensures split.ascending c.args.message (sym c.is_before.ensures ∙ c.if-is_before.true) in
+    let goes = goes_far near far c.index.result.now (split.some (omega (arith, c.if-len-gt0.true, c.len.ensures))) c.index.ensures split.ascending c.args.message (sym c.is_before.ensures ∙ c.if-is_before.true) split.few in
     subst (IsSplit near) (sym c.in_ok-add.ensures.added) goes.0
 
 pub returns-then-is_before-clause-added : goal.returns-then-is_before-clause-added
@@ -21,7 +21,7 @@ returns-then-is_before-clause-added c =
     let near = c.make_room.new.near.items in
     let far = c.make_room.new.far in
     let split = c.make_room.ensures.split in
-    let goes = goes_far near far c.index.result.now (split.some (omega (arith, c.if-len-gt0.true, c.len.ensures))) c.index.ensures split.ascending c.args.message (sym c.is_before.ensures ∙ c.if-is_before.true) in
+    let goes = goes_far near far c.index.result.now (split.some (omega (arith, c.if-len-gt0.true, c.len.ensures))) c.index.ensures split.ascending c.args.message (sym c.is_before.ensures ∙ c.if-is_before.true) split.few in
     ap (both near) c.in_ok-add.ensures.added ∙ (goes.1 ∙ ap (add c.args.message) c.make_room.ensures.same)
 
 pub put-requires-clause-ascending : goal.put-requires-clause-ascending
@@ -38,7 +38,7 @@ returns-clause-split c =
       | else-len-gt0-via-then-len-gt0+else-is_before w ↦ near_enough near far w.index.result.now (split.some (omega (arith, w.if-len-gt0.true, c.len.ensures))) w.index.ensures split.ascending c.args.message (sym w.is_before.ensures ∙ w.if-is_before.false)
       | else-len-gt0-via-else-len-gt0 w ↦ nothing_far c.args.message far (omega arith)
     ] in
-    (goes_near c.args.message near far c.put.new.bag.items split.ascending most (c.put.ensures ∙ ap (λ xs. add c.args.message (reverse xs)) c.reserve.ensures.items)).0
+    (goes_near c.args.message near far c.put.new.bag.items split.ascending most (c.put.ensures ∙ ap (λ xs. add c.args.message (reverse xs)) c.reserve.ensures.items) c.in_ok-make_room.ensures.room).0
 
 pub returns-clause-added : goal.returns-clause-added
 returns-clause-added c =
@@ -49,5 +49,5 @@ returns-clause-added c =
       | else-len-gt0-via-then-len-gt0+else-is_before w ↦ near_enough near far w.index.result.now (split.some (omega (arith, w.if-len-gt0.true, c.len.ensures))) w.index.ensures split.ascending c.args.message (sym w.is_before.ensures ∙ w.if-is_before.false)
       | else-len-gt0-via-else-len-gt0 w ↦ nothing_far c.args.message far (omega arith)
     ] in
-    (goes_near c.args.message near far c.put.new.bag.items split.ascending most (c.put.ensures ∙ ap (λ xs. add c.args.message (reverse xs)) c.reserve.ensures.items)).1
+    (goes_near c.args.message near far c.put.new.bag.items split.ascending most (c.put.ensures ∙ ap (λ xs. add c.args.message (reverse xs)) c.reserve.ensures.items) c.in_ok-make_room.ensures.room).1
     ∙ ap (add c.args.message) c.make_room.ensures.same

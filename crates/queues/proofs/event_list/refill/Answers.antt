@@ -18,9 +18,9 @@ returns-in-Some-clause-split c =
     let pushed = rw c.unwrap.ensures at c.push.ensures.items in
     let is : c.push.new.self.items ≡ c.in-Some.least ∷ [] = pushed ∙ ap (λ (xs : List Message). xs ++ c.in-Some.least ∷ []) none in
     let same = ap₂ both is c.remove.ensures.removed ∙ refilled c.args.near.now.items c.args.far.now c.in-Some.least none (sym c.in-Some.ensures.least) in
-    record { ascending = subst IsAscending (sym same) c.requires.ascending; some = λ _. omega (arith, ap length is) }
+    record { ascending = subst IsAscending (sym same) c.requires.ascending; some = λ _. omega (arith, ap length is); few = omega (arith, ap length is) }
 
 pub returns-in_default-clause-split : goal.returns-in_default-clause-split
 returns-in_default-clause-split c =
     let none = nothing_first c.args.far.now (sym c.first.ensures.least ∙ c.in_default.is) in
-    record { ascending = c.requires.ascending; some = λ l. absurd (omega arith) }
+    record { ascending = c.requires.ascending; some = λ l. absurd (omega arith); few = c.requires.few }
