@@ -1,12 +1,12 @@
 -- What the commands on a disk print (this project's profile).
 use Rattle.std.specs.Io.KnownBytes.{Appends}
 use Rattle.std.specs.Prelude.{◌≡◌, ◌≤◌, ◌⊎◌, ℕ, List, ◌++◌, Option, codes, decimal, flat_map}
-use Rattle.std.specs.Prelude.{get_or, length}
+use Rattle.std.specs.Prelude.{None, get_or, length}
 use Rattle.commands.specs.declared.fault.CommandFault.{CommandFault}
 use Rattle.commands.specs.declared.fault.CommandFault.TheVariants.{Log, NoMemory, Output, Recovery}
 use Rattle.commands.specs.declared.fault.CommandFault.TheVariants.{Rounds, Session}
 use Rattle.commitlog.specs.Faults.{FormatIsRefused, OpenIsRefused}
-use Rattle.commitlog.specs.Records.{IsBlank, IsFormatted}
+use Rattle.commitlog.specs.Records.{IsBlank, IsFormatted, records_of}
 use Rattle.commitlog.specs.declared.fault.LogFault.TheVariants as log
 use Rattle.commitlog.specs.declared.records.Entry.{Entry}
 use Rattle.coordinator.specs.Extending.{IsExtended}
@@ -127,7 +127,8 @@ MakingIsRefused Output image failed = Unit {0}
 MakingIsRefused fault image failed = ⊥
 
 -- Why no world is recovered from the log of an image: want of memory, a device that failed, that it
--- is no log of this model with this end in force, or the first record that is at fault.
+-- is no log of this model with this end in force, though its records can be read, or the first
+-- record that is at fault.
 abbrev pub IsNotRecovered : Meaning → ℕ → List (List ℕ) → RecoveryFault → Type 0
 IsNotRecovered m end image recovery.NoMemory = Unit {0}
 IsNotRecovered m end image (recovery.Log log.NoMemory) = Unit {0}
@@ -135,6 +136,7 @@ IsNotRecovered m end image (recovery.Log (log.Disk Device)) = Unit {0}
 IsNotRecovered m end image (recovery.Log fault) = ⊥
 IsNotRecovered m end image recovery.OtherModel =
     IsFormatted image × ((entries : List Entry) → HoldsLog m end entries image → ⊥)
+    × (records_of image ≡ None → ⊥)
 IsNotRecovered m end image fault = IsAtFault m end image fault
 
 -- Why what is committed is not written. Whether the device has failed is not told any more, since

@@ -25,7 +25,7 @@ use Rattle.recovery.specs.Recovered.{RecoveryIsRefused}
 use Rattle.recovery.specs.Stands.{IsGenuine, Stands, StandsAtLeast}
 use Rattle.recovery.specs.declared.RecoveryFault.{RecoveryFault}
 use Rattle.recovery.specs.declared.RecoveryFault.TheVariants.{BadCheckpoint, BadEnd, BadRecord, GoesBack, Log as LogOfRecovery, NoMemory, NotTheLeast, NumberLimit, OtherModel}
-use Rattle.coordinator.proofs.Extensions.{at-fault, log-on, ours-of}
+use Rattle.coordinator.proofs.Extensions.{are-readable, at-fault, log-on, ours-of}
 use Rattle.simulation.specs.Simulation.{IsBlankOrStands, IsBlankOrStandsSo, IsNotRecovered, PreparingIsRefused}
 use Rattle.simulation.specs.declared.fault.SimulationFault.{SimulationFault}
 use Rattle.simulation.specs.declared.fault.SimulationFault.TheVariants.{Log}
@@ -108,7 +108,7 @@ pub at_end : (m : Meaning) (end g : ℕ) (w : World) → IsUpto m end g w → g 
 at_end m end g w upto soon late = (let same : g ≡ end = omega arith in subst (λ (t : ℕ). IsUpto m end t w) same upto)
 
 pub not_recovered : {D : Type 0} (m : Meaning) (end : ℕ) (log : Opened D) (image : List (List ℕ)) (fault : RecoveryFault) (failed ever : Type 0) → (failed → ever) → log.spent ≡ false → Holds log.header log.records image → RecoveryIsRefused m end log fault failed → IsNotRecovered m end image fault ever
-not_recovered m end log image OtherModel failed ever so usable held h = (held.formatted, λ entries there. h.1 (ours-of m end log.header log.records entries image there held))
+not_recovered m end log image OtherModel failed ever so usable held h = (held.formatted, λ entries there. h.1 (ours-of m end log.header log.records entries image there held), are-readable log.header log.records image held)
 not_recovered m end log image BadRecord failed ever so usable held h = at-fault m end log.header log.records image BadRecord held h.1 h.2
 not_recovered m end log image NotTheLeast failed ever so usable held h = at-fault m end log.header log.records image NotTheLeast held h.1 h.2
 not_recovered m end log image GoesBack failed ever so usable held h = at-fault m end log.header log.records image GoesBack held h.1 h.2

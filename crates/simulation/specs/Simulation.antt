@@ -1,7 +1,7 @@
 -- What a simulation on a disk leaves and tells, and why a call is refused (this project's profile).
-use Rattle.std.specs.Prelude.{ℕ, List, ◌⊎◌}
+use Rattle.std.specs.Prelude.{ℕ, List, None, ◌≡◌, ◌⊎◌}
 use Rattle.commitlog.specs.Faults.{FormatIsRefused, OpenIsRefused}
-use Rattle.commitlog.specs.Records.{IsBlank, IsFormatted}
+use Rattle.commitlog.specs.Records.{IsBlank, IsFormatted, records_of}
 use Rattle.commitlog.specs.declared.fault.LogFault.TheVariants as log
 use Rattle.commitlog.specs.declared.records.Entry.{Entry}
 use Rattle.coordinator.specs.Opening.{IsAtFault}
@@ -39,7 +39,8 @@ PreparingIsRefused (Log fault) image failed = FormatIsRefused fault image failed
 PreparingIsRefused fault image failed = ⊥
 
 -- Why no world is recovered from the log of an image: want of memory, a device that failed, that it
--- is no log of this model with this end in force, or the first record that is at fault.
+-- is no log of this model with this end in force, though its records can be read, or the first
+-- record that is at fault.
 abbrev pub IsNotRecovered : Meaning → ℕ → List (List ℕ) → RecoveryFault → Type 0 → Type 0
 IsNotRecovered m end image recovery.NoMemory failed = Unit {0}
 IsNotRecovered m end image (recovery.Log log.NoMemory) failed = Unit {0}
@@ -47,6 +48,7 @@ IsNotRecovered m end image (recovery.Log (log.Disk Device)) failed = failed
 IsNotRecovered m end image (recovery.Log fault) failed = ⊥
 IsNotRecovered m end image recovery.OtherModel failed =
     IsFormatted image × ((entries : List Entry) → HoldsLog m end entries image → ⊥)
+    × (records_of image ≡ None → ⊥)
 IsNotRecovered m end image fault failed = IsAtFault m end image fault
 
 -- why what is committed is not read
