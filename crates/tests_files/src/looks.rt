@@ -89,6 +89,20 @@ const TRACED: Script = Script {
     ],
 };
 
+/// What a trace's file had before is gone, also where that was longer.
+const TRACED_ANEW: Script = Script {
+    name: "traced-anew",
+    model: RING,
+    other: OTHER_RING,
+    acts: &[
+        Act::Prints("new MODEL DISK --sectors 64", FORMATTED_64),
+        Act::Writes(STATS),
+        Act::Prints("run MODEL DISK --nodes 3 --trace OTHER", RAN),
+        Act::IsWritten(TRACE),
+        Act::Writes(OTHER_RING),
+    ],
+};
+
 /// What commits and budgets there are, a run ends as the plain one.
 const ADJUSTED: Script = Script {
     name: "adjusted",
@@ -217,6 +231,11 @@ const LOOKED: Script = Script {
 #[test]
 fn a_trace_has_a_row_for_each_turn(rt: HostRuntime) -> Result<(), Fail> {
     play(&rt, &TRACED)
+}
+
+#[test]
+fn a_trace_takes_the_place_of_what_was_there(rt: HostRuntime) -> Result<(), Fail> {
+    play(&rt, &TRACED_ANEW)
 }
 
 #[test]

@@ -385,6 +385,22 @@ fn who_looks_at_a_disk_needs_no_lock(rt: HostRuntime) -> Result<(), Fail> {
     finish(&rt, &stage)
 }
 
+#[test]
+fn every_command_that_looks_needs_no_lock(rt: HostRuntime) -> Result<(), Fail> {
+    let stage = begin(&rt, "looked-at")?;
+    let (model, disk) = (stage.model.as_str(), stage.disk.as_str());
+    for (words, parts) in &LINES[..2] {
+        look_at_flush(&rt, &stage, (*words, *parts), false)?;
+    }
+    let writer = disk::FileDisk::open(&rt, rt.alloc(), disk, None)?;
+    for command in ["status", "log", "show", "stats", "draw"] {
+        let told = run(&rt, &["timewarp", command, model, disk])?;
+        assert!(rt; told.status == 0 && told.err.is_empty(), "{command}");
+    }
+    drop(writer);
+    finish(&rt, &stage)
+}
+
 /// The ring with a comment behind it that fills 4,096 bytes.
 fn filled(rt: &HostRuntime) -> Result<Vec<u8>, Fail> {
     let mut text = Vec::new(rt.alloc());

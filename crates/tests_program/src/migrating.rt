@@ -1,6 +1,7 @@
 // A disk of format 1, as earlier versions made it, is written anew.
 
 use crate::running::{RING, Told, run, temporary};
+use disk::FileDisk;
 use std::alloc::Global;
 use std::fs::{self, File};
 use std::net::Net;
@@ -237,6 +238,32 @@ fn a_new_disk_without_room_keeps_the_first_records(rt: HostRuntime) -> Result<()
     let migrate = ["timewarp", "migrate", model, old, new, "--sectors", "8"];
     assert!(rt; tells(&rt, &migrate, 1, "", "timewarp: Migrate New Full\n")?);
     assert!(rt; tells(&rt, &["timewarp", "show", model, new], 0, SHOWN_TO_7, "")?);
+    assert!(rt; stage.is_cleared(&rt)?);
+    Ok(())
+}
+
+#[test]
+fn an_old_disk_is_read_while_somebody_has_it_open(rt: HostRuntime) -> Result<(), Fail> {
+    let stage = Stage::set(&rt, "held")?;
+    let (model, old, new) = (stage.model.as_str(), stage.old.as_str(), stage.new.as_str());
+    let writer = FileDisk::open(&rt, rt.alloc(), old, None)?;
+    let migrate = ["timewarp", "migrate", model, old, new, "--sectors", "64"];
+    assert!(rt; tells(&rt, &migrate, 0, "migrated 10 events 5\n", "")?);
+    drop(writer);
+    assert!(rt; stage.is_cleared(&rt)?);
+    Ok(())
+}
+
+// Of just the sectors that are asked for, by its own name and by another one.
+#[test]
+fn an_old_disk_is_no_new_one(rt: HostRuntime) -> Result<(), Fail> {
+    let stage = Stage::set(&rt, "itself")?;
+    let (model, old, new) = (stage.model.as_str(), stage.old.as_str(), stage.new.as_str());
+    fs::hard_link(&rt, old, new)?;
+    for path in [old, new] {
+        let migrate = ["timewarp", "migrate", model, old, path, "--sectors", "64"];
+        assert!(rt; tells(&rt, &migrate, 1, "", "timewarp: File\n")?, "{path}");
+    }
     assert!(rt; stage.is_cleared(&rt)?);
     Ok(())
 }

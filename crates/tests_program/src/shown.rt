@@ -137,6 +137,38 @@ fn antimessages_are_shown_where_there_is_room(rt: HostRuntime) -> Result<(), Fai
     Ok(())
 }
 
+/// Counts of events, and the lines in which they are shown: one that fills the width, and one that
+/// would have a column more.
+const WIDEST: [(usize, &[u8]); 2] = [
+    (
+        10_000_000_000_000,
+        b"\r11%, 10000000000000 events (16666666666666/s), disk 10% full, 15 antimessages/s\x1b[K",
+    ),
+    (
+        70_000_000_000_000,
+        b"\r11%, 70000000000000 events (116666666666666/s), disk 10% full\x1b[K",
+    ),
+];
+
+#[test]
+fn a_line_has_at_most_79_columns(rt: HostRuntime) -> Result<(), Fail> {
+    for (events, line) in WIDEST {
+        let clock = Ticking {
+            looks: std::cell::Cell::new(0),
+        };
+        let mut terminal = Vec::with_capacity(rt.alloc(), 512)?;
+        let mut shown = TerminalProgress::on(&clock, Some(&mut terminal));
+        shown.begin(9);
+        shown.stored(6, 64);
+        for count in [0, 0, 0, events] {
+            shown.turned(&turn(0, 0, 3));
+            shown.committed(1, count);
+        }
+        assert_eq!(rt; terminal.as_slice(), line);
+    }
+    Ok(())
+}
+
 /// The line that a terminal shows after a fault, if there is one.
 fn advice(rt: &HostRuntime, fault: Fault) -> Vec<u8> {
     let clock = Ticking {
