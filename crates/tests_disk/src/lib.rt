@@ -5,3 +5,5 @@
 
 #[cfg(test)]
 mod opening;
+#[cfg(test)]
+mod storing;

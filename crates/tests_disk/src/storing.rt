@@ -1,0 +1,58 @@
+// What is stored through a disk over a file, and what the file refuses.
+
+use crate::opening::free_path;
+use disk::{DiskFault, FileDisk, SectorDisk};
+use std::fs;
+use std::test::Fail;
+
+/// A sector that begins with its number.
+fn sector_of(n: u32) -> [u8; 512] {
+    let mut sector = [(n % 251) as u8; 512];
+    for (byte, digit) in sector.iter_mut().zip(n.to_be_bytes()) {
+        *byte = digit;
+    }
+    sector
+}
+
+#[test]
+fn three_hundred_neighbours_are_stored(rt: HostRuntime) -> Result<(), Fail> {
+    let path = free_path(&rt, "neighbours")?;
+    let mut disk = FileDisk::open(&rt, rt.alloc(), path.as_str(), Some(400))?;
+    for n in 50..350 {
+        disk.write(n, &sector_of(n))?;
+    }
+    disk.sync()?;
+    drop(disk);
+    let bytes = fs::read(&rt, path.as_path())?;
+    let (sectors, rest) = bytes.as_slice().as_chunks::<512>();
+    assert_eq!(rt; (sectors.len(), rest.len()), (400, 0));
+    for (n, sector) in sectors.iter().enumerate() {
+        let wanted = if n >= 50 && n < 350 {
+            sector_of(n as u32)
+        } else {
+            [0; 512]
+        };
+        assert!(rt; *sector == wanted, "{n}");
+    }
+    fs::remove_file(&rt, path.as_path())?;
+    Ok(())
+}
+
+#[test]
+fn a_sync_tells_what_the_file_refuses(rt: HostRuntime) -> Result<(), Fail> {
+    let path = free_path(&rt, "read-only")?;
+    let mut disk = FileDisk::open(&rt, rt.alloc(), path.as_str(), Some(8))?;
+    disk.write(3, &sector_of(3))?;
+    disk.sync()?;
+    drop(disk);
+    let mut disk = FileDisk::open_to_read(&rt, rt.alloc(), path.as_str())?;
+    disk.write(3, &sector_of(4))?;
+    for _ in 0..2 {
+        assert_eq!(rt; disk.sync(), Err(DiskFault::Device));
+    }
+    drop(disk);
+    let bytes = fs::read(&rt, path.as_path())?;
+    assert!(rt; bytes.get(1536..2048) == Some(sector_of(3).as_slice()));
+    fs::remove_file(&rt, path.as_path())?;
+    Ok(())
+}
