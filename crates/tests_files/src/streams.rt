@@ -385,17 +385,25 @@ fn who_looks_at_a_disk_needs_no_lock(rt: HostRuntime) -> Result<(), Fail> {
     finish(&rt, &stage)
 }
 
+/// Commands that only look at a disk.
+const READERS: [&[&str]; 5] = [
+    &["status", "MODEL", "DISK"],
+    &["log", "MODEL", "DISK"],
+    &["show", "MODEL", "DISK"],
+    &["stats", "MODEL", "DISK"],
+    &["draw", "MODEL", "DISK"],
+];
+
 #[test]
 fn every_command_that_looks_needs_no_lock(rt: HostRuntime) -> Result<(), Fail> {
     let stage = begin(&rt, "looked-at")?;
-    let (model, disk) = (stage.model.as_str(), stage.disk.as_str());
     for (words, parts) in &LINES[..2] {
         look_at_flush(&rt, &stage, (*words, *parts), false)?;
     }
-    let writer = disk::FileDisk::open(&rt, rt.alloc(), disk, None)?;
-    for command in ["status", "log", "show", "stats", "draw"] {
-        let told = run(&rt, &["timewarp", command, model, disk])?;
-        assert!(rt; told.status == 0 && told.err.is_empty(), "{command}");
+    let writer = disk::FileDisk::open(&rt, rt.alloc(), stage.disk.as_str(), None)?;
+    for words in READERS {
+        let taken = taken_of(&rt, &stage, words, false)?;
+        assert!(rt; taken.len() > 0, "{words:?}");
     }
     drop(writer);
     finish(&rt, &stage)
