@@ -5,6 +5,7 @@ ghost use Rattle.disk.specs.Disk.{image_of, IsFirm, IsSector, IsSpan};
 ghost use Rattle.disk.specs.Growth.{grown_to};
 
 use crate::kept::Sectors;
+use crate::storing::Stored;
 use std::alloc::{AllocError, Global};
 
 /// The sectors, whether each is loose, and a span in which all loose ones lie: a sync looks at
@@ -137,8 +138,8 @@ impl Image {
         self.loose[place] = true;
     }
 
-    /// No sector is loose any more. It costs the span.
-    pub fn settle(&mut self)
+    /// No sector is loose any more, since all are stored. It costs the span.
+    pub fn settle(&mut self, _stored: Stored)
         ensures sectors { self.new.sectors.items ≡ self.old.sectors.items }
         ensures firm { IsFirm self.new.loose.items }
     {

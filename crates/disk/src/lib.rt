@@ -9,6 +9,7 @@ mod image;
 mod kept;
 mod memory;
 mod plan;
+mod storing;
 mod tally;
 #[cfg(test)]
 mod tests;

@@ -8,6 +8,7 @@ ghost use Rattle.disk.specs.Disk.{image_of, IsFirm, IsSector, MayLeave, Elapses,
 use crate::history::History;
 use crate::image::Image;
 use crate::plan::Schedule;
+use crate::storing::copy_loose;
 use crate::{DiskFault, GrowingDisk, GrowthFault, Plan, SectorDisk};
 use std::alloc::{AllocError, Global};
 use std::marker::Model;
@@ -165,8 +166,8 @@ impl SectorDisk for MemDisk {
             return Err(DiskFault::Device);
         }
         self.history = self.history.and(&self.image);
-        copy_loose(&mut self.synced, &self.image);
-        self.image.settle();
+        let stored = copy_loose(&mut self.synced, &self.image);
+        self.image.settle(stored);
         Ok(())
     }
 }
@@ -321,18 +322,4 @@ fn cut(count: usize, one: &[u8; 512], other: &[u8; 512]) -> [u8; 512]
     let mut sector = *other;
     sector[..count].copy_from_slice(&one[..count]);
     sector
-}
-
-/// The loose sectors of the image.
-fn copy_loose(synced: &mut [[u8; 512]], image: &Image)
-    requires each { length synced.old ≡ length image.now.sectors.items }
-    requires firm { (n : ℕ) → slice_index_or image.now.loose.items n false ≡ false →
-        slice_index_or synced.old n [] ≡ slice_index_or image.now.sectors.items n [] }
-    ensures { synced.new ≡ image.now.sectors.items }
-{
-    for n in image.first..image.end {
-        if image.loose[n] {
-            synced[n] = image.sectors.get(n);
-        }
-    }
 }

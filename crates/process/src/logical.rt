@@ -21,6 +21,7 @@ use crate::{Done, Handled, ProcessFault};
 use eventkey::{Message, Sign, Signed};
 use model::{Model as Simulated, Sent, State, Words};
 use queues::InputQueue;
+use smallvec::SmallVec;
 use std::alloc::Global;
 
 /// A logical process (Jefferson 1985): its input queue, the history of what it handled, its state
@@ -309,7 +310,16 @@ impl Process {
         // What the model's laws ask.
         message.ranged();
         model::ranged(self.state.words().as_slice());
-        let (words, sends) = model.handle(self.alloc, self.lp, self.state.words(), &message);
+        let mut next = SmallVec::new(self.alloc);
+        let mut sends = SmallVec::new(self.alloc);
+        model.handle_into(
+            self.alloc,
+            self.lp,
+            self.state.words(),
+            &message,
+            &mut next,
+            &mut sends,
+        );
         let count = sends.len() as u64;
         // Cleared at the end: where memory is refused midway, the value stays spent.
         self.spent = true;
@@ -327,7 +337,7 @@ impl Process {
         self.queue.take_next(end)?;
         self.history
             .push_handling(message, &self.state, self.number, sent)?;
-        self.state = State::from_words(words);
+        self.state = State::from_words(next);
         self.number += count;
         self.spent = false;
         Ok(true)

@@ -1,5 +1,5 @@
 use super::*;
-use crate::file::{lengthen, shorten};
+use crate::storing::{lengthen, shorten};
 use crate::{GrowingDisk, GrowthFault, MOST_SECTORS};
 
 // A disk that grows.

@@ -57,7 +57,7 @@ fn store_and_end(rt: &HostRuntime, path: &PathBuf, writes: u64) -> Result<(), Fa
     file.set_len(8 * 512)?;
     let left = Cell::new(writes);
     match store(&Ending { file, left }, &image) {
-        Ok(()) => Err(Fail::new("it did not end")),
+        Ok(_) => Err(Fail::new("it did not end")),
         Err(_) => Ok(()),
     }
 }

@@ -26,15 +26,15 @@ record_of g c = record { message = c.in-Some.message; before = c.self.inside.sta
 first_is : (g : given.Over) (c : goal.Joined-sends-6 g) → first_before c.args.end (view_of c.self.inside).process.waiting ≡ Some c.in-Some.message
 first_is g c = ap (λ (v : ProcessView). first_before c.args.end v.process.waiting) c.self.view_is ∙ (sym c.next.ensures ∙ c.in-Some.is)
 
-sends_is : (g : given.Over) (c : goal.Joined-sends-6 g) → c.handle-words.result.1.items ≡ (g.M.Model.meaning c.args.model.now).sends c.self.inside.lp c.self.inside.state c.in-Some.message
-sends_is g c = c.handle-words.ensures.sends ∙ ap (λ (u : List ℕ). (g.M.Model.meaning c.args.model.now).sends c.self.inside.lp u c.in-Some.message) c.words-2.ensures
+sends_is : (g : given.Over) (c : goal.Joined-sends-6 g) → c.handle_into.new.sends.items ≡ (g.M.Model.meaning c.args.model.now).sends c.self.inside.lp c.self.inside.state c.in-Some.message
+sends_is g c = c.handle_into.ensures.sends ∙ ap (λ (u : List ℕ). (g.M.Model.meaning c.args.model.now).sends c.self.inside.lp u c.in-Some.message) c.words-2.ensures
 
 count_is : (g : given.Over) (c : goal.Joined-sends-6 g) → c.len-count.result ≡ length ((g.M.Model.meaning c.args.model.now).sends c.self.inside.lp c.self.inside.state c.in-Some.message)
 count_is g c = c.len-count.ensures.value ∙ ap length (sends_is g c)
 
 state_is : (g : given.Over) (c : goal.Joined-sends-6 g) → c.from_words.result ≡ (g.M.Model.meaning c.args.model.now).next_state c.self.inside.lp c.self.inside.state c.in-Some.message
 state_is g c =
-    (c.from_words.ensures ∙ (c.handle-words.ensures.state ∙ ap (λ (u : List ℕ). (g.M.Model.meaning c.args.model.now).next_state c.self.inside.lp u c.in-Some.message) c.words-2.ensures))
+    (c.from_words.ensures ∙ (c.handle_into.ensures.state ∙ ap (λ (u : List ℕ). (g.M.Model.meaning c.args.model.now).next_state c.self.inside.lp u c.in-Some.message) c.words-2.ensures))
 
 sent_is : (g : given.Over) (c : goal.Joined-sends-6 g) → c.in_ok-sent.sent ≡ (handling_of (g.M.Model.meaning c.args.model.now) c.self.inside.lp c.in-Some.message (view_of c.self.inside).process).sent
 sent_is g c =

@@ -1,8 +1,8 @@
 use Rattle.std.proofs.Common.{◌≡◌, length}
-use Rattle.disk.proofs.file.load.Given as goal
+use Rattle.disk.proofs.file.load_from.Given as goal
 
 abbrev pub invariant-loop-n : goal.invariant-loop-n
-invariant-loop-n l = record {
+invariant-loop-n g l = record {
   count : length l.image.sectors.items ≡ length l.fn.image.sectors.items;
   loose : l.image.loose.items ≡ l.fn.image.loose.items;
 }

@@ -1,5 +1,5 @@
 use Rattle.std.proofs.Common.{◌≡◌, ◌<◌, ℕ, [], false, get_or, length}
-use Rattle.disk.proofs.memory.copy_loose.Given as goal
+use Rattle.disk.proofs.storing.copy_loose.Given as goal
 
 abbrev pub invariant-loop-n : goal.invariant-loop-n
 invariant-loop-n l = record {

@@ -2,7 +2,7 @@ use Rattle.std.proofs.Common.{◌<◌, ◌≤◌, ⊎_elim, inl, inr, [], arith}
 use Rattle.std.proofs.lemmas.Bool.{cases_lt}
 use Rattle.std.proofs.lemmas.List.{ext_get_or}
 use Rattle.disk.proofs.Spans.{outside}
-use Rattle.disk.proofs.memory.copy_loose.Goals as goal
+use Rattle.disk.proofs.storing.copy_loose.Goals as goal
 
 pub loop-n-init : goal.loop-n-init
 loop-n-init c =
