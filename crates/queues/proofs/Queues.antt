@@ -1,6 +1,6 @@
 -- The five cases of an arrival, and that no antimessage stands with its message.
-use Rattle.std.proofs.Common.{◌≡◌, List, [], ◌∷◌, refl, ap, arith, length, ℕ, ◌+◌, ◌≤◌, true, ◌∙◌, inl, inr}
-use Rattle.std.proofs.lemmas.Bool.{le-ltb, ltb-true, lt-ltb, cases_Bool, cond_both, ltb-false}
+use Rattle.std.proofs.Common.{◌≡◌, List, refl, ap, arith, length, ℕ, ◌+◌, ◌≤◌, true, ◌∙◌, inl, inr}
+use Rattle.std.proofs.lemmas.Bool.{ltb-true, lt-ltb, cases_Bool, cond_both, ltb-false}
 use Rattle.eventkey.proofs.Bags.{copies-add, copies-add_all, copies-append, copies-remove_one-le, one_if_same_cases}
 use Rattle.eventkey.proofs.Lists.{Every-all}
 use Rattle.std.specs.List.{AllByRecursion as Every}

@@ -6,6 +6,7 @@ ghost use Rattle.queues.specs.Record.{left_by};
 use crate::Record;
 use eventkey::Message;
 use model::{Model as Simulated, SavedState, Sent, State, Words};
+use smallvec::SmallVec;
 use std::alloc::{AllocError, Global};
 use std::snapshot::Snapshot;
 
@@ -164,8 +165,25 @@ impl Record {
         requires few { length self.now.before ≤ 16 }
         ensures { result ≡ left_by (M.meaning model.now) self.now }
     {
-        let message = &self.message;
-        let (words, _) = model.handle(alloc, message.to(), self.before.words(), message);
+        let words = words_after(alloc, model, self.before.words(), &self.message);
         State::from_words(words)
     }
+}
+
+/// The state words that a handling of this message leaves. It takes no memory.
+pub(crate) fn words_after<M: Simulated>(
+    alloc: Global,
+    model: &M,
+    before: &Words,
+    message: &Message,
+) -> Words
+    requires to { message.now.to < (M.meaning model.now).lps }
+    requires few { length before.now.items ≤ 16 }
+    ensures { result.items ≡ (M.meaning model.now).next_state message.now.to before.now.items
+        message.now }
+{
+    let mut words = SmallVec::new(alloc);
+    let mut sends = SmallVec::new(alloc);
+    model.handle_into(alloc, message.to(), before, message, &mut words, &mut sends);
+    words
 }

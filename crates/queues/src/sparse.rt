@@ -9,7 +9,7 @@ ghost use Rattle.queues.specs.Sparse.{count_saved, saved_with};
 ghost use Rattle.queues.specs.Kept.{saved_in};
 
 use crate::Record;
-use crate::kept::Kept;
+use crate::kept::{Kept, words_after};
 use eventkey::Message;
 use model::{Model as Simulated, Sent, State, Words};
 use std::alloc::{AllocError, Global};
@@ -227,8 +227,7 @@ impl SparseRecords {
         }
         let before = self.words_before(model, at - 1)?;
         let message = self.message(at - 1);
-        let (words, _) = model.handle(self.alloc, message.to(), &before, &message);
-        Ok(words)
+        Ok(words_after(self.alloc, model, &before, &message))
     }
 
     /// The state words before a record, if they are kept.
