@@ -324,29 +324,50 @@ impl Progress for Numbers {
     fn failed(&mut self, _fault: Fault, _cause: Option<Cause<'_>>) {}
 }
 
-#[test]
-fn a_run_tells_its_end_and_each_commit(rt: HostRuntime) -> Result<(), Fail> {
-    let stage = begin(&rt, "numbers")?;
-    look_at_flush(&rt, &stage, LINES[0], false)?;
+/// Runs without a trace, and with one.
+const RUNS: [&[&str]; 2] = [
+    &["run", "MODEL", "DISK", "--nodes", "3"],
+    &["run", "MODEL", "DISK", "--nodes", "3", "--trace", "LATER"],
+];
+
+/// Runs on a new disk, and answers the numbers that are told.
+fn numbers_of<R>(rt: &R, stage: &Stage, words: &[&str]) -> Result<Vec<u64>, Fail>
+where
+    R: Files<File = File> + Net + Processes + Clock + Abort + AllocGlobal,
+{
+    look_at_flush(rt, stage, LINES[0], false)?;
     let mut numbers = Numbers {
         told: Vec::new(rt.alloc()),
     };
-    let words = words_of(rt.alloc(), LINES[1].0, &stage)?;
+    let words = words_of(rt.alloc(), words, stage)?;
     let mut out = Vec::new(rt.alloc());
     let mut err = Vec::new(rt.alloc());
     let status = command::<AnyModel, _, _, _, _, _>(
-        &rt,
+        rt,
         ABOUT,
         words.as_slice(),
         &mut numbers,
         &mut out,
         &mut err,
     );
-    assert_eq!(rt; (status, err.len()), (0, 0));
-    assert_eq!(rt;
-        numbers.told.as_slice(),
-        [10, 1, 0, 7, 3, 10, 5, u64::MAX].as_slice()
-    );
+    if status != 0 || !err.is_empty() {
+        return Err(Fail::new("the run is refused"));
+    }
+    let Numbers { told } = numbers;
+    Ok(told)
+}
+
+#[test]
+fn a_run_tells_its_end_and_each_commit(rt: HostRuntime) -> Result<(), Fail> {
+    let stage = begin(&rt, "numbers")?;
+    for words in RUNS {
+        let told = numbers_of(&rt, &stage, words)?;
+        assert_eq!(rt;
+            told.as_slice(),
+            [10, 1, 0, 7, 3, 10, 5, u64::MAX].as_slice()
+        );
+        remove(&rt, stage.disk.as_str())?;
+    }
     finish(&rt, &stage)
 }
 
