@@ -1,8 +1,8 @@
 -- A node lets go of what is below the floor, at the processes that have something there.
 use Rattle.std.proofs.Common.{◌≡◌, ℕ, zero, suc, ◌+◌, ◌<◌, ◌≤◌, Bool, true, false, List, [], ◌∷◌, ◌++◌, length, get_or, map, set, append_assoc, refl, sym, inl, inr, subst, ◌∙◌, ap, arith}
 use Rattle.std.specs.Prelude.{flat_map, nat_lt}
-use Rattle.std.proofs.lemmas.Bool.{cases_eq, cond-false, cond_both}
-use Rattle.std.proofs.lemmas.List.{append-nil, get_or-map, get_or-set_other, get_or-set_same, length-map, length-set, map-set}
+use Rattle.std.proofs.lemmas.Bool.{cases_eq, cases_lt, cond-false, cond_both}
+use Rattle.std.proofs.lemmas.List.{append-nil, get_or-map, get_or-set_other, get_or-set_same, length-map, map-set}
 use Rattle.eventkey.proofs.Lists.{Every-get_or}
 use Rattle.eventkey.specs.Message.{Message}
 use Rattle.process.specs.Process.{Process, fossils_of, nobody, release, told}
@@ -13,6 +13,7 @@ use Rattle.queues.specs.declared.Record.{Record}
 use Rattle.node.proofs.Owns.{release_done}
 use Rattle.node.proofs.Seats.{length-standings, staffed_again}
 use Rattle.node.proofs.Deliveries.{node_at, working}
+use Rattle.node.specs.Blocks.{IsQuietFrom}
 use Rattle.node.specs.Handling.{after}
 use Rattle.node.specs.Roster.{IsSeated, IsStaffed, Place, at_floor, processes_of}
 use Rattle.node.specs.Seats.{is_due, standing_of, standings_of}
@@ -129,13 +130,6 @@ module _ {p : Place} {seats : List ProcessView} {standings : List Standing} (h :
             ∙ so.fossils_are;
       }
 
-  pub count_again : (floor place : ℕ) (seats' : List ProcessView) → processes_of seats' ≡ with_released floor (processes_of seats) place → length seats' ≡ length seats
-  count_again floor place seats' is =
-      sym (length-map seats' (λ (v : ProcessView). v.process))
-      ∙ ap length is
-      ∙ length-set (processes_of seats) place (release floor (get_or (processes_of seats) place nobody))
-      ∙ length-map seats (λ (v : ProcessView). v.process)
-
   pub quiet_all : (floor count : ℕ) → length seats ≤ count → IsQuiet floor standings count → IsQuiet floor standings (length standings)
   quiet_all floor count most quiet k l = let same = length-standings p seats standings h in quiet k (omega arith)
 
@@ -165,11 +159,9 @@ module _ {p : Place} {seats : List ProcessView} {standings : List Standing} (h :
         sym (append-nil fossils) ∙ ap (λ (ds : List Done). fossils ++ ds) (sym none.1) ∙ so.fossils_are,
       )
 
-pub quiet_with : (floor place : ℕ) (standings : List Standing) → is_due floor (get_or standings place absent).oldest ≡ false → IsQuiet floor standings place → IsQuiet floor standings (place + 1)
-quiet_with floor place standings e quiet k l = elim (cases_eq k place) [
-  | inl f ↦ ap (λ (j : ℕ). is_due floor (get_or standings j absent).oldest) f ∙ e
-  | inr f ↦ quiet k (omega arith)
-]
+-- where nothing is due up to a place, and from there on
+pub quiet_further : (floor : ℕ) (standings : List Standing) (from to : ℕ) → IsQuiet floor standings from → IsQuietFrom floor standings from to → IsQuiet floor standings to
+quiet_further floor standings from to quiet more k l = elim (cases_lt k from) [ inl b ↦ quiet k b | inr b ↦ more k b l ]
 
 pub node_collected : (floor : ℕ) (p p' : Place) (before now : List Process) → p' ≡ p → now ≡ map (λ (q : Process). release floor q) before → node_at (at_floor floor p') now ≡ after floor (working before [] 0) (node_at p before)
 node_collected floor p p' before now same is = ap (λ (k : Place). node_at (at_floor floor k) now) same ∙ ap (node_at (at_floor floor p)) is

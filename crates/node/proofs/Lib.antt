@@ -1,3 +1,4 @@
+pub mod Bounds
 pub mod Deliveries
 pub mod Lesser
 pub mod Owns

@@ -1,11 +1,11 @@
 -- The winner at the root of a tournament has the message that comes first, and replaying the
 -- matches above a leaf keeps it so.
-use Rattle.std.proofs.Common.{◌≡◌, ◌≢◌, ◌⊎◌, ℕ, zero, suc, ◌+◌, ◌*◌, ◌/◌, ◌<◌, ◌≤◌, ◌^◌, List, [], ◌∷◌, length, get_or, set, ◌++◌, ◌-◌, take, replicate, refl, sym, subst, ◌∙◌, ap, arith, inl, inr, Option, None}
+use Rattle.std.proofs.Common.{◌≡◌, ◌≢◌, ◌⊎◌, ℕ, zero, suc, ◌+◌, ◌*◌, ◌/◌, ◌<◌, ◌≤◌, ◌^◌, List, [], ◌∷◌, length, get_or, set, ◌++◌, ◌-◌, take, replicate, refl, sym, subst, ◌∙◌, ap, arith, inl, inr, Option, Some, None, IfSome}
 use Rattle.std.proofs.lemmas.Bool.{cases_eq}
 use Rattle.std.proofs.lemmas.List.{get_or-set_other, get_or-set_same, length-set, get_or_default, length-replicate}
 use Rattle.std.proofs.Math.Seq.{take-nil}
 use Rattle.eventkey.specs.Message.{Message}
-use Rattle.node.specs.Node.{lesser}
+use Rattle.node.specs.Node.{earliest, lesser}
 use Rattle.node.specs.declared.standing.Standing.{Standing}
 use Rattle.node.specs.Tournament.{HasWon, IsBelow, IsLowInRange, IsTournament, absent, least_among, next_at, up, winner_next}
 use Rattle.node.proofs.Lesser.{lesser_assoc, lesser_comm, lesser_none}
@@ -226,6 +226,16 @@ leaf_at leaves k x e h = e ∙ get_or_default leaves k x absent h
 
 pub place_at : (winners : List ℕ) (k x : ℕ) → x ≡ get_or winners k x → k < length winners → x ≡ get_or winners k 0
 place_at winners k x e h = e ∙ get_or_default winners k x 0 h
+
+earliest_in_range : (one other : Option ℕ) → IfSome one (λ time. time < 2 ^ 41) → IfSome other (λ time. time < 2 ^ 41) → IfSome (earliest one other) (λ time. time < 2 ^ 41)
+earliest_in_range None other h k = k
+earliest_in_range (Some x) None h k = h
+earliest_in_range (Some x) (Some y) h k = omega arith
+
+-- the least time lies in its range
+pub least_in_range : (leaves : List Standing) → ((k : ℕ) → IsLowInRange (get_or leaves k absent)) → IsLowInRange (least_among leaves)
+least_in_range [] h = tt
+least_in_range (x ∷ xs) h = earliest_in_range x.low (least_among xs).low (h zero) (least_in_range xs (λ k. h (suc k)))
 
 -- 3. A tournament where nothing stands
 

@@ -3,7 +3,8 @@ pub mod Node
 pub mod Handling
 -- For callers: the law of a node's work
 pub mod Kept
--- Inside: faults of processes, the roster, what stands of each process, the tournament
+-- Inside: faults of processes, the roster, what stands of each process, in blocks, the tournament
+pub mod Blocks
 pub mod Fault
 pub mod Roster
 pub mod Seats

@@ -6,6 +6,7 @@ ghost use Rattle.node.specs.Fault.{fault_of};
 ghost use Rattle.node.specs.Kept.{HistoriesBegin, ReleasingIsKept, WorkIsKept};
 ghost use Rattle.node.specs.declared.NodeFault.TheVariants.{NoMemory};
 
+mod blocks;
 mod node;
 mod roster;
 mod standing;

@@ -106,7 +106,8 @@ impl Node {
     /// delivers nothing and the first message has no room.
     ///
     /// It costs the deliveries and the handlings, each with the logarithm of the node's processes,
-    /// the handlings let go, and one pass over what stands of the processes.
+    /// the handlings let go, one step for each 32 processes, and a pass over what stands of those 32
+    /// where one of them may have something below the floor, or the least time that waits.
     pub fn handle<M: Simulated>(&mut self, model: &M, parcel: Parcel) -> Result<Reply, NodeFault>
         requires lps { self.old.spent ≡ false → (M.meaning model.now).lps ≡ self.old.lps }
         requires histories { HasHistories (M.meaning model.now) self.old }

@@ -215,8 +215,9 @@ impl Roster {
     }
 
     /// Takes what is below the floor, in ticks, out of all processes. It visits only those that
-    /// have something there, and goes once over what stands of all. The list that it answers has
-    /// room for so many from the start.
+    /// have something there. To find them it goes once over the blocks of what stands of all, and
+    /// into those blocks alone that may have something there. The list that it answers has room for
+    /// so many from the start.
     fn collect<M: Simulated>(
         &mut self,
         model: &M,
@@ -238,11 +239,10 @@ impl Roster {
         ensures memory { IfErr result (λ fault. fault ≡ NoMemory) }
     {
         let mut fossils = Vec::with_capacity(self.alloc, room)?;
-        for place in 0..self.processes.len() {
-            if !self.standings.is_due(place, floor) {
-                continue;
-            }
+        let mut place = self.standings.first_due(0, floor);
+        while place < self.processes.len() {
             self.collect_at(model, place, floor, &mut fossils)?;
+            place = self.standings.first_due(place + 1, floor);
         }
         self.floor = floor;
         Ok(fossils)

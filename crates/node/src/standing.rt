@@ -42,16 +42,6 @@ impl Standing {
         }
     }
 
-    /// Whether the oldest time is below the floor, in ticks.
-    pub(crate) fn is_due(&self, floor: u64) -> bool
-        ensures { result ≡ is_due floor self.now.oldest }
-    {
-        match self.oldest {
-            Some(time) => time < floor,
-            None => false,
-        }
-    }
-
     /// Whether the next message is that of another standing.
     #[inline(always)]
     pub(crate) fn has_next_of(&self, other: &Standing) -> bool
@@ -69,5 +59,15 @@ pub(crate) fn earliest(one: Option<u64>, other: Option<u64>) -> Option<u64>
         (Some(x), Some(y)) => Some(x.min(y)),
         (Some(x), None) => Some(x),
         (None, rest) => rest,
+    }
+}
+
+/// Whether there is a time, and it is below the floor, in ticks.
+pub(crate) fn is_due(time: Option<u64>, floor: u64) -> bool
+    ensures { result ≡ is_due floor time }
+{
+    match time {
+        Some(time) => time < floor,
+        None => false,
     }
 }

@@ -1,12 +1,14 @@
 // What stands of many processes, and which of them has the message that comes first.
 
 ghost use Rattle.std.specs.Prelude.{◌≡◌, ◌<◌, ◌≤◌, ◌^◌, ◌⊎◌, ℕ, length, set, get_or, replicate};
-ghost use Rattle.std.specs.Prelude.{IfOk, IfSome};
+ghost use Rattle.std.specs.Prelude.{IfOk, IfSome, true};
+ghost use Rattle.node.specs.Blocks.{IsQuietFrom};
 ghost use Rattle.node.specs.Node.{lesser};
 ghost use Rattle.node.specs.Seats.{is_due};
 ghost use Rattle.node.specs.Tournament.{next_at};
 
-use crate::standing::{Standing, earliest};
+use crate::blocks::Blocks;
+use crate::standing::Standing;
 use eventkey::Message;
 use std::alloc::{AllocError, Global};
 
@@ -16,7 +18,7 @@ use std::alloc::{AllocError, Global};
 /// and compares two messages, and a leaf that changes plays one match a level again.
 #[derive(Drop)]
 pub(crate) struct Tournament {
-    leaves: Vec<Standing>,
+    leaves: Blocks,
     winners: Vec<u32>,
 }
 
@@ -28,9 +30,9 @@ impl std::marker::Model for Tournament {
 
     ghost use Rattle.node.specs.Tournament.{IsTournament};
 
-    ghost view = { λ t. t.leaves.items };
+    ghost view = { λ t. t.leaves };
 
-    ghost invariant = { λ t. IsTournament t.leaves.items t.winners.items };
+    ghost invariant = { λ t. IsTournament t.leaves t.winners.items };
 }
 
 impl Tournament {
@@ -41,8 +43,7 @@ impl Tournament {
         requires { leaves < 2 ^ 32 }
         ensures { IfOk result (λ t. t ≡ replicate leaves absent) }
     {
-        let mut standings = Vec::new(alloc);
-        standings.resize(leaves, Standing::ABSENT)?;
+        let standings = Blocks::new(alloc, leaves)?;
         let mut winners = Vec::new(alloc);
         winners.resize(2 * leaves, 0)?;
         // Where nothing stands, either one may have won.
@@ -70,17 +71,17 @@ impl Tournament {
         requires range { IsLowInRange standing }
         ensures { self.new ≡ set self.old leaf standing }
     {
-        let keeps_next = standing.has_next_of(&self.leaves[leaf]);
-        self.leaves[leaf] = standing;
+        let keeps_next = standing.has_next_of(&self.leaves.as_slice()[leaf]);
+        self.leaves.set(leaf, standing);
         // Matches are about the next message alone, and most deliveries leave it.
         if keeps_next {
             return;
         }
-        let mut cell = self.leaves.len() + leaf;
+        let mut cell = self.leaves.as_slice().len() + leaf;
         while cell > 1 {
             cell /= 2;
             let (left, right) = (self.winners[2 * cell], self.winners[2 * cell + 1]);
-            self.winners[cell] = winner(&self.leaves, left, right);
+            self.winners[cell] = winner(self.leaves.as_slice(), left, right);
         }
     }
 
@@ -89,30 +90,37 @@ impl Tournament {
     pub(crate) fn next(&self) -> Option<Message>
         ensures { result ≡ (least_among self.now).next }
     {
-        if self.leaves.is_empty() {
+        let leaves = self.leaves.as_slice();
+        if leaves.is_empty() {
             return None;
         }
-        self.leaves[self.winners[1] as usize].next
+        leaves[self.winners[1] as usize].next
     }
 
-    /// The least time of what waits at any leaf. It takes no memory, and costs the leaves.
-    pub(crate) fn low(&self) -> Option<u64>
-        ensures low { result ≡ (least_among self.now).low }
+    /// The least time of what waits at any leaf. It takes no memory, and costs one step for each
+    /// block of leaves, and the leaves of those blocks that may have an earlier time than the blocks
+    /// before them.
+    pub(crate) fn low(&mut self) -> Option<u64>
+        ensures same { self.new ≡ self.old }
+        ensures low { result ≡ (least_among self.old).low }
         ensures range { IfSome result (λ time. time < 2 ^ 41) }
     {
-        let mut low = None;
-        for standing in &self.leaves {
-            low = earliest(low, standing.low);
-        }
-        low
+        self.leaves.low()
     }
 
-    /// Whether the oldest time at a leaf is below the floor, in ticks. It takes no memory.
-    pub(crate) fn is_due(&self, leaf: usize, floor: u64) -> bool
-        requires { leaf < length self.now }
-        ensures { result ≡ is_due floor (get_or self.now leaf absent).oldest }
+    /// The first leaf, from one on, whose oldest time is below the floor, in ticks; the number of
+    /// leaves where there is none. It takes no memory, and costs one step for each block of leaves
+    /// that it goes past, and the leaves of those blocks that may have such a time.
+    pub(crate) fn first_due(&mut self, from: usize, floor: u64) -> usize
+        requires { from ≤ length self.old }
+        ensures same { self.new ≡ self.old }
+        ensures after { from ≤ result }
+        ensures within { result ≤ length self.old }
+        ensures quiet { IsQuietFrom floor self.old from result }
+        ensures due { result < length self.old → is_due floor (get_or self.old result absent).oldest
+            ≡ true }
     {
-        self.leaves[leaf].is_due(floor)
+        self.leaves.first_due(from, floor)
     }
 }
 

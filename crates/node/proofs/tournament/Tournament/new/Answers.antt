@@ -1,5 +1,5 @@
 use Rattle.std.proofs.Common.{◌-◌, ◌*◌, ℕ, suc, List, ◌∙◌, subst, sym, arith}
-use Rattle.node.proofs.Tournaments.{IsSeeded, left_below, own_below, place_at, seeded_with}
+use Rattle.node.proofs.Tournaments.{IsSeeded, left_below, own_below, place_at, seeded_is_tournament, seeded_with}
 use Rattle.node.specs.Tournament.{IsBelow}
 use Rattle.node.proofs.tournament.Tournament.new.Goals as goal
 use Rattle.node.proofs.tournament.Tournament.new.Goals.{then-cell-leaves, else-cell-leaves}
@@ -18,3 +18,7 @@ loop-cell-preserved c =
       | else-cell-leaves w ↦ subst (λ (p : ℕ). IsBelow leaves p cell) (sym w.winner-is) (own_below leaves cell w.if-cell-leaves.false (omega arith))
     ] in
     seeded_with leaves cell c.if-cell-leaves.winner winners (omega arith) next below
+
+pub invariant_of-result : goal.invariant_of-result
+invariant_of-result c =
+    seeded_is_tournament c.args.leaves c.loop-cell.cell c.in_ok-standings.standings c.loop-cell.winners.items c.requires c.loop-cell-test.false c.in_ok-standings.ensures c.loop-cell.invariant

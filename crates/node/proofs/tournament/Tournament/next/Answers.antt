@@ -7,16 +7,19 @@ use Rattle.node.proofs.tournament.Tournament.next.Goals as goal
 
 pub returns : goal.returns
 returns c =
-    let leaves : List Standing = c.self.inside.leaves.items in
+    let leaves : List Standing = c.self.inside.leaves in
     let winners : List ℕ = c.self.inside.winners.items in
     let size = c.self.invariant.size in
-    let some : 1 ≤ length leaves = let count = c.self.inside.leaves.ok in elim (cases_lt 0 (length leaves)) [
+    let slice : List Standing = c.as_slice-leaves.result.now in
+    let same : length slice ≡ length leaves = ap length c.as_slice-leaves.ensures in
+    let some : 1 ≤ length leaves = elim (cases_lt 0 (length leaves)) [
       | inl l ↦ l
-      | inr l ↦ absurd (eqb-false c.self.inside.leaves.len 0 (sym c.is_empty.ensures ∙ c.if-is_empty.false) (omega arith))
+      | inr l ↦ absurd (eqb-false (length slice) 0 (sym c.is_empty.ensures ∙ c.if-is_empty.false) (omega arith))
     ] in
     let place : c.index.result.now ≡ get_or winners 1 0 = place_at winners 1 c.index.result.now c.index.ensures (omega arith) in
     let there : c.index.result.now < length leaves = subst (λ (p : ℕ). p < length leaves) (sym place) (c.self.invariant.below 1 (omega arith) (omega arith)).there in
-    ap (λ (s : Standing). s.next) (leaf_at leaves c.index.result.now c.index-2.result.now c.index-2.ensures there)
+    let read : c.index-leaves-index.result ≡ get_or leaves c.index.result.now c.index-leaves-index.result = c.index-leaves-index.is ∙ ap (λ (xs : List Standing). get_or xs c.index.result.now c.index-leaves-index.result) c.as_slice-leaves.ensures in
+    ap (λ (s : Standing). s.next) (sym c.index-leaves-index.is ∙ leaf_at leaves c.index.result.now c.index-leaves-index.result read there)
     ∙ ap (next_at leaves) place
     ∙ root_is_least leaves winners c.self.invariant some
     ∙ ap (λ (xs : List Standing). (least_among xs).next) c.self.view_is
