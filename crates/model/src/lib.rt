@@ -16,7 +16,7 @@ mod ticks;
 
 use eventkey::Message;
 pub use laws::{law_of_runs, law_of_sequential_simulation, law_of_worlds};
-pub use runner::{World, WorldParts};
+pub use runner::{World, WorldParts, make_empty};
 pub use saved::SavedState;
 pub use sent::Sent;
 use smallvec::SmallVec;

@@ -7,7 +7,7 @@ ghost use Rattle.process.specs.Process.{told};
 
 use crate::{Done, Handled};
 use model::{Model as Simulated, SavedState, State};
-use queues::Record;
+use queues::Released;
 use std::alloc::{AllocError, Global};
 
 /// Takes the handlings below the floor, in ticks, out of a history, where this state and this send
@@ -29,50 +29,17 @@ pub(crate) fn tell<M: Simulated>(
         (number_before (handled_from floor history.old) number)) }
     ensures left { OnOk result (history.new ≡ handled_from floor history.old) }
 {
-    let Some(first) = history.release_first(model, floor) else {
-        return Ok(());
-    };
-    let Record {
-        mut message,
-        mut sent,
-        ..
-    } = first;
-    // The state before a handling is the state after the one before it.
-    while let Some(next) = history.release_first(model, floor) {
-        let after = SavedState::from_slice(alloc, next.before.words().as_slice())?;
+    while let Some(gone) = history.release_first(model, floor) {
+        // What is before the rest is after the one that went.
+        let words = history.words_before(state.words());
+        let after = SavedState::from_slice(alloc, words.as_slice())?;
+        let Released { message, sent } = gone;
         fossils.push(Done {
             message,
             sent,
             after,
-            number_after: next.number_before,
+            number_after: history.number_before(number),
         })?;
-        message = next.message;
-        sent = next.sent;
     }
-    let (after, number_after) = before_first(alloc, history, state, number)?;
-    fossils.push(Done {
-        message,
-        sent,
-        after,
-        number_after,
-    })?;
     Ok(())
-}
-
-/// State words and send number before these handlings, or these where there are none.
-fn before_first(
-    alloc: Global,
-    history: &Handled,
-    state: &State,
-    number: u64,
-) -> Result<(SavedState, u64), AllocError>
-    ensures { IfOk result (λ before. (before.0 ≡ state_before history.now state.now)
-        × (before.1 ≡ number_before history.now number)) }
-{
-    let (state, number) = match history.first() {
-        Some(next) => (&next.before, next.number_before),
-        None => (state, number),
-    };
-    let words = SavedState::from_slice(alloc, state.words().as_slice())?;
-    Ok((words, number))
 }

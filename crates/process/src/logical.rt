@@ -259,10 +259,7 @@ impl Process {
     pub fn oldest(&self) -> Option<u64>
         ensures { result ≡ first_handled self.now.process.done }
     {
-        match self.history.first() {
-            Some(record) => Some(record.message.time()),
-            None => None,
-        }
+        self.history.first_time()
     }
 
     /// Handles the least waiting message, if its time is below `end`, at most 2^40 ticks, and

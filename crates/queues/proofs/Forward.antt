@@ -1,10 +1,9 @@
 -- Going forward over records: each state is what the handling before it left.
-use Rattle.std.proofs.Common.{◌≡◌, ℕ, zero, suc, Bool, Option, None, Some, ◌+◌, ◌-◌, ◌<◌, ◌≤◌, List, [], ◌∷◌, ◌++◌, sym, refl, ap, arith, ◌∙◌, length, take, drop, get_or, inl, inr, subst}
+use Rattle.std.proofs.Common.{◌≡◌, ℕ, zero, suc, Bool, Some, ◌+◌, ◌-◌, ◌<◌, ◌≤◌, List, [], ◌∷◌, ◌++◌, sym, refl, ap, arith, ◌∙◌, length, take, drop, get_or, inl, inr, subst}
 use Rattle.std.specs.List.{slice_get}
-use Rattle.std.specs.Option.{option_to_list}
 use Rattle.eventkey.specs.Message.{Message}
 use Rattle.model.specs.Meaning.{Meaning}
-use Rattle.std.proofs.lemmas.List.{drop-drop, drop-map, take-map}
+use Rattle.std.proofs.lemmas.List.{drop-drop, drop-map, length-drop, take-map}
 use Rattle.queues.specs.Kept.{saved_in, wholes}
 use Rattle.queues.specs.Sparse.{SparseRecords}
 use Rattle.std.proofs.lemmas.Bool.{cases_Bool, cond_both}
@@ -12,6 +11,10 @@ use Rattle.std.specs.Prelude.{nat_lt}
 use Rattle.queues.specs.Queue.{but_last, last_of}
 use Rattle.queues.specs.Record.{AreHandlings, HandlingsAreKept, LeadTo, handled_from, left_by, messages, number_before, sends, state_before}
 use Rattle.queues.specs.declared.Record.{Record}
+
+take_nothing : {X : Type 0} (n : ℕ) → ◌≡◌ {A = List X} (take n []) []
+take_nothing zero = refl
+take_nothing (suc n) = refl
 
 pub handlings_drop : (m : Meaning) (n : ℕ) (hs : List Record) → AreHandlings m hs → AreHandlings m (drop n hs)
 handlings_drop m zero hs h = h
@@ -46,35 +49,26 @@ pub record IsKeptAt (k : Record × Bool) (at : ℕ) (hs : List Record) : Type 0 
   pub number : number_before (drop at hs) 0 ≡ k.0.number_before
   pub sent : slice_get (sends hs) at ≡ Some k.0.sent
 
-in_later : (later : List (Record × Bool)) (n : ℕ) (k : Record × Bool) → k ≡ get_or later n k → n < length (wholes later) → IsKeptAt k n (wholes later)
-in_later [] n k e l = absurd (omega arith)
-in_later (h ∷ hs) zero k e l = record {
+pub kept_at : (ks : List (Record × Bool)) (at : ℕ) (k : Record × Bool) → k ≡ get_or ks at k → at < length (wholes ks) → IsKeptAt k at (wholes ks)
+kept_at [] n k e l = absurd (omega arith)
+kept_at (h ∷ hs) zero k e l = record {
   words = ap (λ (r : Record × Bool). r.0.before) (sym e);
   message = ap (λ (r : Record × Bool). Some r.0.message) (sym e);
   number = ap (λ (r : Record × Bool). r.0.number_before) (sym e);
   sent = ap (λ (r : Record × Bool). Some r.0.sent) (sym e);
 }
-in_later (h ∷ hs) (suc n) k e l = let rest = in_later hs n k e (omega arith) in record { words = rest.words; message = rest.message; number = rest.number; sent = rest.sent }
-
-pub kept_at : (first : Option Record) (later : List (Record × Bool)) (at : ℕ) (k : Record × Bool) → (first ≡ None → later ≡ []) → (at ≡ 0 → ⊥) → k ≡ get_or later (at - 1) k →
-    at < length (option_to_list first ++ wholes later) → IsKeptAt k at (option_to_list first ++ wholes later)
-kept_at None later at k whole ne e l = let none : length (wholes later) ≡ 0 = ap (λ (ks : List (Record × Bool)). length (wholes ks)) (whole refl) in absurd (omega (arith, none))
-kept_at (Some f) later zero k whole ne e l = absurd (ne refl)
-kept_at (Some f) later (suc n) k whole ne e l =
-    let rest = in_later later n k (e ∙ ap (λ (i : ℕ). get_or later i k) {x = suc n - 1} {y = n} (omega arith)) (omega arith) in
-    record { words = rest.words; message = rest.message; number = rest.number; sent = rest.sent }
+kept_at (h ∷ hs) (suc n) k e l = let rest = kept_at hs n k e (omega arith) in record { words = rest.words; message = rest.message; number = rest.number; sent = rest.sent }
 
 -- whether it is saved
-saved_later : (later : List (Record × Bool)) (n : ℕ) (k : Record × Bool) → k ≡ get_or later n k → n < length (wholes later) → slice_get (saved_in later) n ≡ Some k.1
-saved_later [] n k e l = absurd (omega arith)
-saved_later (h ∷ hs) zero k e l = ap (λ (r : Record × Bool). Some r.1) (sym e)
-saved_later (h ∷ hs) (suc n) k e l = saved_later hs n k e (omega arith)
+saved_among : (ks : List (Record × Bool)) (n : ℕ) (k : Record × Bool) → k ≡ get_or ks n k → n < length (wholes ks) → slice_get (saved_in ks) n ≡ Some k.1
+saved_among [] n k e l = absurd (omega arith)
+saved_among (h ∷ hs) zero k e l = ap (λ (r : Record × Bool). Some r.1) (sym e)
+saved_among (h ∷ hs) (suc n) k e l = saved_among hs n k e (omega arith)
 
-pub saved_at : (first : Option Record) (later : List (Record × Bool)) (at : ℕ) (k : Record × Bool) → (first ≡ None → later ≡ []) → (at ≡ 0 → ⊥) → k ≡ get_or later (at - 1) k →
-    at < length (option_to_list first ++ wholes later) → slice_get (saved_in later) (at - 1) ≡ Some k.1
-saved_at None later at k whole ne e l = let none : length (wholes later) ≡ 0 = ap (λ (ks : List (Record × Bool)). length (wholes ks)) (whole refl) in absurd (omega (arith, none))
-saved_at (Some f) later zero k whole ne e l = absurd (ne refl)
-saved_at (Some f) later (suc n) k whole ne e l = saved_later later (suc n - 1) k e (omega arith)
+pub saved_at : (ks : List (Record × Bool)) (at : ℕ) (k : Record × Bool) → (at ≡ 0 → ⊥) → k ≡ get_or ks at k → at < length (wholes ks) → slice_get (saved_in (drop 1 ks)) (at - 1) ≡ Some k.1
+saved_at [] at k ne e l = absurd (omega arith)
+saved_at (h ∷ hs) zero k ne e l = absurd (ne refl)
+saved_at (h ∷ hs) (suc n) k ne e l = ap (λ (i : ℕ). slice_get (saved_in hs) i) {x = suc n - 1} {y = n} (omega arith) ∙ saved_among hs n k e (omega arith)
 
 -- before some records it is no matter what came after them
 pub state_of_some : (hs : List Record) (s t : List ℕ) → 0 < length hs → state_before hs s ≡ state_before hs t
@@ -92,22 +86,29 @@ record_at (h ∷ hs) zero x e = (h, refl, (let same : h.message ≡ x = cc in sa
 record_at (h ∷ hs) (suc n) x e = record_at hs n x e
 
 -- the records from a place on, where the code cuts them
-pub cut_at : (first : Option Record) (later rest : List (Record × Bool)) (at : ℕ) (k : Record × Bool) → (first ≡ None → later ≡ []) → (at ≡ 0 → ⊥) → at < length (option_to_list first ++ wholes later) →
-    drop (at - 1) later ≡ k ∷ rest → drop at (option_to_list first ++ wholes later) ≡ k.0 ∷ wholes rest
-cut_at None later rest at k whole ne l e = let none : length (wholes later) ≡ 0 = ap (λ (ks : List (Record × Bool)). length (wholes ks)) (whole refl) in absurd (omega (arith, none))
-cut_at (Some f) later rest zero k whole ne l e = absurd (ne refl)
-cut_at (Some f) later rest (suc n) k whole ne l e =
-    drop-map (λ (r : Record × Bool). r.0) n later ∙ ap wholes (ap (λ (i : ℕ). drop i later) {x = n} {y = suc n - 1} (omega arith) ∙ e)
+pub cut_at : (ks : List (Record × Bool)) (at : ℕ) → wholes (drop at ks) ≡ drop at (wholes ks)
+cut_at ks at = sym (drop-map (λ (r : Record × Bool). r.0) at ks)
 
 -- and those before it
-pub kept_before : (first : Option Record) (later : List (Record × Bool)) (at : ℕ) → (first ≡ None → later ≡ []) → (at ≡ 0 → ⊥) → at < length (option_to_list first ++ wholes later) →
-    ◌≡◌ {A = SparseRecords} (record { records = option_to_list first ++ wholes (take (at - 1) later); saved = saved_in (take (at - 1) later) })
-    (record { records = take at (option_to_list first ++ wholes later); saved = take (at - 1) (saved_in later) })
-kept_before None later at whole ne l = let none : length (wholes later) ≡ 0 = ap (λ (ks : List (Record × Bool)). length (wholes ks)) (whole refl) in absurd (omega (arith, none))
-kept_before (Some f) later zero whole ne l = absurd (ne refl)
-kept_before (Some f) later (suc n) whole ne l =
+pub kept_before : (ks : List (Record × Bool)) (at : ℕ) → ◌≡◌ {A = SparseRecords} (record { records = wholes (take at ks); saved = saved_in (drop 1 (take at ks)) })
+    (record { records = take at (wholes ks); saved = take (at - 1) (saved_in (drop 1 ks)) })
+kept_before ks zero = refl
+kept_before [] (suc n) = rw (take_nothing {X = Bool} (suc n - 1)) refl
+kept_before (k ∷ ks) (suc n) =
     let e : suc n - 1 ≡ n = omega arith in
-    rw (e, take-map (λ (r : Record × Bool). r.0) n later, take-map (λ (r : Record × Bool). r.1) n later) refl
+    rw (e, take-map (λ (r : Record × Bool). r.0) n ks, take-map (λ (r : Record × Bool). r.1) n ks) refl
+
+-- the words before the first stay those, whatever goes at the end
+pub words_stay : (ks : List (Record × Bool)) (n : ℕ) (words : List ℕ) → state_before (wholes ks) words ≡ words → state_before (wholes (take n ks)) words ≡ words
+words_stay ks zero words e = refl
+words_stay [] (suc n) words e = refl
+words_stay (k ∷ ks) (suc n) words e = e
+
+-- and so do those before the record at which they are cut
+pub words_at_cut : (ks : List (Record × Bool)) (n : ℕ) (words : List ℕ) → n < length (wholes ks) → words ≡ state_before (drop n (wholes ks)) [] → state_before (wholes (drop n ks)) words ≡ words
+words_at_cut ks n words l e =
+    let some : 0 < length (drop n (wholes ks)) = omega (arith, length-drop n (wholes ks), l) in
+    ap (λ (hs : List Record). state_before hs words) (cut_at ks n) ∙ (state_of_some (drop n (wholes ks)) words [] some ∙ sym e)
 
 -- one more is gone
 pub one_more_gone : (s s' t : SparseRecords) (n : ℕ) → s' ≡ record { records = drop 1 s.records; saved = drop 1 s.saved } → s ≡ record { records = drop n t.records; saved = drop n t.saved } →

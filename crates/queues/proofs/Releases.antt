@@ -11,7 +11,7 @@ use Rattle.eventkey.proofs.Bags.{at_most_itself, copies-append, none_from_Every,
 use Rattle.eventkey.specs.Bag.{IsAscending, copies, one_if_same}
 use Rattle.eventkey.specs.Message.{IsAtMost, Message}
 use Rattle.queues.proofs.Forward.{record_at}
-use Rattle.queues.specs.Record.{IsFirstTaken, RecordsPart, handled_before, handled_from, messages}
+use Rattle.queues.specs.Record.{IsFirstTaken, RecordsPart, first_handled, handled_before, handled_from, messages}
 use Rattle.queues.specs.declared.Record.{Record}
 
 -- 1. Records before a time, and those from it on
@@ -151,17 +151,24 @@ records_part c (h ∷ hs) up = elim (cases_Bool (nat_lt h.message.time c)) [
 
 -- 13. The first of them alone
 
-pub none_first : (c : ℕ) (hs : List Record) → slice_get hs 0 ≡ None → IsFirstTaken c hs hs None
+pub none_first : (c : ℕ) (hs : List Record) → first_handled hs ≡ None → IsFirstTaken c hs hs None
 none_first c [] e = (refl, refl)
 none_first c (h ∷ hs) e = absurd (cc)
 
-pub first_stays : (c : ℕ) (hs : List Record) (r : Record) → slice_get hs 0 ≡ Some r → c ≤ r.message.time → IsFirstTaken c hs hs None
-first_stays c [] r e l = absurd (cc)
-first_stays c (h ∷ hs) r e l = let same : h ≡ r = cc in (rw (le-ltb h.message.time c (let t = ap (λ (x : Record). x.message.time) same in omega (arith, t, l))) refl, refl)
+pub first_stays : (c : ℕ) (hs : List Record) (time : ℕ) → first_handled hs ≡ Some time → c ≤ time → IsFirstTaken c hs hs None
+first_stays c [] time e l = absurd (cc)
+first_stays c (h ∷ hs) time e l = let same : h.message.time ≡ time = cc in (rw (le-ltb h.message.time c (omega (arith, same, l))) refl, refl)
 
-pub first_goes : (c : ℕ) (hs : List Record) (r : Record) → slice_get hs 0 ≡ Some r → r.message.time < c → IsFirstTaken c hs (drop 1 hs) (slice_get hs 0)
-first_goes c [] r e l = absurd (cc)
-first_goes c (h ∷ hs) r e l = let same : h ≡ r = cc in (refl, let t = ap (λ (x : Record). x.message.time) same in omega (arith, t, l))
+pub first_goes : (c : ℕ) (hs : List Record) (time : ℕ) (r : Record) → first_handled hs ≡ Some time → time < c → slice_get hs 0 ≡ Some r → IsFirstTaken c hs (drop 1 hs) (Some (record { message = r.message; sent = r.sent }))
+first_goes c [] time r e l f = absurd (cc)
+first_goes c (h ∷ hs) time r e l f =
+    let same : h.message.time ≡ time = cc in
+    let first : h ≡ r = cc in
+    (h, refl, omega (arith, same, l), ap (λ (x : Record). record { message = x.message; sent = x.sent }) (sym first))
+
+pub some_first : {X : Type 0} (hs : List Record) (time : ℕ) → first_handled hs ≡ Some time → slice_get hs 0 ≡ None → X
+some_first [] time e f = absurd (cc)
+some_first (h ∷ hs) time e f = absurd (cc)
 
 -- 14. Counted by messages
 

@@ -1,22 +1,30 @@
 -- How the code holds records of which only some keep their state words.
-use Rattle.std.specs.Option.{option_to_list}
-use Rattle.std.specs.Prelude.{Bool, List, [], ◌++◌, map, ◌≡◌, None}
+use Rattle.std.specs.List.{slice_get}
+use Rattle.std.specs.Option.{option_map}
+use Rattle.std.specs.Prelude.{Bool, List, Option, drop, map, ◌≡◌}
+use Rattle.queues.specs.Record.{state_before}
 use Rattle.queues.specs.Sparse.{SparseRecords}
 use Rattle.queues.specs.declared.Record.{Record}
 use Rattle.queues.specs.declared.sparse.SparseRecords.TheInside.{Inside}
 
 abbrev pub wholes : List (Record × Bool) → List Record
-wholes later = map (λ (k : Record × Bool). k.0) later
+wholes kept = map (λ (k : Record × Bool). k.0) kept
 
 abbrev pub saved_in : List (Record × Bool) → List Bool
-saved_in later = map (λ (k : Record × Bool). k.1) later
+saved_in kept = map (λ (k : Record × Bool). k.1) kept
 
+-- the first has its state words beside the records, whatever it keeps itself
 abbrev pub records_of : Inside → SparseRecords
 records_of r = record {
-  records = option_to_list r.first ++ wholes r.later.items;
-  saved = saved_in r.later.items;
+  records = wholes r.records.items;
+  saved = saved_in (drop 1 r.records.items);
 }
 
--- only after a first record there are others
-abbrev pub HasFirstBeforeOthers : Inside → Type 0
-HasFirstBeforeOthers r = r.first ≡ None → r.later.items ≡ []
+-- what stands beside the records are the state words before the first, if there is one
+abbrev pub HasWordsOfFirst : Inside → Type 0
+HasWordsOfFirst r = state_before (wholes r.records.items) r.before_first.items
+    ≡ r.before_first.items
+
+-- the first of these records, whether it keeps its state words or not
+abbrev pub IsPopped : Option (Record × Bool) → List Record → Type 0
+IsPopped kept records = option_map (λ (k : Record × Bool). k.0) kept ≡ slice_get records 0

@@ -1,6 +1,7 @@
 -- A message handled, and lists of such (the state queue and the output queue of a process, in one:
 -- Jefferson 1985).
 use Rattle.queues.specs.declared.Record.{Record}
+use Rattle.queues.specs.declared.Released.{Released}
 use Rattle.std.specs.List.{filter}
 use Rattle.std.specs.Prelude.{ℕ, List, [], ◌∷◌, ◌++◌, if◌then◌else◌, nat_le, nat_lt, flat_map, map}
 use Rattle.std.specs.Prelude.{length, ◌≡◌, ◌<◌, ◌≤◌, ⊤, Option, Some, None}
@@ -64,9 +65,11 @@ LeadTo m (h ∷ hs) state =
     × (state_before hs state ≡ left_by m h) × LeadTo m hs state
 
 -- the first of these handlings is taken out, if it is before the time
-abbrev pub IsFirstTaken : ℕ → List Record → List Record → Option Record → Type 0
+abbrev pub IsFirstTaken : ℕ → List Record → List Record → Option Released → Type 0
 IsFirstTaken c old new None = (handled_before c old ≡ []) × (new ≡ old)
-IsFirstTaken c old new (Some h) = (old ≡ h ∷ new) × (h.message.time < c)
+IsFirstTaken c old new (Some r) =
+    (h : Record) × (old ≡ h ∷ new) × (h.message.time < c)
+    × (r ≡ record { message = h.message; sent = h.sent })
 
 -- Where the messages ascend, those first records are all records before the time, and the others
 -- all records from it on.

@@ -3,17 +3,16 @@
 ghost use Rattle.std.specs.Prelude.{◌≡◌, ◌<◌, ◌≤◌, ◌+◌, ◌*◌, ◌/◌, ◌++◌, ◌∷◌, [], length, IfOk};
 ghost use Rattle.std.specs.Prelude.{IsOk, OnOk, OnErr, Some, take, drop, nat_le, nat_lt, vec_len};
 ghost use Rattle.std.specs.Prelude.{vec_capacity};
-ghost use Rattle.std.specs.Option.{option_copied};
 ghost use Rattle.std.specs.List.{filter, slice_get};
 ghost use Rattle.queues.specs.Queue.{but_last, last_of};
 ghost use Rattle.queues.specs.Record.{AreHandlings, IsFirstTaken, handled_before, handled_from};
-ghost use Rattle.queues.specs.Record.{messages, number_before, sends, state_before};
+ghost use Rattle.queues.specs.Record.{first_handled, messages, number_before, sends, state_before};
 ghost use Rattle.eventkey.specs.Bag.{IsAscending};
 
-use crate::Record;
 use crate::sparse::SparseRecords;
+use crate::{Record, Released};
 use eventkey::Message;
-use model::{Model as Simulated, Sent, State};
+use model::{Model as Simulated, Sent, State, Words};
 use std::alloc::{AllocError, Global};
 
 /// What a logical process handled, in the order of handling: its state queue and its output queue
@@ -82,11 +81,28 @@ impl<const K: usize> History<K> {
         self.records.saved()
     }
 
-    /// The first record, if there is one.
-    pub fn first(&self) -> Option<&Record>
-        ensures { option_copied result ≡ slice_get self.now 0 }
+    /// The time of the first record's message, in ticks, if there is one. It takes no memory.
+    pub fn first_time(&self) -> Option<u64>
+        ensures { result ≡ first_handled self.now }
     {
-        self.records.first()
+        self.records.first_time()
+    }
+
+    /// The state words before the first record; these where there is none. It takes no memory.
+    pub fn words_before<'h>(&'h self, words: &'h Words) -> &'h Words
+        ensures { result.now.items ≡ state_before self.now words.now.items }
+    {
+        self.records.first_words().unwrap_or(words)
+    }
+
+    /// The send number before the first record; this one where there is none. It takes no memory.
+    pub fn number_before(&self, number: u64) -> u64
+        ensures { result ≡ number_before self.now number }
+    {
+        if self.records.len() == 0 {
+            return number;
+        }
+        self.records.number_before(0)
     }
 
     /// The messages that the record at this place sent; the place is below the number of records.
@@ -218,17 +234,20 @@ impl<const K: usize> History<K> {
         Ok(released)
     }
 
-    /// Takes the first record out, if its message is below the floor, in ticks, and answers it. It
-    /// takes no memory, and at most one handling.
-    pub fn release_first<M: Simulated>(&mut self, model: &M, floor: u64) -> Option<Record>
+    /// Takes the first record out, if its message is below the floor, in ticks, and answers what it
+    /// handled and sent: its state words are those of `words_before` until then. It takes no memory,
+    /// and at most one handling.
+    pub fn release_first<M: Simulated>(&mut self, model: &M, floor: u64) -> Option<Released>
         requires { AreHandlings (M.meaning model.now) self.old }
         ensures { IsFirstTaken floor self.old self.new result }
     {
-        if self.records.first()?.message.time() >= floor {
+        let time = self.records.first_time()?;
+        if time >= floor {
             return None;
         }
         self.place = (self.place + 1) % K;
-        self.records.take_first(model)
+        let first = self.records.pop_first(model)?;
+        Some(first.into_released())
     }
 }
 

@@ -3,7 +3,7 @@
 ghost use Rattle.std.specs.Prelude.{◌≡◌, ◌<◌, ◌≤◌, length, is_some, IfOk, IfSome};
 ghost use Rattle.queues.specs.Record.{left_by};
 
-use crate::Record;
+use crate::{Record, Released};
 use eventkey::Message;
 use model::{Model as Simulated, SavedState, Sent, State, Words};
 use smallvec::SmallVec;
@@ -107,35 +107,35 @@ impl Kept {
         }
     }
 
-    /// The whole record, where `previous` is the one before it. It takes no memory, and at most one
-    /// handling.
-    pub fn into_record<M: Simulated>(self, alloc: Global, model: &M, previous: &Record) -> Record
-        requires to { previous.now.message.to < (M.meaning model.now).lps }
-        requires few { length previous.now.before ≤ 16 }
-        requires goes_forward { self.0.before ≡ left_by (M.meaning model.now) previous.now }
-        ensures { result ≡ self.0 }
+    /// The state words before it, where `previous` is the record before it and these are the words
+    /// before that one. It takes no memory, and at most one handling.
+    pub fn words_before<M: Simulated>(
+        &self,
+        alloc: Global,
+        model: &M,
+        before: &Words,
+        previous: &Kept,
+    ) -> Words
+        requires to { previous.now.0.message.to < (M.meaning model.now).lps }
+        requires few { length before.now.items ≤ 16 }
+        requires before { before.now.items ≡ previous.now.0.before }
+        requires goes_forward { self.now.0.before ≡ left_by (M.meaning model.now) previous.now.0 }
+        ensures { result.items ≡ self.now.0.before }
     {
-        let Kept {
-            message,
-            number_before,
-            sent,
-            words,
-            ..
-        } = self;
-        let before = match words {
-            Some(words) => match Words::from_slice(alloc, words.as_slice()) {
-                Ok(before) => State::from_words(before),
-                // It takes no memory, since there are at most 16.
-                Err(_) => previous.handled(alloc, model),
-            },
-            None => previous.handled(alloc, model),
-        };
-        Record {
-            message,
-            before,
-            number_before,
-            sent,
+        if let Some(words) = &self.words {
+            if let Ok(kept) = Words::from_slice(alloc, words.as_slice()) {
+                return kept;
+            }
         }
+        words_after(alloc, model, before, &previous.message)
+    }
+
+    /// The message that was handled, and what the handling sent.
+    pub fn into_released(self) -> Released
+        ensures { result ≡ record { message = self.0.message; sent = self.0.sent } }
+    {
+        let Kept { message, sent, .. } = self;
+        Released { message, sent }
     }
 
     /// The whole record, with these state words before it. It takes no memory.
@@ -155,18 +155,6 @@ impl Kept {
             number_before,
             sent,
         }
-    }
-}
-
-impl Record {
-    /// The state words that the handling leaves. It takes no memory.
-    pub(crate) fn handled<M: Simulated>(&self, alloc: Global, model: &M) -> State
-        requires to { self.now.message.to < (M.meaning model.now).lps }
-        requires few { length self.now.before ≤ 16 }
-        ensures { result ≡ left_by (M.meaning model.now) self.now }
-    {
-        let words = words_after(alloc, model, self.before.words(), &self.message);
-        State::from_words(words)
     }
 }
 

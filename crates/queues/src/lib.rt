@@ -34,6 +34,15 @@ pub struct Record {
     pub sent: Sent,
 }
 
+/// One message handled and let go: no rollback reaches it any more.
+#[derive(Drop)]
+pub struct Released {
+    /// The message that was handled.
+    pub message: Message,
+    /// The messages that the handling sent, in the order of sending.
+    pub sent: Sent,
+}
+
 /// What became of a message or an antimessage that arrived.
 #[derive(Clone, Copy, Debug, PartialEq, Eq)]
 pub enum Arrival {

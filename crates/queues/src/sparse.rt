@@ -1,17 +1,18 @@
 // Records of which only some keep their state words.
 
 ghost use Rattle.std.specs.Prelude.{◌≡◌, ◌<◌, ◌≤◌, ◌-◌, ◌+◌, ◌++◌, ◌∷◌, [], length, IfOk, IfSome};
-ghost use Rattle.std.specs.Prelude.{OnOk, OnErr, take, drop, is_some, ◌^◌, Some, None};
-ghost use Rattle.std.specs.Option.{option_copied};
+ghost use Rattle.std.specs.Prelude.{OnOk, OnErr, MatchOption, take, drop, is_some, ◌^◌, Some, None};
 ghost use Rattle.std.specs.List.{slice_get};
-ghost use Rattle.queues.specs.Record.{AreHandlings, messages, number_before, sends, state_before};
+ghost use Rattle.queues.specs.Record.{AreHandlings, first_handled, left_by, messages};
+ghost use Rattle.queues.specs.Record.{number_before, sends, state_before};
 ghost use Rattle.queues.specs.Sparse.{count_saved, saved_with};
-ghost use Rattle.queues.specs.Kept.{saved_in};
+ghost use Rattle.queues.specs.Kept.{IsPopped, saved_in};
 
 use crate::Record;
-use crate::kept::{Kept, words_after};
+use crate::kept::Kept;
 use eventkey::Message;
-use model::{Model as Simulated, Sent, State, Words};
+use model::{Model as Simulated, Sent, State, Words, make_empty};
+use smallvec::SmallVec;
 use std::alloc::{AllocError, Global};
 use std::collections::VecDeque;
 use std::mem;
@@ -21,20 +22,21 @@ use std::mem;
 #[derive(Drop)]
 pub(crate) struct SparseRecords {
     alloc: Global,
-    // Before the first record, so that what each arrival asks of both lies side by side.
-    later: VecDeque<Kept>,
-    first: Option<Record>,
+    records: VecDeque<Kept>,
+    // The state words before the first record, where there is one. They stay in their place while
+    // records come and go.
+    before_first: Words,
 }
 
 impl std::marker::Model for SparseRecords {
     ghost use Rattle.queues.specs.Sparse.{SparseRecords};
-    ghost use Rattle.queues.specs.Kept.{HasFirstBeforeOthers, records_of};
+    ghost use Rattle.queues.specs.Kept.{HasWordsOfFirst, records_of};
 
     ghost Value = { SparseRecords };
 
     ghost view = { records_of };
 
-    ghost invariant = { HasFirstBeforeOthers };
+    ghost invariant = { HasWordsOfFirst };
 }
 
 impl SparseRecords {
@@ -44,8 +46,8 @@ impl SparseRecords {
     {
         SparseRecords {
             alloc,
-            first: None,
-            later: VecDeque::new(alloc),
+            records: VecDeque::new(alloc),
+            before_first: Words::new(alloc),
         }
     }
 
@@ -55,10 +57,7 @@ impl SparseRecords {
         ensures saved { length self.now.saved ≡ result - 1 }
         ensures range { result ≤ 2 ^ 63 }
     {
-        match &self.first {
-            Some(_) => self.later.len() + 1,
-            None => 0,
-        }
+        self.records.len()
     }
 
     /// How many of them have their state words.
@@ -67,17 +66,32 @@ impl SparseRecords {
         ensures some { 0 < length self.now.records → result ≡ 1 + count_saved self.now.saved }
         ensures length { length self.now.saved ≡ length self.now.records - 1 }
     {
-        match &self.first {
-            Some(_) => count_words(&self.later) + 1,
-            None => 0,
+        if self.records.is_empty() {
+            return 0;
+        }
+        count_words(&self.records) + 1
+    }
+
+    /// The time of the first record's message, in ticks, if there is one.
+    pub fn first_time(&self) -> Option<u64>
+        ensures { result ≡ first_handled self.now.records }
+    {
+        match self.records.front() {
+            Some(first) => Some(first.message().time()),
+            None => None,
         }
     }
 
-    /// The first record, if there is one.
-    pub fn first(&self) -> Option<&Record>
-        ensures { option_copied result ≡ slice_get self.now.records 0 }
+    /// The state words before the first record, if there is one.
+    pub fn first_words(&self) -> Option<&Words>
+        ensures { MatchOption result (self.now.records ≡ [])
+            (λ words. (0 < length self.now.records)
+            × (words.now.items ≡ state_before self.now.records [])) }
     {
-        self.first.as_ref()
+        if self.records.is_empty() {
+            return None;
+        }
+        Some(&self.before_first)
     }
 
     /// The message of a record.
@@ -85,11 +99,7 @@ impl SparseRecords {
         requires { at < length self.now.records }
         ensures { slice_get (messages self.now.records) at ≡ Some result }
     {
-        if at == 0 {
-            self.first.as_ref().unwrap().message
-        } else {
-            self.later[at - 1].message()
-        }
+        self.records[at].message()
     }
 
     /// The messages that a record sent.
@@ -97,11 +107,7 @@ impl SparseRecords {
         requires { at < length self.now.records }
         ensures { slice_get (sends self.now.records) at ≡ Some result.now }
     {
-        if at == 0 {
-            self.first.as_ref().unwrap().sent.as_slice()
-        } else {
-            self.later[at - 1].sent()
-        }
+        self.records[at].sent()
     }
 
     /// The send number before a record.
@@ -109,11 +115,7 @@ impl SparseRecords {
         requires { at < length self.now.records }
         ensures { result ≡ number_before (drop at self.now.records) 0 }
     {
-        if at == 0 {
-            self.first.as_ref().unwrap().number_before
-        } else {
-            self.later[at - 1].number_before()
-        }
+        self.records[at].number_before()
     }
 
     /// Lets go of all but the first `kept` records. It takes no memory.
@@ -124,11 +126,7 @@ impl SparseRecords {
           saved = take (kept - 1) self.old.saved;
         } }
     {
-        if kept == 0 {
-            *self = SparseRecords::new(self.alloc);
-        } else {
-            self.later.truncate(kept - 1);
-        }
+        self.records.truncate(kept);
     }
 
     /// One more record, at the end, with its state words where it is to be saved or is the first.
@@ -152,19 +150,35 @@ impl SparseRecords {
         }) }
         ensures unchanged { OnErr result (self.new ≡ self.old) }
     {
-        if self.first.is_none() {
-            let words = Words::from_slice(self.alloc, before.words().as_slice())?;
-            self.first = Some(Record {
-                message,
-                before: State::from_words(words),
-                number_before,
-                sent,
-            });
+        if self.records.is_empty() {
+            self.before_first.clear();
+            self.before_first
+                .extend_from_slice(before.words().as_slice())?;
+            let first = Kept::of(self.alloc, message, before, number_before, sent, false)?;
+            self.records.push_back(first)?;
             return Ok(());
         }
         let kept = Kept::of(self.alloc, message, before, number_before, sent, save)?;
-        self.later.push_back(kept)?;
+        self.records.push_back(kept)?;
         Ok(())
+    }
+
+    /// Takes the first record out, if there is one: what is kept of it. It takes no memory, and at
+    /// most one handling.
+    pub fn pop_first<M: Simulated>(&mut self, model: &M) -> Option<Kept>
+        requires { AreHandlings (M.meaning model.now) self.old.records }
+        ensures answer { IsPopped result self.old.records }
+        ensures left { self.new ≡ record {
+          records = drop 1 self.old.records;
+          saved = drop 1 self.old.saved;
+        } }
+    {
+        let first = self.records.pop_front()?;
+        if let Some(next) = self.records.front() {
+            let before = next.words_before(self.alloc, model, &self.before_first, &first);
+            self.before_first = before;
+        }
+        Some(first)
     }
 
     /// Takes the first record out, if there is one. It takes no memory, and at most one handling.
@@ -176,14 +190,13 @@ impl SparseRecords {
           saved = drop 1 self.old.saved;
         } }
     {
-        let next = match self.later.pop_front() {
-            Some(next) => {
-                let first = self.first.as_ref()?;
-                Some(next.into_record(self.alloc, model, first))
-            }
-            None => None,
-        };
-        mem::replace(&mut self.first, next)
+        if self.records.is_empty() {
+            return None;
+        }
+        // It takes no memory, since there are at most 16.
+        let before = Words::from_slice(self.alloc, self.before_first.as_slice()).unwrap();
+        let first = self.pop_first(model)?;
+        Some(first.with_words(State::from_words(before)))
     }
 
     /// Takes out all but the first `kept` records. It is refused only for want of memory, and then
@@ -203,16 +216,12 @@ impl SparseRecords {
         }) }
         ensures unchanged { OnErr result (self.new ≡ self.old) }
     {
-        if kept == 0 {
-            return Ok(mem::replace(self, SparseRecords::new(self.alloc)));
-        }
-        let before = State::from_words(self.words_before(model, kept)?);
-        let mut later = self.later.split_off(kept - 1)?;
-        let next = later.pop_front().unwrap();
+        let before_first = self.words_before(model, kept)?;
+        let records = self.records.split_off(kept)?;
         Ok(SparseRecords {
             alloc: self.alloc,
-            first: Some(next.with_words(before)),
-            later,
+            records,
+            before_first,
         })
     }
 
@@ -222,12 +231,34 @@ impl SparseRecords {
         requires handlings { AreHandlings (M.meaning model.now) self.now.records }
         ensures { IfOk result (λ words. words.items ≡ state_before (drop at self.now.records) []) }
     {
-        if let Some(words) = self.kept_words(at) {
-            return Words::from_slice(self.alloc, words);
+        let (from, kept) = self.nearest_words(at);
+        let mut words = Words::from_slice(self.alloc, kept)?;
+        if from == at {
+            return Ok(words);
         }
-        let before = self.words_before(model, at - 1)?;
-        let message = self.message(at - 1);
-        Ok(words_after(self.alloc, model, &before, &message))
+        let mut next = SmallVec::new(self.alloc);
+        let mut sends = SmallVec::new(self.alloc);
+        for place in from..at {
+            let message = self.message(place);
+            make_empty(&mut next);
+            make_empty(&mut sends);
+            let to = message.to();
+            model.handle_into(self.alloc, to, &words, &message, &mut next, &mut sends);
+            mem::swap(&mut words, &mut next);
+        }
+        Ok(words)
+    }
+
+    /// The nearest record up to this one whose state words are kept, and those before it.
+    fn nearest_words(&self, at: usize) -> (usize, &[u64])
+        requires { at < length self.now.records }
+        ensures place { result.0 ≤ at }
+        ensures words { result.1.now ≡ state_before (drop result.0 self.now.records) [] }
+    {
+        match self.kept_words(at) {
+            Some(words) => (at, words),
+            None => self.nearest_words(at - 1),
+        }
     }
 
     /// The state words before a record, if they are kept.
@@ -239,20 +270,20 @@ impl SparseRecords {
         ensures saved { 0 < at → slice_get self.now.saved (at - 1) ≡ Some (is_some result) }
     {
         if at == 0 {
-            return Some(self.first.as_ref()?.before.words().as_slice());
+            return Some(self.before_first.as_slice());
         }
-        self.later[at - 1].words()
+        self.records[at].words()
     }
 }
 
-/// How many of these records have their state words.
-fn count_words(later: &VecDeque<Kept>) -> usize
-    ensures count { result ≡ count_saved (saved_in later.now.items) }
+/// How many of these records, after the first, have their state words.
+fn count_words(records: &VecDeque<Kept>) -> usize
+    ensures count { result ≡ count_saved (saved_in (drop 1 records.now.items)) }
     ensures range { result < 2 ^ 63 }
 {
     let mut count = 0;
-    for at in 0..later.len() {
-        if later[at].words().is_some() {
+    for at in 1..records.len() {
+        if records[at].words().is_some() {
             count += 1;
         }
     }

@@ -7,6 +7,7 @@ use Rattle.queues.proofs.Forward.{handlings_are_kept}
 use Rattle.queues.specs.Queue.{but_last, last_of}
 use Rattle.queues.specs.Record.{IsFirstTaken, LeadTo, handled_from, state_before}
 use Rattle.queues.specs.declared.Record.{Record}
+use Rattle.queues.specs.declared.Released.{Released}
 
 pub lead_few : (m : Meaning) (hs : List Record) (state : List ℕ) → LeadTo m hs state → length state ≤ 16
 lead_few m [] state h = h
@@ -36,6 +37,6 @@ none_undone n hs (u ∷ us) state s e = absurd (cc)
 pub leads_from : (m : Meaning) (c : ℕ) (hs new : List Record) (state : List ℕ) → LeadTo m hs state → new ≡ handled_from c hs → LeadTo m new state
 leads_from m c hs new state h e = rw e ((handlings_are_kept m hs state h).3 c)
 
-pub leads_after : (m : Meaning) (c : ℕ) (hs new : List Record) (state : List ℕ) (first : Option Record) → LeadTo m hs state → IsFirstTaken c hs new first → LeadTo m new state
+pub leads_after : (m : Meaning) (c : ℕ) (hs new : List Record) (state : List ℕ) (first : Option Released) → LeadTo m hs state → IsFirstTaken c hs new first → LeadTo m new state
 leads_after m c hs new state None h e = rw e.1 h
-leads_after m c hs new state (Some x) h e = (subst (λ (rs : List Record). LeadTo m rs state) e.0 h).3
+leads_after m c hs new state (Some x) h e = (subst (λ (rs : List Record). LeadTo m rs state) e.1 h).3

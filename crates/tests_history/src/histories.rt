@@ -7,7 +7,7 @@ ghost use Rattle.std.specs.Prelude.{◌≡◌, ◌<◌, ◌≤◌, IfOk};
 use crate::counted::Counted;
 use eventkey::{KeyFault, Message};
 use model::{Model as Simulated, Sent, State, Words};
-use queues::{History, Record};
+use queues::{History, Record, Released};
 use std::alloc::{AllocError, Global};
 use std::process::Abort;
 use std::test::Fail;
@@ -60,8 +60,11 @@ impl<const K: usize> Counting<K> {
     }
 
     fn look(&self) -> Look {
-        let first = self.history.first().map(|first| first.message.time());
-        (self.history.len(), self.history.saved(), first)
+        (
+            self.history.len(),
+            self.history.saved(),
+            self.history.first_time(),
+        )
     }
 
     /// The bound on the states that are kept.
@@ -137,8 +140,15 @@ impl<const K: usize> Counting<K> {
         Ok(released)
     }
 
-    fn release_first(&mut self, floor: u64) -> Option<Record> {
+    fn release_first(&mut self, floor: u64) -> Option<Released> {
         self.history.release_first(&self.ring, floor)
+    }
+
+    /// Whether the first record, if there is one, came after so many, by the state words and the
+    /// send number before it; where there is none, whether the process did.
+    fn is_first_after(&self, count: u64) -> bool {
+        let words = self.history.words_before(self.state.words());
+        words.as_slice() == [count].as_slice() && self.history.number_before(self.count()) == count
     }
 }
 
@@ -260,11 +270,12 @@ fn drive<const K: usize>(rt: &impl Abort, alloc: Global) -> Result<(), Fail>
     counting.let_go(rt, 1, 0)?;
     counting.let_go(rt, 31, 30)?;
     assert!(rt; counting.release_first(31).is_none());
+    assert!(rt; counting.is_first_after(30));
+    let first = counting.release_first(32);
     assert!(rt;
-        counting
-            .release_first(32)
-            .is_some_and(|first| are_after([first].as_slice(), 30))
+        first.is_some_and(|first| first.message.time() == 31 && first.sent.as_slice().is_empty())
     );
+    assert!(rt; counting.is_first_after(31));
     for count in [1, 7, 63, 129] {
         counting.fill(rt, 169)?;
         counting.go_back(rt, count)?;
@@ -273,7 +284,7 @@ fn drive<const K: usize>(rt: &impl Abort, alloc: Global) -> Result<(), Fail>
     assert!(rt; counting.look() == (0, 0, None));
     counting.fill(rt, 3)?;
     counting.let_go(rt, 1000, 3)?;
-    assert!(rt; counting.look() == (0, 0, None));
+    assert!(rt; counting.look() == (0, 0, None) && counting.is_first_after(counting.count()));
     Ok(())
 }
 

@@ -4,8 +4,8 @@ use Rattle.queues.specs.Record.{handled_from}
 use Rattle.queues.specs.declared.Record.{Record}
 use Rattle.process.proofs.fossils.tell.Goals as goal
 
-pub returns-in_default-clause-left : goal.returns-in_default-clause-left
-returns-in_default-clause-left g c =
+pub returns-clause-left : goal.returns-clause-left
+returns-clause-left g c =
     let floor = c.args.floor in
     let none = c.in_default.ensures in
-    none.1 ∙ sym (ap (λ (hs : List Record). hs ++ handled_from floor c.args.history.now) (sym none.0) ∙ handled_before-from floor c.args.history.now)
+    none.1 ∙ (sym (ap (λ (hs : List Record). hs ++ handled_from floor c.loop-gone.history) (sym none.0) ∙ handled_before-from floor c.loop-gone.history) ∙ c.loop-gone.invariant.from)

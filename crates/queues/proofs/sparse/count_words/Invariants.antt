@@ -5,6 +5,6 @@ use Rattle.queues.proofs.sparse.count_words.Given as goal
 
 abbrev pub invariant-loop-at : goal.invariant-loop-at
 invariant-loop-at l = record {
-  counted : l.count + count_saved (saved_in (drop l.at l.later.items)) ≡ count_saved (saved_in l.later.items);
+  counted : l.count + count_saved (saved_in (drop l.at l.records.items)) ≡ count_saved (saved_in (drop 1 l.records.items));
   few : l.count ≤ l.at;
 }
