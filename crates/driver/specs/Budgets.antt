@@ -21,13 +21,30 @@ budget_after b ran told = record { told = sum_after b.told told; ran = sum_after
 abbrev pub nearly_all_told : NodeBudget → Bool
 nearly_all_told b = nat_le (15 * b.ran) (16 * b.told)
 
--- How many messages the node may handle at its next turn. An eighth of a sum is the mean of the
--- latest takes. Where nearly all was told, twice as many as were told of one; else an eighth more
--- than these. And two more, so that a node always handles its first; 65,536 at the most.
-abbrev pub messages_of : NodeBudget → ℕ
-messages_of b =
+-- all but few of what was handled was told: 63 of 64 at least
+abbrev pub all_but_few_told : NodeBudget → Bool
+all_but_few_told b = nat_le (63 * b.ran) (64 * b.told)
+
+-- How many messages the node may handle at its next turn, where a round is dear. An eighth of a sum
+-- is the mean of the latest takes. Where nearly all was told, twice as many as were told of one;
+-- else an eighth more than these. And two more, so that a node always handles its first.
+abbrev pub eager_messages : NodeBudget → ℕ
+eager_messages b =
     let mean = b.told / 8 in
-    min ((if nearly_all_told b then 2 * mean else mean + mean / 8) + 2) 65536
+    (if nearly_all_told b then 2 * mean else mean + mean / 8) + 2
+
+-- The same where a round costs less than what a node undoes: a quarter more than were told of one
+-- where all but few was told, else an eighth less. And one more, so that a node always handles its
+-- first.
+abbrev pub careful_messages : NodeBudget → ℕ
+careful_messages b =
+    let mean = b.told / 8 in
+    (if all_but_few_told b then mean + mean / 4 else mean - mean / 8) + 1
+
+-- 65,536 at the most
+abbrev pub messages_of : Bool → NodeBudget → ℕ
+messages_of rounds_are_cheap b =
+    min (if rounds_are_cheap then careful_messages b else eager_messages b) 65536
 
 -- after what a take was answered
 abbrev pub budget_answered : NodeBudget → Answer → NodeBudget

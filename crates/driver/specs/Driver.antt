@@ -83,7 +83,7 @@ commits_in (k ∷ ks) = commits_by (move_of k.step) + commits_in ks
 -- most, where each node has a budget that follows what it tells
 abbrev pub IsBudget : Batch → ℕ → Type 0
 IsBudget (Fixed messages) budget = budget ≡ messages
-IsBudget (Adjusting most) budget = (1 ≤ budget) × (budget ≤ 65536) × (budget ≤ max most 1)
+IsBudget (Adjusting most rounds_are_cheap) budget = (1 ≤ budget) × (budget ≤ 65536) × (budget ≤ max most 1)
 
 -- a node is posted a parcel with such a budget
 abbrev pub IsPost : Batch → ℕ → List Move → Type 0

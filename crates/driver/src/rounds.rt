@@ -30,6 +30,9 @@ pub enum Batch {
     Adjusting {
         /// The most messages that a budget allows; 0 counts as 1, and more than 65,536 as that.
         most: u32,
+        /// Whether a round costs less than what a node handles and undoes again. Then budgets are
+        /// so small that next to nothing is undone; else so large that few rounds are made.
+        rounds_are_cheap: bool,
     },
 }
 

@@ -80,7 +80,14 @@ impl Tally {
     {
         match batch {
             Batch::Fixed(messages) => messages,
-            Batch::Adjusting { most } => { self.budgets[node as usize].messages().min(most.max(1)) }
+            Batch::Adjusting {
+                most,
+                rounds_are_cheap,
+            } => {
+                self.budgets[node as usize]
+                    .messages(rounds_are_cheap)
+                    .min(most.max(1))
+            }
         }
     }
 

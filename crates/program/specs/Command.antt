@@ -336,23 +336,27 @@ IsChecked {M} says shows source text = (model : M) × (end : ℕ) × IsModelFile
 abbrev pub IsSomeChecked : {M : Type 0} → Describes M → Shows M → List ℕ → Type 0
 IsSomeChecked says shows text = (source : List ℕ) × IsChecked says shows source text
 
--- The most messages that a node with a budget of its own may handle at a turn: 128 where the nodes
--- live in this process and tell fewer in a round than a commit waits for, else 65,536.
-abbrev pub most_of : ℕ → Option ℕ → Bool → ℕ
-most_of nodes commit_every apart =
-    if not apart && nat_le (nodes * 128) (unwrap_or commit_every 0) then 128 else 65536
+-- Whether a round costs little: the nodes live in this process, and with 128 messages each tell
+-- fewer in a round than a commit waits for.
+abbrev pub are_rounds_cheap : ℕ → Option ℕ → Bool → Bool
+are_rounds_cheap nodes commit_every apart =
+    not apart && nat_le (nodes * 128) (unwrap_or commit_every 0)
 
--- how many messages a node may handle at a turn, where a budget of its own has this most
-abbrev pub driven_by : BatchOption → ℕ → DriverBatch
-driven_by (Fixed messages) most = driver.Fixed messages
-driven_by Auto most = driver.Adjusting most
+-- the most messages that a node with a budget of its own may handle at a turn
+abbrev pub most_of : Bool → ℕ
+most_of rounds_are_cheap = if rounds_are_cheap then 128 else 65536
+
+-- how many messages a node may handle at a turn
+abbrev pub driven_by : BatchOption → Bool → DriverBatch
+driven_by (Fixed messages) rounds_are_cheap = driver.Fixed messages
+driven_by Auto rounds_are_cheap = driver.Adjusting (most_of rounds_are_cheap) rounds_are_cheap
 
 -- How a run is driven, by the values of its line. A commit has room for 299,593 events, and those
 -- of a whole round come into it at once, so one is due at 250,000 at the latest.
 abbrev pub plan_of : ℕ → BatchOption → ℕ → Option ℕ → Option ℕ → Bool → Bool → Plan
 plan_of nodes batch rounds checkpoint commit_every together apart = record {
   nodes = nodes;
-  batch = driven_by batch (most_of nodes commit_every apart);
+  batch = driven_by batch (are_rounds_cheap nodes commit_every apart);
   rounds = rounds;
   together = together;
   checkpoint_every = unwrap_or checkpoint 0;

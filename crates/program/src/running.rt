@@ -1,7 +1,8 @@
 // A run, over nodes in this program or behind sockets, with its trace or without.
 
 ghost use Rattle.std.specs.Prelude.{◌≡◌, ◌≤◌, ◌⊎◌, OnErr, OnOk};
-ghost use Rattle.program.specs.Command.{most_of, plan_of, Begins, IsRanOver, Prints};
+ghost use Rattle.program.specs.Command.{are_rounds_cheap, most_of, plan_of};
+ghost use Rattle.program.specs.Command.{Begins, IsRanOver, Prints};
 
 use crate::disks::run_on;
 use crate::fault::Fault;
@@ -41,18 +42,22 @@ pub(crate) struct Way<'a> {
     pub attach: bool,
 }
 
-/// The most messages that a node with a budget of its own may handle at a turn: 128 where the nodes
-/// live in this process and tell fewer in a round than a commit waits for, else 65,536. Rounds of
-/// more messages would save no sync there, and undo more; between programs they save round trips.
-fn most_of(nodes: u32, commit_every: Option<u32>, apart: bool) -> u32
-    ensures { result ≡ most_of nodes commit_every apart }
+/// Whether a round costs little: the nodes live in this process, and with 128 messages each tell
+/// fewer in a round than a commit waits for. Rounds of more messages would save no sync there, and
+/// undo more; between programs they save round trips.
+fn are_rounds_cheap(nodes: u32, commit_every: Option<u32>, apart: bool) -> bool
+    ensures { result ≡ are_rounds_cheap nodes commit_every apart }
 {
     let in_a_round = u64::from(nodes) * 128;
-    if !apart && in_a_round <= u64::from(commit_every.unwrap_or(0)) {
-        128
-    } else {
-        65_536
-    }
+    !apart && in_a_round <= u64::from(commit_every.unwrap_or(0))
+}
+
+/// The most messages that a node with a budget of its own may handle at a turn: 128 where rounds
+/// are cheap, else 65,536.
+fn most_of(rounds_are_cheap: bool) -> u32
+    ensures { result ≡ most_of rounds_are_cheap }
+{
+    if rounds_are_cheap { 128 } else { 65_536 }
 }
 
 /// How a run is driven, by the values of its line; `apart` tells that its nodes are programs of
@@ -69,12 +74,14 @@ pub(crate) fn plan_of(
 ) -> Plan
     ensures { result ≡ plan_of nodes batch rounds checkpoint commit_every together apart }
 {
+    let rounds_are_cheap = are_rounds_cheap(nodes, commit_every, apart);
     Plan {
         nodes,
         batch: match batch {
             BatchOption::Fixed(messages) => DriverBatch::Fixed(messages),
             BatchOption::Auto => DriverBatch::Adjusting {
-                most: most_of(nodes, commit_every, apart),
+                most: most_of(rounds_are_cheap),
+                rounds_are_cheap,
             },
         },
         rounds,

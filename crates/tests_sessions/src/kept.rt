@@ -196,15 +196,18 @@ fn a_run_with_budgets_of_its_nodes_comes_to_the_same_front(rt: HostRuntime) -> R
     let (plain, none) = left_by(alloc, &model, 16_384, 200, plan(1, 16, 0))?;
     assert!(rt; none.is_none());
     let plain = front_of(alloc, &model, plain, 200)?;
-    for (nodes, most, commit_every, every) in [
-        (1, 65_536, 0, 0),
-        (1, 0, 0, 0),
-        (2, 8, 100, 0),
-        (5, u32::MAX, 400_000, 0),
-        (5, 128, 100, 2),
+    for (nodes, most, rounds_are_cheap, commit_every, every) in [
+        (1, 65_536, false, 0, 0),
+        (1, 0, true, 0, 0),
+        (2, 8, true, 100, 0),
+        (5, u32::MAX, true, 400_000, 0),
+        (5, 128, false, 100, 2),
     ] {
         let adjusting = Plan {
-            batch: Batch::Adjusting { most },
+            batch: Batch::Adjusting {
+                most,
+                rounds_are_cheap,
+            },
             commit_every,
             ..plan(nodes, 16, every)
         };
