@@ -14,10 +14,10 @@ use commands::Simulated;
 use disk::FileDisk;
 use driver::Plan;
 use serving::serve;
-use sockets::SocketPort;
+use sockets::{ReadAhead, SocketPort};
 use std::alloc::{AllocError, Global};
 use std::fs::{self, File};
-use std::io::{self, Error as IoError, ErrorKind, Write};
+use std::io::{self, BufReader, Error as IoError, ErrorKind, Write};
 use std::net::Net;
 use std::os::unix::net::{UnixListener, UnixStream};
 use std::process::{Child, Command, OpenProcess, Processes, Stdio};
@@ -98,7 +98,7 @@ where
 fn run_met<M, P, O>(
     alloc: Global,
     of: &Simulated<M>,
-    ports: Vec<SocketPort<UnixStream>>,
+    ports: Vec<SocketPort<ReadAhead<UnixStream>>>,
     disk: FileDisk,
     plan: Plan,
     progress: &mut P,
@@ -136,7 +136,7 @@ fn meet<R, P>(
     nodes: u32,
     met: &mut Vec<Met<R::Started>>,
     progress: &mut P,
-) -> Result<Vec<SocketPort<UnixStream>>, Fault>
+) -> Result<Vec<SocketPort<ReadAhead<UnixStream>>>, Fault>
 where
     R: Files<File = File> + Net + Processes + Clock + AllocGlobal,
     P: Progress,
@@ -303,7 +303,10 @@ where
 }
 
 /// A port to each node's program, as they connect.
-fn accept_all<R>(rt: &R, met: &mut [Met<R::Started>]) -> Result<Vec<SocketPort<UnixStream>>, Fault>
+fn accept_all<R>(
+    rt: &R,
+    met: &mut [Met<R::Started>],
+) -> Result<Vec<SocketPort<ReadAhead<UnixStream>>>, Fault>
 where
     R: Processes + Clock + AllocGlobal,
     ensures { IfOk result (λ ports.
@@ -312,6 +315,7 @@ where
     let mut ports = Vec::with_capacity(rt.alloc(), met.len())?;
     'nodes: for node in 0..met.len() {
         let stream = accept(rt, &mut met[node]).map_err(unreadable)?;
+        let stream = ReadAhead::new(rt.alloc(), stream).map_err(unreadable)?;
         ports.push(SocketPort::new(rt.alloc(), stream))?;
     }
     Ok(ports)
@@ -383,7 +387,7 @@ where
 {
     let of: Simulated<M> = simulated(rt, model)?;
     let stream = UnixStream::connect(rt, socket).map_err(unreadable)?;
-    let mut reader = &stream;
+    let mut reader = BufReader::new(rt.alloc(), &stream).map_err(unreadable)?;
     let mut writer = &stream;
     serve(
         rt.alloc(),

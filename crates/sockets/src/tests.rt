@@ -3,12 +3,12 @@
 ghost use Rattle.std.specs.Prelude.{◌≡◌, ◌≤◌, ◌^◌, IfOk};
 ghost use Rattle.wire.specs.Port.{IsLoadInRange};
 
-use crate::SocketPort;
+use crate::{ReadAhead, SocketPort};
 use eventkey::{Listed, Message};
 use model::{State, Words};
 use node::{Load, NodeFault, Parcel, Part};
 use std::alloc::Global;
-use std::io::{Read, Write};
+use std::io::{self, Read, Write};
 use std::os::unix::net::UnixStream;
 use std::test::Fail;
 use std::time::Duration;
@@ -166,5 +166,79 @@ fn a_stream_that_nobody_reads_fails(rt: HostRuntime) -> Result<(), Fail> {
     drop(far);
     let loaded = port.load(load(rt.alloc())?);
     assert_eq!(rt; loaded, Err(PortFault::Wire(WireFault::Io)));
+    Ok(())
+}
+
+/// A stream whose bytes are at hand, of which a read takes as many as a reply has, and that counts
+/// its calls.
+#[derive(Drop)]
+struct Counted<'a> {
+    rest: &'a [u8],
+    reads: usize,
+    written: usize,
+}
+
+impl<'a> Read for Counted<'a> {
+    fn read(&mut self, buf: &mut [u8]) -> io::Result<usize> {
+        self.reads = self.reads.saturating_add(1);
+        let count = buf.len().min(REPLY.len()).min(self.rest.len());
+        let (front, rest) = self.rest.split_at(count);
+        buf[..count].copy_from_slice(front);
+        self.rest = rest;
+        Ok(count)
+    }
+}
+
+impl<'a> Write for Counted<'a> {
+    fn write(&mut self, buf: &[u8]) -> io::Result<usize> {
+        self.written = self.written.saturating_add(buf.len());
+        Ok(buf.len())
+    }
+
+    fn flush(&mut self) -> io::Result<()> {
+        Ok(())
+    }
+}
+
+#[test]
+fn a_frame_that_has_come_takes_one_read_ahead(rt: HostRuntime) -> Result<(), Fail> {
+    let replies = [REPLY, REPLY];
+    let mut stream = Counted {
+        rest: replies.as_flattened(),
+        reads: 0,
+        written: 0,
+    };
+    let ahead = ReadAhead::new(rt.alloc(), &mut stream)?;
+    let mut port = SocketPort::new(rt.alloc(), ahead);
+    port.load(load(rt.alloc())?)?;
+    port.post(parcel(rt.alloc()))?;
+    assert_eq!(rt; port.take()?.ran, 1);
+    port.post(parcel(rt.alloc()))?;
+    assert_eq!(rt; port.take()?.ran, 1);
+    port.post(parcel(rt.alloc()))?;
+    assert_eq!(rt; port.take().err(), Some(PortFault::Closed));
+    drop(port);
+    assert_eq!(rt; stream.reads, 3);
+    assert_eq!(rt; stream.written, 177);
+    Ok(())
+}
+
+#[test]
+fn what_is_written_through_a_stream_read_ahead_is_at_the_other_end(
+    rt: HostRuntime,
+) -> Result<(), Fail> {
+    let (near, mut far) = UnixStream::pair(&rt)?;
+    far.set_read_timeout(Some(Duration::from_secs(5)))?;
+    let mut port = SocketPort::new(rt.alloc(), ReadAhead::new(rt.alloc(), near)?);
+    port.load(load(rt.alloc())?)?;
+    port.post(parcel(rt.alloc()))?;
+    let mut loaded = [0; 114];
+    far.read_exact(&mut loaded)?;
+    assert_eq!(rt; loaded, LOAD);
+    let mut posted = [0; 21];
+    far.read_exact(&mut posted)?;
+    assert_eq!(rt; posted, PARCEL);
+    far.write_all(&REPLY)?;
+    assert_eq!(rt; port.take()?.ran, 1);
     Ok(())
 }
