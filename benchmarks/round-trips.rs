@@ -1,9 +1,10 @@
 //! The baseline of `run --sockets`: hand-written round trips of frames between a program and its node programs, with nothing but the
 //! bytes. Prints the parcels a second.
 //!
-//! Usage: round-trips NODES ROUNDS PARCEL REPLY [together], where PARCEL and REPLY are bytes of a body. It starts itself for each
-//! node, behind a socket in a folder of its own.
-use std::io::{self, Error, Read, Write};
+//! Usage: round-trips NODES ROUNDS PARCEL REPLY [together] [ahead], where PARCEL and REPLY are bytes of a body. It starts itself for each
+//! node, behind a socket in a folder of its own. A frame is read by three calls, for its length, its kind and its body; `ahead` reads
+//! through buffers, so by one call.
+use std::io::{self, BufReader, Error, Read, Write};
 use std::os::unix::net::{UnixListener, UnixStream};
 use std::path::Path;
 use std::process::{Child, Command, exit};
@@ -20,7 +21,7 @@ fn frame(kind: u8, size: usize) -> Vec<u8> {
 }
 
 /// Reads a frame of this kind: its length, its kind, and then its body. False at the end.
-fn read(stream: &mut UnixStream, kind: u8, body: &mut Vec<u8>) -> io::Result<bool> {
+fn read(stream: &mut dyn Read, kind: u8, body: &mut Vec<u8>) -> io::Result<bool> {
     let mut head = [0; 4];
     let came = stream.read(&mut head)?;
     if came == 0 {
@@ -38,38 +39,52 @@ fn read(stream: &mut UnixStream, kind: u8, body: &mut Vec<u8>) -> io::Result<boo
 }
 
 /// Answers each parcel by a reply of so many bytes.
-fn node(socket: &str, reply: usize) -> io::Result<()> {
-    let mut stream = UnixStream::connect(socket)?;
+fn node(socket: &str, reply: usize, is_ahead: bool) -> io::Result<()> {
+    let mut stream = Stream::of(UnixStream::connect(socket)?, is_ahead)?;
     let reply = frame(REPLY, reply);
     let mut body = Vec::new();
-    while read(&mut stream, PARCEL, &mut body)? {
-        stream.write_all(&reply)?;
+    while read(&mut stream.reader, PARCEL, &mut body)? {
+        stream.writer.write_all(&reply)?;
     }
     Ok(())
 }
 
+/// Both ways of a connection.
+struct Stream {
+    reader: Box<dyn Read>,
+    writer: UnixStream,
+}
+
+impl Stream {
+    fn of(writer: UnixStream, is_ahead: bool) -> io::Result<Stream> {
+        let reader = writer.try_clone()?;
+        let reader: Box<dyn Read> = if is_ahead { Box::new(BufReader::new(reader)) } else { Box::new(reader) };
+        Ok(Stream { reader, writer })
+    }
+}
+
 struct Nodes {
-    streams: Vec<UnixStream>,
+    streams: Vec<Stream>,
     children: Vec<Child>,
 }
 
-fn start(folder: &Path, nodes: usize, reply: usize) -> io::Result<Nodes> {
+fn start(folder: &Path, nodes: usize, reply: usize, is_ahead: bool) -> io::Result<Nodes> {
     let mut started = Nodes { streams: Vec::new(), children: Vec::new() };
     for node in 0..nodes {
         let socket = folder.join(format!("node{node}"));
         let listener = UnixListener::bind(&socket)?;
         let program = env::current_exe()?;
-        started.children.push(Command::new(program).arg("node").arg(&socket).arg(reply.to_string()).spawn()?);
-        started.streams.push(listener.accept()?.0);
+        started.children.push(Command::new(program).arg("node").arg(&socket).arg(reply.to_string()).arg(is_ahead.to_string()).spawn()?);
+        started.streams.push(Stream::of(listener.accept()?.0, is_ahead)?);
     }
     Ok(started)
 }
 
 /// Makes so many rounds, and answers the seconds that they took.
-fn rounds(streams: &mut [UnixStream], count: usize, parcel: &[u8], is_together: bool, reply: usize) -> io::Result<f64> {
+fn rounds(streams: &mut [Stream], count: usize, parcel: &[u8], is_together: bool, reply: usize) -> io::Result<f64> {
     let mut body = Vec::new();
-    let mut take = |stream: &mut UnixStream| -> io::Result<()> {
-        if !read(stream, REPLY, &mut body)? || body.len() != reply {
+    let mut take = |stream: &mut Stream| -> io::Result<()> {
+        if !read(&mut stream.reader, REPLY, &mut body)? || body.len() != reply {
             return Err(Error::other("no reply of that size"));
         }
         Ok(())
@@ -78,14 +93,14 @@ fn rounds(streams: &mut [UnixStream], count: usize, parcel: &[u8], is_together: 
     for _ in 0..count {
         if is_together {
             for stream in streams.iter_mut() {
-                stream.write_all(parcel)?;
+                stream.writer.write_all(parcel)?;
             }
             for stream in streams.iter_mut() {
                 take(stream)?;
             }
         } else {
             for stream in streams.iter_mut() {
-                stream.write_all(parcel)?;
+                stream.writer.write_all(parcel)?;
                 take(stream)?;
             }
         }
@@ -96,18 +111,19 @@ fn rounds(streams: &mut [UnixStream], count: usize, parcel: &[u8], is_together: 
 fn main() -> io::Result<()> {
     let words: Vec<String> = env::args().collect();
     let number = |at: usize| words[at].parse::<usize>().expect("a number");
-    if words.len() == 4 && words[1] == "node" {
-        return node(&words[2], number(3));
+    if words.len() == 5 && words[1] == "node" {
+        return node(&words[2], number(3), words[4] == "true");
     }
     if words.len() < 5 {
-        eprintln!("round-trips NODES ROUNDS PARCEL REPLY [together]");
+        eprintln!("round-trips NODES ROUNDS PARCEL REPLY [together] [ahead]");
         exit(2);
     }
     let (nodes, count, parcel, reply) = (number(1), number(2), number(3), number(4));
-    let is_together = words.get(5).is_some_and(|word| word == "together");
+    let has = |wanted: &str| words[5..].iter().any(|word| word == wanted);
+    let (is_together, is_ahead) = (has("together"), has("ahead"));
     let folder = env::temp_dir().join(format!("round-trips-{}", process::id()));
     fs::create_dir(&folder)?;
-    let told = start(&folder, nodes, reply).and_then(|mut started| {
+    let told = start(&folder, nodes, reply, is_ahead).and_then(|mut started| {
         let parcel = frame(PARCEL, parcel);
         // the first ones are for the caches, and for the programs to be there
         rounds(&mut started.streams, count / 10, &parcel, is_together, reply)?;
