@@ -6,5 +6,6 @@ pub mod Drives
 pub mod Opening
 pub mod Extending
 pub mod Headline
+pub mod Pending
 -- For tests.
 pub mod Ring
