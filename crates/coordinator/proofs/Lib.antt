@@ -1,5 +1,6 @@
 mod Batches
 mod Sorting
+mod Places
 mod Committing
 mod Keeping
 mod PortStates

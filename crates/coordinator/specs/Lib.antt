@@ -7,5 +7,6 @@ pub mod Opening
 pub mod Extending
 pub mod Headline
 pub mod Pending
+pub mod Keys
 -- For tests.
 pub mod Ring

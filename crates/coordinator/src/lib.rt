@@ -5,6 +5,7 @@
 mod batch;
 mod extending;
 mod opening;
+mod order;
 mod ports;
 mod session;
 mod sessions;
