@@ -123,6 +123,7 @@ impl Kept {
         ensures { result.items ≡ self.now.0.before }
     {
         if let Some(words) = &self.words {
+            // A list of words has room for the 16 that a state has at the most, so this is `Ok`.
             if let Ok(kept) = Words::from_slice(alloc, words.as_slice()) {
                 return kept;
             }

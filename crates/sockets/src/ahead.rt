@@ -1,6 +1,6 @@
 // A stream that is read through a buffer.
 
-ghost use Rattle.std.specs.Io.Buffered.{reader_buffer, reader_inner};
+ghost use Rattle.std.specs.Io.Buffered.{reader_buffer, reader_capacity, reader_inner};
 ghost use Rattle.std.specs.IoError.{error_kind};
 ghost use Rattle.std.specs.Prelude.{◌≡◌, [], IfErr, IfOk};
 
@@ -21,6 +21,7 @@ impl<S: Read + Write + Drop> ReadAhead<S> {
     pub fn new(alloc: Global, stream: S) -> io::Result<ReadAhead<S>>
         ensures stream { IfOk result (λ ahead. reader_inner ahead.reader ≡ stream) }
         ensures unread { IfOk result (λ ahead. reader_buffer ahead.reader ≡ []) }
+        ensures room { IfOk result (λ ahead. reader_capacity ahead.reader ≡ 8192) }
         ensures err { IfErr result (λ e. error_kind e ≡ ErrorKind.OutOfMemory) }
     {
         let reader = BufReader::new(alloc, stream)?;
