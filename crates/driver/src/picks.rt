@@ -18,7 +18,8 @@ pub(crate) fn places(
     ensures { length transit.now < 2 ^ 32 →
         IfOk result (λ places. places.items ≡ places_for nodes node 0 transit.now) }
 {
-    let mut places = Vec::new(alloc);
+    // With one node all that travels is for it, with more about its part.
+    let mut places = Vec::with_capacity(alloc, transit.len() / nodes as usize)?;
     'transit: for (place, signed) in transit.iter().enumerate() {
         if signed.message.to() % nodes == node {
             match u32::try_from(place) {
