@@ -52,10 +52,11 @@ pub(crate) fn wait_again(
     ensures waits { OnOk result (waiting.new ≡ add_all (last_of count done.now.items) waiting.old) }
     ensures unchanged { OnErr result (waiting.new ≡ waiting.old) }
 {
-    let first = done.len() - count;
-    for offset in 0..count {
-        if waiting.add(done[first + offset]).is_err() {
-            take_out(done, waiting, first, offset);
+    let all = done.len();
+    // The last one first: each then comes before those that wait already, and moves none of them.
+    for again in 0..count {
+        if waiting.add(done[all - again - 1]).is_err() {
+            take_out(done, waiting, all - again, again);
             return Err(AllocError);
         }
     }

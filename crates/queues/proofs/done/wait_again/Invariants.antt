@@ -1,6 +1,6 @@
-use Rattle.std.proofs.Common.{◌≡◌, drop, take}
+use Rattle.std.proofs.Common.{◌≡◌, ◌-◌, drop}
 use Rattle.eventkey.specs.Bag.{add_all}
 use Rattle.queues.proofs.done.wait_again.Given as goal
 
-abbrev pub invariant-loop-offset : goal.invariant-loop-offset
-invariant-loop-offset l = l.waiting ≡ add_all (take l.offset (drop l.first l.done.items)) l.fn.waiting
+abbrev pub invariant-loop-again : goal.invariant-loop-again
+invariant-loop-again l = l.waiting ≡ add_all (drop (l.all - l.again) l.done.items) l.fn.waiting
