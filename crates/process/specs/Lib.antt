@@ -3,6 +3,7 @@ pub mod Process
 pub mod View
 pub mod Told
 -- Inside: how the code keeps a process
+pub mod Later
 pub mod Inside
 -- For tests: a ring of three processes
 pub mod Ring

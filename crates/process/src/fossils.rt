@@ -1,6 +1,6 @@
 // What is told of handlings that no rollback reaches any more.
 
-ghost use Rattle.std.specs.Prelude.{◌≡◌, ◌++◌, IfOk, OnOk};
+ghost use Rattle.std.specs.Prelude.{◌≡◌, ◌++◌, IfOk, IfSome, OnOk};
 ghost use Rattle.queues.specs.Record.{AreHandlings, handled_before, handled_from, number_before};
 ghost use Rattle.queues.specs.Record.{state_before};
 ghost use Rattle.process.specs.Process.{told};
@@ -29,10 +29,8 @@ pub(crate) fn tell<M: Simulated>(
         (number_before (handled_from floor history.old) number)) }
     ensures left { OnOk result (history.new ≡ handled_from floor history.old) }
 {
-    while let Some(gone) = history.release_first(model, floor) {
-        // What is before the rest is after the one that went.
-        let words = history.words_before(state.words());
-        let after = SavedState::from_slice(alloc, words.as_slice())?;
+    while let Some((gone, known)) = history.release_first(model, floor) {
+        let after = after_first(alloc, known, history, state)?;
         let Released { message, sent } = gone;
         fossils.push(Done {
             message,
@@ -42,4 +40,21 @@ pub(crate) fn tell<M: Simulated>(
         })?;
     }
     Ok(())
+}
+
+/// The state words after a handling that was taken out, which are those before the rest, and this
+/// state where there is no rest. They are copied only where they are not known.
+fn after_first(
+    alloc: Global,
+    known: Option<SavedState>,
+    rest: &Handled,
+    state: &State,
+) -> Result<SavedState, AllocError>
+    requires { IfSome known (λ words. words ≡ state_before rest.now state.now) }
+    ensures { IfOk result (λ after. after ≡ state_before rest.now state.now) }
+{
+    match known {
+        Some(words) => Ok(words),
+        None => SavedState::from_slice(alloc, rest.words_before(state.words()).as_slice()),
+    }
 }

@@ -13,18 +13,15 @@ ghost use Rattle.process.specs.declared.ProcessFault.TheVariants.{NoMemory};
 
 mod fossils;
 mod logical;
+mod past;
 mod sends;
 
 use eventkey::Message;
 pub use logical::Process;
 use model::{SavedState, Sent};
-use queues::History;
+pub(crate) use past::Handled;
 use std::alloc::{AllocError, AllocFailed};
 use thiserror::Error;
-
-/// What a process handled. State words are kept for one handling in eight, and the others are
-/// rebuilt by coasting forward.
-pub(crate) type Handled = History<8>;
 
 /// Why a process refuses a call.
 #[derive(Clone, Copy, Debug, PartialEq, Eq, Error)]

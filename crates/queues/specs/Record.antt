@@ -4,7 +4,7 @@ use Rattle.queues.specs.declared.Record.{Record}
 use Rattle.queues.specs.declared.Released.{Released}
 use Rattle.std.specs.List.{filter}
 use Rattle.std.specs.Prelude.{ℕ, List, [], ◌∷◌, ◌++◌, if◌then◌else◌, nat_le, nat_lt, flat_map, map}
-use Rattle.std.specs.Prelude.{length, ◌≡◌, ◌<◌, ◌≤◌, ⊤, Option, Some, None}
+use Rattle.std.specs.Prelude.{drop, length, ◌≡◌, ◌<◌, ◌≤◌, ⊤, Option, Some, None}
 use Rattle.eventkey.specs.Bag.{IsAscending}
 use Rattle.eventkey.specs.Message.{Message}
 use Rattle.model.specs.Meaning.{Meaning}
@@ -28,6 +28,10 @@ state_before (h ∷ hs) state = h.before
 abbrev pub number_before : List Record → ℕ → ℕ
 number_before [] number = number
 number_before (h ∷ hs) number = h.number_before
+
+-- these are the state words before the second of these handlings, if there is one
+abbrev pub AreNextWords : List ℕ → List Record → Type 0
+AreNextWords words hs = state_before (drop 1 hs) words ≡ words
 
 -- the time of the first of these handlings, if there are any
 abbrev pub first_handled : List Record → Option ℕ

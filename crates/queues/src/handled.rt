@@ -5,8 +5,9 @@ ghost use Rattle.std.specs.Prelude.{IsOk, OnOk, OnErr, Some, take, drop, nat_le,
 ghost use Rattle.std.specs.Prelude.{vec_capacity};
 ghost use Rattle.std.specs.List.{filter, slice_get};
 ghost use Rattle.queues.specs.Queue.{but_last, last_of};
-ghost use Rattle.queues.specs.Record.{AreHandlings, IsFirstTaken, handled_before, handled_from};
-ghost use Rattle.queues.specs.Record.{first_handled, messages, number_before, sends, state_before};
+ghost use Rattle.queues.specs.Record.{AreHandlings, AreNextWords, IsFirstTaken, handled_before};
+ghost use Rattle.queues.specs.Record.{first_handled, handled_from, messages, number_before, sends};
+ghost use Rattle.queues.specs.Record.{state_before};
 ghost use Rattle.eventkey.specs.Bag.{IsAscending};
 
 use crate::sparse::SparseRecords;
@@ -247,6 +248,22 @@ impl<const K: usize> History<K> {
         }
         self.place = (self.place + 1) % K;
         let first = self.records.pop_first(model)?;
+        Some(first.into_released())
+    }
+
+    /// The same, where these are the state words after that record, so before the next one, if there
+    /// is one. It takes no memory, and no handling.
+    pub fn release_first_to(&mut self, floor: u64, next: &[u64]) -> Option<Released>
+        requires few { length next.now ≤ 16 }
+        requires next { AreNextWords next.now self.old }
+        ensures { IsFirstTaken floor self.old self.new result }
+    {
+        let least = self.records.first_time()?;
+        if least >= floor {
+            return None;
+        }
+        self.place = (self.place + 1) % K;
+        let first = self.records.pop_first_to(next)?;
         Some(first.into_released())
     }
 }

@@ -3,7 +3,7 @@
 ghost use Rattle.std.specs.Prelude.{◌≡◌, ◌<◌, ◌≤◌, ◌-◌, ◌+◌, ◌++◌, ◌∷◌, [], length, IfOk, IfSome};
 ghost use Rattle.std.specs.Prelude.{OnOk, OnErr, MatchOption, take, drop, is_some, ◌^◌, Some, None};
 ghost use Rattle.std.specs.List.{slice_get};
-ghost use Rattle.queues.specs.Record.{AreHandlings, first_handled, left_by, messages};
+ghost use Rattle.queues.specs.Record.{AreHandlings, AreNextWords, first_handled, left_by, messages};
 ghost use Rattle.queues.specs.Record.{number_before, sends, state_before};
 ghost use Rattle.queues.specs.Sparse.{count_saved, saved_with};
 ghost use Rattle.queues.specs.Kept.{IsPopped, saved_in};
@@ -178,6 +178,23 @@ impl SparseRecords {
             let before = next.words_before(self.alloc, model, &self.before_first, &first);
             self.before_first = before;
         }
+        Some(first)
+    }
+
+    /// The same, where these are the state words before the next record, if there is one. It takes no
+    /// memory, and no handling.
+    pub fn pop_first_to(&mut self, next: &[u64]) -> Option<Kept>
+        requires few { length next.now ≤ 16 }
+        requires next { AreNextWords next.now self.old.records }
+        ensures answer { IsPopped result self.old.records }
+        ensures left { self.new ≡ record {
+          records = drop 1 self.old.records;
+          saved = drop 1 self.old.saved;
+        } }
+    {
+        let first = self.records.pop_front()?;
+        // It takes no memory, since there are at most 16.
+        self.before_first = Words::from_slice(self.alloc, next).unwrap();
         Some(first)
     }
 

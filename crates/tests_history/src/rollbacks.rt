@@ -1,5 +1,6 @@
-// What a rollback of a process costs: a node whose model counts tells how many handlings it makes
-// again. State words are kept for one handling in eight.
+// What a rollback of a process costs, and what it costs to tell of its handlings: a node whose model
+// counts tells how many it makes again. State words are kept for one handling in eight, and to be
+// told for those before which there were fewer than 64.
 
 ghost use Rattle.std.specs.Prelude.{◌≡◌, ◌<◌, ◌≤◌, ◌^◌, IfOk};
 ghost use Rattle.std.specs.List.{AllByRecursion as Every};
@@ -50,12 +51,12 @@ impl CountingNode {
     }
 
     /// Hands the node a parcel, and answers how many handlings its model made.
-    fn handle(&mut self, deliver: Vec<Signed>, budget: u32) -> Result<u64, NodeFault> {
+    fn handle(&mut self, deliver: Vec<Signed>, budget: u32, floor: u64) -> Result<u64, NodeFault> {
         let before = self.ring.handled();
         let parcel = Parcel {
             deliver: Listed::from_vec(deliver),
             budget,
-            floor: 0,
+            floor,
         };
         self.node.handle(&self.ring, parcel)?;
         Ok(self.ring.handled().saturating_sub(before))
@@ -116,11 +117,24 @@ fn straggler(alloc: Global, time: u64) -> Result<Vec<Signed>, Fail> {
 fn a_rollback_begins_at_the_last_of_eight(rt: HostRuntime) -> Result<(), Fail> {
     let parts = parts(rt.alloc(), even(rt.alloc(), 64)?)?;
     let mut node = CountingNode::load(rt.alloc(), parts)?;
-    assert_eq!(rt; node.handle(Vec::new(rt.alloc()), 64)?, 64);
+    assert_eq!(rt; node.handle(Vec::new(rt.alloc()), 64, 0)?, 64);
     for undone in 1..65u64 {
         let place = 64 - undone;
         let deliver = straggler(rt.alloc(), 2 * place + 1)?;
-        assert_eq!(rt; node.handle(deliver, 0)?, place % 8);
+        assert_eq!(rt; node.handle(deliver, 0, 0)?, place % 8);
     }
+    Ok(())
+}
+
+/// Of 64 handlings in a row none is made again to be told. Of more only those are whose next one
+/// came where 64 or more were there, but for one next in eight.
+#[test]
+fn what_is_told_is_seldom_handled_again(rt: HostRuntime) -> Result<(), Fail> {
+    let parts = parts(rt.alloc(), even(rt.alloc(), 194)?)?;
+    let mut node = CountingNode::load(rt.alloc(), parts)?;
+    assert_eq!(rt; node.handle(Vec::new(rt.alloc()), 64, 0)?, 64);
+    assert_eq!(rt; node.handle(Vec::new(rt.alloc()), 0, 129)?, 0);
+    assert_eq!(rt; node.handle(Vec::new(rt.alloc()), 130, 129)?, 130);
+    assert_eq!(rt; node.handle(Vec::new(rt.alloc()), 0, 389)?, 57);
     Ok(())
 }

@@ -1,4 +1,4 @@
-use Rattle.std.proofs.Common.{◌≡◌, ◌∙◌, ◌++◌, List, ap, false, lit<, map, refl, subst, sym}
+use Rattle.std.proofs.Common.{◌≡◌, ◌∙◌, ◌++◌, List, ap, false, map, refl, subst, sym}
 use Rattle.eventkey.specs.Signed.{minus}
 use Rattle.process.proofs.Calls.{back_fits, delivered_done, delivered_is, undone_is}
 use Rattle.process.proofs.Sound.{arrived_sound, done_arrived, has_history, sound_handlings}
@@ -18,13 +18,11 @@ take_back_sends-requires g c =
 
 pub roll_back-requires : goal.roll_back-requires
 roll_back-requires g c =
-    let whole = c.self.invariant c.if-self.false in (
-      lit< tt,
-      (
-        back_fits c.self.inside.queue (view_of c.self.inside).process whole.0 refl refl c.args.signed c.back-back.result c.in_ok-arrival.arrival c.in_ok-arrival.ensures.answer c.back-back.ensures whole.1.in_order.done,
-        sound_handlings (g.M.Model.meaning c.args.model.now) (view_of c.self.inside) c.args.self.now c.self.view_is c.if-self.false whole.1 c.requires.lp c.requires.history,
-      ),
-    )
+    let whole = c.self.invariant c.if-self.false in
+    record {
+      there = back_fits c.self.inside.queue (view_of c.self.inside).process whole.0 refl refl c.args.signed c.back-back.result c.in_ok-arrival.arrival c.in_ok-arrival.ensures.answer c.back-back.ensures whole.1.in_order.done;
+      handlings = sound_handlings (g.M.Model.meaning c.args.model.now) (view_of c.self.inside) c.args.self.now c.self.view_is c.if-self.false whole.1 c.requires.lp c.requires.history;
+    }
 
 -- the process as the code leaves it
 abbrev new_of : (g : given.Over) → goal.After-self-2-1 g → Process

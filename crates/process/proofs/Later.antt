@@ -1,0 +1,96 @@
+-- The state words that are kept beside a history, as records come and go.
+use Rattle.std.proofs.Common.{◌≡◌, ℕ, Bool, true, false, zero, suc, Option, None, Some, ◌-◌, ◌<◌, ◌≤◌, List, [], ◌∷◌, ◌++◌, sym, ap, arith, ◌∙◌, length, take, drop, subst}
+use Rattle.std.proofs.lemmas.List.{length-take}
+use Rattle.std.proofs.lemmas.Option.{same_Some}
+use Rattle.std.specs.Prelude.{IfSome, if◌then◌else◌}
+use Rattle.model.specs.Meaning.{Meaning}
+use Rattle.queues.proofs.Undone.{but_last-take}
+use Rattle.queues.specs.Queue.{but_last}
+use Rattle.queues.specs.Record.{AreHandlings, AreNextWords, state_before}
+use Rattle.queues.specs.declared.Record.{Record}
+use Rattle.process.specs.Later.{AreWordsBefore}
+
+-- 1. One more at the end
+
+words_pushed : (later : List (Option (List ℕ))) (hs : List Record) (words : Option (List ℕ)) (h : Record) → AreWordsBefore later hs → IfSome words (λ (w : List ℕ). w ≡ h.before) →
+    AreWordsBefore (later ++ words ∷ []) (hs ++ h ∷ [])
+words_pushed [] [] words h b e = (e, tt)
+words_pushed [] (r ∷ rs) words h b e = absurd b
+words_pushed (x ∷ xs) [] words h b e = absurd b
+words_pushed (x ∷ xs) (r ∷ rs) words h b e = (b.0, words_pushed xs rs words h b.1 e)
+
+pub later_pushed : (later : List (Option (List ℕ))) (hs : List Record) (words : Option (List ℕ)) (h : Record) → AreWordsBefore later (drop 1 hs) → 0 < length hs →
+    IfSome words (λ (w : List ℕ). w ≡ h.before) → AreWordsBefore (later ++ words ∷ []) (drop 1 (hs ++ h ∷ []))
+later_pushed later [] words h b l e = absurd (omega arith)
+later_pushed later (r ∷ rs) words h b l e = words_pushed later rs words h b e
+
+-- words that are kept where a test says so
+pub kept_or_not : (kept : Bool) (before : List ℕ) (words : Option (List ℕ)) → words ≡ (if kept then Some before else None) → IfSome words (λ (w : List ℕ). w ≡ before)
+kept_or_not kept before None e = tt
+kept_or_not true before (Some w) e = same_Some w before e
+kept_or_not false before (Some w) e = absurd (cc)
+
+-- 2. The last ones gone
+
+words_taken : (later : List (Option (List ℕ))) (hs : List Record) (n : ℕ) → AreWordsBefore later hs → AreWordsBefore (take n later) (take n hs)
+words_taken later hs zero b = tt
+words_taken [] [] (suc n) b = tt
+words_taken [] (r ∷ rs) (suc n) b = absurd b
+words_taken (x ∷ xs) [] (suc n) b = absurd b
+words_taken (x ∷ xs) (r ∷ rs) (suc n) b = (b.0, words_taken xs rs n b.1)
+
+no_words : (n : ℕ) → AreWordsBefore (take n []) []
+no_words zero = tt
+no_words (suc n) = tt
+
+later_taken : (later : List (Option (List ℕ))) (hs : List Record) (n : ℕ) → AreWordsBefore later (drop 1 hs) → AreWordsBefore (take (n - 1) later) (drop 1 (take n hs))
+later_taken later hs zero b =
+    let e : zero - 1 ≡ zero = omega arith in
+    subst (λ (k : ℕ). AreWordsBefore (take k later) []) (sym e) tt
+later_taken [] [] (suc n) b = no_words (suc n - 1)
+later_taken (x ∷ xs) [] (suc n) b = absurd b
+later_taken later (r ∷ rs) (suc n) b =
+    let e : suc n - 1 ≡ n = omega arith in
+    subst (λ (k : ℕ). AreWordsBefore (take k later) (take n rs)) (sym e) (words_taken later rs n b)
+
+pub later_undone : (later later' : List (Option (List ℕ))) (hs hs' : List Record) (count long kept : ℕ) → AreWordsBefore later (drop 1 hs) → count ≤ length hs → hs' ≡ but_last count hs →
+    long ≡ length hs' → kept ≡ long - 1 → later' ≡ take kept later → AreWordsBefore later' (drop 1 hs')
+later_undone later later' hs hs' count long kept b c left is k l =
+    let n = length hs - count in
+    let cut : hs' ≡ take n hs = left ∙ but_last-take count hs c in
+    let many : long ≡ n = is ∙ (ap length cut ∙ omega (arith, length-take n hs, c)) in
+    let last : later' ≡ take (n - 1) later = l ∙ ap (λ (i : ℕ). take i later) (k ∙ ap (λ (i : ℕ). i - 1) many) in
+    subst (λ (ws : List (Option (List ℕ))). AreWordsBefore ws (drop 1 hs')) (sym last) (subst (λ (rs : List Record). AreWordsBefore (take (n - 1) later) (drop 1 rs)) (sym cut) (later_taken later hs n b))
+
+-- 3. The first one gone
+
+later_gone : (later : List (Option (List ℕ))) (hs : List Record) → AreWordsBefore later hs → AreWordsBefore (drop 1 later) (drop 1 hs)
+later_gone [] [] b = tt
+later_gone [] (r ∷ rs) b = absurd b
+later_gone (x ∷ xs) [] b = absurd b
+later_gone (x ∷ xs) (r ∷ rs) b = b.1
+
+pub later_popped : (later : List (Option (List ℕ))) (hs hs' : List Record) (h : Record) → AreWordsBefore later (drop 1 hs) → hs ≡ h ∷ hs' → AreWordsBefore (drop 1 later) (drop 1 hs')
+later_popped later hs hs' h b e = later_gone later hs' (subst (λ (rs : List Record). AreWordsBefore later (drop 1 rs)) e b)
+
+-- the first of the words are those before the second record
+pub record AreFirstWords (words : List ℕ) (hs : List Record) : Type 0 where
+  pub few : length words ≤ 16
+  pub next : AreNextWords words hs
+
+pub first_words : (m : Meaning) (later : List (Option (List ℕ))) (hs : List Record) (words : List ℕ) (more : List (Option (List ℕ))) → AreWordsBefore later (drop 1 hs) → AreHandlings m hs →
+    later ≡ Some words ∷ more → AreFirstWords words hs
+first_words m later [] words more b a e = absurd (subst (λ (ws : List (Option (List ℕ))). AreWordsBefore ws []) e b)
+first_words m later (r ∷ []) words more b a e = absurd (subst (λ (ws : List (Option (List ℕ))). AreWordsBefore ws []) e b)
+first_words m later (r ∷ r' ∷ rs) words more b a e =
+    let is : words ≡ r'.before = (subst (λ (ws : List (Option (List ℕ))). AreWordsBefore ws (r' ∷ rs)) e b).0 in
+    record { few = subst (λ (ws : List ℕ). length ws ≤ 16) (sym is) a.3.1; next = sym is }
+
+pub after_first : (words : Option (List ℕ)) (later more : List (Option (List ℕ))) (hs hs' : List Record) (h : Record) → AreWordsBefore later (drop 1 hs) → hs ≡ h ∷ hs' → later ≡ words ∷ more →
+    IfSome words (λ (w : List ℕ). (state : List ℕ) → w ≡ state_before hs' state)
+after_first words later more hs hs' h b e l = known words more hs' (subst (λ (ws : List (Option (List ℕ))). AreWordsBefore ws hs') l (subst (λ (rs : List Record). AreWordsBefore later (drop 1 rs)) e b))
+  where
+    known : (first : Option (List ℕ)) (rest : List (Option (List ℕ))) (rs : List Record) → AreWordsBefore (first ∷ rest) rs → IfSome first (λ (w : List ℕ). (state : List ℕ) → w ≡ state_before rs state)
+    known first rest [] k = absurd k
+    known None rest (r ∷ rs) k = tt
+    known (Some w) rest (r ∷ rs) k = λ state. k.0
