@@ -18,12 +18,11 @@ class Wrong(Exception):
 
 
 def program_path():
-    """The built program. The launcher builds it, unless TIMEWARP names another one."""
+    """The program that the launcher starts, unless TIMEWARP names another one."""
     given = os.environ.get("TIMEWARP")
     if given:
         return os.path.realpath(given)
-    subprocess.run([f"{ROOT}/timewarp", "seq", f"{ROOT}/examples/ring.toml"], stdout=subprocess.DEVNULL, check=True)
-    return f"{ROOT}/crates/timewarp/out/timewarp"
+    return subprocess.run([f"{ROOT}/tools/program"], stdout=subprocess.PIPE, text=True, check=True).stdout.strip()
 
 
 def start(program, *words, timeout=120, env=None):

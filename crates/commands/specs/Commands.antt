@@ -14,10 +14,10 @@ use Rattle.coordinator.specs.Opening.{IsAtFault}
 use Rattle.coordinator.specs.declared.SessionFault.{SessionFault}
 use Rattle.disk.specs.Disk.{DiskState}
 use Rattle.disk.specs.declared.disk.DiskFault.TheVariants.{Device}
-use Rattle.driver.specs.Driver.{IsRunOf, IsRunOver}
-use Rattle.driver.specs.declared.rounds.Plan.{Plan}
-use Rattle.driver.specs.declared.rounds.RunFault.{RunFault}
-use Rattle.driver.specs.declared.rounds.RunFault.TheVariants as run
+use Rattle.runs.specs.Driver.{IsRunOf, IsRunOver}
+use Rattle.runs.specs.declared.rounds.Plan.{Plan}
+use Rattle.runs.specs.declared.rounds.RunFault.{RunFault}
+use Rattle.runs.specs.declared.rounds.RunFault.TheVariants as run
 use Rattle.model.specs.Meaning.{Meaning}
 use Rattle.model.specs.World.{IsUpto, World, below}
 use Rattle.recovery.specs.Ends.{HoldsLog, IsLater}

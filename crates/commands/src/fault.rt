@@ -4,9 +4,9 @@ ghost use Rattle.std.specs.Prelude.{◌≡◌};
 
 use commitlog::LogFault;
 use coordinator::SessionFault;
-use driver::RunFault;
 use migration::MigrateFault;
 use recovery::RecoveryFault;
+use runs::RunFault;
 use std::alloc::{AllocError, AllocFailed};
 use std::io::Error as IoError;
 use thiserror::Error;

@@ -6,8 +6,6 @@ mod commands;
 mod fault;
 mod migrating;
 mod printing;
-#[cfg(test)]
-mod tests;
 
 pub use commands::{Ended, Simulated, committed, extend, log, new, run, run_over, show};
 pub use fault::CommandFault;

@@ -8,11 +8,10 @@ mod history;
 mod image;
 mod kept;
 mod memory;
+pub mod parts;
 mod plan;
 mod storing;
 mod tally;
-#[cfg(test)]
-mod tests;
 
 pub use disk::{DiskFault, SectorDisk, write_through};
 pub use file::{FileDisk, FileFault};

@@ -1,4 +1,5 @@
 pub mod Appending
+pub mod Beginnings
 pub mod Counts
 pub mod Cuts
 mod Examples
@@ -7,5 +8,9 @@ pub mod Formats
 pub mod Frames
 pub mod Halfway
 pub mod Items
+pub mod Places
 pub mod Raws
+pub mod Reacting
+mod ServedExamples
+pub mod Turns
 pub mod Whole

@@ -1,11 +1,14 @@
 //! Frames of bytes between a session and its nodes (this project's profile): the length of a body,
-//! its kind, the body.
+//! its kind, the body; and the loop that serves a node behind a stream of them.
 #![tactic(auto)]
 
 ghost use Rattle.std.specs.Prelude.{◌≡◌};
 
 mod laws;
+mod node_loop;
+mod output;
 mod ranges;
+mod reaction;
 mod reading;
 mod single;
 mod stream;
@@ -13,6 +16,9 @@ mod writing;
 
 pub use laws::{law_of_bodies, law_of_frames};
 use node::{Load, NodeFault, Parcel, Reply};
+pub use node_loop::serve;
+pub use output::write_all;
+pub use reaction::{Begun, Response, begin, react};
 pub use reading::{read_load, read_parcel};
 pub use single::{read_whole_frame, read_whole_raw};
 pub use stream::{MOST_BYTES, Raw, read_frame, read_raw};

@@ -17,10 +17,10 @@ use Rattle.frames.specs.declared.Frame.{Frame}
 use Rattle.frames.specs.declared.Frame.TheVariants as frame
 use Rattle.frames.specs.declared.Kind.{Kind}
 use Rattle.frames.specs.declared.stream.Raw.{Raw}
-use Rattle.serving.specs.Reactions.{Begins, Reaction, Reacts, RepliesInRange, answer_at, answer_lacking, begun, begun_by, begun_with, lacking, load_at, on_load, on_parcel, reaction, reaction_to, response_to}
-use Rattle.serving.specs.declared.reaction.Begun.{Begun}
-use Rattle.serving.specs.declared.reaction.Begun.TheVariants.{Loaded, Refused}
-use Rattle.serving.specs.declared.reaction.Response.{Response}
+use Rattle.frames.specs.Reactions.{Begins, Reaction, Reacts, RepliesInRange, answer_at, answer_lacking, begun, begun_by, begun_with, lacking, load_at, on_load, on_parcel, reaction, reaction_to, response_to}
+use Rattle.frames.specs.declared.reaction.Begun.{Begun}
+use Rattle.frames.specs.declared.reaction.Begun.TheVariants.{Loaded, Refused}
+use Rattle.frames.specs.declared.reaction.Response.{Response}
 use Rattle.wire.specs.declared.port.PortFault.{PortFault}
 use Rattle.wire.specs.declared.port.PortFault.TheVariants.{BadReply, Closed, Peer, Wire}
 use Rattle.wire.specs.declared.port.WireFault.{WireFault}

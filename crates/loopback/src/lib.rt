@@ -6,8 +6,6 @@ mod port;
 mod ports;
 mod sending;
 mod sessions;
-#[cfg(test)]
-mod tests;
 
 pub use port::LoopPort;
 pub use ports::loop_ports;

@@ -13,10 +13,9 @@ ghost use Rattle.wire.specs.Port.{IsLoadInRange};
 ghost use Rattle.wire.specs.declared.port.PortFault.TheVariants.{Wire};
 ghost use Rattle.wire.specs.declared.port.WireFault.TheVariants.{NoMemory};
 
-use frames::{Frame, Raw, encode_load, read_whole_frame, read_whole_raw};
+use frames::{Begun, Frame, Raw, begin, encode_load, react, read_whole_frame, read_whole_raw};
 use model::Model as Simulated;
 use node::{Load, Node, Reply};
-use serving::{Begun, begin, react};
 use std::alloc::Global;
 use wire::{PortFault, WireFault};
 

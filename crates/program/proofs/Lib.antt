@@ -1,2 +1,1 @@
 mod Printed
-mod Runs

@@ -1,26 +1,23 @@
 -- What the commands print, in one form.
 use Rattle.std.specs.Io.KnownBytes.{Appends}
-use Rattle.std.specs.Prelude.{◌≡◌, ◌⊎◌, ◌≢◌, ◌≤◌, ℕ, List, Option, Result, Ok, Err, OnOk, OnErr, length}
+use Rattle.std.specs.Prelude.{◌≡◌, ◌⊎◌, ◌≢◌, ℕ, List, Option, Result, Ok, Err, OnOk, OnErr, length}
 use Rattle.std.proofs.Common.{refl, inl, inr}
-use Rattle.commands.specs.Commands.{BeginsCommitted, PrintsCommitted, StandsUpto, TellsExtended, TellsRun, TellsRunOver, extended_text, ran_text}
+use Rattle.commands.specs.Commands.{BeginsCommitted, PrintsCommitted, TellsExtended, TellsRun, TellsRunOver, extended_text, ran_text}
 use Rattle.commands.specs.Migrating.{TellsMigrated, migrated_text}
 use Rattle.commands.specs.declared.fault.CommandFault.{CommandFault}
 use Rattle.commands.specs.declared.fault.CommandFault.TheVariants as on_disk
 use Rattle.commitlog.specs.Records.{Holds}
 use Rattle.commitlog.specs.declared.records.Entry.{Entry}
 use Rattle.disk.specs.Disk.{DiskState}
-use Rattle.driver.specs.declared.rounds.Plan.{Plan}
-use Rattle.eventkey.specs.Writing.{TakesBeginning, Writes}
+use Rattle.runs.specs.declared.rounds.Plan.{Plan}
+use Rattle.eventkey.specs.Writing.{TakesBeginning}
 use Rattle.migration.specs.Old.{IsOldLog}
 use Rattle.model.specs.World.{World}
 use Rattle.model.specs.Meaning.{Meaning}
-use Rattle.recovery.specs.Replay.{IsReplayedTo}
-use Rattle.recovery.specs.Stands.{IsGenuine}
 use Rattle.texts.specs.ModelFile.{IsModelFile}
 use Rattle.wire.specs.Port.{PortState}
-use Rattle.program.specs.Command.{Begins, Describes, IsCarriedOn, IsCommitted, IsRan, IsRanBehind, IsWholeSimulation, IsWrittenAnew, Prints, PrintsBeginning, PrintsRun, run_text}
-use Rattle.program.specs.declared.fault.Fault.{Fault}
-use Rattle.program.specs.declared.fault.Fault.TheVariants as fault
+use Rattle.views.specs.Views.{Begins, Describes, IsCommitted, Prints}
+use Rattle.program.specs.Command.{IsCarriedOn, IsRan, IsRanBehind, IsWrittenAnew}
 
 pub at_ok : {T E X : Type 0} {r : Result T E} {x : T} → r ≡ Ok x → OnOk r X → X
 at_ok {r = Ok x} e h = h
@@ -34,10 +31,6 @@ pub on_any : {T E X : Type 0} (r : Result T E) → X → OnErr r X
 on_any (Ok x) h = tt
 on_any (Err e) h = h
 
-pub on_err : {T E A B : Type 0} (r : Result T E) → (A → B) → OnErr r A → OnErr r B
-on_err (Ok x) f h = tt
-on_err (Err e) f h = f h
-
 module _ {T A B : Type 0} where
   -- a refusal is the writer's, or another
   pub on_command : (r : Result T CommandFault) → (r ≡ Err on_disk.Output → B) → ((f : CommandFault) → r ≡ Err f → f ≢ on_disk.Output → A) → OnErr r (A ⊎ B)
@@ -49,24 +42,6 @@ module _ {T A B : Type 0} where
   on_command (Err (on_disk.Session f)) h k = inl (k (on_disk.Session f) refl (λ e. cc))
   on_command (Err on_disk.Rounds) h k = inl (k on_disk.Rounds refl (λ e. cc))
   on_command (Err (on_disk.Migrate f)) h k = inl (k (on_disk.Migrate f) refl (λ e. cc))
-
-  pub on_fault : (r : Result T Fault) → (r ≡ Err fault.Output → B) → ((f : Fault) → r ≡ Err f → f ≢ fault.Output → A) → OnErr r (A ⊎ B)
-  on_fault (Ok x) h k = tt
-  on_fault (Err fault.Output) h k = inr (h refl)
-  on_fault (Err fault.BadModel) h k = inl (k fault.BadModel refl (λ e. cc))
-  on_fault (Err fault.File) h k = inl (k fault.File refl (λ e. cc))
-  on_fault (Err (fault.World f)) h k = inl (k (fault.World f) refl (λ e. cc))
-  on_fault (Err (fault.Log f)) h k = inl (k (fault.Log f) refl (λ e. cc))
-  on_fault (Err (fault.Recovery f)) h k = inl (k (fault.Recovery f) refl (λ e. cc))
-  on_fault (Err (fault.Session f)) h k = inl (k (fault.Session f) refl (λ e. cc))
-  on_fault (Err (fault.Wire f)) h k = inl (k (fault.Wire f) refl (λ e. cc))
-  on_fault (Err fault.Rounds) h k = inl (k fault.Rounds refl (λ e. cc))
-  on_fault (Err (fault.Migrate f)) h k = inl (k (fault.Migrate f) refl (λ e. cc))
-  on_fault (Err (fault.Grow f)) h k = inl (k (fault.Grow f) refl (λ e. cc))
-  on_fault (Err (fault.Record n f)) h k = inl (k (fault.Record n f) refl (λ e. cc))
-  on_fault (Err fault.BadTrace) h k = inl (k fault.BadTrace refl (λ e. cc))
-  on_fault (Err (fault.Mistake f)) h k = inl (k (fault.Mistake f) refl (λ e. cc))
-  on_fault (Err fault.NoMemory) h k = inl (k fault.NoMemory refl (λ e. cc))
 
 -- what is told of a run, of the model of a file
 module _ {M : Type 0} (meaning : M → Meaning) (says : Describes M) (source : List ℕ) (model : M) (end : ℕ) (file : IsModelFile says source model end) where
@@ -151,33 +126,6 @@ module _ {M : Type 0} (meaning : M → Meaning) (says : Describes M) (source : L
     pub anew_begun : (old new : Option (List ℕ)) → TellsMigrated (meaning model) header olds left (TakesBeginning old new) → Begins (IsWrittenAnew meaning says) old new
     anew_begun old new p = anew_taken p
 
--- what is written of a text of this kind
-module _ (P : List ℕ → Type 0) (text : List ℕ) (is : P text) {T E : Type 0} {old new : Option (List ℕ)} where
-  pub prints_written : (r : Result T E) → Writes old new r text → OnOk r (Prints P old new)
-  prints_written (Ok x) h = (text, is, h.all)
-  prints_written (Err e) h = tt
-
-  pub begins_written : (A : Type 0) → (r : Result T E) → Writes old new r text → OnErr r (A ⊎ Begins P old new)
-  begins_written A (Ok x) h = tt
-  begins_written A (Err e) h = inr (text, is, h.part)
-
--- what is written of a world to which an image is replayed
-module _ {M : Type 0} (meaning : M → Meaning) (says : Describes M) (source : List ℕ) (model : M) (end : ℕ) (file : IsModelFile says source model end) (image : List (List ℕ)) (shown : World → List ℕ) (w : World)
-    (replayed : IsReplayedTo (meaning model) end image w) (genuine : IsGenuine (meaning model) end image → StandsUpto (meaning model) end image w) (within : w.time ≤ end) where
-  pub committed_is : IsCommitted meaning says shown (shown w)
-  committed_is = record {
-    source = source;
-    model = model;
-    end = end;
-    image = image;
-    world = w;
-    file = file;
-    replayed = replayed;
-    genuine = genuine;
-    within = within;
-    is = refl;
-  }
-
 module _ {M : Type 0} (meaning : M → Meaning) (says : Describes M) {old new : Option (List ℕ)} where
   module _ (source : List ℕ) (model : M) (end : ℕ) (file : IsModelFile says source model end) where
     pub committed_printed : (image : List (List ℕ)) (shown : World → List ℕ) → PrintsCommitted (meaning model) end image shown old new → Prints (IsCommitted meaning says shown) old new
@@ -191,7 +139,8 @@ module _ {M : Type 0} (meaning : M → Meaning) (says : Describes M) {old new : 
         world = p.world;
         file = file;
         replayed = p.replayed;
-        genuine = p.genuine;
+        stands = λ genuine. (p.genuine genuine).stands;
+        upto = λ genuine. (p.genuine genuine).upto;
         within = p.within;
         is = refl;
       },
@@ -209,18 +158,13 @@ module _ {M : Type 0} (meaning : M → Meaning) (says : Describes M) {old new : 
         world = p.world;
         file = file;
         replayed = p.replayed;
-        genuine = p.genuine;
+        stands = λ genuine. (p.genuine genuine).stands;
+        upto = λ genuine. (p.genuine genuine).upto;
         within = p.within;
         is = refl;
       },
       p.part,
     )
-
-  pub whole_printed : (source : List ℕ) → PrintsRun meaning says source old new → Prints (IsWholeSimulation meaning says) old new
-  whole_printed source p = (run_text p.world, record { source = source; model = p.model; end = p.end; world = p.world; file = p.file; upto = p.upto; is = refl }, p.printed)
-
-  pub whole_begun : (source : List ℕ) → PrintsBeginning meaning says source old new → Begins (IsWholeSimulation meaning says) old new
-  whole_begun source p = (run_text p.world, record { source = source; model = p.model; end = p.end; world = p.world; file = p.file; upto = p.upto; is = refl }, p.part)
 
 -- a run over whatever ports
 module _ {M P D : Type 0} (meaning : M → Meaning) (says : Describes M) (state : P → PortState) (disk : D → DiskState) (source : List ℕ) (model : M) (end : ℕ) (file : IsModelFile says source model end) (plan : Plan) (begun left : D) where

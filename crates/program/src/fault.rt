@@ -1,10 +1,8 @@
 // Why a command failed.
 
 ghost use Rattle.std.specs.Prelude.{◌≡◌};
-ghost use Rattle.program.specs.Command.{of_command, of_file, of_growing, of_inspection, of_model};
-ghost use Rattle.program.specs.Command.{of_trace};
+ghost use Rattle.program.specs.Command.{of_command, of_file, of_growing, of_nodes, of_view};
 ghost use Rattle.program.specs.declared.fault.Fault.TheVariants.{NoMemory, Output};
-ghost use Rattle.program.specs.declared.fault.Fault.TheVariants.{Wire as WireCase};
 ghost use Rattle.program.specs.declared.fault.Fault.TheVariants.{World as WorldCase};
 
 use commands::CommandFault;
@@ -12,15 +10,15 @@ use commitlog::LogFault;
 use coordinator::SessionFault;
 use disk::{FileFault, GrowthFault};
 use growing::GrowingFault;
-use inspection::InspectionFault;
 use migration::MigrateFault;
 use model::WorldFault;
-use pictures::NotRead;
+use node_programs::NodesFault;
 use recovery::RecoveryFault;
 use std::alloc::{AllocError, AllocFailed};
 use std::io::Error as IoError;
-use texts::{Mistake, ModelFault};
+use texts::Mistake;
 use thiserror::Error;
+use views::ViewFault;
 use wire::{PortFault, WireFault};
 
 /// Why a command failed. Its text is its name, and after a blank that of the fault that it carries.
@@ -242,29 +240,38 @@ fn of_growth(fault: GrowthFault) -> &'static str {
     }
 }
 
-impl From<NotRead> for Fault {
-    ghost from_gives = { λ fault e. e ≡ of_trace fault };
+impl From<ViewFault> for Fault {
+    ghost from_gives = { λ fault e. e ≡ of_view fault };
 
-    fn from(fault: NotRead) -> Fault {
+    fn from(fault: ViewFault) -> Fault {
         match fault {
-            NotRead::BadTrace => Fault::BadTrace,
-            NotRead::NoMemory => Fault::NoMemory,
+            ViewFault::BadModel => Fault::BadModel,
+            ViewFault::File => Fault::File,
+            ViewFault::World(fault) => Fault::World(fault),
+            ViewFault::Log(fault) => Fault::Log(fault),
+            ViewFault::Recovery(fault) => Fault::Recovery(fault),
+            ViewFault::Record { number, fault } => Fault::Record { number, fault },
+            ViewFault::BadTrace => Fault::BadTrace,
+            ViewFault::Mistake(mistake) => Fault::Mistake(mistake),
+            ViewFault::NoMemory => Fault::NoMemory,
+            ViewFault::Output => Fault::Output,
         }
     }
 }
 
-impl From<ModelFault> for Fault {
-    ghost from_gives = { λ fault e. e ≡ of_model fault };
+impl From<NodesFault> for Fault {
+    ghost from_gives = { λ fault e. e ≡ of_nodes fault };
 
-    fn from(fault: ModelFault) -> Fault {
+    fn from(fault: NodesFault) -> Fault {
         match fault {
-            ModelFault::BadModel(_) => Fault::BadModel,
-            ModelFault::NoMemory => Fault::NoMemory,
+            NodesFault::File => Fault::File,
+            NodesFault::NoMemory => Fault::NoMemory,
+            NodesFault::Wire(fault) => Fault::Wire(fault),
         }
     }
 }
 
-/// A writer's error. That of a file which is read is told by `unreadable`.
+/// A writer's error. That of a file which is read is told by `views::unreadable`.
 impl From<IoError> for Fault {
     ghost from_gives = { λ _ e. e ≡ Output };
 
@@ -281,14 +288,6 @@ impl From<WorldFault> for Fault {
     }
 }
 
-impl From<WireFault> for Fault {
-    ghost from_gives = { λ fault e. e ≡ WireCase fault };
-
-    fn from(fault: WireFault) -> Fault {
-        Fault::Wire(fault)
-    }
-}
-
 impl From<CommandFault> for Fault {
     ghost from_gives = { λ fault e. e ≡ of_command fault };
 
@@ -301,18 +300,6 @@ impl From<CommandFault> for Fault {
             CommandFault::Rounds => Fault::Rounds,
             CommandFault::Migrate(fault) => Fault::Migrate(fault),
             CommandFault::Output => Fault::Output,
-        }
-    }
-}
-
-impl From<InspectionFault> for Fault {
-    ghost from_gives = { λ fault e. e ≡ of_inspection fault };
-
-    fn from(fault: InspectionFault) -> Fault {
-        match fault {
-            InspectionFault::Log(fault) => Fault::Log(fault),
-            InspectionFault::Recovery(fault) => Fault::Recovery(fault),
-            InspectionFault::Record { number, fault } => Fault::Record { number, fault },
         }
     }
 }

@@ -2,20 +2,17 @@
 //! of its command line.
 #![tactic(auto)]
 
+mod described;
 mod disks;
 mod fault;
-mod files;
-mod looking;
-mod nodes;
-mod progress;
 mod running;
 mod starting;
 mod status;
-mod tracing;
+mod watching;
 
+pub use described::simulated;
 pub use fault::Fault;
-pub use files::{check, seq, simulated};
-pub use progress::{Progress, TerminalProgress};
 pub use starting::start;
 pub use status::{About, answer, command, refuse_words, tell, words};
-pub use tracing::Traced;
+pub use terminal::{Progress, TerminalProgress, Traced};
+pub use views::{ViewFault, check, seq};

@@ -1,25 +1,34 @@
-// A run, over nodes in this program or behind sockets, with its trace or without.
+// A run, over nodes in this program or behind sockets, with its trace or without; and a node.
 
-ghost use Rattle.std.specs.Prelude.{◌≡◌, ◌≤◌, ◌⊎◌, OnErr, OnOk};
-ghost use Rattle.program.specs.Command.{are_rounds_cheap, most_of, plan_of};
-ghost use Rattle.program.specs.Command.{Begins, IsRanOver, Prints};
+ghost use Rattle.std.specs.Prelude.{◌≡◌, ◌≤◌, ◌^◌, ◌⊎◌, ℕ, List, OnErr, OnOk, map, replicate};
+ghost use Rattle.program.specs.Command.{are_rounds_cheap, most_of, plan_of, IsRanBehind};
+ghost use Rattle.program.specs.Command.{IsRanOver};
+ghost use Rattle.sockets.specs.Socket.{state_of};
+ghost use Rattle.sockets.specs.declared.port.Held.TheVariants.{Fresh};
+ghost use Rattle.texts.specs.ModelFile.{IsModelFile};
+ghost use Rattle.views.specs.Views.{Begins, Prints};
 
+use crate::described::simulated;
 use crate::disks::run_on;
 use crate::fault::Fault;
-use crate::files::unreadable;
-use crate::nodes::{Behind, run_behind};
-use crate::progress::Progress;
-use crate::tracing::Traced;
-use causes::are_one_file;
-use driver::{Batch as DriverBatch, Plan};
-use lines::BatchOption;
+use crate::watching::Watching;
+use cli::BatchOption;
+use commands::Simulated;
+use disk::FileDisk;
+use node_programs::{Behind, clear, meet};
+use runs::{Batch as DriverBatch, Plan};
+use sockets::{ReadAhead, SocketPort};
+use std::alloc::Global;
 use std::fs::{File, OpenOptions};
-use std::io::{BufWriter, Write};
+use std::io::{BufWriter, Error as IoError, Write};
 use std::net::Net;
+use std::os::unix::net::UnixStream;
 use std::process::Processes;
 use std::rt::Files;
 use std::time::Clock;
+use terminal::{Progress, Traced, are_one_file};
 use texts::Described;
+use views::unreadable;
 
 /// A run: of which model, on which disk, by which plan, over which nodes.
 #[derive(Clone, Copy)]
@@ -137,6 +146,83 @@ where
     }
 }
 
+/// Runs the model of a file on its disk, of at most `most` sectors, over node programs.
+///
+/// The faults come in this order: those of the model file and of the disk's file; `File` where a
+/// socket is not made, a program is not started, or one ends before it connects, or `NoMemory`;
+/// those of the run. Whatever the end is, the connections are closed then, each program that was
+/// started is waited for, and each socket that was made is removed. What fails in that is not told.
+///
+/// Where no program is started, the run waits without limit until each node has connected, in
+/// whichever order they come, and tells `progress` which ones it waits for.
+fn run_behind<M, R, P, O>(
+    rt: &R,
+    behind: Behind<'_>,
+    disk: &str,
+    most: u32,
+    plan: Plan,
+    progress: &mut P,
+    out: &mut O,
+) -> Result<(), Fault>
+where
+    M: Described,
+    R: Files<File = File> + Net + Processes + Clock + AllocGlobal,
+    P: Progress,
+    O: Write,
+    requires some { 1 ≤ plan.nodes }
+    requires few { plan.nodes ≤ 64 }
+    ensures ok { OnOk result (Prints (IsRanBehind M.says plan.nodes)
+        (O.contents out.old) (O.contents out.new)) }
+    ensures err { OnErr result ((out.new ≡ out.old) ⊎ Begins (IsRanBehind M.says plan.nodes)
+        (O.contents out.old) (O.contents out.new)) }
+{
+    let of: Simulated<M> = simulated(rt, behind.model)?;
+    let disk = FileDisk::open_up_to(rt, rt.alloc(), disk, None, most)?;
+    let mut met = Vec::with_capacity(rt.alloc(), plan.nodes as usize)?;
+    // the one way out from here on leads through the clearing up
+    let told = match meet(rt, behind, plan.nodes, &mut met, progress) {
+        Ok(ports) => run_met(rt.alloc(), &of, ports, disk, plan, progress, out),
+        Err(fault) => Err(Fault::from(fault)),
+    };
+    clear(rt, met);
+    told
+}
+
+/// Runs a model on its disk over node programs that are connected. At its end no connection is
+/// left.
+fn run_met<M, P, O>(
+    alloc: Global,
+    of: &Simulated<M>,
+    ports: Vec<SocketPort<ReadAhead<UnixStream>>>,
+    disk: FileDisk,
+    plan: Plan,
+    progress: &mut P,
+    out: &mut O,
+) -> Result<(), Fault>
+where
+    M: Described,
+    P: Progress,
+    O: Write,
+    requires nodes { 1 ≤ plan.nodes }
+    requires few { plan.nodes ≤ 64 }
+    requires ports { map (λ p. state_of p.held) ports.items ≡ replicate plan.nodes
+        (state_of Fresh) }
+    requires file { (text : List ℕ) × IsModelFile M.says text of.now.model of.now.end }
+    requires some { 1 ≤ of.now.end }
+    requires short { of.now.end ≤ 2 ^ 40 }
+    ensures ok { OnOk result (Prints (IsRanBehind M.says plan.nodes)
+        (O.contents out.old) (O.contents out.new)) }
+    ensures err { OnErr result ((out.new ≡ out.old) ⊎ Begins (IsRanBehind M.says plan.nodes)
+        (O.contents out.old) (O.contents out.new)) }
+{
+    progress.begin(of.end);
+    let mut watch = Watching { progress };
+    let ended = commands::run_over(alloc, of, ports, disk, plan, &mut watch, out);
+    ended.told?;
+    watch.progress.finished();
+    Ok(())
+}
+
 /// Makes a run, and writes its trace to a file, which is made or emptied first. The files of the
 /// model and of the disk are refused as `File`; so is a trace that can't be made, and, behind a
 /// run that came to its end, one of which a part was not written.
@@ -169,8 +255,8 @@ where
         .create(true)
         .truncate(true)
         .open(rt, trace);
-    let file = opened.map_err(unreadable)?;
-    let rows = BufWriter::new(rt.alloc(), file).map_err(unreadable)?;
+    let file = opened.map_err(unwritable)?;
+    let rows = BufWriter::new(rt.alloc(), file).map_err(unwritable)?;
     let mut traced = Traced::to(progress, rows);
     run_way::<M, R, _, O>(rt, way, &mut traced, out)?;
     if traced.is_whole() {
@@ -178,4 +264,23 @@ where
     } else {
         Err(Fault::File)
     }
+}
+
+/// Works as a node that runs the model of a file, behind this socket, until so many parcels are
+/// answered at most.
+///
+/// The faults come in this order: those of the model file; `File` where no connection is made; and
+/// `Wire`. A node's own refusal is told at the other end, and is no fault here.
+pub(crate) fn serve_on<M, R>(rt: &R, model: &str, socket: &str, parcels: u32) -> Result<(), Fault>
+where
+    M: Described,
+    R: Files<File = File> + Net + AllocGlobal,
+{
+    let of: Simulated<M> = simulated(rt, model)?;
+    Ok(node_programs::serve_on(rt, &of.model, socket, parcels)?)
+}
+
+/// Why a trace is not made: `File`, or `NoMemory` where memory ran out.
+fn unwritable(error: IoError) -> Fault {
+    Fault::from(unreadable(error))
 }

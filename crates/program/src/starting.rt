@@ -3,7 +3,6 @@
 ghost use Rattle.std.specs.Prelude.{◌≤◌};
 
 use crate::fault::Fault;
-use crate::progress::TerminalProgress;
 use crate::status::{About, answer, tell, words};
 use std::fs::File;
 use std::io::{self, BufWriter, IsTerminal, Print, Write};
@@ -12,6 +11,7 @@ use std::os::fd::AsRawFd;
 use std::process::Processes;
 use std::rt::{Env, Files};
 use std::time::Clock;
+use terminal::TerminalProgress;
 use texts::Described;
 
 /// Does what the words of the command line ask for, over models of kind `M`, and answers the exit

@@ -3,19 +3,15 @@
 ghost use Rattle.std.specs.IoError.{error_kind};
 ghost use Rattle.std.specs.Prelude.{◌≡◌, ◌≤◌, ◌≢◌, ◌⊎◌, ℕ, List, [], map, IsErr, OnErr, OnOk};
 ghost use Rattle.clap.specs.Values.{kind_of};
-ghost use Rattle.lines.specs.Line.{refusal_of, IsRanged};
-ghost use Rattle.program.specs.Command.{Begins, BeginsSaid, IsOutput, Prints, PrintsSaid};
+ghost use Rattle.cli.specs.Line.{refusal_of, IsRanged};
+ghost use Rattle.program.specs.Command.{BeginsSaid, IsOutput, PrintsSaid};
+ghost use Rattle.views.specs.Views.{Begins, Prints};
 
 use crate::disks::{extend_on, format, grow_on, migrate_on, show_of};
 use crate::fault::Fault;
-use crate::files::{check_of, seq_of};
-use crate::looking::{Part, Seen, course_of, draw_of, log_of, stats_of, status_of};
-use crate::nodes::serve_on;
-use crate::progress::Progress;
-use crate::running::{Way, plan_of, run_traced, run_way};
-use causes::cause_of;
+use crate::running::{Way, plan_of, run_traced, run_way, serve_on};
 use clap::error::{Error as LineError, ErrorKind as LineFault};
-use lines::{Line, Texts, most_sectors, program_help, read_line, seq_help};
+use cli::{Line, Texts, most_sectors, program_help, read_line, seq_help};
 use std::convert::AsStr;
 use std::env;
 use std::fs::File;
@@ -24,7 +20,9 @@ use std::net::Net;
 use std::process::Processes;
 use std::rt::{Env, Files};
 use std::time::Clock;
+use terminal::{Progress, cause_of};
 use texts::{Described, Mistakes};
+use views::{Part, Seen, check_of, course_of, draw_of, log_of, seq_of, stats_of, status_of};
 
 /// The version of this program and of those over other models, and the format of their disks.
 const VERSION: &str = "0.4.0 (disks of format 2)";
@@ -161,7 +159,7 @@ where
     } else {
         None
     };
-    progress.failed(fault, cause);
+    progress.failed(fault.advice(), cause);
 }
 
 /// Does what a line asks for. Node programs are started by this program's name. Where `check` tells
@@ -249,7 +247,7 @@ where
             large,
         } => migrate_on::<M, R, O>(rt, model, old, new, sectors, most_sectors(large), out),
         Line::Status { model, disk, large } => {
-            status_of::<M, R, O>(rt, model, disk, most_sectors(large), out)
+            Ok(status_of::<M, R, O>(rt, model, disk, most_sectors(large), out)?)
         }
         Line::Log {
             model,
@@ -260,7 +258,7 @@ where
             large,
         } => {
             let part = Part { from, to, process };
-            log_of::<M, R, O>(rt, model, disk, most_sectors(large), part, out)
+            Ok(log_of::<M, R, O>(rt, model, disk, most_sectors(large), part, out)?)
         }
         Line::Show { model, disk, large } => {
             show_of::<M, R, O>(rt, model, disk, most_sectors(large), out)
@@ -270,7 +268,7 @@ where
             disk,
             csv,
             large,
-        } => stats_of::<M, R, O>(rt, model, disk, most_sectors(large), csv, out),
+        } => Ok(stats_of::<M, R, O>(rt, model, disk, most_sectors(large), csv, out)?),
         Line::Draw {
             model,
             disk,
@@ -287,14 +285,14 @@ where
                 processes,
                 load,
             };
-            draw_of::<M, R, O>(rt, model, disk, most_sectors(large), seen, out)
+            Ok(draw_of::<M, R, O>(rt, model, disk, most_sectors(large), seen, out)?)
         }
         Line::Draw {
             trace: Some(trace),
             ..
-        } => course_of::<R, O>(rt, trace, out),
-        Line::Seq { model } => seq_of::<M, R, O>(rt, model, out),
-        Line::Check { model } => check_of::<M, R, O>(rt, model, out, found),
+        } => Ok(course_of::<R, O>(rt, trace, out)?),
+        Line::Seq { model } => Ok(seq_of::<M, R, O>(rt, model, out)?),
+        Line::Check { model } => Ok(check_of::<M, R, O>(rt, model, out, found)?),
         Line::Node {
             model,
             socket,

@@ -3,8 +3,6 @@
 
 mod ahead;
 mod port;
-#[cfg(test)]
-mod tests;
 
 pub use ahead::ReadAhead;
 pub use port::SocketPort;

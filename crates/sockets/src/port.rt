@@ -13,9 +13,8 @@ ghost use Rattle.wire.specs.Port.{IsTakeFault, IsTaken};
 ghost use Rattle.wire.specs.Port.Stage.{Ended as AtEnd, Fresh as AtFirst};
 ghost use Rattle.wire.specs.Port.Stage.{Idle as AtRest, Posted as AtWork};
 
-use frames::{Frame, encode_load, encode_parcel, read_frame};
+use frames::{Frame, encode_load, encode_parcel, read_frame, write_all};
 use node::{Load, Parcel, Reply};
-use serving::write_all;
 use std::alloc::Global;
 use std::io::{Read, Write};
 use std::marker::Model;

@@ -1,7 +1,7 @@
 // The wave of three inverters in a ring, worked out by hand.
 
 use circuit::{Circuit, wave};
-use simulation::sequential;
+use runs::sequential;
 use std::test::Fail;
 use texts::{Mistake, ModelFault, find_mistakes, read_model};
 

@@ -1,6 +1,6 @@
 // What is stored through a disk over a file, and what the file refuses.
 
-use crate::opening::free_path;
+use crate::shared::free_path;
 use disk::{DiskFault, FileDisk, SectorDisk};
 use std::fs;
 use std::test::Fail;

@@ -6,10 +6,10 @@ ghost use Rattle.std.specs.Prelude.{◌<◌};
 use commitlog::format;
 use coordinator::extend;
 use disk::{MemDisk, Plan as DiskPlan, Torn};
-use driver::{Batch, Plan, Watch, run_local};
 use inspection::{Inspection, InspectionFault, inspect, write_inspection};
 use models::TokenRing;
 use recovery::{RecoveryFault, header};
+use runs::{Batch, Plan, Watch, run_local};
 use std::alloc::Global;
 use std::test::Fail;
 

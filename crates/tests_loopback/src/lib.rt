@@ -5,4 +5,8 @@
 #[cfg(test)]
 mod beside;
 #[cfg(test)]
+mod ports;
+#[cfg(test)]
+mod sessions;
+#[cfg(test)]
 mod steps;

@@ -3,15 +3,17 @@
 #![tactic(auto)]
 
 #[cfg(test)]
+mod blamed;
+#[cfg(test)]
+mod flushing;
+#[cfg(test)]
 mod memory;
 #[cfg(test)]
-mod migrating;
+mod names;
 #[cfg(test)]
 mod running;
 #[cfg(test)]
 mod shown;
-#[cfg(test)]
-mod told;
 #[cfg(test)]
 mod words;
 #[cfg(test)]

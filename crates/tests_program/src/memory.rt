@@ -4,7 +4,7 @@
 use crate::running::{RING, RING_TEXT, Told, run, temporary};
 use model::WorldFault;
 use models::AnyModel;
-use program::{Fault, seq};
+use program::{ViewFault, seq};
 use std::alloc::Global;
 use std::fs::{self, File};
 use std::net::Net;
@@ -13,7 +13,7 @@ use std::rt::{Clock, Files};
 use std::test::Fail;
 
 /// Runs the ring.
-fn run_ring(alloc: Global, out: &mut Vec<u8>) -> Result<(), Fault> {
+fn run_ring(alloc: Global, out: &mut Vec<u8>) -> Result<(), ViewFault> {
     seq::<AnyModel, _>(alloc, RING, out)
 }
 
@@ -21,7 +21,7 @@ fn run_ring(alloc: Global, out: &mut Vec<u8>) -> Result<(), Fault> {
 fn a_run_that_finds_no_memory_prints_nothing(rt: HostRuntime) -> Result<(), Fail> {
     let mut out = Vec::with_capacity(rt.alloc(), 512)?;
     let mut result = run_ring(rt.alloc(), &mut out);
-    if result == Err(Fault::NoMemory) || result == Err(Fault::World(WorldFault::NoMemory)) {
+    if result == Err(ViewFault::NoMemory) || result == Err(ViewFault::World(WorldFault::NoMemory)) {
         assert_eq!(rt; out.len(), 0);
         result = run_ring(rt.alloc(), &mut out);
     }

@@ -4,7 +4,7 @@
 use models::AnyModel;
 use program::{About, TerminalProgress, command};
 use std::env;
-use std::fs::{self, File};
+use std::fs::File;
 use std::io::Write;
 use std::net::Net;
 use std::path::PathBuf;
@@ -64,27 +64,16 @@ where
     Ok(Told { status, out, err })
 }
 
-/// Runs a command on a file of these bytes, which is also the disk of a command that takes one.
-pub fn run_on<R>(rt: &R, command: &str, bytes: &[u8]) -> Result<Told, Fail>
-where
-    R: Files<File = File> + Net + Processes + Clock + Env + AllocGlobal,
-{
-    let path = temporary(rt, "timewarp-model.toml")?;
-    let path = path.as_path().to_str().ok_or("a path of text")?;
-    fs::write(rt, path, bytes)?;
-    let words = ["timewarp", command, path, path];
-    let count = if command == "seq" || command == "check" {
-        3
-    } else {
-        4
-    };
-    let told = run(rt, &words[..count])?;
-    fs::remove_file(rt, path)?;
-    Ok(told)
-}
-
+/// The path of a temporary file of this name.
 pub fn temporary<R: Env + AllocGlobal>(rt: &R, name: &str) -> Result<PathBuf, Fail> {
     let mut path = env::temp_dir(rt)?;
     path.push(name)?;
     Ok(path)
+}
+
+/// The same as text.
+pub fn path_of<R: Env + AllocGlobal>(rt: &R, name: &str) -> Result<String, Fail> {
+    let path = temporary(rt, name)?;
+    let path = path.as_path().to_str().ok_or("a path of text")?;
+    Ok(String::from_str(rt.alloc(), path)?)
 }

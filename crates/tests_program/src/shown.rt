@@ -3,9 +3,9 @@
 use commitlog::LogFault;
 use coordinator::SessionFault;
 use disk::{DiskFault, GrowthFault};
-use driver::{Turn, Watch};
 use migration::MigrateFault;
 use model::WorldFault;
+use pictures::Row;
 use program::{Fault, Progress, TerminalProgress};
 use recovery::RecoveryFault;
 use std::io::Result as IoResult;
@@ -54,7 +54,7 @@ fn a_run_is_shown_twice_a_second_and_then_cleared(rt: HostRuntime) -> Result<(),
     shown.begin(10);
     shown.committed(10, 5);
     shown.clear();
-    shown.failed(Fault::File, None);
+    shown.failed(Fault::File.advice(), None);
     Ok(())
 }
 
@@ -78,19 +78,39 @@ fn what_is_shown_of_a_run_is_gone_at_its_end(rt: HostRuntime) -> Result<(), Fail
 }
 
 /// A turn that handled so many messages, of which it told so many, after so many antimessages.
-fn turn(handled: u32, told: usize, antimessages: usize) -> Turn {
-    Turn {
+fn turn(handled: u64, told: u64, antimessages: u64) -> Row {
+    Row {
         round: 1,
         node: 0,
         budget: 16,
-        floor: 0,
+        gvt: 0,
         delivered: antimessages,
         antimessages,
         handled,
         sent: 0,
         told,
+        committed: 0,
+        events: 0,
     }
 }
+
+/// Tells of a run with five commits, from its beginning to its end.
+fn tell_run<P: Progress>(progress: &mut P) {
+    progress.begin(400);
+    progress.stored(2, 64);
+    for commit in 0..5 {
+        progress.turned(&turn(40, 30, 3));
+        progress.committed(100 * commit, 30 * commit as usize);
+        progress.stored(4 + 2 * commit as u32, 64);
+    }
+    progress.finished();
+}
+
+/// What is shown of it.
+const SUMMED_UP: &[u8] = b"\r75%, 90 events (150/s), 0 s to go, efficiency 75%, disk 14% full\x1b[K\
+    \r\x1b[K120 events, 5 commits in 0.8 seconds\n\
+    200 messages handled, efficiency 75%, 15 antimessages\n\
+    13 of 64 sectors of the disk are used\n";
 
 #[test]
 fn a_run_is_summed_up_at_its_end(rt: HostRuntime) -> Result<(), Fail> {
@@ -99,22 +119,8 @@ fn a_run_is_summed_up_at_its_end(rt: HostRuntime) -> Result<(), Fail> {
     };
     let mut terminal = Vec::with_capacity(rt.alloc(), 512)?;
     let mut shown = TerminalProgress::on(&clock, Some(&mut terminal));
-    shown.begin(400);
-    shown.stored(2, 64);
-    for commit in 0..5 {
-        shown.turned(&turn(40, 30, 3));
-        shown.committed(100 * commit, 30 * commit as usize);
-        shown.stored(4 + 2 * commit as u32, 64);
-    }
-    shown.finished();
-    assert_eq!(rt;
-        terminal.as_slice(),
-        b"\r75%, 90 events (150/s), 0 s to go, efficiency 75%, disk 14% full\x1b[K\
-          \r\x1b[K120 events, 5 commits in 0.8 seconds\n\
-          200 messages handled, efficiency 75%, 15 antimessages\n\
-          13 of 64 sectors of the disk are used\n"
-            .as_slice()
-    );
+    tell_run(&mut shown);
+    assert_eq!(rt; terminal.as_slice(), SUMMED_UP);
     Ok(())
 }
 
@@ -176,7 +182,7 @@ fn advice(rt: &HostRuntime, fault: Fault) -> Vec<u8> {
     };
     let mut terminal = Vec::new(rt.alloc());
     let mut shown = TerminalProgress::on(&clock, Some(&mut terminal));
-    shown.failed(fault, None);
+    shown.failed(fault.advice(), None);
     terminal
 }
 

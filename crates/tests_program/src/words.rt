@@ -1,5 +1,6 @@
 // The words of the command line.
 
+use crate::running::run;
 use program::{refuse_words, words};
 use std::alloc::Global;
 use std::env::FillError;
@@ -69,5 +70,15 @@ fn words_that_could_not_be_read_are_told(rt: HostRuntime) -> Result<(), Fail> {
     assert!(rt; is_told_as(rt.alloc(), mistake, 2, text)?);
     let memory = Error::from(ErrorKind::OutOfMemory);
     assert!(rt; is_told_as(rt.alloc(), memory, 1, "timewarp: NoMemory\n")?);
+    Ok(())
+}
+
+#[test]
+fn a_line_without_words_is_a_mistake(rt: HostRuntime) -> Result<(), Fail> {
+    let told = run(&rt, &[])?;
+    let usage = b"Usage: timewarp <COMMAND>".as_slice();
+    let mut windows = told.err.as_slice().windows(usage.len());
+    assert!(rt; windows.any(|window| window == usage));
+    assert_eq!(rt; (told.status, told.out.len()), (2, 0));
     Ok(())
 }

@@ -1,8 +1,8 @@
 // Writers that refuse.
 
-use crate::running::{RING, RING_TEXT, Told, run_to, temporary};
+use crate::running::{RING, RING_TEXT, Told, run, run_to, temporary};
 use models::AnyModel;
-use program::{seq, tell};
+use program::{Fault, seq, tell};
 use std::alloc::{AllocError, Global};
 use std::fs::{self, File};
 use std::io::{self, Error, ErrorKind, Write};
@@ -85,7 +85,7 @@ where
     match source {
         Source::Text(text) => match seq::<AnyModel, _>(rt.alloc(), text, out) {
             Ok(()) => 0,
-            Err(fault) => tell("timewarp", fault, err),
+            Err(fault) => tell("timewarp", Fault::from(fault), err),
         },
         Source::Path(path) => run_to(rt, &["timewarp", "seq", path], out, err),
     }
@@ -148,6 +148,32 @@ fn the_last_flush_is_made_and_told(rt: HostRuntime) -> Result<(), Fail> {
         assert_eq!(rt; out.taken.as_slice(), RING_TEXT.as_bytes());
         assert_eq!(rt; status, 1);
     }
+    fs::remove_file(&rt, path)?;
+    Ok(())
+}
+
+/// A trace of one turn.
+const TRACE: &str = "\
+round,node,budget,gvt,delivered,antimessages,handled,sent,told,committed,events
+1,0,16,0,1,0,2,2,2,0,0
+";
+
+#[test]
+fn the_last_flush_is_made_of_a_course(rt: HostRuntime) -> Result<(), Fail> {
+    let path = temporary(&rt, "timewarp-course.csv")?;
+    let path = path.as_path().to_str().ok_or("a path of text")?;
+    fs::write(&rt, path, TRACE)?;
+    let words = ["timewarp", "draw", "no-model", "--trace", path];
+    let drawn = run(&rt, &words)?;
+    assert_eq!(rt; (drawn.status, drawn.err.len()), (0, 0));
+    let mut out = NeverFlushed {
+        taken: Vec::new(rt.alloc()),
+    };
+    let mut err = Vec::new(rt.alloc());
+    let status = run_to(&rt, &words, &mut out, &mut err);
+    assert_eq!(rt; err.as_slice(), b"timewarp: Output\n".as_slice());
+    assert_eq!(rt; out.taken.as_slice(), drawn.out.as_slice());
+    assert_eq!(rt; status, 1);
     fs::remove_file(&rt, path)?;
     Ok(())
 }

@@ -1,5 +1,5 @@
-//! Tests of the loop of a node behind a stream, through public functions. They stand in a crate of
-//! their own, since a crate with tests is proved twice.
+//! Tests of the loop of a node behind a stream, and of ports to such nodes, through public functions.
+//! They stand in a crate of their own, since a crate with tests is proved twice.
 #![tactic(auto)]
 
 #[cfg(test)]
@@ -10,6 +10,8 @@ mod frames_of_ring;
 mod rounds;
 #[cfg(test)]
 mod rows;
+#[cfg(test)]
+mod socket_ports;
 #[cfg(test)]
 mod spelling;
 #[cfg(test)]

@@ -2,8 +2,8 @@
 
 ghost use Rattle.std.specs.Prelude.{◌≡◌, IfOk};
 
+use frames::serve;
 use models::TokenRing;
-use serving::serve;
 use std::alloc::Global;
 use std::io::{self, Error, ErrorKind, Read, Write};
 use wire::WireFault;

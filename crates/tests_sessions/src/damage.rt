@@ -3,8 +3,8 @@
 use crate::kept::{disk_of, left_by, plan, refusal, ring, with_byte};
 use commitlog::LogFault;
 use coordinator::{Session, SessionFault};
-use driver::local_ports;
 use recovery::RecoveryFault;
+use runs::local_ports;
 use std::alloc::Global;
 use std::test::Fail;
 

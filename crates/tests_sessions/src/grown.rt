@@ -6,10 +6,10 @@ use crate::kept::{Nobody, front_of, left_by, plan, ring};
 use commitlog::LogFault;
 use coordinator::SessionFault;
 use disk::{DiskFault, GrowthFault, MOST_SECTORS, MemDisk, Plan as DiskPlan, SectorDisk, Torn};
-use driver::{RunFault, run_local};
 use growing::{GrowingFault, Grown, NotGrown, grow};
 use models::TokenRing;
 use recovery::{Front, RecoveryFault};
+use runs::{RunFault, run_local};
 use std::alloc::Global;
 use std::test::Fail;
 

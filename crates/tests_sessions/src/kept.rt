@@ -5,10 +5,10 @@ ghost use Rattle.std.specs.Prelude.{◌≡◌, ◌<◌, ◌≤◌};
 use commitlog::{Log, format};
 use coordinator::{NotOpened, Session, SessionFault};
 use disk::{MemDisk, Plan as DiskPlan, Torn};
-use driver::{Batch, Plan, RunFault, Watch, local_ports, run_local};
 use model::Model;
 use models::{Phold, TokenRing};
 use recovery::{Front, RecoveryFault, header, recover};
+use runs::{Batch, Plan, RunFault, Watch, local_ports, run_local};
 use std::alloc::Global;
 use std::test::Fail;
 

@@ -5,12 +5,12 @@
 #[cfg(test)]
 mod damage;
 #[cfg(test)]
+mod driving;
+#[cfg(test)]
 mod extended;
 #[cfg(test)]
 mod grown;
 #[cfg(test)]
 mod kept;
-#[cfg(test)]
-mod runs;
 #[cfg(test)]
 mod sessions;

@@ -12,10 +12,10 @@ use commands::{CommandFault, log, show};
 use commitlog::{LogFault, format};
 use coordinator::{Extended, NotOpened, Session, SessionFault, Step, extend};
 use disk::{MemDisk, Plan as DiskPlan, Torn};
-use driver::{Batch, Plan, RunFault, Watch, local_ports, run};
 use model::{World, WorldFault, WorldParts};
 use models::AnyModel;
 use recovery::{RecoveryFault, header};
+use runs::{Batch, Plan, RunFault, Watch, local_ports, run_session};
 use std::alloc::{AllocError, AllocFailed, Global};
 use std::{env, fs, io};
 use texts::{ModelFault, read_model, write_log, write_world};
@@ -301,7 +301,7 @@ fn is_run(
 ) -> Result<bool, Failure>
     requires { 0 < way.nodes }
 {
-    match run(alloc, session, end, plan_of(way.nodes, way), told) {
+    match run_session(alloc, session, end, plan_of(way.nodes, way), told) {
         Ok(_ran) => Ok(true),
         Err(RunFault::Session(SessionFault::Disk)) => {
             if session.front().time != told.time {
@@ -340,7 +340,7 @@ fn resumed(
         return Err(Failure::Lost(Loss::Told));
     }
     let mut last = Told { time: 0 };
-    run(
+    run_session(
         alloc,
         &mut session,
         of.end,

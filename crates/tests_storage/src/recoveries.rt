@@ -22,11 +22,17 @@ fn ring() -> TokenRing {
 
 const END: u64 = 10;
 
+const FIRST: [u64; 8] = [1, 0, 0, 0, 0, 0, 0, 0];
+
+const SECOND: [u64; 8] = [3, 0, 1, 1, 0, 1, 0, 0];
+
+const THIRD: [u64; 8] = [5, 1, 0, 2, 0, 2, 0, 0];
+
 /// The events of the sequential simulation, and the message that is left.
 const EVENTS: [[u64; 8]; 6] = [
-    [1, 0, 0, 0, 0, 0, 0, 0],
-    [3, 0, 1, 1, 0, 1, 0, 0],
-    [5, 1, 0, 2, 0, 2, 0, 0],
+    FIRST,
+    SECOND,
+    THIRD,
     [7, 2, 0, 0, 0, 3, 0, 0],
     [9, 0, 2, 1, 0, 4, 0, 0],
     [11, 1, 1, 2, 0, 5, 0, 0],

@@ -12,17 +12,20 @@ fn a_header_has_the_bytes_of_its_format(rt: HostRuntime) -> Result<(), Fail> {
     Ok(())
 }
 
+/// This sector of a log with two records, the first of no event and the other of three.
+fn sector_of(alloc: Global, n: u32) -> Result<[u8; 512], Fail> {
+    let log = log_with(alloc, &[(1, &[]), (7, &EVENTS[..3])], None)?;
+    let mut sector = [9; 512];
+    log.into_disk().read(n, &mut sector)?;
+    Ok(sector)
+}
+
 #[test]
 fn records_of_events_have_the_bytes_of_their_format(rt: HostRuntime) -> Result<(), Fail> {
-    let alloc = rt.alloc();
-    let log = log_with(alloc, &[(1, &[]), (7, &EVENTS[..3])], None)?;
-    let mut disk = log.into_disk();
-    let mut sector = [0; 512];
-    disk.read(3, &mut sector)?;
+    let sector = sector_of(rt.alloc(), 3)?;
     let empty = [1, 0, 0, 0, 12, 0, 0, 0, 0, 0, 0, 0, 1, 0, 0, 0, 0];
-    assert!(rt; sector.starts_with(&empty));
-    assert!(rt; sector.iter().skip(17).all(|byte| *byte == 0));
-    disk.read(5, &mut sector)?;
+    assert!(rt; sector.starts_with(&empty) && are_zeros(sector.get(17..)));
+    let sector = sector_of(rt.alloc(), 5)?;
     let three = [1, 0, 0, 0, 0xb4, 0, 0, 0, 0, 0, 0, 0, 7, 0, 0, 0, 3];
     assert!(rt; sector.starts_with(&three));
     assert_eq!(rt; events_length(3), 0xb4);
@@ -41,20 +44,23 @@ fn are_zeros(bytes: Option<&[u8]>) -> bool {
     bytes.is_some_and(|bytes| bytes.iter().all(|byte| *byte == 0))
 }
 
-// The last byte of a record of events, what follows it in its sector, and the gates behind it and
-// behind the next record.
+/// Whether a log has a record of events whose last byte stands at this place, with zeros behind it
+/// up to the next gate, which is open, as that behind the next record is not.
+fn ends_at(alloc: Global, events: &[[u64; 8]], last: usize, gate: usize) -> Result<bool, Fail> {
+    let image = sectors_of(alloc, events)?;
+    let gate = gate.min(64) * 512;
+    Ok(
+        image.get(last) == Some(&8)
+            && are_zeros(image.get(last.saturating_add(1)..gate))
+            && image.get(gate) == Some(&1)
+            && image.get(gate + 2 * 512) == Some(&0),
+    )
+}
+
 #[test]
 fn nine_events_take_two_sectors(rt: HostRuntime) -> Result<(), Fail> {
     assert_eq!(rt; (events_length(8), events_length(9)), (460, 516));
-    let image = sectors_of(rt.alloc(), &NINE[..8])?;
-    let bytes = image.as_slice();
-    assert!(rt; bytes.get(3 * 512 + 464) == Some(&8));
-    assert!(rt; are_zeros(bytes.get(3 * 512 + 465..4 * 512)));
-    assert!(rt; bytes.get(4 * 512) == Some(&1) && bytes.get(6 * 512) == Some(&0));
-    let image = sectors_of(rt.alloc(), &NINE)?;
-    let bytes = image.as_slice();
-    assert!(rt; bytes.get(3 * 512 + 520) == Some(&8));
-    assert!(rt; are_zeros(bytes.get(3 * 512 + 521..5 * 512)));
-    assert!(rt; bytes.get(5 * 512) == Some(&1) && bytes.get(7 * 512) == Some(&0));
+    assert!(rt; ends_at(rt.alloc(), &NINE[..8], 3 * 512 + 464, 4)?);
+    assert!(rt; ends_at(rt.alloc(), &NINE, 3 * 512 + 520, 5)?);
     Ok(())
 }

@@ -37,26 +37,42 @@ fn refused_twice(
     }
 }
 
-#[test]
-fn a_device_that_fails_spends_the_log(rt: HostRuntime) -> Result<(), Fail> {
-    let alloc = rt.alloc();
-    let image = image_of_all(alloc)?;
+/// What a failure of one operation leads to.
+#[derive(Clone, Copy, Debug, PartialEq, Eq)]
+enum Met {
+    /// The log is not opened.
+    Unopened,
+    /// The recovery is refused, and then the log is spent.
+    Spent,
+    /// The recovery does not come to that operation.
+    Nothing,
+    /// Something else, which should not come.
+    Other,
+}
+
+fn met_at(alloc: Global, image: &[u8], fail: u64) -> Met {
     let device = RecoveryFault::Log(LogFault::Disk(DiskFault::Device));
     let spent = RecoveryFault::Log(LogFault::Spent);
-    let mut spending = Vec::new(alloc);
+    match refused_twice(alloc, image, fail) {
+        Err(fault) if fault == device => Met::Unopened,
+        Ok(Some(faults)) if faults == [device, spent] => Met::Spent,
+        Ok(None) => Met::Nothing,
+        _ => Met::Other,
+    }
+}
+
+#[test]
+fn a_device_that_fails_spends_the_log(rt: HostRuntime) -> Result<(), Fail> {
+    let image = image_of_all(rt.alloc())?;
+    let mut spending: u32 = 0;
     let mut recovers = false;
     for fail in 0..40 {
-        match refused_twice(alloc, image.as_slice(), fail) {
-            Err(fault) => assert_eq!(rt; fault, device, "operation {fail}"),
-            Ok(Some(faults)) => {
-                assert_eq!(rt; faults, [device, spent], "operation {fail}");
-                spending.push(fail)?;
-            }
-            Ok(None) => recovers = true,
-        }
+        let met = met_at(rt.alloc(), &image, fail);
+        assert!(rt; met != Met::Other, "operation {fail}");
+        spending = spending.saturating_add(u32::from(met == Met::Spent));
+        recovers = recovers || met == Met::Nothing;
     }
     // Each of the three records is read in one operation or more, and nothing behind the last one.
-    assert!(rt; spending.len() >= 3);
-    assert!(rt; recovers);
+    assert!(rt; spending >= 3 && recovers);
     Ok(())
 }

@@ -3,10 +3,23 @@ use recovery::{END as END_KIND, encode_end, end_of};
 
 const LATER: u64 = 20;
 
-/// A log with all events before the end, and behind them this later end.
-fn extended(alloc: Global, end: u64) -> Result<Log<MemDisk>, Fail> {
+const LATER_BODY: [u8; 8] = [0, 0, 0, 0, 0, 0, 0, 20];
+
+/// A log with all events before the end, and behind them records of ends with these bodies.
+fn with_bodies(alloc: Global, bodies: &[&[u8]]) -> Result<Log<MemDisk>, Fail> {
     let mut log = log_of_all(alloc)?;
-    log.append(END_KIND, encode_end(alloc, end)?.as_slice())?;
+    for body in bodies {
+        log.append(END_KIND, body)?;
+    }
+    Ok(log)
+}
+
+/// A log with all events before the end, and behind them these ends.
+fn extended(alloc: Global, ends: &[u64]) -> Result<Log<MemDisk>, Fail> {
+    let mut log = log_of_all(alloc)?;
+    for end in ends {
+        log.append(END_KIND, encode_end(alloc, *end)?.as_slice())?;
+    }
     Ok(log)
 }
 
@@ -14,7 +27,7 @@ fn extended(alloc: Global, end: u64) -> Result<Log<MemDisk>, Fail> {
 fn fault_under_its_end(
     alloc: Global,
     mut log: Log<MemDisk>,
-) -> Result<Option<RecoveryFault>, Fail> {
+) -> Result<Option<RecoveryFault>, RecoveryFault> {
     let end = end_of(alloc, &ring(), &mut log)?;
     Ok(recover(alloc, &ring(), &mut log, end).err())
 }
@@ -22,100 +35,115 @@ fn fault_under_its_end(
 #[test]
 fn an_end_has_eight_bytes(rt: HostRuntime) -> Result<(), Fail> {
     let body = encode_end(rt.alloc(), LATER)?;
-    assert_eq!(rt; body.as_slice(), [0, 0, 0, 0, 0, 0, 0, 20].as_slice());
+    assert_eq!(rt; body.as_slice(), LATER_BODY.as_slice());
     Ok(())
 }
 
+fn end_behind(alloc: Global, bodies: &[&[u8]]) -> Result<u64, Fail> {
+    let mut log = with_bodies(alloc, bodies)?;
+    Ok(end_of(alloc, &ring(), &mut log)?)
+}
+
+// A body of another length tells none, and a lower end is told all the same.
+const BODIES: [(&[&[u8]], u64); 4] = [
+    (&[], END),
+    (&[&LATER_BODY], LATER),
+    (&[&LATER_BODY, &[0; 7]], LATER),
+    (&[&LATER_BODY, &[0; 7], &[0, 0, 0, 0, 0, 0, 0, 3]], 3),
+];
+
 #[test]
 fn the_last_record_of_an_end_tells_the_one_in_force(rt: HostRuntime) -> Result<(), Fail> {
-    let alloc = rt.alloc();
-    let mut log = log_of_all(alloc)?;
-    assert_eq!(rt; end_of(alloc, &ring(), &mut log)?, END);
-    let mut log = extended(alloc, LATER)?;
-    assert_eq!(rt; end_of(alloc, &ring(), &mut log)?, LATER);
-
-    // A body of another length tells none, and a lower end is told all the same.
-    log.append(END_KIND, &[0; 7])?;
-    assert_eq!(rt; end_of(alloc, &ring(), &mut log)?, LATER);
-    log.append(END_KIND, encode_end(alloc, 3)?.as_slice())?;
-    assert_eq!(rt; end_of(alloc, &ring(), &mut log)?, 3);
+    for (bodies, want) in BODIES {
+        assert_eq!(rt; end_behind(rt.alloc(), bodies)?, want);
+    }
     Ok(())
 }
 
 #[test]
 fn the_end_of_another_model_is_not_told(rt: HostRuntime) -> Result<(), Fail> {
-    let alloc = rt.alloc();
-    let mut log = extended(alloc, LATER)?;
-    let other = TokenRing::new(3, 2, 2);
-    assert_eq!(rt;
-        end_of(alloc, &other, &mut log),
-        Err(RecoveryFault::OtherModel)
-    );
+    let mut log = extended(rt.alloc(), &[LATER])?;
+    let told = end_of(rt.alloc(), &TokenRing::new(3, 2, 2), &mut log);
+    assert_eq!(rt; told, Err(RecoveryFault::OtherModel));
     Ok(())
+}
+
+/// The front of a log under a later end, and why there is none under the earlier one.
+fn recovered_under_both(alloc: Global) -> Result<(Front, Option<RecoveryFault>), Fail> {
+    let mut log = extended(alloc, &[LATER])?;
+    let front = recover(alloc, &ring(), &mut log, LATER)?;
+    Ok((front, recover(alloc, &ring(), &mut log, END).err()))
 }
 
 #[test]
 fn a_later_end_leaves_the_world(rt: HostRuntime) -> Result<(), Fail> {
-    let alloc = rt.alloc();
-    let mut log = extended(alloc, LATER)?;
-    let front = recover(alloc, &ring(), &mut log, LATER)?;
-    assert!(rt; front.is_same(&front_at_the_end(alloc)?));
-    assert_eq!(rt;
-        recover(alloc, &ring(), &mut log, END).err(),
-        Some(RecoveryFault::OtherModel)
-    );
+    let (front, fault) = recovered_under_both(rt.alloc())?;
+    assert!(rt; front.is_same(&front_at_the_end(rt.alloc())?));
+    assert_eq!(rt; fault, Some(RecoveryFault::OtherModel));
     Ok(())
+}
+
+/// The fault of events up to time 12 without a later end.
+fn fault_of_late_events(alloc: Global) -> Result<Option<RecoveryFault>, Fail> {
+    let more = body(alloc, 12, &EVENTS[5..])?;
+    let all: [(u64, &[[u64; 8]]); 3] = [(1, &[]), (7, &EVENTS[..3]), (END, &EVENTS[3..5])];
+    fault_of(alloc, &all, Some((1, more.as_slice())))
+}
+
+/// The front after events up to time 12 behind a later end.
+fn front_of_late_events(alloc: Global) -> Result<Front, Fail> {
+    let mut log = extended(alloc, &[LATER])?;
+    log.append(1, body(alloc, 12, &EVENTS[5..])?.as_slice())?;
+    Ok(recover(alloc, &ring(), &mut log, LATER)?)
+}
+
+/// The time of a message that is alone.
+fn only_time(messages: &[Message]) -> Option<u64> {
+    match messages {
+        [message] => Some(message.time()),
+        _ => None,
+    }
 }
 
 #[test]
 fn events_go_on_under_a_later_end(rt: HostRuntime) -> Result<(), Fail> {
-    let alloc = rt.alloc();
-    let more = body(alloc, 12, &EVENTS[5..])?;
-    let late = Some((1, more.as_slice()));
-    let all: [(u64, &[[u64; 8]]); 3] = [(1, &[]), (7, &EVENTS[..3]), (END, &EVENTS[3..5])];
-    assert_eq!(rt; fault_of(alloc, &all, late)?, Some(RecoveryFault::GoesBack));
-    let mut log = extended(alloc, LATER)?;
-    log.append(1, more.as_slice())?;
-    let front = recover(alloc, &ring(), &mut log, LATER)?;
-    assert_eq!(rt; front.g, 12);
-    assert_eq!(rt; front.log.as_slice().len(), 6);
+    let fault = fault_of_late_events(rt.alloc())?;
+    assert_eq!(rt; fault, Some(RecoveryFault::GoesBack));
+    let front = front_of_late_events(rt.alloc())?;
+    assert_eq!(rt; (front.g, front.log.as_slice().len()), (12, 6));
     assert_eq!(rt; front.numbers.as_slice(), [3, 2, 2].as_slice());
-    let [pending] = front.pending.as_slice() else {
-        return Err(Fail::from(AllocError));
-    };
-    assert_eq!(rt; pending.time(), 13);
+    assert_eq!(rt; only_time(front.pending.as_slice()), Some(13));
     Ok(())
 }
 
+fn fault_behind(alloc: Global, ends: &[u64]) -> Result<Option<RecoveryFault>, Fail> {
+    Ok(fault_under_its_end(alloc, extended(alloc, ends)?)?)
+}
+
+const ENDS: [(&[u64], Option<RecoveryFault>); 7] = [
+    (&[0], Some(RecoveryFault::BadEnd)),
+    (&[9], Some(RecoveryFault::BadEnd)),
+    (&[END], Some(RecoveryFault::BadEnd)),
+    (&[(1 << 40) + 1], Some(RecoveryFault::BadEnd)),
+    (&[END + 1], None),
+    (&[1 << 40], None),
+    (&[LATER, LATER], Some(RecoveryFault::BadEnd)),
+];
+
 #[test]
 fn ends_rise_and_are_at_most_the_highest(rt: HostRuntime) -> Result<(), Fail> {
-    let alloc = rt.alloc();
-    for end in [0, 9, END, (1 << 40) + 1] {
-        let fault = fault_under_its_end(alloc, extended(alloc, end)?)?;
-        assert_eq!(rt; fault, Some(RecoveryFault::BadEnd));
+    for (ends, fault) in ENDS {
+        assert_eq!(rt; fault_behind(rt.alloc(), ends)?, fault, "{ends:?}");
     }
-    for end in [END + 1, 1 << 40] {
-        assert_eq!(rt; fault_under_its_end(alloc, extended(alloc, end)?)?, None);
-    }
-    let mut log = extended(alloc, LATER)?;
-    log.append(END_KIND, encode_end(alloc, LATER)?.as_slice())?;
-    assert_eq!(rt;
-        fault_under_its_end(alloc, log)?,
-        Some(RecoveryFault::BadEnd)
-    );
     Ok(())
 }
 
 #[test]
 fn an_end_of_another_length_is_no_record(rt: HostRuntime) -> Result<(), Fail> {
-    let alloc = rt.alloc();
     for size in [0, 7, 9] {
-        let mut log = log_of_all(alloc)?;
-        log.append(END_KIND, [0; 9].split_at(size).0)?;
-        assert_eq!(rt;
-            fault_under_its_end(alloc, log)?,
-            Some(RecoveryFault::BadRecord)
-        );
+        let log = with_bodies(rt.alloc(), &[[0; 9].split_at(size).0])?;
+        let fault = fault_under_its_end(rt.alloc(), log)?;
+        assert_eq!(rt; fault, Some(RecoveryFault::BadRecord));
     }
     Ok(())
 }

@@ -1,24 +1,24 @@
 use super::*;
 
+/// Records of events, behind which one of no kind stands, and the fault.
+const AT_FAULT: [(&[(u64, &[[u64; 8]])], RecoveryFault); 3] = [
+    (
+        &[(7, &[FIRST, SECOND, THIRD]), (6, &[]), (2, &[])],
+        RecoveryFault::GoesBack,
+    ),
+    (&[(2, &[]), (1, &[])], RecoveryFault::NotTheLeast),
+    (
+        &[(1, &[]), (7, &[FIRST, SECOND, THIRD])],
+        RecoveryFault::BadRecord,
+    ),
+];
+
 #[test]
 fn the_first_record_at_fault_decides(rt: HostRuntime) -> Result<(), Fail> {
-    let alloc = rt.alloc();
-    let behind = Some((9, [].as_slice()));
-    let back: [(u64, &[[u64; 8]]); 3] = [(7, &EVENTS[..3]), (6, &[]), (2, &[])];
-    assert_eq!(rt;
-        fault_of(alloc, &back, behind)?,
-        Some(RecoveryFault::GoesBack)
-    );
-    let least: [(u64, &[[u64; 8]]); 2] = [(2, &[]), (1, &[])];
-    assert_eq!(rt;
-        fault_of(alloc, &least, behind)?,
-        Some(RecoveryFault::NotTheLeast)
-    );
-    let good: [(u64, &[[u64; 8]]); 2] = [(1, &[]), (7, &EVENTS[..3])];
-    assert_eq!(rt;
-        fault_of(alloc, &good, behind)?,
-        Some(RecoveryFault::BadRecord)
-    );
+    for (records, fault) in AT_FAULT {
+        let behind = Some((9, [].as_slice()));
+        assert_eq!(rt; fault_of(rt.alloc(), records, behind)?, Some(fault));
+    }
     Ok(())
 }
 

@@ -9,17 +9,21 @@ fn stop_at(alloc: Global, kind: u8) -> Result<Option<Stop>, Fail> {
     Ok(replay_log(alloc, &ring(), &mut log, END).err())
 }
 
+fn replayed(alloc: Global) -> Result<Front, Fail> {
+    let mut log = log_of_all(alloc)?;
+    if log.is_spent() {
+        return Err(Fail::new("the log is spent"));
+    }
+    match replay_log(alloc, &ring(), &mut log, END) {
+        Ok((world, time)) => Ok(front_of(alloc, world, time)?),
+        Err(stop) => Err(Fail::from(stop.fault)),
+    }
+}
+
 #[test]
 fn a_replay_comes_to_the_last_record(rt: HostRuntime) -> Result<(), Fail> {
-    let alloc = rt.alloc();
-    let mut log = log_of_all(alloc)?;
-    assert!(rt; !log.is_spent());
-    let (world, time) = match replay_log(alloc, &ring(), &mut log, END) {
-        Ok(done) => done,
-        Err(stop) => return Err(Fail::from(stop.fault)),
-    };
-    let front = front_of(alloc, world, time)?;
-    assert!(rt; front.is_same(&front_at_the_end(alloc)?));
+    let front = replayed(rt.alloc())?;
+    assert!(rt; front.is_same(&front_at_the_end(rt.alloc())?));
     Ok(())
 }
 

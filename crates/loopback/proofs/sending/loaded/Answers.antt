@@ -1,8 +1,8 @@
 use Rattle.std.proofs.Common.{[], ℕ, List, ◌∙◌, subst, sym}
 use Rattle.frames.specs.Laws.{IsSpelled}
 use Rattle.frames.specs.declared.Frame.TheVariants as frame
-use Rattle.serving.proofs.Reacting.{begins_as}
-use Rattle.serving.specs.declared.reaction.Begun.TheVariants.{Loaded, Refused}
+use Rattle.frames.proofs.Reacting.{begins_as}
+use Rattle.frames.specs.declared.reaction.Begun.TheVariants.{Loaded, Refused}
 use Rattle.loopback.proofs.Passing.{load_fault, load_reply, load_unmade, node_made}
 use Rattle.loopback.proofs.Reading.{spelled_as}
 use Rattle.loopback.proofs.sending.loaded.Goals as goal

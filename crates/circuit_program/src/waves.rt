@@ -1,0 +1,123 @@
+// The command `wave`.
+
+ghost use Rattle.std.specs.Prelude.{◌≡◌, ◌≤◌, ◌⊎◌, ◌^◌, IfOk, IsOkUnless, OnErr, OnOk};
+ghost use Rattle.std.specs.Prelude.{string_bytes};
+ghost use Rattle.circuit_program.specs.Waves.{meaning_of, IsWave, IsWaveOf};
+ghost use Rattle.eventkey.specs.Writing.{Writes};
+ghost use Rattle.model.specs.World.{IsUpto};
+ghost use Rattle.program.specs.declared.fault.Fault.TheVariants.{Output};
+ghost use Rattle.views.specs.Views.{Begins, Prints};
+
+use circuit::Circuit;
+use commands::{Simulated, committed};
+use disk::FileDisk;
+use model::World;
+use program::{Fault, simulated, tell};
+use std::alloc::Global;
+use std::fs::File;
+use std::io::{self, BufWriter, Print, Write};
+use std::rt::Files;
+use texts::write_text;
+
+/// Does what `wave MODEL [DISK]` asks for, of which these are the words behind `wave`, and answers
+/// the exit status, as the other commands do.
+pub(crate) fn wave<R, E>(rt: &R, words: &[String], err: &mut E) -> u8
+where
+    R: Files<File = File> + Print + AllocGlobal,
+    E: Write,
+    ensures { result ≤ 2 }
+{
+    let (model, disk) = match words.len() {
+        1 => (words[0].as_str(), None),
+        2 => (words[0].as_str(), Some(words[1].as_str())),
+        _ => {
+            let _ = err.write_all(USAGE.as_bytes());
+            return 2;
+        }
+    };
+    let Ok(mut out) = BufWriter::new(rt.alloc(), io::writer(rt)) else {
+        return tell("circuit_program", Fault::NoMemory, err);
+    };
+    let status = match print_wave(rt, model, disk, &mut out) {
+        Ok(()) => 0,
+        Err(fault) => tell("circuit_program", fault, err),
+    };
+    // what is left was refused, and is not tried again
+    let (_writer, _left) = out.into_parts();
+    status
+}
+
+const USAGE: &str = "\
+Prints the wave of a circuit, as a value change dump (VCD): of its run by the plain runner to
+its end, or, with a disk, of what is committed there.
+
+Usage: circuits wave MODEL [DISK]
+";
+
+/// Prints the wave of the circuit of a model file: of what is committed on a disk, or of its whole
+/// simulation.
+///
+/// Refused are, in this order, the model file (`File`, `BadModel`), the disk (`File`, `Log`,
+/// `Recovery`) or the plain runner (`World`), and then `Output` where the writer refuses.
+/// `NoMemory` comes where memory runs out. Before `Output` nothing is written.
+fn print_wave<R, O>(rt: &R, model: &str, disk: Option<&str>, out: &mut O) -> Result<(), Fault>
+where
+    R: Files<File = File> + AllocGlobal,
+    O: Write,
+    ensures ok { OnOk result (Prints IsWave (O.contents out.old) (O.contents out.new)) }
+    ensures err { OnErr result ((out.new ≡ out.old)
+        ⊎ Begins IsWave (O.contents out.old) (O.contents out.new)) }
+{
+    let of: Simulated<Circuit> = simulated(rt, model)?;
+    let text = match disk {
+        Some(disk) => committed_wave(rt, &of, disk)?,
+        None => whole_wave(rt, &of)?,
+    };
+    print(text.as_str(), out)
+}
+
+/// The wave of what is committed on a disk.
+fn committed_wave<R>(rt: &R, of: &Simulated<Circuit>, disk: &str) -> Result<String, Fault>
+where
+    R: Files<File = File> + AllocGlobal,
+    requires some { 1 ≤ of.now.end }
+    requires short { of.now.end ≤ 2 ^ 40 }
+    ensures { IfOk result (λ text. IsWaveOf of.now.model of.now.end (string_bytes text)) }
+{
+    let disk = FileDisk::open_to_read(rt, rt.alloc(), disk)?;
+    let front = committed(rt.alloc(), of, disk)?;
+    Ok(circuit::wave(rt.alloc(), &of.model, front.g, front.log.as_slice())?)
+}
+
+/// The wave of a circuit's simulation to its end.
+fn whole_wave<R>(rt: &R, of: &Simulated<Circuit>) -> Result<String, Fault>
+where
+    R: AllocGlobal,
+    requires some { 1 ≤ of.now.end }
+    requires short { of.now.end ≤ 2 ^ 40 }
+    ensures { IfOk result (λ text. IsWaveOf of.now.model of.now.end (string_bytes text)) }
+{
+    let parts = whole_world(rt.alloc(), of)?.into_parts();
+    Ok(circuit::wave(rt.alloc(), &of.model, parts.time, parts.log.as_slice())?)
+}
+
+/// The world at the end of a circuit's simulation, by the plain runner.
+fn whole_world(alloc: Global, of: &Simulated<Circuit>) -> Result<World, Fault>
+    requires some { 1 ≤ of.now.end }
+    requires short { of.now.end ≤ 2 ^ 40 }
+    ensures { IfOk result (λ w. IsUpto (meaning_of of.now.model) of.now.end of.now.end w.world) }
+{
+    let mut world = World::open(alloc, &of.model, of.end)?;
+    world.run_to(&of.model, of.end)?;
+    Ok(world)
+}
+
+/// Writes a text, and flushes the writer.
+fn print<O: Write>(text: &str, out: &mut O) -> Result<(), Fault>
+    ensures written { Writes (O.contents out.old) (O.contents out.new) result text.now }
+    ensures fault { IsOkUnless result Output }
+{
+    write_text(text, out)?;
+    out.flush()?;
+    Ok(())
+}

@@ -1,0 +1,45 @@
+-- Values that clap takes as any text.
+use Rattle.std.specs.Prelude.{◌≡◌, ◌==◌, ℕ, true, false, [], ◌∷◌, Some, None, Ok, Err}
+use Rattle.std.specs.Str.Parse.{ParsesUnsigned}
+use Rattle.std.proofs.Common.{refl, ap, inl, inr, arith}
+use Rattle.std.proofs.lemmas.Bool.{cases_Bool, eqb-true}
+use Rattle.clap.proofs.OnLiterals.{clap_on_literals}
+use Rattle.clap.proofs.ValueTestLemmas.{Accepts-accepts, accepts-Accepts}
+use Rattle.clap.specs.Values.{refused_kind}
+use Rattle.clap.specs.ValueTests.{accepts}
+use Rattle.clap.specs.Words.{Text, fault_of, is_simple_and_free}
+use Rattle.clap.specs.declared.builder.value_parser.ValueParser.{ValueParser}
+use Rattle.clap.specs.declared.builder.value_parser.ValueParser.TheVariants.{Unsigned}
+use Rattle.cli.specs.Line.{written_number, range_between, refusing}
+
+-- the option alone is of the plain kind, and refuses the text
+pub refusing_is_free : (option : Text) (parser : ValueParser) (text : Text) → is_simple_and_free (refusing option parser text) ≡ true
+unfolding clap_on_literals
+refusing_is_free option parser text = refl
+
+pub refusing_refuses : (option : Text) (parser : ValueParser) (text : Text) → accepts false parser text ≡ false → fault_of (refusing option parser text) [] ≡ refused_kind parser ∷ []
+unfolding clap_on_literals
+refusing_refuses option parser text e = rw e refl
+
+-- a number that is read of a text is the one that is written there, and nothing is read of others
+pub number_written : (E : Type 0) (text : Text) (n : ℕ) → ParsesUnsigned {E = E} 32 10 text (Ok n) → Some n ≡ written_number text
+number_written E text n p =
+    let small = p.0.1 in
+    let yes = Accepts-accepts true (Unsigned 0 4294967295) text (p.0.0, omega (arith, small), omega (arith), omega (arith, small)) in
+    rw yes (ap Some p.1)
+
+pub none_written : (E : Type 0) (text : Text) (e : E) → ParsesUnsigned {E = E} 32 10 text (Err e) → None ≡ written_number text
+none_written E text e p = elim (cases_Bool (accepts true (Unsigned 0 4294967295) text)) [
+  | inl f ↦
+      let acc = accepts-Accepts true (Unsigned 0 4294967295) text f in
+      absurd (p (acc.0, omega (arith, acc.3)))
+  | inr f ↦ rw f refl
+]
+
+-- what does not go on with a second point is no range
+pub no_range : (first rest : Text) → ((last : Text) → rest ≡ 46 ∷ last → ⊥) → None ≡ range_between first rest
+no_range first [] h = refl
+no_range first (next ∷ last) h = elim (cases_Bool (next == 46)) [
+  | inl e ↦ absurd (h last (ap (λ (n : ℕ). n ∷ last) (eqb-true next 46 e)))
+  | inr e ↦ rw e refl
+]

@@ -1,0 +1,699 @@
+// The commands, their arguments and their help, as `clap` takes them.
+
+ghost use Rattle.std.specs.Prelude.{◌≡◌, ◌≤◌, false, true, IfOk};
+ghost use Rattle.clap.specs.Words.{app_of, rule_of};
+ghost use Rattle.clap.specs.declared.builder.command.Command.TheViews.{out-Command as fields_of};
+ghost use Rattle.clap.specs.declared.builder.value_parser.ValueParser.TheVariants.{Names};
+ghost use Rattle.cli.specs.Line.{batch_option, choice_option, draw_command, flag, log_command};
+ghost use Rattle.cli.specs.Line.{grow_command, large_option, migrate_command, refusing};
+ghost use Rattle.cli.specs.Line.{most_sectors, most_text, on_any_disk};
+ghost use Rattle.cli.specs.Line.{new_command, node_command, number_option, on_disk, on_model};
+ghost use Rattle.cli.specs.Line.{optional_argument, optional_number, optional_text};
+ghost use Rattle.cli.specs.Line.{path_argument, program_by, run_command, sectors_option};
+ghost use Rattle.cli.specs.Line.{stats_command, text_option, time_option, without_commands};
+ghost use Rattle.cli.specs.Line.{AddsArgument, AddsCommand, IsApp};
+
+use clap::builder::ValueParser;
+use clap::{Arg, ArgAction, Command};
+use std::alloc::{AllocError, Global};
+
+/// What the help of a program says that is its own.
+#[derive(Clone, Copy)]
+pub struct Texts<'a> {
+    /// The program's name.
+    pub name: &'a str,
+    /// What `--version` prints behind the name: `0.4.0 (disks of format 2)`.
+    pub version: &'a str,
+    /// What follows its list of commands, as `program_help` writes it.
+    pub help: &'a str,
+    /// What follows the arguments of `seq`, as `seq_help` writes it.
+    pub seq_help: &'a str,
+}
+
+/// All commands. A batch of `run` is a number; or, where it is given as a word, any text. Disks
+/// have the sectors of large ones or not.
+pub fn program<'a>(
+    alloc: Global,
+    texts: Texts<'a>,
+    word: bool,
+    large: bool,
+) -> Result<Command<'a>, AllocError>
+    ensures is { IfOk result (IsApp (program_by word large texts.entry.name.now)) }
+    ensures required { IfOk result (λ c. (fields_of c).subcommand_required ≡ true) }
+{
+    let Texts {
+        name,
+        version,
+        help,
+        seq_help,
+    } = texts;
+    let program = with_command(
+        Ok(without_commands(alloc, name, version, help)),
+        new(alloc, large),
+    );
+    let program = with_command(program, run(alloc, word));
+    let program = with_command(
+        program,
+        on_any_disk(alloc, "extend", EXTEND_ABOUT, EXTEND_HELP),
+    );
+    let program = with_command(program, grow(alloc, large));
+    let program = with_command(program, migrate(alloc, large));
+    let program = with_command(
+        program,
+        on_any_disk(alloc, "status", STATUS_ABOUT, STATUS_HELP),
+    );
+    let program = with_command(program, log(alloc));
+    let program = with_command(program, on_any_disk(alloc, "show", SHOW_ABOUT, SHOW_HELP));
+    let program = with_command(program, stats(alloc));
+    let program = with_command(program, draw(alloc));
+    let program = with_command(program, on_model(alloc, "seq", SEQ_ABOUT, seq_help));
+    let program = with_command(program, on_model(alloc, "check", CHECK_ABOUT, CHECK_HELP));
+    with_command(program, node(alloc))
+}
+
+/// The program before it has its commands.
+fn without_commands<'a>(
+    alloc: Global,
+    name: &'a str,
+    version: &'a str,
+    help: &'a str,
+) -> Command<'a>
+    ensures { IsApp (without_commands name.entry.now) result }
+{
+    Command::new(alloc, name)
+        .about(
+            "Simulates logical processes that send one another messages stamped with virtual times",
+        )
+        .version(version)
+        .after_help(help)
+        .subcommand_required(true)
+        .arg_required_else_help(true)
+        .disable_help_subcommand(true)
+}
+
+/// What follows a program's list of commands, with its name and the path of a model file.
+pub fn program_help(alloc: Global, name: &str, example: &str) -> Result<String, AllocError> {
+    format!(in alloc;
+        "\
+Virtual times are whole ticks. Models are described by TOML files, as {example}.
+A disk is a file, which 'new' makes. A run that is killed goes on from its last commit when
+'run' is called again, with any number of nodes.
+
+Exit status:
+  0  done
+  1  a fault, told on standard error after '{name}: '
+  2  a mistake in the command line, or help
+
+Faults:
+  BadModel     the file is no model file ('{name} check' tells why)
+  File         a file cannot be read, or is no disk, or one of another size, or another run has
+               it; or a node's socket is not made, or its program does not start or does not
+               connect
+  Log ..       the disk: NotBlank (it has a log), NotFormatted, Corrupt, Disk ..
+  Recovery ..  the disk is of another simulation or of format 1 (OtherModel), or is damaged
+  Session ..   a run stops: Full (the disk has no room), Recovery .., Disk, NoMemory, or
+               Port .. (a node's program ended, or answered what is no reply); or 'extend' does:
+               EndRefused (the end is not a later one), or as a run
+  Rounds       all rounds of a run are made, and it is not at its end
+  Migrate ..   'migrate' stops: Old .. (OLD has another format, is of another simulation, or is
+               damaged), New .. (NEW: Full (it has no room), Disk .., NoMemory)
+  Grow ..      'grow' stops: Fewer (the disk has more sectors), TooMany, Device, NoMemory
+  Record N ..  'status' finds the record behind N others at fault: BadRecord, NotTheLeast, ..
+  World ..     'seq', 'stats' or 'draw' stops: NoMemory, or NumberLimit past 2^63 messages of one
+               process
+  BadTrace     'draw --trace' finds that the file is not as 'run --trace' writes one
+  Wire ..      'node' stops: Truncated, TooLong, BadKind, BadBody (what came is no frame that
+               has its place there), Io, NoMemory
+  NoMemory     memory ran out elsewhere
+  Output       standard output refused a write"
+    )
+}
+
+/// The command `new`.
+fn new<'a>(alloc: Global, large: bool) -> Result<Command<'a>, AllocError>
+    ensures { IfOk result (IsApp (new_command large)) }
+{
+    let command = on_disk(alloc, "new", NEW_ABOUT, NEW_HELP);
+    let command = with_argument(command, sectors(alloc, large, "4096", SECTORS_HELP));
+    with_argument(command, large_option(alloc))
+}
+
+const NEW_ABOUT: &str = "Makes a disk with an empty log for a model";
+
+const SECTORS_HELP: &str =
+    "How many sectors of 512 bytes the disk has, 8 to 131072, or with --large to 16777216";
+
+const LARGE_HELP: &str = "The disk may have up to 16777216 sectors, and not 131072";
+
+const NEW_HELP: &str = "\
+A file that is there has to have the size that is asked for, and must not have a log.
+
+In memory a disk takes 512 bytes for each sector that is used, and a byte for each that it has.
+The commands take a disk of more than 131072 sectors only with --large.
+
+Output:
+  formatted N sectors";
+
+/// The command `run`.
+fn run<'a>(alloc: Global, word: bool) -> Result<Command<'a>, AllocError>
+    ensures { IfOk result (IsApp (run_command word)) }
+{
+    let nodes = number_option(alloc, "nodes", "1", 1, 64, NODES_HELP);
+    let batch = batch_option(alloc, word);
+    let rounds = number_option(alloc, "rounds", "1000000", 1, 4_294_967_295, ROUNDS_HELP);
+    let command = with_argument(on_disk(alloc, "run", RUN_ABOUT, RUN_HELP), nodes);
+    let command = with_argument(with_argument(command, batch), rounds);
+    let checkpoint = optional_number(alloc, "checkpoint", "E", 1, 1_000_000, CHECKPOINT_HELP);
+    let commit = optional_number(alloc, "commit-every", "E", 1, 400_000, COMMIT_HELP);
+    let command = with_argument(with_argument(command, checkpoint), commit);
+    let sockets = optional_text(alloc, "sockets", "DIR", SOCKETS_HELP);
+    let cut = optional_number(alloc, "cut", "I", 0, 4_294_967_295, CUT_HELP);
+    let command = with_argument(with_argument(command, sockets), cut);
+    let command = with_argument(command, flag(alloc, "together", TOGETHER_HELP));
+    let command = with_argument(command, flag(alloc, "attach", ATTACH_HELP));
+    let command = with_argument(command, optional_text(alloc, "trace", "FILE", TRACE_HELP));
+    with_argument(command, large_option(alloc))
+}
+
+/// How many messages a node handles at a turn: a number, or any text.
+fn batch_option<'a>(alloc: Global, word: bool) -> Arg<'a>
+    ensures rule { rule_of result ≡ batch_option word }
+    ensures local { result.global ≡ false }
+{
+    if word {
+        text_option(alloc, "batch", "N", "16", BATCH_HELP)
+    } else {
+        number_option(alloc, "batch", "16", 1, 4_294_967_295, BATCH_HELP)
+    }
+}
+
+const RUN_ABOUT: &str = "Runs a model on its disk, from the last commit to its end";
+
+const NODES_HELP: &str = "How many nodes share the processes, 1 to 64";
+
+const BATCH_HELP: &str = "How many messages a node handles at a turn, 1 to 4294967295, or 'auto'";
+
+const ROUNDS_HELP: &str =
+    "After how many rounds the run stops, 1 to 4294967295; runs of 1 never get on (see below)";
+
+const CHECKPOINT_HELP: &str = "Keeps the state in a record after each E-th commit, 1 to 1000000";
+
+const COMMIT_HELP: &str =
+    "Commits where E events more can be committed, 1 to 400000, and at the end";
+
+const SOCKETS_HELP: &str = "Runs each node as a program of its own, behind the socket DIR/nodeI";
+
+const CUT_HELP: &str = "Ends the program of node I after one reply, to see what a run leaves then";
+
+const TOGETHER_HELP: &str = "Hands work to all nodes before a reply is taken, so they work at once";
+
+const ATTACH_HELP: &str = "Starts no node programs: waits for them to connect, in any order";
+
+const TRACE_HELP: &str = "Writes a row for each turn of a node to FILE, by commas (CSV)";
+
+const RUN_HELP: &str = "\
+In a round each node has its turn, and what no rollback can reach any more is committed.
+Whatever ends the run, what was committed stands on the disk, and the next run goes on there.
+
+One command at a time writes to a disk: another is refused at once (File). 'log', 'show', 'status',
+'stats' and 'draw' may be called beside it, and see what was committed when they read the disk.
+
+Several runs with --rounds 1 never get on, however many they are: each opening begins with a floor
+that one round cannot pass. Those with --rounds 2 do.
+
+With --batch auto each node has a batch of its own, which follows how much of what it handles is
+committed.
+
+A commit waits for the disk twice. With --commit-every a power cut can cost what was done since the
+last one. Rounds that do not commit do not count for --checkpoint.
+
+A checkpoint takes one record of the disk, as long as the state of all processes and what is
+pending. The next opening begins at the last one, and replays only the events behind it.
+
+A disk of format 1 is told as Session Recovery OtherModel; 'migrate' alone reads it.
+
+With --sockets the run starts this program as 'node' for each node, waits for it at the end, and
+removes its socket. DIR is to be a folder of your own (mode 700): whoever may write into it can
+answer in a node's place. Sockets that a killed run left there have to be removed by hand.
+
+With --attach as well it starts none of them: each node I is to be started as 'node MODEL DIR/nodeI'
+once its socket is there, in any order, and the run begins when all have connected.
+
+Output:
+  node NODE ran N           messages that the node handled, those too that were undone again
+  committed TIME events N   ticks, and events in the log";
+
+const EXTEND_ABOUT: &str = "Carries a disk on past the end for which it was made";
+
+const EXTEND_HELP: &str = "\
+The model file is that of the disk, but with a later end. From then on it is the disk's model file:
+'run' goes on to that end, and one with another end is refused. What is committed stays.
+
+Output:
+  extended E0 to E1   the end before and this one, in ticks";
+
+/// The command `grow`.
+fn grow<'a>(alloc: Global, large: bool) -> Result<Command<'a>, AllocError>
+    ensures { IfOk result (IsApp (grow_command large)) }
+{
+    let command = on_disk(alloc, "grow", GROW_ABOUT, GROW_HELP);
+    let command = with_argument(command, sectors(alloc, large, most_text(large), GROWN_HELP));
+    with_argument(command, large_option(alloc))
+}
+
+/// The most sectors that a disk may have, as a text.
+fn most_text<'a>(large: bool) -> &'a str
+    ensures { result.now ≡ most_text large }
+{
+    if large { "16777216" } else { "131072" }
+}
+
+const GROW_ABOUT: &str = "Makes a disk longer, so that its run has room again";
+
+const GROWN_HELP: &str =
+    "How many sectors of 512 bytes the disk has then, 8 to 131072, or with --large to 16777216";
+
+const GROW_HELP: &str = "\
+The disk gets sectors of zeros behind those that it has; what is committed stays, whenever the power
+is cut. A disk that has more sectors than asked for is refused (Grow Fewer).
+
+Output:
+  grown S0 to S1 sectors   how many it had, and has now";
+
+/// The command `migrate`.
+fn migrate<'a>(alloc: Global, large: bool) -> Result<Command<'a>, AllocError>
+    ensures { IfOk result (IsApp (migrate_command large)) }
+{
+    let command = on_model(alloc, "migrate", MIGRATE_ABOUT, MIGRATE_HELP);
+    let command = with_argument(
+        command,
+        path(alloc, "OLD", "The file of the disk of format 1"),
+    );
+    let command = with_argument(
+        command,
+        path(alloc, "NEW", "The file of the disk of format 2"),
+    );
+    let command = with_argument(command, sectors(alloc, large, "4096", NEW_SECTORS_HELP));
+    with_argument(command, large_option(alloc))
+}
+
+const MIGRATE_ABOUT: &str = "Writes a disk of format 1 anew in format 2";
+
+const NEW_SECTORS_HELP: &str =
+    "How many sectors of 512 bytes the disk NEW has, 8 to 131072, or with --large to 16777216";
+
+const MIGRATE_HELP: &str = "\
+Reads a disk of format 1 (OLD), as earlier versions made it, and writes NEW in format 2 with what is
+committed there; OLD is only read. The model file is that of OLD.
+
+A file NEW that is there has to have the size that is asked for, and must not have a log.
+
+Output:
+  migrated TIME events N   ticks, and events in the log";
+
+const STATUS_ABOUT: &str = "Prints how far a disk's run has come and how much room is left";
+
+const STATUS_HELP: &str = "\
+The disk is only read. A disk of format 1 is told as Recovery OtherModel; 'migrate' alone reads it.
+
+Output, all numbers decimal:
+  virtual time G of E ticks, P percent      what is committed, and the disk's end
+  events N, B bytes of disk an event        B is '-' where there is no event
+  records R, of them C checkpoints (the last at T ticks) and K ends
+  sectors U used of S, F free
+  full at about T ticks at the pace of the last L commits
+
+The last line is 'room to the end at the pace of the last L commits' where the rest of the run has
+room, and is left out where nothing is committed.";
+
+/// The command `log`.
+fn log<'a>(alloc: Global) -> Result<Command<'a>, AllocError>
+    ensures { IfOk result (IsApp log_command) }
+{
+    let command = on_disk(alloc, "log", LOG_ABOUT, LOG_HELP);
+    let command = with_argument(command, time_option(alloc, "from", FROM_HELP));
+    let command = with_argument(command, time_option(alloc, "to", TO_HELP));
+    let process = optional_number(alloc, "process", "L", 0, 4_294_967_295, PROCESS_HELP);
+    let command = with_argument(command, process);
+    with_argument(command, large_option(alloc))
+}
+
+const FROM_HELP: &str = "Only events at T ticks or later, 0 to 1099511627776";
+
+const TO_HELP: &str = "Only events before T ticks, 0 to 1099511627776";
+
+const PROCESS_HELP: &str = "Only events that process L handled, 0 to 4294967295";
+
+const LOG_ABOUT: &str = "Prints the committed events of a disk";
+
+const LOG_HELP: &str = "\
+A disk of format 1 is told as Recovery OtherModel; 'migrate' alone reads it.
+
+Where what is printed is not read to its end, as with '| head', it ends with Output and status 1.
+
+Output, all numbers decimal:
+  TIME FROM NUMBER TO A B C D   each committed event";
+
+const SHOW_ABOUT: &str = "Prints the committed world of a disk";
+
+const SHOW_HELP: &str = "\
+A disk of format 1 is told as Recovery OtherModel; 'migrate' alone reads it.
+
+Output, all numbers decimal:
+  virtual time TIME                    ticks
+  lp LP sent NUMBER state WORDS        each process
+  pending TIME FROM NUMBER TO A B C D  each message that is not handled";
+
+/// The command `stats`.
+fn stats<'a>(alloc: Global) -> Result<Command<'a>, AllocError>
+    ensures { IfOk result (IsApp stats_command) }
+{
+    let command = on_model(alloc, "stats", STATS_ABOUT, STATS_HELP);
+    let command = with_argument(command, optional_argument(alloc, "DISK", MAYBE_DISK_HELP));
+    let format = text_option(alloc, "format", "F", "text", FORMAT_HELP);
+    let command = with_argument(command, format);
+    with_argument(command, large_option(alloc))
+}
+
+const STATS_ABOUT: &str = "Prints how many events, sends and delays a run had";
+
+const MAYBE_DISK_HELP: &str = "The file of the disk; without one the model is run to its end";
+
+const FORMAT_HELP: &str = "The format of what is printed: text or csv";
+
+const STATS_HELP: &str = "\
+With a disk these are the figures of what is committed there. The disk is only read.
+Without one they are those of the whole run, which is made by the plain runner, as by 'seq'.
+
+Output, all numbers decimal:
+  a line of words and a table; or with --format csv rows of values with commas between, and
+  a line with their names above them";
+
+/// The command `draw`.
+fn draw<'a>(alloc: Global) -> Result<Command<'a>, AllocError>
+    ensures { IfOk result (IsApp draw_command) }
+{
+    let command = on_model(alloc, "draw", DRAW_ABOUT, DRAW_HELP);
+    let command = with_argument(command, optional_argument(alloc, "DISK", MAYBE_DISK_HELP));
+    let command = with_argument(command, time_option(alloc, "from", FROM_HELP));
+    let command = with_argument(command, time_option(alloc, "to", TO_HELP));
+    let processes = optional_text(alloc, "processes", "A..B", PROCESSES_HELP);
+    let command = with_argument(command, processes);
+    let command = with_argument(command, flag(alloc, "load", LOAD_HELP));
+    let trace = optional_text(alloc, "trace", "FILE", COURSE_HELP);
+    let command = with_argument(command, trace);
+    with_argument(command, large_option(alloc))
+}
+
+const DRAW_ABOUT: &str = "Prints a picture of a run, as SVG";
+
+const PROCESSES_HELP: &str = "Only processes A to B, both too, 0 to 4294967295";
+
+const LOAD_HELP: &str = "Draws how many events each process handled, by slices of virtual time";
+
+const COURSE_HELP: &str = "Draws the course of the run that wrote FILE by 'run --trace FILE'";
+
+const DRAW_HELP: &str = "\
+With a disk this is a picture of what is committed there. The disk is only read.
+Without one it is that of the whole run, which is made by the plain runner, as by 'seq'.
+With --trace it shows, over the rounds, GVT, the efficiency, antimessages and commits; the file is
+all that is looked at then.
+
+Output:
+  an SVG document, which a browser shows";
+
+const SEQ_ABOUT: &str =
+    "Runs a model to its end, one event at a time, and prints its log and its final world";
+
+/// What follows the arguments of `seq`, with a text about the keys of a model file.
+pub fn seq_help(alloc: Global, keys: &str) -> Result<String, AllocError> {
+    format!(in alloc;
+        "\
+{keys}
+
+Output, all numbers decimal:
+  TIME FROM NUMBER TO A B C D          each event that was handled
+  virtual time TIME                    ticks
+  lp LP sent NUMBER state WORDS        each process
+  pending TIME FROM NUMBER TO A B C D  each message that is not handled"
+    )
+}
+
+const CHECK_ABOUT: &str = "Says whether a file is a model file, or what is wrong with it";
+
+const CHECK_HELP: &str = "\
+Output:
+  ok
+  KEY: VALUE   the model's name, and each of its numbers";
+
+/// The command `node`.
+fn node<'a>(alloc: Global) -> Result<Command<'a>, AllocError>
+    ensures { IfOk result (IsApp node_command) }
+{
+    let command = on_model(alloc, "node", NODE_ABOUT, NODE_HELP);
+    let command = with_argument(command, path(alloc, "SOCKET", SOCKET_HELP));
+    let most = "4294967295";
+    with_argument(
+        command,
+        number_option(alloc, "parcels", most, 1, 4_294_967_295, PARCELS_HELP),
+    )
+}
+
+const NODE_ABOUT: &str = "Works as a node of a run, behind a Unix socket";
+
+const SOCKET_HELP: &str = "The path of the socket, which the run has made";
+
+const PARCELS_HELP: &str = "After how many replies it ends, 1 to 4294967295";
+
+const NODE_HELP: &str = "\
+'run --sockets' starts it. It takes the run's word for what it simulates, and ends where the run
+closes the connection, after a fault of the node, which it tells the run, or after N replies.
+It prints nothing.";
+
+/// A command on a model file and a disk, which may be a large one, with nothing else.
+fn on_any_disk<'a>(
+    alloc: Global,
+    name: &'a str,
+    about: &'a str,
+    help: &'a str,
+) -> Result<Command<'a>, AllocError>
+    ensures { IfOk result (IsApp (on_any_disk name.entry.now)) }
+{
+    let command = on_disk(alloc, name, about, help);
+    with_argument(command, large_option(alloc))
+}
+
+/// A command on a model file and a disk.
+fn on_disk<'a>(
+    alloc: Global,
+    name: &'a str,
+    about: &'a str,
+    help: &'a str,
+) -> Result<Command<'a>, AllocError>
+    ensures { IfOk result (IsApp (on_disk name.entry.now)) }
+{
+    with_argument(
+        on_model(alloc, name, about, help),
+        path(alloc, "DISK", "The file of the disk"),
+    )
+}
+
+/// A command on a model file.
+fn on_model<'a>(
+    alloc: Global,
+    name: &'a str,
+    about: &'a str,
+    help: &'a str,
+) -> Result<Command<'a>, AllocError>
+    ensures { IfOk result (IsApp (on_model name.entry.now)) }
+{
+    let command = Command::new(alloc, name).about(about).after_help(help);
+    with_argument(Ok(command), path(alloc, "MODEL", MODEL_HELP))
+}
+
+const MODEL_HELP: &str =
+    "The model file: TOML with exactly the keys of its model (see 'seq --help')";
+
+/// A program with nothing but an option that takes only these names, with this text as its default.
+pub fn refusing<'a>(
+    alloc: Global,
+    option: &'a str,
+    value: &'a str,
+    names: &'a [&'a str],
+    text: &'a str,
+) -> Result<Command<'a>, AllocError>
+    ensures { IfOk result
+        (IsApp (refusing option.entry.now (Names names.entry) text.entry.now)) }
+{
+    let program = Command::new(alloc, option);
+    with_argument(Ok(program), names_option(alloc, option, value, names, text))
+}
+
+/// A program with one command more, where both are there.
+///
+/// It takes both as their calls answer them, so that here alone a command is let go.
+fn with_command<'a>(
+    program: Result<Command<'a>, AllocError>,
+    command: Result<Command<'a>, AllocError>,
+) -> Result<Command<'a>, AllocError>
+    ensures { IfOk result (AddsCommand program.entry command.entry) }
+{
+    program?.subcommand(command?)
+}
+
+/// A command with one argument more, where it is there.
+fn with_argument<'a>(
+    command: Result<Command<'a>, AllocError>,
+    argument: Arg<'a>,
+) -> Result<Command<'a>, AllocError>
+    ensures { IfOk result (AddsArgument command.entry argument.entry) }
+{
+    command?.arg(argument)
+}
+
+/// A required argument, a path.
+fn path<'a>(alloc: Global, id: &'a str, help: &'a str) -> Arg<'a>
+    ensures rule { rule_of result ≡ path_argument id.entry.now }
+    ensures local { result.global ≡ false }
+{
+    Arg::new(alloc, id).required(true).help(help)
+}
+
+/// An argument that may be left out, a path.
+fn optional_argument<'a>(alloc: Global, id: &'a str, help: &'a str) -> Arg<'a>
+    ensures rule { rule_of result ≡ optional_argument id.entry.now }
+    ensures local { result.global ≡ false }
+{
+    Arg::new(alloc, id).help(help)
+}
+
+/// The option for the number of a disk's sectors.
+fn sectors<'a>(alloc: Global, large: bool, default: &'a str, help: &'a str) -> Arg<'a>
+    ensures rule { rule_of result ≡ sectors_option large default.entry.now }
+    ensures local { result.global ≡ false }
+{
+    let most = u64::from(most_sectors(large));
+    number_option(alloc, "sectors", default, 8, most, help)
+}
+
+/// The option by which a disk may be a large one.
+fn large_option<'a>(alloc: Global) -> Arg<'a>
+    ensures rule { rule_of result ≡ large_option }
+    ensures local { result.global ≡ false }
+{
+    flag(alloc, "large", LARGE_HELP)
+}
+
+/// How many sectors a disk has at most: a large one, or another.
+pub fn most_sectors(large: bool) -> u32
+    ensures most { result ≡ most_sectors large }
+    ensures some { 8 ≤ result }
+{
+    if large { 16_777_216 } else { 131_072 }
+}
+
+/// An option whose value is a number from `least` to `most`.
+fn number_option<'a>(
+    alloc: Global,
+    name: &'a str,
+    default: &'a str,
+    least: u64,
+    most: u64,
+    help: &'a str,
+) -> Arg<'a>
+    ensures rule { rule_of result ≡ number_option name.entry.now least most default.entry.now }
+    ensures local { result.global ≡ false }
+{
+    Arg::new(alloc, name)
+        .long(name)
+        .value_name("N")
+        .value_parser(ValueParser::unsigned(least, most))
+        .default_value(default)
+        .help(help)
+}
+
+/// An option whose value is a number from `least` to `most`, and which may be left out.
+fn optional_number<'a>(
+    alloc: Global,
+    name: &'a str,
+    value: &'a str,
+    least: u64,
+    most: u64,
+    help: &'a str,
+) -> Arg<'a>
+    ensures rule { rule_of result ≡ optional_number name.entry.now least most }
+    ensures local { result.global ≡ false }
+{
+    Arg::new(alloc, name)
+        .long(name)
+        .value_name(value)
+        .value_parser(ValueParser::unsigned(least, most))
+        .help(help)
+}
+
+/// An option whose value is a virtual time, and which may be left out.
+fn time_option<'a>(alloc: Global, name: &'a str, help: &'a str) -> Arg<'a>
+    ensures rule { rule_of result ≡ time_option name.entry.now }
+    ensures local { result.global ≡ false }
+{
+    optional_number(alloc, name, "T", 0, 1_099_511_627_776, help)
+}
+
+/// An option whose value is any text.
+fn text_option<'a>(
+    alloc: Global,
+    name: &'a str,
+    value: &'a str,
+    default: &'a str,
+    help: &'a str,
+) -> Arg<'a>
+    ensures rule { rule_of result ≡ text_option name.entry.now default.entry.now }
+    ensures local { result.global ≡ false }
+{
+    Arg::new(alloc, name)
+        .long(name)
+        .value_name(value)
+        .default_value(default)
+        .help(help)
+}
+
+/// An option whose value is one of these names.
+fn names_option<'a>(
+    alloc: Global,
+    name: &'a str,
+    value: &'a str,
+    names: &'a [&'a str],
+    default: &'a str,
+) -> Arg<'a>
+    ensures rule { rule_of result
+        ≡ choice_option name.entry.now (Names names.entry) default.entry.now }
+    ensures local { result.global ≡ false }
+{
+    Arg::new(alloc, name)
+        .long(name)
+        .value_name(value)
+        .value_parser(ValueParser::Names(names))
+        .default_value(default)
+}
+
+/// An option whose value is any text, and which may be left out.
+fn optional_text<'a>(alloc: Global, name: &'a str, value: &'a str, help: &'a str) -> Arg<'a>
+    ensures rule { rule_of result ≡ optional_text name.entry.now }
+    ensures local { result.global ≡ false }
+{
+    Arg::new(alloc, name)
+        .long(name)
+        .value_name(value)
+        .help(help)
+}
+
+/// An option without a value.
+fn flag<'a>(alloc: Global, name: &'a str, help: &'a str) -> Arg<'a>
+    ensures rule { rule_of result ≡ flag name.entry.now }
+    ensures local { result.global ≡ false }
+{
+    Arg::new(alloc, name)
+        .long(name)
+        .action(ArgAction::SetTrue)
+        .help(help)
+}

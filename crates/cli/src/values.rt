@@ -1,0 +1,243 @@
+// The values of a command, as `clap` read them.
+
+ghost use Rattle.std.specs.Prelude.{◌≡◌, ◌≤◌, ◌∷◌, [], option_and_then, option_map};
+ghost use Rattle.std.specs.Prelude.{codes, false, true, IfSome, MatchOption};
+ghost use Rattle.std.specs.List.{list_any};
+ghost use Rattle.std.specs.Str.{bytes_eq};
+ghost use Rattle.clap.specs.Words.{first_of, found_of, rows_of, HasKind};
+ghost use Rattle.clap.specs.declared.error.kind.ErrorKind.TheVariants.{InvalidValue};
+ghost use Rattle.cli.specs.Line.{batch_in, is_no_batch, is_no_format, is_no_range, is_positive};
+ghost use Rattle.cli.specs.Line.{is_text, number_in, optional_number_in, range_of, text_in};
+ghost use Rattle.cli.specs.Line.{unread_fault, written_number};
+ghost use Rattle.cli.specs.Line.{IsBatchRanged, IsFlagIn, IsWithin};
+
+use crate::grammar::refusing;
+use crate::line::BatchOption;
+use clap::{ArgMatches, Error};
+use std::alloc::Global;
+
+/// The text of a required argument.
+pub fn text<'a>(values: &ArgMatches<'a>, id: &str) -> &'a str
+    ensures { result.now ≡ text_in id.now (rows_of (found_of values.now)) }
+{
+    values.get_str(id).unwrap_or("")
+}
+
+/// The text of an option or an argument, where it has one.
+pub fn optional_text<'a>(values: &ArgMatches<'a>, id: &str) -> Option<&'a str>
+    ensures { option_map (λ text. text.now) result ≡ first_of id.now
+        (rows_of (found_of values.now)) }
+{
+    values.get_str(id)
+}
+
+/// Whether an option has this text.
+pub fn is_text(text: Option<&str>, word: &str) -> bool
+    ensures { result ≡ is_text (option_map (λ text. text.now) text.entry) word.now }
+{
+    match text {
+        Some(text) => text == word,
+        None => false,
+    }
+}
+
+/// Whether an option without a value is used.
+pub fn is_flagged(values: &ArgMatches<'_>, id: &str) -> bool
+    ensures { IsFlagIn id.now (rows_of (found_of values.now)) result }
+{
+    values.get_flag(id)
+}
+
+/// The number of an option that takes one from `least` to `most`.
+pub fn number(values: &ArgMatches<'_>, id: &str, least: u64, most: u64) -> u64
+    requires { least ≤ most }
+    ensures value { result ≡ number_in id.now least most (rows_of (found_of values.now)) }
+    ensures least { least ≤ result }
+    ensures most { result ≤ most }
+{
+    match values.get_one::<u64>(id) {
+        Some(number) if least <= number && number <= most => number,
+        _ => least,
+    }
+}
+
+/// The number of an option, where it is used.
+pub fn optional_number(values: &ArgMatches<'_>, id: &str, least: u64, most: u64) -> Option<u64>
+    requires { least ≤ most }
+    ensures value { result ≡ optional_number_in id.now least most (rows_of (found_of values.now)) }
+    ensures range { IsWithin least most result }
+{
+    match values.get_str(id) {
+        Some(_) => Some(number(values, id, least, most)),
+        None => None,
+    }
+}
+
+/// The number of an option whose numbers are small.
+pub fn small_number(values: &ArgMatches<'_>, id: &str, least: u32, most: u32) -> u32
+    requires { least ≤ most }
+    ensures value { result ≡ number_in id.now least most (rows_of (found_of values.now)) }
+    ensures least { least ≤ result }
+    ensures most { result ≤ most }
+{
+    number(values, id, u64::from(least), u64::from(most)) as u32
+}
+
+/// The number of an option whose numbers are small, where it is used.
+pub fn optional_small_number(
+    values: &ArgMatches<'_>,
+    id: &str,
+    least: u32,
+    most: u32,
+) -> Option<u32>
+    requires { least ≤ most }
+    ensures value { result ≡ optional_number_in id.now least most (rows_of (found_of values.now)) }
+    ensures range { IsWithin least most result }
+{
+    match values.get_str(id) {
+        Some(_) => Some(small_number(values, id, least, most)),
+        None => None,
+    }
+}
+
+/// The batch of a run.
+pub fn batch(values: &ArgMatches<'_>) -> BatchOption
+    ensures value { result ≡ batch_in (rows_of (found_of values.now)) }
+    ensures ranged { IsBatchRanged result }
+{
+    if is_text(optional_text(values, "batch"), "auto") {
+        BatchOption::Auto
+    } else {
+        BatchOption::Fixed(small_number(values, "batch", 1, u32::MAX))
+    }
+}
+
+/// The processes of a picture.
+pub fn range(values: &ArgMatches<'_>) -> Option<(u32, u32)>
+    ensures value { result ≡ option_and_then range_of
+        (first_of (codes "processes") (rows_of (found_of values.now))) }
+    ensures ordered { IfSome result (λ range. range.0 ≤ range.1) }
+{
+    match optional_text(values, "processes") {
+        Some(text) => range_of(text),
+        None => None,
+    }
+}
+
+/// The first and the last process of a range `A..B`.
+fn range_of(text: &str) -> Option<(u32, u32)>
+    ensures value { result ≡ range_of text.now }
+    ensures ordered { IfSome result (λ range. range.0 ≤ range.1) }
+{
+    let (first, rest) = text.split_once('.')?;
+    let last = rest.strip_prefix('.')?;
+    let first = written_number(first)?;
+    let last = written_number(last)?;
+    if first <= last {
+        Some((first, last))
+    } else {
+        None
+    }
+}
+
+/// The number that a text is, of those below 2^32.
+fn written_number(text: &str) -> Option<u32>
+    ensures { result ≡ written_number text.now }
+{
+    match text.parse::<u32>() {
+        Ok(number) => Some(number),
+        Err(_) => None,
+    }
+}
+
+/// Whether a text is a number of at least 1.
+fn is_positive(text: &str) -> bool
+    ensures { result ≡ is_positive text.now }
+{
+    match written_number(text) {
+        Some(number) => 1 <= number,
+        None => false,
+    }
+}
+
+/// What values are refused for that `clap` took as any text.
+pub fn refusal(alloc: Global, values: &ArgMatches<'_>) -> Option<Error>
+    ensures { MatchOption result (unread_fault (rows_of (found_of values.now)) ≡ [])
+        (λ e. (unread_fault (rows_of (found_of values.now)) ≡ InvalidValue ∷ [])
+        × HasKind (InvalidValue ∷ []) e) }
+{
+    match refused_batch(alloc, optional_text(values, "batch")) {
+        Some(error) => Some(error),
+        None => match refused_range(alloc, optional_text(values, "processes")) {
+            Some(error) => Some(error),
+            None => refused_format(alloc, optional_text(values, "format")),
+        },
+    }
+}
+
+/// What a batch is refused for.
+fn refused_batch(alloc: Global, text: Option<&str>) -> Option<Error>
+    ensures { MatchOption result (is_no_batch (option_map (λ text. text.now) text.entry) ≡ false)
+        (λ e. (is_no_batch (option_map (λ text. text.now) text.entry) ≡ true)
+        × HasKind (InvalidValue ∷ []) e) }
+{
+    match text {
+        Some(text) if text != "auto" && !is_positive(text) => {
+            Some(no_value(alloc, "batch", "N", NO_NAMES, text))
+        }
+        _ => None,
+    }
+}
+
+/// What processes are refused for.
+fn refused_range(alloc: Global, text: Option<&str>) -> Option<Error>
+    ensures { MatchOption result (is_no_range (option_map (λ text. text.now) text.entry) ≡ false)
+        (λ e. (is_no_range (option_map (λ text. text.now) text.entry) ≡ true)
+        × HasKind (InvalidValue ∷ []) e) }
+{
+    match text {
+        Some(text) if range_of(text).is_none() => {
+            Some(no_value(alloc, "processes", "A..B", NO_NAMES, text))
+        }
+        _ => None,
+    }
+}
+
+/// What a format is refused for.
+fn refused_format(alloc: Global, text: Option<&str>) -> Option<Error>
+    ensures { MatchOption result (is_no_format (option_map (λ text. text.now) text.entry) ≡ false)
+        (λ e. (is_no_format (option_map (λ text. text.now) text.entry) ≡ true)
+        × HasKind (InvalidValue ∷ []) e) }
+{
+    match text {
+        Some(text) if text != "text" && text != "csv" => {
+            Some(no_value(alloc, "format", "F", FORMATS, text))
+        }
+        _ => None,
+    }
+}
+
+const NO_NAMES: &[&str] = &[];
+
+const FORMATS: &[&str] = &["text", "csv"];
+
+/// How `clap` refuses a text of an option that takes only these names, and not this one.
+fn no_value<'a>(
+    alloc: Global,
+    option: &'a str,
+    value: &'a str,
+    names: &'a [&'a str],
+    text: &'a str,
+) -> Error
+    requires { list_any (λ name. bytes_eq name.now text.now) names.now ≡ false }
+    ensures { HasKind (InvalidValue ∷ []) result }
+{
+    let command = match refusing(alloc, option, value, names, text) {
+        Ok(command) => command,
+        Err(error) => return Error::from(error),
+    };
+    match command.try_get_matches_from(NO_NAMES) {
+        Ok(_) => unreachable!(),
+        Err(error) => error,
+    }
+}

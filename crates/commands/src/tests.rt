@@ -1,3 +1,0 @@
-// The commands on disks in memory.
-
-mod runs;

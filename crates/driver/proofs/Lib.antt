@@ -1,6 +1,0 @@
-mod Counts
-mod Drives
-mod Kept
-pub mod Ports
-mod Shapes
-mod Unfinished

@@ -1,4 +1,0 @@
--- For callers: what a run does to its session, by which budgets, and what it counts
-pub mod Budgets
-pub mod Driver
-pub mod Tallies

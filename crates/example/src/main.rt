@@ -1,0 +1,56 @@
+//! Simulates a token ring over three nodes to its end, on a disk in memory and on a file, and
+//! prints what each of them then has committed.
+#![tactic(auto)]
+
+use disk::{FileDisk, MemDisk, SectorDisk};
+use models::TokenRing;
+use runs::{Batch, Ended, Outcome, Plan, SimulationFault, simulate};
+use std::alloc::Global;
+use std::io::{self, Write};
+use std::process::ExitCode;
+use texts::write_log;
+
+/// The tick at which the simulation ends.
+const END: u64 = 10;
+
+/// Three nodes handle up to 16 messages at a turn.
+const PLAN: Plan = Plan {
+    nodes: 3,
+    batch: Batch::Fixed(16),
+    rounds: 1000,
+    together: false,
+    checkpoint_every: 0,
+    commit_every: 0,
+};
+
+/// Three processes hand one token round and hold it for two ticks, on this disk. Hands it back.
+fn ring_on<D, O>(alloc: Global, disk: D, out: &mut O) -> Result<D, SimulationFault>
+where
+    D: SectorDisk + Drop,
+    O: Write,
+{
+    let ring = TokenRing::new(3, 2, 1);
+    let Ended { disk, told } = simulate(alloc, &ring, END, disk, PLAN);
+    let Outcome { front, .. } = told?;
+    writeln!(out, "committed up to tick {}:", front.g)?;
+    write_log(front.log.as_slice(), out)?;
+    Ok(disk)
+}
+
+fn simulated(rt: &HostRuntime) -> Result<(), SimulationFault> {
+    let mut out = io::writer(rt);
+    ring_on(rt.alloc(), MemDisk::blank(rt.alloc(), 64)?, &mut out)?;
+    let file = FileDisk::open(rt, rt.alloc(), "ring.disk", Some(64))?;
+    ring_on(rt.alloc(), file, &mut out)?;
+    Ok(out.flush()?)
+}
+
+fn main(rt: HostRuntime) -> ExitCode {
+    match simulated(&rt) {
+        Ok(()) => ExitCode::SUCCESS,
+        Err(fault) => {
+            let _ = writeln!(rt.stderr(), "example: {fault}");
+            ExitCode::FAILURE
+        }
+    }
+}

@@ -1,5 +1,0 @@
-use Rattle.lines.proofs.Lines.{argument_added}
-use Rattle.lines.proofs.grammar.on_disk.Goals as goal
-
-pub returns : goal.returns
-returns c = argument_added _ _ _ _ _ c.with_argument.ensures c.on_model.ensures c.path.ensures.rule c.path.ensures.local

@@ -1,4 +1,0 @@
-// A port to a node behind bytes, and sessions over such ports.
-
-mod ports;
-mod sessions;

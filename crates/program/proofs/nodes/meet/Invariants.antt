@@ -1,5 +1,0 @@
-use Rattle.std.proofs.Common.{◌≡◌, length}
-use Rattle.program.proofs.nodes.meet.Given as goal
-
-abbrev pub invariant-nodes : goal.invariant-nodes
-invariant-nodes g l = length l.met.items ≡ l.node

@@ -1,0 +1,127 @@
+-- What the calls leave of a disk.
+use Rattle.std.proofs.Common.{false, inl, inr, subst, sym, arith, refl, ◌∙◌}
+use Rattle.std.proofs.lemmas.Bool.{cases_Bool, false≢true}
+use Rattle.std.specs.Prelude.{◌≡◌, ◌≢◌, ◌≤◌, ◌^◌, ℕ, List, [], IfErr, OnOk, Result, Ok, Err, slice_index_or}
+use Rattle.commitlog.specs.Faults.{FormatIsRefused}
+use Rattle.commitlog.specs.Log.{IsDurable, Opened}
+use Rattle.commitlog.specs.declared.records.Entry.{Entry}
+use Rattle.commitlog.specs.Records.{Holds, IsBlank, IsBlankOrEmptyLog, IsFormatted, is_open}
+use Rattle.commitlog.specs.declared.fault.LogFault.{LogFault}
+use Rattle.commitlog.specs.declared.fault.LogFault.TheVariants.{Corrupt, Disk, Full, NoMemory as NoMemoryOfLog, NotBlank, NotFormatted, Spent, TooLong}
+use Rattle.disk.specs.declared.disk.DiskFault.TheVariants.{Device, NoSuchSector}
+use Rattle.coordinator.proofs.Begun.{looked-keeps, recovers-genuine}
+use Rattle.coordinator.proofs.Driving.{followed_by}
+use Rattle.coordinator.specs.Crashes.{KeepsRecovery, Recovers}
+use Rattle.coordinator.specs.Opening.{IsAtFault, LeavesExactly}
+use Rattle.disk.specs.Disk.{DiskState, IsDisk, IsFirm, LeavesOnly, MayLeave, OnlyLooks}
+use Rattle.disk.specs.Laws.{followed, reads_left, weaker}
+use Rattle.model.specs.Meaning.{IsLawful, Meaning}
+use Rattle.model.specs.World.{IsUpto, World, opening}
+use Rattle.recovery.proofs.Images.{empty_log_stands, image_stands_for_one}
+use Rattle.recovery.specs.Causes.{IsFirstAtFault}
+use Rattle.recovery.specs.Ends.{IsEnd, IsOurs}
+use Rattle.recovery.specs.Header.{header_bytes, header_of}
+use Rattle.recovery.specs.Recovered.{RecoveryIsRefused}
+use Rattle.recovery.specs.Stands.{IsGenuine, Stands, StandsAtLeast}
+use Rattle.recovery.specs.declared.RecoveryFault.{RecoveryFault}
+use Rattle.recovery.specs.declared.RecoveryFault.TheVariants.{BadCheckpoint, BadEnd, BadRecord, GoesBack, Log as LogOfRecovery, NoMemory, NotTheLeast, NumberLimit, OtherModel}
+use Rattle.coordinator.proofs.Extensions.{are-readable, at-fault, log-on, ours-of}
+use Rattle.runs.specs.Simulation.{IsBlankOrStands, IsBlankOrStandsSo, IsNotRecovered, PreparingIsRefused}
+use Rattle.runs.specs.declared.fault.SimulationFault.{SimulationFault}
+use Rattle.runs.specs.declared.fault.SimulationFault.TheVariants.{Log}
+
+module _ (m : Meaning) (end : ℕ) (header : List ℕ) (is : header ≡ header_bytes (header_of m end)) (possible : IsEnd end) where
+  -- an empty log stands for the opening world, whatever a crash leaves
+  pub empty_stands : (disk : DiskState) → IsDurable header [] disk → LeavesExactly m end (opening m) disk
+  empty_stands disk durable = λ image left. empty_log_stands m end image possible ((subst (λ (bytes : List ℕ). IsDurable bytes [] disk) is durable).crash image left)
+
+  -- and so at each moment of its making
+  pub making_stands : (old new : DiskState) → (IsFirm old.loose → IsBlank old.reads → LeavesOnly old new (IsBlankOrEmptyLog header))
+      → IsFirm old.loose → IsBlank old.reads → LeavesOnly old new (IsBlankOrStands m end (opening m))
+  making_stands old new made firm blank = weaker old new (IsBlankOrEmptyLog header) (IsBlankOrStands m end (opening m)) (made firm blank)
+      (λ image left. elim left [
+        | inl none ↦ inl none
+        | inr empty ↦ inr (empty_log_stands m end image possible (subst (λ (bytes : List ℕ). Holds bytes [] image) is empty))
+      ])
+
+module _ (m : Meaning) (end a : ℕ) where
+  pub log_stays : (old new : DiskState) → IsDisk old.reads old.loose → (IsFormatted old.reads → OnlyLooks old new) → Recovers m end a old → KeepsRecovery m end a a old new
+  log_stays old new disk look recovers = looked-keeps m end a old new (look (recovers old.reads (reads_left old.reads old.loose disk)).stands.holds.formatted) recovers
+
+  pub one_by_one : (old mid new : DiskState) → KeepsRecovery m end a a old mid → (Recovers m end a mid → KeepsRecovery m end a a mid new) → KeepsRecovery m end a a old new
+  one_by_one old mid new first second = followed_by m end a a a old mid new first (second first.now_on)
+
+module _ (m : Meaning) (end : ℕ) where
+  pub exactly_recovers : (disk : DiskState) → LeavesExactly m end (opening m) disk → Recovers m end 0 disk
+  exactly_recovers disk exactly = λ image left. record { world = opening m; stands = exactly image left; time = omega arith }
+
+  -- a log that is made
+  pub made_so : (old new : DiskState) → LeavesOnly old new (IsBlankOrStands m end (opening m)) → LeavesOnly old new (IsBlankOrStandsSo m end)
+  made_so old new made = weaker old new (IsBlankOrStands m end (opening m)) (IsBlankOrStandsSo m end) made
+      (λ image left. elim left [
+        | inl none ↦ inl none
+        | inr stands ↦ inr (record { world = opening m; stands = stands; time = omega arith })
+      ])
+
+  -- and goes on
+  pub then_so : (old mid new : DiskState) → LeavesOnly old mid (IsBlankOrStandsSo m end) → KeepsRecovery m end 0 0 mid new → LeavesOnly old new (IsBlankOrStandsSo m end)
+  then_so old mid new first second = followed old mid new (IsBlankOrStandsSo m end) first
+      (weaker mid new (StandsAtLeast m end 0) (IsBlankOrStandsSo m end) second.any_moment (λ image stands. inr stands))
+
+-- a log that is made is genuine, and one that was there stays so
+pub prepared_genuine : (m : Meaning) (end : ℕ) (old mid : DiskState) → IsLawful m → end ≤ 2 ^ 40 → IsDisk mid.reads mid.loose → (IsBlank old.reads → LeavesExactly m end (opening m) mid) → (IsFormatted old.reads → OnlyLooks old mid)
+    → IsGenuine m end old.reads → IsGenuine m end mid.reads
+prepared_genuine m end old mid law short sound made looks genuine = elim (cases_Bool (is_open (slice_index_or old.reads 0 []))) [
+  | inl formatted ↦ subst (IsGenuine m end) (sym (looks formatted).same) genuine
+  | inr blank ↦ recovers-genuine m end law short mid sound 0 (exactly_recovers m end mid (made blank))
+]
+
+-- what a disk recovers at least, what a read of it stands for has
+pub no_earlier : (m : Meaning) (end a : ℕ) (disk : DiskState) (w : World) → IsLawful m → end ≤ 2 ^ 40 → IsDisk disk.reads disk.loose → Recovers m end a disk → Stands m end disk.reads w → a ≤ w.time
+no_earlier m end a disk w law short sound recovers stands =
+    let least = recovers disk.reads (reads_left disk.reads disk.loose sound) in
+    subst (λ (v : World). a ≤ v.time) (image_stands_for_one m end end disk.reads least.world w law least.stands stands).1 least.time
+
+-- no log is made: one is there, or why
+no_log : (fault : LogFault) (image : List (List ℕ)) (failed : Type 0) → fault ≢ NotBlank → FormatIsRefused fault image failed → PreparingIsRefused (Log fault) image failed
+no_log NotFormatted image failed other h = h
+no_log Corrupt image failed other h = h
+no_log NoMemoryOfLog image failed other h = h
+no_log (Disk Device) image failed other h = h
+no_log (Disk NoSuchSector) image failed other h = h
+no_log NotBlank image failed other h = absurd (other refl)
+no_log Full image failed other h = h
+no_log TooLong image failed other h = h
+no_log Spent image failed other h = h
+
+module _ (fault : LogFault) (image : List (List ℕ)) (failed : Type 0) (refused : FormatIsRefused fault image failed) where
+  pub not_made : {T : Type 0} (r : Result T SimulationFault) → IfErr r (λ e. (e ≡ Log fault) × (fault ≢ NotBlank)) → IfErr r (λ e. PreparingIsRefused e image failed)
+  not_made (Ok x) h = tt
+  not_made (Err e) h = subst (λ (f : SimulationFault). PreparingIsRefused f image failed) (sym h.0) (no_log fault image failed h.1 refused)
+
+  pub was_there : {T : Type 0} (P : Type 0) (r : Result T SimulationFault) → OnOk r (fault ≡ NotBlank) → OnOk r (IsBlank image → P)
+  was_there P (Ok x) h = λ blank. (let formatted : IsFormatted image = subst (λ (f : LogFault). FormatIsRefused f image failed) h refused in absurd (false≢true (sym blank ∙ formatted)))
+  was_there P (Err e) h = tt
+
+-- and what is committed in the end is that of the end
+pub at_end : (m : Meaning) (end g : ℕ) (w : World) → IsUpto m end g w → g ≤ end → end ≤ g → IsUpto m end end w
+at_end m end g w upto soon late = (let same : g ≡ end = omega arith in subst (λ (t : ℕ). IsUpto m end t w) same upto)
+
+pub not_recovered : {D : Type 0} (m : Meaning) (end : ℕ) (log : Opened D) (image : List (List ℕ)) (fault : RecoveryFault) (failed ever : Type 0) → (failed → ever) → log.spent ≡ false → Holds log.header log.records image → RecoveryIsRefused m end log fault failed → IsNotRecovered m end image fault ever
+not_recovered m end log image OtherModel failed ever so usable held h = (held.formatted, λ entries there. h.1 (ours-of m end log.header log.records entries image there held), are-readable log.header log.records image held)
+not_recovered m end log image BadRecord failed ever so usable held h = at-fault m end log.header log.records image BadRecord held h.1 h.2
+not_recovered m end log image NotTheLeast failed ever so usable held h = at-fault m end log.header log.records image NotTheLeast held h.1 h.2
+not_recovered m end log image GoesBack failed ever so usable held h = at-fault m end log.header log.records image GoesBack held h.1 h.2
+not_recovered m end log image BadCheckpoint failed ever so usable held h = at-fault m end log.header log.records image BadCheckpoint held h.1 h.2
+not_recovered m end log image BadEnd failed ever so usable held h = at-fault m end log.header log.records image BadEnd held h.1 h.2
+not_recovered m end log image NumberLimit failed ever so usable held h = at-fault m end log.header log.records image NumberLimit held h.1 h.2
+not_recovered m end log image NoMemory failed ever so usable held h = tt
+not_recovered m end log image (LogOfRecovery NoMemoryOfLog) failed ever so usable held h = tt
+not_recovered m end log image (LogOfRecovery (Disk Device)) failed ever so usable held h = so h.2
+not_recovered m end log image (LogOfRecovery (Disk NoSuchSector)) failed ever so usable held h = absurd h
+not_recovered m end log image (LogOfRecovery NotBlank) failed ever so usable held h = absurd h
+not_recovered m end log image (LogOfRecovery NotFormatted) failed ever so usable held h = absurd h
+not_recovered m end log image (LogOfRecovery Corrupt) failed ever so usable held h = absurd h
+not_recovered m end log image (LogOfRecovery Full) failed ever so usable held h = absurd h
+not_recovered m end log image (LogOfRecovery TooLong) failed ever so usable held h = absurd h
+not_recovered m end log image (LogOfRecovery Spent) failed ever so usable held h = (let no = sym usable ∙ h in absurd cc)

@@ -1,0 +1,33 @@
+use Rattle.std.proofs.Common.{refl, sym, ◌∙◌}
+use Rattle.std.proofs.lemmas.List.{length-map}
+use Rattle.std.proofs.lemmas.Result.{IfOk-weaker}
+use Rattle.runs.proofs.Ports.{all_fresh, all_tell, so_many}
+use Rattle.wire.specs.Local.{state_of}
+use Rattle.wire.specs.declared.local.Held.TheVariants.{Fresh}
+use Rattle.runs.proofs.local.run_local.Goals as goal
+
+pub run_over-requires : goal.run_over-requires
+run_over-requires g c =
+    record {
+      some = c.requires.some;
+      few = c.requires.few;
+      each = sym (length-map c.in-Ok.ports.items _) ∙ so_many c.args.plan.nodes (state_of (g.M.Model.meaning c.args.model.now) Fresh) _ c.in-Ok.ensures.ports;
+      fresh = all_fresh c.args.plan.nodes (state_of (g.M.Model.meaning c.args.model.now) Fresh) _ c.in-Ok.ensures.ports refl;
+      begun = c.requires.begun;
+      short = c.requires.short;
+    }
+
+pub returns-clause-finished : goal.returns-clause-finished
+returns-clause-finished g c = c.run_over.ensures.finished (all_tell c.args.plan.nodes (state_of (g.M.Model.meaning c.args.model.now) Fresh) _ c.in-Ok.ensures.ports (g.M.Model.meaning c.args.model.now) refl refl)
+
+pub returns-clause-rounds : goal.returns-clause-rounds
+returns-clause-rounds g c = c.run_over.ensures.rounds (all_tell c.args.plan.nodes (state_of (g.M.Model.meaning c.args.model.now) Fresh) _ c.in-Ok.ensures.ports (g.M.Model.meaning c.args.model.now) refl refl)
+
+pub returns-clause-crashes : goal.returns-clause-crashes
+returns-clause-crashes g c = c.run_over.ensures.crashes (all_tell c.args.plan.nodes (state_of (g.M.Model.meaning c.args.model.now) Fresh) _ c.in-Ok.ensures.ports (g.M.Model.meaning c.args.model.now) refl refl)
+
+pub returns-clause-committed : goal.returns-clause-committed
+returns-clause-committed g c = c.run_over.ensures.committed (all_tell c.args.plan.nodes (state_of (g.M.Model.meaning c.args.model.now) Fresh) _ c.in-Ok.ensures.ports (g.M.Model.meaning c.args.model.now) refl refl)
+
+pub returns-clause-reached : goal.returns-clause-reached
+returns-clause-reached g c = IfOk-weaker c.run_over.result.told _ _ (λ told over. over.reached) c.run_over.ensures.over

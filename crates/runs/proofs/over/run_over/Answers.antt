@@ -1,0 +1,121 @@
+use Rattle.std.proofs.Common.{Err, ap, arith, length, refl, subst, sym, ◌≡◌, ◌∙◌}
+use Rattle.coordinator.proofs.Resuming.{driven-on}
+use Rattle.coordinator.proofs.Begun.{recovers-genuine}
+use Rattle.coordinator.specs.Session.{picture_of, running}
+use Rattle.runs.proofs.Drives.{answered, goes_by}
+use Rattle.runs.proofs.Kept.{comes_to, keeps}
+use Rattle.runs.proofs.Unfinished.{unfinished}
+use Rattle.runs.specs.declared.rounds.RunFault.TheVariants.{Rounds}
+use Rattle.model.specs.World.{IsUpto, World}
+use Rattle.protocol.specs.Picture.{opened as opened_picture}
+use Rattle.runs.proofs.over.run_over.Goals as goal
+use Rattle.runs.proofs.over.run_over.Goals.{in-Ok-run_session, in-Err-run_session}
+
+pub returns-clause-over : goal.returns-clause-over
+returns-clause-over g c = elim c.match-run_session.branch [
+  | in-Ok-run_session w ↦
+      let time = ap (λ (v : World). v.time) w.front-front.ensures in
+      rw w.told-is
+      (record {
+        rounds = w.in-Ok-run_session.ensures.in_rounds.0;
+        front = c.run_session.new.session.front;
+        some = w.in-Ok-run_session.ensures.in_rounds.1;
+        run = record {
+          first = c.in-Ok.session;
+          last = c.run_session.new.session;
+          same = (c.in-Ok.ensures.same.0, c.in-Ok.ensures.same.1);
+          replayed = c.in-Ok.ensures.replayed;
+          driven = w.in-Ok-run_session.ensures.in_rounds.2;
+          front_is = refl;
+          left = c.into_disk.ensures;
+        };
+        reached = omega (arith, w.in-Ok-run_session.ensures.ended, time);
+        time_is = sym time;
+        events_are = sym (ap (λ (v : World). length v.log) w.front-front.ensures);
+      })
+  | in-Err-run_session w ↦ rw w.told-is tt
+]
+
+pub returns-clause-rounds_over : goal.returns-clause-rounds_over
+returns-clause-rounds_over g c = elim c.match-run_session.branch [
+  | in-Ok-run_session w ↦ rw w.told-is (λ is. absurd (cc))
+  | in-Err-run_session w ↦
+      rw w.told-is
+      (λ is.
+      let cause : w.in-Err-run_session.fault ≡ Rounds = cc in
+      let all = ap Err cause in
+      record {
+        front = c.run_session.new.session.front;
+        run = record {
+          first = c.in-Ok.session;
+          last = c.run_session.new.session;
+          same = (c.in-Ok.ensures.same.0, c.in-Ok.ensures.same.1);
+          replayed = c.in-Ok.ensures.replayed;
+          driven = w.in-Err-run_session.ensures.all_rounds all;
+          front_is = refl;
+          left = c.into_disk.ensures;
+        };
+        early = w.in-Err-run_session.ensures.rounds all;
+      })
+]
+
+pub returns-clause-finished : goal.returns-clause-finished
+returns-clause-finished g c = λ tell genuine. elim c.match-run_session.branch [
+  | in-Ok-run_session w ↦
+      let same = c.in-Ok.ensures.same in
+      let told = (c.in-Ok.ensures.told genuine tell).0 in
+      let front = c.run_session.new.session.front in
+      let upto : IsUpto (g.M.Model.meaning c.args.model.now) c.args.end c.args.end front = subst (λ (x : g.row.M.Denot). IsUpto (g.M.Model.meaning x) c.args.end c.args.end front) same.0 (w.in-Ok-run_session.ensures.finished same.1 told) in
+      rw w.told-is
+      (record {
+        world = front;
+        upto = upto;
+        time_is = sym (ap (λ (v : World). v.time) w.front-front.ensures) ∙ upto.time;
+        events_are = sym (ap (λ (v : World). length v.log) w.front-front.ensures);
+      })
+  | in-Err-run_session w ↦ rw w.told-is tt
+]
+
+pub returns-clause-crashes : goal.returns-clause-crashes
+returns-clause-crashes g c = λ tell a recovers.
+    let opened = c.in-Ok.ensures in
+    let m = g.M.Model.meaning c.args.model.now in
+    let genuine = recovers-genuine m c.args.end (g.met.M.Model.lawful c.args.model.now) c.requires.short (g.D.SectorDisk.state c.args.disk) (g.met.D.SectorDisk.sound c.args.disk) a recovers in
+    let told = (opened.told genuine tell).0 in
+    rw c.into_disk.ensures
+    (keeps m c.args.end c.in-Ok.session.front c.run_session.new.session.front (g.D.SectorDisk.state c.args.disk) (g.D.SectorDisk.state c.in-Ok.session.log.disk) (g.D.SectorDisk.state c.run_session.new.session.log.disk)
+    (driven-on _ _ _ _ c.in-Ok.session.front c.run_session.new.session.front c.in-Ok.session.log _ _ (ap g.M.Model.meaning opened.same.0) opened.same.1 (c.run_session.ensures.keeps.crashes told) (opened.written genuine))
+    a (opened.crashes a recovers))
+
+pub returns-clause-committed : goal.returns-clause-committed
+returns-clause-committed g c = λ tell genuine. elim c.match-run_session.branch [
+  | in-Ok-run_session w ↦
+      let opened = c.in-Ok.ensures in
+      let m = g.M.Model.meaning c.args.model.now in
+      let told = (opened.told genuine tell).0 in
+      rw (w.told-is, c.into_disk.ensures)
+      (comes_to m c.args.end c.in-Ok.session.front c.run_session.new.session.front (g.D.SectorDisk.state c.args.disk) (g.D.SectorDisk.state c.in-Ok.session.log.disk) (g.D.SectorDisk.state c.run_session.new.session.log.disk)
+      (driven-on _ _ _ _ c.in-Ok.session.front c.run_session.new.session.front c.in-Ok.session.log _ _ (ap g.M.Model.meaning opened.same.0) opened.same.1 (c.run_session.ensures.keeps.crashes told) (opened.written genuine))
+      c.args.end w.in-Ok-run_session.ensures.ended (opened.exactly genuine))
+  | in-Err-run_session w ↦ rw w.told-is tt
+]
+
+pub returns-clause-rounds : goal.returns-clause-rounds
+returns-clause-rounds g c = λ tell genuine. elim c.match-run_session.branch [
+  | in-Ok-run_session w ↦ rw w.told-is (λ is. absurd (cc))
+  | in-Err-run_session w ↦
+      let m = g.M.Model.meaning c.args.model.now in
+      let opened = c.in-Ok.ensures in
+      let begun = opened.told genuine tell in
+      let picture = subst (λ n. picture_of (running g.M.Model.meaning g.P.Port.state c.in-Ok.session) ≡ opened_picture m.lps n c.in-Ok.session.front) c.requires.each begun.1 in
+      rw w.told-is
+      (λ is.
+      let cause : w.in-Err-run_session.fault ≡ Rounds = cc in
+      let all = ap Err cause in
+      let by = w.in-Err-run_session.ensures.all_rounds all in
+      unfinished m c.args.end c.args.plan (g.D.SectorDisk.state c.args.disk).reads c.in-Ok.session.front
+      (running g.M.Model.meaning g.P.Port.state c.in-Ok.session) (running g.M.Model.meaning g.P.Port.state c.run_session.new.session) by.steps
+      opened.replayed (ap g.M.Model.meaning opened.same.0) opened.same.1 picture by.shape
+      ((goes_by g.M.Model.meaning g.P.Port.state g.D.SectorDisk.state by.steps c.in-Ok.session c.run_session.new.session by.made).made begun.0)
+      (answered g.M.Model.meaning g.P.Port.state g.D.SectorDisk.state by.steps c.in-Ok.session c.run_session.new.session by.made begun.0) (w.in-Err-run_session.ensures.rounds all))
+]

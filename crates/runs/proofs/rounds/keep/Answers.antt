@@ -1,0 +1,11 @@
+use Rattle.std.proofs.Common.{◌≡◌, Bool, List, [], ◌∷◌, ap, cond, refl}
+use Rattle.protocol.specs.Moves.Move.{Checkpoint}
+use Rattle.runs.specs.Driver.{Made, kept_after, moves_of}
+use Rattle.runs.specs.Tallies.{CountsNothing}
+use Rattle.runs.proofs.Drives.{one_step_by}
+use Rattle.runs.proofs.rounds.keep.Goals as goal
+
+pub returns-in_ok-step-clause-driven : goal.returns-in_ok-step-clause-driven
+returns-in_ok-step-clause-driven g c =
+    one_step_by g.M.Model.meaning g.P.Port.state g.D.SectorDisk.state (λ (made : List Made). (moves_of made ≡ kept_after c.args.every c.args.number) × CountsNothing made) _ c.in_ok-step.field-0 c.args.session.now c.step.new.self
+    (ap (λ (b : Bool). cond b (Checkpoint ∷ []) []) c.if-is_kept.ensures, record { told = λ told. refl; commits = refl }) c.in_ok-step.ensures

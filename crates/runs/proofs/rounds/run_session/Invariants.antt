@@ -1,0 +1,16 @@
+use Rattle.std.proofs.Common.{◌≡◌, ◌≤◌, ◌-◌, length}
+use Rattle.runs.specs.Driver.{AreRounds, IsDrivenBy}
+use Rattle.runs.specs.Tallies.{IsTallyOf}
+use Rattle.runs.proofs.rounds.run_session.Given as goal
+
+abbrev pub invariant-rounds : goal.invariant-rounds
+invariant-rounds g l = record {
+  made : l.made ≤ l.plan.rounds;
+  driven : IsDrivenBy g.M.Model.meaning g.P.Port.state g.D.SectorDisk.state (λ made. AreRounds l.plan l.end l.made made × IsTallyOf l.plan.commit_every l.tally made) l.fn.session l.session;
+  commits : l.tally.commits ≤ l.made;
+  budgets : length l.tally.budgets.items ≡ l.plan.nodes;
+  count : length l.handled_per_node.items ≡ l.plan.nodes;
+}
+
+abbrev pub decreases-rounds : goal.decreases-rounds
+decreases-rounds g l = l.plan.rounds - l.made

@@ -1,0 +1,19 @@
+//! Runs: rounds of steps of a session, until all is committed up to the end; and whole simulations on
+//! a disk, a call for each, for programs without a command line.
+#![tactic(auto)]
+
+mod budgets;
+mod fault;
+mod local;
+mod over;
+mod picks;
+mod rounds;
+mod simulating;
+mod tally;
+
+pub use fault::SimulationFault;
+pub use local::{local_ports, run_local};
+pub use over::{Finished, Ran, run_over};
+pub use rounds::{Batch, Plan, RunFault, Watch, run_session};
+pub use simulating::{Ended, Outcome, committed, prepare, run, sequential, simulate};
+pub use tally::Turn;

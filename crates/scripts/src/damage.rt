@@ -1,0 +1,100 @@
+// Disks of format 1 of which one byte is another: each is refused, or what is migrated is a
+// beginning of what the plain run handles.
+
+ghost use Rattle.std.specs.Prelude.{◌≤◌, ◌^◌};
+
+use commands::{Ended, Simulated, log, migrate, old_log};
+use disk::{MemDisk, Plan};
+use models::AnyModel;
+use program::simulated;
+use std::alloc::Global;
+use std::fs::{self, File};
+use std::io::{self, Error, ErrorKind, Print};
+use std::rt::Files;
+
+/// How many bytes a disk has at the most.
+const MOST: usize = 1 << 24;
+
+/// How many sectors the new disk has.
+const SECTORS: u32 = 64;
+
+/// How many damaged disks are refused, change nothing, or have less on them.
+#[derive(Clone, Copy)]
+struct Counts {
+    refused: u32,
+    whole: u32,
+    begun: u32,
+}
+
+/// `MODEL OLD LOG`: migrates the disk with the lowest bit of each of its bytes turned, in memory,
+/// and prints how that comes out.
+pub fn report<R>(rt: &R, words: &[String]) -> io::Result<u8>
+where
+    R: Files<File = File> + Print + AllocGlobal,
+{
+    let [model, old, log] = words else {
+        return Ok(2);
+    };
+    let Ok(of) = simulated::<AnyModel, _>(rt, model.as_str()) else {
+        return Err(Error::from(ErrorKind::InvalidData));
+    };
+    let image = fs::read(rt, old.as_str())?;
+    let whole = fs::read(rt, log.as_str())?;
+    let mut counts = Counts {
+        refused: 0,
+        whole: 0,
+        begun: 0,
+    };
+    for place in 0..image.len() {
+        let mut damaged = Vec::new(rt.alloc());
+        damaged.extend_from_slice(image.as_slice())?;
+        damaged[place] ^= 1;
+        let mut text = Vec::new(rt.alloc());
+        let is_made = migrated(rt.alloc(), &of, damaged, &mut text)?;
+        if !is_made {
+            counts.refused = counts.refused.wrapping_add(1);
+        } else if text.as_slice() == whole.as_slice() {
+            counts.whole = counts.whole.wrapping_add(1);
+        } else if whole.as_slice().starts_with(text.as_slice()) {
+            counts.begun = counts.begun.wrapping_add(1);
+        } else {
+            println!(rt; "byte {place} is believed")?;
+        }
+    }
+    let Counts {
+        refused,
+        whole,
+        begun,
+    } = counts;
+    println!(rt; "{refused} are refused, {whole} change nothing, and behind {begun} less stands")?;
+    Ok(0)
+}
+
+/// What `log` prints of the disk that is made of one with this image, and whether it is made.
+fn migrated(
+    alloc: Global,
+    of: &Simulated<AnyModel>,
+    image: Vec<u8>,
+    text: &mut Vec<u8>,
+) -> io::Result<bool>
+    requires some { 1 ≤ of.now.end }
+    requires short { of.now.end ≤ 2 ^ 40 }
+{
+    if image.len() > MOST {
+        return Ok(false);
+    }
+    let old = MemDisk::of(alloc, image, Plan::default())?;
+    let Ok(mut old) = old_log(alloc, of, old) else {
+        return Ok(false);
+    };
+    let new = MemDisk::blank(alloc, SECTORS)?;
+    let mut told = Vec::new(alloc);
+    let Ended { disk, told } = migrate(alloc, of, &mut old, new, &mut told);
+    if told.is_err() {
+        return Ok(false);
+    }
+    if log(alloc, of, disk, text).is_err() {
+        text.push(b'?')?;
+    }
+    Ok(true)
+}

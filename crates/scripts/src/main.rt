@@ -1,0 +1,62 @@
+//! `timewarp` by its name or where it is given words. With none it plays the scripts of its folder:
+//! what a user types, and what has to come of it.
+//!
+//! It has other names for what no shell tool does: `peer` speaks bytes to a node program or a run,
+//! `named` starts the program under another name, and `damage` migrates damaged disks in memory.
+#![tactic(auto)]
+
+mod damage;
+mod peer;
+mod play;
+mod script;
+
+use models::AnyModel;
+use program::{About, start, words};
+use std::io;
+use std::os::unix::process::CommandExt;
+use std::process::{Command, ExitCode};
+use texts::ANY_MODEL_KEYS;
+
+const ABOUT: About<'static> = About {
+    name: "timewarp",
+    example: "examples/ring.toml",
+    keys: ANY_MODEL_KEYS,
+};
+
+fn main(rt: HostRuntime) -> ExitCode {
+    let Ok(words) = words(&rt) else {
+        return ExitCode::from(2);
+    };
+    let words = words.as_slice();
+    let Some((name, rest)) = words.split_first() else {
+        return ExitCode::from(2);
+    };
+    let done = match name.as_str() {
+        "peer" => peer::speak(&rt, rest),
+        "named" => named(&rt, rest),
+        "damage" => damage::report(&rt, rest),
+        "timewarp" => Ok(start::<AnyModel, _, _>(&rt, ABOUT, rt.stderr())),
+        _ if rest.is_empty() => play::play_all(&rt, name.as_str()),
+        _ => Ok(start::<AnyModel, _, _>(&rt, ABOUT, rt.stderr())),
+    };
+    match done {
+        Ok(status) => ExitCode::from(status),
+        Err(error) => {
+            let _ = println!(rt; "{error}");
+            ExitCode::from(1)
+        }
+    }
+}
+
+/// Starts this program under another name, which is the first word. Answers its status.
+fn named(rt: &HostRuntime, words: &[String]) -> io::Result<u8> {
+    let Some((name, rest)) = words.split_first() else {
+        return Ok(2);
+    };
+    let mut command = Command::new(rt.alloc(), "/proc/self/exe")?;
+    command.arg0(name.as_str())?;
+    for word in rest {
+        command.arg(word.as_str())?;
+    }
+    Ok(play::status_of(command.status(rt)?.code()))
+}

@@ -1,2 +1,0 @@
--- For callers
-pub mod Simulation  -- what a simulation leaves and tells, and why a call is refused

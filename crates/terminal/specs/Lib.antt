@@ -1,0 +1,2 @@
+-- For callers
+pub mod Trace  -- the trace of a run

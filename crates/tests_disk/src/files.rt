@@ -1,0 +1,427 @@
+// Disks over files of the system: which files are disks, what they keep, and how they grow.
+use crate::shared::{
+    NO_SECTOR, are_filled, fill, found, free_path, is_seen, make_file, open_to_read, opened,
+    refusal, remove, size_of, store, unfinished_path,
+};
+use disk::{
+    DiskFault, FileDisk, FileFault, GrowingDisk, GrowthFault, MOST_SECTORS, MOST_SECTORS_OF_LARGE,
+    SectorDisk,
+};
+use std::fs::{File, Permissions};
+use std::io::Write;
+use std::os::unix::fs::PermissionsExt;
+use std::path::PathBuf;
+use std::test::Fail;
+use std::{fs, io};
+
+/// Writes some sectors of a new disk and syncs it. It says whether the new disk was blank and ended
+/// at its size.
+fn fill_new(rt: &HostRuntime, path: &PathBuf) -> Result<bool, Fail> {
+    let mut disk = opened(rt, path, Some(300))?;
+    let was_blank = are_filled(&mut disk, &[(0, 0), (299, 0)])?;
+    store(&mut disk, &[(0, 1), (1, 2), (2, 3), (150, 4), (299, 5)])?;
+    Ok(was_blank && disk.write(300, &[1; 512]) == NO_SECTOR)
+}
+
+const KEPT: [(u32, u8); 7] = [(0, 1), (1, 2), (2, 3), (3, 0), (150, 4), (298, 0), (299, 5)];
+
+#[test]
+fn a_file_keeps_what_was_synced(rt: HostRuntime) -> Result<(), Fail> {
+    let path = free_path(&rt, "kept")?;
+    let refused = refusal(&rt, &path, None);
+    let filled = fill_new(&rt, &path)?;
+    assert_eq!(rt; (refused, filled), (Some(FileFault::File), true));
+    assert_eq!(rt; refusal(&rt, &path, Some(299)), Some(FileFault::File));
+    for sectors in [None, Some(300)] {
+        assert_eq!(rt; found(&rt, &path, sectors, &KEPT)?, (300, true));
+    }
+    remove(&rt, &path)?;
+    Ok(())
+}
+
+/// Why a file of so many bytes is not opened as a disk, of any size and of so many sectors.
+fn refused_of(
+    rt: &HostRuntime,
+    path: &PathBuf,
+    bytes: u64,
+    sectors: u32,
+) -> io::Result<[Option<FileFault>; 2]> {
+    make_file(rt, path, bytes)?;
+    Ok([refusal(rt, path, None), refusal(rt, path, Some(sectors))])
+}
+
+const REFUSED: Option<FileFault> = Some(FileFault::File);
+
+const SIZES: [(u64, u32, [Option<FileFault>; 2]); 5] = [
+    (8 * 512, 8, [None, None]),
+    (7 * 512, 8, [REFUSED, REFUSED]),
+    (8 * 512 + 1, 8, [REFUSED, REFUSED]),
+    (131_073 * 512, 131_072, [REFUSED, REFUSED]),
+    (7 * 512, 7, [REFUSED, None]),
+];
+
+#[test]
+fn a_file_of_another_size_is_no_disk(rt: HostRuntime) -> Result<(), Fail> {
+    let path = free_path(&rt, "size")?;
+    for (bytes, sectors, want) in SIZES {
+        assert_eq!(rt; refused_of(&rt, &path, bytes, sectors)?, want);
+    }
+    remove(&rt, &path)?;
+    Ok(())
+}
+
+/// Stores the last sector of a disk. Answers its sectors, and what a write behind them answers.
+fn store_last(
+    rt: &HostRuntime,
+    path: &PathBuf,
+    last: u32,
+    most: u32,
+) -> Result<(u32, Result<(), DiskFault>), Fail> {
+    let mut disk = FileDisk::open_up_to(rt, rt.alloc(), path.as_str(), None, most)?;
+    store(&mut disk, &[(last, 1)])?;
+    Ok((
+        disk.sectors(),
+        disk.write(last.saturating_add(1), &[1; 512]),
+    ))
+}
+
+/// Whether a disk has zeros and a last sector of ones.
+fn has_last(rt: &HostRuntime, path: &PathBuf, last: u32, most: u32) -> Result<bool, Fail> {
+    let mut disk = FileDisk::open_up_to(rt, rt.alloc(), path.as_str(), None, most)?;
+    Ok(are_filled(&mut disk, &[(0, 0), (last.saturating_sub(1), 0), (last, 1)])?)
+}
+
+#[test]
+fn a_file_of_the_most_sectors_is_a_disk(rt: HostRuntime) -> Result<(), Fail> {
+    let path = free_path(&rt, "most")?;
+    make_file(&rt, &path, 131_072 * 512)?;
+    assert_eq!(rt; fill_most(&rt, &path)?, (131_072, NO_SECTOR));
+    let kept = found(&rt, &path, None, &[(131_070, 0), (131_071, 1)])?;
+    assert_eq!(rt; kept, (131_072, true));
+    remove(&rt, &path)?;
+    Ok(())
+}
+
+/// Stores the last of the most sectors. Answers how many there are, and what a write behind them
+/// answers.
+fn fill_most(rt: &HostRuntime, path: &PathBuf) -> Result<(u32, Result<(), DiskFault>), Fail> {
+    let mut disk = opened(rt, path, None)?;
+    store(&mut disk, &[(131_071, 1)])?;
+    Ok((disk.sectors(), disk.write(131_072, &[1; 512])))
+}
+
+fn allow(rt: &HostRuntime, path: &PathBuf, mode: u32) -> io::Result<()> {
+    fs::set_permissions(rt, path.as_path(), Permissions::from_mode(mode))
+}
+
+/// Why a file is not opened that may only be read.
+fn refused_readonly(rt: &HostRuntime, path: &PathBuf) -> io::Result<Option<FileFault>> {
+    allow(rt, path, 0o444)?;
+    let refused = refusal(rt, path, None);
+    allow(rt, path, 0o644)?;
+    Ok(refused)
+}
+
+#[test]
+fn a_file_that_may_not_be_written_is_no_disk(rt: HostRuntime) -> Result<(), Fail> {
+    let path = free_path(&rt, "readonly")?;
+    make_file(&rt, &path, 8 * 512)?;
+    assert_eq!(rt; refused_readonly(&rt, &path)?, Some(FileFault::File));
+    assert_eq!(rt; refusal(&rt, &path, None), None);
+    remove(&rt, &path)?;
+    assert_eq!(rt; refused_folder(&rt)?, Some(FileFault::File));
+    Ok(())
+}
+
+/// Why a folder is no disk.
+fn refused_folder(rt: &HostRuntime) -> io::Result<Option<FileFault>> {
+    Ok(refusal(rt, &std::env::temp_dir(rt)?, Some(8)))
+}
+
+/// Leaves an unfinished file of so many bytes, makes the disk, and answers whether it is blank and
+/// the unfinished file gone.
+fn made_after(rt: &HostRuntime, path: &PathBuf, left: u64) -> Result<(bool, bool), Fail> {
+    let unfinished = unfinished_path(rt, path)?;
+    leave(rt, &unfinished, left)?;
+    let (_sectors, blank) = found(rt, path, Some(8), &[(0, 0), (7, 0)])?;
+    Ok((blank, fs::exists(rt, unfinished.as_path())?))
+}
+
+/// Makes a file of sevens and zeros of so many bytes.
+fn leave(rt: &HostRuntime, path: &PathBuf, bytes: u64) -> io::Result<()> {
+    let mut file = File::create(rt, path.as_path())?;
+    file.write_all(&[7; 100])?;
+    file.set_len(bytes)
+}
+
+#[test]
+fn what_a_killed_program_left_of_a_new_disk_is_taken(rt: HostRuntime) -> Result<(), Fail> {
+    let path = free_path(&rt, "unfinished")?;
+    for left in [0, 100, 9 * 512] {
+        assert_eq!(rt; made_after(&rt, &path, left)?, (true, false));
+        remove(&rt, &path)?;
+    }
+    Ok(())
+}
+
+/// What a second program meets while one has the disk: why it is refused, whether who only looks
+/// sees nothing of what is loose, and whether all of what is synced.
+fn met_beside(
+    rt: &HostRuntime,
+    path: &PathBuf,
+) -> Result<([Option<FileFault>; 2], [bool; 2]), Fail> {
+    let mut disk = opened(rt, path, Some(8))?;
+    let refused = [refusal(rt, path, None), refusal(rt, path, Some(8))];
+    fill(&mut disk, &[(3, 3)])?;
+    let before = is_seen(rt, path, &[(3, 0)])?;
+    disk.sync()?;
+    Ok((refused, [before, is_seen(rt, path, &[(3, 3)])?]))
+}
+
+/// What a sync of who only looks answers, before a write and after it, while a program has the
+/// disk.
+fn looked(rt: &HostRuntime, path: &PathBuf) -> Result<[Result<(), DiskFault>; 2], Fail> {
+    let _writer = opened(rt, path, Some(8))?;
+    let mut seen = open_to_read(rt, path)?;
+    let before = seen.sync();
+    seen.write(3, &[4; 512])?;
+    Ok([before, seen.sync()])
+}
+
+#[test]
+fn a_disk_has_one_writer(rt: HostRuntime) -> Result<(), Fail> {
+    let path = free_path(&rt, "writers")?;
+    let refused = [Some(FileFault::File), Some(FileFault::File)];
+    assert_eq!(rt; met_beside(&rt, &path)?, (refused, [true, true]));
+    assert_eq!(rt; looked(&rt, &path)?, [Ok(()), Err(DiskFault::Device)]);
+    assert_eq!(rt; found(&rt, &path, None, &[(3, 3)])?, (8, true));
+    remove(&rt, &path)?;
+    Ok(())
+}
+
+/// The sectors of a disk of which the file may only be read.
+fn seen_readonly(rt: &HostRuntime, path: &PathBuf) -> Result<u32, Fail> {
+    drop(opened(rt, path, Some(8))?);
+    allow(rt, path, 0o444)?;
+    let seen = open_to_read(rt, path)?.sectors();
+    allow(rt, path, 0o644)?;
+    Ok(seen)
+}
+
+#[test]
+fn a_file_that_may_only_be_read_is_looked_at(rt: HostRuntime) -> Result<(), Fail> {
+    let path = free_path(&rt, "looked-at")?;
+    assert_eq!(rt; seen_readonly(&rt, &path)?, 8);
+    make_file(&rt, &path, 8 * 512 + 1)?;
+    assert_eq!(rt; open_to_read(&rt, &path).err(), Some(FileFault::File));
+    remove(&rt, &path)?;
+    Ok(())
+}
+
+/// What opens a file of 131,073 sectors: to read it up to the most, to write it up to one less, and
+/// up to as many.
+fn opened_large(rt: &HostRuntime, path: &PathBuf) -> Result<(u32, Option<FileFault>, bool), Fail> {
+    let path = path.as_str();
+    let most = MOST_SECTORS_OF_LARGE;
+    let seen = FileDisk::open_to_read_up_to(rt, rt.alloc(), path, most)?.sectors();
+    let few = FileDisk::open_up_to(rt, rt.alloc(), path, None, 131_072).err();
+    let mut disk = FileDisk::open_up_to(rt, rt.alloc(), path, None, 131_073)?;
+    Ok((
+        seen,
+        few,
+        are_filled(&mut disk, &[(131_071, 0), (131_072, 1)])?,
+    ))
+}
+
+#[test]
+fn a_large_file_is_a_disk_where_it_may_be(rt: HostRuntime) -> Result<(), Fail> {
+    let path = free_path(&rt, "large")?;
+    make_file(&rt, &path, 131_073 * 512)?;
+    let refused = (refusal(&rt, &path, None), open_to_read(&rt, &path).err());
+    assert_eq!(rt; refused, (Some(FileFault::File), Some(FileFault::File)));
+    let stored = store_last(&rt, &path, 131_072, MOST_SECTORS_OF_LARGE)?;
+    assert_eq!(rt; stored, (131_073, NO_SECTOR));
+    let kept = opened_large(&rt, &path)?;
+    assert_eq!(rt; kept, (131_073, Some(FileFault::File), true));
+    remove(&rt, &path)?;
+    Ok(())
+}
+
+#[test]
+fn a_sparse_file_keeps_its_last_sector(rt: HostRuntime) -> Result<(), Fail> {
+    let path = free_path(&rt, "sparse")?;
+    make_file(&rt, &path, 1_000_000 * 512)?;
+    let stored = store_last(&rt, &path, 999_999, MOST_SECTORS_OF_LARGE)?;
+    assert_eq!(rt; stored, (1_000_000, NO_SECTOR));
+    assert!(rt; has_last(&rt, &path, 999_999, MOST_SECTORS_OF_LARGE)?);
+    remove(&rt, &path)?;
+    Ok(())
+}
+
+/// Writes two sectors after the last sync.
+fn write_and_end(rt: &HostRuntime, path: &PathBuf) -> Result<(), Fail> {
+    let mut disk = opened(rt, path, Some(8))?;
+    store(&mut disk, &[(1, 1)])?;
+    fill(&mut disk, &[(1, 9), (2, 9)])?;
+    Ok(())
+}
+
+#[test]
+fn a_program_that_ends_before_a_sync_leaves_the_file(rt: HostRuntime) -> Result<(), Fail> {
+    let path = free_path(&rt, "unsynced")?;
+    write_and_end(&rt, &path)?;
+    let kept = found(&rt, &path, None, &[(0, 0), (1, 1), (2, 0), (3, 0)])?;
+    assert_eq!(rt; kept, (8, true));
+    remove(&rt, &path)?;
+    Ok(())
+}
+
+// With ample memory each call here answers at once. `rt try --test --fail-alloc 1..` refuses each
+// allocation in turn: the call that meets it leaves all as it was, and the same call made again
+// answers as it would have.
+fn opened_too(
+    rt: &HostRuntime,
+    path: &PathBuf,
+    sectors: Option<u32>,
+) -> Result<FileDisk, FileFault> {
+    match opened(rt, path, sectors) {
+        Err(FileFault::NoMemory) => opened(rt, path, sectors),
+        other => other,
+    }
+}
+
+/// Makes the file, and writes a sector.
+fn make(rt: &HostRuntime, path: &PathBuf) -> Result<(), Fail> {
+    store(&mut opened_too(rt, path, Some(8))?, &[(6, 6)])?;
+    Ok(())
+}
+
+/// The sectors of the disk, and whether only that sector is written.
+fn made(rt: &HostRuntime, path: &PathBuf) -> Result<(u32, bool), Fail> {
+    let mut disk = opened_too(rt, path, None)?;
+    let filled = are_filled(&mut disk, &[(0, 0), (5, 0), (6, 6), (7, 0)])?;
+    Ok((disk.sectors(), filled))
+}
+
+#[test]
+fn a_file_is_opened_where_memory_was_refused_once(rt: HostRuntime) -> Result<(), Fail> {
+    let path = free_path(&rt, "memory")?;
+    make(&rt, &path)?;
+    assert_eq!(rt; made(&rt, &path)?, (8, true));
+    remove(&rt, &path)?;
+    Ok(())
+}
+
+/// Grows a disk by this call. Answers what it says, and the sectors and the bytes of the file then.
+fn grown(
+    rt: &HostRuntime,
+    path: &PathBuf,
+    disk: &mut FileDisk,
+    sectors: u32,
+    most: u32,
+) -> io::Result<(Result<(), GrowthFault>, u32, u64)> {
+    let told = disk.grow(rt.alloc(), sectors, most);
+    Ok((told, disk.sectors(), size_of(rt, path)?))
+}
+
+type Growth = (u32, u32, (Result<(), GrowthFault>, u32, u64));
+
+/// Whether each of these calls answers so.
+fn grow_so(
+    rt: &HostRuntime,
+    path: &PathBuf,
+    disk: &mut FileDisk,
+    rows: &[Growth],
+) -> io::Result<bool> {
+    for (sectors, most, want) in rows {
+        if grown(rt, path, disk, *sectors, *most)? != *want {
+            return Ok(false);
+        }
+    }
+    Ok(true)
+}
+
+const GROWTHS: [Growth; 4] = [
+    (7, MOST_SECTORS, (Err(GrowthFault::Fewer), 8, 8 * 512)),
+    (
+        MOST_SECTORS + 1,
+        MOST_SECTORS,
+        (Err(GrowthFault::TooMany), 8, 8 * 512),
+    ),
+    (8, MOST_SECTORS, (Ok(()), 8, 8 * 512)),
+    (20, MOST_SECTORS, (Ok(()), 20, 20 * 512)),
+];
+
+const GROWN: [(u32, u8); 5] = [(0, 0), (6, 0), (7, 7), (8, 0), (19, 0)];
+
+/// Whether a disk grows as it should with a loose sector, what it has then, and whether that
+/// reached the file before it grew.
+fn grow_new(rt: &HostRuntime, path: &PathBuf) -> Result<[bool; 4], Fail> {
+    let mut disk = opened(rt, path, Some(8))?;
+    fill(&mut disk, &[(7, 7)])?;
+    let told = grow_so(rt, path, &mut disk, &GROWTHS)?;
+    let filled = are_filled(&mut disk, &GROWN)?;
+    let seen = is_seen(rt, path, &GROWN)?;
+    store(&mut disk, &[(19, 9)])?;
+    Ok([told, filled, seen, disk.write(20, &[9; 512]) == NO_SECTOR])
+}
+
+#[test]
+fn a_disk_over_a_file_grows(rt: HostRuntime) -> Result<(), Fail> {
+    let path = free_path(&rt, "growing")?;
+    assert_eq!(rt; grow_new(&rt, &path)?, [true; 4]);
+    let kept = found(&rt, &path, None, &[(7, 7), (18, 0), (19, 9)])?;
+    assert_eq!(rt; kept, (20, true));
+    remove(&rt, &path)?;
+    Ok(())
+}
+
+/// What a growth answers of a disk that may only be read, whether it is as it was, and what a sync
+/// answers then, which can't give the file its size again.
+fn grow_seen(
+    rt: &HostRuntime,
+    path: &PathBuf,
+) -> Result<(bool, bool, Result<(), DiskFault>), Fail> {
+    drop(opened(rt, path, Some(8))?);
+    let mut seen = open_to_read(rt, path)?;
+    let want = (Err(GrowthFault::Device), 8, 8 * 512);
+    let told = grow_so(rt, path, &mut seen, &[(20, MOST_SECTORS, want)])?;
+    Ok((told, are_filled(&mut seen, &[(0, 0), (7, 0)])?, seen.sync()))
+}
+
+#[test]
+fn a_disk_that_may_only_be_read_does_not_grow(rt: HostRuntime) -> Result<(), Fail> {
+    let path = free_path(&rt, "growing-read")?;
+    let want = (true, true, Err(DiskFault::Device));
+    assert_eq!(rt; grow_seen(&rt, &path)?, want);
+    remove(&rt, &path)?;
+    Ok(())
+}
+
+const FAR: [Growth; 4] = [
+    (20, 19, (Err(GrowthFault::TooMany), 8, 8 * 512)),
+    (7, 6, (Err(GrowthFault::Fewer), 8, 8 * 512)),
+    (
+        131_073,
+        MOST_SECTORS,
+        (Err(GrowthFault::TooMany), 8, 8 * 512),
+    ),
+    (131_073, 131_073, (Ok(()), 131_073, 131_073 * 512)),
+];
+
+/// Whether a disk grows as far as it may, and what it has then.
+fn grow_far(rt: &HostRuntime, path: &PathBuf) -> Result<(bool, bool), Fail> {
+    let mut disk = opened(rt, path, Some(8))?;
+    let told = grow_so(rt, path, &mut disk, &FAR)?;
+    store(&mut disk, &[(131_072, 3)])?;
+    let filled = are_filled(&mut disk, &[(7, 0), (131_071, 0), (131_072, 3)])?;
+    Ok((told, filled))
+}
+
+#[test]
+fn a_disk_grows_as_far_as_it_may(rt: HostRuntime) -> Result<(), Fail> {
+    let path = free_path(&rt, "growing-large")?;
+    assert_eq!(rt; grow_far(&rt, &path)?, (true, true));
+    remove(&rt, &path)?;
+    Ok(())
+}

@@ -1,0 +1,86 @@
+// A node of a ring of three processes behind bytes: a round of a run, and refusals.
+
+ghost use Rattle.std.specs.Prelude.{◌≡◌, ◌≤◌, ◌^◌, IfOk, OnOk};
+ghost use Rattle.wire.specs.Port.{IsLoadInRange};
+ghost use Rattle.wire.specs.Port.Stage.{Idle};
+
+use eventkey::{Listed, Message, Sign, Signed};
+use loopback::LoopPort;
+use model::{State, Words};
+use models::TokenRing;
+use node::{Load, NodeFault, Parcel, Part, Reply};
+use std::alloc::Global;
+use std::test::Fail;
+use wire::{Port, PortFault};
+
+/// One token round three processes, two ticks at each.
+fn ring() -> TokenRing {
+    TokenRing::new(3, 2, 1)
+}
+
+/// Node 0 of three, with the token of the ring, told to be process `lp`.
+fn load(alloc: Global, lp: u32) -> Result<Load, Fail>
+    ensures { IfOk result (λ load. IsLoadInRange load) }
+{
+    let mut words = Words::new(alloc);
+    words.push_reserved(0);
+    let mut pending = Vec::new(alloc);
+    pending.push(Message::new(1, 0, 0, 0, 0, 0, 0, 0)?)?;
+    let mut parts = Vec::new(alloc);
+    parts.push(Part {
+        lp,
+        number: 1,
+        words: State::from_words(words),
+        pending: Listed::from_vec(pending),
+    })?;
+    Ok(Load {
+        node: 0,
+        nodes: 3,
+        end: 10,
+        floor: 0,
+        parts: Listed::from_vec(parts),
+    })
+}
+
+/// Posts a parcel that delivers nothing, and takes the reply.
+fn round<P: Port>(port: &mut P, alloc: Global, floor: u64) -> Result<Reply, PortFault>
+    requires idle { (P.state port.old).stage ≡ Idle }
+    requires floor { floor ≤ 2 ^ 40 }
+    ensures { OnOk result ((P.state port.new).stage ≡ Idle) }
+{
+    port.post(Parcel {
+        deliver: Listed::from_vec(Vec::new(alloc)),
+        budget: 16,
+        floor,
+    })?;
+    port.take()
+}
+
+#[test]
+fn a_round_of_a_run(rt: HostRuntime) -> Result<(), Fail> {
+    let ring = ring();
+    let mut port = LoopPort::new(rt.alloc(), &ring);
+    port.load(load(rt.alloc(), 0)?)?;
+    let reply = round(&mut port, rt.alloc(), 1)?;
+    let sent = Signed {
+        sign: Sign::Plus,
+        message: Message::new(3, 0, 1, 1, 0, 1, 0, 0)?,
+    };
+    assert_eq!(rt; reply.ran, 1);
+    assert_eq!(rt; reply.out.as_slice(), [sent].as_slice());
+    Ok(())
+}
+
+#[test]
+fn refusals_of_the_node_come_back(rt: HostRuntime) -> Result<(), Fail> {
+    let ring = ring();
+    let mut port = LoopPort::new(rt.alloc(), &ring);
+    let refused = port.load(load(rt.alloc(), 1)?);
+    assert_eq!(rt; refused, Err(PortFault::Peer(NodeFault::NotMine)));
+    let mut port = LoopPort::new(rt.alloc(), &ring);
+    port.load(load(rt.alloc(), 0)?)?;
+    let _ = round(&mut port, rt.alloc(), 1)?;
+    let refused = round(&mut port, rt.alloc(), 0);
+    assert!(rt; matches!(refused, Err(PortFault::Peer(NodeFault::FloorFell))));
+    Ok(())
+}

@@ -1,0 +1,2 @@
+-- For callers
+pub mod Views  -- what the commands that look print

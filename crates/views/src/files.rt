@@ -1,0 +1,187 @@
+// The commands on a model file alone: its run by the plain runner, and its check.
+
+ghost use Rattle.std.specs.Prelude.{◌≡◌, ◌≤◌, ◌^◌, ◌≢◌, ◌⊎◌, ℕ, List, Err, length};
+ghost use Rattle.std.specs.Prelude.{IfOk, IsOkUnless, IsSomeAnd, MatchResult, OnErr, OnOk};
+ghost use Rattle.std.specs.Str.{IsUtf8};
+ghost use Rattle.eventkey.specs.Writing.{Writes};
+ghost use Rattle.texts.specs.Mistakes.{AreMistakes};
+ghost use Rattle.texts.specs.ModelFile.{IsModelFile};
+ghost use Rattle.views.specs.Views.{checked_text, run_text, Begins, IsChecked, IsSomeChecked};
+ghost use Rattle.views.specs.Views.{IsWholeSimulation, Prints, PrintsBeginning, PrintsRun};
+ghost use Rattle.views.specs.declared.fault.ViewFault.TheVariants.{Output};
+
+use crate::fault::{ViewFault, unreadable};
+use model::{World, WorldFault};
+use std::alloc::Global;
+use std::fs;
+use std::io::{Result as IoResult, Write};
+use std::rt::Files;
+use texts::{
+    Described, Mistake, Mistakes, ModelFault, find_mistakes, read_model, write_log, write_text,
+    write_world,
+};
+
+/// Runs the model of a file by the plain runner.
+pub fn seq_of<M, R, O>(rt: &R, model: &str, out: &mut O) -> Result<(), ViewFault>
+where
+    M: Described,
+    R: Files + AllocGlobal,
+    O: Write,
+    ensures ok { OnOk result
+        (Prints (IsWholeSimulation M.meaning M.says) (O.contents out.old) (O.contents out.new)) }
+    ensures err { OnErr result ((out.new ≡ out.old)
+        ⊎ Begins (IsWholeSimulation M.meaning M.says) (O.contents out.old) (O.contents out.new)) }
+{
+    let bytes = fs::read(rt, model).map_err(unreadable)?;
+    let text = text_of(bytes.as_slice()).map_err(ModelFault::BadModel)?;
+    seq::<M, O>(rt.alloc(), text, out)
+}
+
+/// Says whether a file is a model file. At a `Mistake` all of them are found.
+pub fn check_of<M, R, O>(
+    rt: &R,
+    model: &str,
+    out: &mut O,
+    found: &mut Option<Mistakes>,
+) -> Result<(), ViewFault>
+where
+    M: Described,
+    R: Files + AllocGlobal,
+    O: Write,
+    ensures ok { OnOk result
+        (Prints (IsSomeChecked M.says M.shows) (O.contents out.old) (O.contents out.new)) }
+    ensures err { OnErr result ((out.new ≡ out.old)
+        ⊎ Begins (IsSomeChecked M.says M.shows) (O.contents out.old) (O.contents out.new)) }
+{
+    let bytes = fs::read(rt, model).map_err(unreadable)?;
+    match text_of(bytes.as_slice()) {
+        Ok(text) => check::<M, O>(rt.alloc(), text, out, found),
+        Err(mistake) => {
+            *found = Some(find_mistakes::<M>(rt.alloc(), bytes.as_slice())?);
+            Err(ViewFault::Mistake(mistake))
+        }
+    }
+}
+
+/// Runs the model of a model file to its end by the plain runner, and writes the log and then the
+/// world.
+///
+/// The faults come in this order: `BadModel` where the text is no model file, or `NoMemory` where
+/// memory runs out in reading it; `World` of the runner; `Output` where the writer refuses. Before
+/// the last nothing is written.
+pub fn seq<M: Described, O: Write>(alloc: Global, text: &str, out: &mut O) -> Result<(), ViewFault>
+    ensures ok { OnOk result
+        (PrintsRun M.meaning M.says text.now (O.contents out.old) (O.contents out.new)) }
+    ensures bad { result ≡ Err ViewFault.BadModel →
+        (model : M) (end : ℕ) → ¬ IsModelFile M.says text.now model end }
+    ensures world { (fault : WorldFault) → result ≡ Err (ViewFault.World fault) →
+        (model : M) × (end : ℕ) × IsModelFile M.says text.now model end }
+    ensures output { result ≡ Err ViewFault.Output →
+        PrintsBeginning M.meaning M.says text.now (O.contents out.old) (O.contents out.new) }
+    ensures unwritten { (fault : ViewFault) → result ≡ Err fault → fault ≢ Output → out.new ≡ out.old }
+{
+    let (model, end): (M, u64) = read_model(alloc, text)?;
+    let mut world = World::open(alloc, &model, end)?;
+    world.run_to(&model, end)?;
+    write_run(world, out)
+}
+
+/// Writes a world's log and then the world, and flushes the writer.
+fn write_run<O: Write>(world: World, out: &mut O) -> Result<(), ViewFault>
+    requires { length world.world.states ≡ length world.world.numbers }
+    ensures written { Writes (O.contents out.old) (O.contents out.new) result
+        (run_text world.world) }
+    ensures fault { IsOkUnless result ViewFault.Output }
+{
+    let parts = world.into_parts();
+    write_log(parts.log.as_slice(), out)?;
+    write_world(
+        parts.time,
+        parts.states.as_slice(),
+        parts.numbers.as_slice(),
+        parts.pending.as_slice(),
+        out,
+    )?;
+    out.flush()?;
+    Ok(())
+}
+
+/// Says whether a text is a model file: writes `ok`, and what the model shows of its values.
+///
+/// The faults come in this order: `Mistake` where the text is no model file, or `NoMemory` where
+/// memory runs out; `Output` where the writer refuses. Before the last nothing is written. A
+/// `Mistake` is the first one that was met, and then all of them are found.
+pub fn check<M: Described, O: Write>(
+    alloc: Global,
+    text: &str,
+    out: &mut O,
+    found: &mut Option<Mistakes>,
+) -> Result<(), ViewFault>
+    ensures ok { OnOk result
+        (Prints (IsChecked M.says M.shows text.now) (O.contents out.old) (O.contents out.new)) }
+    ensures wrong { (mistake : Mistake) → result ≡ Err (ViewFault.Mistake mistake) →
+        (model : M) (end : ℕ) → ¬ IsModelFile M.says text.now model end }
+    ensures all { (mistake : Mistake) → result ≡ Err (ViewFault.Mistake mistake) →
+        IsSomeAnd found.new (AreMistakes M.wrong text.now) }
+    ensures err { OnErr result ((out.new ≡ out.old)
+        ⊎ Begins (IsChecked M.says M.shows text.now) (O.contents out.old) (O.contents out.new)) }
+{
+    match read_model::<M>(alloc, text) {
+        Ok((model, end)) => {
+            let values = model.values(alloc, end)?;
+            write_whole(values.as_str(), out)
+        }
+        Err(ModelFault::BadModel(mistake)) => {
+            *found = Some(find_mistakes::<M>(alloc, text.as_bytes())?);
+            Err(ViewFault::Mistake(mistake))
+        }
+        Err(ModelFault::NoMemory) => Err(ViewFault::NoMemory),
+    }
+}
+
+/// Writes that a file is a model file, and its values, and flushes the writer.
+fn write_whole<O: Write>(values: &str, out: &mut O) -> Result<(), ViewFault>
+    ensures written { Writes (O.contents out.old) (O.contents out.new) result
+        (checked_text values.now) }
+    ensures fault { IsOkUnless result Output }
+{
+    write_checked(values, out)?;
+    out.flush()?;
+    Ok(())
+}
+
+/// Writes that a file is a model file, and its values.
+fn write_checked<O: Write>(values: &str, out: &mut O) -> IoResult<()>
+    ensures { Writes (O.contents out.old) (O.contents out.new) result (checked_text values.now) }
+{
+    write_text("ok\n", out)?;
+    write_text(values, out)
+}
+
+/// The model that a file describes, and its end; a command of a program's own begins with it.
+///
+/// Refused are `File` where the file can't be read, `BadModel` where it is no model file, and
+/// `NoMemory`.
+pub fn read_model_file<M, R>(rt: &R, path: &str) -> Result<(M, u64), ViewFault>
+where
+    M: Described,
+    R: Files + AllocGlobal,
+    ensures file { IfOk result (λ of. (text : List ℕ) × IsModelFile M.says text of.0 of.1) }
+    ensures some { IfOk result (λ of. 1 ≤ of.1) }
+    ensures short { IfOk result (λ of. of.1 ≤ 2 ^ 40) }
+{
+    let bytes = fs::read(rt, path).map_err(unreadable)?;
+    let text = text_of(bytes.as_slice()).map_err(ModelFault::BadModel)?;
+    Ok(read_model(rt.alloc(), text)?)
+}
+
+/// The text of a model file; bytes that are no UTF-8 are no TOML.
+fn text_of(bytes: &[u8]) -> Result<&str, Mistake>
+    ensures { MatchResult result (λ text. (text.now ≡ bytes.now) × IsUtf8 bytes.now)
+        (λ mistake. ¬ (IsUtf8 bytes.now) × (mistake ≡ Mistake.Toml)) }
+{
+    match str::from_utf8(bytes) {
+        Ok(text) => Ok(text),
+        Err(_) => Err(Mistake::Toml),
+    }
+}
