@@ -1,5 +1,5 @@
 // PHOLD in ns-3: an event is a call of Simulator::Schedule, a tick a nanosecond. SCHEDULER is map, the default of ns-3, or
-// heap, calendar or priority-queue. Usage: phold_ns3 SCHEDULER LPS END POPULATION SPREAD SEED; without words: the version
+// heap, calendar or priority-queue. Usage: phold_ns3 SCHEDULER LPS END POPULATION SPREAD SEED; without words it prints the version
 #include "phold_words.h"
 
 #include <ns3/core-module.h>
@@ -45,5 +45,5 @@ int main(int argc, char** argv) {
                                 Message{uint64_t{lp} * phold->population + k, 0});
     Simulator::Run();
     Simulator::Destroy();
-    phold->tell();
+    phold->print();
 }

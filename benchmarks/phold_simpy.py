@@ -1,11 +1,11 @@
 #!/usr/bin/env python3
-"""PHOLD in SimPy: a process of SimPy is a message, which waits by env.timeout and then draws where it goes on to.
+"""PHOLD in SimPy: a process of SimPy is a message, which waits by env.timeout and then draws its destination.
 
-Much of the time is drawing words in Python. With `words` it handles EVENTS messages without SimPy, process after process, so that this
-part is known.
+Drawing words in Python takes much of the time. With `words` it handles EVENTS messages without SimPy, process after process, to measure
+this part.
 
-Usage: phold_simpy.py LPS END POPULATION SPREAD SEED, or phold_simpy.py words EVENTS LPS END POPULATION SPREAD SEED; without words: the
-version of SimPy
+Usage: phold_simpy.py LPS END POPULATION SPREAD SEED, or phold_simpy.py words EVENTS LPS END POPULATION SPREAD SEED; without words it
+prints the version of SimPy
 """
 import sys
 
@@ -37,14 +37,14 @@ class Phold:
         return 1 + word(self.seed, lp, k) % self.spread
 
     def handle(self, time, lp):
-        """Where a message goes on to, and how many ticks later."""
+        """The destination of a message, and the number of ticks until it arrives."""
         key = self.keys[lp]
         self.keys[lp] = next_key(key, lp, 2)
         self.counts[lp] += 1
         self.sum += time * 31 + lp
         return word(key, lp, 0) % self.lps, 1 + word(key, lp, 1) % self.spread
 
-    def tell(self):
+    def report(self):
         states = sum((lp + 1) * (key ^ count) for lp, (key, count) in enumerate(zip(self.keys, self.counts)))
         print(f"events {sum(self.counts)} sum {self.sum & ALL} states {states & ALL}")
 
@@ -77,14 +77,14 @@ def main():
             env.process(travel(env, phold, Message(lp * phold.population + k), lp, phold.first_delay(lp, k)))
     # handles nothing at the end itself
     env.run(until=phold.end)
-    phold.tell()
+    phold.report()
 
 
 def words():
     phold = Phold(*map(int, sys.argv[3:]))
     for event in range(int(sys.argv[2])):
         phold.handle(event, event % phold.lps)
-    phold.tell()
+    phold.report()
 
 
 if sys.argv[1:2] == ["words"]:

@@ -1,6 +1,6 @@
 // PHOLD in SystemC: a process is a module with one SC_METHOD that is sensitive to its inbox, a tick a picosecond, the resolution. The inbox
-// is the payload event queue of tlm_utils, `peq`, or a heap with an sc_event, `heap`. sc_event_queue has no payload: it would need a queue
-// of messages beside it, and is slower than both. Usage: phold_systemc INBOX LPS END POPULATION SPREAD SEED; without words: the version
+// is the payload event queue of tlm_utils, `peq`, or a heap with an sc_event, `heap`. sc_event_queue has no payload: it would need an additional
+// queue of messages, and is slower than both. Usage: phold_systemc INBOX LPS END POPULATION SPREAD SEED; without words it prints the version
 #include "phold_words.h"
 
 #include <systemc>
@@ -13,7 +13,7 @@
 using sc_core::SC_PS;
 using sc_core::sc_time;
 
-/// As peq_with_get, over a binary heap of what waits; messages of one tick come in the order in which they were put.
+/// Like peq_with_get, over a binary heap of waiting messages; messages of one tick come in the order in which they were put.
 class HeapInbox {
     struct Waiting {
         uint64_t time;
@@ -93,7 +93,7 @@ static void run(Phold& phold) {
         }
     // handles nothing at the end itself
     sc_core::sc_start(sc_time(phold.end, SC_PS));
-    phold.tell();
+    phold.print();
 }
 
 int sc_main(int argc, char** argv) {

@@ -1,4 +1,4 @@
-// PHOLD of phold.rs for the peers in C++: its words, the processes' states, and what the end tells.
+// PHOLD of phold.rs for the peers in C++: its words, the processes' states, and what is printed at the end.
 #include <cstdint>
 #include <cstdio>
 #include <cstdlib>
@@ -24,7 +24,7 @@ struct Message {
     uint64_t handled;
 };
 
-/// Where a message goes on to, and how many ticks later.
+/// The destination of a message, and the number of ticks until it arrives.
 struct Hop {
     uint32_t to;
     uint32_t delay;
@@ -41,7 +41,7 @@ struct Phold {
     uint64_t events = 0;
     uint64_t sum = 0;
 
-    /// Of the words LPS END POPULATION SPREAD SEED of a call.
+    /// From the words LPS END POPULATION SPREAD SEED of a call.
     Phold(int argc, char** argv) {
         if (argc != 6) {
             std::fprintf(stderr, "usage: %s LPS END POPULATION SPREAD SEED\n", argv[0]);
@@ -72,7 +72,7 @@ struct Phold {
         return {word(key, lp, 0) % lps, 1 + word(key, lp, 1) % spread};
     }
 
-    void tell() const {
+    void print() const {
         uint64_t states = 0;
         for (uint32_t lp = 0; lp < lps; lp++)
             states += (lp + 1) * (keys[lp] ^ counts[lp]);

@@ -1,8 +1,8 @@
-//! The baseline of `run --sockets`: hand-written round trips of frames between a program and its node programs, with nothing but the
-//! bytes. Prints the parcels a second.
+//! The baseline of `run --sockets`: handwritten round trips of frames between a program and its node programs, with nothing but the
+//! bytes. Prints the parcels per second.
 //!
 //! Usage: round-trips NODES ROUNDS PARCEL REPLY [together] [ahead], where PARCEL and REPLY are bytes of a body. It starts itself for each
-//! node, behind a socket in a folder of its own. A frame is read by three calls, for its length, its kind and its body; `ahead` reads
+//! node, behind a socket in its own folder. A frame is read by three calls, for its length, its kind and its body; with `ahead` it is read
 //! through buffers, so by one call.
 use std::io::{self, BufReader, Error, Read, Write};
 use std::os::unix::net::{UnixListener, UnixStream};
@@ -20,7 +20,7 @@ fn frame(kind: u8, size: usize) -> Vec<u8> {
     bytes
 }
 
-/// Reads a frame of this kind: its length, its kind, and then its body. False at the end.
+/// Reads a frame of this kind: its length, its kind, and then its body. Returns false at the end.
 fn read(stream: &mut dyn Read, kind: u8, body: &mut Vec<u8>) -> io::Result<bool> {
     let mut head = [0; 4];
     let came = stream.read(&mut head)?;
@@ -38,7 +38,7 @@ fn read(stream: &mut dyn Read, kind: u8, body: &mut Vec<u8>) -> io::Result<bool>
     Ok(true)
 }
 
-/// Answers each parcel by a reply of so many bytes.
+/// Answers each parcel with a reply of this number of bytes.
 fn node(socket: &str, reply: usize, is_ahead: bool) -> io::Result<()> {
     let mut stream = Stream::of(UnixStream::connect(socket)?, is_ahead)?;
     let reply = frame(REPLY, reply);
@@ -80,7 +80,7 @@ fn start(folder: &Path, nodes: usize, reply: usize, is_ahead: bool) -> io::Resul
     Ok(started)
 }
 
-/// Makes so many rounds, and answers the seconds that they took.
+/// Makes this number of rounds, and returns the seconds that they took.
 fn rounds(streams: &mut [Stream], count: usize, parcel: &[u8], is_together: bool, reply: usize) -> io::Result<f64> {
     let mut body = Vec::new();
     let mut take = |stream: &mut Stream| -> io::Result<()> {
@@ -119,13 +119,13 @@ fn main() -> io::Result<()> {
         exit(2);
     }
     let (nodes, count, parcel, reply) = (number(1), number(2), number(3), number(4));
-    let has = |wanted: &str| words[5..].iter().any(|word| word == wanted);
+    let has = |option: &str| words[5..].iter().any(|word| word == option);
     let (is_together, is_ahead) = (has("together"), has("ahead"));
     let folder = env::temp_dir().join(format!("round-trips-{}", process::id()));
     fs::create_dir(&folder)?;
-    let told = start(&folder, nodes, reply, is_ahead).and_then(|mut started| {
+    let rate = start(&folder, nodes, reply, is_ahead).and_then(|mut started| {
         let parcel = frame(PARCEL, parcel);
-        // the first ones are for the caches, and for the programs to be there
+        // the first rounds fill the caches and wait until the programs run
         rounds(&mut started.streams, count / 10, &parcel, is_together, reply)?;
         let seconds = rounds(&mut started.streams, count, &parcel, is_together, reply)?;
         drop(started.streams);
@@ -135,6 +135,6 @@ fn main() -> io::Result<()> {
         Ok((count * nodes) as f64 / seconds)
     });
     fs::remove_dir_all(&folder)?;
-    println!("{:.0}", told?);
+    println!("{:.0}", rate?);
     Ok(())
 }

@@ -1,4 +1,4 @@
-// The baseline of `run`: PHOLD on hand-written Time Warp in plain Rust, over nodes in one process, by the same plan of rounds, with the same
+// The baseline of `run`: PHOLD on handwritten Time Warp in plain Rust, over nodes in one process, by the same plan of rounds, with the same
 // commits to a file. It handles as many messages as the program does. Usage: time-warp MODEL FILE NODES BATCH
 use std::collections::VecDeque;
 use std::fs::File;
@@ -7,10 +7,10 @@ use std::io::{Seek, SeekFrom, Write};
 type Message = (u64, u32, u64, u32, u64, u64, u64, u64);
 type State = (u64, u64);
 
-/// Whether it is an antimessage, and the message.
+/// Whether this is an antimessage, and the message.
 type Signed = (bool, Message);
 
-/// Stands where no message does: after all of them.
+/// A placeholder for no message, greater than each message.
 const NONE: Message = (u64::MAX, 0, 0, 0, 0, 0, 0, 0);
 
 /// The first word of PCG's XSH RR 64/32 generator for this state and stream.
@@ -58,7 +58,7 @@ impl Phold {
         }
     }
 
-    /// The state after a message, and what is sent.
+    /// Returns the state after a message, and the sent message.
     fn handle(&self, (key, count): State, number: u64, message: &Message) -> (State, Message) {
         let lp = message.3;
         let to = word(key, lp, 0) % self.lps;
@@ -83,7 +83,7 @@ struct Done {
     number: u64,
 }
 
-/// A process. What waits is kept greatest first.
+/// A process. Waiting messages are stored greatest first.
 struct Process {
     waiting: Vec<Message>,
     antis: Vec<Message>,
@@ -107,7 +107,7 @@ fn remove(list: &mut Vec<Message>, message: &Message) -> bool {
 }
 
 impl Process {
-    /// The last `back` handlings are undone, and the messages of the last `again` of them wait again.
+    /// Undoes the last `back` handlings; the messages of the last `again` of them wait again.
     fn roll_back(&mut self, back: usize, again: usize, out: &mut Vec<Signed>) {
         if back == 0 {
             return;
@@ -210,7 +210,7 @@ impl Node {
         }
     }
 
-    /// What is sent, and how many messages were handled.
+    /// Returns the sent messages, and the number of handled ones.
     fn handle(&mut self, model: &Phold, deliver: &[Signed], batch: u32, floor: u64, fossils: &mut Vec<Done>) -> (Vec<Signed>, u32) {
         let mut out = Vec::new();
         for signed in deliver {
@@ -235,7 +235,7 @@ impl Node {
     }
 }
 
-/// What is pending after these sends and without these events, all ascending.
+/// Returns the pending messages with these sends and without these events. All lists are ascending.
 fn merged(pending: &[Message], sent: &[Message], events: &[Message]) -> Vec<Message> {
     let mut left = Vec::with_capacity(pending.len());
     let (mut old, mut new, mut events) = (pending.iter().peekable(), sent.iter().peekable(), events.iter().peekable());
@@ -255,7 +255,7 @@ fn merged(pending: &[Message], sent: &[Message], events: &[Message]) -> Vec<Mess
     }
 }
 
-/// Writes a record behind the gate at this place, then the gate; answers the place of the next gate.
+/// Writes a record after the gate at this place, then the gate, and returns the place of the next gate.
 fn commit(disk: &mut File, place: u64, time: u64, events: &[Message]) -> u64 {
     let mut body = vec![1u8];
     body.extend((12 + 56 * events.len() as u32).to_be_bytes());

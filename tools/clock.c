@@ -1,4 +1,4 @@
-// A clock on which a second goes by at each look, so that a program that shows something twice a
+// A clock that advances by a second at each reading, so that a program that shows something twice a
 // second shows it each time.
 #define _GNU_SOURCE
 #include <dlfcn.h>

@@ -1,7 +1,7 @@
 // A library to preload: the call FAIL_AT, counted from 1 over all calls below, fails with the error
-// number FAIL_WITH, and is not made; or, where FAIL_WITH is "part", a read or a write is of half of
-// its bytes, and any other call is made as it is. With FAIL_THEN the call behind it fails with that
-// number. The name of the call that was met goes to the file FAIL_MET.
+// number FAIL_WITH, and is not made; or, if FAIL_WITH is "part", a read or a write is of half of
+// its bytes, and any other call is made unchanged. With FAIL_THEN the next call fails with that
+// number. The name of the call is written to the file FAIL_MET.
 #define _GNU_SOURCE
 #include <dlfcn.h>
 #include <errno.h>
@@ -15,7 +15,7 @@
 #include <sys/types.h>
 #include <unistd.h>
 
-// 0: made as it is; 1: it fails; 2: half of it is made
+// Returns 0 if the call is made unchanged, 1 if it fails, 2 if half of it is made.
 static int met(const char *name, int file, int has_parts) {
     static long count;
     const char *at = getenv("FAIL_AT"), *with = getenv("FAIL_WITH"), *mark = getenv("FAIL_MET");
@@ -30,7 +30,7 @@ static int met(const char *name, int file, int has_parts) {
     char text[64];
     int part = strcmp(with, "part") == 0;
     const char *whole = part && !has_parts ? " whole" : "";
-    // of the standard streams the descriptor is told too
+    // for the standard streams the descriptor is also written
     int size = file >= 0 && file <= 2 ? snprintf(text, sizeof text, "%s %d%s\n", name, file, whole)
                                       : snprintf(text, sizeof text, "%s%s\n", name, whole);
     int kept = syscall(SYS_openat, AT_FDCWD, mark, O_CREAT | O_WRONLY | O_TRUNC, 0600);

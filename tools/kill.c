@@ -1,6 +1,6 @@
 // Ends the program by SIGKILL at one of its calls that change a file or wait for the device: call KILL_AT, counted from 1 over all such
 // calls, in one of three ways KILL_WAY: 0 before the call, 1 after half of the bytes of a write, 2 after the call.
-// Where the program ends by itself first, the number of its calls goes to the file KILL_COUNT.
+// If the program ends by itself first, the number of its calls is written to the file KILL_COUNT.
 #define _GNU_SOURCE
 #include <dlfcn.h>
 #include <signal.h>
@@ -16,7 +16,7 @@ static long number(const char *name) {
     return word ? atol(word) : -1;
 }
 
-// Whether this call is the one at which the program ends in this way.
+// Returns whether the program must end at this call, in this way.
 static int ends(long way) {
     return calls == number("KILL_AT") && way == number("KILL_WAY");
 }
@@ -25,7 +25,7 @@ static void end(void) {
     raise(SIGKILL);
 }
 
-__attribute__((destructor)) static void tell(void) {
+__attribute__((destructor)) static void write_count(void) {
     const char *path = getenv("KILL_COUNT");
     FILE *file = path ? fopen(path, "w") : NULL;
     if (file) {

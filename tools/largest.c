@@ -1,4 +1,4 @@
-// A library to preload: it keeps in the file that LARGEST names the size in bytes of the largest block that was asked for, as a number
+// A library to preload: it keeps in the file that LARGEST names the size in bytes of the largest block that was allocated, as a number
 // of 8 bytes in the machine's order.
 #define _GNU_SOURCE
 #include <dlfcn.h>

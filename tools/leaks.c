@@ -1,4 +1,4 @@
-// A library to preload: it keeps in the file that LEAKS names how many blocks of memory were asked for and how many were given back, as
+// A library to preload: it keeps in the file that LEAKS names how many blocks of memory were allocated and how many were freed, as
 // two numbers of 8 bytes in the machine's order.
 #define _GNU_SOURCE
 #include <dlfcn.h>
@@ -33,7 +33,7 @@ void *malloc(size_t size) {
 void *realloc(void *block, size_t size) {
     static void *(*next)(void *, size_t);
     if (!next) next = (void *(*)(void *, size_t))dlsym(RTLD_NEXT, "realloc");
-    // A block that grows is the same one.
+    // A reallocated block is still one block.
     return block ? next(block, size) : note(next(block, size));
 }
 

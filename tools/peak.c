@@ -1,4 +1,4 @@
-// Starts a program under a first word of its own and waits for it: peak FILE PROGRAM WORD.. writes to the file its status, or 128 and the
+// Starts a program under its own first word and waits for it: peak FILE PROGRAM WORD.. writes to the file its status, or 128 and the
 // signal that ended it, and the most kilobytes that it, or a program that it waited for, had resident.
 #include <stdio.h>
 #include <sys/resource.h>

@@ -11,7 +11,7 @@ static int is_refused(void) {
     static pid_t counted;
     const char *number = getenv("REFUSE"), *mark = getenv("REFUSED");
     if (!number || !mark) return 0;
-    // A test may run in a process of its own, which counts anew.
+    // A test may run in its own process, which counts anew.
     if (counted != getpid()) count = 0;
     counted = getpid();
     if (++count != atol(number)) return 0;

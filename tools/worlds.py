@@ -1,5 +1,5 @@
-"""For the scripts that try the built program: where it stands, how it is started, and what the
-sequential simulation says of a disk.
+"""For the scripts that try the built program: where it is, how it is started, and what the
+sequential simulation says about a disk.
 
 The world at a time is what `seq` prints for the model whose end is that time, and a log is the lines
 of `seq` whose time is below it. So a disk is judged by the plain runner alone."""
@@ -14,11 +14,11 @@ ROOT = os.path.dirname(HERE)
 
 
 class Wrong(Exception):
-    """The program did what it must not do."""
+    """The program does not behave as expected."""
 
 
 def program_path():
-    """The program that the launcher starts, unless TIMEWARP names another one."""
+    """Returns the program that the launcher starts, unless TIMEWARP names another one."""
     given = os.environ.get("TIMEWARP")
     if given:
         return os.path.realpath(given)
@@ -26,17 +26,17 @@ def program_path():
 
 
 def start(program, *words, timeout=120, env=None):
-    """Status, output and errors of one call of the program."""
+    """Returns the status, output and errors of one call of the program."""
     try:
         done = subprocess.run([program, *map(str, words)], capture_output=True, timeout=timeout, env=env,
                               stdin=subprocess.DEVNULL)
     except subprocess.TimeoutExpired:
-        raise Wrong(f"it hangs: {' '.join(map(str, words))}")
+        raise Wrong(f"it does not end: {' '.join(map(str, words))}")
     return done.returncode, done.stdout, done.stderr
 
 
 class Lanes:
-    """Calls functions side by side; what one of them raises ends the script."""
+    """Calls functions in parallel. An exception of one of them ends the script."""
 
     def __init__(self, workers):
         self.pool = concurrent.futures.ThreadPoolExecutor(workers)
@@ -80,7 +80,7 @@ class Judge:
 
     @staticmethod
     def split(text):
-        """The lines of the log, and the text of the world."""
+        """Returns the lines of the log, and the text of the world."""
         at = text.index(b"virtual time ")
         return text[:at].splitlines(True), text[at:]
 
@@ -98,7 +98,7 @@ class Judge:
         os.remove(path)
         if time == 0:
             if log:
-                raise SystemExit("the model has events at time 0, of which this script can't judge")
+                raise SystemExit("the model has events at time 0, which this script cannot judge")
             world = world.replace(b"virtual time 1\n", b"virtual time 0\n", 1)
         return world
 
@@ -106,14 +106,14 @@ class Judge:
         return [line for line in self.lines if int(line.split(b" ", 1)[0]) < time]
 
     def judge(self, log, show):
-        """The time and the number of events of what `log` and `show` tell, or the fault by which both
-        refuse. Anything but the sequential simulation up to that time is wrong."""
+        """Returns the time and the number of events that `log` and `show` print, or None and the fault with
+        which both refuse the disk. Anything but the sequential simulation up to that time is wrong."""
         if log[0] == 1 and show[0] == 1:
             for _, out, err in (log, show):
                 if out or not re.fullmatch(rb"timewarp: [A-Za-z ]+\n", err):
-                    raise Wrong(f"it refuses with {out!r} and {err!r}")
+                    raise Wrong(f"it refuses the disk, and prints {out!r} and {err!r}")
             if log[2] != show[2]:
-                raise Wrong(f"log tells {log[2]!r} and show {show[2]!r}")
+                raise Wrong(f"log prints {log[2]!r} and show prints {show[2]!r}")
             return None, show[2].decode()[len("timewarp: "):-1]
         if log[0] or show[0] or log[2] or show[2]:
             raise Wrong(f"log: {log[0]} {log[2]!r}, show: {show[0]} {show[2]!r}")
@@ -124,75 +124,75 @@ class Judge:
         if time > self.end:
             raise Wrong(f"the world of {time} is past the end")
         if show[1] != self.world_at(time):
-            raise Wrong(f"the world of {time} is another one")
-        want = self.log_below(time)
-        if log[1] != b"".join(want):
-            raise Wrong(f"the log up to {time} is another one")
-        return time, len(want)
+            raise Wrong(f"the world of {time} is wrong")
+        expected = self.log_below(time)
+        if log[1] != b"".join(expected):
+            raise Wrong(f"the log up to {time} is wrong")
+        return time, len(expected)
 
     def look(self, disk):
-        """What `judge` says of a disk's file."""
+        """Judges the file of a disk."""
         return self.judge(start(self.program, "log", self.path, disk), start(self.program, "show", self.path, disk))
 
     def look_with_end(self, disk):
-        """The same with the end in force."""
-        when, told = self.look(disk)
-        return when, told, 0 if when is None else self.end
+        """Judges the file of a disk, and returns the end in force too."""
+        when, detail = self.look(disk)
+        return when, detail, 0 if when is None else self.end
 
     def run_to_end(self, disk, *options):
-        """Runs a disk to its end, and sees that it is the end of `seq`."""
+        """Runs a disk to its end, and compares it with the end of `seq`."""
         status, out, err = start(self.program, "run", self.path, disk, *options)
         if status or err:
-            raise Wrong(f"run {' '.join(map(str, options))} tells {err!r} with status {status}")
+            raise Wrong(f"run {' '.join(map(str, options))} prints {err!r} with status {status}")
         log, show = start(self.program, "log", self.path, disk), start(self.program, "show", self.path, disk)
         if log[1] + show[1] != self.whole:
-            raise Wrong(f"run {' '.join(map(str, options))} ends otherwise than seq")
+            raise Wrong(f"run {' '.join(map(str, options))} does not end like seq")
         return out
 
 
 def with_end(text, end):
-    """The text of a model file with another end."""
+    """Returns the text of a model file with another end."""
     return re.sub(r"(?m)^end\s*=\s*\d+", f"end = {end}", text)
 
 
 class Carried:
-    """Judges disks that are carried on from each of these ends to the next. Of the model's files with
-    these ends just one opens such a disk: the one whose end is in force on it."""
+    """Judges disks that are extended from each of these ends to the next. Only one model file with one
+    of these ends opens such a disk: the one whose end is in force on it."""
 
     def __init__(self, program, text, folder, name, ends):
         self.judges = [Judge(program, with_end(text, end), folder, f"{name}-of-{end}") for end in ends]
         self.program, self.name, self.path, self.end = program, name, self.judges[0].path, ends[-1]
 
     def which(self, disk):
-        """The judge of the end in force and what it says, or None and the fault."""
-        told = [(judge, judge.look(disk)) for judge in self.judges]
-        found = [each for each in told if each[1][0] is not None]
+        """Returns the judge of the end in force and its result, or None and the fault."""
+        results = [(judge, judge.look(disk)) for judge in self.judges]
+        found = [each for each in results if each[1][0] is not None]
         if len(found) > 1:
             raise Wrong(f"it opens under the ends {', '.join(str(judge.end) for judge, _ in found)}")
         if found:
             return found[0]
-        faults = [fault for _, (_, fault) in told]
+        faults = [fault for _, (_, fault) in results]
         return None, (None, next((fault for fault in faults if fault != "Recovery OtherModel"), faults[0]))
 
     def look(self, disk):
         return self.which(disk)[1]
 
     def look_with_end(self, disk):
-        judge, told = self.which(disk)
-        return *told, judge.end if judge else 0
+        judge, result = self.which(disk)
+        return *result, judge.end if judge else 0
 
     def next_after(self, judge):
         return self.judges[self.judges.index(judge) + 1]
 
     def run_to_end(self, disk, *options):
-        """Runs a disk to the end in force, then extends it to the next one and runs on, and so forth."""
+        """Runs a disk to the end in force, extends it to the next one, and so on up to the last."""
         judge = self.which(disk)[0]
         while True:
             judge.run_to_end(disk, *options)
             if judge.end == self.end:
                 return
             later = self.next_after(judge)
-            told = start(self.program, "extend", later.path, disk)
-            if told != (0, b"extended %d to %d\n" % (judge.end, later.end), b""):
-                raise Wrong(f"extend tells {told}")
+            result = start(self.program, "extend", later.path, disk)
+            if result != (0, b"extended %d to %d\n" % (judge.end, later.end), b""):
+                raise Wrong(f"extend ends with {result}")
             judge = later

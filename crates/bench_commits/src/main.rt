@@ -1,8 +1,8 @@
-//! Appends records to the log of a disk over a file, and prints the number of each one once it is
-//! there. The file is made, with as many sectors as are asked for, where it is not there yet, and
-//! then has an empty log.
+//! Appends records to the log of a disk over a file, and prints the number of each one once the
+//! append has succeeded. If the file does not exist, it is made with this number of sectors and an
+//! empty log.
 //!
-//! What times it or ends it stands outside: `benchmarks/commits` and `tools/kill-writers`.
+//! `benchmarks/commits` times this program, and `tools/kill-writers` kills it.
 #![tactic(auto)]
 
 use commitlog::{Log, LogFault, format};
@@ -11,7 +11,7 @@ use std::alloc::AllocError;
 use std::{env, io};
 use thiserror::Error;
 
-/// Why a record was not appended.
+/// Why the program stopped.
 #[derive(Debug, Drop, Error)]
 enum Failure {
     #[error("usage: bench_commits FILE SECTORS BYTES COUNT")]
@@ -32,7 +32,7 @@ impl From<AllocError> for Failure {
     }
 }
 
-/// What the command line asks for.
+/// The values of the command line.
 #[derive(Drop)]
 struct Asked {
     path: String,
@@ -41,7 +41,7 @@ struct Asked {
     count: u32,
 }
 
-/// Reads the words behind the program's name.
+/// Reads the words after the program's name.
 fn read_words(rt: &HostRuntime) -> Result<Asked, Failure> {
     let mut words = env::args(rt).map_err(|_| Failure::Usage)?;
     let _program = words.next();
@@ -65,7 +65,7 @@ fn number(word: &str) -> Result<u32, Failure> {
     word.parse::<u32>().map_err(|_| Failure::Usage)
 }
 
-/// The log of the file, which is made where there is none.
+/// Opens the log of the file, which is made if it does not exist.
 fn open(rt: &HostRuntime, asked: &Asked) -> Result<Log<FileDisk>, Failure> {
     let mut disk = FileDisk::open(rt, rt.alloc(), asked.path.as_str(), Some(asked.sectors)).map_err(
         Failure::File,
@@ -80,7 +80,7 @@ fn open(rt: &HostRuntime, asked: &Asked) -> Result<Log<FileDisk>, Failure> {
     }
 }
 
-/// Appends a record, each byte of which is the lowest byte of its number in the log.
+/// Appends a record. Each byte of its body is the lowest byte of its number in the log.
 fn append(rt: &HostRuntime, log: &mut Log<FileDisk>, bytes: u32) -> Result<(), Failure> {
     let number = log.len();
     let body = vec![in rt.alloc(); (number % 256) as u8; bytes as usize]?;

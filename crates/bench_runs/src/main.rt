@@ -1,7 +1,7 @@
-//! Runs the model of a model file to its end. Plainly, it prints how many events that made, where
-//! the last one went, and a digest of the world; on one node of all processes, how many events the
-//! node let go of, and how many messages it handled. What times it stands outside: this program's
-//! output is the same at each run.
+//! Runs the model of a model file to its end. A sequential run prints the number of events, the
+//! receiver of the last one, and a digest of the world. A run on one node of all processes prints
+//! the number of released events, and of handled messages. The program prints no times, so that its
+//! output is the same in each run; others measure it.
 #![tactic(auto)]
 
 ghost use Rattle.std.specs.Prelude.{◌≤◌, ◌^◌, IfOk};
@@ -18,7 +18,7 @@ use texts::{ModelFault, read_model};
 use thiserror::Error;
 use whole_node::Outcome;
 
-/// Why there is nothing to print.
+/// Why the program prints no result.
 #[derive(Debug, Drop, Error)]
 enum Failure {
     #[error("usage: bench_runs MODEL [node], MODEL the path of a model file")]
@@ -33,7 +33,7 @@ enum Failure {
     Output(io::Error),
 }
 
-/// The model of a file, run to its end.
+/// The world of a model, run to its end.
 fn simulated(alloc: Global, model: &AnyModel, end: u64) -> Result<World, WorldFault>
     requires some { 1 ≤ end }
     requires end { end ≤ 2 ^ 40 }
@@ -43,12 +43,12 @@ fn simulated(alloc: Global, model: &AnyModel, end: u64) -> Result<World, WorldFa
     Ok(world)
 }
 
-/// A digest with one more number in it.
+/// The digest after one more number.
 fn with(digest: u64, number: u64) -> u64 {
     (digest ^ number).wrapping_mul(1099511628211)
 }
 
-/// A digest with a message in it.
+/// The digest after one more message.
 fn with_message(digest: u64, x: &Message) -> u64 {
     let digest = with(with(digest, x.time()), u64::from(x.from()));
     let digest = with(with(digest, x.number()), u64::from(x.to()));
@@ -73,17 +73,17 @@ fn digest_of(world: &mut World) -> u64 {
     digest
 }
 
-/// What the command line asks for.
+/// The task that the command line gives.
 #[derive(Drop)]
 struct Task {
     model: AnyModel,
     /// The end, in ticks.
     end: u64,
-    /// Whether a node runs the model.
+    /// Whether one node runs the model.
     by_node: bool,
 }
 
-/// The words after the program's name: the path of a model file, and whether a node is to run.
+/// Reads the words after the program's name: the path of a model file, and then `node` or nothing.
 fn task_of(rt: &HostRuntime) -> Result<Task, Failure>
     ensures range { IfOk result (λ task. (1 ≤ task.end) × (task.end ≤ 2 ^ 40)) }
 {

@@ -9,20 +9,20 @@ use model::{Model as Simulated, State};
 use node::{Load, Node, NodeFault, Parcel, Part, Reply};
 use std::alloc::{AllocError, Global};
 
-/// How many messages the node handles in a parcel at the most.
+/// The budget of each parcel.
 const BUDGET: u32 = 16;
 
-/// What a run came to.
+/// The result of a run.
 #[derive(Drop)]
 pub struct Outcome {
-    /// How many handlings the node let go of.
+    /// The number of handlings that the node released.
     pub committed: u64,
-    /// How many messages it handled, those that it took back again too.
+    /// The number of messages that it handled, including those that it rolled back.
     pub ran: u64,
 }
 
-/// Runs the model up to the end, in ticks, on one node: each parcel delivers what the one before it
-/// sent, and its floor is the least time of all that was under way then.
+/// Runs a model to its end, in ticks, on one node. Each parcel delivers what the one before it
+/// sent, and its floor is the least time of all that waited or travelled then.
 pub fn run<M: Simulated>(alloc: Global, model: &M, end: u64) -> Result<Outcome, NodeFault>
     requires { end ≤ 2 ^ 40 }
 {
@@ -53,7 +53,7 @@ pub fn run<M: Simulated>(alloc: Global, model: &M, end: u64) -> Result<Outcome, 
     Ok(outcome)
 }
 
-/// The least of the end and of the times of what waits and of what was sent, in ticks.
+/// The least of the end and of the times of waiting and sent messages, in ticks.
 fn floor_after(reply: &Reply, end: u64) -> u64 {
     let mut floor = end.min(reply.low.unwrap_or(end));
     for sent in reply.out.as_slice() {
@@ -62,7 +62,7 @@ fn floor_after(reply: &Reply, end: u64) -> u64 {
     floor
 }
 
-/// A process for which nothing waits, after what it sent at the start.
+/// A process without waiting messages, after its sends at the start.
 fn part<M: Simulated>(alloc: Global, model: &M, lp: u32) -> Part
     requires { lp < (M.meaning model.now).lps }
     ensures { IsInRange result }
@@ -76,7 +76,7 @@ fn part<M: Simulated>(alloc: Global, model: &M, lp: u32) -> Part
     }
 }
 
-/// The node of all processes, for which nothing waits yet.
+/// The node of all processes, without waiting messages.
 fn loaded<M: Simulated>(alloc: Global, model: &M, end: u64) -> Result<Node, NodeFault>
     requires { end ≤ 2 ^ 40 }
     ensures lps { IfOk result (λ node. node.lps ≡ (M.meaning model.now).lps) }
@@ -96,7 +96,7 @@ fn loaded<M: Simulated>(alloc: Global, model: &M, end: u64) -> Result<Node, Node
     Node::load(alloc, model, load)
 }
 
-/// What all processes send at the start.
+/// The messages that all processes send at the start.
 fn opening<M: Simulated>(alloc: Global, model: &M) -> Result<Vec<Signed>, AllocError> {
     let mut opening = Vec::new(alloc);
     for lp in 0..model.lps() {

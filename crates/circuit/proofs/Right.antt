@@ -1,4 +1,4 @@
--- Tables of circuits, item by item, and those with which nothing is wrong.
+-- Tables of circuits, item by item, and tables without mistakes.
 use Rattle.std.specs.List.{AllByRecursion as Every}
 use Rattle.std.proofs.Common.{◌≡◌, ℕ, ◌+◌, ◌^◌, ◌<◌, ◌≤◌, ◌&&◌, nat_le, nat_lt, List, [], ◌∷◌, ◌++◌, Bool, true, false, Option, Some, None, is_some, option_and_then, option_map, codes, length, map, get_or, drop, string_bytes, refl, ap, sym, ◌∙◌, append-nil, append_assoc, lit<}
 use Rattle.std.proofs.lemmas.Bool.{and_parts, le-leb, leb-true, lt-ltb, ltb-true}
@@ -21,7 +21,7 @@ use Rattle.toml.specs.declared.value.Value.{Value}
 
 -- 1. Item by item
 
--- what was found before an item and at it, and what is wrong behind it, are all
+-- the mistakes before an item, at it and behind it are all mistakes
 carried : (was now here behind from all : List Wrong) → now ≡ was ++ here → from ≡ here ++ behind → was ++ from ≡ all → now ++ behind ≡ all
 carried was now here behind from all more split so_far =
     ap (λ l. l ++ behind) more ∙ append_assoc was here behind ∙ ap (λ l. was ++ l) (sym split) ∙ so_far
@@ -33,7 +33,7 @@ module _ (fits : Data → Bool) (key text : List ℕ) (vs : List Value) (place :
   items_next v inside is =
       ap (items_wrong fits key text place) (items_view-drop vs place v inside ∙ ap (λ w. item (view w) (items_view (drop (place + 1) vs))) (sym is))
 
-  -- one item more
+  -- one more item
   pub items_more : (v : Value) → place < length vs → v ≡ get_or vs place v → (b : Bool) → b ≡ fits (view v) → (what : Found) → what ≡ found_of (Some (view v))
       → (was now all : List Wrong) → now ≡ was ++ item_wrong b key place what text
       → was ++ items_wrong fits key text place (items_view (drop place vs)) ≡ all
@@ -56,7 +56,7 @@ module _ {X : Type 0} (fits : X → Bool) (key text : List ℕ) (xs : List X) (p
   unfolding unfit
   unfit_next d inside = ap (unfit fits key text place) (drop_more xs place d inside)
 
-  -- one part more
+  -- one more part
   pub unfit_more : (d : X) → place < length xs → (b : Bool) → b ≡ fits (get_or xs place d) → (was now all : List Wrong)
       → now ≡ was ++ item_wrong b key place found.Table text
       → was ++ unfit fits key text place (drop place xs) ≡ all → now ++ unfit fits key text (place + 1) (drop (place + 1) xs) ≡ all
@@ -78,7 +78,7 @@ read_parts (Some x) None xs is = cc
 read_parts (Some x) (Some ys) xs is = (x, ys, refl, refl)
 
 module _ (fits : Data → Bool) (key text : List ℕ) where
-  -- where each item fits, each is read
+  -- if each item fits, each is read
   read_all : {X : Type 0} (read : Data → Option X) → ((d : Data) → fits d ≡ true → (x : X) × (read d ≡ Some x)) → (place : ℕ) (ds : Items)
       → items_wrong fits key text place ds ≡ [] → (xs : List X) × (all_of read ds ≡ Some xs)
   unfolding items_wrong
@@ -89,7 +89,7 @@ module _ (fits : Data → Bool) (key text : List ℕ) where
       let (xs, xs_is) = read_all read reads (place + 1) ds (none_behind (item_wrong (fits d) key place (found_of (Some d)) text) (items_wrong fits key text (place + 1) ds) none) in
       (x ∷ xs, rw (x_is, xs_is) refl)
 
-  -- where each is read, in two ways, each fits
+  -- if each item is read in both ways, each fits
   fit_all : {X Y : Type 0} (read : Data → Option X) (other : Data → Option Y) → ((d : Data) (x : X) (y : Y) → read d ≡ Some x → other d ≡ Some y → fits d ≡ true)
       → (place : ℕ) (ds : Items) (xs : List X) (ys : List Y) → all_of read ds ≡ Some xs → all_of other ds ≡ Some ys → items_wrong fits key text place ds ≡ []
   unfolding items_wrong
@@ -125,7 +125,7 @@ gate_fits d g n is_g is_n = rw (is_g, is_n) refl
 wire_fits : (d : Data) (w v : Wire) → wire_read d ≡ Some w → wire_read d ≡ Some v → fits_wire d ≡ true
 wire_fits d w v is_w is_v = rw is_w refl
 
--- the lists, where nothing is wrong with them
+-- the lists, if they have no mistakes
 
 gates_there : (t : Members) (o : Option Items) → gates_wrong t o ≡ [] → (gs : List Gate) × (option_and_then (all_of gate_read) o ≡ Some gs)
 gates_there t None none =
@@ -243,7 +243,7 @@ module _ (t : Members) where
   abbrev others : List Wrong
   others = unknown_wrong circuit_keys t
 
-  -- with what describes a circuit nothing is wrong
+  -- a table that describes a circuit has no mistakes
   pub circuit_right : (c : Circuit) (end : ℕ) → IsCircuitTable t c end → circuit_wrong t ≡ []
   circuit_right c end h =
       rw (
@@ -265,7 +265,7 @@ module _ (t : Members) where
     two : last ++ gates_of_t ≡ []
     two = none_before (last ++ gates_of_t) wires_of_t three
 
-    -- where nothing is wrong, each thing is there
+    -- a table without mistakes has each part
     pub end_is : number_at (codes "end") 1 (2 ^ 40) t ≡ None → ⊥
     end_is missing =
         let ((n, is, _, _), all) = numbers_there (number_key (codes "end") 1 (2 ^ 40) ∷ []) t (none_before last gates_of_t two) in cc

@@ -1,4 +1,4 @@
--- One text behind another, and events one after another.
+-- One text appended to another, and events one after another.
 use Rattle.std.specs.Prelude.{◌≡◌, ◌+◌, ◌<◌, ◌≤◌, ◌&&◌, ℕ, zero, suc, List, [], ◌∷◌, ◌++◌, Bool, true, Result, Ok, Err, OnOk}
 use Rattle.std.specs.Prelude.{drop, get_or, length, map, nat_lt, set}
 use Rattle.std.specs.List.{list_all, AllByRecursion as Every}
@@ -57,8 +57,8 @@ module _ {X : Type 0} (f : X → List ℕ) where
       after_event : (now : List ℕ) → now ≡ (circuit_meaning n).next_state to (f s) x → now ≡ state_after n (map f states) x
       after_event now now_is = now_is ∙ ap (λ t. (circuit_meaning n).next_state t (f s) x) is ∙ ap (λ state. (circuit_meaning n).next_state x.to state x) (sym at_event)
 
-      pub told_event : (was now : List ℕ) → was ≡ f s → now ≡ (circuit_meaning n).next_state to (f s) x → changes_text to was now ≡ event_text n (map f states) x
-      told_event was now was_is now_is =
+      pub found_event : (was now : List ℕ) → was ≡ f s → now ≡ (circuit_meaning n).next_state to (f s) x → changes_text to was now ≡ event_text n (map f states) x
+      found_event was now was_is now_is =
           let there : x.to < length (map f states) = rw length-map (omega (arith, is, inside)) in
           ap (λ t. changes_text t was now) is ∙ ap₂ (changes_text x.to) (was_is ∙ sym at_event) (after_event now now_is)
           ∙ sym (cond-true (nat_lt x.to (length (map f states))) (changes_text x.to (get_or (map f states) x.to []) (state_after n (map f states) x)) [] (lt-ltb x.to (length (map f states)) there))
@@ -68,13 +68,13 @@ module _ {X : Type 0} (f : X → List ℕ) where
 
 -- 3. Events
 
--- an event more
+-- one more event
 module _ (n : Netlist) (states : List (List ℕ)) (last end : ℕ) (log : List Message) (i : ℕ) (x : Message) (inside : i < length log) (is : x ≡ get_or log i x) where
   pub next_event : events_text n states last end (drop i log) ≡ time_text last x.time ++ event_text n states x ++ events_text n (states_after n states x) x.time end (drop (i + 1) log)
   next_event = ap (events_text n states last end) (drop_more log i x inside)
       ∙ ap (λ (y : Message). time_text last y.time ++ event_text n states y ++ events_text n (states_after n states y) y.time end (drop (i + 1) log)) (sym is)
 
-  -- what was put and what is to come are all
+  -- what was appended and what is to come are the whole
   pub put_so_far : (old before between now all : List ℕ) → before ++ events_text n states last end (drop i log) ≡ old ++ all
       → between ≡ before ++ time_text last x.time → now ≡ between ++ event_text n states x
       → now ++ events_text n (states_after n states x) x.time end (drop (i + 1) log) ≡ old ++ all

@@ -1,6 +1,6 @@
 -- The wave of a circuit: a value change dump (VCD: IEEE 1364-2005, clause 18) of the pins and the
 -- output of each gate. These are words 0 to 3 of the state of its process, as the model's meaning
--- makes them of a log's events.
+-- computes them from the events of a log.
 use Rattle.std.specs.Prelude.{ℕ, zero, suc, List, [], ◌∷◌, ◌++◌, ◌==◌, ◌&&◌, ◌||◌, Bool, false}
 use Rattle.std.specs.Prelude.{codes, decimal, get_or, if◌then◌else◌, length, nat_le, nat_lt, set}
 use Rattle.std.specs.Prelude.{slice_index}
@@ -10,7 +10,7 @@ use Rattle.circuit.specs.Circuit.{Netlist, circuit_meaning}
 
 -- 1. Names
 
--- a byte of a letter, or an underscore; one of a digit or a dollar sign too
+-- `is_letter`: a letter or an underscore; `is_word`: also a digit or a dollar sign
 abbrev pub is_letter : ℕ → Bool
 is_letter b = (nat_le 65 b && nat_le b 90) || ((nat_le 97 b && nat_le b 122) || (b == 95))
 
@@ -21,8 +21,8 @@ is_word b = is_letter b || ((nat_le 48 b && nat_le b 57) || (b == 36))
 abbrev pub is_simple : List ℕ → Bool
 is_simple name = is_letter (slice_index name 0) && list_all is_word name
 
--- A gate's name, or its number where it has none. One that is no simple identifier is an escaped
--- one, which a backslash begins and a blank ends.
+-- A gate's name, or its number if it has none. A name that is not a simple identifier is written as
+-- an escaped one, which starts with a backslash and ends at a blank.
 abbrev pub name_text : List (List ℕ) → ℕ → List ℕ
 name_text names lp =
     if length (get_or names lp []) == 0 then codes "gate" ++ decimal lp
@@ -31,11 +31,11 @@ name_text names lp =
 
 -- 2. Declarations
 
--- a name, and the end of what it names
+-- a name, and the end of its declaration
 abbrev pub named : List ℕ → List ℕ
 named name = codes " " ++ name ++ codes " $end\n"
 
--- a signal of a gate, by the letter of its identifier and its name
+-- the declaration of a signal of a gate, by the letter of its identifier and its name
 abbrev pub declared_signal : List ℕ → List ℕ → ℕ → List ℕ
 declared_signal letter name lp = codes "$var wire 1 " ++ letter ++ decimal lp ++ named name
 
@@ -51,7 +51,7 @@ begun_gate names lp = codes "$scope module " ++ name_text names lp ++ codes " $e
 abbrev pub declared_gate : List (List ℕ) → ℕ → List ℕ
 declared_gate names lp = begun_gate names lp ++ declared_signals lp ++ codes "$upscope $end\n"
 
--- so many gates
+-- the declarations of the first `lp` gates
 abbrev pub declared_gates : List (List ℕ) → ℕ → List ℕ
 declared_gates names zero = []
 declared_gates names (suc lp) = declared_gates names lp ++ declared_gate names lp
@@ -61,7 +61,7 @@ declared_gates names (suc lp) = declared_gates names lp ++ declared_gate names l
 abbrev pub value_text : List ℕ → ℕ → ℕ → List ℕ
 value_text letter lp value = decimal value ++ letter ++ decimal lp ++ codes "\n"
 
--- all signals of a gate with this state
+-- the values of all signals of a gate with this state
 abbrev pub state_text : ℕ → List ℕ → List ℕ
 state_text lp state =
     value_text (codes "o") lp (slice_index state 3) ++ value_text (codes "p") lp
@@ -69,7 +69,7 @@ state_text lp state =
     ++ value_text (codes "q") lp (slice_index state 1) ++ value_text (codes "r") lp
     (slice_index state 2)
 
--- the states in which so many processes start
+-- the start states of the first `lp` processes
 abbrev pub starts : Netlist → ℕ → List (List ℕ)
 starts n zero = []
 starts n (suc lp) = starts n lp ++ (circuit_meaning n).start_state lp ∷ []
@@ -78,7 +78,7 @@ abbrev pub starts_text : Netlist → ℕ → List ℕ
 starts_text n zero = []
 starts_text n (suc lp) = starts_text n lp ++ state_text lp ((circuit_meaning n).start_state lp)
 
--- a signal that changes
+-- the value of a signal, if it changes
 abbrev pub change_text : List ℕ → ℕ → ℕ → ℕ → List ℕ
 change_text letter lp was value = if was == value then [] else value_text letter lp value
 
@@ -91,7 +91,7 @@ changes_text lp was now =
 
 -- 4. Events
 
--- the state of an event's receiver after it, where the processes have these states
+-- the state of an event's receiver after it, from these states of the processes
 abbrev pub state_after : Netlist → List (List ℕ) → Message → List ℕ
 state_after n states x = (circuit_meaning n).next_state x.to (get_or states x.to []) x
 
@@ -102,11 +102,11 @@ abbrev pub event_text : Netlist → List (List ℕ) → Message → List ℕ
 event_text n states x = if nat_lt x.to (length states)
     then changes_text x.to (get_or states x.to []) (state_after n states x) else []
 
--- a later time
+-- a time that differs from the last one
 abbrev pub time_text : ℕ → ℕ → List ℕ
 time_text last time = if last == time then [] else codes "#" ++ decimal time ++ codes "\n"
 
--- the events, one after another, and the time of the end
+-- the changes at the events, in order, and the time of the end
 abbrev pub events_text : Netlist → List (List ℕ) → ℕ → ℕ → List Message → List ℕ
 events_text n states last end [] = time_text last end
 events_text n states last end (x ∷ xs) =
@@ -121,7 +121,7 @@ head_text = codes "$timescale 1 ns $end\n$scope module circuit $end\n"
 abbrev pub between_text : List ℕ
 between_text = codes "$upscope $end\n$enddefinitions $end\n#0\n$dumpvars\n"
 
--- the wave up to a time, of the events before it
+-- the wave up to a time, from the events before it
 abbrev pub wave_text : Netlist → List (List ℕ) → ℕ → List Message → List ℕ
 wave_text n names time log =
     head_text ++ declared_gates names (length n.gates) ++ between_text

@@ -1,4 +1,4 @@
-// A circuit as a model.
+// A circuit of logic gates as a model.
 
 ghost use Rattle.std.specs.Prelude.{◌≡◌, ℕ, IsTrue, ◌<◌, ◌≤◌, ◌*◌, ◌+◌, ◌^◌, ◌↔◌, length};
 ghost use Rattle.std.specs.Prelude.{IfSome, IsNone, slice_index, map, take, drop};
@@ -14,11 +14,11 @@ use model::{Model as Simulated, Outgoing, Sends, Words};
 use smallvec::SmallVec;
 use std::alloc::Global;
 
-/// A circuit of gates, each of which is a process. Its state is its three pins, its output, and how
-/// often that changed.
+/// A circuit of logic gates, each of which is a process. The state of a gate is its three pins, its
+/// output, and how often the output changed.
 ///
-/// A message gives the value `b mod 2` to pin `a`. An output that changes goes along each wire of
-/// its gate.
+/// A message gives the value `b mod 2` to pin `a`. When the output of a gate changes, it is sent
+/// along each of its wires.
 #[derive(Drop)]
 pub struct Circuit {
     gates: Vec<Gate>,
@@ -29,9 +29,9 @@ pub struct Circuit {
 }
 
 impl Circuit {
-    /// The circuit of these gates and wires: 1 to 1,024 gates, none with more than 8 wires, delays
-    /// of at least 1, wires only to gates that are there. `None` for others. The names are those of
-    /// the gates in a wave; a gate whose name is empty or missing has none.
+    /// Returns the circuit of these gates and wires, or `None` if they are not 1 to 1,024 gates,
+    /// each with at most 8 wires and a delay of at least 1, and wires only to existing gates. A
+    /// wave uses the names; a gate whose name is empty or missing has none.
     pub fn new(gates: Vec<Gate>, wires: Vec<Wire>, names: Vec<String>) -> Option<Circuit>
         ensures some { IfSome result (λ c. (c.gates.items ≡ gates.items)
             × (c.wires.items ≡ wires.items) × (c.names.items ≡ names.items)) }
@@ -54,28 +54,25 @@ impl Circuit {
         })
     }
 
-    /// The gates.
     pub(crate) fn gates(&self) -> &[Gate]
         ensures { result.now ≡ self.now.gates.items }
     {
         self.gates.as_slice()
     }
 
-    /// The wires.
     pub(crate) fn wires(&self) -> &[Wire]
         ensures { result.now ≡ self.now.wires.items }
     {
         self.wires.as_slice()
     }
 
-    /// The names of the gates.
     pub(crate) fn names(&self) -> &[String]
         ensures { result.now ≡ self.now.names.items }
     {
         self.names.as_slice()
     }
 
-    /// The output of gate `lp` for three bits.
+    /// Returns the output of gate `lp` for three bits.
     fn output(&self, lp: u32, p: u64, q: u64, r: u64) -> u64
         requires there { lp < length self.now.gates.items }
         requires p { p < 2 }
@@ -87,7 +84,7 @@ impl Circuit {
         u64::from((self.gates[lp as usize].table >> (p + 2 * q + 4 * r)) % 2)
     }
 
-    /// The wires of gate `lp`.
+    /// Returns the wires of gate `lp`.
     fn wires_of(&self, lp: u32) -> &[Wire]
         requires { lp < length self.now.gates.items }
         ensures wires { result.now ≡ wires_of (netlist_of self.now.gates.items self.now.wires.items
@@ -99,7 +96,8 @@ impl Circuit {
         &self.wires[first..first + gate.count as usize]
     }
 
-    /// What gate `lp` sends where its output was `was` and is `value`.
+    /// Returns what gate `lp` sends if its output was `was` and is `value`: nothing if these are
+    /// equal.
     fn sends(&self, alloc: Global, lp: u32, was: u64, value: u64) -> Sends
         requires { lp < length self.now.gates.items }
         ensures { result.items ≡ changed (netlist_of self.now.gates.items self.now.wires.items
@@ -123,7 +121,7 @@ impl Circuit {
     }
 }
 
-/// Whether a gate has a delay, and its wires lie in a list of so many.
+/// Returns whether a gate has a delay, and its wires, at most 8, are in a list of `wires` wires.
 pub(crate) fn is_gate(gate: Gate, wires: usize) -> bool
     ensures holds { IsTrue result ↔ IsGate wires gate }
     ensures test { result ≡ is_gate wires gate }
@@ -131,7 +129,7 @@ pub(crate) fn is_gate(gate: Gate, wires: usize) -> bool
     gate.delay >= 1 && gate.count <= 8 && gate.first as usize + gate.count as usize <= wires
 }
 
-/// Whether all gates have a delay, and wires in a list of so many.
+/// Returns whether `is_gate` holds of all gates.
 fn are_gates(gates: &[Gate], wires: usize) -> bool
     ensures { IsTrue result ↔
         ((i : ℕ) → i < length gates.now → IsGate wires (gate_in gates.now i)) }
@@ -144,7 +142,7 @@ fn are_gates(gates: &[Gate], wires: usize) -> bool
     true
 }
 
-/// Whether a wire leads to a gate, of which there are so many.
+/// Returns whether a wire leads to one of `gates` gates.
 pub(crate) fn is_wire(wire: Wire, gates: usize) -> bool
     ensures holds { IsTrue result ↔ IsWire gates wire }
     ensures test { result ≡ is_wire gates wire }
@@ -152,7 +150,7 @@ pub(crate) fn is_wire(wire: Wire, gates: usize) -> bool
     (wire.to as usize) < gates
 }
 
-/// Whether wires lead only to gates, of which there are so many.
+/// Returns whether `is_wire` holds of all wires.
 fn are_wires(wires: &[Wire], gates: usize) -> bool
     ensures { IsTrue result ↔
         ((i : ℕ) → i < length wires.now → IsWire gates (wire_at wires.now i)) }
@@ -165,7 +163,7 @@ fn are_wires(wires: &[Wire], gates: usize) -> bool
     true
 }
 
-/// A number that tells a netlist from others.
+/// Returns a hash of a netlist, which is the second word of the model's identity.
 fn digest(gates: &[Gate], wires: &[Wire]) -> u64 {
     let mut digest = gates.len() as u64;
     for gate in gates {
@@ -183,7 +181,7 @@ fn mixed(digest: u64, number: u32) -> u64 {
     (digest ^ u64::from(number)).wrapping_mul(0x100_0000_01b3)
 }
 
-/// The value at pin `k` after a message.
+/// Returns the value at pin `k` after a message.
 fn pin_after(state: &[u64], message: &Message, k: usize) -> u64
     ensures value { result ≡ pin_after state.now message.now k }
     ensures bit { result < 2 }

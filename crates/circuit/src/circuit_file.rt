@@ -1,4 +1,4 @@
-// Circuits as model files describe them.
+// Circuits from model files.
 
 ghost use Rattle.std.specs.Prelude.{◌≡◌, ◌≢◌, ◌++◌, ◌≤◌, ◌^◌, ℕ, [], codes, length, map, IfOk};
 ghost use Rattle.std.specs.Prelude.{OnOk};
@@ -19,7 +19,7 @@ use std::alloc::{AllocError, Global};
 use texts::{Described, Findings, Found, Mistake, ModelFault, found_in, number_at, only};
 use toml::{Table, Value};
 
-/// What the help of a program says of the keys of a circuit's model file.
+/// What a program's help says of the keys of a circuit's model file.
 pub const CIRCUIT_KEYS: &str = "\
 A circuit has these keys, each gate being a process:
   end         ticks at which the run ends, 1 to 1099511627776
@@ -54,7 +54,7 @@ impl Described for Circuit {
     }
 }
 
-/// The circuit and the end of a table.
+/// Returns the circuit and the end that a table describes.
 fn circuit_of(alloc: Global, table: &Table) -> Result<(Circuit, u64), ModelFault>
     ensures ok { IfOk result (λ file. IsCircuitTable (table_view table.now) file.0 file.1) }
     ensures bad { (mistake : Mistake) → result ≡ Err (ModelFault.BadModel mistake) →
@@ -92,30 +92,29 @@ fn circuit_of(alloc: Global, table: &Table) -> Result<(Circuit, u64), ModelFault
     }
 }
 
-/// The keys of a circuit.
 const KEYS: [&str; 3] = ["end", "gates", "wires"];
 
 const NO_GATES: Mistake = Mistake::Not {
     key: "gates",
-    wanted: "a list of tables with table, delay, first and count",
+    expected: "a list of tables with table, delay, first and count",
 };
 
 const NO_WIRES: Mistake = Mistake::Not {
     key: "wires",
-    wanted: "a list of tables with to and pin",
+    expected: "a list of tables with to and pin",
 };
 
 const NO_NAMES: Mistake = Mistake::Not {
     key: "gates",
-    wanted: "a list of tables whose names are texts of printable characters without blanks",
+    expected: "a list of tables whose names are texts of printable characters without blanks",
 };
 
 const NO_CIRCUIT: Mistake = Mistake::Not {
     key: "gates",
-    wanted: "1 to 1024 gates with delays, each with at most 8 of the wires, which lead to gates",
+    expected: "1 to 1024 gates with delays, each with at most 8 of the wires, which lead to gates",
 };
 
-/// What is wrong with a table.
+/// Returns all mistakes of a table.
 fn mistakes_of(alloc: Global, table: &Table) -> Result<Findings, AllocError>
     ensures { IfOk result (λ found. found ≡ circuit_wrong (table_view table.now)) }
 {
@@ -136,7 +135,7 @@ const WIRES: &str = "a list of tables with to and pin";
 
 const WIRE: &str = "a table with to and pin";
 
-/// Looks at the list of gates.
+/// Checks the list of gates.
 fn look_at_gates(alloc: Global, table: &Table, found: &mut Findings) -> Result<(), AllocError>
     ensures { OnOk result (found.new ≡ found.old
         ++ gates_wrong (table_view table.now) (items_at (codes "gates") (table_view table.now))) }
@@ -147,7 +146,7 @@ fn look_at_gates(alloc: Global, table: &Table, found: &mut Findings) -> Result<(
     }
 }
 
-/// Looks at each item of a list of gates.
+/// Checks each item of a list of gates.
 fn look_at_gate_items(
     alloc: Global,
     items: &[Value],
@@ -163,14 +162,14 @@ fn look_at_gate_items(
     Ok(())
 }
 
-/// Whether an item is the table of a gate, with a name or none.
+/// Returns whether an item is the table of a gate, with or without a name.
 fn fits_gate(item: &Value) -> bool
     ensures { result ≡ fits_gate (view item.now) }
 {
     gate_in(item).is_some() && name_in(item).is_some()
 }
 
-/// Looks at the list of wires.
+/// Checks the list of wires.
 fn look_at_wires(alloc: Global, table: &Table, found: &mut Findings) -> Result<(), AllocError>
     ensures { OnOk result (found.new ≡ found.old
         ++ wires_wrong (table_view table.now) (items_at (codes "wires") (table_view table.now))) }
@@ -181,7 +180,7 @@ fn look_at_wires(alloc: Global, table: &Table, found: &mut Findings) -> Result<(
     }
 }
 
-/// Looks at each item of a list of wires.
+/// Checks each item of a list of wires.
 fn look_at_wire_items(
     alloc: Global,
     items: &[Value],
@@ -196,14 +195,14 @@ fn look_at_wire_items(
     Ok(())
 }
 
-/// Whether an item is the table of a wire.
+/// Returns whether an item is the table of a wire.
 fn fits_wire(item: &Value) -> bool
     ensures { result ≡ fits_wire (view item.now) }
 {
     wire_in(item).is_some()
 }
 
-/// Looks whether the gates and the wires, where all are read, fit each other.
+/// Checks whether the gates and the wires fit each other, if all of them can be read.
 fn look_at_parts(alloc: Global, table: &Table, found: &mut Findings) -> Result<(), AllocError>
     ensures { OnOk result (found.new ≡ found.old
         ++ parts_wrong (list_at gate_of (codes "gates") (table_view table.now))
@@ -225,7 +224,7 @@ const FITTING_GATE: &str = "a delay, and at most 8 of the listed wires";
 
 const FITTING_WIRE: &str = "a wire to one of the listed gates";
 
-/// Looks whether gates and wires fit each other.
+/// Checks whether gates and wires fit each other.
 fn look_at_netlist(
     alloc: Global,
     table: &Table,
@@ -242,7 +241,7 @@ fn look_at_netlist(
     look_at_fitting_wires(alloc, wires, gates.len(), found)
 }
 
-/// Looks whether gates fit so many wires.
+/// Checks whether gates fit a list of `wires` wires.
 fn look_at_fitting_gates(
     alloc: Global,
     gates: &[Gate],
@@ -265,7 +264,7 @@ fn look_at_fitting_gates(
     Ok(())
 }
 
-/// Looks whether wires fit so many gates.
+/// Checks whether wires fit a list of `gates` gates.
 fn look_at_fitting_wires(
     alloc: Global,
     wires: &[Wire],
@@ -288,7 +287,7 @@ fn look_at_fitting_wires(
     Ok(())
 }
 
-/// The list of gates.
+/// Reads the list of gates.
 fn gates_at(alloc: Global, table: &Table) -> Result<Option<Vec<Gate>>, AllocError>
     ensures { IfOk result (λ found. option_map (λ v. v.items) found
         ≡ list_at gate_of (codes "gates") (table_view table.now)) }
@@ -299,7 +298,7 @@ fn gates_at(alloc: Global, table: &Table) -> Result<Option<Vec<Gate>>, AllocErro
     }
 }
 
-/// The gates of some items.
+/// Reads a gate from each item.
 fn gates_of(alloc: Global, items: &[Value]) -> Result<Option<Vec<Gate>>, AllocError>
     ensures { IfOk result (λ found. option_map (λ v. v.items) found
         ≡ all_of (λ d. option_and_then gate_of (as_table d)) (items_view items.now)) }
@@ -314,7 +313,7 @@ fn gates_of(alloc: Global, items: &[Value]) -> Result<Option<Vec<Gate>>, AllocEr
     Ok(Some(gates))
 }
 
-/// The gate of an item.
+/// Reads a gate from an item.
 fn gate_in(item: &Value) -> Option<Gate>
     ensures { result ≡ option_and_then gate_of (as_table (view item.now)) }
 {
@@ -324,7 +323,7 @@ fn gate_in(item: &Value) -> Option<Gate>
     }
 }
 
-/// The gate of a table.
+/// Reads a gate from a table.
 fn gate_of(table: &Table) -> Option<Gate>
     ensures { result ≡ gate_of (table_view table.now) }
 {
@@ -348,7 +347,7 @@ fn gate_of(table: &Table) -> Option<Gate>
     })
 }
 
-/// The names of the gates.
+/// Reads the names of the gates.
 fn names_at(alloc: Global, table: &Table) -> Result<Option<Vec<String>>, AllocError>
     ensures { IfOk result (λ found. option_map (λ v. map string_bytes v.items) found
         ≡ list_at name_of (codes "gates") (table_view table.now)) }
@@ -359,7 +358,7 @@ fn names_at(alloc: Global, table: &Table) -> Result<Option<Vec<String>>, AllocEr
     }
 }
 
-/// The names of some items.
+/// Reads a name from each item.
 fn names_of(alloc: Global, items: &[Value]) -> Result<Option<Vec<String>>, AllocError>
     ensures { IfOk result (λ found. option_map (λ v. map string_bytes v.items) found
         ≡ all_of (λ d. option_and_then name_of (as_table d)) (items_view items.now)) }
@@ -374,7 +373,7 @@ fn names_of(alloc: Global, items: &[Value]) -> Result<Option<Vec<String>>, Alloc
     Ok(Some(names))
 }
 
-/// The name of an item.
+/// Reads the name of a gate from an item.
 fn name_in(item: &Value) -> Option<&str>
     ensures { option_map (λ s. s.now) result ≡ option_and_then name_of (as_table (view item.now)) }
 {
@@ -384,7 +383,8 @@ fn name_in(item: &Value) -> Option<&str>
     }
 }
 
-/// The name of a gate's table, empty where it has none. `None` where its value is no name.
+/// Reads the name of a gate from its table; it is empty if the table has none. Returns `None` if
+/// the value is not a name.
 fn name_of(table: &Table) -> Option<&str>
     ensures { option_map (λ s. s.now) result ≡ name_of (table_view table.now) }
 {
@@ -394,7 +394,7 @@ fn name_of(table: &Table) -> Option<&str>
     }
 }
 
-/// The name that a value is.
+/// Reads a name from a value.
 fn name_in_value(value: &Value) -> Option<&str>
     ensures { option_map (λ s. s.now) result ≡ name_in (view value.now) }
 {
@@ -404,14 +404,14 @@ fn name_in_value(value: &Value) -> Option<&str>
     }
 }
 
-/// Whether a text is a name: printable characters of ASCII, and no blanks.
+/// Returns whether a text is a name: printable ASCII characters, at least one, and no blanks.
 fn is_name(text: &[u8]) -> bool
     ensures { result ≡ is_name text.now }
 {
     !text.is_empty() && are_printable(text)
 }
 
-/// Whether all bytes are printable characters of ASCII, and no blanks.
+/// Returns whether all bytes are printable ASCII characters other than blanks.
 fn are_printable(text: &[u8]) -> bool
     ensures { result ≡ list_all is_printable text.now }
 {
@@ -423,14 +423,14 @@ fn are_printable(text: &[u8]) -> bool
     true
 }
 
-/// Whether a byte is a printable character of ASCII, and no blank.
+/// Returns whether a byte is a printable ASCII character other than a blank.
 fn is_printable(byte: u8) -> bool
     ensures { result ≡ is_printable byte }
 {
     byte > 32 && byte < 127
 }
 
-/// The list of wires.
+/// Reads the list of wires.
 fn wires_at(alloc: Global, table: &Table) -> Result<Option<Vec<Wire>>, AllocError>
     ensures { IfOk result (λ found. option_map (λ v. v.items) found
         ≡ list_at wire_of (codes "wires") (table_view table.now)) }
@@ -441,7 +441,7 @@ fn wires_at(alloc: Global, table: &Table) -> Result<Option<Vec<Wire>>, AllocErro
     }
 }
 
-/// The wires of some items.
+/// Reads a wire from each item.
 fn wires_of(alloc: Global, items: &[Value]) -> Result<Option<Vec<Wire>>, AllocError>
     ensures { IfOk result (λ found. option_map (λ v. v.items) found
         ≡ all_of (λ d. option_and_then wire_of (as_table d)) (items_view items.now)) }
@@ -456,7 +456,7 @@ fn wires_of(alloc: Global, items: &[Value]) -> Result<Option<Vec<Wire>>, AllocEr
     Ok(Some(wires))
 }
 
-/// The wire of an item.
+/// Reads a wire from an item.
 fn wire_in(item: &Value) -> Option<Wire>
     ensures { result ≡ option_and_then wire_of (as_table (view item.now)) }
 {
@@ -466,7 +466,7 @@ fn wire_in(item: &Value) -> Option<Wire>
     }
 }
 
-/// The wire of a table.
+/// Reads a wire from a table.
 fn wire_of(table: &Table) -> Option<Wire>
     ensures { result ≡ wire_of (table_view table.now) }
 {
@@ -482,7 +482,7 @@ fn wire_of(table: &Table) -> Option<Wire>
     })
 }
 
-/// The array at a key.
+/// Returns the array at a key.
 fn array_at<'a>(table: &'a Table, key: &str) -> Option<&'a Vec<Value>>
     ensures { option_map (λ v. array_view v.now) result
         ≡ option_and_then as_array (get_member key.now (table_view table.now)) }

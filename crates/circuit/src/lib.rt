@@ -1,4 +1,4 @@
-//! Digital circuits of gates with delays, as a model: each gate is a logical process.
+//! Digital circuits of logic gates with delays, as a model: each gate is a logical process.
 #![tactic(auto)]
 
 mod circuit;

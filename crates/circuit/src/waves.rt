@@ -1,4 +1,4 @@
-// The wave of a circuit as a value change dump.
+// The wave of a circuit, as a value change dump.
 
 ghost use Rattle.std.specs.Prelude.{◌≡◌, ◌≤◌, ◌<◌, ◌++◌, List, ℕ, codes, decimal, length, map};
 ghost use Rattle.std.specs.Prelude.{IfOk, OnOk, slice_index, string_bytes};
@@ -16,13 +16,14 @@ use itoa::Buffer;
 use model::{Model as Simulated, Words};
 use std::alloc::{AllocError, Global};
 
-/// The wave of a circuit up to a time, in ticks, of the log of the events before it, as a text that
-/// programs as GTKWave show: a value change dump (VCD, IEEE 1364-2005, clause 18).
+/// Returns the wave of a circuit up to a time, in ticks, as a text that programs such as GTKWave
+/// show: a value change dump (VCD, IEEE 1364-2005, clause 18). `log` has the events before that
+/// time.
 ///
-/// A gate is a scope with its name, or `gateN` where it has none, and four signals: `output`, which
-/// follows its pins at once, and `pin0` to `pin2`, which follow the outputs behind their wires'
-/// delays. A tick is written as a nanosecond, since a dump has to name a unit. It costs a handling
-/// for each event.
+/// A gate is a scope with its name, or `gateN` if it has none, and four signals: `output`, which
+/// follows its pins at once, and `pin0` to `pin2`, which follow the outputs wired to them after the
+/// delays. A tick is written as a nanosecond, since a dump must name a unit. The cost is one
+/// handling for each event.
 pub fn wave(
     alloc: Global,
     circuit: &Circuit,
@@ -49,14 +50,14 @@ pub fn wave(
     Ok(text)
 }
 
-/// Puts a text behind another one.
+/// Appends a text.
 fn put(more: &str, text: &mut String) -> Result<(), AllocError>
     ensures { OnOk result (string_bytes text.new ≡ string_bytes text.old ++ more.now) }
 {
     text.push_str(more)
 }
 
-/// Puts a number behind a text, in decimal digits.
+/// Appends a number in decimal digits.
 fn put_number(number: u64, text: &mut String) -> Result<(), AllocError>
     ensures { OnOk result (string_bytes text.new ≡ string_bytes text.old ++ decimal number) }
 {
@@ -106,7 +107,7 @@ fn put_signals(lp: usize, text: &mut String) -> Result<(), AllocError>
     put_signal("r", "pin2", lp, text)
 }
 
-/// Puts the name of a gate.
+/// Appends the name of a gate.
 fn put_name(lp: usize, names: &[String], text: &mut String) -> Result<(), AllocError>
     ensures { OnOk result (string_bytes text.new ≡ string_bytes text.old
         ++ name_text (map string_bytes names.now) lp) }
@@ -125,14 +126,14 @@ fn put_name(lp: usize, names: &[String], text: &mut String) -> Result<(), AllocE
     put(name, text)
 }
 
-/// Whether a name is a simple identifier.
+/// Returns whether a name is a simple identifier.
 fn is_simple(name: &[u8]) -> bool
     ensures { result ≡ is_simple name.now }
 {
     is_letter(name.first().copied().unwrap_or(0)) && are_words(name)
 }
 
-/// Whether all bytes are those of an identifier.
+/// Returns whether all bytes may be in an identifier.
 fn are_words(name: &[u8]) -> bool
     ensures { result ≡ list_all is_word name.now }
 {
@@ -144,14 +145,14 @@ fn are_words(name: &[u8]) -> bool
     true
 }
 
-/// Whether a byte is a letter or an underscore.
+/// Returns whether a byte is a letter or an underscore.
 fn is_letter(byte: u8) -> bool
     ensures { result ≡ is_letter byte }
 {
     byte >= 65 && byte <= 90 || byte >= 97 && byte <= 122 || byte == 95
 }
 
-/// The same, or a digit or a dollar sign.
+/// Returns whether a byte is a letter, an underscore, a digit or a dollar sign.
 fn is_word(byte: u8) -> bool
     ensures { result ≡ is_word byte }
 {
@@ -169,7 +170,7 @@ fn put_signal(letter: &str, name: &str, lp: usize, text: &mut String) -> Result<
     put_named(name, text)
 }
 
-/// Puts a name, and the end of what it names.
+/// Appends a name, and the end of its declaration.
 fn put_named(name: &str, text: &mut String) -> Result<(), AllocError>
     ensures { OnOk result (string_bytes text.new ≡ string_bytes text.old ++ named name.now) }
 {
@@ -178,7 +179,7 @@ fn put_named(name: &str, text: &mut String) -> Result<(), AllocError>
     put(" $end\n", text)
 }
 
-/// Puts the value of each signal at the start, and answers the states of all processes.
+/// Appends the value of each signal at the start, and returns the states of all processes.
 fn put_starts(alloc: Global, circuit: &Circuit, text: &mut String) -> Result<Vec<Words>, AllocError>
     ensures text { OnOk result (string_bytes text.new ≡ string_bytes text.old
         ++ starts_text (netlist_of circuit.now.gates.items circuit.now.wires.items
@@ -196,7 +197,7 @@ fn put_starts(alloc: Global, circuit: &Circuit, text: &mut String) -> Result<Vec
     Ok(states)
 }
 
-/// Puts the values of all signals of a gate.
+/// Appends the values of all signals of a gate.
 fn put_state(lp: u32, state: &[u64], text: &mut String) -> Result<(), AllocError>
     ensures { OnOk result (string_bytes text.new ≡ string_bytes text.old
         ++ state_text lp state.now) }
@@ -207,14 +208,14 @@ fn put_state(lp: u32, state: &[u64], text: &mut String) -> Result<(), AllocError
     put_value("r", lp, word(state, 2), text)
 }
 
-/// A word of a state; a missing one counts as 0.
+/// Returns a word of a state; a missing one counts as 0.
 fn word(state: &[u64], place: usize) -> u64
     ensures { result ≡ slice_index state.now place }
 {
     state.get(place).copied().unwrap_or(0)
 }
 
-/// Puts the value of a signal.
+/// Appends the value of a signal.
 fn put_value(letter: &str, lp: u32, value: u64, text: &mut String) -> Result<(), AllocError>
     ensures { OnOk result (string_bytes text.new ≡ string_bytes text.old
         ++ value_text letter.now lp value) }
@@ -225,7 +226,7 @@ fn put_value(letter: &str, lp: u32, value: u64, text: &mut String) -> Result<(),
     put("\n", text)
 }
 
-/// Puts what changes at each event, and the time of the end.
+/// Appends the changes at each event, and the time of the end.
 fn put_events(
     alloc: Global,
     circuit: &Circuit,
@@ -249,7 +250,7 @@ fn put_events(
     put_time(last, end, text)
 }
 
-/// Puts a time, where it is another one.
+/// Appends a time that differs from the last one.
 fn put_time(last: u64, time: u64, text: &mut String) -> Result<(), AllocError>
     ensures { OnOk result (string_bytes text.new ≡ string_bytes text.old ++ time_text last time) }
 {
@@ -261,7 +262,7 @@ fn put_time(last: u64, time: u64, text: &mut String) -> Result<(), AllocError>
     put("\n", text)
 }
 
-/// Puts what changes at an event, and makes the state of its receiver that after it.
+/// Appends the changes at an event, and updates the state of its receiver.
 fn put_event(
     alloc: Global,
     circuit: &Circuit,
@@ -290,7 +291,7 @@ fn put_event(
     Ok(())
 }
 
-/// Puts the signals of a gate that change.
+/// Appends the signals of a gate that change.
 fn put_changes(lp: u32, was: &[u64], now: &[u64], text: &mut String) -> Result<(), AllocError>
     ensures { OnOk result (string_bytes text.new ≡ string_bytes text.old
         ++ changes_text lp was.now now.now) }
@@ -301,7 +302,7 @@ fn put_changes(lp: u32, was: &[u64], now: &[u64], text: &mut String) -> Result<(
     put_change("r", lp, word(was, 2), word(now, 2), text)
 }
 
-/// Puts the value of a signal, where it changes.
+/// Appends the value of a signal if it changes.
 fn put_change(
     letter: &str,
     lp: u32,

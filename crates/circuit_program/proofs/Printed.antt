@@ -17,6 +17,6 @@ module _ {T E : Type 0} (text : List ℕ) (is : IsWave text) (old new : Option (
   begun A (Ok x) h = tt
   begun A (Err e) h = inr (text, is, h)
 
--- a simulation up to its end has come to that time
+-- a simulation up to its end has reached that time
 pub at_its_time : (m : Meaning) (end : ℕ) (w : World) → IsUpto m end end w → IsUpto m end w.time w × (w.time ≤ end)
 at_its_time m end w h = (subst (λ t. IsUpto m end t w) (sym h.time) h, omega (arith, h.time))

@@ -6,23 +6,22 @@ use Rattle.circuit.specs.Wave.{wave_text}
 use Rattle.circuit.specs.declared.circuit.Circuit.{Circuit}
 use Rattle.model.specs.Meaning.{Meaning}
 use Rattle.model.specs.World.{IsUpto, World}
-use Rattle.commands.specs.Commands.{StandsUpto}
+use Rattle.commands.specs.Commands.{RepresentsUpto}
 use Rattle.recovery.specs.Replay.{IsReplayedTo}
-use Rattle.recovery.specs.Stands.{IsGenuine}
+use Rattle.recovery.specs.Represents.{IsGenuine}
 use Rattle.texts.specs.ModelFile.{IsModelFile}
 
 abbrev pub meaning_of : Circuit → Meaning
 meaning_of c = circuit_meaning (netlist_of c.gates.items c.wires.items c.digest)
 
--- A world that is committed on some disk: the disk's image is replayed to it, and where it is
--- genuine it stands for it.
+-- The image of some disk is replayed to this world. A genuine image represents it.
 pub record IsOnDisk (m : Meaning) (end : ℕ) (w : World) : Type 0 where
   pub image : List (List ℕ)
   pub replayed : IsReplayedTo m end image w
-  pub genuine : IsGenuine m end image → StandsUpto m end image w
+  pub genuine : IsGenuine m end image → RepresentsUpto m end image w
 
--- the wave of a circuit up to a time, of the log of its sequential simulation up to there, or of
--- what is committed on a disk
+-- The wave of a circuit up to the time of a world: the sequential simulation up to there, or the
+-- world committed on a disk.
 pub record IsWaveOf (c : Circuit) (end : ℕ) (text : List ℕ) : Type 0 where
   pub world : World
   pub from : IsUpto (meaning_of c) end world.time world ⊎ IsOnDisk (meaning_of c) end world
@@ -30,7 +29,7 @@ pub record IsWaveOf (c : Circuit) (end : ℕ) (text : List ℕ) : Type 0 where
   pub is : text ≡ wave_text (netlist_of c.gates.items c.wires.items c.digest)
       (map string_bytes c.names.items) world.time world.log
 
--- that of the circuit of some model file
+-- the wave of the circuit of some model file
 pub record IsWave (text : List ℕ) : Type 0 where
   pub source : List ℕ
   pub circuit : Circuit

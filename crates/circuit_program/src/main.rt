@@ -1,5 +1,5 @@
-//! `circuits`: simulates circuits of gates with delays, each gate being a logical process, and
-//! prints their waves.
+//! `circuits`: simulates circuits of logic gates with delays, where each gate is a logical process,
+//! and prints their waves.
 #![tactic(auto)]
 
 ghost use Rattle.std.specs.Prelude.{◌≤◌};

@@ -12,15 +12,15 @@ use circuit::Circuit;
 use commands::{Simulated, committed};
 use disk::FileDisk;
 use model::World;
-use program::{Fault, simulated, tell};
+use program::{Fault, print_fault, simulated};
 use std::alloc::Global;
 use std::fs::File;
 use std::io::{self, BufWriter, Print, Write};
 use std::rt::Files;
 use texts::write_text;
 
-/// Does what `wave MODEL [DISK]` asks for, of which these are the words behind `wave`, and answers
-/// the exit status, as the other commands do.
+/// Runs the command `wave MODEL [DISK]`, and returns the exit status, as the other commands do.
+/// `words` are the words behind `wave`.
 pub(crate) fn wave<R, E>(rt: &R, words: &[String], err: &mut E) -> u8
 where
     R: Files<File = File> + Print + AllocGlobal,
@@ -36,11 +36,11 @@ where
         }
     };
     let Ok(mut out) = BufWriter::new(rt.alloc(), io::writer(rt)) else {
-        return tell("circuit_program", Fault::NoMemory, err);
+        return print_fault("circuit_program", Fault::NoMemory, err);
     };
     let status = match print_wave(rt, model, disk, &mut out) {
         Ok(()) => 0,
-        Err(fault) => tell("circuit_program", fault, err),
+        Err(fault) => print_fault("circuit_program", fault, err),
     };
     // what is left was refused, and is not tried again
     let (_writer, _left) = out.into_parts();
@@ -54,12 +54,12 @@ its end, or, with a disk, of what is committed there.
 Usage: circuits wave MODEL [DISK]
 ";
 
-/// Prints the wave of the circuit of a model file: of what is committed on a disk, or of its whole
-/// simulation.
+/// Prints the wave of the circuit of a model file, from the committed world of a disk, or from the
+/// whole simulation.
 ///
-/// Refused are, in this order, the model file (`File`, `BadModel`), the disk (`File`, `Log`,
-/// `Recovery`) or the plain runner (`World`), and then `Output` where the writer refuses.
-/// `NoMemory` comes where memory runs out. Before `Output` nothing is written.
+/// Returns, in this order, the faults of the model file (`File`, `BadModel`), those of the disk
+/// (`File`, `Log`, `Recovery`) or the plain runner (`World`), and `Output` if the writer refuses.
+/// Returns `NoMemory` if an allocation fails. At every fault but `Output` nothing is written.
 fn print_wave<R, O>(rt: &R, model: &str, disk: Option<&str>, out: &mut O) -> Result<(), Fault>
 where
     R: Files<File = File> + AllocGlobal,
@@ -76,7 +76,7 @@ where
     print(text.as_str(), out)
 }
 
-/// The wave of what is committed on a disk.
+/// Returns the wave up to the time committed on a disk.
 fn committed_wave<R>(rt: &R, of: &Simulated<Circuit>, disk: &str) -> Result<String, Fault>
 where
     R: Files<File = File> + AllocGlobal,
@@ -89,7 +89,7 @@ where
     Ok(circuit::wave(rt.alloc(), &of.model, front.g, front.log.as_slice())?)
 }
 
-/// The wave of a circuit's simulation to its end.
+/// Returns the wave of a circuit's simulation up to its end.
 fn whole_wave<R>(rt: &R, of: &Simulated<Circuit>) -> Result<String, Fault>
 where
     R: AllocGlobal,
@@ -101,7 +101,7 @@ where
     Ok(circuit::wave(rt.alloc(), &of.model, parts.time, parts.log.as_slice())?)
 }
 
-/// The world at the end of a circuit's simulation, by the plain runner.
+/// Returns the world at the end of a circuit's simulation, by the plain runner.
 fn whole_world(alloc: Global, of: &Simulated<Circuit>) -> Result<World, Fault>
     requires some { 1 ≤ of.now.end }
     requires short { of.now.end ≤ 2 ^ 40 }

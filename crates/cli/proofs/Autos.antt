@@ -1,4 +1,4 @@
--- A batch as a word, and large disks, word by word.
+-- The batch as a word, and large disks, word by word.
 use Rattle.std.specs.Prelude.{◌≡◌, ◌==◌, ◌-◌, ◌&&◌, ◌||◌, drop, length, map, take, Bool, true, false, List, [], ◌∷◌, codes}
 use Rattle.std.specs.Str.{bytes_eq}
 use Rattle.std.proofs.Common.{refl, ap, arith, inl, inr}
@@ -6,9 +6,9 @@ use Rattle.std.proofs.lemmas.List.{take_all}
 use Rattle.std.proofs.lemmas.Bool.{cases_Bool, eqb-true}
 use Rattle.std.proofs.lemmas.Slice.Eq.{bytes_eq-Decides}
 use Rattle.clap.specs.Words.{Text}
-use Rattle.cli.specs.Line.{begins_auto, says_auto, says_large}
+use Rattle.cli.specs.Command.{begins_auto, says_auto, says_large}
 
--- what the words that are left say, where the word before them is `--batch` or not
+-- what the remaining words say; `after` says whether the word before them is `--batch`
 abbrev pub left_say : Bool → List Text → Bool
 left_say after words = (after && begins_auto words) || says_auto words
 
@@ -28,7 +28,7 @@ neither : (a b : Bool) → (a || b) ≡ false → (a ≡ false) × (b ≡ false)
 neither false b e = (refl, e)
 neither true b e = absurd (cc)
 
--- at `--` nothing more is said
+-- nothing counts from `--` on
 pub left_ends : (after : Bool) (word : Text) (rest : List Text) → bytes_eq word (codes "--") ≡ true → left_say after (word ∷ rest) ≡ false
 unfolding says_auto
 left_ends false word rest e = rw e refl
@@ -37,7 +37,7 @@ left_ends true word rest e =
     let other : bytes_eq word (codes "auto") ≡ false = rw is refl in
     rw (e, other) refl
 
--- each other word gives it, or leaves it to those behind it
+-- each other word decides, or leaves it to the words behind it
 pub left_met : (after : Bool) (word : Text) (rest : List Text) → bytes_eq word (codes "--") ≡ false → (bytes_eq word (codes "--batch=auto") || (after && bytes_eq word (codes "auto"))) ≡ true → left_say after (word ∷ rest) ≡ true
 unfolding says_auto
 left_met after word rest e gives = elim (cases_Bool (after && bytes_eq word (codes "auto"))) [
@@ -65,7 +65,7 @@ none_behind text (word ∷ rest) e =
     let none : length (word ∷ rest) ≡ 0 = eqb-true (length (word ∷ rest)) 0 e in
     absurd (omega (arith, none))
 
--- nothing is said where there are no words
+-- no words say nothing
 pub auto_none : says_auto [] ≡ false
 unfolding says_auto
 auto_none = refl
@@ -74,7 +74,7 @@ pub large_none : says_large [] ≡ false
 unfolding says_large
 large_none = refl
 
--- `--` and `--large` decide it, and each other word leaves it to those behind it
+-- `--` and `--large` decide, and each other word leaves it to the words behind it
 pub large_met : (word : Text) (rest : List Text) → (bytes_eq word (codes "--") || bytes_eq word (codes "--large")) ≡ true → says_large (word ∷ rest) ≡ bytes_eq word (codes "--large")
 unfolding says_large
 large_met word rest met = elim (cases_Bool (bytes_eq word (codes "--"))) [

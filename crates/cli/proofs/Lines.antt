@@ -1,4 +1,4 @@
--- What clap finds in a line of the program.
+-- What clap finds in a command line of the program.
 use Rattle.std.specs.Borrow.{Bor}
 use Rattle.std.specs.Prelude.{◌≡◌, ◌⊎◌, ◌≤◌, ◌<◌, ◌^◌, ◌&&◌, ◌||◌, ℕ, Bool, true, false, List, [], ◌∷◌, Option, Some, None, Result, Ok, Err}
 use Rattle.std.specs.Prelude.{IfOk, IsErrAnd, option_map, unwrap_or, find, nat_le, if◌then◌else◌}
@@ -16,13 +16,13 @@ use Rattle.clap.specs.Simple.{argument_words, built, entered, is_simple, label_o
 use Rattle.clap.specs.ValueTests.{accepts}
 use Rattle.clap.specs.Words.{App, Row, Rule, Text, fault_of, found_of, rows_of, rule_of, subcommand_name_of, subcommand_of, subcommand_rows_of, with_rule, with_subcommand}
 use Rattle.clap.specs.Walk.{answers_to, stop_after}
-use Rattle.clap.specs.declared.builder.command.Command.{Command}
+use Rattle.clap.specs.declared.builder.command.Command.{Command as ClapCommand}
 use Rattle.clap.specs.declared.builder.arg.Arg.{Arg}
 use Rattle.clap.specs.declared.error.Error.{Error}
 use Rattle.clap.specs.declared.builder.value_parser.ValueParser.TheVariants.{Unsigned}
 use Rattle.clap.specs.declared.parser.matches.ArgMatches.{ArgMatches}
 use Rattle.clap.specs.declared.parser.matches.ArgMatches.TheViews.{out-ArgMatches, out-SubCommand}
-use Rattle.cli.specs.Line.{AddsArgument, AddsCommand, IsApp, grammar_of, IsNamed, number_of, program_by, refusal_of, unread_fault, value_fault}
+use Rattle.cli.specs.Command.{AddsArgument, AddsCommand, IsApp, grammar_of, IsNamed, number_of, program_by, refusal_of, unread_fault, value_fault}
 
 pub program_is_simple : (word large : Bool) (called : Text) → is_simple (program_by word large called) ≡ true
 unfolding clap_on_literals
@@ -39,7 +39,7 @@ program_is_free true false called = refl
 program_is_free true true called = refl
 
 module _ {X N R : Type 0} (f : X → N) (g : X → R) where
-  -- a name and rows that are found apart are found together
+  -- a name and rows that are found separately are found together
   both_found : (o : Option X) (n : N) (r : R) → Some n ≡ option_map f o → Some r ≡ option_map {T = N × R} (λ p. p.1) (option_map {U = N × R} (λ x. (f x, g x)) o)
       → option_map {U = N × R} (λ x. (f x, g x)) o ≡ Some (n, r)
   both_found None n r h k = cc
@@ -53,7 +53,7 @@ pub subcommand_found : (m : ArgMatches) (name : Text) (rows : List Row) → Some
 subcommand_found m name rows h k =
     both_found (λ b. (out-SubCommand (box_value b)).name.now) (λ b. rows_of (found_of (out-SubCommand (box_value b)).matches)) (out-ArgMatches m).subcommand name rows h k
 
--- one of a list has this
+-- the predicate holds for some element of a list
 abbrev OneOf : {X : Type 0} → (X → Type 0) → List X → Type 0
 OneOf P [] = ⊥
 OneOf P (x ∷ xs) = P x ⊎ OneOf P xs
@@ -94,16 +94,16 @@ now_or None d = refl
 now_or (Some s) d = refl
 
 module _ {E : Type 0} where
-  -- a command with one argument more, its own
-  pub argument_added : (command result : Result Command E) (argument : Arg) (app : App) (rule : Rule) → IfOk result (AddsArgument command argument) → IfOk command (IsApp app)
+  -- a command with one more argument, which is not global
+  pub argument_added : (command result : Result ClapCommand E) (argument : Arg) (app : App) (rule : Rule) → IfOk result (AddsArgument command argument) → IfOk command (IsApp app)
       → rule_of argument ≡ rule → argument.global ≡ false → IfOk result (IsApp (with_rule app rule))
   argument_added command (Err e) argument app rule adds is says local = tt
   argument_added (Err e) (Ok new) argument app rule adds is says local = absurd adds
   argument_added (Ok old) (Ok new) argument app rule adds is says local =
       (adds.shape local ∙ ap₂ with_rule is.0 says, adds.globals ∙ ap₂ (λ (x : Bool) (y : Bool). x || y) is.1 local)
 
-  -- a program with one command more
-  pub command_added : (above command result : Result Command E) (app added : App) → IfOk result (AddsCommand above command) → IfOk above (IsApp app) → IfOk command (IsApp added)
+  -- a program with one more command
+  pub command_added : (above command result : Result ClapCommand E) (app added : App) → IfOk result (AddsCommand above command) → IfOk above (IsApp app) → IfOk command (IsApp added)
       → IfOk result (IsApp (with_subcommand app added.top))
   command_added above command (Err e) app added adds is has = tt
   command_added (Err e) command (Ok new) app added adds is has = absurd adds
@@ -111,12 +111,12 @@ module _ {E : Type 0} where
   command_added (Ok old) (Ok sub) (Ok new) app added adds is has =
       (adds.shape has.1 ∙ ap₂ (λ (a : App) (b : App). with_subcommand a b.top) is.0 has.0, adds.globals ∙ ap₂ (λ (x : Bool) (y : Bool). x || y) is.1 has.1)
 
--- what is chosen of a number that was read
+-- the number that is chosen, by the one that was parsed
 abbrev pub chosen : ℕ → ℕ → Option ℕ → ℕ
 chosen least most None = least
 chosen least most (Some v) = if nat_le least v && nat_le v most then v else least
 
--- the number that is read of a text is the one that is written there
+-- the number that is parsed from a text is the one in the text
 pub number_read : {E : Type 0} (G : Text → Result ℕ E → Type 0) → ((u : Text) (x : Result ℕ E) → G u x → ParsesUnsigned 64 10 u x) → (least most : ℕ) → most < 2 ^ 64
     → (o : Option Text) (r : Option ℕ) → (o ≡ None → r ≡ None) → ((t : Text) → o ≡ Some t → ReadsOne G t r) → chosen least most r ≡ number_of least most o
 number_read G only least most small None r none some = rw (none refl) refl
@@ -148,7 +148,7 @@ number_read G only least most small (Some t) None none some =
       | inr e ↦ rw e refl
     ]
 
--- a number in the range is chosen, and in place of another the least
+-- a number in the range is chosen, and otherwise the least
 pub chosen_in : (least most v : ℕ) (r : Option ℕ) → r ≡ Some v → least ≤ v → v ≤ most → v ≡ chosen least most r
 chosen_in least most v r e low high = rw (e, le-leb _ _ low, le-leb _ _ high) refl
 
@@ -170,14 +170,14 @@ chosen_high least most v r e high = elim (cases_Bool (nat_le v most)) [
 pub chosen_none : (least most : ℕ) (r : Option ℕ) → r ≡ None → least ≡ chosen least most r
 chosen_none least most r e = rw e refl
 
--- an option's number is told where the option has a text
+-- an option has a number if it has a text
 pub number_if_some : {X Y : Type 0} (f : X → Y) (m n : ℕ) (o : Option X) (x : X) (texts : Option Y) → option_map f o ≡ texts → o ≡ Some x → n ≡ m → Some n ≡ option_map (λ _. m) texts
 number_if_some f m n o x texts h e is = rw (← h, e) (ap Some is)
 
 pub number_if_none : {X Y : Type 0} (f : X → Y) (m : ℕ) (o : Option X) (texts : Option Y) → option_map f o ≡ texts → o ≡ None → None ≡ option_map (λ _. m) texts
 number_if_none f m o texts h e = rw (← h, e) refl
 
--- an error that is handed on
+-- an error that is passed on
 pub refused_as : {T U : Type 0} (kinds : Kinds) (r : Result T Error) (s : Result U Error) (e : Error) → s ≡ Err e → FailsBy kinds s → IsErrAnd r (λ f. f ≡ e) → FailsBy kinds r
 refused_as kinds (Ok x) s e is fails same = absurd same
 refused_as kinds (Err f) (Ok x) e is fails same = cc
@@ -185,7 +185,7 @@ refused_as kinds (Err f) (Err g) e is fails same =
     let one : g ≡ f = cc in
     subst (HasKind kinds) one fails
 
--- what is refused by clap is refused for that
+-- if clap refuses the words, that is the error
 pub refused_first : {T : Type 0} (kinds next : Kinds) (r : Result T Error) (e : Error) → IsErrAnd r (λ f. f ≡ e) → FailsBy kinds r → FailsBy (or_else kinds next) r
 refused_first (k ∷ ks) next r e same fails = fails
 refused_first [] next (Ok x) e same fails = absurd same
@@ -194,7 +194,7 @@ refused_first [] next (Err f) e same fails = elim fails [
   | inr none ↦ absurd none
 ]
 
--- where clap refuses nothing, the values that it found decide
+-- if clap does not refuse the words, the values that it found decide
 pub refused_then : (called : Text) (words : List Text) (name : Text) (rows : List Row) → fault_of (grammar_of called words) words ≡ [] → subcommand_of (grammar_of called words) words ≡ Some (name, rows)
     → refusal_of called words ≡ unread_fault rows
 refused_then called words name rows passes found = ap₂ (λ (ks : Kinds) (s : Option (Text × List Row)). or_else ks (value_fault s)) passes found

@@ -10,9 +10,9 @@ use Rattle.clap.specs.ValueTests.{accepts}
 use Rattle.clap.specs.Words.{Text, fault_of, is_simple_and_free}
 use Rattle.clap.specs.declared.builder.value_parser.ValueParser.{ValueParser}
 use Rattle.clap.specs.declared.builder.value_parser.ValueParser.TheVariants.{Unsigned}
-use Rattle.cli.specs.Line.{written_number, range_between, refusing}
+use Rattle.cli.specs.Command.{written_number, range_between, refusing}
 
--- the option alone is of the plain kind, and refuses the text
+-- the command with this option alone is simple, and the text is refused
 pub refusing_is_free : (option : Text) (parser : ValueParser) (text : Text) → is_simple_and_free (refusing option parser text) ≡ true
 unfolding clap_on_literals
 refusing_is_free option parser text = refl
@@ -21,7 +21,7 @@ pub refusing_refuses : (option : Text) (parser : ValueParser) (text : Text) → 
 unfolding clap_on_literals
 refusing_refuses option parser text e = rw e refl
 
--- a number that is read of a text is the one that is written there, and nothing is read of others
+-- the number that is parsed from a text is the one in the text, and no other text is parsed
 pub number_written : (E : Type 0) (text : Text) (n : ℕ) → ParsesUnsigned {E = E} 32 10 text (Ok n) → Some n ≡ written_number text
 number_written E text n p =
     let small = p.0.1 in
@@ -36,7 +36,7 @@ none_written E text e p = elim (cases_Bool (accepts true (Unsigned 0 4294967295)
   | inr f ↦ rw f refl
 ]
 
--- what does not go on with a second point is no range
+-- a text that does not go on with a second point is not a range
 pub no_range : (first rest : Text) → ((last : Text) → rest ≡ 46 ∷ last → ⊥) → None ≡ range_between first rest
 no_range first [] h = refl
 no_range first (next ∷ last) h = elim (cases_Bool (next == 46)) [

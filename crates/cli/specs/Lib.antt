@@ -1,2 +1,2 @@
 -- For callers
-pub mod Line  -- the command line
+pub mod Command  -- the command line

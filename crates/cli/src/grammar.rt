@@ -4,40 +4,40 @@ ghost use Rattle.std.specs.Prelude.{◌≡◌, ◌≤◌, false, true, IfOk};
 ghost use Rattle.clap.specs.Words.{app_of, rule_of};
 ghost use Rattle.clap.specs.declared.builder.command.Command.TheViews.{out-Command as fields_of};
 ghost use Rattle.clap.specs.declared.builder.value_parser.ValueParser.TheVariants.{Names};
-ghost use Rattle.cli.specs.Line.{batch_option, choice_option, draw_command, flag, log_command};
-ghost use Rattle.cli.specs.Line.{grow_command, large_option, migrate_command, refusing};
-ghost use Rattle.cli.specs.Line.{most_sectors, most_text, on_any_disk};
-ghost use Rattle.cli.specs.Line.{new_command, node_command, number_option, on_disk, on_model};
-ghost use Rattle.cli.specs.Line.{optional_argument, optional_number, optional_text};
-ghost use Rattle.cli.specs.Line.{path_argument, program_by, run_command, sectors_option};
-ghost use Rattle.cli.specs.Line.{stats_command, text_option, time_option, without_commands};
-ghost use Rattle.cli.specs.Line.{AddsArgument, AddsCommand, IsApp};
+ghost use Rattle.cli.specs.Command.{batch_option, choice_option, draw_command, flag, log_command};
+ghost use Rattle.cli.specs.Command.{grow_command, large_option, migrate_command, refusing};
+ghost use Rattle.cli.specs.Command.{most_sectors, most_text, on_any_disk};
+ghost use Rattle.cli.specs.Command.{new_command, node_command, number_option, on_disk, on_model};
+ghost use Rattle.cli.specs.Command.{optional_argument, optional_number, optional_text};
+ghost use Rattle.cli.specs.Command.{path_argument, program_by, run_command, sectors_option};
+ghost use Rattle.cli.specs.Command.{stats_command, text_option, time_option, without_commands};
+ghost use Rattle.cli.specs.Command.{AddsArgument, AddsCommand, IsApp};
 
 use clap::builder::ValueParser;
-use clap::{Arg, ArgAction, Command};
+use clap::{Arg, ArgAction, Command as ClapCommand};
 use std::alloc::{AllocError, Global};
 
-/// What the help of a program says that is its own.
+/// The texts of the help that differ between programs.
 #[derive(Clone, Copy)]
 pub struct Texts<'a> {
     /// The program's name.
     pub name: &'a str,
     /// What `--version` prints behind the name: `0.4.0 (disks of format 2)`.
     pub version: &'a str,
-    /// What follows its list of commands, as `program_help` writes it.
+    /// What follows the list of commands; `program_help` writes it.
     pub help: &'a str,
-    /// What follows the arguments of `seq`, as `seq_help` writes it.
+    /// What follows the arguments of `seq`; `seq_help` writes it.
     pub seq_help: &'a str,
 }
 
-/// All commands. A batch of `run` is a number; or, where it is given as a word, any text. Disks
-/// have the sectors of large ones or not.
+/// The program with all commands. With `word`, the batch of `run` is any text instead of a number;
+/// with `large`, disks may have the sectors of large ones.
 pub fn program<'a>(
     alloc: Global,
     texts: Texts<'a>,
     word: bool,
     large: bool,
-) -> Result<Command<'a>, AllocError>
+) -> Result<ClapCommand<'a>, AllocError>
     ensures is { IfOk result (IsApp (program_by word large texts.entry.name.now)) }
     ensures required { IfOk result (λ c. (fields_of c).subcommand_required ≡ true) }
 {
@@ -71,16 +71,16 @@ pub fn program<'a>(
     with_command(program, node(alloc))
 }
 
-/// The program before it has its commands.
+/// The program without its commands.
 fn without_commands<'a>(
     alloc: Global,
     name: &'a str,
     version: &'a str,
     help: &'a str,
-) -> Command<'a>
+) -> ClapCommand<'a>
     ensures { IsApp (without_commands name.entry.now) result }
 {
-    Command::new(alloc, name)
+    ClapCommand::new(alloc, name)
         .about(
             "Simulates logical processes that send one another messages stamped with virtual times",
         )
@@ -91,7 +91,8 @@ fn without_commands<'a>(
         .disable_help_subcommand(true)
 }
 
-/// What follows a program's list of commands, with its name and the path of a model file.
+/// The help that follows a program's list of commands, with the program's name and the path of an
+/// example of a model file.
 pub fn program_help(alloc: Global, name: &str, example: &str) -> Result<String, AllocError> {
     format!(in alloc;
         "\
@@ -101,11 +102,11 @@ A disk is a file, which 'new' makes. A run that is killed goes on from its last 
 
 Exit status:
   0  done
-  1  a fault, told on standard error after '{name}: '
+  1  a fault, printed on standard error after '{name}: '
   2  a mistake in the command line, or help
 
 Faults:
-  BadModel     the file is no model file ('{name} check' tells why)
+  BadModel     the file is no model file ('{name} check' says why)
   File         a file cannot be read, or is no disk, or one of another size, or another run has
                it; or a node's socket is not made, or its program does not start or does not
                connect
@@ -122,15 +123,15 @@ Faults:
   World ..     'seq', 'stats' or 'draw' stops: NoMemory, or NumberLimit past 2^63 messages of one
                process
   BadTrace     'draw --trace' finds that the file is not as 'run --trace' writes one
-  Wire ..      'node' stops: Truncated, TooLong, BadKind, BadBody (what came is no frame that
-               has its place there), Io, NoMemory
+  Wire ..      'node' stops: Truncated, TooLong, BadKind, BadBody (what was received is not a
+               frame allowed at that point), Io, NoMemory
   NoMemory     memory ran out elsewhere
   Output       standard output refused a write"
     )
 }
 
 /// The command `new`.
-fn new<'a>(alloc: Global, large: bool) -> Result<Command<'a>, AllocError>
+fn new<'a>(alloc: Global, large: bool) -> Result<ClapCommand<'a>, AllocError>
     ensures { IfOk result (IsApp (new_command large)) }
 {
     let command = on_disk(alloc, "new", NEW_ABOUT, NEW_HELP);
@@ -143,10 +144,10 @@ const NEW_ABOUT: &str = "Makes a disk with an empty log for a model";
 const SECTORS_HELP: &str =
     "How many sectors of 512 bytes the disk has, 8 to 131072, or with --large to 16777216";
 
-const LARGE_HELP: &str = "The disk may have up to 16777216 sectors, and not 131072";
+const LARGE_HELP: &str = "Allows up to 16777216 sectors instead of 131072";
 
 const NEW_HELP: &str = "\
-A file that is there has to have the size that is asked for, and must not have a log.
+If the file exists, it must have the size that is asked for, and no log.
 
 In memory a disk takes 512 bytes for each sector that is used, and a byte for each that it has.
 The commands take a disk of more than 131072 sectors only with --large.
@@ -155,7 +156,7 @@ Output:
   formatted N sectors";
 
 /// The command `run`.
-fn run<'a>(alloc: Global, word: bool) -> Result<Command<'a>, AllocError>
+fn run<'a>(alloc: Global, word: bool) -> Result<ClapCommand<'a>, AllocError>
     ensures { IfOk result (IsApp (run_command word)) }
 {
     let nodes = number_option(alloc, "nodes", "1", 1, 64, NODES_HELP);
@@ -175,7 +176,7 @@ fn run<'a>(alloc: Global, word: bool) -> Result<Command<'a>, AllocError>
     with_argument(command, large_option(alloc))
 }
 
-/// How many messages a node handles at a turn: a number, or any text.
+/// The option for how many messages a node handles at a turn: a number, or any text.
 fn batch_option<'a>(alloc: Global, word: bool) -> Arg<'a>
     ensures rule { rule_of result ≡ batch_option word }
     ensures local { result.global ≡ false }
@@ -194,12 +195,12 @@ const NODES_HELP: &str = "How many nodes share the processes, 1 to 64";
 const BATCH_HELP: &str = "How many messages a node handles at a turn, 1 to 4294967295, or 'auto'";
 
 const ROUNDS_HELP: &str =
-    "After how many rounds the run stops, 1 to 4294967295; runs of 1 never get on (see below)";
+    "Stops after N rounds, 1 to 4294967295; with 1 a run makes no progress (see below)";
 
 const CHECKPOINT_HELP: &str = "Keeps the state in a record after each E-th commit, 1 to 1000000";
 
 const COMMIT_HELP: &str =
-    "Commits where E events more can be committed, 1 to 400000, and at the end";
+    "Commits once E more events can be committed, 1 to 400000, and at the end";
 
 const SOCKETS_HELP: &str = "Runs each node as a program of its own, behind the socket DIR/nodeI";
 
@@ -213,47 +214,47 @@ const TRACE_HELP: &str = "Writes a row for each turn of a node to FILE, by comma
 
 const RUN_HELP: &str = "\
 In a round each node has its turn, and what no rollback can reach any more is committed.
-Whatever ends the run, what was committed stands on the disk, and the next run goes on there.
+However a run ends, what was committed stays on the disk, and the next run goes on from there.
 
 One command at a time writes to a disk: another is refused at once (File). 'log', 'show', 'status',
-'stats' and 'draw' may be called beside it, and see what was committed when they read the disk.
+'stats' and 'draw' can run beside it, and print what was committed when they read the disk.
 
-Several runs with --rounds 1 never get on, however many they are: each opening begins with a floor
-that one round cannot pass. Those with --rounds 2 do.
+Repeated runs with --rounds 1 make no progress: each opening starts with a floor that one round
+cannot pass. Use --rounds 2 or more.
 
-With --batch auto each node has a batch of its own, which follows how much of what it handles is
-committed.
+With --batch auto each node has its own batch, which grows and shrinks with the share of its handled
+messages that is committed.
 
-A commit waits for the disk twice. With --commit-every a power cut can cost what was done since the
-last one. Rounds that do not commit do not count for --checkpoint.
+A commit waits for the disk twice. With --commit-every a power cut can cost the work since the last
+commit. Rounds that do not commit do not count for --checkpoint.
 
-A checkpoint takes one record of the disk, as long as the state of all processes and what is
-pending. The next opening begins at the last one, and replays only the events behind it.
+A checkpoint is one record on the disk, as long as the states of all processes and the pending
+messages. The next opening begins at the last one, and replays only the events after it.
 
-A disk of format 1 is told as Session Recovery OtherModel; 'migrate' alone reads it.
+A disk of format 1 fails with Session Recovery OtherModel; only 'migrate' reads it.
 
 With --sockets the run starts this program as 'node' for each node, waits for it at the end, and
-removes its socket. DIR is to be a folder of your own (mode 700): whoever may write into it can
-answer in a node's place. Sockets that a killed run left there have to be removed by hand.
+removes its socket. DIR must be a folder of your own (mode 700): anyone who can write to it can
+answer in a node's place. Sockets that a killed run left there are removed.
 
-With --attach as well it starts none of them: each node I is to be started as 'node MODEL DIR/nodeI'
-once its socket is there, in any order, and the run begins when all have connected.
+With --attach as well it starts none of them: start each node I as 'node MODEL DIR/nodeI' once its
+socket is there, in any order. The run begins when all have connected.
 
 Output:
-  node NODE ran N           messages that the node handled, those too that were undone again
+  node NODE ran N           messages that the node handled, with those that were rolled back
   committed TIME events N   ticks, and events in the log";
 
-const EXTEND_ABOUT: &str = "Carries a disk on past the end for which it was made";
+const EXTEND_ABOUT: &str = "Gives a disk a later end than the one it was made for";
 
 const EXTEND_HELP: &str = "\
 The model file is that of the disk, but with a later end. From then on it is the disk's model file:
-'run' goes on to that end, and one with another end is refused. What is committed stays.
+'run' goes on to that end, and a model file with another end is refused. What is committed stays.
 
 Output:
   extended E0 to E1   the end before and this one, in ticks";
 
 /// The command `grow`.
-fn grow<'a>(alloc: Global, large: bool) -> Result<Command<'a>, AllocError>
+fn grow<'a>(alloc: Global, large: bool) -> Result<ClapCommand<'a>, AllocError>
     ensures { IfOk result (IsApp (grow_command large)) }
 {
     let command = on_disk(alloc, "grow", GROW_ABOUT, GROW_HELP);
@@ -261,7 +262,7 @@ fn grow<'a>(alloc: Global, large: bool) -> Result<Command<'a>, AllocError>
     with_argument(command, large_option(alloc))
 }
 
-/// The most sectors that a disk may have, as a text.
+/// The maximum number of sectors of a disk, as a text.
 fn most_text<'a>(large: bool) -> &'a str
     ensures { result.now ≡ most_text large }
 {
@@ -274,14 +275,14 @@ const GROWN_HELP: &str =
     "How many sectors of 512 bytes the disk has then, 8 to 131072, or with --large to 16777216";
 
 const GROW_HELP: &str = "\
-The disk gets sectors of zeros behind those that it has; what is committed stays, whenever the power
+Adds sectors of zeros behind those that the disk has; what is committed stays, whenever the power
 is cut. A disk that has more sectors than asked for is refused (Grow Fewer).
 
 Output:
   grown S0 to S1 sectors   how many it had, and has now";
 
 /// The command `migrate`.
-fn migrate<'a>(alloc: Global, large: bool) -> Result<Command<'a>, AllocError>
+fn migrate<'a>(alloc: Global, large: bool) -> Result<ClapCommand<'a>, AllocError>
     ensures { IfOk result (IsApp (migrate_command large)) }
 {
     let command = on_model(alloc, "migrate", MIGRATE_ABOUT, MIGRATE_HELP);
@@ -297,16 +298,16 @@ fn migrate<'a>(alloc: Global, large: bool) -> Result<Command<'a>, AllocError>
     with_argument(command, large_option(alloc))
 }
 
-const MIGRATE_ABOUT: &str = "Writes a disk of format 1 anew in format 2";
+const MIGRATE_ABOUT: &str = "Copies a disk of format 1 to a new disk of format 2";
 
 const NEW_SECTORS_HELP: &str =
     "How many sectors of 512 bytes the disk NEW has, 8 to 131072, or with --large to 16777216";
 
 const MIGRATE_HELP: &str = "\
-Reads a disk of format 1 (OLD), as earlier versions made it, and writes NEW in format 2 with what is
-committed there; OLD is only read. The model file is that of OLD.
+Reads a disk of format 1 (OLD), as earlier versions made it, and writes what is committed there to
+NEW in format 2; OLD is only read. The model file is that of OLD.
 
-A file NEW that is there has to have the size that is asked for, and must not have a log.
+If NEW exists, it must have the size that is asked for, and no log.
 
 Output:
   migrated TIME events N   ticks, and events in the log";
@@ -314,7 +315,7 @@ Output:
 const STATUS_ABOUT: &str = "Prints how far a disk's run has come and how much room is left";
 
 const STATUS_HELP: &str = "\
-The disk is only read. A disk of format 1 is told as Recovery OtherModel; 'migrate' alone reads it.
+The disk is only read. A disk of format 1 fails with Recovery OtherModel; only 'migrate' reads it.
 
 Output, all numbers decimal:
   virtual time G of E ticks, P percent      what is committed, and the disk's end
@@ -327,7 +328,7 @@ The last line is 'room to the end at the pace of the last L commits' where the r
 room, and is left out where nothing is committed.";
 
 /// The command `log`.
-fn log<'a>(alloc: Global) -> Result<Command<'a>, AllocError>
+fn log<'a>(alloc: Global) -> Result<ClapCommand<'a>, AllocError>
     ensures { IfOk result (IsApp log_command) }
 {
     let command = on_disk(alloc, "log", LOG_ABOUT, LOG_HELP);
@@ -347,9 +348,9 @@ const PROCESS_HELP: &str = "Only events that process L handled, 0 to 4294967295"
 const LOG_ABOUT: &str = "Prints the committed events of a disk";
 
 const LOG_HELP: &str = "\
-A disk of format 1 is told as Recovery OtherModel; 'migrate' alone reads it.
+A disk of format 1 fails with Recovery OtherModel; only 'migrate' reads it.
 
-Where what is printed is not read to its end, as with '| head', it ends with Output and status 1.
+If the output is not read to its end, as with '| head', the command fails with Output and status 1.
 
 Output, all numbers decimal:
   TIME FROM NUMBER TO A B C D   each committed event";
@@ -357,7 +358,7 @@ Output, all numbers decimal:
 const SHOW_ABOUT: &str = "Prints the committed world of a disk";
 
 const SHOW_HELP: &str = "\
-A disk of format 1 is told as Recovery OtherModel; 'migrate' alone reads it.
+A disk of format 1 fails with Recovery OtherModel; only 'migrate' reads it.
 
 Output, all numbers decimal:
   virtual time TIME                    ticks
@@ -365,7 +366,7 @@ Output, all numbers decimal:
   pending TIME FROM NUMBER TO A B C D  each message that is not handled";
 
 /// The command `stats`.
-fn stats<'a>(alloc: Global) -> Result<Command<'a>, AllocError>
+fn stats<'a>(alloc: Global) -> Result<ClapCommand<'a>, AllocError>
     ensures { IfOk result (IsApp stats_command) }
 {
     let command = on_model(alloc, "stats", STATS_ABOUT, STATS_HELP);
@@ -383,14 +384,14 @@ const FORMAT_HELP: &str = "The format of what is printed: text or csv";
 
 const STATS_HELP: &str = "\
 With a disk these are the figures of what is committed there. The disk is only read.
-Without one they are those of the whole run, which is made by the plain runner, as by 'seq'.
+Without one they are those of the whole run, made by the plain runner as by 'seq'.
 
 Output, all numbers decimal:
   a line of words and a table; or with --format csv rows of values with commas between, and
   a line with their names above them";
 
 /// The command `draw`.
-fn draw<'a>(alloc: Global) -> Result<Command<'a>, AllocError>
+fn draw<'a>(alloc: Global) -> Result<ClapCommand<'a>, AllocError>
     ensures { IfOk result (IsApp draw_command) }
 {
     let command = on_model(alloc, "draw", DRAW_ABOUT, DRAW_HELP);
@@ -407,7 +408,7 @@ fn draw<'a>(alloc: Global) -> Result<Command<'a>, AllocError>
 
 const DRAW_ABOUT: &str = "Prints a picture of a run, as SVG";
 
-const PROCESSES_HELP: &str = "Only processes A to B, both too, 0 to 4294967295";
+const PROCESSES_HELP: &str = "Only processes A to B, inclusive, 0 to 4294967295";
 
 const LOAD_HELP: &str = "Draws how many events each process handled, by slices of virtual time";
 
@@ -415,9 +416,9 @@ const COURSE_HELP: &str = "Draws the course of the run that wrote FILE by 'run -
 
 const DRAW_HELP: &str = "\
 With a disk this is a picture of what is committed there. The disk is only read.
-Without one it is that of the whole run, which is made by the plain runner, as by 'seq'.
-With --trace it shows, over the rounds, GVT, the efficiency, antimessages and commits; the file is
-all that is looked at then.
+Without one it is that of the whole run, made by the plain runner as by 'seq'.
+With --trace it shows, over the rounds, GVT, the efficiency, antimessages and commits, from the
+trace alone.
 
 Output:
   an SVG document, which a browser shows";
@@ -425,7 +426,7 @@ Output:
 const SEQ_ABOUT: &str =
     "Runs a model to its end, one event at a time, and prints its log and its final world";
 
-/// What follows the arguments of `seq`, with a text about the keys of a model file.
+/// The help that follows the arguments of `seq`, with a text about the keys of a model file.
 pub fn seq_help(alloc: Global, keys: &str) -> Result<String, AllocError> {
     format!(in alloc;
         "\
@@ -439,7 +440,7 @@ Output, all numbers decimal:
     )
 }
 
-const CHECK_ABOUT: &str = "Says whether a file is a model file, or what is wrong with it";
+const CHECK_ABOUT: &str = "Checks a model file, and prints what is wrong with it";
 
 const CHECK_HELP: &str = "\
 Output:
@@ -447,7 +448,7 @@ Output:
   KEY: VALUE   the model's name, and each of its numbers";
 
 /// The command `node`.
-fn node<'a>(alloc: Global) -> Result<Command<'a>, AllocError>
+fn node<'a>(alloc: Global) -> Result<ClapCommand<'a>, AllocError>
     ensures { IfOk result (IsApp node_command) }
 {
     let command = on_model(alloc, "node", NODE_ABOUT, NODE_HELP);
@@ -459,24 +460,24 @@ fn node<'a>(alloc: Global) -> Result<Command<'a>, AllocError>
     )
 }
 
-const NODE_ABOUT: &str = "Works as a node of a run, behind a Unix socket";
+const NODE_ABOUT: &str = "Serves one node of a run, behind a Unix socket";
 
 const SOCKET_HELP: &str = "The path of the socket, which the run has made";
 
 const PARCELS_HELP: &str = "After how many replies it ends, 1 to 4294967295";
 
 const NODE_HELP: &str = "\
-'run --sockets' starts it. It takes the run's word for what it simulates, and ends where the run
-closes the connection, after a fault of the node, which it tells the run, or after N replies.
+'run --sockets' starts it. It does not check that the run simulates the same model. It ends when the
+run closes the connection, after N replies, or after a fault, which it reports to the run.
 It prints nothing.";
 
-/// A command on a model file and a disk, which may be a large one, with nothing else.
+/// A command on a model file and a disk, which may be a large one, without other arguments.
 fn on_any_disk<'a>(
     alloc: Global,
     name: &'a str,
     about: &'a str,
     help: &'a str,
-) -> Result<Command<'a>, AllocError>
+) -> Result<ClapCommand<'a>, AllocError>
     ensures { IfOk result (IsApp (on_any_disk name.entry.now)) }
 {
     let command = on_disk(alloc, name, about, help);
@@ -489,7 +490,7 @@ fn on_disk<'a>(
     name: &'a str,
     about: &'a str,
     help: &'a str,
-) -> Result<Command<'a>, AllocError>
+) -> Result<ClapCommand<'a>, AllocError>
     ensures { IfOk result (IsApp (on_disk name.entry.now)) }
 {
     with_argument(
@@ -504,54 +505,54 @@ fn on_model<'a>(
     name: &'a str,
     about: &'a str,
     help: &'a str,
-) -> Result<Command<'a>, AllocError>
+) -> Result<ClapCommand<'a>, AllocError>
     ensures { IfOk result (IsApp (on_model name.entry.now)) }
 {
-    let command = Command::new(alloc, name).about(about).after_help(help);
+    let command = ClapCommand::new(alloc, name).about(about).after_help(help);
     with_argument(Ok(command), path(alloc, "MODEL", MODEL_HELP))
 }
 
 const MODEL_HELP: &str =
     "The model file: TOML with exactly the keys of its model (see 'seq --help')";
 
-/// A program with nothing but an option that takes only these names, with this text as its default.
+/// A program with a single option, which takes only these names and has this text as its default.
 pub fn refusing<'a>(
     alloc: Global,
     option: &'a str,
     value: &'a str,
     names: &'a [&'a str],
     text: &'a str,
-) -> Result<Command<'a>, AllocError>
+) -> Result<ClapCommand<'a>, AllocError>
     ensures { IfOk result
         (IsApp (refusing option.entry.now (Names names.entry) text.entry.now)) }
 {
-    let program = Command::new(alloc, option);
+    let program = ClapCommand::new(alloc, option);
     with_argument(Ok(program), names_option(alloc, option, value, names, text))
 }
 
-/// A program with one command more, where both are there.
+/// Adds a command to a program, if both are there.
 ///
-/// It takes both as their calls answer them, so that here alone a command is let go.
+/// Takes both as results, so that only this function drops a command.
 fn with_command<'a>(
-    program: Result<Command<'a>, AllocError>,
-    command: Result<Command<'a>, AllocError>,
-) -> Result<Command<'a>, AllocError>
+    program: Result<ClapCommand<'a>, AllocError>,
+    command: Result<ClapCommand<'a>, AllocError>,
+) -> Result<ClapCommand<'a>, AllocError>
     ensures { IfOk result (AddsCommand program.entry command.entry) }
 {
     program?.subcommand(command?)
 }
 
-/// A command with one argument more, where it is there.
+/// Adds an argument to a command, if the command is there.
 fn with_argument<'a>(
-    command: Result<Command<'a>, AllocError>,
+    command: Result<ClapCommand<'a>, AllocError>,
     argument: Arg<'a>,
-) -> Result<Command<'a>, AllocError>
+) -> Result<ClapCommand<'a>, AllocError>
     ensures { IfOk result (AddsArgument command.entry argument.entry) }
 {
     command?.arg(argument)
 }
 
-/// A required argument, a path.
+/// A required argument that is a path.
 fn path<'a>(alloc: Global, id: &'a str, help: &'a str) -> Arg<'a>
     ensures rule { rule_of result ≡ path_argument id.entry.now }
     ensures local { result.global ≡ false }
@@ -559,7 +560,7 @@ fn path<'a>(alloc: Global, id: &'a str, help: &'a str) -> Arg<'a>
     Arg::new(alloc, id).required(true).help(help)
 }
 
-/// An argument that may be left out, a path.
+/// An optional argument that is a path.
 fn optional_argument<'a>(alloc: Global, id: &'a str, help: &'a str) -> Arg<'a>
     ensures rule { rule_of result ≡ optional_argument id.entry.now }
     ensures local { result.global ≡ false }
@@ -567,7 +568,7 @@ fn optional_argument<'a>(alloc: Global, id: &'a str, help: &'a str) -> Arg<'a>
     Arg::new(alloc, id).help(help)
 }
 
-/// The option for the number of a disk's sectors.
+/// The option for a disk's number of sectors.
 fn sectors<'a>(alloc: Global, large: bool, default: &'a str, help: &'a str) -> Arg<'a>
     ensures rule { rule_of result ≡ sectors_option large default.entry.now }
     ensures local { result.global ≡ false }
@@ -576,7 +577,7 @@ fn sectors<'a>(alloc: Global, large: bool, default: &'a str, help: &'a str) -> A
     number_option(alloc, "sectors", default, 8, most, help)
 }
 
-/// The option by which a disk may be a large one.
+/// The flag that allows large disks.
 fn large_option<'a>(alloc: Global) -> Arg<'a>
     ensures rule { rule_of result ≡ large_option }
     ensures local { result.global ≡ false }
@@ -584,7 +585,7 @@ fn large_option<'a>(alloc: Global) -> Arg<'a>
     flag(alloc, "large", LARGE_HELP)
 }
 
-/// How many sectors a disk has at most: a large one, or another.
+/// The maximum number of sectors of a disk, large or not.
 pub fn most_sectors(large: bool) -> u32
     ensures most { result ≡ most_sectors large }
     ensures some { 8 ≤ result }
@@ -592,7 +593,7 @@ pub fn most_sectors(large: bool) -> u32
     if large { 16_777_216 } else { 131_072 }
 }
 
-/// An option whose value is a number from `least` to `most`.
+/// An option whose value is a number from `least` to `most`, with a default.
 fn number_option<'a>(
     alloc: Global,
     name: &'a str,
@@ -612,7 +613,7 @@ fn number_option<'a>(
         .help(help)
 }
 
-/// An option whose value is a number from `least` to `most`, and which may be left out.
+/// An option without a default, whose value is a number from `least` to `most`.
 fn optional_number<'a>(
     alloc: Global,
     name: &'a str,
@@ -631,7 +632,7 @@ fn optional_number<'a>(
         .help(help)
 }
 
-/// An option whose value is a virtual time, and which may be left out.
+/// An option without a default, whose value is a virtual time in ticks.
 fn time_option<'a>(alloc: Global, name: &'a str, help: &'a str) -> Arg<'a>
     ensures rule { rule_of result ≡ time_option name.entry.now }
     ensures local { result.global ≡ false }
@@ -639,7 +640,7 @@ fn time_option<'a>(alloc: Global, name: &'a str, help: &'a str) -> Arg<'a>
     optional_number(alloc, name, "T", 0, 1_099_511_627_776, help)
 }
 
-/// An option whose value is any text.
+/// An option whose value is any text, with a default.
 fn text_option<'a>(
     alloc: Global,
     name: &'a str,
@@ -657,7 +658,7 @@ fn text_option<'a>(
         .help(help)
 }
 
-/// An option whose value is one of these names.
+/// An option whose value is one of these names, with a default.
 fn names_option<'a>(
     alloc: Global,
     name: &'a str,
@@ -676,7 +677,7 @@ fn names_option<'a>(
         .default_value(default)
 }
 
-/// An option whose value is any text, and which may be left out.
+/// An option without a default, whose value is any text.
 fn optional_text<'a>(alloc: Global, name: &'a str, value: &'a str, help: &'a str) -> Arg<'a>
     ensures rule { rule_of result ≡ optional_text name.entry.now }
     ensures local { result.global ≡ false }

@@ -1,11 +1,16 @@
-//! The command line of a program over models of any kind: which command its words name, and with
-//! which values.
+//! The command line of a program over models of any kind: the command that its words name, and the
+//! values of that command.
 #![tactic(auto)]
 
+mod command;
 mod grammar;
-mod line;
+mod reading;
 mod values;
 mod words;
 
+pub use command::{
+    BatchOption, Command, DiskArgs, DrawArgs, GrowArgs, LogArgs, MigrateArgs, ModelArgs, NewArgs,
+    NodeArgs, RunArgs, SourceArgs, StatsArgs,
+};
 pub use grammar::{Texts, most_sectors, program_help, seq_help};
-pub use line::{BatchOption, Line, read_line};
+pub use reading::read_command;

@@ -6,13 +6,13 @@ ghost use Rattle.std.specs.List.{list_any};
 ghost use Rattle.std.specs.Str.{bytes_eq};
 ghost use Rattle.clap.specs.Words.{first_of, found_of, rows_of, HasKind};
 ghost use Rattle.clap.specs.declared.error.kind.ErrorKind.TheVariants.{InvalidValue};
-ghost use Rattle.cli.specs.Line.{batch_in, is_no_batch, is_no_format, is_no_range, is_positive};
-ghost use Rattle.cli.specs.Line.{is_text, number_in, optional_number_in, range_of, text_in};
-ghost use Rattle.cli.specs.Line.{unread_fault, written_number};
-ghost use Rattle.cli.specs.Line.{IsBatchRanged, IsFlagIn, IsWithin};
+ghost use Rattle.cli.specs.Command.{batch_in, is_no_batch, is_no_format, is_no_range, is_positive};
+ghost use Rattle.cli.specs.Command.{is_text, number_in, optional_number_in, range_of, text_in};
+ghost use Rattle.cli.specs.Command.{unread_fault, written_number};
+ghost use Rattle.cli.specs.Command.{IsBatchRanged, IsFlagIn, IsWithin};
 
+use crate::command::BatchOption;
 use crate::grammar::refusing;
-use crate::line::BatchOption;
 use clap::{ArgMatches, Error};
 use std::alloc::Global;
 
@@ -23,7 +23,7 @@ pub fn text<'a>(values: &ArgMatches<'a>, id: &str) -> &'a str
     values.get_str(id).unwrap_or("")
 }
 
-/// The text of an option or an argument, where it has one.
+/// The text of an option or an argument, if it has one.
 pub fn optional_text<'a>(values: &ArgMatches<'a>, id: &str) -> Option<&'a str>
     ensures { option_map (λ text. text.now) result ≡ first_of id.now
         (rows_of (found_of values.now)) }
@@ -48,7 +48,8 @@ pub fn is_flagged(values: &ArgMatches<'_>, id: &str) -> bool
     values.get_flag(id)
 }
 
-/// The number of an option that takes one from `least` to `most`.
+/// The number of an option that takes one from `least` to `most`. Unparseable text yields `least`;
+/// `clap` makes this unreachable.
 pub fn number(values: &ArgMatches<'_>, id: &str, least: u64, most: u64) -> u64
     requires { least ≤ most }
     ensures value { result ≡ number_in id.now least most (rows_of (found_of values.now)) }
@@ -61,7 +62,7 @@ pub fn number(values: &ArgMatches<'_>, id: &str, least: u64, most: u64) -> u64
     }
 }
 
-/// The number of an option, where it is used.
+/// The number of an option, if it is used.
 pub fn optional_number(values: &ArgMatches<'_>, id: &str, least: u64, most: u64) -> Option<u64>
     requires { least ≤ most }
     ensures value { result ≡ optional_number_in id.now least most (rows_of (found_of values.now)) }
@@ -73,7 +74,7 @@ pub fn optional_number(values: &ArgMatches<'_>, id: &str, least: u64, most: u64)
     }
 }
 
-/// The number of an option whose numbers are small.
+/// The number of an option whose numbers have 32 bits.
 pub fn small_number(values: &ArgMatches<'_>, id: &str, least: u32, most: u32) -> u32
     requires { least ≤ most }
     ensures value { result ≡ number_in id.now least most (rows_of (found_of values.now)) }
@@ -83,7 +84,7 @@ pub fn small_number(values: &ArgMatches<'_>, id: &str, least: u32, most: u32) ->
     number(values, id, u64::from(least), u64::from(most)) as u32
 }
 
-/// The number of an option whose numbers are small, where it is used.
+/// The number of an option whose numbers have 32 bits, if it is used.
 pub fn optional_small_number(
     values: &ArgMatches<'_>,
     id: &str,
@@ -112,7 +113,7 @@ pub fn batch(values: &ArgMatches<'_>) -> BatchOption
     }
 }
 
-/// The processes of a picture.
+/// The range of processes of a picture.
 pub fn range(values: &ArgMatches<'_>) -> Option<(u32, u32)>
     ensures value { result ≡ option_and_then range_of
         (first_of (codes "processes") (rows_of (found_of values.now))) }
@@ -140,7 +141,7 @@ fn range_of(text: &str) -> Option<(u32, u32)>
     }
 }
 
-/// The number that a text is, of those below 2^32.
+/// The number that a text is, if it is one below 2^32.
 fn written_number(text: &str) -> Option<u32>
     ensures { result ≡ written_number text.now }
 {
@@ -160,7 +161,7 @@ fn is_positive(text: &str) -> bool
     }
 }
 
-/// What values are refused for that `clap` took as any text.
+/// The error for invalid values among those that `clap` takes as any text.
 pub fn refusal(alloc: Global, values: &ArgMatches<'_>) -> Option<Error>
     ensures { MatchOption result (unread_fault (rows_of (found_of values.now)) ≡ [])
         (λ e. (unread_fault (rows_of (found_of values.now)) ≡ InvalidValue ∷ [])
@@ -175,7 +176,7 @@ pub fn refusal(alloc: Global, values: &ArgMatches<'_>) -> Option<Error>
     }
 }
 
-/// What a batch is refused for.
+/// The error for an invalid batch.
 fn refused_batch(alloc: Global, text: Option<&str>) -> Option<Error>
     ensures { MatchOption result (is_no_batch (option_map (λ text. text.now) text.entry) ≡ false)
         (λ e. (is_no_batch (option_map (λ text. text.now) text.entry) ≡ true)
@@ -189,7 +190,7 @@ fn refused_batch(alloc: Global, text: Option<&str>) -> Option<Error>
     }
 }
 
-/// What processes are refused for.
+/// The error for an invalid range of processes.
 fn refused_range(alloc: Global, text: Option<&str>) -> Option<Error>
     ensures { MatchOption result (is_no_range (option_map (λ text. text.now) text.entry) ≡ false)
         (λ e. (is_no_range (option_map (λ text. text.now) text.entry) ≡ true)
@@ -203,7 +204,7 @@ fn refused_range(alloc: Global, text: Option<&str>) -> Option<Error>
     }
 }
 
-/// What a format is refused for.
+/// The error for an unknown format.
 fn refused_format(alloc: Global, text: Option<&str>) -> Option<Error>
     ensures { MatchOption result (is_no_format (option_map (λ text. text.now) text.entry) ≡ false)
         (λ e. (is_no_format (option_map (λ text. text.now) text.entry) ≡ true)
@@ -221,7 +222,7 @@ const NO_NAMES: &[&str] = &[];
 
 const FORMATS: &[&str] = &["text", "csv"];
 
-/// How `clap` refuses a text of an option that takes only these names, and not this one.
+/// `clap`'s error for a text of an option that takes only certain names, which do not include it.
 fn no_value<'a>(
     alloc: Global,
     option: &'a str,

@@ -1,12 +1,12 @@
-// How a line's words give a batch, and ask for large disks.
+// Finds in the words whether the batch is `auto`, and whether large disks are asked for.
 
 ghost use Rattle.std.specs.Prelude.{◌≡◌, ◌&&◌, ◌||◌, codes, drop, map};
 ghost use Rattle.std.specs.Str.{bytes_eq};
-ghost use Rattle.cli.specs.Line.{says_auto, says_large};
+ghost use Rattle.cli.specs.Command.{says_auto, says_large};
 
 use std::convert::AsStr;
 
-/// Whether a batch is given as the word `auto`. The first word is the program's own name.
+/// Whether the batch is given as the word `auto`. The first word is the program's own name.
 pub fn says_auto<S: AsStr>(words: &[S]) -> bool
     ensures { result ≡ says_auto (drop 1 (map S.text words.now)) }
 {
@@ -16,7 +16,7 @@ pub fn says_auto<S: AsStr>(words: &[S]) -> bool
     options_say_auto(&words[1..])
 }
 
-/// Whether these words give a batch as the word `auto`, before a word `--`.
+/// Whether these words give the batch as the word `auto`, before any word `--`.
 fn options_say_auto<S: AsStr>(words: &[S]) -> bool
     ensures { result ≡ says_auto (map S.text words.now) }
 {
@@ -34,7 +34,7 @@ fn options_say_auto<S: AsStr>(words: &[S]) -> bool
     false
 }
 
-/// Whether this word gives it, where the word before it is `--batch` or not.
+/// Whether this word gives it. `after_batch` says whether the word before it is `--batch`.
 fn is_auto(after_batch: bool, word: &str) -> bool
     ensures { result ≡ (bytes_eq word.now (codes "--batch=auto")
         || (after_batch && bytes_eq word.now (codes "auto"))) }
@@ -42,8 +42,8 @@ fn is_auto(after_batch: bool, word: &str) -> bool
     word == "--batch=auto" || (after_batch && word == "auto")
 }
 
-/// Whether the word `--large` stands among these, before a word `--`. The first word is the
-/// program's own name.
+/// Whether there is a word `--large` before any word `--`. The first word is the program's own
+/// name.
 pub fn says_large<S: AsStr>(words: &[S]) -> bool
     ensures { result ≡ says_large (drop 1 (map S.text words.now)) }
 {
@@ -53,7 +53,7 @@ pub fn says_large<S: AsStr>(words: &[S]) -> bool
     options_say_large(&words[1..])
 }
 
-/// Whether the word `--large` stands among these words, before a word `--`.
+/// Whether there is a word `--large` among these words, before any word `--`.
 fn options_say_large<S: AsStr>(words: &[S]) -> bool
     ensures { result ≡ says_large (map S.text words.now) }
 {
@@ -66,7 +66,7 @@ fn options_say_large<S: AsStr>(words: &[S]) -> bool
     false
 }
 
-/// Whether none of the words behind this one is asked: options end at it, or it is `--large`.
+/// Whether this word decides the answer: options end at it, or it is `--large`.
 fn decides(word: &str) -> bool
     ensures { result ≡ (bytes_eq word.now (codes "--") || bytes_eq word.now (codes "--large")) }
 {

@@ -22,7 +22,7 @@ use Rattle.model.specs.Meaning.{Meaning}
 use Rattle.model.specs.World.{IsUpto, World, below}
 use Rattle.recovery.specs.Ends.{HoldsLog, IsLater}
 use Rattle.recovery.specs.Replay.{IsReplayedTo}
-use Rattle.recovery.specs.Stands.{IsGenuine, Stands}
+use Rattle.recovery.specs.Represents.{IsGenuine, Represents}
 use Rattle.recovery.specs.declared.RecoveryFault.{RecoveryFault}
 use Rattle.recovery.specs.declared.RecoveryFault.TheVariants as recovery
 use Rattle.eventkey.specs.Writing.{TakesBeginning}
@@ -33,52 +33,52 @@ use Rattle.wire.specs.Port.{PortState}
 abbrev pub formatted_text : ℕ → List ℕ
 formatted_text sectors = codes "formatted " ++ decimal sectors ++ codes " sectors\n"
 
--- a node: how many messages it handled
+-- the line of one node: how many messages it handled
 abbrev pub node_text : List ℕ → ℕ → List ℕ
 node_text ran node =
     codes "node " ++ decimal node ++ (codes " ran " ++ decimal (get_or ran node 0)) ++ codes "\n"
 
--- each node, and the time before which so many events are committed
+-- the line of each node, then the time before which `events` events are committed
 abbrev pub ran_text : List ℕ → ℕ → ℕ → List ℕ
 ran_text ran time events =
     flat_map (node_text ran) (below (length ran))
     ++ (codes "committed " ++ decimal time) ++ (codes " events " ++ decimal events) ++ codes "\n"
 
--- the end that was in force, and the one that is now
+-- the end that was in force, and the new one
 abbrev pub extended_text : ℕ → ℕ → List ℕ
 extended_text before end =
     (codes "extended " ++ decimal before) ++ (codes " to " ++ decimal end) ++ codes "\n"
 
 -- 2. What is printed
 
--- the image stands for this world, the sequential simulation up to its time
-pub record StandsUpto (m : Meaning) (end : ℕ) (image : List (List ℕ)) (w : World) : Type 0 where
-  pub stands : Stands m end image w
+-- The image represents this world, and the world is the sequential simulation up to its time.
+pub record RepresentsUpto (m : Meaning) (end : ℕ) (image : List (List ℕ)) (w : World) : Type 0 where
+  pub represents : Represents m end image w
   pub upto : IsUpto m end w.time w
 
--- The writer has taken this text of the world to which the image is replayed. Where the image is
--- genuine it stands for that world.
+-- The writer has taken this text of the world to which the image is replayed. A genuine image
+-- represents that world.
 pub record PrintsCommitted (m : Meaning) (end : ℕ) (image : List (List ℕ)) (text : World → List ℕ)
     (old new : Option (List ℕ)) : Type 0 where
   pub world : World
   pub replayed : IsReplayedTo m end image world
-  pub genuine : IsGenuine m end image → StandsUpto m end image world
+  pub genuine : IsGenuine m end image → RepresentsUpto m end image world
   pub within : world.time ≤ end
   pub printed : Appends old new (text world)
 
--- it has taken a beginning of that
+-- The writer has taken a beginning of this text of the world to which the image is replayed.
 pub record BeginsCommitted (m : Meaning) (end : ℕ) (image : List (List ℕ)) (text : World → List ℕ)
     (old new : Option (List ℕ)) : Type 0 where
   pub world : World
   pub replayed : IsReplayedTo m end image world
-  pub genuine : IsGenuine m end image → StandsUpto m end image world
+  pub genuine : IsGenuine m end image → RepresentsUpto m end image world
   pub within : world.time ≤ end
   pub part : TakesBeginning old new (text world)
 
--- This has been taken of what a run from this image tells: what so many nodes handled, the time
--- that was reached, and how many events are committed. Where the image is genuine they are those of
--- the sequential simulation up to the end.
-pub record TellsRun (m : Meaning) (end nodes : ℕ) (image : List (List ℕ))
+-- `Taken` holds of the output of a run from this image: how many messages each of `nodes` nodes
+-- handled, the time reached, and the number of committed events. If the image is genuine, they are
+-- those of the sequential simulation up to the end.
+pub record PrintsEndOfRun (m : Meaning) (end nodes : ℕ) (image : List (List ℕ))
     (Taken : List ℕ → Type 0) : Type 0 where
   pub ran : List ℕ
   pub time : ℕ
@@ -88,9 +88,9 @@ pub record TellsRun (m : Meaning) (end nodes : ℕ) (image : List (List ℕ))
   pub genuine : IsGenuine m end image → IsRunOf m end time events
   pub taken : Taken (ran_text ran time events)
 
--- This has been taken of what a run tells over whatever ports: what so many nodes were told to have
--- handled, the time that was reached, not before the end, and how many events were committed.
-pub record TellsRunOver {M P D : Type 0} (meaning : M → Meaning) (state : P → PortState)
+-- `Taken` holds of the output of a run over any ports: how many messages each node reported as
+-- handled, the time reached, not before the end, and the number of committed events.
+pub record PrintsEndOfRunOver {M P D : Type 0} (meaning : M → Meaning) (state : P → PortState)
     (disk : D → DiskState) (model : M) (end : ℕ) (plan : Plan) (begun left : D)
     (Taken : List ℕ → Type 0) : Type 0 where
   pub ran : List ℕ
@@ -100,9 +100,9 @@ pub record TellsRunOver {M P D : Type 0} (meaning : M → Meaning) (state : P �
   pub over : IsRunOver meaning state disk model end plan begun left time events
   pub taken : Taken (ran_text ran time events)
 
--- This has been taken of what is told of a later end: it is in force behind the records that were
--- on the disk, which were replayed under the end before.
-pub record TellsExtended (m : Meaning) (end : ℕ) (old new : DiskState)
+-- `Taken` holds of the output for a later end. That end is in force behind the records that were on
+-- the disk, which were replayed under the end before.
+pub record PrintsExtended (m : Meaning) (end : ℕ) (old new : DiskState)
     (Taken : List ℕ → Type 0) : Type 0 where
   pub before : ℕ
   pub rises : IsLater before end
@@ -111,24 +111,24 @@ pub record TellsExtended (m : Meaning) (end : ℕ) (old new : DiskState)
   pub extended : IsExtended end old new
   pub taken : Taken (extended_text before end)
 
--- 3. What is left
+-- 3. What a crash leaves
 
--- an image without a log, or one that stands for this world
-abbrev pub IsBlankOrStands : Meaning → ℕ → World → List (List ℕ) → Type 0
-IsBlankOrStands m end w image = IsBlank image ⊎ Stands m end image w
+-- an image without a log, or one that represents this world
+abbrev pub IsBlankOrRepresents : Meaning → ℕ → World → List (List ℕ) → Type 0
+IsBlankOrRepresents m end w image = IsBlank image ⊎ Represents m end image w
 
 -- 4. Faults
 
--- Why no log is made, or nothing is told of it. `failed` says that the device has failed in the
+-- Why no log is made, or the output is not written. `failed` says that the device failed in the
 -- call.
 abbrev pub MakingIsRefused : CommandFault → List (List ℕ) → Type 0 → Type 0
 MakingIsRefused (Log fault) image failed = FormatIsRefused fault image failed
 MakingIsRefused Output image failed = Unit {0}
 MakingIsRefused fault image failed = ⊥
 
--- Why no world is recovered from the log of an image: want of memory, a device that failed, that it
--- is no log of this model with this end in force, though its records can be read, or the first
--- record that is at fault.
+-- Why no world is recovered from the log of an image: an allocation failure, a failed device, a log
+-- that is not of this model with this end in force, though its records can be read, or the first
+-- record at fault.
 abbrev pub IsNotRecovered : Meaning → ℕ → List (List ℕ) → RecoveryFault → Type 0
 IsNotRecovered m end image recovery.NoMemory = Unit {0}
 IsNotRecovered m end image (recovery.Log log.NoMemory) = Unit {0}
@@ -139,20 +139,20 @@ IsNotRecovered m end image recovery.OtherModel =
     × (records_of image ≡ None → ⊥)
 IsNotRecovered m end image fault = IsAtFault m end image fault
 
--- Why what is committed is not written. Whether the device has failed is not told any more, since
--- the disk is let go of.
+-- Why the committed world is not written. It does not say whether the device failed, since the disk
+-- is dropped.
 abbrev pub LookingIsRefused : Meaning → ℕ → CommandFault → List (List ℕ) → Type 0
 LookingIsRefused m end (Log fault) image = OpenIsRefused fault image (Unit {0})
 LookingIsRefused m end (Recovery fault) image = IsNotRecovered m end image fault
 LookingIsRefused m end Output image = Unit {0}
 LookingIsRefused m end fault image = ⊥
 
--- it is a session's fault, with this cause
+-- The fault is a session's fault, and its cause holds.
 abbrev pub IsOfSession : CommandFault → (SessionFault → Type 0) → Type 0
 IsOfSession (Session fault) Cause = Cause fault
 IsOfSession fault Cause = ⊥
 
--- a command's own name for why a run stopped
+-- the command's fault for the fault of a run
 abbrev pub of_run : RunFault → CommandFault
 of_run (run.Session fault) = Session fault
 of_run run.Rounds = Rounds

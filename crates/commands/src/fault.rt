@@ -11,25 +11,26 @@ use std::alloc::{AllocError, AllocFailed};
 use std::io::Error as IoError;
 use thiserror::Error;
 
-/// Why a command failed. Its text is its name, and after a blank that of the fault that it carries.
+/// Why a command failed. Printed as its name, followed by a space and the fault that it carries, if
+/// any.
 #[derive(Clone, Copy, Debug, PartialEq, Eq, Error)]
 pub enum CommandFault {
-    /// Memory ran out, but in no call that has a name of its own for it.
+    /// An allocation failed in a call without its own fault for it.
     #[error("NoMemory")]
     NoMemory,
-    /// The log of the disk is not made, or not opened.
+    /// The log of the disk was not made, or not opened.
     #[error("Log {0}")]
     Log(LogFault),
-    /// No world is recovered of the log.
+    /// No world was recovered from the log.
     #[error("Recovery {0}")]
     Recovery(RecoveryFault),
     /// The session of a run refused its opening or a step.
     #[error("Session {0}")]
     Session(SessionFault),
-    /// All rounds of a run are made, and not all is committed.
+    /// The run made all its rounds before everything was committed.
     #[error("Rounds")]
     Rounds,
-    /// A disk of format 1 is not migrated, or not all of it.
+    /// A disk of format 1 was not migrated, or only in part.
     #[error("Migrate {0}")]
     Migrate(MigrateFault),
     /// The writer refused.

@@ -1,5 +1,5 @@
-//! The commands on a disk: make an empty log for a simulation, run it to its end, carry it on past
-//! that, print what is committed, and write a disk of format 1 anew.
+//! The commands on a disk: make an empty log for a simulation, run it to its end, extend it to a
+//! later end, print what is committed, and migrate a disk of format 1 to a new disk.
 #![tactic(auto)]
 
 mod commands;

@@ -1,4 +1,4 @@
-// What the commands print.
+// The lines that the commands print.
 
 ghost use Rattle.std.specs.Prelude.{◌++◌, codes, decimal, flat_map, length, IsOkUnless};
 ghost use Rattle.commands.specs.Commands.{extended_text, formatted_text, node_text, ran_text};
@@ -11,7 +11,7 @@ use crate::CommandFault;
 use std::io::{Result as IoResult, Write};
 use texts::{write_number, write_text};
 
-/// Writes how many sectors a disk has that is formatted now, and flushes the writer.
+/// Writes the number of sectors of a newly formatted disk, and flushes the writer.
 pub fn write_formatted<O: Write>(sectors: u32, out: &mut O) -> Result<(), CommandFault>
     ensures written { Writes (O.contents out.old) (O.contents out.new) result
         (formatted_text sectors) }
@@ -23,7 +23,7 @@ pub fn write_formatted<O: Write>(sectors: u32, out: &mut O) -> Result<(), Comman
     Ok(())
 }
 
-/// Writes which end was in force, and which one is now, and flushes the writer.
+/// Writes the end that was in force and the one that is now, and flushes the writer.
 pub fn write_extended<O: Write>(before: u64, end: u64, out: &mut O) -> Result<(), CommandFault>
     ensures written { Writes (O.contents out.old) (O.contents out.new) result
         (extended_text before end) }
@@ -36,8 +36,7 @@ pub fn write_extended<O: Write>(before: u64, end: u64, out: &mut O) -> Result<()
     Ok(())
 }
 
-/// Writes at which time a migrated disk stands, and how many events its log has. Flushes the
-/// writer.
+/// Writes the time of a migrated disk and the number of events of its log, and flushes the writer.
 pub fn write_migrated<O: Write>(time: u64, count: usize, out: &mut O) -> Result<(), CommandFault>
     ensures written { Writes (O.contents out.old) (O.contents out.new) result
         (migrated_text time count) }
@@ -50,8 +49,8 @@ pub fn write_migrated<O: Write>(time: u64, count: usize, out: &mut O) -> Result<
     Ok(())
 }
 
-/// Writes what a run has to tell: how many messages each node handled, and what is committed.
-/// Flushes the writer.
+/// Writes the output of a run: how many messages each node handled, and what is committed. Flushes
+/// the writer.
 pub fn write_ran<O: Write>(
     handled_per_node: &[u64],
     time: u64,
@@ -70,7 +69,7 @@ pub fn write_ran<O: Write>(
     Ok(())
 }
 
-/// A line for each node.
+/// Writes a line for each node.
 fn write_nodes<O: Write>(handled_per_node: &[u64], out: &mut O) -> IoResult<()>
     ensures { Writes (O.contents out.old) (O.contents out.new) result
         (flat_map (node_text handled_per_node.now) (below (length handled_per_node.now))) }
@@ -81,7 +80,7 @@ fn write_nodes<O: Write>(handled_per_node: &[u64], out: &mut O) -> IoResult<()>
     Ok(())
 }
 
-/// The line of one node.
+/// Writes the line of one node.
 fn write_node<O: Write>(node: usize, handled: u64, out: &mut O) -> IoResult<()>
     ensures { Writes (O.contents out.old) (O.contents out.new) result
         (codes "node " ++ decimal node ++ (codes " ran " ++ decimal handled) ++ codes "\n") }

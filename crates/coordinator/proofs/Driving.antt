@@ -12,13 +12,13 @@ use Rattle.protocol.specs.Moves.Move.{Checkpoint as CheckpointMove, Commit as Co
 use Rattle.protocol.specs.Sound.{GoesOnFrom}
 use Rattle.protocol.specs.declared.Answer.{Answer}
 use Rattle.protocol.specs.declared.Answer.TheVariants.{AlreadyAt}
-use Rattle.recovery.proofs.Images.{stands_at_least_earlier}
-use Rattle.recovery.specs.Stands.{StandsAtLeast}
+use Rattle.recovery.proofs.Images.{represents_at_least_earlier}
+use Rattle.recovery.specs.Represents.{RepresentsAtLeast}
 use Rattle.wire.specs.Port.{PortState}
 use Rattle.coordinator.proofs.Committing.{stays}
-use Rattle.coordinator.specs.Crashes.{IsWritten, KeepsRecovery, KeepsStanding, Recovers, StaysWritten, SurvivesCrashes}
+use Rattle.coordinator.specs.Crashes.{IsWritten, KeepsRecovery, KeepsRepresentation, Recovers, StaysWritten, SurvivesCrashes}
 use Rattle.coordinator.specs.Drives.{AreSteps, Goes, IsStep, StepsAreMade}
-use Rattle.coordinator.specs.Session.{HasSameNodes, IsToldSession, Running, Session, picture_of, running}
+use Rattle.coordinator.specs.Session.{HasSameNodes, IsConsistentSession, Running, Session, system_of, running}
 use Rattle.coordinator.specs.Steps.{Appends, HasCause, IsLogged, IsMade, IsReplyTaken, IsStepped, leaves_all, move_of, next_time}
 use Rattle.coordinator.specs.declared.SessionFault.{SessionFault}
 use Rattle.coordinator.specs.declared.SessionFault.TheVariants.{Disk, Full, Spent}
@@ -26,17 +26,17 @@ use Rattle.coordinator.specs.declared.Step.{Step}
 
 pub followed_by : (m : Meaning) (end a b c : ℕ) (old mid new : DiskState) → KeepsRecovery m end a b old mid → KeepsRecovery m end b c mid new → KeepsRecovery m end a c old new
 followed_by m end a b c old mid new first second = record {
-  any_moment = followed old mid new (StandsAtLeast m end a) first.any_moment
-      (weaker mid new (StandsAtLeast m end b) (StandsAtLeast m end a) second.any_moment (λ image stands. stands_at_least_earlier m end a b image first.later stands));
+  any_moment = followed old mid new (RepresentsAtLeast m end a) first.any_moment
+      (weaker mid new (RepresentsAtLeast m end b) (RepresentsAtLeast m end a) second.any_moment (λ image represents. represents_at_least_earlier m end a b image first.later represents));
   now_on = second.now_on;
   later = omega (arith, first.later, second.later);
 }
 
--- the later picture goes on from the earlier one
-pub goes-on : (k : Move) (old new : Running) (result : Result Answer SessionFault) → (IsToldSession old → IfOk result (λ answer. IsMade k old new answer)) → IsToldSession old
-    → OnOk result (GoesOnFrom old.end (picture_of old) (picture_of new))
-goes-on k old new (Ok answer) made told = (moves_are_sound old.meaning old.end k (picture_of old) (picture_of new) told.system (made told).move_is).1
-goes-on k old new (Err fault) made told = tt
+-- the later system state goes on from the earlier one
+pub goes-on : (k : Move) (old new : Running) (result : Result Answer SessionFault) → (IsConsistentSession old → IfOk result (λ answer. IsMade k old new answer)) → IsConsistentSession old
+    → OnOk result (GoesOnFrom old.end (system_of old) (system_of new))
+goes-on k old new (Ok answer) made consistent = (moves_are_sound old.meaning old.end k (system_of old) (system_of new) consistent.system (made consistent).move_is).1
+goes-on k old new (Err fault) made consistent = tt
 
 pub same_fault : (f g : SessionFault) → ◌≡◌ {A = Result Answer SessionFault} (Err f) (Err g) → f ≡ g
 same_fault f g e = cc
@@ -51,7 +51,7 @@ checkpoint_appends : (k : Move) → k ≡ CheckpointMove → Appends k
 checkpoint_appends k is = subst Appends (sym is) tt
 
 module _ {M P D : Type 0} (meaning : M → Meaning) (state : P → PortState) (disk : D → DiskState) where
-  -- what holds by a session's model and end holds by those that are the same
+  -- what holds by a session's model and end holds by equal ones
   pub carry : (Q : M → ℕ → Type 0) (x y : M) (e f : ℕ) → y ≡ x → f ≡ e → Q y f → Q x e
   carry Q x y e f model_is end_is q = subst (λ (k : ℕ). Q x k) end_is (subst (λ (z : M). Q z f) model_is q)
 
@@ -59,49 +59,49 @@ module _ {M P D : Type 0} (meaning : M → Meaning) (state : P → PortState) (d
   none_made s = record {
     model_is = refl;
     end_is = refl;
-    made = λ told. record { moves_are = refl; told = told };
-    written = λ told is. is;
-    crashes = λ told is recovers. stays (meaning s.model) s.end s.front.time (disk s.log.disk) recovers;
+    made = λ consistent. record { moves_are = refl; consistent = consistent };
+    written = λ consistent is. is;
+    crashes = λ consistent is recovers. stays (meaning s.model) s.end s.front.time (disk s.log.disk) recovers;
   }
 
-  -- a step more, made or not
+  -- one more step, made or not
   pub crashed : (ks : List Move) (old mid new : Session M P D) → Goes meaning state disk ks old mid → SurvivesCrashes meaning state disk mid new → SurvivesCrashes meaning state disk old new
-  crashed ks old mid new first second told is recovers =
-      let before = first.crashes told is recovers in
+  crashed ks old mid new first second consistent is recovers =
+      let before = first.crashes consistent is recovers in
       followed_by (meaning old.model) old.end old.front.time mid.front.time new.front.time (disk old.log.disk) (disk mid.log.disk) (disk new.log.disk) before
       (carry (λ (x : M) (e : ℕ). KeepsRecovery (meaning x) e mid.front.time new.front.time (disk mid.log.disk) (disk new.log.disk)) old.model mid.model old.end mid.end first.model_is first.end_is
-      (second (first.made told).told
-      (carry (λ (x : M) (e : ℕ). IsWritten (meaning x) e mid.front mid.log) mid.model old.model mid.end old.end (sym first.model_is) (sym first.end_is) (first.written told is))
+      (second (first.made consistent).consistent
+      (carry (λ (x : M) (e : ℕ). IsWritten (meaning x) e mid.front mid.log) mid.model old.model mid.end old.end (sym first.model_is) (sym first.end_is) (first.written consistent is))
       (carry (λ (x : M) (e : ℕ). Recovers (meaning x) e mid.front.time (disk mid.log.disk)) mid.model old.model mid.end old.end (sym first.model_is) (sym first.end_is) before.now_on)))
 
   then_written : (ks : List Move) (old mid new : Session M P D) → Goes meaning state disk ks old mid → StaysWritten meaning state mid new → StaysWritten meaning state old new
-  then_written ks old mid new first second told is =
+  then_written ks old mid new first second consistent is =
       carry (λ (x : M) (e : ℕ). IsWritten (meaning x) e new.front new.log) old.model mid.model old.end mid.end first.model_is first.end_is
-      (second (first.made told).told
-      (carry (λ (x : M) (e : ℕ). IsWritten (meaning x) e mid.front mid.log) mid.model old.model mid.end old.end (sym first.model_is) (sym first.end_is) (first.written told is)))
+      (second (first.made consistent).consistent
+      (carry (λ (x : M) (e : ℕ). IsWritten (meaning x) e mid.front mid.log) mid.model old.model mid.end old.end (sym first.model_is) (sym first.end_is) (first.written consistent is)))
 
-  -- moves that were made, and then what keeps the records standing
-  pub then_keeps : (ks : List Move) (old mid new : Session M P D) → Goes meaning state disk ks old mid → KeepsStanding meaning state disk mid new → KeepsStanding meaning state disk old new
+  -- moves that were made, and then a call that keeps the records representing the front
+  pub then_keeps : (ks : List Move) (old mid new : Session M P D) → Goes meaning state disk ks old mid → KeepsRepresentation meaning state disk mid new → KeepsRepresentation meaning state disk old new
   then_keeps ks old mid new first second = record {
     written = λ unspent. then_written ks old mid new first (second.written unspent);
     crashes = crashed ks old mid new first second.crashes;
   }
 
-  pub goes_keeps : (ks : List Move) (old new : Session M P D) → Goes meaning state disk ks old new → KeepsStanding meaning state disk old new
+  pub goes_keeps : (ks : List Move) (old new : Session M P D) → Goes meaning state disk ks old new → KeepsRepresentation meaning state disk old new
   goes_keeps ks old new goes = record { written = λ unspent. goes.written; crashes = goes.crashes }
 
   pub joined : (ks ls : List Move) (old mid new : Session M P D) → Goes meaning state disk ks old mid → Goes meaning state disk ls mid new → Goes meaning state disk (ks ++ ls) old new
   joined ks ls old mid new first second = record {
     model_is = second.model_is ∙ first.model_is;
     end_is = second.end_is ∙ first.end_is;
-    made = λ told.
-        let one = first.made told in
-        let more = second.made one.told in
+    made = λ consistent.
+        let one = first.made consistent in
+        let more = second.made one.consistent in
         record {
-          moves_are = moves_made_join (meaning old.model) old.end ks ls (picture_of (running meaning state old))
+          moves_are = moves_made_join (meaning old.model) old.end ks ls (system_of (running meaning state old))
               ∙ rw (one.moves_are)
-              (carry (λ (x : M) (e : ℕ). moves_made (meaning x) e ls (picture_of (running meaning state mid)) ≡ Some (picture_of (running meaning state new))) old.model mid.model old.end mid.end first.model_is first.end_is more.moves_are);
-          told = more.told;
+              (carry (λ (x : M) (e : ℕ). moves_made (meaning x) e ls (system_of (running meaning state mid)) ≡ Some (system_of (running meaning state new))) old.model mid.model old.end mid.end first.model_is first.end_is more.moves_are);
+          consistent = more.consistent;
         };
     written = then_written ks old mid new first second.written;
     crashes = crashed ks old mid new first second.crashes;
@@ -112,22 +112,23 @@ module _ {M P D : Type 0} (meaning : M → Meaning) (state : P → PortState) (d
   one_made step answer old new is = record {
     model_is = is.same.0;
     end_is = is.same.1;
-    made = λ told. let made = is.made told in record { moves_are = rw (made.move_is) refl; told = made.told };
+    made = λ consistent. let made = is.made consistent in record { moves_are = rw (made.move_is) refl; consistent = made.consistent };
     written = is.keeps.written is.usable;
     crashes = is.keeps.crashes;
   }
 
-  -- one step more
+  -- one more step
   pub steps-more : (xs : List Step) (x : Step) (answer : Answer) (old mid new : Session M P D) → AreSteps meaning state disk xs old mid → IsStep meaning state disk x mid new (Ok answer)
       → AreSteps meaning state disk (xs ++ x ∷ []) old new
   steps-more [] x answer old mid new first is = (new, answer, subst (λ (s : Session M P D). IsStep meaning state disk x s new (Ok answer)) first is, refl)
   steps-more (y ∷ ys) x answer old mid new first is = (first.0, first.1, first.2, steps-more ys x answer first.0 mid new first.3 is)
 
-  -- a step that is made, or refused without spending the session, leaves its records standing
+  -- after a step that is made, or refused without spending the session, the records represent the
+  -- front
   still_written : (old new : Session M P D) (result : Result Answer SessionFault) → OnOk result (StaysWritten meaning state old new) → IfErr result (λ fault. leaves_all fault ≡ true → new ≡ old)
       → IfErr result (λ fault. leaves_all fault ≡ false → (new.front ≡ old.front) × (new.spent ≡ true)) → new.spent ≡ false → StaysWritten meaning state old new
   still_written old new (Ok answer) written unchanged spends unspent = written
-  still_written old new (Err fault) written unchanged spends unspent = λ told is. elim (cases_Bool (leaves_all fault)) [
+  still_written old new (Err fault) written unchanged spends unspent = λ consistent is. elim (cases_Bool (leaves_all fault)) [
     | inl leaves ↦ subst (λ (s : Session M P D). IsWritten (meaning old.model) old.end s.front s.log) (sym (unchanged leaves)) is
     | inr ends ↦ (let spent = (spends ends).1 in absurd (cc))
   ]
@@ -136,7 +137,7 @@ module _ {M P D : Type 0} (meaning : M → Meaning) (state : P → PortState) (d
   not_spent k old (Ok answer) cause e = absurd (cc)
   not_spent k old (Err fault) cause e = subst (λ (f : SessionFault). HasCause k old f) (same_fault fault Spent e) cause
 
-  -- what is said of a step that is a take
+  -- what holds of a step that is a take
   abbrev pub Takes : Step → Session M P D → Session M P D → Result Answer SessionFault → Type 0
   Takes step old new result = (node : ℕ) → move_of step ≡ TakeMove node → IfOk result (λ answer. IsReplyTaken node (running meaning state old) (running meaning state new) answer)
 
@@ -144,11 +145,11 @@ module _ {M P D : Type 0} (meaning : M → Meaning) (state : P → PortState) (d
       → (k : ℕ) → TakeMove node ≡ TakeMove k → IfOk result (λ answer. IsReplyTaken k (running meaning state old) (running meaning state new) answer)
   taken_by node old new result taken k is = subst (λ (n : ℕ). IfOk result (λ answer. IsReplyTaken n (running meaning state old) (running meaning state new) answer)) (same_node node k is) taken
 
-  -- what is said of a step of a session that is not spent
+  -- what holds of a step of a session that is not spent
   pub is_step : (step : Step) (old new : Session M P D) (result : Result Answer SessionFault) → old.spent ≡ false
       → IsStepped (move_of step) (running meaning state old) (running meaning state new) new.spent result
       → IfErr result (λ fault. leaves_all fault ≡ true → new ≡ old)
-      → (move_of step ≡ CommitMove → next_time old.end (picture_of (running meaning state old)) ≤ old.front.time → (result ≡ Ok (AlreadyAt old.front.time)) × (new ≡ old))
+      → (move_of step ≡ CommitMove → next_time old.end (system_of (running meaning state old)) ≤ old.front.time → (result ≡ Ok (AlreadyAt old.front.time)) × (new ≡ old))
       → IsLogged meaning state disk (move_of step) old new result → OnOk result (StaysWritten meaning state old new) → SurvivesCrashes meaning state disk old new
       → (new.model ≡ old.model) × (new.end ≡ old.end) → HasSameNodes old new → Takes step old new result → IsStep meaning state disk step old new result
   is_step step old new result unspent stepped unchanged already logged written crashes same nodes taken = record {
@@ -168,7 +169,7 @@ module _ {M P D : Type 0} (meaning : M → Meaning) (state : P → PortState) (d
     nodes = nodes;
   }
 
-  -- where the log is left, nothing of it is said but that
+  -- a step that does not touch the log meets `IsLogged`
   untouched : (k : Move) (old new : Session M P D) (result : Result Answer SessionFault) → (Appends k → ⊥) → new.log ≡ old.log → IfErr result (λ fault. HasCause k (running meaning state old) fault)
       → IsLogged meaning state disk k old new result
   untouched k old new (Ok answer) other log cause = record {
@@ -191,10 +192,10 @@ module _ {M P D : Type 0} (meaning : M → Meaning) (state : P → PortState) (d
   }
 
   stays-written : (old new : Session M P D) (result : Result Answer SessionFault) → new.log ≡ old.log → new.front ≡ old.front → OnOk result (StaysWritten meaning state old new)
-  stays-written old new (Ok answer) log front = λ told is. rw (log, front) is
+  stays-written old new (Ok answer) log front = λ consistent is. rw (log, front) is
   stays-written old new (Err fault) log front = tt
 
-  -- a step that leaves the log and the front
+  -- a step that leaves the log and the front unchanged
   pub aside : (step : Step) (old new : Session M P D) (result : Result Answer SessionFault) → old.spent ≡ false → (Appends (move_of step) → ⊥)
       → IsStepped (move_of step) (running meaning state old) (running meaning state new) new.spent result
       → IfErr result (λ fault. leaves_all fault ≡ true → new ≡ old)
@@ -202,14 +203,14 @@ module _ {M P D : Type 0} (meaning : M → Meaning) (state : P → PortState) (d
   aside step old new result unspent other stepped unchanged log front same nodes taken =
       is_step step old new result unspent stepped unchanged (λ is. absurd (other (commit_appends (move_of step) is))) (untouched (move_of step) old new result other log stepped.cause)
       (stays-written old new result log front)
-      (λ told is recovers. rw (log, front) (stays (meaning old.model) old.end old.front.time (disk old.log.disk) recovers))
+      (λ consistent is recovers. rw (log, front) (stays (meaning old.model) old.end old.front.time (disk old.log.disk) recovers))
       same nodes taken
 
-  -- a spent session refuses, and stays as it is
+  -- a spent session refuses every step and stays as it is
   pub spent_step : (step : Step) (old : Session M P D) → old.spent ≡ true → IsStep meaning state disk step old old (Err Spent)
   spent_step step old spent = record {
-    made = λ told. tt;
-    goes_on = λ told. tt;
+    made = λ consistent. tt;
+    goes_on = λ consistent. tt;
     refused = λ fault un is. absurd (cc);
     cause = λ un. absurd (cc);
     already = λ un is le. absurd (cc);
@@ -225,7 +226,7 @@ module _ {M P D : Type 0} (meaning : M → Meaning) (state : P → PortState) (d
     };
     keeps = record {
       written = λ un. absurd (cc);
-      crashes = λ told is recovers. stays (meaning old.model) old.end old.front.time (disk old.log.disk) recovers;
+      crashes = λ consistent is recovers. stays (meaning old.model) old.end old.front.time (disk old.log.disk) recovers;
     };
     unchanged = λ leaves. refl;
     spends = λ ends. absurd (cc);
@@ -235,8 +236,8 @@ module _ {M P D : Type 0} (meaning : M → Meaning) (state : P → PortState) (d
     nodes = record { nodes = refl; ports = refl };
   }
 
-pub all-go-on : (ks : List Move) (old new : Running) → (IsToldSession old → StepsAreMade ks old new) → IsToldSession old → GoesOnFrom old.end (picture_of old) (picture_of new)
-all-go-on ks old new made told = (moves_made_are_sound old.meaning old.end ks (picture_of old) (picture_of new) told.system (made told).moves_are).goes_on
+pub all-go-on : (ks : List Move) (old new : Running) → (IsConsistentSession old → StepsAreMade ks old new) → IsConsistentSession old → GoesOnFrom old.end (system_of old) (system_of new)
+all-go-on ks old new made consistent = (moves_made_are_sound old.meaning old.end ks (system_of old) (system_of new) consistent.system (made consistent).moves_are).goes_on
 
 pub steps-taken : (steps : List Step) (k : ℕ) (x : Step) → k < length steps → x ≡ get_or steps k x → take (k + 1) steps ≡ take k steps ++ x ∷ []
 steps-taken steps k x there is =

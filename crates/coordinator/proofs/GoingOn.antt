@@ -15,14 +15,14 @@ use Rattle.coordinator.proofs.Resuming.{stopped-front}
 use Rattle.coordinator.specs.Crashes.{IsWritten, KeepsRecovery, Recovers, RecoversUnderItsEnd}
 use Rattle.coordinator.specs.Drives.{AreDrives, IsDrive}
 use Rattle.coordinator.specs.Headline.{SessionsGoOn}
-use Rattle.coordinator.specs.Session.{IsToldSession, Session, picture_of, running}
+use Rattle.coordinator.specs.Session.{IsConsistentSession, Session, system_of, running}
 use Rattle.coordinator.specs.Steps.{leaves_all}
 use Rattle.coordinator.specs.declared.DriveFault.{DriveFault}
 use Rattle.coordinator.specs.declared.Step.{Step}
 
 module _ {M P D : Type 0} (meaning : M → Meaning) (state : P → PortState) (disk : D → DiskState) where
   module _ (first : Session M P D) where
-    -- each image stands under its end as it begins
+    -- each image represents a world under its own end as the call begins
     abbrev Stood : Type 0
     Stood = Recovers (meaning first.model) first.end first.front.time (disk first.log.disk)
 
@@ -30,63 +30,63 @@ module _ {M P D : Type 0} (meaning : M → Meaning) (state : P → PortState) (d
     record HasGoneOn (now : Session M P D) : Type 0 where
       model_is : now.model ≡ first.model
       end_is : now.end ≡ first.end
-      usable : now.spent ≡ false → IsToldSession (running meaning state now) × IsWritten (meaning now.model) now.end now.front now.log
+      usable : now.spent ≡ false → IsConsistentSession (running meaning state now) × IsWritten (meaning now.model) now.end now.front now.log
       front : IsUpto (meaning first.model) first.end now.front.time now.front × (now.front.time ≤ first.end)
       crashes : Stood → KeepsRecovery (meaning first.model) first.end first.front.time now.front.time (disk first.log.disk) (disk now.log.disk)
 
-    told_front : (s : Session M P D) → s.model ≡ first.model → s.end ≡ first.end → IsToldSession (running meaning state s) →
+    reported_front : (s : Session M P D) → s.model ≡ first.model → s.end ≡ first.end → IsConsistentSession (running meaning state s) →
         IsUpto (meaning first.model) first.end s.front.time s.front × (s.front.time ≤ first.end)
-    told_front s model_is end_is told =
+    reported_front s model_is end_is consistent =
         carry meaning state disk (λ (x : M) (e : ℕ). IsUpto (meaning x) e s.front.time s.front × (s.front.time ≤ e)) first.model s.model first.end s.end model_is end_is
-        (told.system.sound.front, (fronts_open (meaning s.model) s.end 1 (picture_of (running meaning state s)) told.system (omega arith)).soon)
+        (consistent.system.sound.front, (fronts_open (meaning s.model) s.end 1 (system_of (running meaning state s)) consistent.system (omega arith)).soon)
 
     survives : (steps : List Step) (mid new : Session M P D) (result : Result ℕ DriveFault) → HasGoneOn mid → IsDrive meaning state disk steps mid new result →
-        IsToldSession (running meaning state mid) → IsWritten (meaning mid.model) mid.end mid.front mid.log →
+        IsConsistentSession (running meaning state mid) → IsWritten (meaning mid.model) mid.end mid.front mid.log →
         Stood → KeepsRecovery (meaning first.model) first.end first.front.time new.front.time (disk first.log.disk) (disk new.log.disk)
-    survives steps mid new result was is told written recovers =
+    survives steps mid new result was is consistent written recovers =
         let keeps = was.crashes recovers in
         followed_by (meaning first.model) first.end first.front.time mid.front.time new.front.time (disk first.log.disk) (disk mid.log.disk) (disk new.log.disk) keeps
         (carry meaning state disk (λ (x : M) (e : ℕ). KeepsRecovery (meaning x) e mid.front.time new.front.time (disk mid.log.disk) (disk new.log.disk)) first.model mid.model first.end mid.end was.model_is was.end_is
-        (is.keeps.crashes told written
+        (is.keeps.crashes consistent written
         (carry meaning state disk (λ (x : M) (e : ℕ). Recovers (meaning x) e mid.front.time (disk mid.log.disk)) mid.model first.model mid.end first.end (sym was.model_is) (sym was.end_is) keeps.now_on)))
 
     still_written : (steps : List Step) (mid new : Session M P D) (result : Result ℕ DriveFault) → IsDrive meaning state disk steps mid new result →
-        IsToldSession (running meaning state mid) → IsWritten (meaning mid.model) mid.end mid.front mid.log → new.spent ≡ false → IsWritten (meaning new.model) new.end new.front new.log
-    still_written steps mid new result is told written unspent =
+        IsConsistentSession (running meaning state mid) → IsWritten (meaning mid.model) mid.end mid.front mid.log → new.spent ≡ false → IsWritten (meaning new.model) new.end new.front new.log
+    still_written steps mid new result is consistent written unspent =
         carry meaning state disk (λ (x : M) (e : ℕ). IsWritten (meaning x) e new.front new.log) new.model mid.model new.end mid.end (sym is.same.0) (sym is.same.1)
-        (is.keeps.written unspent told written)
+        (is.keeps.written unspent consistent written)
 
     driven : (steps : List Step) (mid new : Session M P D) (result : Result ℕ DriveFault) → HasGoneOn mid → IsDrive meaning state disk steps mid new result →
-        IsToldSession (running meaning state mid) → IsWritten (meaning mid.model) mid.end mid.front mid.log → HasGoneOn new
-    driven steps mid new (Ok done) was is told written =
+        IsConsistentSession (running meaning state mid) → IsWritten (meaning mid.model) mid.end mid.front mid.log → HasGoneOn new
+    driven steps mid new (Ok done) was is consistent written =
         let model_is = is.same.0 ∙ was.model_is in
         let end_is = is.same.1 ∙ was.end_is in
-        let now = (is.made told).told in
+        let now = (is.made consistent).consistent in
         record {
           model_is = model_is;
           end_is = end_is;
-          usable = λ unspent. (now, still_written steps mid new (Ok done) is told written unspent);
-          front = told_front new model_is end_is now;
-          crashes = survives steps mid new (Ok done) was is told written;
+          usable = λ unspent. (now, still_written steps mid new (Ok done) is consistent written unspent);
+          front = reported_front new model_is end_is now;
+          crashes = survives steps mid new (Ok done) was is consistent written;
         }
-    driven steps mid new (Err stop) was is told written =
+    driven steps mid new (Err stop) was is consistent written =
         let model_is = is.same.0 ∙ was.model_is in
         let end_is = is.same.1 ∙ was.end_is in
         let stopped = is.stopped in
-        let made = (stopped.moves told).told in
+        let made = (stopped.moves consistent).consistent in
         record {
           model_is = model_is;
           end_is = end_is;
           usable = λ unspent. (
             elim (cases_Bool (leaves_all stop.fault)) [
-              | inl leaves ↦ subst (λ (s : Session M P D). IsToldSession (running meaning state s)) (sym (stopped.refused.unchanged leaves)) made
+              | inl leaves ↦ subst (λ (s : Session M P D). IsConsistentSession (running meaning state s)) (sym (stopped.refused.unchanged leaves)) made
               | inr ends ↦ (let spent = (stopped.refused.spends ends).1 in absurd (cc))
             ],
-            still_written steps mid new (Err stop) is told written unspent,
+            still_written steps mid new (Err stop) is consistent written unspent,
           );
           front = subst (λ (w : World). IsUpto (meaning first.model) first.end w.time w × (w.time ≤ first.end)) (sym (stopped-front meaning state disk steps mid new stop stopped))
-              (told_front stopped.made (sym stopped.refused.same.0 ∙ model_is) (sym stopped.refused.same.1 ∙ end_is) made);
-          crashes = survives steps mid new (Err stop) was is told written;
+              (reported_front stopped.made (sym stopped.refused.same.0 ∙ model_is) (sym stopped.refused.same.1 ∙ end_is) made);
+          crashes = survives steps mid new (Err stop) was is consistent written;
         }
 
     one_more : (steps : List Step) (mid new : Session M P D) (result : Result ℕ DriveFault) → HasGoneOn mid → IsDrive meaning state disk steps mid new result → HasGoneOn new
@@ -105,8 +105,8 @@ module _ {M P D : Type 0} (meaning : M → Meaning) (state : P → PortState) (d
       let all = λ (recovers : RecoversUnderItsEnd m v.time old). gone_on first drives first last (record {
         model_is = refl;
         end_is = refl;
-        usable = λ unspent. (begun.told recovers, begun.written recovers);
-        front = told_front first first refl refl (begun.told recovers);
+        usable = λ unspent. (begun.consistent recovers, begun.written recovers);
+        front = reported_front first first refl refl (begun.consistent recovers);
         crashes = λ stood. stays m first.end first.front.time (disk first.log.disk) stood;
       }) is in
       record {

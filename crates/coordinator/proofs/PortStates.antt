@@ -1,4 +1,4 @@
--- The ports of a session as they tell of themselves.
+-- The states of a session's ports.
 use Rattle.std.proofs.Common.{List, [], ◌∷◌, ℕ, zero, suc, ◌<◌, ◌≡◌, ◌∙◌, get_or, set, map, length, ap, sym, arith}
 use Rattle.std.proofs.lemmas.List.{get_or-set_same, length-map, map-set}
 use Rattle.wire.specs.Port.{PortState}

@@ -1,4 +1,4 @@
--- A whole session: what is opened, what is driven, what is left.
+-- A whole session: its opening, its steps, and what it leaves.
 use Rattle.std.proofs.Common.{List, None, Some, ap, arith, length, map, take, inl, inr, refl, subst, sym, ℕ, ◌≡◌, ◌≤◌, ◌∙◌}
 use Rattle.std.proofs.lemmas.Bool.{cases_Bool}
 use Rattle.std.proofs.lemmas.List.{take_all}
@@ -8,7 +8,7 @@ use Rattle.model.specs.Runner.{Simulation}
 use Rattle.model.specs.World.{IsUpto, World}
 use Rattle.protocol.proofs.Runs.{fronts_open, moves_made_are_sound}
 use Rattle.protocol.specs.Moves.{Move, moves_made}
-use Rattle.protocol.specs.Picture.{Picture, opened}
+use Rattle.protocol.specs.System.{System, opened}
 use Rattle.protocol.specs.Sound.{IsSystem}
 use Rattle.recovery.specs.Replay.{IsReplayedTo, in_force}
 use Rattle.coordinator.proofs.Extensions.{goes-under, looked-under}
@@ -16,13 +16,13 @@ use Rattle.commitlog.specs.Log.{Opened}
 use Rattle.coordinator.specs.Crashes.{IsWritten, KeepsRecovery, KeepsUnderItsEnd, Recovers, RecoversUnderItsEnd}
 use Rattle.coordinator.specs.Drives.{IsStopped, StepsAreMade}
 use Rattle.coordinator.specs.Headline.{IsResumed}
-use Rattle.coordinator.specs.Session.{IsToldSession, Running, Session, picture_of}
+use Rattle.coordinator.specs.Session.{IsConsistentSession, Running, Session, system_of}
 use Rattle.coordinator.specs.Steps.{leaves_all, move_of}
 use Rattle.coordinator.specs.declared.DriveFault.{DriveFault}
 use Rattle.wire.specs.Port.{PortState}
 use Rattle.coordinator.specs.declared.Step.{Step}
 
--- a session that was stopped has the front that it had after the steps that were made
+-- a stopped session has the front after the steps that were made
 pub stopped-front : {M P D : Type 0} (meaning : M → Meaning) (state : P → PortState) (disk : D → DiskState) (steps : List Step) (old new : Session M P D) (stop : DriveFault) (stopped : IsStopped meaning state disk steps old new stop)
     → new.front ≡ stopped.made.front
 stopped-front meaning state disk steps old new stop stopped = elim (cases_Bool (leaves_all stop.fault)) [
@@ -30,7 +30,7 @@ stopped-front meaning state disk steps old new stop stopped = elim (cases_Bool (
   | inr spends ↦ (stopped.refused.spends spends).0
 ]
 
--- what is said of a disk by a session's own model and end
+-- what holds of a disk by a session's own model and end
 pub driven-on : {D : Type 0} (m' m : Meaning) (end' end : ℕ) (first last : World) (log : Opened D) (mid new : DiskState) → m' ≡ m → end' ≡ end
     → (IsWritten m' end' first log → Recovers m' end' first.time mid → KeepsRecovery m' end' first.time last.time mid new)
     → IsWritten m end first log → Recovers m end first.time mid → KeepsRecovery m end first.time last.time mid new
@@ -38,7 +38,7 @@ driven-on m' m end' end first last log mid new model_is end_is driven =
     subst (λ (n : Meaning). IsWritten n end first log → Recovers n end first.time mid → KeepsRecovery n end first.time last.time mid new) model_is
     (subst (λ (e : ℕ). IsWritten m' e first log → Recovers m' e first.time mid → KeepsRecovery m' e first.time last.time mid new) end_is driven)
 
--- the same of its opening
+-- the same for the session's opening
 pub kept-on : (m' m : Meaning) (end' end a now : ℕ) (old mid : DiskState) → m' ≡ m → end' ≡ end → (RecoversUnderItsEnd m' a old → KeepsUnderItsEnd m' a now old mid) → (RecoversUnderItsEnd m' a old → Recovers m' end' now mid)
     → RecoversUnderItsEnd m a old → KeepsUnderItsEnd m a now old mid × Recovers m end now mid
 kept-on m' m end' end a now old mid model_is end_is keeps recovers =
@@ -51,33 +51,33 @@ made-all done steps old new is made = subst (λ (ss : List Step). StepsAreMade (
 
 module _ (m : Meaning) (end nodes : ℕ) (v first : World) (disk mid : DiskState) (replayed : IsReplayedTo m end disk.reads first) (opened_kept : RecoversUnderItsEnd m v.time disk → KeepsUnderItsEnd m v.time first.time disk mid × Recovers m end first.time mid)
     (begun : Running) (model_is : begun.meaning ≡ m) (end_is : begun.end ≡ end) (moves : List Move) where
-  module _ (told : IsToldSession begun) (picture_is : picture_of begun ≡ opened m.lps nodes first) where
-    moved : (made : Running) → StepsAreMade moves begun made → moves_made m end moves (opened m.lps nodes first) ≡ Some (picture_of made)
+  module _ (consistent : IsConsistentSession begun) (system_is : system_of begun ≡ opened m.lps nodes first) where
+    moved : (made : Running) → StepsAreMade moves begun made → moves_made m end moves (opened m.lps nodes first) ≡ Some (system_of made)
     moved made steps =
-        subst (λ (p : Picture). moves_made m end moves p ≡ Some (picture_of made)) picture_is
-        (subst (λ (e : ℕ). moves_made m e moves (picture_of begun) ≡ Some (picture_of made)) end_is
-        (subst (λ (n : Meaning). moves_made n begun.end moves (picture_of begun) ≡ Some (picture_of made)) model_is steps.moves_are))
+        subst (λ (p : System). moves_made m end moves p ≡ Some (system_of made)) system_is
+        (subst (λ (e : ℕ). moves_made m e moves (system_of begun) ≡ Some (system_of made)) end_is
+        (subst (λ (n : Meaning). moves_made n begun.end moves (system_of begun) ≡ Some (system_of made)) model_is steps.moves_are))
 
     system : IsSystem m end (opened m.lps nodes first)
     system =
-        subst (λ (p : Picture). IsSystem m end p) picture_is
-        (subst (λ (e : ℕ). IsSystem m e (picture_of begun)) end_is (subst (λ (n : Meaning). IsSystem n begun.end (picture_of begun)) model_is told.system))
+        subst (λ (p : System). IsSystem m end p) system_is
+        (subst (λ (e : ℕ). IsSystem m e (system_of begun)) end_is (subst (λ (n : Meaning). IsSystem n begun.end (system_of begun)) model_is consistent.system))
 
     upto : (made : Running) → StepsAreMade moves begun made → IsUpto m end made.front.time made.front
-    upto made steps = (moves_made_are_sound m end moves (opened m.lps nodes first) (picture_of made) system (moved made steps)).system.sound.front
+    upto made steps = (moves_made_are_sound m end moves (opened m.lps nodes first) (system_of made) system (moved made steps)).system.sound.front
 
     soon : (made : Running) → StepsAreMade moves begun made → made.front.time ≤ end
-    soon made steps = (fronts_open m end 1 (picture_of made) (moves_made_are_sound m end moves (opened m.lps nodes first) (picture_of made) system (moved made steps)).system (omega arith)).soon
+    soon made steps = (fronts_open m end 1 (system_of made) (moves_made_are_sound m end moves (opened m.lps nodes first) (system_of made) system (moved made steps)).system (omega arith)).soon
 
-  pub resumed : (made : Running) (last : World) (new : DiskState) → (RecoversUnderItsEnd m v.time disk → IsToldSession begun × (picture_of begun ≡ opened m.lps nodes first)) → (IsToldSession begun → StepsAreMade moves begun made) → last ≡ made.front
+  pub resumed : (made : Running) (last : World) (new : DiskState) → (RecoversUnderItsEnd m v.time disk → IsConsistentSession begun × (system_of begun ≡ opened m.lps nodes first)) → (IsConsistentSession begun → StepsAreMade moves begun made) → last ≡ made.front
       → (RecoversUnderItsEnd m v.time disk → Recovers m end first.time mid → KeepsRecovery m end first.time last.time mid new) → IsResumed m end nodes moves v disk new (Some last.time)
   resumed made last new begin steps last_is driven = record {
     front = Some last;
-    told = refl;
+    consistent = refl;
     driven = λ recovers w is.
         let same : last ≡ w = cc in
         let b = begin recovers in
-        record { first = first; replayed = replayed; last = picture_of made; moved = moved b.0 b.1 made (steps b.0); front_is = sym same ∙ last_is };
+        record { first = first; replayed = replayed; last = system_of made; moved = moved b.0 b.1 made (steps b.0); front_is = sym same ∙ last_is };
     kept = record {
       crashes = λ recovers. let keeps = opened_kept recovers in goes-under m end v.time first.time last.time disk mid new keeps.0 (driven recovers keeps.1);
       front = λ recovers s is.
@@ -88,4 +88,4 @@ module _ (m : Meaning) (end nodes : ℕ) (v first : World) (disk mid : DiskState
   }
 
 pub not_resumed : (m : Meaning) (end nodes : ℕ) (moves : List Move) (v : World) (old new : DiskState) → OnlyLooks old new → IsResumed m end nodes moves v old new None
-not_resumed m end nodes moves v old new looks = record { front = None; told = refl; driven = λ recovers w is. absurd (cc); kept = record { crashes = λ recovers. looked-under m v.time old new looks recovers; front = λ recovers s is. absurd (cc) } }
+not_resumed m end nodes moves v old new looks = record { front = None; consistent = refl; driven = λ recovers w is. absurd (cc); kept = record { crashes = λ recovers. looked-under m v.time old new looks recovers; front = λ recovers s is. absurd (cc) } }

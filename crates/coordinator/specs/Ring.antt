@@ -1,4 +1,4 @@
--- Three processes that hand two tokens round, each after two ticks, for the tests.
+-- A model for the tests: three processes pass two tokens round, each with a delay of two ticks.
 use Rattle.std.specs.Prelude.{Bool, List, [], false, if◌then◌else◌, min, nat_lt, slice_index, true}
 use Rattle.std.specs.Prelude.{ℕ, ◌%◌, ◌+◌, ◌-◌, ◌<◌, ◌^◌, ◌∷◌, ◌≡◌}
 use Rattle.std.specs.List.{AllByRecursion as Every}
@@ -8,7 +8,7 @@ use Rattle.std.proofs.lemmas.Bool.{ltb-true}
 use Rattle.model.specs.Meaning.{IsLawful, IsSend, Meaning}
 use Rattle.model.specs.declared.Outgoing.{Outgoing}
 
--- the count of messages so far, which stays at the greatest number
+-- the number of messages so far, at most 2^64 - 1
 abbrev pub counted : List ℕ → ℕ
 counted state = min (slice_index state 0 + 1) (2 ^ 64 - 1)
 

@@ -1,4 +1,4 @@
--- A session: what can be said of it between two steps.
+-- A session: what holds of it between two steps.
 use Rattle.std.specs.List.{AllByRecursion as Every}
 use Rattle.std.specs.Prelude.{Bool, List, None, Option, Some, [], false, get_or, length, map, true}
 use Rattle.std.specs.Prelude.{ℕ, ◌<◌, ◌^◌, ◌≡◌, ◌≤◌}
@@ -10,30 +10,30 @@ use Rattle.model.specs.Meaning.{Meaning}
 use Rattle.model.specs.World.{World}
 use Rattle.node.specs.declared.Parcel.{Parcel}
 use Rattle.process.specs.declared.Done.{Done}
-use Rattle.protocol.specs.Picture.{Picture, lows_of}
+use Rattle.protocol.specs.System.{System, lows_of}
 use Rattle.wire.specs.Port.{PortState, Stage, nobody}
 use Rattle.wire.specs.Port.Stage.{Fresh, Idle, Posted}
 use Rattle.protocol.specs.Sound.{IsSystem}
 use Rattle.protocol.specs.Views.{node_view}
 
--- What callers see of a session. What its model means, what its ports have of their nodes and what
--- a crash may leave of its disk are ghosts of those values.
+-- A session as contracts see it. The meaning of its model, the states of its ports and what a crash
+-- may leave of its disk are ghost values of those fields.
 pub record Session (M P D : Type 0) : Type 0 where
   pub model : M
   pub end : ℕ
   pub front : World
-  pub gathered : List Done  -- what nodes told and no commit has taken yet
+  pub gathered : List Done  -- what nodes reported and no commit has taken yet
   pub ledger : Ledger
   pub ports : List P
   pub log : Opened D
   pub spent : Bool
 
--- it has as many nodes and ports as before
+-- the numbers of nodes and ports are as before
 pub record HasSameNodes {M P D : Type 0} (old new : Session M P D) : Type 0 where
   pub nodes : nodes_of new.ledger ≡ nodes_of old.ledger
   pub ports : length new.ports ≡ length old.ports
 
--- the same but for the log, as its model and its ports tell of themselves
+-- a session without its log, with its model's meaning and its ports' states
 pub record Running : Type 0 where
   pub meaning : Meaning
   pub end : ℕ
@@ -52,10 +52,10 @@ running meaning state s = record {
   ports = map state s.ports;
 }
 
--- The picture of a session is nothing that it keeps: it is told by its front, its ledger, what it
--- gathered, and the nodes behind its ports.
-abbrev pub picture_of : Running → Picture
-picture_of r = record {
+-- The system state of a session. A session does not store it: it consists of the session's front,
+-- its ledger, what it gathered, and the nodes behind its ports.
+abbrev pub system_of : Running → System
+system_of r = record {
   front = r.front;
   gathered = r.gathered;
   nodes = map (λ (p : PortState). p.node.processes) r.ports;
@@ -64,11 +64,11 @@ picture_of r = record {
   floors = r.ledger.floors;
 }
 
--- what is told of a port that is not there
+-- the state of a port that does not exist
 abbrev pub no_port : PortState
 no_port = record {
   stage = Fresh;
-  tells = false;
+  faithful = false;
   meaning = record {
     lps = 0;
     identity = [];
@@ -83,12 +83,12 @@ no_port = record {
 abbrev pub port_at : List PortState → ℕ → PortState
 port_at ports k = get_or ports k no_port
 
--- where a port stands whose node has this parcel, or none
+-- the stage of a port whose node has this outstanding parcel, or none
 abbrev pub stage_by : Option Parcel → Stage
 stage_by None = Idle
 stage_by (Some parcel) = Posted parcel
 
--- What holds of every session that is not spent, over whatever ports and on whatever disk.
+-- The invariant of a session that is not spent, over any ports and any disk.
 pub record IsFit (r : Running) : Type 0 where
   pub end_is : r.ledger.end ≡ r.end
   pub short : r.end ≤ 2 ^ 40
@@ -103,14 +103,14 @@ pub record IsFit (r : Running) : Type 0 where
   pub there : Every (λ (d : Done). d.message.to < r.meaning.lps) r.gathered
   pub transit : Every (λ (s : Signed). s.message.to < r.meaning.lps) r.ledger.transit
 
--- this port tells its node, which is that of the picture
+-- this port is faithful, and its node is that of the system state
 pub record IsPortOf (r : Running) (k : ℕ) (p : PortState) : Type 0 where
-  pub tells : p.tells ≡ true
+  pub faithful : p.faithful ≡ true
   pub meaning : p.meaning ≡ r.meaning
-  pub node_is : p.node ≡ node_view r.meaning r.end (picture_of r) k
+  pub node_is : p.node ≡ node_view r.meaning r.end (system_of r) k
 
--- A session whose ports tell their nodes, which run its model, and whose picture is sound.
-pub record IsToldSession (r : Running) : Type 0 where
+-- A consistent session: its ports are faithful and run its model, and its system state is sound.
+pub record IsConsistentSession (r : Running) : Type 0 where
   pub ports : (k : ℕ) → k < length r.ports → IsPortOf r k (port_at r.ports k)
-  pub lows : r.ledger.lows ≡ lows_of (picture_of r)
-  pub system : IsSystem r.meaning r.end (picture_of r)
+  pub lows : r.ledger.lows ≡ lows_of (system_of r)
+  pub system : IsSystem r.meaning r.end (system_of r)

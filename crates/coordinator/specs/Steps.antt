@@ -1,4 +1,4 @@
--- What a step does, what it answers, what it appends, and why it is refused.
+-- What a step does, returns and appends, and why it is refused.
 use Rattle.std.specs.Prelude.{Bool, IfErr, IfOk, IsErrOf, List, None, OnOk, Option, Result, Some}
 use Rattle.std.specs.Prelude.{Err, [], false, if◌then◌else◌, length, nat_lt, not, true, ℕ, ◌&&◌}
 use Rattle.std.specs.Prelude.{◌*◌, ◌++◌, ◌+◌, ◌<◌, ◌^◌, ◌∷◌, ◌≡◌, ◌≤◌, ◌⊎◌}
@@ -10,18 +10,18 @@ use Rattle.model.specs.Meaning.{Meaning}
 use Rattle.gvt.specs.Picks.{are_distinct, can_pick}
 use Rattle.node.specs.declared.NodeFault.TheVariants as node
 use Rattle.node.specs.declared.Reply.{Reply}
-use Rattle.protocol.specs.Moves.{Move, answer_of, is_busy, merged, move, refusal, told_before}
+use Rattle.protocol.specs.Moves.{Move, answer_of, is_busy, merged, move, refusal, reported_before}
 use Rattle.protocol.specs.Moves.Move.{Checkpoint as CheckpointMove, Commit as CommitMove}
 use Rattle.protocol.specs.Moves.Move.{Post as PostMove, Take as TakeMove}
 use Rattle.protocol.specs.Moves.Refusal.{NumberLimit as NumberLimitRefusal}
-use Rattle.protocol.specs.Picture.{Picture, nodes_of}
+use Rattle.protocol.specs.System.{System, nodes_of}
 use Rattle.protocol.specs.Replies.{names_there}
 use Rattle.recovery.specs.Bodies.{events_body}
 use Rattle.recovery.specs.Checkpoints.{checkpoint_body, checkpoint_of}
-use Rattle.wire.specs.Port.{IsForWant, PortState}
+use Rattle.wire.specs.Port.{IsResourceFault, PortState}
 use Rattle.wire.specs.declared.port.PortFault.{PortFault}
 use Rattle.wire.specs.declared.port.PortFault.TheVariants.{Peer}
-use Rattle.coordinator.specs.Session.{IsToldSession, Running, Session, picture_of, running}
+use Rattle.coordinator.specs.Session.{IsConsistentSession, Running, Session, system_of, running}
 use Rattle.protocol.specs.declared.Answer.{Answer}
 use Rattle.protocol.specs.declared.Answer.TheVariants.{Taken}
 use Rattle.coordinator.specs.declared.SessionFault.{SessionFault}
@@ -31,7 +31,7 @@ use Rattle.coordinator.specs.declared.SessionFault.TheVariants.{Port, Recovery, 
 use Rattle.coordinator.specs.declared.Step.{Step}
 use Rattle.coordinator.specs.declared.Step.TheVariants.{Checkpoint, Commit, Post, Take}
 
--- the move of the picture that a step is
+-- the move of the system state that a step makes
 abbrev pub move_of : Step → Move
 move_of (Post node picks budget) = PostMove node picks budget
 move_of (Take node) = TakeMove node
@@ -44,30 +44,31 @@ Appends CommitMove = Unit {0}
 Appends CheckpointMove = Unit {0}
 Appends k = ⊥
 
--- the floor that a commit would make the front's time, and the events that it would write
-abbrev pub next_time : ℕ → Picture → ℕ
+-- the time that a commit would give the front, and the number of events that it would write
+abbrev pub next_time : ℕ → System → ℕ
 next_time end p = least_floor end p.floors
 
-abbrev pub next_events : ℕ → Picture → ℕ
-next_events end p = length (told_before (next_time end p) p.gathered)
+abbrev pub next_events : ℕ → System → ℕ
+next_events end p = length (reported_before (next_time end p) p.gathered)
 
--- and the record that it would append: that floor, and those events in the order of the simulation
-abbrev pub next_record : ℕ → Picture → Entry
+-- the record that a commit would append: that time, and those events in the order of the simulation
+abbrev pub next_record : ℕ → System → Entry
 next_record end p =
     let c = next_time end p in entry_with 1 (events_body c (merged c p.gathered))
 
--- the record that a checkpoint would append: the front but for its log
-abbrev pub kept_body : Picture → List ℕ
+-- the body of the record that a checkpoint would append: the front without its log
+abbrev pub kept_body : System → List ℕ
 kept_body p = checkpoint_body (checkpoint_of p.front)
 
--- The step is the move of the picture, from told to told, and answers its numbers.
+-- The step is the move of the system state, leads to a consistent session, and returns the move's
+-- numbers.
 pub record IsMade (k : Move) (old new : Running) (answer : Answer) : Type 0 where
-  pub move_is : move old.meaning old.end k (picture_of old) ≡ Some (picture_of new)
-  pub told : IsToldSession new
-  pub answer_is : answer_of old.meaning old.end k (picture_of old) ≡ Some answer
+  pub move_is : move old.meaning old.end k (system_of old) ≡ Some (system_of new)
+  pub consistent : IsConsistentSession new
+  pub answer_is : answer_of old.meaning old.end k (system_of old) ≡ Some answer
 
--- why a step is refused before it is begun, whatever the ports and the disk: the first that holds
-abbrev pub first_refusal : ℕ → Move → Picture → Option SessionFault
+-- why a step is refused before it begins, over any ports and any disk: the first reason that holds
+abbrev pub first_refusal : ℕ → Move → System → Option SessionFault
 first_refusal end (PostMove node picks budget) p =
     if not (nat_lt node (nodes_of p)) then Some NoSuchNode
     else if is_busy p node then Some Busy
@@ -82,27 +83,32 @@ first_refusal end CommitMove p =
 first_refusal end CheckpointMove p =
     if nat_lt (2 ^ 24) (5 + length (kept_body p)) then Some TooLong else None
 
--- A fault of a port that tells: want, or the number limit, where a handling of the parcel would
--- pass it.
+-- A fault of a faithful port: an allocation failed, the bytes were too many, or a handling of the
+-- parcel would pass the number limit.
 abbrev pub IsPortFault : Move → Running → PortFault → Type 0
-IsPortFault k old fault = IsForWant fault
+IsPortFault k old fault = IsResourceFault fault
     ⊎ ((fault ≡ Peer node.NumberLimit)
-    × (refusal old.meaning old.end k (picture_of old) ≡ Some NumberLimitRefusal))
+    × (refusal old.meaning old.end k (system_of old) ≡ Some NumberLimitRefusal))
 
--- why a step of a session that is not spent is refused; of Full and Disk more is said where the log
--- is
+-- the moves that call a port
+abbrev pub CallsPort : Move → Type 0
+CallsPort (PostMove node picks budget) = Unit {0}
+CallsPort (TakeMove node) = Unit {0}
+CallsPort k = ⊥
+
+-- why a step of a session that is not spent is refused; `IsLogged` says more of `Full` and `Disk`
 abbrev pub HasCause : Move → Running → SessionFault → Type 0
-HasCause k old (Port fault) = (first_refusal old.end k (picture_of old) ≡ None)
-    × (IsToldSession old → IsPortFault k old fault)
-HasCause k old NoMemory = first_refusal old.end k (picture_of old) ≡ None
-HasCause k old Full = Appends k × (first_refusal old.end k (picture_of old) ≡ None)
-HasCause k old Disk = Appends k × (first_refusal old.end k (picture_of old) ≡ None)
+HasCause k old (Port fault) = CallsPort k × (first_refusal old.end k (system_of old) ≡ None)
+    × (IsConsistentSession old → IsPortFault k old fault)
+HasCause k old NoMemory = first_refusal old.end k (system_of old) ≡ None
+HasCause k old Full = Appends k × (first_refusal old.end k (system_of old) ≡ None)
+HasCause k old Disk = Appends k × (first_refusal old.end k (system_of old) ≡ None)
 HasCause k old NumberLimit = ⊥
 HasCause k old (Recovery fault) = ⊥
 HasCause k old Spent = ⊥
-HasCause k old fault = first_refusal old.end k (picture_of old) ≡ Some fault
+HasCause k old fault = first_refusal old.end k (system_of old) ≡ Some fault
 
--- after these faults a session is as it was, after the others it is spent
+-- these faults leave a session unchanged; after the others it is spent
 abbrev pub leaves_all : SessionFault → Bool
 leaves_all Busy = true
 leaves_all Idle = true
@@ -113,12 +119,12 @@ leaves_all TooLong = true
 leaves_all Spent = true
 leaves_all fault = false
 
--- What a step of a session that is not spent does, in the picture.
+-- What a step does to the system state of a session that is not spent.
 pub record IsStepped (k : Move) (old new : Running) (spent : Bool)
     (result : Result Answer SessionFault) : Type 0 where
-  pub made : IsToldSession old → IfOk result (λ answer. IsMade k old new answer)
+  pub made : IsConsistentSession old → IfOk result (λ answer. IsMade k old new answer)
   pub refused : (fault : SessionFault) →
-      first_refusal old.end k (picture_of old) ≡ Some fault → result ≡ Err fault
+      first_refusal old.end k (system_of old) ≡ Some fault → result ≡ Err fault
   pub cause : IfErr result (λ fault. HasCause k old fault)
   pub unchanged : IfErr result (λ fault. leaves_all fault ≡ true → (new ≡ old) × (spent ≡ false))
   pub spends :
@@ -127,8 +133,8 @@ pub record IsStepped (k : Move) (old new : Running) (spent : Bool)
   pub meaning_is : new.meaning ≡ old.meaning
   pub end_is : new.end ≡ old.end
 
--- The reply of a node was taken, whatever the ports: its sends are in transit, what it told is
--- gathered, and all that it names is there.
+-- The reply of a node was taken, over any ports: its sends are in transit, what it reported is
+-- gathered, and all that it names exists.
 pub record IsReplyTaken (node : ℕ) (old new : Running) (answer : Answer) : Type 0 where
   pub reply : Reply
   pub valid : names_there old.meaning.lps (length old.ports) node reply ≡ true
@@ -141,13 +147,13 @@ module _ {M P D : Type 0} (meaning : M → Meaning) (state : P → PortState) (d
   -- the disk of a session has room for the record that a commit would append
   abbrev pub HasRoomToCommit : Session M P D → Type 0
   HasRoomToCommit s =
-      let events = next_events s.end (picture_of (running meaning state s)) in
+      let events = next_events s.end (system_of (running meaning state s)) in
       HasRoom s.log.records (12 + 56 * events) (length (disk s.log.disk).reads)
 
   -- and for the record that a checkpoint would append
   abbrev pub HasRoomToKeep : Session M P D → Type 0
   HasRoomToKeep s = HasRoom s.log.records
-      (length (kept_body (picture_of (running meaning state s)))) (length (disk s.log.disk).reads)
+      (length (kept_body (system_of (running meaning state s)))) (length (disk s.log.disk).reads)
 
   -- for the record of either
   abbrev pub HasRoomFor : Move → Session M P D → Type 0
@@ -155,18 +161,18 @@ module _ {M P D : Type 0} (meaning : M → Meaning) (state : P → PortState) (d
   HasRoomFor CheckpointMove s = HasRoomToKeep s
   HasRoomFor k s = Unit {0}
 
-  -- What a step does to the log and its disk: a commit that gets on and a checkpoint append exactly
-  -- one record, where there was room, and no other step touches the log.
+  -- What a step does to the log and its disk: a commit that moves the front and a checkpoint append
+  -- exactly one record, if there is room, and no other step touches the log.
   pub record IsLogged (k : Move) (old new : Session M P D)
       (result : Result Answer SessionFault) : Type 0 where
     pub stays : (Appends k → ⊥) → new.log ≡ old.log
     pub appended : k ≡ CommitMove →
-        old.front.time < next_time old.end (picture_of (running meaning state old)) →
+        old.front.time < next_time old.end (system_of (running meaning state old)) →
         OnOk result ((new.log.records ≡
-        old.log.records ++ next_record old.end (picture_of (running meaning state old)) ∷ [])
+        old.log.records ++ next_record old.end (system_of (running meaning state old)) ∷ [])
         × HasRoomToCommit old)
     pub kept : k ≡ CheckpointMove → OnOk result ((new.log.records ≡
-        old.log.records ++ entry_with 2 (kept_body (picture_of (running meaning state old))) ∷ [])
+        old.log.records ++ entry_with 2 (kept_body (system_of (running meaning state old))) ∷ [])
         × HasRoomToKeep old)
     pub full : IsErrOf result Full → HasRoomFor k old → ⊥
     pub failed : IsErrOf result Disk → HasRoomFor k old

@@ -1,4 +1,4 @@
-//! Sessions: the coordinator of a running simulation, which commits what no rollback reaches to a
+//! Sessions: the coordinator of a running simulation, which commits what no rollback can reach to a
 //! log on a disk.
 #![tactic(auto)]
 
@@ -23,25 +23,25 @@ use wire::PortFault;
 /// One step of a session.
 #[derive(Drop)]
 pub enum Step {
-    /// The messages at these places of transit are posted to a node, which may handle so many
+    /// Posts the messages at these places in transit to a node, which may handle at most `budget`
     /// messages.
     Post {
         node: u32,
         picks: Listed<u32>,
         budget: u32,
     },
-    /// The reply of a node is taken.
+    /// Takes the reply of a node.
     Take {
         node: u32,
     },
-    /// What no rollback reaches any more is committed.
+    /// Commits what no rollback can reach any more.
     Commit,
-    /// What is committed is kept in a record, but for its log, so that an opening replays only the
+    /// Appends a checkpoint: the committed front without its log. An opening then replays only the
     /// records behind it.
     Checkpoint,
 }
 
-/// Why a session refuses a call.
+/// Why a session refuses a call, or fails.
 #[derive(Clone, Copy, Debug, PartialEq, Eq, Error)]
 pub enum SessionFault {
     /// A parcel is outstanding at the node.
@@ -53,8 +53,7 @@ pub enum SessionFault {
     /// No node has this number.
     #[error("NoSuchNode")]
     NoSuchNode,
-    /// A pick is no place of transit, or has a message for another node, or names the same place as
-    /// another pick.
+    /// A pick is not a place in transit, has a message for another node, or repeats another pick.
     #[error("NoSuchPick")]
     NoSuchPick,
     /// The record does not fit on the disk.
@@ -66,7 +65,7 @@ pub enum SessionFault {
     /// The disk failed.
     #[error("Disk")]
     Disk,
-    /// Memory was refused.
+    /// An allocation failed.
     #[error("NoMemory")]
     NoMemory,
     /// A send number would have passed 2^63.
@@ -75,18 +74,18 @@ pub enum SessionFault {
     /// The record would have more than 2^24 bytes.
     #[error("TooLong")]
     TooLong,
-    /// The log of the disk is not recovered.
+    /// The log of the disk could not be opened or recovered.
     #[error("Recovery {0}")]
     Recovery(RecoveryFault),
-    /// An earlier call ended the session.
+    /// An earlier fault ended the session.
     #[error("Spent")]
     Spent,
-    /// The end is not above the one in force, or above 2^40.
+    /// The end is not above the end in force, or is above 2^40 ticks.
     #[error("EndRefused")]
     EndRefused,
 }
 
-/// Why a list of steps is not made to its end: so many were made, and the next was refused.
+/// Why a list of steps stopped early: `done` steps were made, and the next one failed with `fault`.
 #[derive(Clone, Copy, Debug, PartialEq, Eq)]
 pub struct DriveFault {
     pub done: u64,

@@ -1,12 +1,12 @@
-// The ports of a session, one for each node.
+// The ports of a session, one per node.
 
 ghost use Rattle.std.specs.Prelude.{◌≡◌, ◌<◌, ◌≤◌, ◌^◌, ◌&&◌, true, map, set, length, nat_lt, OnOk};
 ghost use Rattle.std.specs.Prelude.{OnErr, IfOk, IfErr};
 ghost use Rattle.std.specs.List.{list_all};
 ghost use Rattle.node.specs.declared.Parcel.{Parcel};
-ghost use Rattle.wire.specs.Port.{IsForWant, IsSamePort, IsTakeFault, IsTaken};
+ghost use Rattle.wire.specs.Port.{IsResourceFault, IsSamePort, IsTakeFault, IsTaken};
 ghost use Rattle.wire.specs.Port.Stage.{Idle, Posted};
-ghost use Rattle.protocol.specs.Replies.{is_told_there, names_there};
+ghost use Rattle.protocol.specs.Replies.{is_reported_there, names_there};
 ghost use Rattle.eventkey.specs.Message.{Message};
 ghost use Rattle.eventkey.specs.declared.Signed.{Signed};
 ghost use Rattle.coordinator.specs.Session.{port_at};
@@ -16,7 +16,7 @@ use node::{Parcel, Reply};
 use process::Done;
 use wire::{Port, PortFault};
 
-/// Hands the node at this place a parcel.
+/// Posts a parcel to the node at this place.
 pub(crate) fn post<P: Port>(
     ports: &mut Vec<P>,
     node: usize,
@@ -32,11 +32,11 @@ pub(crate) fn post<P: Port>(
         ≡ Posted parcel) }
     ensures same { IsSamePort (port_at (map P.state ports.old.items) node)
         (port_at (map P.state ports.new.items) node) }
-    ensures ok { (port_at (map P.state ports.old.items) node).tells ≡ true → OnOk result
+    ensures ok { (port_at (map P.state ports.old.items) node).faithful ≡ true → OnOk result
         ((port_at (map P.state ports.new.items) node).node
         ≡ (port_at (map P.state ports.old.items) node).node) }
-    ensures err { (port_at (map P.state ports.old.items) node).tells ≡ true → IfErr result
-        (λ fault. IsForWant fault) }
+    ensures err { (port_at (map P.state ports.old.items) node).faithful ≡ true → IfErr result
+        (λ fault. IsResourceFault fault) }
 {
     let port = &mut ports[node];
     port.post(parcel)
@@ -54,58 +54,58 @@ pub(crate) fn take<P: Port>(ports: &mut Vec<P>, node: usize) -> Result<Reply, Po
     ensures same { IsSamePort (port_at (map P.state ports.old.items) node)
         (port_at (map P.state ports.new.items) node) }
     ensures ok { (parcel : Parcel) → (port_at (map P.state ports.old.items) node).stage
-        ≡ Posted parcel → (port_at (map P.state ports.old.items) node).tells ≡ true → IfOk result
+        ≡ Posted parcel → (port_at (map P.state ports.old.items) node).faithful ≡ true → IfOk result
         (λ reply. IsTaken parcel (port_at (map P.state ports.old.items) node)
         (port_at (map P.state ports.new.items) node) reply) }
     ensures err { (parcel : Parcel) → (port_at (map P.state ports.old.items) node).stage
-        ≡ Posted parcel → (port_at (map P.state ports.old.items) node).tells ≡ true → IfErr result
+        ≡ Posted parcel → (port_at (map P.state ports.old.items) node).faithful ≡ true → IfErr result
         (λ fault. IsTakeFault parcel (port_at (map P.state ports.old.items) node) fault) }
 {
     let port = &mut ports[node];
     port.take()
 }
 
-/// Whether all that a node's reply names is there, and the handlings that it tells are of its own
-/// processes.
+/// Returns whether every receiver in a node's reply is a process of the model, and every handling
+/// that the reply reports is of a process of this node.
 pub(crate) fn names_valid_processes(reply: &Reply, lps: u32, nodes: usize, node: usize) -> bool
     requires { 0 < nodes }
     ensures { result ≡ names_there lps nodes node reply.now }
 {
     are_sent_there(reply.out.as_slice(), lps)
-        && are_told_there(reply.fossils.as_slice(), lps, nodes, node)
+        && are_reported_there(reply.fossils.as_slice(), lps, nodes, node)
 }
 
-/// Whether these are all for processes that are there.
+/// Returns whether all receivers are processes of the model.
 fn are_sent_there(out: &[Signed], lps: u32) -> bool
     ensures { result ≡ list_all (λ (s : Signed). nat_lt s.message.to lps) out.now }
 {
     out.iter().all(|signed| signed.message.to() < lps)
 }
 
-/// Whether these are all for processes that are there.
+/// Returns whether all receivers are processes of the model.
 fn are_there(sent: &[Message], lps: u32) -> bool
     ensures { result ≡ list_all (λ (x : Message). nat_lt x.to lps) sent.now }
 {
     sent.iter().all(|message| message.to() < lps)
 }
 
-/// Whether this handling is of a process of this node, and what it sent for processes that are
-/// there.
-fn is_told_there(done: &Done, lps: u32, nodes: usize, node: usize) -> bool
+/// Returns whether this handling is of a process of this node, and all receivers of what it sent
+/// are processes of the model.
+fn is_reported_there(done: &Done, lps: u32, nodes: usize, node: usize) -> bool
     requires { 0 < nodes }
-    ensures { result ≡ is_told_there lps nodes node done.now }
+    ensures { result ≡ is_reported_there lps nodes node done.now }
 {
     let to = done.message.to();
     to < lps && to as usize % nodes == node && are_there(done.sent.as_slice(), lps)
 }
 
-/// Whether these handlings are all of processes of this node, and what they sent for processes that
-/// are there.
-fn are_told_there(fossils: &[Done], lps: u32, nodes: usize, node: usize) -> bool
+/// Returns whether all these handlings are of processes of this node, and all receivers of what
+/// they sent are processes of the model.
+fn are_reported_there(fossils: &[Done], lps: u32, nodes: usize, node: usize) -> bool
     requires { 0 < nodes }
-    ensures { result ≡ list_all (is_told_there lps nodes node) fossils.now }
+    ensures { result ≡ list_all (is_reported_there lps nodes node) fossils.now }
 {
     fossils
         .iter()
-        .all(|done| is_told_there(done, lps, nodes, node))
+        .all(|done| is_reported_there(done, lps, nodes, node))
 }

@@ -4,7 +4,7 @@ ghost use Rattle.std.specs.Prelude.{◌≡◌, ◌<◌, ◌≤◌, ◌^◌, ℕ,
 ghost use Rattle.std.specs.Prelude.{take};
 ghost use Rattle.coordinator.specs.Headline.{Headline, IsResumed, SessionsGoOn};
 ghost use Rattle.coordinator.specs.Crashes.{Recovers};
-ghost use Rattle.coordinator.specs.Opening.{AllFresh, AllTell, IsForWantAtOpening};
+ghost use Rattle.coordinator.specs.Opening.{AllFresh, AllFaithful, IsResourceFaultAtOpening};
 ghost use Rattle.coordinator.specs.Opening.{OpeningIsRefused};
 ghost use Rattle.coordinator.specs.Steps.{move_of};
 ghost use Rattle.model.specs.World.{World};
@@ -15,25 +15,26 @@ use model::Model as Simulated;
 use std::alloc::Global;
 use wire::Port;
 
-/// What a whole session leaves.
+/// What a whole session returns.
 #[derive(Drop)]
 pub struct Resumed<D: SectorDisk> {
     /// The disk, which can be opened again.
     pub disk: D,
-    /// The virtual time before which all is committed, in ticks; none where no session was opened.
+    /// The virtual time before which everything is committed, in ticks; `None` if no session was
+    /// opened.
     pub time: Option<u64>,
-    /// How many steps were made.
+    /// The number of steps made.
     pub done: u64,
-    /// Why the next one was not, or why no session was opened; none where all were made.
+    /// Why the next step failed, or why no session was opened; `None` if all steps were made.
     pub fault: Option<SessionFault>,
 }
 
-/// Opens a session on a disk, makes these steps, up to the first that is refused, and hands the
-/// disk back.
+/// Opens a session on a disk, makes these steps, up to the first that is refused, and returns the
+/// disk.
 ///
-/// The disk was formatted for this model and this end, in ticks; there are 1 to 64 ports, through
-/// which nothing was loaded yet: there may be as many as one likes each time. It costs what
-/// [`Session::open`] and the steps cost.
+/// The disk must have been formatted for this model and this end, in ticks. There must be 1 to 64
+/// ports, through which nothing has been loaded yet; their number may differ from call to call.
+/// Costs what [`Session::open`] and the steps cost.
 pub fn resume<M: Simulated, P: Port + Drop, D: SectorDisk>(
     alloc: Global,
     model: &M,
@@ -48,9 +49,9 @@ pub fn resume<M: Simulated, P: Port + Drop, D: SectorDisk>(
     requires begun { 1 ≤ end }
     requires short { end ≤ 2 ^ 40 }
 
-    // The headline for one session, whatever front was told last on the disk.
+    // The headline for one session, whatever front was acknowledged last on the disk.
     ensures kept { let made = map move_of (take result.done steps.now) in
-        AllTell (M.meaning model.now) (map P.state ports.items) → (v : World) →
+        AllFaithful (M.meaning model.now) (map P.state ports.items) → (v : World) →
         IsResumed (M.meaning model.now) end (length ports.items) made v
         (D.state disk) (D.state result.disk) result.time }
 
@@ -58,9 +59,9 @@ pub fn resume<M: Simulated, P: Port + Drop, D: SectorDisk>(
     ensures refused { result.time ≡ None → (result.done ≡ 0) × IfSome result.fault (λ fault.
         OpeningIsRefused (M.meaning model.now) end (D.state disk).reads (map P.state ports.items)
         ((D.state disk).failures < (D.state result.disk).failures) fault) }
-    ensures want { (a : ℕ) → Recovers (M.meaning model.now) end a (D.state disk) →
-        AllTell (M.meaning model.now) (map P.state ports.items) → result.time ≡ None →
-        IfSome result.fault (λ fault. IsForWantAtOpening fault
+    ensures resources { (a : ℕ) → Recovers (M.meaning model.now) end a (D.state disk) →
+        AllFaithful (M.meaning model.now) (map P.state ports.items) → result.time ≡ None →
+        IfSome result.fault (λ fault. IsResourceFaultAtOpening fault
         ((D.state disk).failures < (D.state result.disk).failures)) }
 {
     let mut session = match Session::open(alloc, model, ports, disk, end) {
@@ -80,7 +81,7 @@ pub fn resume<M: Simulated, P: Port + Drop, D: SectorDisk>(
     }
 }
 
-/// What a session leaves of which so many steps were made, and then this fault was met.
+/// Returns what a session leaves after `done` steps and then this fault, if any.
 fn left<M: Simulated, P: Port + Drop, D: SectorDisk>(
     session: Session<'_, M, P, D>,
     done: u64,
@@ -108,18 +109,18 @@ fn left<M: Simulated, P: Port + Drop, D: SectorDisk>(
 /// one acknowledged, and whatever is committed from there on is what that same sequential
 /// simulation does next.
 ///
-/// The function has no effect. Its contract is the law that follows from what [`resume`],
-/// [`Session::open`], [`Session::step`] and [`Session::drive`] say of one call, over any history of
+/// The function has no effect. Its contract is the theorem that follows from the contracts of
+/// [`resume`], [`Session::open`], [`Session::step`] and [`Session::drive`] over any history of
 /// calls and stops.
 pub fn headline()
     ensures { Headline }
 {}
 
-/// A session that is driven again and again, whatever it is refused on the way, is one call of a
-/// history of the [`headline`]: from the disk on which it was opened to the disk that it leaves.
+/// Any number of drives of one session, whatever faults they return, are one call of a history of
+/// the [`headline`]: from the disk on which the session was opened to the disk that it leaves.
 ///
-/// The function has no effect. Its contract is the law that follows from what [`Session::open`] and
-/// [`Session::drive`] say; a step is a list of one.
+/// The function has no effect. Its contract is the law that follows from the contracts of
+/// [`Session::open`] and [`Session::drive`]; a step is a list of one.
 pub fn law_of_sessions<M: Simulated, P: Port, D: SectorDisk>()
     ensures { SessionsGoOn M.meaning P.state D.state }
 {}

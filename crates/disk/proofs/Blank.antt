@@ -1,4 +1,4 @@
--- A struct with no field: what it is in the machine, and that it owns nothing.
+-- A struct without fields: its machine representation, and that it owns nothing.
 use Rattle.std.proofs.Common.{List, [], refl}
 use seplogic.Ra.Ura.{Ura}
 use mir.Val.{Val, vstruct, vnil}

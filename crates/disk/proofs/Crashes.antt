@@ -10,7 +10,7 @@ use Rattle.disk.specs.Memory.{MemoryState, crash_content, torn_content, IsCrashe
 use Rattle.disk.specs.declared.memory.Torn.{Torn}
 use Rattle.disk.proofs.Sectors.{chunk_push, length-first_chunks}
 
--- one sector more
+-- the content with one more sector
 pub content_more : (content : ℕ → List ℕ) (n : ℕ) (bytes sector : List ℕ) → length bytes ≡ n * 512 → length sector ≡ 512 → sector ≡ content n
     → ((k : ℕ) → k < n → get_or (first_chunks 512 n bytes) k [] ≡ content k) → (k : ℕ) → k < n + 1 → get_or (first_chunks 512 (n + 1) (bytes ++ sector)) k [] ≡ content k
 content_more content n bytes sector size whole is so_far k small =
@@ -30,13 +30,13 @@ image_crashed torn disk bytes size content =
       content = λ n within. ap (λ m. get_or (first_chunks 512 m bytes) n []) count ∙ content n within;
     }
 
--- a crash may leave what it leaves
-pub crash_may_leave : (torn : Torn) (disk : MemoryState) (image : List (List ℕ)) → length disk.loose ≡ length disk.reads
-    → ((n : ℕ) → n < length disk.reads → IsSector (crash_content torn disk n)) → IsCrashed torn disk image → MayLeave disk.reads disk.loose image
+-- the image that a planned crash leaves is one that a crash may leave
+pub crash_may_leave : (torn : Torn) (disk : MemoryState) (image : List (List ℕ)) → length disk.dirty ≡ length disk.reads
+    → ((n : ℕ) → n < length disk.reads → IsSector (crash_content torn disk n)) → IsCrashed torn disk image → MayLeave disk.reads disk.dirty image
 crash_may_leave torn disk image each whole crashed = record {
   sectors = crashed.sectors;
-  firm = λ n firm. ⊎_elim (λ (within : n < length disk.reads). crashed.content n within ∙ ap (λ (b : Bool). if b then torn_content torn disk n else get_or disk.reads n []) firm)
+  in_sync = λ n in_sync. ⊎_elim (λ (within : n < length disk.reads). crashed.content n within ∙ ap (λ (b : Bool). if b then torn_content torn disk n else get_or disk.reads n []) in_sync)
       (λ (past : length disk.reads ≤ n). get_or_past image n [] (omega (arith, past, crashed.sectors)) ∙ sym (get_or_past disk.reads n [] past)) (cases_lt n (length disk.reads));
-  torn = λ n loose. ⊎_elim (λ (within : n < length disk.reads). subst IsSector (sym (crashed.content n within)) (whole n within))
-      (λ (past : length disk.reads ≤ n). let none : get_or disk.loose n false ≡ false = get_or_past disk.loose n false (omega (arith, past, each)) in cc) (cases_lt n (length disk.reads));
+  torn = λ n dirty. ⊎_elim (λ (within : n < length disk.reads). subst IsSector (sym (crashed.content n within)) (whole n within))
+      (λ (past : length disk.reads ≤ n). let none : get_or disk.dirty n false ≡ false = get_or_past disk.dirty n false (omega (arith, past, each)) in cc) (cases_lt n (length disk.reads));
 }

@@ -1,4 +1,4 @@
--- Worked rows: images, plans, and what a crash may leave.
+-- Examples: images, plans, and what a crash may leave.
 use Rattle.std.specs.Prelude.{replicate}
 use Rattle.std.proofs.Common.{◌++◌, ◌≡◌, ℕ, zero, suc, Bool, true, false, List, [], ◌∷◌, get_or, Some, None, refl, ap, arith}
 use Rattle.disk.specs.Disk.{image_of, IsDisk, IsSector, MayLeave}
@@ -7,11 +7,11 @@ use Rattle.disk.specs.declared.memory.Torn.TheVariants.{Old, New, Fill, Cut}
 use Rattle.disk.proofs.Sectors.{replicate_whole}
 use Rattle.disk.specs.Plans.{Counts, started, operation_counted, write_counted, fails, write_fails}
 
--- less than a sector is left out
+-- a partial sector is left out
 two_sectors : image_of (replicate 1030 7) ≡ replicate 512 7 ∷ (replicate 512 7 ∷ [])
 two_sectors = refl
 
--- operation 1 fails alone
+-- only operation 1 fails
 abbrev second_fails : Counts
 second_fails = started (record { fail = Some 1; stop = None })
 
@@ -24,7 +24,7 @@ second_failed = refl
 third_done : fails (operation_counted (operation_counted second_fails)) ≡ false
 third_done = refl
 
--- from write 0 on nothing works, be it a write or not
+-- from write 0 on every operation fails
 abbrev stops_at_once : Counts
 stops_at_once = started (record { fail = None; stop = Some 0 })
 
@@ -37,7 +37,7 @@ write_stopped = refl
 nothing_after : fails (write_counted stops_at_once) ≡ true
 nothing_after = refl
 
--- Sector 0 is firm; sector 1 held zeros at the last sync, and ones were written there since.
+-- Sector 0 is synced; sector 1 held zeros at the last sync, and ones were written there since.
 abbrev zeros : List ℕ
 zeros = replicate 512 0
 
@@ -50,30 +50,30 @@ sevens = replicate 512 7
 abbrev reads : List (List ℕ)
 reads = zeros ∷ (ones ∷ [])
 
-abbrev loose : List Bool
-loose = false ∷ (true ∷ [])
+abbrev dirty : List Bool
+dirty = false ∷ (true ∷ [])
 
--- a crash may leave any 512 bytes in sector 1,
-torn : MayLeave reads loose (zeros ∷ (sevens ∷ []))
-torn = record { sectors = refl; firm = firm; torn = whole }
+-- a crash may leave any 512 bytes in sector 1
+torn : MayLeave reads dirty (zeros ∷ (sevens ∷ []))
+torn = record { sectors = refl; in_sync = in_sync; torn = whole }
   where
-    firm : (n : ℕ) → get_or loose n false ≡ false → get_or (zeros ∷ (sevens ∷ [])) n [] ≡ get_or reads n []
-    firm zero is = refl
-    firm (suc zero) is = absurd cc
-    firm (suc (suc n)) is = refl
+    in_sync : (n : ℕ) → get_or dirty n false ≡ false → get_or (zeros ∷ (sevens ∷ [])) n [] ≡ get_or reads n []
+    in_sync zero is = refl
+    in_sync (suc zero) is = absurd cc
+    in_sync (suc (suc n)) is = refl
 
-    whole : (n : ℕ) → get_or loose n false ≡ true → IsSector (get_or (zeros ∷ (sevens ∷ [])) n [])
+    whole : (n : ℕ) → get_or dirty n false ≡ true → IsSector (get_or (zeros ∷ (sevens ∷ [])) n [])
     whole zero is = absurd cc
     whole (suc zero) is = replicate_whole 7 (omega arith)
     whole (suc (suc n)) is = absurd cc
 
--- but no others in sector 0
-kept : MayLeave reads loose (ones ∷ (ones ∷ [])) → ⊥
-kept left = let same : 1 ≡ 0 = ap (λ (l : List ℕ). get_or l 0 0) (left.firm 0 refl) in omega (arith, same)
+-- a crash leaves sector 0 as it is
+kept : MayLeave reads dirty (ones ∷ (ones ∷ [])) → ⊥
+kept left = let same : 1 ≡ 0 = ap (λ (l : List ℕ). get_or l 0 0) (left.in_sync 0 refl) in omega (arith, same)
 
-module _ (sound : IsDisk reads loose) where
+module _ (sound : IsDisk reads dirty) where
   abbrev written : MemoryState
-  written = record { reads = reads; synced = zeros ∷ (zeros ∷ []); attempted = reads; loose = loose; sound = sound; past = []; counts = second_fails }
+  written = record { reads = reads; synced = zeros ∷ (zeros ∷ []); attempted = reads; dirty = dirty; sound = sound; past = []; counts = second_fails }
 
   old_left : crash_content Old written 1 ≡ zeros
   old_left = refl
@@ -84,8 +84,8 @@ module _ (sound : IsDisk reads loose) where
   filled : crash_content (Fill 7) written 1 ≡ sevens
   filled = refl
 
-  firm_left : crash_content (Fill 7) written 0 ≡ zeros
-  firm_left = refl
+  synced_left : crash_content (Fill 7) written 0 ≡ zeros
+  synced_left = refl
 
   cut_left : crash_content (Cut 100) written 1 ≡ replicate 100 1 ++ replicate 412 0
   cut_left = refl

@@ -1,4 +1,4 @@
--- Sectors of which memory holds the first ones.
+-- Lists of sectors of which memory keeps only the first ones.
 use Rattle.std.specs.Prelude.{replicate}
 use Rattle.std.proofs.Common.{◌≡◌, ◌≢◌, ⊎_elim, ℕ, zero, suc, ◌+◌, ◌-◌, ◌<◌, ◌≤◌, List, [], ◌∷◌, ◌++◌, length, get_or, set, take, refl, sym, ◌∙◌, ap, arith}
 use Rattle.std.proofs.lemmas.List.{append_assoc, append-nil, ext_get_or, length-append, length-replicate, length-set, get_or_append_left, get_or-append_right, get_or-replicate}
@@ -9,7 +9,7 @@ use Rattle.disk.specs.Growth.{zero_sectors, grown_to}
 abbrev pub zero_sector : List ℕ
 zero_sector = replicate 512 0
 
--- all of them
+-- all sectors: the kept ones, and zeros behind them
 abbrev pub all_of : ℕ → List (List ℕ) → List (List ℕ)
 all_of count kept = kept ++ zero_sectors (count - length kept)
 
@@ -19,7 +19,7 @@ length-zeros n = length-replicate n zero_sector
 pub length-all : (count : ℕ) (kept : List (List ℕ)) → length kept ≤ count → length (all_of count kept) ≡ count
 length-all count kept within = omega (arith, within, length-append kept (zero_sectors (count - length kept)), length-zeros (count - length kept))
 
--- those behind are zeros
+-- the sectors behind the kept ones are zeros
 pub behind : (count : ℕ) (kept : List (List ℕ)) (n : ℕ) → length kept ≤ n → n < count → get_or (all_of count kept) n [] ≡ zero_sector
 behind count kept n past within =
     get_or-append_right kept (zero_sectors (count - length kept)) (length kept) n [] refl past
@@ -28,7 +28,7 @@ behind count kept n past within =
 pub first : (count : ℕ) (kept : List (List ℕ)) (n : ℕ) → n < length kept → get_or (all_of count kept) n [] ≡ get_or kept n []
 first count kept n within = get_or_append_left kept (zero_sectors (count - length kept)) [] n within
 
--- one of them is kept
+-- keeping one more sector changes no content
 pub one_more : (count : ℕ) (kept : List (List ℕ)) → length kept < count → all_of count (kept ++ zero_sector ∷ []) ≡ all_of count kept
 one_more count kept within =
     let size : length (kept ++ zero_sector ∷ []) ≡ length kept + 1 = length-append kept (zero_sector ∷ []) in
@@ -37,13 +37,13 @@ one_more count kept within =
     ∙ ap (λ n. kept ++ (zero_sector ∷ zero_sectors (count - n))) size
     ∙ ap (λ n. kept ++ zero_sectors n) (sym left)
 
--- a kept one is set
+-- setting a kept sector
 pub set_kept : (count : ℕ) (kept : List (List ℕ)) (n : ℕ) (sector : List ℕ) → n < length kept → all_of count (set kept n sector) ≡ set (all_of count kept) n sector
 set_kept count kept n sector within =
     ap (λ k. set kept n sector ++ zero_sectors (count - k)) (length-set kept n sector)
     ∙ sym (set-append_left kept (zero_sectors (count - length kept)) n sector within)
 
--- one that isn't is set to zeros
+-- setting a sector that is not kept to zeros changes nothing
 pub set_zero : (count : ℕ) (kept : List (List ℕ)) (n : ℕ) (sector : List ℕ) → length kept ≤ n → n < count → sector ≡ zero_sector → all_of count kept ≡ set (all_of count kept) n sector
 set_zero count kept n sector past within is =
     ext_get_or [] (all_of count kept) (set (all_of count kept) n sector) (sym (length-set (all_of count kept) n sector))
@@ -52,7 +52,7 @@ set_zero count kept n sector past within is =
     ∙ sym (ap (λ i. get_or (set (all_of count kept) n sector) i []) same ∙ get_or-set_same (all_of count kept) n sector [] (omega (arith, there, same))))
     (λ (other : k ≢ n). sym (get_or-set_other (all_of count kept) n k sector [] other)) (cases_eq k n))
 
--- more zeros come behind
+-- growing the list by zeros
 pub grow_kept : (old count : ℕ) (kept : List (List ℕ)) → length kept ≤ old → old ≤ count → all_of count kept ≡ grown_to count (all_of old kept)
 grow_kept old count kept within more =
     let sum : count - length kept ≡ (old - length kept) + (count - old) = omega (arith, within, more) in

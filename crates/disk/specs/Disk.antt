@@ -1,102 +1,102 @@
--- What the calls of a disk of sectors do, and what a crash may leave of it.
+-- The state of a disk of sectors, and what a crash may leave of it.
 use Rattle.std.specs.Prelude.{◌/◌, ◌<◌, ◌≤◌, ◌≡◌, ◌⊎◌, ◌^◌, ℕ, Bool, true, false, List, [], ◌∷◌}
 use Rattle.std.specs.Prelude.{length, slice_index, slice_index_or, Result, IsErrOf}
 use Rattle.std.specs.Simd.{first_chunks}
 use Rattle.disk.specs.declared.disk.DiskFault.{DiskFault}
 use Rattle.disk.specs.declared.disk.DiskFault.TheVariants.{Device}
 
--- what a sector holds: 512 bytes
+-- the content of a sector: 512 bytes
 pub record IsSector (sector : List ℕ) : Type 0 where
   pub size : length sector ≡ 512
   pub bytes : (i : ℕ) → slice_index sector i < 256
 
--- the whole sectors of bytes
+-- the whole sectors of these bytes
 abbrev pub image_of : List ℕ → List (List ℕ)
 image_of bytes = first_chunks 512 (length bytes / 512) bytes
 
--- fewer than 2 ^ 32 sectors of 512 bytes, each of them loose or not
-pub record IsDisk (reads : List (List ℕ)) (loose : List Bool) : Type 0 where
+-- fewer than 2 ^ 32 sectors of 512 bytes, each of them dirty or not
+pub record IsDisk (reads : List (List ℕ)) (dirty : List Bool) : Type 0 where
   pub numbered : length reads < 2 ^ 32
-  pub each : length loose ≡ length reads
+  pub each : length dirty ≡ length reads
   pub whole : (n : ℕ) → n < length reads → IsSector (slice_index_or reads n [])
 
--- no sector is loose
-abbrev pub IsFirm : List Bool → Type 0
-IsFirm loose = (n : ℕ) → slice_index_or loose n false ≡ false
+-- no sector is dirty
+abbrev pub IsSynced : List Bool → Type 0
+IsSynced dirty = (n : ℕ) → slice_index_or dirty n false ≡ false
 
--- each loose sector lies from the first on and before the end
-pub record IsSpan (first end : ℕ) (loose : List Bool) : Type 0 where
-  pub within : end ≤ length loose
-  pub spans : (n : ℕ) → slice_index_or loose n false ≡ true → (first ≤ n) × (n < end)
+-- each dirty sector lies in the span from `first` to before `end`
+pub record IsSpan (first end : ℕ) (dirty : List Bool) : Type 0 where
+  pub within : end ≤ length dirty
+  pub spans : (n : ℕ) → slice_index_or dirty n false ≡ true → (first ≤ n) × (n < end)
 
--- A crash may leave this image: any 512 bytes in each loose sector, and what a read gives in each
--- other one.
-pub record MayLeave (reads : List (List ℕ)) (loose : List Bool)
+-- A crash may leave this image: it has any 512 bytes in each dirty sector, and what a read gives in
+-- each other one.
+pub record MayLeave (reads : List (List ℕ)) (dirty : List Bool)
     (image : List (List ℕ)) : Type 0 where
   pub sectors : length image ≡ length reads
-  pub firm : (n : ℕ) → slice_index_or loose n false ≡ false →
+  pub in_sync : (n : ℕ) → slice_index_or dirty n false ≡ false →
       slice_index_or image n [] ≡ slice_index_or reads n []
-  pub torn : (n : ℕ) → slice_index_or loose n false ≡ true → IsSector (slice_index_or image n [])
+  pub torn : (n : ℕ) → slice_index_or dirty n false ≡ true → IsSector (slice_index_or image n [])
 
--- how a disk stood at a moment: what a read gave of each sector, and which were loose
-pub record Standing : Type 0 where
+-- the state of a disk at a moment: what a read gave of each sector, and which sectors were dirty
+pub record PastState : Type 0 where
   pub reads : List (List ℕ)
-  pub loose : List Bool
+  pub dirty : List Bool
 
--- What can be said of a disk: what a read gives of each sector, which are loose, how it stood at
--- each moment before now, the latest first, and how often it has failed.
+-- What contracts see of a disk: what a read gives of each sector, which sectors are dirty, its
+-- states at earlier moments, the latest first, and how often it has failed.
 pub record DiskState : Type 0 where
   pub reads : List (List ℕ)
-  pub loose : List Bool
-  pub past : List Standing
+  pub dirty : List Bool
+  pub past : List PastState
   pub failures : ℕ
 
--- the moment that is now, as a number that doesn't fall; the earliest one is 0
+-- the present moment, as a number that never falls; the first moment is 0
 unfoldable pub moment : DiskState → ℕ
 moment disk = length disk.past
 
-abbrev pub standing_of : List (List ℕ) → List Bool → Standing
-standing_of reads loose = record { reads = reads; loose = loose }
+abbrev pub past_state : List (List ℕ) → List Bool → PastState
+past_state reads dirty = record { reads = reads; dirty = dirty }
 
--- A crash at some moment from t on may have left this image, where the disk stood so at the moments
--- up to the latest.
-abbrev pub LeftIn : List Standing → ℕ → List (List ℕ) → Type 0
+-- A crash at some moment from t on may have left this image, if these were the states of the disk
+-- at all moments, the latest first.
+abbrev pub LeftIn : List PastState → ℕ → List (List ℕ) → Type 0
 LeftIn [] t image = ⊥
-LeftIn (stood ∷ before) t image = ((t ≤ length before) × MayLeave stood.reads stood.loose image)
+LeftIn (stood ∷ before) t image = ((t ≤ length before) × MayLeave stood.reads stood.dirty image)
     ⊎ LeftIn before t image
 
--- the same of a disk: the moments go from t up to now
+-- a crash of this disk at some moment from t up to now may have left this image
 unfoldable pub left_since : DiskState → ℕ → List (List ℕ) → Type 0
-left_since disk t image = LeftIn (standing_of disk.reads disk.loose ∷ disk.past) t image
+left_since disk t image = LeftIn (past_state disk.reads disk.dirty ∷ disk.past) t image
 
--- Time goes on: a crash since t can have left just what it might have left before, or what it may
--- leave now.
+-- Time passes: after the call, a crash since t may have left exactly what it could leave before the
+-- call, or what a crash now may leave.
 pub record Elapses (old new : DiskState) : Type 0 where
   pub later : moment old ≤ moment new
   pub nothing_else : (t : ℕ) (image : List (List ℕ)) → t ≤ moment old → left_since new t image →
-      left_since old t image ⊎ MayLeave new.reads new.loose image
+      left_since old t image ⊎ MayLeave new.reads new.dirty image
   pub still : (t : ℕ) (image : List (List ℕ)) → t ≤ moment old → left_since old t image →
       left_since new t image
 
--- A crash at any moment since old leaves an image that has P.
+-- A crash at any moment from the state `old` on leaves an image with property P.
 pub record LeavesOnly (old new : DiskState) (P : List (List ℕ) → Type 0) : Type 0 where
   pub later : moment old ≤ moment new
   pub each : (image : List (List ℕ)) → left_since new (moment old) image → P image
-  -- for a run that began earlier
+  -- for a sequence of calls that began at an earlier moment t
   pub before : (t : ℕ) (image : List (List ℕ)) → t ≤ moment old → left_since new t image →
       left_since old t image ⊎ P image
 
--- `Device` is answered exactly where the device has failed in the call
+-- `Device` is returned exactly if the device has failed during the call
 pub record HasCause (before now : ℕ) (result : Result (Unit {0}) DiskFault) : Type 0 where
   pub later : before ≤ now
   pub failed : IsErrOf result Device → before < now
   pub only : before < now → IsErrOf result Device
 
--- What a call that only looks leaves: the same reads, no looser sector, and no crash that one
--- before might not have left.
+-- The effect of a call that only reads: the reads are the same, a disk without dirty sectors still
+-- has none, and a crash leaves nothing that one before the call could not leave.
 pub record OnlyLooks (old new : DiskState) : Type 0 where
   pub same : new.reads ≡ old.reads
-  pub firm : IsFirm old.loose → IsFirm new.loose
-  pub now : (image : List (List ℕ)) → MayLeave new.reads new.loose image →
-      MayLeave old.reads old.loose image
-  pub since : LeavesOnly old new (MayLeave old.reads old.loose)
+  pub in_sync : IsSynced old.dirty → IsSynced new.dirty
+  pub now : (image : List (List ℕ)) → MayLeave new.reads new.dirty image →
+      MayLeave old.reads old.dirty image
+  pub since : LeavesOnly old new (MayLeave old.reads old.dirty)

@@ -1,38 +1,37 @@
--- A disk over a file, seen as the image that it keeps in memory. (This project's profile.)
+-- A disk over a file, modelled by the image that it keeps in memory. (This project's profile.)
 use Rattle.std.specs.Prelude.{◌≡◌, ◌<◌, ◌≤◌, ℕ, Bool, true, false, List, Option, Some, None}
 use Rattle.std.specs.Prelude.{slice_index_or}
-use Rattle.disk.specs.Disk.{IsDisk, Standing, DiskState}
+use Rattle.disk.specs.Disk.{IsDisk, PastState, DiskState}
 
--- what a read gives, which sectors are loose, how it stood at the moments before, and how often the
--- file has failed
+-- what reads give, which sectors are dirty, the states at earlier moments, and how often the file
+-- has failed
 pub record FileState : Type 0 where
   pub reads : List (List ℕ)
-  pub loose : List Bool
-  pub sound : IsDisk reads loose
-  pub past : List Standing
+  pub dirty : List Bool
+  pub sound : IsDisk reads dirty
+  pub past : List PastState
   pub failures : ℕ
 
 abbrev pub disk_of_file : FileState → DiskState
 disk_of_file disk = record {
   reads = disk.reads;
-  loose = disk.loose;
+  dirty = disk.dirty;
   past = disk.past;
   failures = disk.failures;
 }
 
--- how many sectors a file may have that is opened as a disk of so many: those, or from 8 to the
--- most where none are given
+-- the number of sectors that a file may have: the given number, or 8 to `most` if none is given
 abbrev pub MayHave : Option ℕ → ℕ → ℕ → Type 0
 MayHave None most count = (8 ≤ count) × (count ≤ most)
 MayHave (Some sectors) most count = count ≡ sectors
 
--- From a place on and before an end the first loose sectors that lie side by side are these: all of
--- them, and none where both are the end.
-pub record IsNextRun (loose : List Bool) (from end first behind : ℕ) : Type 0 where
+-- The first run of adjacent dirty sectors between `from` and `end` goes from `first` to before
+-- `behind`. If there is none, both are `end`.
+pub record IsNextRun (dirty : List Bool) (from end first behind : ℕ) : Type 0 where
   pub starts : from ≤ first
   pub order : first ≤ behind
   pub ends : behind ≤ end
-  pub firm : (n : ℕ) → from ≤ n → n < first → slice_index_or loose n false ≡ false
-  pub side_by_side : (n : ℕ) → first ≤ n → n < behind → slice_index_or loose n false ≡ true
+  pub in_sync : (n : ℕ) → from ≤ n → n < first → slice_index_or dirty n false ≡ false
+  pub side_by_side : (n : ℕ) → first ≤ n → n < behind → slice_index_or dirty n false ≡ true
   pub some : first < end → first < behind
-  pub whole : behind < end → slice_index_or loose behind false ≡ false
+  pub whole : behind < end → slice_index_or dirty behind false ≡ false

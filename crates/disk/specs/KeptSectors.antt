@@ -1,9 +1,9 @@
--- The sectors of an image, of which memory holds the first ones. (This project's profile.)
+-- The sectors of an image; memory holds only the first ones. (This project's profile.)
 use Rattle.std.specs.Prelude.{◌-◌, ◌≤◌, ℕ, List, ◌++◌, length, vec_capacity}
 use Rattle.disk.specs.Growth.{zero_sectors}
 use Rattle.disk.specs.declared.kept.Sectors.TheInside.{Inside}
 
--- all of them, and how many of the first ones are kept in memory; those behind are zeros
+-- all sectors, and the number of first ones that are kept in memory; those behind them are zeros
 pub record SectorList : Type 0 where
   pub items : List (List ℕ)
   pub kept : ℕ
@@ -14,7 +14,7 @@ list_of s = record {
   kept = length s.kept.items;
 }
 
--- room for each of them, so that no sector needs memory when it is written
+-- room is reserved for all sectors, so that a write never allocates
 pub record HasRoom (s : Inside) : Type 0 where
   pub within : length s.kept.items ≤ s.count
   pub room : s.count ≤ vec_capacity s.kept

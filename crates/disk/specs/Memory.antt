@@ -1,32 +1,32 @@
--- A disk in memory, and the image that a crash of it leaves. (This project's profile.)
+-- A disk in memory, and the image that its crash leaves. (This project's profile.)
 use Rattle.std.specs.Prelude.{◌≡◌, ◌<◌, ℕ, Bool, false, List, [], length, replicate, slice_index_or}
 use Rattle.std.specs.Prelude.{if◌then◌else◌, ◌++◌, take, drop}
-use Rattle.disk.specs.Disk.{IsDisk, Standing, DiskState}
+use Rattle.disk.specs.Disk.{IsDisk, PastState, DiskState}
 use Rattle.disk.specs.Plans.{Counts}
 use Rattle.disk.specs.declared.memory.Torn.{Torn}
 use Rattle.disk.specs.declared.memory.Torn.TheVariants.{Old, New, Fill, Cut}
 
--- per sector what a read gives, what was there at the last successful sync, what the last write was
--- to put there, failed or not, and whether it is loose; and how the disk stood at the moments
--- before
+-- For each sector: what a read gives, its content at the last successful sync, the content of the
+-- last write, failed or not, and whether it is dirty. And the states of the disk at earlier
+-- moments, and the counts of its operations.
 pub record MemoryState : Type 0 where
   pub reads : List (List ℕ)
   pub synced : List (List ℕ)
   pub attempted : List (List ℕ)
-  pub loose : List Bool
-  pub sound : IsDisk reads loose
-  pub past : List Standing
+  pub dirty : List Bool
+  pub sound : IsDisk reads dirty
+  pub past : List PastState
   pub counts : Counts
 
 abbrev pub disk_of_memory : MemoryState → DiskState
 disk_of_memory disk = record {
   reads = disk.reads;
-  loose = disk.loose;
+  dirty = disk.dirty;
   past = disk.past;
   failures = disk.counts.failures;
 }
 
--- what a crash leaves in a loose sector
+-- what a crash leaves in a dirty sector
 abbrev pub torn_content : Torn → MemoryState → ℕ → List ℕ
 torn_content Old disk n = slice_index_or disk.synced n []
 torn_content New disk n = slice_index_or disk.attempted n []
@@ -34,9 +34,9 @@ torn_content (Fill byte) disk n = replicate 512 byte
 torn_content (Cut count) disk n =
     take count (slice_index_or disk.attempted n []) ++ drop count (slice_index_or disk.synced n [])
 
--- what it leaves in each sector
+-- what a crash leaves in any sector
 abbrev pub crash_content : Torn → MemoryState → ℕ → List ℕ
-crash_content torn disk n = if slice_index_or disk.loose n false then torn_content torn disk n
+crash_content torn disk n = if slice_index_or disk.dirty n false then torn_content torn disk n
     else slice_index_or disk.reads n []
 
 -- the image that a crash leaves

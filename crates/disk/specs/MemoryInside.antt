@@ -1,4 +1,4 @@
--- How a disk in memory is kept.
+-- The representation of a disk in memory, and its invariant.
 use Rattle.std.specs.Prelude.{◌≡◌, ◌<◌, ℕ, false, List, [], length, slice_index_or}
 use Rattle.disk.specs.Disk.{IsSector}
 use Rattle.disk.specs.Memory.{MemoryState}
@@ -9,13 +9,13 @@ state_of m = record {
   reads = m.image.sectors.items;
   synced = m.synced.items;
   attempted = m.attempted.items;
-  loose = m.image.loose.items;
+  dirty = m.image.dirty.items;
   sound = record { numbered = m.image.numbered; each = m.image.each; whole = m.image.whole };
   past = m.history.past;
   counts = m.schedule;
 }
 
--- so many sectors
+-- a list of `count` sectors
 pub record AreSectors (count : ℕ) (sectors : List (List ℕ)) : Type 0 where
   pub size : length sectors ≡ count
   pub whole : (n : ℕ) → n < count → IsSector (slice_index_or sectors n [])
@@ -23,6 +23,6 @@ pub record AreSectors (count : ℕ) (sectors : List (List ℕ)) : Type 0 where
 pub record IsMemoryKept (m : Inside) : Type 0 where
   pub synced : AreSectors (length m.image.sectors.items) m.synced.items
   pub attempted : AreSectors (length m.image.sectors.items) m.attempted.items
-  -- a firm sector was last synced as a read gives it
-  pub firm : (n : ℕ) → slice_index_or m.image.loose.items n false ≡ false →
+  -- the synced content of a sector that is not dirty is what a read gives
+  pub in_sync : (n : ℕ) → slice_index_or m.image.dirty.items n false ≡ false →
       slice_index_or m.synced.items n [] ≡ slice_index_or m.image.sectors.items n []

@@ -1,10 +1,10 @@
--- Which operations of a disk in memory fail by its plan. (This project's profile.)
+-- The operations of a disk in memory that fail by its plan. (This project's profile.)
 use Rattle.std.specs.Prelude.{◌+◌, ◌||◌, ℕ, Bool, false, Option, Some, None, min, eqb}
 use Rattle.std.specs.Prelude.{if◌then◌else◌}
 use Rattle.disk.specs.declared.plan.Plan.{Plan}
 
--- a plan, how many operations and writes there were, whether the write at which all stops was among
--- them, and how many operations failed
+-- a plan, the numbers of operations and of writes so far, whether the write at which the disk stops
+-- was among them, and the number of failed operations
 pub record Counts : Type 0 where
   pub plan : Plan
   pub operations : ℕ
@@ -16,26 +16,27 @@ pub record Counts : Type 0 where
 abbrev pub started : Plan → Counts
 started plan = record { plan = plan; operations = 0; writes = 0; stopped = false; failures = 0 }
 
--- the next count, which stays at the largest number of 64 bits
+-- the next count, which saturates at 2^64 - 1
 abbrev pub one_more : ℕ → ℕ
 one_more count = min (count + 1) 18446744073709551615
 
--- whether this number is planned
+-- whether a failure is planned at this number
 abbrev pub is_at : Option ℕ → ℕ → Bool
 is_at None number = false
 is_at (Some planned) number = eqb planned number
 
--- whether the operation that comes now fails, if it is no write: the number planned, and each one
--- after the stop
+-- whether the next operation fails, if it is not a write: it has the planned number, or comes after
+-- the stop
 abbrev pub fails : Counts → Bool
 fails now = now.stopped || is_at now.plan.fail now.operations
 
--- whether it fails, if it is a write: the write at which all stops too
+-- whether the next operation fails, if it is a write: for these reasons, or because the disk stops
+-- at it
 abbrev pub write_fails : Counts → Bool
 write_fails now = (now.stopped || is_at now.plan.stop now.writes)
     || is_at now.plan.fail now.operations
 
--- after an operation that is no write
+-- the counts after an operation that is not a write
 abbrev pub operation_counted : Counts → Counts
 operation_counted now = record {
   plan = now.plan;
@@ -45,7 +46,7 @@ operation_counted now = record {
   failures = now.failures + (if fails now then 1 else 0);
 }
 
--- after a write
+-- the counts after a write
 abbrev pub write_counted : Counts → Counts
 write_counted now = record {
   plan = now.plan;

@@ -1,17 +1,17 @@
-// How a disk stood at the moments before now, which only proofs read.
+// The states of a disk at earlier moments, a ghost value that only proofs read.
 ghost use Rattle.std.specs.Prelude.{◌≡◌, ◌-◌, ◌++◌, List, [], ◌∷◌, length};
 ghost use Rattle.std.specs.Borrow.{ftrue};
-ghost use Rattle.disk.specs.Disk.{Standing, standing_of};
+ghost use Rattle.disk.specs.Disk.{PastState, past_state};
 ghost use Rattle.disk.specs.Growth.{growth};
 
 use crate::image::Image;
 use std::marker::Model;
 
-/// What a read gave and which sectors were loose at each moment before now, the latest first. It
-/// takes no memory.
+/// What reads gave and which sectors were dirty at each earlier moment, the latest first. It takes
+/// no memory.
 #[derive(Drop)]
 pub struct History {
-    pub ghost past: { List Standing },
+    pub ghost past: { List PastState },
 }
 
 // It owns no memory.
@@ -26,16 +26,16 @@ impl History {
         History {}
     }
 
-    /// One moment more, at which the disk stands as its image does.
+    /// Returns the history with one more moment: the state of this image.
     pub fn and(&self, _image: &Image) -> History
         ensures { result.past
-            ≡ standing_of _image.now.sectors.items _image.now.loose.items ∷ self.now.past }
+            ≡ past_state _image.now.sectors.items _image.now.dirty.items ∷ self.now.past }
     {
         History {}
     }
-    /// The moments while the disk grows from one image to a larger one.
+    /// Returns the history with the moments during a growth from one image to a larger one.
     pub fn and_growth(&self, _image: &Image, _grown: &Image) -> History
-        ensures { result.past ≡ growth _image.now.sectors.items _image.now.loose.items
+        ensures { result.past ≡ growth _image.now.sectors.items _image.now.dirty.items
             (length _grown.now.sectors.items - length _image.now.sectors.items) ++ self.now.past }
     {
         History {}

@@ -1,4 +1,4 @@
-// The sectors of an image, of which memory holds those up to the last one that was put there.
+// The sectors of an image. Memory holds only those up to the last one that was put there.
 ghost use Rattle.std.specs.Prelude.{◌≡◌, ◌+◌, ◌<◌, ◌≤◌, ◌^◌, ◌++◌, ℕ, List, [], true, length};
 ghost use Rattle.std.specs.Prelude.{replicate, slice_set, slice_index_or, take, IfOk};
 ghost use Rattle.disk.specs.Growth.{grown_to, zero_sectors};
@@ -6,9 +6,10 @@ ghost use Rattle.disk.specs.Growth.{grown_to, zero_sectors};
 use std::alloc::{AllocError, Global};
 use std::marker::Model;
 
-/// A number of sectors. The first ones are kept in memory, and those behind them are zeros. It asks
-/// for room for all of them when it is made, which the system gives page by page as it is used: so
-/// no later call needs memory, and what was never put takes none.
+/// A list of sectors. The first ones are kept in memory, and those behind them are zeros.
+///
+/// It reserves room for all of them when it is made, and the system provides the pages as they are
+/// used. So no later call allocates, and sectors that were never put take no memory.
 #[derive(Drop)]
 pub struct Sectors {
     kept: Vec<[u8; 512]>,
@@ -25,14 +26,14 @@ impl Model for Sectors {
     ghost invariant = { HasRoom };
 }
 
-/// So many sectors of zeros.
+/// Returns `count` sectors of zeros.
 fn zeros(alloc: Global, count: u32) -> Result<Vec<[u8; 512]>, AllocError>
     ensures { IfOk result (λ sectors. sectors.items ≡ zero_sectors count) }
 {
     vec![in alloc; [0; 512]; count as usize]
 }
 
-/// Some sectors, and behind them others.
+/// Returns the sectors of `front` followed by those of `behind`.
 fn joined(
     alloc: Global,
     front: &[[u8; 512]],
@@ -54,7 +55,7 @@ fn is_zero(sector: &[u8; 512]) -> bool
 }
 
 impl Sectors {
-    /// So many sectors of zeros, none of which is kept.
+    /// Returns `count` sectors of zeros, none of them kept.
     pub fn blank(alloc: Global, count: u32) -> Result<Sectors, AllocError>
         ensures items { IfOk result (λ sectors. sectors.items ≡ zero_sectors count) }
     {
@@ -62,7 +63,7 @@ impl Sectors {
         Ok(Sectors { kept, count })
     }
 
-    /// These sectors, all of them kept.
+    /// Returns a copy of these sectors, all of them kept.
     pub fn of(alloc: Global, sectors: &[[u8; 512]]) -> Result<Sectors, AllocError>
         requires { length sectors.now < 2 ^ 32 }
         ensures items { IfOk result (λ all. all.items ≡ sectors.now) }
@@ -75,8 +76,8 @@ impl Sectors {
         })
     }
 
-    /// The same sectors, with zeros behind them until there are so many. It takes memory for the
-    /// kept ones.
+    /// Returns the same sectors, followed by zeros up to `count` sectors. It copies only the kept
+    /// ones.
     pub fn grown(&self, alloc: Global, count: u32) -> Result<Sectors, AllocError>
         requires { length self.now.items ≤ count }
         ensures items { IfOk result (λ all. all.items ≡ grown_to count self.now.items) }
@@ -86,7 +87,7 @@ impl Sectors {
         Ok(Sectors { kept, count })
     }
 
-    /// All of them, also the zeros behind the kept ones.
+    /// Returns a copy of all sectors, including the zeros behind the kept ones.
     pub fn copied(&self, alloc: Global) -> Result<Vec<[u8; 512]>, AllocError>
         ensures { IfOk result (λ all. all.items ≡ self.now.items) }
     {
@@ -100,7 +101,7 @@ impl Sectors {
         self.count
     }
 
-    /// The sectors that are kept.
+    /// Returns the kept sectors.
     pub fn kept(&self) -> &[[u8; 512]]
         ensures kept { length result.now ≡ self.now.kept }
         ensures first { result.now ≡ take self.now.kept self.now.items }
@@ -119,7 +120,7 @@ impl Sectors {
         }
     }
 
-    /// Keeps the sectors up to this one.
+    /// Keeps the sectors up to and including sector `n`.
     pub fn keep(&mut self, n: usize)
         requires { n < length self.old.items }
         ensures items { self.new.items ≡ self.old.items }
@@ -131,7 +132,7 @@ impl Sectors {
         }
     }
 
-    /// The sector gets this content.
+    /// Sets the content of sector `n`, and keeps it.
     pub fn put(&mut self, n: usize, sector: &[u8; 512])
         requires { n < length self.old.items }
         ensures items { self.new.items ≡ slice_set self.old.items n sector.now }
@@ -141,7 +142,8 @@ impl Sectors {
         self.kept[n] = *sector;
     }
 
-    /// The same, but zeros are kept only before sectors that are.
+    /// Sets the content of sector `n`. If it is zeros and lies behind the kept sectors, it is not
+    /// kept.
     pub fn put_sparsely(&mut self, n: usize, sector: &[u8; 512])
         requires { n < length self.old.items }
         ensures items { self.new.items ≡ slice_set self.old.items n sector.now }

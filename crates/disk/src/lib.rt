@@ -1,4 +1,4 @@
-//! A disk of sectors of 512 bytes: what a read gives, and what a crash may leave.
+//! A disk of sectors of 512 bytes: what reads give, and what a crash may leave.
 #![tactic(auto)]
 
 mod disk;

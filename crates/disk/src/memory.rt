@@ -1,35 +1,34 @@
-// A disk in memory, whose failures and stop are planned, and which can be crashed.
+// A disk in memory with planned failures and crashes.
 ghost use Rattle.std.specs.Prelude.{None, ◌≡◌, ◌*◌, ◌/◌, ◌<◌, ◌≤◌, ◌↔◌, ◌^◌, ℕ, Bool, List, []};
 ghost use Rattle.std.specs.Prelude.{true, false, length, replicate, slice_set, slice_index_or};
 ghost use Rattle.std.specs.Prelude.{◌++◌, take, drop};
 ghost use Rattle.std.specs.Prelude.{OnOk, OnErr, IfOk, IsErrOf};
-ghost use Rattle.disk.specs.Disk.{image_of, IsFirm, IsSector, MayLeave, Elapses, HasCause};
+ghost use Rattle.disk.specs.Disk.{image_of, IsSynced, IsSector, MayLeave, Elapses, HasCause};
 
 use crate::history::History;
 use crate::image::Image;
 use crate::plan::Schedule;
-use crate::storing::copy_loose;
+use crate::storing::copy_dirty;
 use crate::{DiskFault, GrowingDisk, GrowthFault, Plan, SectorDisk};
 use std::alloc::{AllocError, Global};
 use std::marker::Model;
 
-/// What a crash leaves in each loose sector.
+/// What a crash leaves in each dirty sector.
 #[derive(Clone, Copy, Debug, PartialEq, Eq)]
 pub enum Torn {
-    /// What was there at the last successful sync.
+    /// The content at the last successful sync.
     Old,
-    /// What the last write was to put there, failed or not.
+    /// The content of the last write, failed or not.
     New,
-    /// This byte 512 times.
+    /// This byte, 512 times.
     Fill(u8),
-    /// So many first bytes of what the last write was to put there, failed or not, and behind them
-    /// what was there at the last successful sync. 512 and more leave what [`New`](Torn::New)
-    /// leaves.
+    /// This number of first bytes of the last write, failed or not, and behind them the content at
+    /// the last successful sync. 512 or more is the same as [`New`](Torn::New).
     Cut(u16),
 }
 
-/// A disk in memory. Its calls fail by a [`Plan`], and [`crash`](MemDisk::crash) gives what a power
-/// cut would leave. It takes all its memory when it is made.
+/// A disk in memory. Its calls fail by a [`Plan`], and [`crash`](MemDisk::crash) returns what a
+/// power cut would leave. Only its constructors, [`crash`](MemDisk::crash) and `grow` allocate.
 pub struct MemDisk {
     image: Image,
     synced: Vec<[u8; 512]>,
@@ -38,7 +37,8 @@ pub struct MemDisk {
     history: History,
 }
 
-// Not derived: each caller that drops one would prove again how its parts are dropped.
+// Not derived: with a derived `Drop`, each caller that drops a disk would have to prove again how
+// its parts are dropped.
 impl Drop for MemDisk {
     fn drop(self) {
         let MemDisk {
@@ -79,20 +79,20 @@ impl SectorDisk for MemDisk {
     fn read(&mut self, n: u32, sector: &mut [u8; 512]) -> Result<(), DiskFault>
         ensures content { OnOk result (slice_index_or self.old.reads n [] ≡ sector.new) }
         ensures same_reads { self.new.reads ≡ self.old.reads }
-        ensures same_loose { self.new.loose ≡ self.old.loose }
+        ensures same_dirty { self.new.dirty ≡ self.old.dirty }
         ensures time { Elapses (disk_of_memory self.old) (disk_of_memory self.new) }
         ensures beyond { IsErrOf result DiskFault.NoSuchSector ↔ (length self.old.reads ≤ n) }
         ensures unchanged { IsErrOf result DiskFault.NoSuchSector → self.new ≡ self.old }
         ensures untouched { IsErrOf result DiskFault.NoSuchSector → sector.new ≡ sector.old }
         ensures cause { HasCause self.old.counts.failures self.new.counts.failures result }
 
-        // by the plan
+        // it fails by the plan
         ensures planned { n < length self.old.reads →
             (IsErrOf result DiskFault.Device ↔ (fails self.old.counts ≡ true)) }
         ensures counts { n < length self.old.reads →
             self.new.counts ≡ operation_counted self.old.counts }
 
-        // for a crash
+        // what `crash` uses
         ensures same_synced { self.new.synced ≡ self.old.synced }
         ensures same_attempted { self.new.attempted ≡ self.old.attempted }
     {
@@ -111,20 +111,20 @@ impl SectorDisk for MemDisk {
         ensures written { OnOk result (self.new.reads ≡ slice_set self.old.reads n sector.now) }
         ensures elsewhere { self.new.reads ≡ slice_set self.old.reads n
             (slice_index_or self.new.reads n []) }
-        ensures loosened { self.new.loose ≡ slice_set self.old.loose n true }
+        ensures loosened { self.new.dirty ≡ slice_set self.old.dirty n true }
         ensures time { Elapses (disk_of_memory self.old) (disk_of_memory self.new) }
         ensures beyond { IsErrOf result DiskFault.NoSuchSector ↔ (length self.old.reads ≤ n) }
         ensures unchanged { IsErrOf result DiskFault.NoSuchSector → self.new ≡ self.old }
         ensures cause { HasCause self.old.counts.failures self.new.counts.failures result }
 
-        // by the plan
+        // it fails by the plan
         ensures planned { n < length self.old.reads →
             (IsErrOf result DiskFault.Device ↔ (write_fails self.old.counts ≡ true)) }
         ensures counts { n < length self.old.reads →
             self.new.counts ≡ write_counted self.old.counts }
         ensures failed { OnErr result (self.new.reads ≡ self.old.reads) }
 
-        // for a crash; at every exit
+        // what `crash` uses, at every exit
         ensures same_synced { self.new.synced ≡ self.old.synced }
         ensures attempted { self.new.attempted ≡ slice_set self.old.attempted n sector.now }
     {
@@ -134,7 +134,7 @@ impl SectorDisk for MemDisk {
         }
         self.history = self.history.and(&self.image);
         self.attempted[place] = *sector;
-        self.image.loosen(n);
+        self.image.mark_dirty(n);
         if self.schedule.write_fails() {
             return Err(DiskFault::Device);
         }
@@ -144,20 +144,20 @@ impl SectorDisk for MemDisk {
 
     #[tactic(auto, unfolding(crate::specs::Disk::left_since, crate::specs::Disk::moment))]
     fn sync(&mut self) -> Result<(), DiskFault>
-        ensures firm { OnOk result (IsFirm self.new.loose) }
-        ensures err { OnErr result (self.new.loose ≡ self.old.loose) }
+        ensures in_sync { OnOk result (IsSynced self.new.dirty) }
+        ensures err { OnErr result (self.new.dirty ≡ self.old.dirty) }
         ensures same_reads { self.new.reads ≡ self.old.reads }
-        ensures crash { (image : List (List ℕ)) → MayLeave self.new.reads self.new.loose image →
-            MayLeave self.old.reads self.old.loose image }
+        ensures crash { (image : List (List ℕ)) → MayLeave self.new.reads self.new.dirty image →
+            MayLeave self.old.reads self.old.dirty image }
         ensures time { Elapses (disk_of_memory self.old) (disk_of_memory self.new) }
         ensures there { IsErrOf result DiskFault.NoSuchSector → ⊥ }
         ensures cause { HasCause self.old.counts.failures self.new.counts.failures result }
 
-        // by the plan
+        // it fails by the plan
         ensures planned { IsErrOf result DiskFault.Device ↔ (fails self.old.counts ≡ true) }
         ensures counts { self.new.counts ≡ operation_counted self.old.counts }
 
-        // for a crash
+        // what `crash` uses
         ensures synced { OnOk result (self.new.synced ≡ self.old.reads) }
         ensures not_synced { OnErr result (self.new.synced ≡ self.old.synced) }
         ensures same_attempted { self.new.attempted ≡ self.old.attempted }
@@ -166,7 +166,7 @@ impl SectorDisk for MemDisk {
             return Err(DiskFault::Device);
         }
         self.history = self.history.and(&self.image);
-        let stored = copy_loose(&mut self.synced, &self.image);
+        let stored = copy_dirty(&mut self.synced, &self.image);
         self.image.settle(stored);
         Ok(())
     }
@@ -182,30 +182,30 @@ impl GrowingDisk for MemDisk {
     #[tactic(auto, unfolding(crate::specs::Disk::left_since, crate::specs::Disk::moment))]
     fn grow(&mut self, alloc: Global, sectors: u32, most: u32) -> Result<(), GrowthFault>
         ensures grown { OnOk result (self.new.reads ≡ grown_to sectors self.old.reads) }
-        ensures firm { OnOk result (IsFirm self.new.loose) }
+        ensures in_sync { OnOk result (IsSynced self.new.dirty) }
         ensures ok { OnOk result ((length self.old.reads ≤ sectors) × (sectors ≤ most)) }
         ensures same_reads { OnErr result (self.new.reads ≡ self.old.reads) }
-        ensures same_loose { OnErr result (self.new.loose ≡ self.old.loose) }
+        ensures same_dirty { OnErr result (self.new.dirty ≡ self.old.dirty) }
         ensures refused { IfErr result (λ fault. GrowthIsRefused fault (length self.old.reads)
             sectors most (self.old.counts.failures < self.new.counts.failures)) }
         ensures unchanged { IfErr result (λ fault. is_of_device fault ≡ false →
             self.new ≡ self.old) }
         ensures any_moment { LeavesOnly (disk_of_memory self.old) (disk_of_memory self.new)
-            (MayLeaveGrown self.old.reads self.old.loose (sectors - length self.old.reads)) }
+            (MayLeaveGrown self.old.reads self.old.dirty (sectors - length self.old.reads)) }
         ensures still { (t : ℕ) (image : List (List ℕ)) → t ≤ moment (disk_of_memory self.old) →
             left_since (disk_of_memory self.old) t image →
             left_since (disk_of_memory self.new) t image }
         ensures failures { self.old.counts.failures ≤ self.new.counts.failures }
         ensures no_failure { OnOk result (self.new.counts.failures ≡ self.old.counts.failures) }
 
-        // by the plan; it is one operation
+        // it fails by the plan, and counts as one operation
         ensures planned { IsErrOf result GrowthFault.Device → fails self.old.counts ≡ true }
         ensures not_planned { OnOk result (fails self.old.counts ≡ false) }
         ensures counts { OnOk result (self.new.counts ≡ operation_counted self.old.counts) }
         ensures failed_counts { IsErrOf result GrowthFault.Device →
             self.new.counts ≡ operation_counted self.old.counts }
 
-        // for a crash
+        // what `crash` uses
         ensures synced { OnOk result (self.new.synced ≡ self.new.reads) }
         ensures not_synced { OnErr result (self.new.synced ≡ self.old.synced) }
         ensures attempted { OnOk result (self.new.attempted ≡ self.new.reads) }
@@ -235,27 +235,27 @@ impl MemDisk {
     ghost use Rattle.disk.specs.Plans.{started};
     ghost use Rattle.disk.specs.Memory.{crash_content, IsCrashed};
 
-    /// A disk of this many sectors of zeros, with nothing planned.
-    /// It answers `AllocError` where memory is refused.
+    /// Makes a disk of this many sectors of zeros, with no planned failure. Returns `AllocError` if
+    /// an allocation fails.
     pub fn blank(alloc: Global, sectors: u32) -> Result<MemDisk, AllocError>
         ensures reads { IfOk result (λ disk. disk.reads ≡ replicate sectors (replicate 512 0)) }
         ensures synced { IfOk result (λ disk. disk.synced ≡ disk.reads) }
         ensures attempted { IfOk result (λ disk. disk.attempted ≡ disk.reads) }
-        ensures firm { IfOk result (λ disk. IsFirm disk.loose) }
+        ensures in_sync { IfOk result (λ disk. IsSynced disk.dirty) }
         ensures counts { IfOk result
             (λ disk. disk.counts ≡ started (record { fail = None; stop = None })) }
     {
         MemDisk::on(alloc, Image::blank(alloc, sectors)?, Plan::default())
     }
 
-    /// A disk that holds the whole sectors of these bytes, fewer than 2^32, all of them synced.
-    /// It answers `AllocError` where memory is refused.
+    /// Makes a disk of the whole sectors of these bytes, fewer than 2^32, all of them synced.
+    /// Returns `AllocError` if an allocation fails.
     pub fn of(alloc: Global, image: Vec<u8>, plan: Plan) -> Result<MemDisk, AllocError>
         requires { length image.items / 512 < 2 ^ 32 }
         ensures reads { IfOk result (λ disk. disk.reads ≡ image_of image.items) }
         ensures synced { IfOk result (λ disk. disk.synced ≡ disk.reads) }
         ensures attempted { IfOk result (λ disk. disk.attempted ≡ disk.reads) }
-        ensures firm { IfOk result (λ disk. IsFirm disk.loose) }
+        ensures in_sync { IfOk result (λ disk. IsSynced disk.dirty) }
         ensures counts { IfOk result (λ disk. disk.counts ≡ started plan) }
     {
         let sectors = Image::of(alloc, &image)?;
@@ -267,7 +267,7 @@ impl MemDisk {
         ensures reads { IfOk result (λ disk. disk.reads ≡ image.sectors.items) }
         ensures synced { IfOk result (λ disk. disk.synced ≡ image.sectors.items) }
         ensures attempted { IfOk result (λ disk. disk.attempted ≡ image.sectors.items) }
-        ensures loose { IfOk result (λ disk. disk.loose ≡ image.loose.items) }
+        ensures dirty { IfOk result (λ disk. disk.dirty ≡ image.dirty.items) }
         ensures counts { IfOk result (λ disk. disk.counts ≡ started plan) }
     {
         let synced = image.sectors.copied(alloc)?;
@@ -281,12 +281,13 @@ impl MemDisk {
         })
     }
 
-    /// The bytes that a crash leaves now. It answers `AllocError` where memory is refused.
+    /// Returns the bytes that a crash leaves now, 512 for each sector. Returns `AllocError` if an
+    /// allocation fails.
     pub fn crash(&self, alloc: Global, torn: Torn) -> Result<Vec<u8>, AllocError>
         ensures size { IfOk result (λ bytes. length bytes.items ≡ length self.now.reads * 512) }
         ensures image { IfOk result (λ bytes. IsCrashed torn self.now (image_of bytes.items)) }
         ensures left { IfOk result
-            (λ bytes. MayLeave self.now.reads self.now.loose (image_of bytes.items)) }
+            (λ bytes. MayLeave self.now.reads self.now.dirty (image_of bytes.items)) }
     {
         let count = self.image.count() as usize;
         let mut bytes = Vec::with_capacity(alloc, count * 512)?;
@@ -296,13 +297,13 @@ impl MemDisk {
         Ok(bytes)
     }
 
-    /// What a crash leaves in a sector.
+    /// Returns what a crash leaves in sector `n`.
     fn left_in(&self, torn: Torn, n: usize) -> [u8; 512]
         requires { n < length self.now.reads }
         ensures content { result ≡ crash_content torn self.now n }
         ensures whole { IsSector result }
     {
-        if !self.image.loose[n] {
+        if !self.image.dirty[n] {
             return self.image.sectors.get(n);
         }
         match torn {
@@ -314,7 +315,7 @@ impl MemDisk {
     }
 }
 
-/// So many first bytes of one sector, and the rest of another.
+/// Returns the first `count` bytes of `one`, followed by the rest of `other`.
 fn cut(count: usize, one: &[u8; 512], other: &[u8; 512]) -> [u8; 512]
     ensures { result ≡ take count one.now ++ drop count other.now }
 {

@@ -1,4 +1,4 @@
-//! A disk over a file, piece by piece, over whatever stands for the file.
+//! The parts of a disk over a file, generic in the file type so that tests can replace it.
 
 pub use crate::file::load_from;
 pub use crate::image::Image;

@@ -1,22 +1,23 @@
-// Which operations of a disk in memory fail.
+// The planned failures of a disk in memory.
 ghost use Rattle.std.specs.Prelude.{◌≡◌};
 
 use crate::tally::Tally;
 use std::marker::Model;
 
-/// Which operations of a [`MemDisk`](crate::MemDisk) answer `Device`. The operations are its reads,
-/// writes and syncs. A call that answers `NoSuchSector` is no operation. A failure has no effect on
-/// what a read gives.
+/// The operations of a [`MemDisk`](crate::MemDisk) that fail with `Device`.
+///
+/// Each read, write, sync and growth counts as one operation, unless it is refused for another
+/// cause: `NoSuchSector`, `Fewer`, `TooMany` or `NoMemory`. A failure does not change what reads
+/// give.
 #[derive(Clone, Copy, Debug, Default, PartialEq, Eq)]
 pub struct Plan {
-    /// The operation of this number fails, counted from 0.
+    /// The number of an operation that fails, counted from 0.
     pub fail: Option<u64>,
-    /// The write of this number fails, counted from 0, and every operation after it.
+    /// The number of a write, counted from 0, that fails together with every operation after it.
     pub stop: Option<u64>,
 }
 
-/// The plan, and how far the disk has come in it. The counts stay at the largest number when they
-/// get there.
+/// A plan, and the numbers of operations and writes so far. The counts saturate at 2^64 - 1.
 #[derive(Drop)]
 pub struct Schedule {
     plan: Plan,
@@ -65,7 +66,7 @@ impl Schedule {
         }
     }
 
-    /// Counts an operation, and says whether it fails.
+    /// Counts an operation that is not a write, and returns whether it fails.
     pub fn fails(&mut self) -> bool
         ensures fails { result ≡ fails self.old }
         ensures counts { self.new ≡ operation_counted self.old }
@@ -78,7 +79,7 @@ impl Schedule {
         fails
     }
 
-    /// Counts a write, which is an operation too.
+    /// Counts a write, which is also an operation, and returns whether it fails.
     pub fn write_fails(&mut self) -> bool
         ensures fails { result ≡ write_fails self.old }
         ensures counts { self.new ≡ write_counted self.old }

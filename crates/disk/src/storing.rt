@@ -1,4 +1,4 @@
-// What makes sectors firm.
+// Writing dirty sectors to the device.
 
 ghost use Rattle.std.specs.Prelude.{◌≡◌, ◌≤◌, ◌<◌, ◌*◌, ℕ, [], false, not, length, slice_index_or};
 ghost use Rattle.disk.specs.FileDisks.{IsNextRun};
@@ -8,17 +8,17 @@ use std::fs::OpenFile;
 use std::io;
 use std::os::unix::fs::FileExt;
 
-/// The loose sectors of an image have reached its device. It is made here alone, so that who takes
-/// the sectors for firm has had them stored.
+/// A token: the dirty sectors of an image have reached the device. Only this module makes one, so
+/// code that marks the sectors as synced must have stored them.
 #[derive(Drop)]
 pub struct Stored(());
 
-/// Writes the loose sectors to the file, and waits until they have reached the device. It looks at
-/// the sectors from the first loose one to the last.
+/// Writes the dirty sectors to the file, and waits until they have reached the device. It scans the
+/// span from the first dirty sector to the last.
 pub fn store<F: FileExt + OpenFile>(file: &F, image: &Image) -> io::Result<Stored> {
     let mut from = image.first;
     while from < image.end {
-        let (first, behind) = next_run(&image.loose, from, image.end);
+        let (first, behind) = next_run(&image.dirty, from, image.end);
         store_run(file, &image.sectors.kept()[first..behind], first as u32)?;
         from = behind;
     }
@@ -26,7 +26,8 @@ pub fn store<F: FileExt + OpenFile>(file: &F, image: &Image) -> io::Result<Store
     Ok(Stored(()))
 }
 
-/// The same, and then the file gets its new size, of so many sectors, also on the device.
+/// Stores the dirty sectors, then sets the file's size to `sectors` sectors and waits until the
+/// size has reached the device.
 pub fn lengthen<F: FileExt + OpenFile>(
     file: &F,
     image: &Image,
@@ -37,13 +38,14 @@ pub fn lengthen<F: FileExt + OpenFile>(
     Ok(stored)
 }
 
-/// The file gets this size, of so many sectors, also on the device.
+/// Sets the file's size to `sectors` sectors, and waits until it has reached the device.
 fn resize<F: OpenFile>(file: &F, sectors: u32) -> io::Result<()> {
     file.set_len(offset(sectors))?;
     file.sync_all()
 }
 
-/// What a sync does of a disk whose file may be longer than it should be: its size comes first.
+/// Stores the dirty sectors for a sync. If the file may be longer than the image, it first restores
+/// the file's size.
 pub fn shorten<F: FileExt + OpenFile>(file: &F, image: &Image, longer: bool) -> io::Result<Stored> {
     if longer {
         resize(file, image.count())?;
@@ -51,7 +53,7 @@ pub fn shorten<F: FileExt + OpenFile>(file: &F, image: &Image, longer: bool) -> 
     store(file, image)
 }
 
-/// Writes sectors that lie side by side, by one call, where there are any.
+/// Writes adjacent sectors by one system call, and makes no call if there are none.
 fn store_run<F: FileExt>(file: &F, sectors: &[[u8; 512]], first: u32) -> io::Result<()> {
     if sectors.is_empty() {
         return Ok(());
@@ -59,50 +61,51 @@ fn store_run<F: FileExt>(file: &F, sectors: &[[u8; 512]], first: u32) -> io::Res
     file.write_all_at(sectors.as_flattened(), offset(first))
 }
 
-/// What a store is where there is no device: the loose sectors of the image are copied.
-pub fn copy_loose(synced: &mut [[u8; 512]], image: &Image) -> Stored
+/// Stores the dirty sectors of a disk without a device: copies them to `synced`.
+pub fn copy_dirty(synced: &mut [[u8; 512]], image: &Image) -> Stored
     requires each { length synced.old ≡ length image.now.sectors.items }
-    requires firm { (n : ℕ) → slice_index_or image.now.loose.items n false ≡ false →
+    requires in_sync { (n : ℕ) → slice_index_or image.now.dirty.items n false ≡ false →
         slice_index_or synced.old n [] ≡ slice_index_or image.now.sectors.items n [] }
     ensures { synced.new ≡ image.now.sectors.items }
 {
     for n in image.first..image.end {
-        if image.loose[n] {
+        if image.dirty[n] {
             synced[n] = image.sectors.get(n);
         }
     }
     Stored(())
 }
 
-/// The place, from one on and up to an end, from which on the sectors are no longer all loose, or
-/// all firm; else the end.
-fn alike_up_to(loose: &[bool], from: usize, end: usize, is: bool) -> usize
+/// Returns the first index in `from..end` whose sector is not dirty (if `is`) or is dirty (if not
+/// `is`), or `end` if there is none.
+fn alike_up_to(dirty: &[bool], from: usize, end: usize, is: bool) -> usize
     requires order { from ≤ end }
-    requires within { end ≤ length loose.now }
+    requires within { end ≤ length dirty.now }
     ensures order { (from ≤ result) × (result ≤ end) }
-    ensures alike { (n : ℕ) → from ≤ n → n < result → slice_index_or loose.now n false ≡ is }
-    ensures stops { result < end → slice_index_or loose.now result false ≡ not is }
+    ensures alike { (n : ℕ) → from ≤ n → n < result → slice_index_or dirty.now n false ≡ is }
+    ensures stops { result < end → slice_index_or dirty.now result false ≡ not is }
 {
     for n in from..end {
-        if loose[n] != is {
+        if dirty[n] != is {
             return n;
         }
     }
     end
 }
 
-/// Where the next run of loose sectors begins, from a place on and up to an end, and where it is
-/// over: just behind its last sector. Both are the end where there is none.
-fn next_run(loose: &[bool], from: usize, end: usize) -> (usize, usize)
+/// Returns the first run of adjacent dirty sectors in `from..end`: the index of its first sector,
+/// and the index behind its last one. Both are `end` if there is none.
+fn next_run(dirty: &[bool], from: usize, end: usize) -> (usize, usize)
     requires order { from ≤ end }
-    requires within { end ≤ length loose.now }
-    ensures { IsNextRun loose.now from end result.0 result.1 }
+    requires within { end ≤ length dirty.now }
+    ensures { IsNextRun dirty.now from end result.0 result.1 }
 {
-    let first = alike_up_to(loose, from, end, false);
-    (first, alike_up_to(loose, first, end, true))
+    let first = alike_up_to(dirty, from, end, false);
+    (first, alike_up_to(dirty, first, end, true))
 }
 
-/// Where a sector begins in a file, in bytes; of the number of sectors that is the file's size.
+/// Returns the offset of a sector in a file, in bytes. For the number of sectors, this is the
+/// file's size.
 pub fn offset(n: u32) -> u64
     ensures { result ≡ n * 512 }
 {

@@ -1,11 +1,11 @@
-// A count that only proofs read.
+// A count that exists only in proofs.
 ghost use Rattle.std.specs.Prelude.{◌≡◌, ◌+◌, ℕ};
 ghost use Rattle.std.specs.Borrow.{ftrue};
 
 use std::marker::Model;
 
-/// How often a device has failed. No machine number could count that without an end, so the count
-/// is in the proofs alone.
+/// The number of failures of a device. The count is unbounded, so no machine integer can hold it,
+/// and it exists only in proofs.
 #[derive(Drop)]
 pub struct Tally {
     pub ghost count: { ℕ },

@@ -1,5 +1,5 @@
--- The order of messages, and bags of them. Nothing but the first part knows the fields of a
--- message: it shows a total order whose equals are equal, and which goes by time first.
+-- The order of messages, and bags of them. Only the first part depends on the fields of a message:
+-- it shows that the order is total, agrees with equality, and compares times first.
 use Rattle.std.proofs.Common.{◌≡◌, refl, Ordering, Less, Equal, Greater, ℕ, ◌<◌, sym, nat_cmp, arith, true, false, is_eq, is_lt, ap, ◌↔◌, ◌∙◌, ◌≤◌, inl, inr, ◌⊎◌, ◌+◌, List, [], ◌∷◌, ◌++◌, subst, zero, suc, length, get_or, Contains, ap₂, flat_map, set, min}
 use Rattle.std.proofs.lemmas.Bool.{false≢true, true≢false, both_ways, false_from_ne_true, cases_lt, cases_Bool, cond_both}
 use Rattle.std.proofs.lemmas.Cmp.{ranked, by_ranked, tied_itself}
@@ -56,7 +56,7 @@ messages_are_ordered = record {
   by_time = cmp_earlier;
 }
 
--- 2. What the rest uses of it
+-- 2. The facts of the order that the rest uses
 
 from_Equal : (o : Ordering) → is_eq o ≡ true → o ≡ Equal
 from_Equal Less e = absurd (false≢true e)
@@ -88,7 +88,7 @@ is_before_itself x = ap is_lt (tied_itself messages_are_total x)
 pub is_before_trans : (x y z : Message) → is_before x y ≡ true → is_before y z ≡ true → is_before x z ≡ true
 is_before_trans x y z e f = ap is_lt (messages_are_total.trans x y z (from_Less _ e) (from_Less _ f))
 
--- of two messages that are each at most the other
+-- two messages that are each at most the other are the same
 pub same_from_at_most : (x y : Message) → IsAtMost x y → IsAtMost y x → x ≡ y
 same_from_at_most x y e f =
     cmp_equal x y (neither_way (message_cmp x y) f (ap is_lt (sym (messages_are_total.antisymm y x)) ∙ e))
@@ -105,7 +105,7 @@ earlier_before x y h = ap is_lt (cmp_earlier x y h)
 pub time_from_at_most : (x y : Message) → IsAtMost x y → x.time ≤ y.time
 time_from_at_most x y e = elim (cases_lt y.time x.time) [ inl h ↦ absurd (both_ways (is_before y x) e (earlier_before y x h)) | inr h ↦ h ]
 
--- one of two is before, or the other is at most it
+-- x is before y, or y is at most x
 pub before_or_at_most : (x y : Message) → (is_before x y ≡ true) ⊎ IsAtMost y x
 before_or_at_most x y = cases_Bool (is_before x y)
 
@@ -154,7 +154,7 @@ pub copies-add_all : (x : Message) (ms xs : List Message) → copies x (add_all 
 copies-add_all x [] xs = omega arith
 copies-add_all x (m ∷ ms) xs = omega (arith, copies-add_all x ms (add m xs), copies-add x m xs)
 
--- where m is in it
+-- if m is in the list
 pub copies-remove_one : (x m : Message) (xs : List Message) → 1 ≤ copies m xs → one_if_same x m + copies x (remove_one m xs) ≡ copies x xs
 copies-remove_one x m [] h = absurd (omega arith)
 copies-remove_one x m (y ∷ ys) h =
@@ -172,7 +172,7 @@ remove_one_none m (y ∷ ys) h =
     (λ e. absurd (let f : one_if_same m y ≡ 1 = rw e in omega arith))
     (λ _. ap (λ zs. y ∷ zs) (remove_one_none m ys (omega arith)))
 
--- what holds of every message of a list, and what is in it
+-- a property of every message of a list holds of a message that is in it
 pub Every-member : (P : Message → Type 0) (xs : List Message) (x : Message) → Every P xs → 1 ≤ copies x xs → P x
 Every-member P [] x h n = absurd (omega arith)
 Every-member P (y ∷ ys) x h n = elim (one_if_same_cases x y) [
@@ -193,7 +193,7 @@ none_from_Every P xs x h n = elim (cases_lt 0 (copies x xs)) [
   | inr k ↦ omega arith
 ]
 
--- std's word for it
+-- from std's `Contains`
 pub copies-from_Contains : (xs : List Message) (x : Message) → Contains xs x → 1 ≤ copies x xs
 copies-from_Contains xs x (k, l, e) = at_place xs k l e
   where
@@ -205,7 +205,7 @@ copies-from_Contains xs x (k, l, e) = at_place xs k l e
 pub Contains-from_copies : (xs : List Message) (x : Message) → 1 ≤ copies x xs → Contains xs x
 Contains-from_copies xs x n = Every-member (Contains xs) xs x (recursion_from_All (Contains xs) xs (All-contains_itself xs)) n
 
--- a list of which no message has a copy
+-- a list without a copy of any message is empty
 pub empty_from_copies : (xs : List Message) → ((x : Message) → copies x xs ≡ 0) → xs ≡ []
 empty_from_copies [] h = refl
 empty_from_copies (y ∷ ys) h = absurd (omega (arith, h y, one_if_same_itself y))
@@ -259,7 +259,7 @@ IsAscending-remove_one m (x ∷ xs) h =
       IsAscending-remove_one m xs h.1,
     ))
 
--- where all of them are in it
+-- if the bag has all of them
 pub copies-remove_all : (y : Message) (ms bag : List Message) → ((x : Message) → copies x ms ≤ copies x bag) → copies y ms + copies y (remove_all ms bag) ≡ copies y bag
 copies-remove_all y [] bag h = omega arith
 copies-remove_all y (m ∷ ms) bag h =
@@ -271,7 +271,7 @@ pub IsAscending-remove_all : (ms bag : List Message) → IsAscending bag → IsA
 IsAscending-remove_all [] bag h = h
 IsAscending-remove_all (m ∷ ms) bag h = IsAscending-remove_all ms (remove_one m bag) (IsAscending-remove_one m bag h)
 
--- an ascending list is known by its copies
+-- the numbers of copies determine an ascending list
 pub same_ascending : (xs ys : List Message) → IsAscending xs → IsAscending ys → ((x : Message) → copies x xs ≡ copies x ys) → xs ≡ ys
 same_ascending [] ys h k e = sym (empty_from_copies ys (λ x. sym (e x)))
 same_ascending (x ∷ xs) [] h k e = empty_from_copies (x ∷ xs) e
@@ -282,7 +282,7 @@ same_ascending (x ∷ xs) (y ∷ ys) h k e =
     let rest : xs ≡ ys = same_ascending xs ys h.1 k.1 (λ z. let f : one_if_same z x ≡ one_if_same z y = ap (one_if_same z) same in omega (arith, e z)) in
     ap₂ (λ (u : Message) us. u ∷ us) same rest
 
--- an ascending list in which this is and which has nothing smaller begins with it
+-- an ascending list that has x and nothing smaller begins with x
 pub least_is_head : (x : Message) (xs : List Message) → IsAscending xs → 1 ≤ copies x xs → ((y : Message) → 1 ≤ copies y xs → IsAtMost x y) → xs ≡ x ∷ remove_one x xs
 least_is_head x [] h n f = absurd (omega arith)
 least_is_head x (y ∷ ys) h n f =
@@ -297,7 +297,7 @@ module _ {X : Type 0} (f : X → List Message) where
   pub copies-flat_map-append : (x : Message) (xs ys : List X) → copies x (flat_map f (xs ++ ys)) ≡ copies x (flat_map f xs) + copies x (flat_map f ys)
   copies-flat_map-append x xs ys = ap (copies x) (flat_map-append f xs ys) ∙ copies-append x (flat_map f xs) (flat_map f ys)
 
-  -- after a write of one element
+  -- after one element is replaced
   pub copies-flat_map-set : (x : Message) (xs : List X) (i : ℕ) (y d : X) → i < length xs →
       copies x (flat_map f (set xs i y)) + copies x (f (get_or xs i d)) ≡ copies x (flat_map f xs) + copies x (f y)
   copies-flat_map-set x [] i y d h = absurd (omega arith)
@@ -310,7 +310,7 @@ module _ {X : Type 0} (f : X → List Message) where
   copies-flat_map-none x (z ∷ zs) d none =
       omega (arith, copies-append x (f z) (flat_map f zs), none zero (omega arith), copies-flat_map-none x zs d (λ j k. none (suc j) (omega arith)))
 
-  -- where at most one of the lists has it
+  -- if at most one of the lists has it
   pub copies-flat_map-one : (x : Message) (xs : List X) (i : ℕ) (d : X) → i < length xs → ((j : ℕ) → j < length xs → (j ≡ i → ⊥) → copies x (f (get_or xs j d)) ≡ 0) →
       copies x (flat_map f xs) ≡ copies x (f (get_or xs i d))
   copies-flat_map-one x [] i d h none = absurd (omega arith)

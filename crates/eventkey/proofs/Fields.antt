@@ -1,4 +1,4 @@
--- What is read of a field is what was written, and what was written is read again.
+-- A field that is read is what was written, and what was written is read back.
 use Rattle.std.proofs.Common.{◌≡◌, ℕ, zero, suc, ◌+◌, ◌^◌, ◌<◌, ◌≤◌, Bool, true, false, cond, ltb, List, [], ◌∷◌, ◌++◌, length, take, drop, Option, Some, None, refl, sym, ap, subst, ◌∙◌, append_assoc, arith, inl, inr}
 use Rattle.std.specs.List.{flat_map, AllByRecursion as Every}
 use Rattle.std.specs.Int.{w32, w64, from_be_bytes}
@@ -31,7 +31,7 @@ pub when_some : {A : Type 0} (b : Bool) (o : Option A) (y : A) → cond b o None
 when_some true o y e = (refl, e)
 when_some false o y e = absurd (none-some y e)
 
--- what a reader took from the front
+-- the reader took the text from the front and left the rest
 pub record Takes (bytes text rest : List ℕ) : Type 0 where
   pub parts : bytes ≡ text ++ rest
   pub fits : IsBytes rest
@@ -39,7 +39,7 @@ pub record Takes (bytes text rest : List ℕ) : Type 0 where
 pub Takes-then : (a x b y c : List ℕ) → Takes a x b → Takes b y c → Takes a (x ++ y) c
 Takes-then a x b y c p q = record { parts = p.parts ∙ ap (λ (t : List ℕ). x ++ t) q.parts ∙ sym (append_assoc x y c); fits = q.fits }
 
--- what is read is what is written, of the values that fit
+-- reading and writing are inverse to each other, for the values that fit
 pub record IsFormat {X : Type 0} (Fits : X → Type 0) (write : X → List ℕ) (read : Reader X) : Type 0 where
   pub takes : (bytes : List ℕ) (x : X × List ℕ) → IsBytes bytes → read bytes ≡ Some x → Takes bytes (write x.0) x.1 × Fits x.0
   pub again : (x : X) (rest : List ℕ) → Fits x → read (write x ++ rest) ≡ Some (x, rest)

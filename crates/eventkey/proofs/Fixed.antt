@@ -1,4 +1,4 @@
--- All fields of a message at once.
+-- Reading all fields of a message at their offsets.
 use Rattle.std.specs.Prelude.{nat_lt}
 use Rattle.std.proofs.Common.{◌≡◌, ℕ, ◌+◌, ◌^◌, ◌≤◌, cond, List, length, drop, Option, Some, None, refl, sym, ap, ◌∙◌, arith, inl, inr}
 use Rattle.std.proofs.lemmas.Bool.{cases_lt, cond-true, cond-false, lt-ltb, le-ltb}
@@ -7,7 +7,7 @@ use Rattle.std.proofs.lemmas.List.{length-drop, drop-drop}
 use Rattle.byteorder.specs.Endian.{big_number}
 use Rattle.eventkey.specs.Message.{Message}
 use Rattle.eventkey.specs.Reading.{number_at}
-use Rattle.eventkey.specs.Spelling.{message_at, message_in}
+use Rattle.eventkey.specs.Encoding.{message_at, message_in}
 use Rattle.eventkey.specs.Laws.{MessagesAreRead}
 use Rattle.eventkey.proofs.Fields.{bind_some}
 use Rattle.eventkey.proofs.Spellings.{message_from_time, message_from_from, message_from_number, message_from_to, message_from_a, message_from_b, message_from_c, message_from_d}
@@ -28,7 +28,7 @@ number_size n bytes x e = elim (cases_lt (length bytes) n) [
       omega (arith, length-drop n bytes))
 ]
 
--- a message that is read has 56 bytes
+-- if a message is read, there are at least 56 bytes
 message_size : (bytes : List ℕ) (x : Message × List ℕ) → message_at bytes ≡ Some x → 56 ≤ length bytes
 unfolding message_at
 message_size bytes x e =

@@ -1,4 +1,4 @@
--- What was read, where memory may have been wanted.
+-- What a call that may run out of memory read, if it succeeded.
 use Rattle.std.proofs.Common.{◌≡◌, Option, Some, None, Ok, subst}
 use Rattle.eventkey.specs.Reading.{Gives}
 

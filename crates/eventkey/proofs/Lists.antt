@@ -1,4 +1,4 @@
--- Lists: what holds of every element, ascending lists, signed messages.
+-- Lists: properties of every element, ascending lists, signed messages.
 use Rattle.std.proofs.Common.{ℕ, zero, suc, ◌+◌, ◌<◌, List, [], ◌∷◌, ◌++◌, map, flat_map, arith, length, set, get_or, sym, subst, inl, inr, ◌≡◌, true, false, ◌≤◌, refl, ap, ◌∙◌, Option, Some, None, filter, Bool, ◌==◌, eqb-true, replicate, drop}
 use Rattle.std.proofs.lemmas.Bool.{cases_Bool, cond_both, both_ways}
 use Rattle.std.proofs.lemmas.List.{drop_more}
@@ -68,7 +68,7 @@ module _ {X Y : Type 0} (P : Y → Type 0) (f : X → List Y) where
   Every-unflat_map [] h = tt
   Every-unflat_map (x ∷ xs) h = (Every-left P (f x) (flat_map f xs) h, Every-unflat_map xs (Every-right P (f x) (flat_map f xs) h))
 
--- what is in a bag that changes
+-- a property of every message of a bag, after the bag changes
 pub Every-add : (P : Message → Type 0) (m : Message) (xs : List Message) → P m → Every P xs → Every P (add m xs)
 Every-add P m xs p h = Every-from_members P (add m xs) (λ x n. elim (one_if_same_cases x m) [
   | inl e ↦ subst P (sym e.0) p
@@ -109,7 +109,7 @@ IsAscending-append (x ∷ xs) ys h k a = (
   IsAscending-append xs ys h.1 k (Every-weaker (λ (y : Message). Every (λ (z : Message). IsAtMost z y) (x ∷ xs)) (λ (y : Message). Every (λ (z : Message). IsAtMost z y) xs) (λ y p. p.1) ys a),
 )
 
--- what stands at a place and behind it
+-- a list from an index on begins with the element at the index
 pub drop_here : {X : Type 0} (xs : List X) (i : ℕ) (x : X) → i < length xs → x ≡ get_or xs i x → drop i xs ≡ x ∷ drop (i + 1) xs
 drop_here xs i x l is = drop_more xs i x l ∙ ap (λ y. y ∷ drop (i + 1) xs) (sym is)
 
@@ -119,7 +119,7 @@ drop_here xs i x l is = drop_more xs i x l ∙ ap (λ y. y ∷ drop (i + 1) xs) 
 pub after_head : (m x : Message) (xs : List Message) → IsAscending (x ∷ xs) → is_before m x ≡ true → Every (λ (y : Message). is_before m y ≡ true) xs
 after_head m x xs h e = Every-weaker (IsAtMost x) (λ (y : Message). is_before m y ≡ true) (λ y p. before_from_before m x y e p) xs h.0
 
--- the first is at most m, and of the rest none is m: then all the rest are after m
+-- if an ascending list begins with m and no other element is m, all others come after m
 pub after_last : (m : Message) (xs : List Message) → IsAscending (m ∷ xs) → copies m xs ≡ 0 → Every (λ (y : Message). is_before m y ≡ true) xs
 after_last m xs h none = Every-from_members (λ (y : Message). is_before m y ≡ true) xs (λ y n. elim (cases_Bool (is_before m y)) [
   | inl e ↦ e
@@ -207,7 +207,7 @@ pub option_map_some : {A B : Type 0} (f : A → B) (o : Option A) (y : B) → op
 option_map_some f None y e = absurd (none-some y e)
 option_map_some f (Some x) y e = (x, refl, same_Some (f x) y e)
 
--- what a test says that something is there
+-- if the test says that there is a value, there is one
 pub some_of : {X : Type 0} (o : Option X) → is_some o ≡ true → (x : X) × (o ≡ Some x)
 some_of None is = absurd (cc)
 some_of (Some x) is = (x, refl)

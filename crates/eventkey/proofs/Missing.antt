@@ -1,4 +1,4 @@
--- Where bytes are missing, nothing is read: a list of values is as long as all of them together.
+-- A list of values has the length of all of them together, so nothing is read if bytes are missing.
 use Rattle.std.specs.Prelude.{Result, Ok, Err, slice_index}
 use Rattle.std.proofs.Common.{◌≡◌, ℕ, zero, suc, ◌+◌, ◌*◌, ◌<◌, cond, Bool, List, length, drop, Some, None, sym, ap, ◌∙◌, arith, inl, inr}
 use Rattle.std.proofs.Math.Nat.{mul-zero, mul-suc}
@@ -6,7 +6,7 @@ use Rattle.std.proofs.lemmas.Bool.{cases_lt, lt-ltb}
 use Rattle.std.proofs.lemmas.List.{length-drop}
 use Rattle.std.proofs.lemmas.Option.{same_Some, none-some}
 use Rattle.eventkey.specs.Reading.{Reader, items_at, with_rest}
-use Rattle.eventkey.specs.Spelling.{made, message_at, message_in, message_read, sign_of, signed_at, signed_of, signed_read}
+use Rattle.eventkey.specs.Encoding.{made, message_at, message_in, message_read, sign_of, signed_at, signed_of, signed_read}
 use Rattle.eventkey.specs.declared.KeyFault.{KeyFault}
 use Rattle.eventkey.specs.declared.KeyFault.TheVariants.{Short}
 use Rattle.eventkey.proofs.Fields.{bind_some}
@@ -17,7 +17,7 @@ rest_is : {X : Type 0} (n : ℕ) (bytes : List ℕ) (read : Result X KeyFault) (
 rest_is n bytes (Ok y) x e = ap (λ (z : _ × List ℕ). z.1) (same_Some (y, drop n bytes) x e)
 rest_is n bytes (Err fault) x e = absurd (none-some x e)
 
--- a reader of values of n bytes each, which refuses fewer
+-- a reader of values of n bytes each, which refuses fewer bytes
 module _ {X : Type 0} (item : Reader X) (n : ℕ) (read : List ℕ → Result X KeyFault) (is : (bytes : List ℕ) → item bytes ≡ with_rest n bytes (read bytes))
     (short : (bytes : List ℕ) → length bytes < n → read bytes ≡ Err Short) where
   takes : (bytes : List ℕ) (x : X × List ℕ) → item bytes ≡ Some x → length bytes ≡ length x.1 + n

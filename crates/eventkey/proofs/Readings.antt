@@ -1,14 +1,14 @@
--- The readers of whole messages, and the reads at fixed places. Nothing here knows the fields of a
--- message.
+-- The readers of whole messages, and the reads at fixed offsets. Nothing here depends on the fields
+-- of a message.
 use Rattle.std.specs.Prelude.{nat_lt, nat_eq, IfOk, Result, Ok, Err}
 use Rattle.std.proofs.Common.{◌≡◌, ℕ, suc, ◌+◌, ◌-◌, ◌*◌, ◌^◌, ◌≤◌, cond, Bool, true, false, List, [], ◌∷◌, ◌++◌, length, take, drop, Option, Some, None, refl, sym, ap, ap₂, subst, ◌∙◌, arith, inl, inr, eqb-true}
 use Rattle.std.proofs.lemmas.Bool.{cases_lt, cases_Bool, lt-ltb, le-ltb}
 use Rattle.std.proofs.lemmas.Option.{same_Some, none-some}
 use Rattle.std.proofs.lemmas.List.{length-drop, take_all, take_at}
-use Rattle.eventkey.specs.Laws.{SignedAreRead, SignedAreSpelled, MessagesAreSpelled, SpellingsAreAsLong}
+use Rattle.eventkey.specs.Laws.{SignedAreRead, SignedAreCanonical, MessagesAreCanonical, EncodingLengths}
 use Rattle.eventkey.specs.Message.{Message, IsRanged}
 use Rattle.eventkey.specs.Reading.{IsBytes, ◌>>=◌, number_at, with_rest}
-use Rattle.eventkey.specs.Spelling.{made, message_at, message_bytes, message_in, message_read, sign_byte, sign_of, signed_at, signed_bytes, signed_of, signed_read}
+use Rattle.eventkey.specs.Encoding.{made, message_at, message_bytes, message_in, message_read, sign_byte, sign_of, signed_at, signed_bytes, signed_of, signed_read}
 use Rattle.eventkey.specs.declared.KeyFault.{KeyFault}
 use Rattle.eventkey.specs.declared.KeyFault.TheVariants.{Short, TimeTooLarge}
 use Rattle.eventkey.specs.declared.Sign.{Sign}
@@ -37,11 +37,11 @@ if_ok : {X : Type 0} (P : X → Type 0) (read : Result X KeyFault) → ((x : X) 
 if_ok P (Ok x) f = f x refl
 if_ok P (Err fault) f = tt
 
--- what a list begins with, of n bytes
+-- the first n bytes of a list that begins with n known bytes
 front_of : (n : ℕ) (bytes text rest : List ℕ) → length text ≡ n → bytes ≡ text ++ rest → take n bytes ≡ text
 front_of n bytes text rest long e = ap (take n) e ∙ take_at text rest n long
 
--- what is behind the first n bytes, as a slice says it
+-- the bytes after the first n, as a slice has them
 pub rest_behind : (n : ℕ) (bytes : List ℕ) → take (length bytes - n) (drop n bytes) ≡ drop n bytes
 rest_behind n bytes = take_all (length bytes - n) (drop n bytes) (omega (arith, length-drop n bytes))
 
@@ -51,13 +51,13 @@ message_read-long bytes long = rw (le-ltb (length bytes) 56 long) refl
 pub message_read-again : (bytes : List ℕ) (x : Message) (rest : List ℕ) → IsRanged x → bytes ≡ message_bytes x ++ rest → message_read bytes ≡ Ok x
 message_read-again bytes x rest is e = with_rest_some 56 bytes (message_read bytes) x rest (sym (message_at_is bytes) ∙ ap message_at e ∙ message_format.again x rest is)
 
-pub message_read-spelled : (bytes : List ℕ) → IsBytes bytes → IfOk (message_read bytes) (λ x. take 56 bytes ≡ message_bytes x)
-message_read-spelled bytes fits = if_ok (λ x. take 56 bytes ≡ message_bytes x) (message_read bytes) (λ x e.
+pub message_read-encoded : (bytes : List ℕ) → IsBytes bytes → IfOk (message_read bytes) (λ x. take 56 bytes ≡ message_bytes x)
+message_read-encoded bytes fits = if_ok (λ x. take 56 bytes ≡ message_bytes x) (message_read bytes) (λ x e.
     let got = message_format.takes bytes (x, drop 56 bytes) fits (message_at_is bytes ∙ ap (with_rest 56 bytes) e) in
     front_of 56 bytes (message_bytes x) (drop 56 bytes) (length-message_bytes x) got.0.parts)
 
-pub messages_are_spelled : MessagesAreSpelled
-messages_are_spelled = (message_format.again, λ bytes x rest fits e. let got = message_format.takes bytes (x, rest) fits e in (got.0.parts, got.1))
+pub messages_are_canonical : MessagesAreCanonical
+messages_are_canonical = (message_format.again, λ bytes x rest fits e. let got = message_format.takes bytes (x, rest) fits e in (got.0.parts, got.1))
 
 -- 2. Signed messages
 
@@ -140,16 +140,16 @@ length-signed_bytes : (s : Signed) → length (signed_bytes s) ≡ 57
 unfolding signed_bytes
 length-signed_bytes s = omega (arith, length-message_bytes s.message)
 
-pub spellings_are_as_long : SpellingsAreAsLong
+pub spellings_are_as_long : EncodingLengths
 spellings_are_as_long = (length-message_bytes, length-signed_bytes)
 
 pub signed_read-again : (bytes : List ℕ) (s : Signed) (rest : List ℕ) → IsRanged s.message → bytes ≡ signed_bytes s ++ rest → signed_read bytes ≡ Ok s
 signed_read-again bytes s rest is e = with_rest_some 57 bytes (signed_read bytes) s rest (sym (signed_are_read bytes) ∙ ap signed_at e ∙ signed_again s rest is)
 
-pub signed_read-spelled : (bytes : List ℕ) → IsBytes bytes → IfOk (signed_read bytes) (λ s. take 57 bytes ≡ signed_bytes s)
-signed_read-spelled bytes fits = if_ok (λ s. take 57 bytes ≡ signed_bytes s) (signed_read bytes) (λ s e.
+pub signed_read-encoded : (bytes : List ℕ) → IsBytes bytes → IfOk (signed_read bytes) (λ s. take 57 bytes ≡ signed_bytes s)
+signed_read-encoded bytes fits = if_ok (λ s. take 57 bytes ≡ signed_bytes s) (signed_read bytes) (λ s e.
     let got = signed_takes bytes (s, drop 57 bytes) fits (signed_are_read bytes ∙ ap (with_rest 57 bytes) e) in
     front_of 57 bytes (signed_bytes s) (drop 57 bytes) (length-signed_bytes s) got.0.parts)
 
-pub signed_are_spelled : SignedAreSpelled
-signed_are_spelled = (signed_again, λ bytes s rest fits e. let got = signed_takes bytes (s, rest) fits e in (got.0.parts, got.1))
+pub signed_are_canonical : SignedAreCanonical
+signed_are_canonical = (signed_again, λ bytes s rest fits e. let got = signed_takes bytes (s, rest) fits e in (got.0.parts, got.1))

@@ -1,10 +1,10 @@
--- Fields that are written into an array of bytes, one behind the other.
+-- Fields that are written into an array of bytes, one after the other.
 use Rattle.std.proofs.Common.{◌≡◌, ℕ, ◌-◌, List, [], ◌∷◌, ◌++◌, length, drop, set, refl, sym, ap, ◌∙◌, append_assoc, append-nil, length-drop, arith}
 use Rattle.std.proofs.Math.Seq.{take-append_seam, drop-append_seam, drop-length}
 use Rattle.std.proofs.lemmas.List.{take_all, drop_all, nil_from_length}
 use borrow.Rule.Slice.PartMut.{put_mid, mid_of}
 
--- xs begins with what is written, and k bytes follow
+-- xs begins with the bytes that are written, and k bytes follow
 pub record Begins (done : List ℕ) (k : ℕ) (xs : List ℕ) : Type 0 where
   pub rest : List ℕ
   pub joined : xs ≡ done ++ rest
@@ -21,7 +21,7 @@ written_behind n k c xs ys done rest bytes e q p f =
     let new : ys ≡ bytes ++ drop c rest = f ∙ ap (λ (zs : List ℕ). bytes ++ drop c zs) middle in
     rw (new, e, p, q, take-append_seam done rest, drop-append_seam done rest, drop-length rest) (simp (append_assoc, append-nil))
 
--- a field is written behind those before it
+-- each further field is written after those before it
 pub put_field : (n k c : ℕ) (xs ys done bytes : List ℕ) → Begins done k xs → n ≡ length done → ys ≡ bytes ++ drop c (mid_of n k xs)
     → Begins (done ++ bytes) (k - c) (put_mid n k xs ys)
 put_field n k c xs ys done bytes b p f = record {

@@ -1,19 +1,18 @@
--- A bag of messages is the ascending list of them, equal ones repeated.
+-- Bags of messages: a bag is the ascending list of its messages, equal ones repeated.
 use Rattle.std.specs.List.{AllByRecursion as Every}
 use Rattle.std.specs.Prelude.{ℕ, if◌then◌else◌, ◌+◌, List, [], ◌∷◌, Bool, nat_lt, min}
 use Rattle.eventkey.specs.Message.{IsAtMost, Message, is_before, is_same}
 
--- 1 if they are the same
+-- 1 if both messages are the same, else 0
 abbrev pub one_if_same : Message → Message → ℕ
 one_if_same m n = if is_same m n then 1 else 0
 
--- how many of them are m
+-- how many messages of the list are m
 abbrev pub copies : Message → List Message → ℕ
 copies m [] = 0
 copies m (x ∷ xs) = one_if_same m x + copies m xs
 
--- A bag is the ascending list of its messages, equal ones repeated.
--- The bag with one more message
+-- the bag with one more message
 abbrev pub add : Message → List Message → List Message
 add m [] = m ∷ []
 add m (x ∷ xs) = if is_before m x then m ∷ x ∷ xs else x ∷ add m xs
@@ -22,12 +21,12 @@ abbrev pub add_all : List Message → List Message → List Message
 add_all [] bag = bag
 add_all (m ∷ ms) bag = add_all ms (add m bag)
 
--- without one copy of m, where there is one
+-- the bag without one copy of m, if it has one
 abbrev pub remove_one : Message → List Message → List Message
 remove_one m [] = []
 remove_one m (x ∷ xs) = if is_same m x then xs else x ∷ remove_one m xs
 
--- without one copy of each of these, where there is one
+-- the bag without one copy of each of these messages that it has
 abbrev pub remove_all : List Message → List Message → List Message
 remove_all [] bag = bag
 remove_all (m ∷ ms) bag = remove_all ms (remove_one m bag)

@@ -3,10 +3,10 @@ pub mod Message
 pub mod Order
 pub mod Signed
 pub mod Bag
--- For callers: bytes, and reading them from left to right
+-- For callers: encodings, and reading bytes from left to right
 pub mod Reading
-pub mod Spelling
--- For callers: what a writer has of a text
+pub mod Encoding
+-- For callers: which part of a text a writer has taken
 pub mod Writing
--- For callers: the laws, each a clause of a call that does nothing
+-- For callers: the laws, each a clause of a function that does nothing
 pub mod Laws

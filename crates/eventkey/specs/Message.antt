@@ -1,5 +1,5 @@
--- Messages and their order (a message stamped with a receive time: Jefferson 1985; the order is
--- this project's profile).
+-- Messages and their order. A message is stamped with its receive time (Jefferson 1985); the order
+-- is this project's profile.
 use Rattle.std.specs.Ordering.{nat_cmp, ordering_then, is_lt, is_eq}
 use Rattle.std.specs.Prelude.{ℕ, ◌^◌, ◌<◌, Bool, ◌≡◌, false}
 use Rattle.std.specs.declared.cmp.Ordering.{Ordering}
@@ -17,7 +17,7 @@ pub record Message : Type 0 where
 abbrev pub zero_message : Message  -- all its numbers are 0
 zero_message = record { time = 0; from = 0; number = 0; to = 0; a = 0; b = 0; c = 0; d = 0 }
 
--- its numbers lie in their ranges
+-- all numbers are in their ranges
 pub record IsRanged (x : Message) : Type 0 where
   pub time : x.time < 2 ^ 41
   pub from : x.from < 2 ^ 32
@@ -28,7 +28,7 @@ pub record IsRanged (x : Message) : Type 0 where
   pub c : x.c < 2 ^ 64
   pub d : x.d < 2 ^ 64
 
--- by the fields, in the order in which they stand
+-- compares field by field, in the order of the fields
 unfoldable pub message_cmp : Message → Message → Ordering
 message_cmp m n =
     ordering_then (nat_cmp m.time n.time)
@@ -45,6 +45,6 @@ is_before m n = is_lt (message_cmp m n)
 abbrev pub is_same : Message → Message → Bool
 is_same m n = is_eq (message_cmp m n)
 
--- not before the other
+-- y does not come before x
 abbrev pub IsAtMost : Message → Message → Type 0
 IsAtMost x y = is_before y x ≡ false

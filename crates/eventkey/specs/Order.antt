@@ -1,5 +1,4 @@
--- The order of messages is one by which they can be sorted: it is total, and it ties just those
--- that `==` holds of.
+-- The order of messages is total, and two messages are equal in it exactly if `==` holds.
 use Rattle.std.proofs.Common.{◌∙◌}
 use Rattle.std.specs.Cmp.{IsTotalOrder, both_tied, nat_cmp_total, on_total, then_total}
 use Rattle.std.specs.Cmp.{unsigned_ties}
@@ -19,14 +18,14 @@ messages_are_total =
     (then_total (on_total (λ (x : Message). x.c) nat_cmp_total)
     (on_total (λ (x : Message). x.d) nat_cmp_total)))))))
 
--- two tests may be made in either order, whatever comes after them
+-- two tests can be swapped, whatever follows them
 swapped : (n o after : Bool) → (o && (n && after)) ≡ (n && (o && after))
 swapped false false after = refl
 swapped false true after = refl
 swapped true false after = refl
 swapped true true after = refl
 
--- `==` tests the fields in the order in which they are declared
+-- `==` compares the fields in the order of their declaration, which is not that of `message_cmp`
 pub messages_are_tied : (x y : Message) →
     ((x.time == y.time) && ((x.from == y.from) && ((x.to == y.to)
     && ((x.number == y.number) && ((x.a == y.a) && ((x.b == y.b)

@@ -1,5 +1,5 @@
--- Reading bytes from left to right (numbers have their highest byte first). A reader answers a
--- value and the bytes behind it, or nothing.
+-- Reading bytes from left to right (numbers are big-endian). A reader returns a value and the bytes
+-- after it, or nothing.
 use Rattle.std.specs.Prelude.{ℕ, zero, suc, List, [], ◌∷◌, length, drop, get_or, ◌<◌, Option, Some}
 use Rattle.std.specs.Prelude.{None, Result, Ok, Err, if◌then◌else◌, nat_lt, ◌≡◌}
 use Rattle.byteorder.specs.Endian.{big_number}
@@ -15,7 +15,7 @@ None >>= f = None
 abbrev pub Reader : Type 0 → Type 0
 Reader X = List ℕ → Option (X × List ℕ)
 
--- a number of n bytes, the highest first
+-- a big-endian number of n bytes
 unfoldable pub number_at : ℕ → Reader ℕ
 number_at n bytes =
     if nat_lt (length bytes) n then None else Some (big_number n bytes, drop n bytes)
@@ -28,12 +28,12 @@ items_at item (suc n) bytes = do
   others ← items_at item n first.1
   Some (first.0 ∷ others.0, others.1)
 
--- a read of n bytes from the left, and what is behind them
+-- the result of a read of the first n bytes, with the bytes after them
 abbrev pub with_rest : {X E : Type 0} → ℕ → List ℕ → Result X E → Option (X × List ℕ)
 with_rest n bytes (Ok x) = Some (x, drop n bytes)
 with_rest n bytes (Err fault) = None
 
--- what a call that may want memory answers, beside what is read
+-- a call that may run out of memory returns what the reader reads, unless it fails
 abbrev pub Gives : {X Y E : Type 0} → (X → Y) → Result (Option X) E → Option Y → Type 0
 Gives seen (Ok (Some x)) read = read ≡ Some (seen x)
 Gives seen (Ok None) read = read ≡ None

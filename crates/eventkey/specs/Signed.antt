@@ -11,7 +11,7 @@ plus x = record { sign = Plus; message = x }
 abbrev pub minus : Message → Signed
 minus x = record { sign = Minus; message = x }
 
--- the messages of this sign
+-- the messages with this sign, in order
 abbrev pub of_sign : Sign → List Signed → List Message
 of_sign Plus [] = []
 of_sign Plus (s ∷ ss) =

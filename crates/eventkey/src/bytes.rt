@@ -1,19 +1,19 @@
-// Messages as bytes (this project's profile). Each number has its highest byte first.
+// The encoding of messages (this project's profile). Numbers are big-endian.
 
 ghost use Rattle.std.specs.Prelude.{◌≡◌, ◌<◌, ◌≤◌, ◌^◌, ◌↔◌, IfOk, length, List, ℕ, take, drop};
 ghost use Rattle.std.specs.Prelude.{slice_index, ◌++◌};
 ghost use Rattle.eventkey.specs.Message.{Message, IsRanged};
-ghost use Rattle.eventkey.specs.Spelling.{made, message_bytes, message_in, message_read, sign_byte};
-ghost use Rattle.eventkey.specs.Spelling.{sign_of, signed_bytes, signed_read};
+ghost use Rattle.eventkey.specs.Encoding.{made, message_bytes, message_in, message_read, sign_byte};
+ghost use Rattle.eventkey.specs.Encoding.{sign_of, signed_bytes, signed_read};
 ghost use Rattle.eventkey.specs.declared.KeyFault.TheVariants.{Short, TimeTooLarge, BadSign};
 
 use crate::{KeyFault, Message, Sign, Signed};
 use byteorder::{BigEndian, ByteOrder};
 
-/// How many bytes a message has.
+/// The size of an encoded message in bytes.
 pub const MESSAGE_BYTES: usize = 56;
 
-/// How many bytes a signed message has.
+/// The size of an encoded signed message in bytes.
 pub const SIGNED_BYTES: usize = 57;
 
 /// Writes the 56 bytes of a message.
@@ -30,16 +30,17 @@ pub fn put_message(message: &Message, out: &mut [u8; 56])
     BigEndian::write_u64(&mut out[48..], message.d());
 }
 
-/// Reads the message in the first 56 bytes, and ignores what follows. Refused are fewer bytes
-/// (`Short`) and then a time of 2^41 ticks or more (`TimeTooLarge`).
+/// Reads the message in the first 56 bytes, and ignores the rest. It refuses fewer bytes (`Short`),
+/// then a time of 2^41 ticks or more (`TimeTooLarge`).
 pub fn get_message(bytes: &[u8]) -> Result<Message, KeyFault>
     ensures exact { result ≡ message_read bytes.now }
     ensures short { (result ≡ Err KeyFault.Short) ↔ (length bytes.now < 56) }
     ensures late { (result ≡ Err KeyFault.TimeTooLarge)
         ↔ ((56 ≤ length bytes.now) × (2 ^ 41 ≤ (message_in bytes.now).time)) }
 
-    // What is read is spelled so, and what is spelled so is read, whatever follows.
-    ensures spelled { IfOk result (λ x. take 56 bytes.now ≡ message_bytes x) }
+    // A message that is read encodes to these bytes, and an encoded message is read back, whatever
+    // follows it.
+    ensures encoded { IfOk result (λ x. take 56 bytes.now ≡ message_bytes x) }
     ensures again { (x : Message) (rest : List ℕ) → IsRanged x →
         bytes.now ≡ message_bytes x ++ rest → result ≡ Ok x }
 {
@@ -49,8 +50,8 @@ pub fn get_message(bytes: &[u8]) -> Result<Message, KeyFault>
     fixed_fields(bytes)
 }
 
-/// The fields at their places.
-#[tactic(auto, unfolding(crate::specs::Spelling::message_in))]
+/// Reads the fields at their offsets.
+#[tactic(auto, unfolding(crate::specs::Encoding::message_in))]
 fn fixed_fields(bytes: &[u8]) -> Result<Message, KeyFault>
     requires { 56 ≤ length bytes.now }
     ensures { result ≡ made (message_in bytes.now) }
@@ -66,8 +67,8 @@ fn fixed_fields(bytes: &[u8]) -> Result<Message, KeyFault>
     Message::new(time, from, number, to, a, b, c, d)
 }
 
-/// Writes the 57 bytes of a signed message: the byte of its sign, 0 for a message and 1 for an
-/// antimessage, and then the message.
+/// Writes the 57 bytes of a signed message: the sign byte, 0 for a message and 1 for an
+/// antimessage, then the message.
 pub fn put_signed(signed: &Signed, out: &mut [u8; 57])
     ensures { out.new ≡ signed_bytes signed.now }
 {
@@ -77,8 +78,8 @@ pub fn put_signed(signed: &Signed, out: &mut [u8; 57])
     out[1..].copy_from_slice(&body);
 }
 
-/// Reads the signed message in the first 57 bytes, and ignores what follows. Refused are fewer
-/// bytes (`Short`), then a first byte above 1 (`BadSign`), then a time of 2^41 ticks or more
+/// Reads the signed message in the first 57 bytes, and ignores the rest. It refuses fewer bytes
+/// (`Short`), then a sign byte above 1 (`BadSign`), then a time of 2^41 ticks or more
 /// (`TimeTooLarge`).
 pub fn get_signed(bytes: &[u8]) -> Result<Signed, KeyFault>
     ensures exact { result ≡ signed_read bytes.now }
@@ -89,8 +90,9 @@ pub fn get_signed(bytes: &[u8]) -> Result<Signed, KeyFault>
         ↔ ((57 ≤ length bytes.now) × (slice_index bytes.now 0 < 2)
         × (2 ^ 41 ≤ (message_in (drop 1 bytes.now)).time)) }
 
-    // What is read is spelled so, and what is spelled so is read, whatever follows.
-    ensures spelled { IfOk result (λ s. take 57 bytes.now ≡ signed_bytes s) }
+    // A signed message that is read encodes to these bytes, and an encoded one is read back,
+    // whatever follows it.
+    ensures encoded { IfOk result (λ s. take 57 bytes.now ≡ signed_bytes s) }
     ensures again { (s : Signed) (rest : List ℕ) → IsRanged s.message →
         bytes.now ≡ signed_bytes s ++ rest → result ≡ Ok s }
 {

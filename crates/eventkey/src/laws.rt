@@ -1,28 +1,28 @@
-// Laws of messages, as contracts of calls that do nothing.
+// Laws of messages, each the contract of a function that does nothing.
 
 ghost use Rattle.eventkey.specs.Laws.{BagsCountCopies, MessagesAreOrdered, MessagesAreRead};
-ghost use Rattle.eventkey.specs.Laws.{MessagesAreSpelled, SignedAreRead, SignedAreSpelled};
-ghost use Rattle.eventkey.specs.Laws.{SpellingsAreAsLong};
+ghost use Rattle.eventkey.specs.Laws.{MessagesAreCanonical, SignedAreRead, SignedAreCanonical};
+ghost use Rattle.eventkey.specs.Laws.{EncodingLengths};
 
-/// Messages are in a total order, in which equal ones are the same and earlier times come first.
+/// States that the order of messages is total, agrees with equality, and puts earlier times first.
 pub fn law_of_order()
     ensures { MessagesAreOrdered }
 {}
 
-/// A bag of messages is known by how many copies of each it has.
+/// States that the numbers of copies of its messages determine a bag.
 pub fn law_of_bags()
     ensures { BagsCountCopies }
 {}
 
-/// Each message has one spelling.
+/// States that each message has exactly one encoding.
 pub fn law_of_messages()
-    ensures spelled { MessagesAreSpelled }
+    ensures encoded { MessagesAreCanonical }
     ensures read { MessagesAreRead }
 {}
 
-/// Each signed message has one spelling.
+/// States that each signed message has exactly one encoding, and how long encodings are.
 pub fn law_of_signed_messages()
-    ensures spelled { SignedAreSpelled }
+    ensures encoded { SignedAreCanonical }
     ensures read { SignedAreRead }
-    ensures long { SpellingsAreAsLong }
+    ensures long { EncodingLengths }
 {}

@@ -6,7 +6,7 @@ ghost use Rattle.std.specs.Prelude.{IsTrue, length, MatchResult, List, ℕ, take
 ghost use Rattle.std.specs.Cmp.{partial_order_from_agreeing_total};
 ghost use Rattle.std.specs.Ordering.{as_partial_cmp};
 ghost use Rattle.eventkey.specs.Order.{messages_are_total, messages_are_tied};
-ghost use Rattle.eventkey.specs.Spelling.{made};
+ghost use Rattle.eventkey.specs.Encoding.{made};
 ghost use Rattle.eventkey.specs.Message.{message_cmp, is_before, is_same, Message, IsRanged};
 ghost use Rattle.eventkey.specs.declared.Signed.{Signed};
 ghost use Rattle.eventkey.specs.declared.KeyFault.TheVariants.{Short, TimeTooLarge, BadSign};
@@ -27,12 +27,13 @@ use std::cmp::Ordering;
 use std::marker::Model;
 use thiserror::Error;
 
-/// A message of a simulation, stamped with its receive time (Jefferson 1985): the time in ticks,
-/// below 2^41, the number of its sender, the sender's count of messages before it, the number of
-/// its receiver, and four words of content. Messages are ordered by these, in this order (this
-/// project's profile).
-// Fields lie in memory in this order, and the two of 32 bits side by side leave no padding.
-// A derive would compare in this order too, so the order of messages is written out.
+/// A message of a simulation, stamped with its receive time (Jefferson 1985).
+///
+/// It has a receive time in ticks, below 2^41; the number of its sender; how many messages the
+/// sender sent before it; the number of its receiver; and four words of content. Messages are
+/// ordered by these, in this order (this project's profile).
+// Fields lie in memory in the declared order, and the two 32-bit fields side by side leave no
+// padding. A derived order would compare `to` before `number`, so `Ord` is written out.
 #[derive(Clone, Copy, Debug, Default, PartialEq, Eq)]
 pub struct Message {
     time: u64,
@@ -134,25 +135,25 @@ impl Model for Message {
     } };
 }
 
-/// The least time in ticks that no message has.
+/// The limit of times in ticks: each message has a time below it.
 const TIME_LIMIT: u64 = 1 << 41;
 
-/// Why bytes or numbers are no message.
+/// The reason why bytes or numbers are not a message.
 #[derive(Clone, Copy, Debug, PartialEq, Eq, Error)]
 pub enum KeyFault {
-    /// There are fewer bytes than it has.
+    /// There are fewer bytes than a message, or a signed message, has.
     #[error("Short")]
     Short,
-    /// Its time is 2^41 ticks or more.
+    /// The time is 2^41 ticks or more.
     #[error("TimeTooLarge")]
     TimeTooLarge,
-    /// The byte of its sign is above 1.
+    /// The sign byte is above 1.
     #[error("BadSign")]
     BadSign,
 }
 
 impl Message {
-    /// The message of these numbers. `TimeTooLarge` comes for a time of 2^41 ticks or more.
+    /// Makes a message of these numbers. `TimeTooLarge` comes for a time of 2^41 ticks or more.
     pub fn new(
         time: u64,
         from: u32,
@@ -190,14 +191,14 @@ impl Message {
         }
     }
 
-    /// Answers nothing: the contract says that the numbers lie in their ranges.
+    /// Does nothing: its contract states that the numbers are in their ranges.
     pub fn ranged(&self)
         ensures { IsRanged self.now }
     {
         let _ = &self.time;
     }
 
-    /// Whether this message comes first.
+    /// Returns whether this message comes before `other` in the order of messages.
     #[tactic(auto, unfolding(crate::specs::Message::message_cmp))]
     pub fn is_before(&self, other: &Message) -> bool
         ensures { result ≡ is_before self.now other.now }
@@ -205,7 +206,7 @@ impl Message {
         *self < *other
     }
 
-    /// Whether the eight numbers are the same.
+    /// Returns whether all eight numbers are equal.
     #[tactic(auto, unfolding(crate::specs::Message::message_cmp))]
     pub fn is_same(&self, other: &Message) -> bool
         ensures same { result ≡ is_same self.now other.now }
@@ -214,7 +215,7 @@ impl Message {
         *self == *other
     }
 
-    /// The order of messages.
+    /// Compares two messages in the order of messages.
     #[tactic(auto, unfolding(crate::specs::Message::message_cmp))]
     pub fn order(&self, other: &Message) -> Ordering
         ensures { result ≡ message_cmp self.now other.now }
@@ -222,56 +223,56 @@ impl Message {
         self.cmp(other)
     }
 
-    /// The receive time in ticks, below 2^41.
+    /// Returns the receive time in ticks, below 2^41.
     pub fn time(&self) -> u64
         ensures { result ≡ self.now.time }
     {
         self.time
     }
 
-    /// The number of the sender.
+    /// Returns the number of the sender.
     pub fn from(&self) -> u32
         ensures { result ≡ self.now.from }
     {
         self.from
     }
 
-    /// How many messages the sender had sent before it.
+    /// Returns how many messages the sender sent before it.
     pub fn number(&self) -> u64
         ensures { result ≡ self.now.number }
     {
         self.number
     }
 
-    /// The number of the receiver.
+    /// Returns the number of the receiver.
     pub fn to(&self) -> u32
         ensures { result ≡ self.now.to }
     {
         self.to
     }
 
-    /// The first word of its content.
+    /// Returns the first word of its content.
     pub fn a(&self) -> u64
         ensures { result ≡ self.now.a }
     {
         self.a
     }
 
-    /// The second word of its content.
+    /// Returns the second word of its content.
     pub fn b(&self) -> u64
         ensures { result ≡ self.now.b }
     {
         self.b
     }
 
-    /// The third word of its content.
+    /// Returns the third word of its content.
     pub fn c(&self) -> u64
         ensures { result ≡ self.now.c }
     {
         self.c
     }
 
-    /// The fourth word of its content.
+    /// Returns the fourth word of its content.
     pub fn d(&self) -> u64
         ensures { result ≡ self.now.d }
     {
@@ -279,16 +280,16 @@ impl Message {
     }
 }
 
-/// Whether a message is sent or taken back (Jefferson 1985).
+/// The sign of a message (Jefferson 1985).
 #[derive(Clone, Copy, Debug, PartialEq, Eq)]
 pub enum Sign {
-    /// It is sent.
+    /// It is a message.
     Plus,
-    /// It is taken back, by an antimessage.
+    /// It is an antimessage, which annihilates its message.
     Minus,
 }
 
-/// A message with a sign.
+/// A message or an antimessage.
 #[derive(Clone, Copy, Debug, PartialEq, Eq)]
 pub struct Signed {
     /// Its sign.

@@ -1,16 +1,16 @@
-// A list of values that contracts see as the list itself.
+// A vector that contracts see as a list.
 
 ghost use Rattle.std.specs.Prelude.{◌≡◌, ◌++◌, ◌∷◌, [], length, OnOk, OnErr};
 
 use std::alloc::{AllocError, AllocFailed, Global};
 
-/// A vector that contracts see as the list of its items, so that a struct with such a field is
-/// seen as plain data.
+/// A vector that contracts see as the list of its items, so that they see a struct with such a
+/// field as plain data.
 pub struct Listed<T: Drop> {
     items: Vec<T>,
 }
 
-// Not derived: each caller that drops one would prove again how its parts are dropped.
+// Not derived: the proof of each caller that drops a list would have to go through its parts.
 impl<T: Drop> Drop for Listed<T> {
     fn drop(self) {
         let Listed { items: _ } = self;
@@ -26,21 +26,21 @@ impl<T: Drop> std::marker::Model for Listed<T> {
 }
 
 impl<T: Drop> Listed<T> {
-    /// The list of a vector's items. It takes no memory.
+    /// Wraps a vector, without an allocation.
     pub fn from_vec(items: Vec<T>) -> Listed<T>
         ensures { result ≡ items.items }
     {
         Listed { items }
     }
 
-    /// The items.
+    /// Returns the items.
     pub fn as_slice(&self) -> &[T]
         ensures { result.now ≡ self.now }
     {
         self.items.as_slice()
     }
 
-    /// The vector itself. It takes no memory.
+    /// Returns the vector, without an allocation.
     pub fn into_vec(self) -> Vec<T>
         ensures { result.items ≡ self }
     {

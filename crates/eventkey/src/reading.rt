@@ -1,11 +1,11 @@
-// Reading and writing from left to right, for bodies of several fields.
+// Reading and appending of numbers and messages from left to right, for bodies with several fields.
 
 ghost use Rattle.std.specs.Prelude.{◌≡◌, ◌<◌, ◌*◌, ◌++◌, length, option_map, List, Ok, None, OnOk};
 ghost use Rattle.std.specs.Prelude.{OnErr, vec_len, ℕ};
 ghost use Rattle.std.specs.List.{flat_map};
 ghost use Rattle.eventkey.specs.Message.{Message};
 ghost use Rattle.eventkey.specs.Reading.{Gives, items_at, number_at};
-ghost use Rattle.eventkey.specs.Spelling.{message_at, message_bytes, signed_at, signed_bytes};
+ghost use Rattle.eventkey.specs.Encoding.{message_at, message_bytes, signed_at, signed_bytes};
 
 use crate::{
     MESSAGE_BYTES, Message, SIGNED_BYTES, Signed, get_message, get_signed, put_message, put_signed,
@@ -13,7 +13,7 @@ use crate::{
 use byteorder::{BigEndian, ByteOrder};
 use std::alloc::{AllocError, Global};
 
-/// A byte and the bytes behind it. `None`: there is none.
+/// Reads one byte, and returns it with the bytes after it. `None` if there is no byte.
 #[tactic(auto, unfolding(crate::specs::Reading::number_at))]
 pub fn read_u8(bytes: &[u8]) -> Option<(u8, &[u8])>
     ensures { option_map (λ x. (x.0, x.1.now)) result ≡ number_at 1 bytes.now }
@@ -24,7 +24,8 @@ pub fn read_u8(bytes: &[u8]) -> Option<(u8, &[u8])>
     Some((bytes[0], &bytes[1..]))
 }
 
-/// A number of 4 bytes, the highest first, and the bytes behind it. `None`: there are fewer.
+/// Reads a big-endian number of 4 bytes, and returns it with the bytes after it. `None` if there
+/// are fewer than 4.
 #[tactic(auto, unfolding(crate::specs::Reading::number_at))]
 pub fn read_u32(bytes: &[u8]) -> Option<(u32, &[u8])>
     ensures { option_map (λ x. (x.0, x.1.now)) result ≡ number_at 4 bytes.now }
@@ -35,7 +36,8 @@ pub fn read_u32(bytes: &[u8]) -> Option<(u32, &[u8])>
     Some((BigEndian::read_u32(bytes), &bytes[4..]))
 }
 
-/// A number of 8 bytes, the highest first, and the bytes behind it. `None`: there are fewer.
+/// Reads a big-endian number of 8 bytes, and returns it with the bytes after it. `None` if there
+/// are fewer than 8.
 #[tactic(auto, unfolding(crate::specs::Reading::number_at))]
 pub fn read_u64(bytes: &[u8]) -> Option<(u64, &[u8])>
     ensures { option_map (λ x. (x.0, x.1.now)) result ≡ number_at 8 bytes.now }
@@ -46,7 +48,8 @@ pub fn read_u64(bytes: &[u8]) -> Option<(u64, &[u8])>
     Some((BigEndian::read_u64(bytes), &bytes[8..]))
 }
 
-/// A message and the bytes behind its 56, or `None` where `get_message` refuses.
+/// Reads a message of 56 bytes, and returns it with the bytes after it. `None` if `get_message`
+/// refuses the bytes.
 pub fn read_message(bytes: &[u8]) -> Option<(Message, &[u8])>
     ensures { option_map (λ x. (x.0, x.1.now)) result ≡ message_at bytes.now }
 {
@@ -56,7 +59,8 @@ pub fn read_message(bytes: &[u8]) -> Option<(Message, &[u8])>
     }
 }
 
-/// A signed message and the bytes behind its 57, or `None` where `get_signed` refuses.
+/// Reads a signed message of 57 bytes, and returns it with the bytes after it. `None` if
+/// `get_signed` refuses the bytes.
 pub fn read_signed(bytes: &[u8]) -> Option<(Signed, &[u8])>
     ensures { option_map (λ x. (x.0, x.1.now)) result ≡ signed_at bytes.now }
 {
@@ -66,8 +70,8 @@ pub fn read_signed(bytes: &[u8]) -> Option<(Signed, &[u8])>
     }
 }
 
-/// So many messages and the bytes behind them, or `None` where one of them can't be read.
-/// `AllocError` comes where memory is refused, never for bytes that are not there.
+/// Reads `count` messages, and returns them with the bytes after them. `None` if one of them can't
+/// be read. `AllocError` comes if an allocation failed, never for missing bytes.
 pub fn read_messages(
     alloc: Global,
     count: u32,
@@ -76,7 +80,7 @@ pub fn read_messages(
     ensures read { Gives (λ x. (x.0.items, x.1.now)) result (items_at message_at count bytes.now) }
     ensures short { length bytes.now < 56 * count → result ≡ Ok None }
 {
-    // Memory is asked for only once the bytes are there.
+    // A count that is too large for the bytes must not allocate.
     if bytes.len() < MESSAGE_BYTES * count as usize {
         return Ok(None);
     }
@@ -95,8 +99,8 @@ pub fn read_messages(
     Ok(Some((messages, rest)))
 }
 
-/// So many signed messages and the bytes behind them, or `None` where one of them can't be read.
-/// `AllocError` comes where memory is refused, never for bytes that are not there.
+/// Reads `count` signed messages, and returns them with the bytes after them. `None` if one of them
+/// can't be read. `AllocError` comes if an allocation failed, never for missing bytes.
 pub fn read_signed_list(
     alloc: Global,
     count: u32,
@@ -105,7 +109,7 @@ pub fn read_signed_list(
     ensures read { Gives (λ x. (x.0.items, x.1.now)) result (items_at signed_at count bytes.now) }
     ensures short { length bytes.now < 57 * count → result ≡ Ok None }
 {
-    // Memory is asked for only once the bytes are there.
+    // A count that is too large for the bytes must not allocate.
     if bytes.len() < SIGNED_BYTES * count as usize {
         return Ok(None);
     }
@@ -124,7 +128,7 @@ pub fn read_signed_list(
     Ok(Some((list, rest)))
 }
 
-/// Appends the 56 bytes of a message. After an `AllocError` the bytes are as before.
+/// Appends the 56 bytes of a message. `out` is unchanged after an `AllocError`.
 pub fn append_message(out: &mut Vec<u8>, message: &Message) -> Result<(), AllocError>
     ensures ok { OnOk result (out.new.items ≡ out.old.items ++ message_bytes message.now) }
     ensures err { OnErr result (out.new.items ≡ out.old.items) }
@@ -134,7 +138,7 @@ pub fn append_message(out: &mut Vec<u8>, message: &Message) -> Result<(), AllocE
     out.extend_from_slice(&bytes)
 }
 
-/// Appends the 57 bytes of a signed message. After an `AllocError` the bytes are as before.
+/// Appends the 57 bytes of a signed message. `out` is unchanged after an `AllocError`.
 pub fn append_signed(out: &mut Vec<u8>, signed: &Signed) -> Result<(), AllocError>
     ensures ok { OnOk result (out.new.items ≡ out.old.items ++ signed_bytes signed.now) }
     ensures err { OnErr result (out.new.items ≡ out.old.items) }
@@ -144,8 +148,8 @@ pub fn append_signed(out: &mut Vec<u8>, signed: &Signed) -> Result<(), AllocErro
     out.extend_from_slice(&bytes)
 }
 
-/// Appends the bytes of these messages, one after the other. After an `AllocError` some of the
-/// first may stand there.
+/// Appends the bytes of each message in order. After an `AllocError`, `out` may have gained the
+/// bytes of the first ones.
 pub fn append_messages(out: &mut Vec<u8>, messages: &[Message]) -> Result<(), AllocError>
     ensures ok { OnOk result (out.new.items
         ≡ out.old.items ++ flat_map message_bytes messages.now) }
@@ -157,8 +161,8 @@ pub fn append_messages(out: &mut Vec<u8>, messages: &[Message]) -> Result<(), Al
     Ok(())
 }
 
-/// Appends the bytes of these signed messages, one after the other. After an `AllocError` some of
-/// the first may stand there.
+/// Appends the bytes of each signed message in order. After an `AllocError`, `out` may have gained
+/// the bytes of the first ones.
 pub fn append_signed_list(out: &mut Vec<u8>, list: &[Signed]) -> Result<(), AllocError>
     ensures ok { OnOk result (out.new.items ≡ out.old.items ++ flat_map signed_bytes list.now) }
     ensures begins { (more : List ℕ) × (out.new.items ≡ out.old.items ++ more) }

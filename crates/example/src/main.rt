@@ -1,5 +1,5 @@
 //! Simulates a token ring over three nodes to its end, on a disk in memory and on a file, and
-//! prints what each of them then has committed.
+//! prints what is committed on each.
 #![tactic(auto)]
 
 use disk::{FileDisk, MemDisk, SectorDisk};
@@ -13,7 +13,7 @@ use texts::write_log;
 /// The tick at which the simulation ends.
 const END: u64 = 10;
 
-/// Three nodes handle up to 16 messages at a turn.
+/// Three nodes, each handling up to 16 messages at a turn.
 const PLAN: Plan = Plan {
     nodes: 3,
     batch: Batch::Fixed(16),
@@ -23,15 +23,15 @@ const PLAN: Plan = Plan {
     commit_every: 0,
 };
 
-/// Three processes hand one token round and hold it for two ticks, on this disk. Hands it back.
+/// Simulates three processes that pass one token round every two ticks. Returns the disk.
 fn ring_on<D, O>(alloc: Global, disk: D, out: &mut O) -> Result<D, SimulationFault>
 where
     D: SectorDisk + Drop,
     O: Write,
 {
     let ring = TokenRing::new(3, 2, 1);
-    let Ended { disk, told } = simulate(alloc, &ring, END, disk, PLAN);
-    let Outcome { front, .. } = told?;
+    let Ended { disk, outcome } = simulate(alloc, &ring, END, disk, PLAN);
+    let Outcome { front, .. } = outcome?;
     writeln!(out, "committed up to tick {}:", front.g)?;
     write_log(front.log.as_slice(), out)?;
     Ok(disk)

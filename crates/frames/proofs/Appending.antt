@@ -1,12 +1,12 @@
--- Texts that are appended one behind the other.
+-- Texts that are appended one after another.
 use Rattle.std.proofs.Common.{◌≡◌, ℕ, List, ◌++◌, length, ap, ◌∙◌, append_assoc}
 use Rattle.std.specs.List.{flat_map}
 use Rattle.byteorder.specs.Endian.{big_bytes}
-use Rattle.eventkey.specs.Spelling.{message_bytes, signed_bytes}
+use Rattle.eventkey.specs.Encoding.{message_bytes, signed_bytes}
 use Rattle.node.specs.declared.Load.{Load}
 use Rattle.node.specs.declared.Parcel.{Parcel}
 use Rattle.node.specs.declared.Part.{Part}
-use Rattle.model.specs.Spelling.{words_bytes}
+use Rattle.model.specs.Encoding.{words_bytes}
 use Rattle.frames.specs.Bodies.{counted_bytes, load_bytes, parcel_bytes, part_bytes}
 
 behind : (v w z x y : List ℕ) → w ≡ v ++ x → z ≡ w ++ y → z ≡ v ++ (x ++ y)

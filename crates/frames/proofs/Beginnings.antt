@@ -11,7 +11,7 @@ use Rattle.frames.specs.declared.stream.Raw.{Raw}
 use Rattle.frames.proofs.Cuts.{IsFront-trans, within_of}
 use Rattle.frames.specs.Reactions.{Begins}
 use Rattle.frames.specs.Serving.{Lacks, Served, Turn, after_turn, begun_to, ends, first_turn, goes_on, load_turn, on_found, served, served_from, stops}
-use Rattle.frames.specs.Told.{IsServed, IsServedFrom, Stops, StopsFrom, Tells}
+use Rattle.frames.specs.Outcomes.{IsServed, IsServedFrom, Stops, StopsFrom, HasOutcome}
 use Rattle.eventkey.specs.Writing.{TakesBeginning}
 use Rattle.frames.specs.declared.reaction.Begun.{Begun}
 use Rattle.frames.specs.declared.reaction.Begun.TheVariants.{Loaded, Refused}
@@ -20,20 +20,20 @@ use Rattle.wire.specs.declared.port.WireFault.TheVariants as wire
 use Rattle.frames.proofs.Places.{begins_none}
 use Rattle.frames.proofs.Turns.{lacks_first, never, on_map, on_then}
 
--- where the first turn ends it all
+-- the first turn ends with a fault
 abbrev stopped : WireFault → List ℕ → Served
 stopped fault rest = record { text = []; result = Err fault; rest = rest }
 
 abbrev ended : List ℕ → List ℕ → Served
 ended text rest = record { text = text; result = Ok 0; rest = rest }
 
-stops_at : (fault : WireFault) (s : Served) (halts : Type 0) (bytes rest : List ℕ) (old : Option (List ℕ)) → s ≡ stopped fault rest → IsFront bytes rest → halts → Tells s halts bytes rest old old (Err fault)
+stops_at : (fault : WireFault) (s : Served) (halts : Type 0) (bytes rest : List ℕ) (old : Option (List ℕ)) → s ≡ stopped fault rest → IsFront bytes rest → halts → HasOutcome s halts bytes rest old old (Err fault)
 stops_at wire.Io s halts bytes rest old e f h = (begins_none old s.text, f, h)
 stops_at wire.NoMemory s halts bytes rest old e f h = (begins_none old s.text, f, h)
-stops_at wire.Truncated s halts bytes rest old e f h = subst (λ (s : Served). Tells s halts bytes rest old old (Err wire.Truncated)) (sym e) (refl, Appends-nil old, refl)
-stops_at wire.TooLong s halts bytes rest old e f h = subst (λ (s : Served). Tells s halts bytes rest old old (Err wire.TooLong)) (sym e) (refl, Appends-nil old, refl)
-stops_at wire.BadKind s halts bytes rest old e f h = subst (λ (s : Served). Tells s halts bytes rest old old (Err wire.BadKind)) (sym e) (refl, Appends-nil old, refl)
-stops_at wire.BadBody s halts bytes rest old e f h = subst (λ (s : Served). Tells s halts bytes rest old old (Err wire.BadBody)) (sym e) (refl, Appends-nil old, refl)
+stops_at wire.Truncated s halts bytes rest old e f h = subst (λ (s : Served). HasOutcome s halts bytes rest old old (Err wire.Truncated)) (sym e) (refl, Appends-nil old, refl)
+stops_at wire.TooLong s halts bytes rest old e f h = subst (λ (s : Served). HasOutcome s halts bytes rest old old (Err wire.TooLong)) (sym e) (refl, Appends-nil old, refl)
+stops_at wire.BadKind s halts bytes rest old e f h = subst (λ (s : Served). HasOutcome s halts bytes rest old old (Err wire.BadKind)) (sym e) (refl, Appends-nil old, refl)
+stops_at wire.BadBody s halts bytes rest old e f h = subst (λ (s : Served). HasOutcome s halts bytes rest old old (Err wire.BadBody)) (sym e) (refl, Appends-nil old, refl)
 
 module _ (m : Meaning) (limit : ℕ) where
   abbrev next : Lacks → List ℕ → Node → List ℕ → Served
@@ -77,13 +77,13 @@ module _ (m : Meaning) (limit : ℕ) where
 
   ends_at : (lacks : Bool) (old new : Option (List ℕ)) (text x y : List ℕ) → first_turn lacks m.lps x ≡ ends y text → Appends old new text → IsServed m limit old new (Ok 0) x y
   ends_at lacks old new text x y e h =
-      (lacks_first lacks never, subst (λ (s : Served). Tells s (Stops m (lacks_first lacks never) limit old new x y) x y old new (Ok 0)) (sym (served_is lacks never x (ends y text) e)) (refl, h, refl))
+      (lacks_first lacks never, subst (λ (s : Served). HasOutcome s (Stops m (lacks_first lacks never) limit old new x y) x y old new (Ok 0)) (sym (served_is lacks never x (ends y text) e)) (refl, h, refl))
 
   pub serve_ended : (old a b : Option (List ℕ)) → OnBytes a b (IsCutBy cut (Ok None)) → OnBytes a b (IsServed m limit old old (Ok 0))
   serve_ended old a b h =
       on_map a b (IsCutBy cut (Ok None)) (IsServed m limit old old (Ok 0)) (λ x y k. ends_at false old old [] x y (first_none x y k) (Appends-nil old)) h
 
-  -- no node was begun
+  -- no node was made
   refused_at : (old : Option (List ℕ)) (raw : Raw) (fault : WireFault) (x y : List ℕ) → Begins m.lps raw (Err fault) → Finds (cut x) (Ok (Some raw)) y → IsServed m limit old old (Err fault) x y
   refused_at old raw fault x y (lacks, inl is) h =
       let w = within_of x y (Ok (Some raw)) h in
@@ -101,7 +101,7 @@ module _ (m : Meaning) (limit : ℕ) where
       subst (λ (g : WireFault). OnBytes a b (IsServed m limit old old (Err g))) (sym e)
       (on_map a b (IsCutBy cut (Ok (Some raw))) (IsServed m limit old old (Err fault)) (λ x y k. refused_at old raw fault x y r k) h)
 
-  -- the first turn, of what was begun
+  -- the first turn, by what `begin` returned
   begun_turn : (raw : Raw) (b : Begun) (x y : List ℕ) → Begins m.lps raw (Ok b) → Finds (cut x) (Ok (Some raw)) y → (lacks : Bool) × (first_turn lacks m.lps x ≡ begun_to y (Ok b))
   begun_turn raw b x y (lacks, inl is) h = (lacks, first_found lacks x y raw h ∙ ap (begun_to y) (sym is))
   begun_turn raw b x y (lacks, inr none) h = absurd (cc)
@@ -123,9 +123,9 @@ module _ (m : Meaning) (limit : ℕ) where
       let within = within_of x y (Ok (Some raw)) k in
       (lacks_first t.0 never, (subst (TakesBeginning old new) (sym is) w, within.front, inl within))) h)
 
-  -- the same bytes served, with a frame before them
-  from_front : (s : Served) (P Q : Type 0) (bytes mid rest : List ℕ) (old new : Option (List ℕ)) (result : Result ℕ WireFault) → IsFront bytes mid → (P → Q) → Tells s P mid rest old new result →
-      Tells s Q bytes rest old new result
+  -- the same bytes served, behind a frame that was read before them
+  from_front : (s : Served) (P Q : Type 0) (bytes mid rest : List ℕ) (old new : Option (List ℕ)) (result : Result ℕ WireFault) → IsFront bytes mid → (P → Q) → HasOutcome s P mid rest old new result →
+      HasOutcome s Q bytes rest old new result
   from_front s P Q bytes mid rest old new (Ok k) f g h = h
   from_front s P Q bytes mid rest old new (Err wire.Io) f g h = (h.0, IsFront-trans bytes mid rest f h.1, g h.2)
   from_front s P Q bytes mid rest old new (Err wire.NoMemory) f g h = (h.0, IsFront-trans bytes mid rest f h.1, g h.2)
@@ -148,6 +148,6 @@ module _ (m : Meaning) (limit : ℕ) where
       let w = within_of x y (Ok (Some raw)) k in
       let all = lacks_first t.0 p.0 in (
         all,
-        subst (λ (s : Served). Tells s (Stops m all limit old new x z) x z old new result) (sym is)
+        subst (λ (s : Served). HasOutcome s (Stops m all limit old new x z) x z old new result) (sym is)
             (from_front (served_from m p.0 limit n y) (StopsFrom m p.0 limit n old new y z) (Stops m all limit old new x z) x y z old new result w.front (stops_later t.0 p.0 n old new x y z t.1) p.1),
       )) h s

@@ -1,4 +1,4 @@
--- What is spelled in so few bytes has few parts, so that its counts are told whole.
+-- An encoding of few bytes has few parts, so that its counts fit their bytes.
 use Rattle.std.proofs.Common.{ℕ, suc, ◌^◌, ◌<◌, ◌≤◌, List, [], ◌∷◌, ◌++◌, length, flat_map, arith, length-append}
 use Rattle.std.specs.List.{All, AllByRecursion as Every}
 use Rattle.byteorder.specs.Endian.{big_bytes}
@@ -6,7 +6,7 @@ use Rattle.byteorder.specs.Numbers.{length-bytes_high_first}
 use Rattle.eventkey.proofs.Lists.{Every-both}
 use Rattle.eventkey.proofs.Readings.{spellings_are_as_long}
 use Rattle.eventkey.specs.Message.{IsRanged, Message}
-use Rattle.eventkey.specs.Spelling.{message_bytes, signed_bytes}
+use Rattle.eventkey.specs.Encoding.{message_bytes, signed_bytes}
 use Rattle.eventkey.specs.declared.Signed.{Signed}
 use Rattle.node.specs.Handling.{IsInRange, IsReplyInRange}
 use Rattle.node.specs.declared.Load.{Load}
@@ -23,20 +23,20 @@ pub words_fit : (words : List ℕ) → All (λ (w : ℕ). w < 2 ^ 64) words → 
 words_fit [] h = tt
 words_fit (x ∷ xs) h = (h 0 x (omega arith), words_fit xs (λ k d l. h (suc k) d (omega arith)))
 
-module _ {X : Type 0} (spelled : X → List ℕ) where
-  few : ((x : X) → 1 ≤ length (spelled x)) → (xs : List X) → length xs ≤ length (flat_map spelled xs)
+module _ {X : Type 0} (encoded : X → List ℕ) where
+  few : ((x : X) → 1 ≤ length (encoded x)) → (xs : List X) → length xs ≤ length (flat_map encoded xs)
   few some [] = omega arith
-  few some (x ∷ xs) = omega (arith, length-append (spelled x) (flat_map spelled xs), some x, few some xs)
+  few some (x ∷ xs) = omega (arith, length-append (encoded x) (flat_map encoded xs), some x, few some xs)
 
-  each_short : (most : ℕ) (xs : List X) → length (flat_map spelled xs) ≤ most → Every (λ (x : X). length (spelled x) ≤ most) xs
+  each_short : (most : ℕ) (xs : List X) → length (flat_map encoded xs) ≤ most → Every (λ (x : X). length (encoded x) ≤ most) xs
   each_short most [] h = tt
   each_short most (x ∷ xs) h =
-      let both = length-append (spelled x) (flat_map spelled xs) in
+      let both = length-append (encoded x) (flat_map encoded xs) in
       (omega (arith, both, h), each_short most xs (omega (arith, both, h)))
 
-  -- what is counted is no longer than all that it stands in
-  counted_within : (xs : List X) (rest : List ℕ) → length (flat_map spelled xs) ≤ length (counted_bytes 4 spelled xs ++ rest)
-  counted_within xs rest = omega (arith, length-append (counted_bytes 4 spelled xs) rest, length-append (big_bytes 4 (length xs)) (flat_map spelled xs))
+  -- the items take no more bytes than the text that contains them
+  counted_within : (xs : List X) (rest : List ℕ) → length (flat_map encoded xs) ≤ length (counted_bytes 4 encoded xs ++ rest)
+  counted_within xs rest = omega (arith, length-append (counted_bytes 4 encoded xs) rest, length-append (big_bytes 4 (length xs)) (flat_map encoded xs))
 
 some_message : (x : Message) → 1 ≤ length (message_bytes x)
 some_message x = omega (arith, spellings_are_as_long.0 x)
@@ -98,13 +98,13 @@ done_fits d message sent after is = record {
 pub reply_fits : (r : Reply) → Every (λ (s : Signed). IsRanged s.message) r.out → Every (λ (d : Done). IsDoneInRange d → IsDone d) r.fossils → r.ran < 2 ^ 32 → IsReplyInRange r → length (reply_bytes r) ≤ 2 ^ 24 → IsReply r
 unfolding reply_bytes
 reply_fits r out fossils ran is short =
-    let told = counted_bytes 4 done_bytes r.fossils ++ big_bytes 4 r.ran in
-    let behind = length-append (counted_bytes 4 signed_bytes r.out) (low_bytes r.low ++ told) in
+    let known = counted_bytes 4 done_bytes r.fossils ++ big_bytes 4 r.ran in
+    let behind = length-append (counted_bytes 4 signed_bytes r.out) (low_bytes r.low ++ known) in
     record {
-      count = omega (arith, counted_within signed_bytes r.out (low_bytes r.low ++ told), few signed_bytes some_signed r.out, short);
+      count = omega (arith, counted_within signed_bytes r.out (low_bytes r.low ++ known), few signed_bytes some_signed r.out, short);
       out = out;
       low = is.low;
-      told = omega (arith, behind, length-append (low_bytes r.low) told, counted_within done_bytes r.fossils (big_bytes 4 r.ran), few done_bytes some_done r.fossils, short);
+      known = omega (arith, behind, length-append (low_bytes r.low) known, counted_within done_bytes r.fossils (big_bytes 4 r.ran), few done_bytes some_done r.fossils, short);
       fossils = Every-both (λ (d : Done). IsDoneInRange d → IsDone d) IsDoneInRange IsDone (λ d f r. f r) r.fossils fossils is.fossils;
       ran = ran;
     }

@@ -1,4 +1,4 @@
--- What stands in the place of a frame, by the bytes that come one after the other.
+-- What is first in a stream, as its bytes arrive.
 use Rattle.std.proofs.Common.{◌≡◌, ℕ, ◌+◌, ◌-◌, ◌<◌, ◌≤◌, ◌^◌, List, [], ◌∷◌, ◌++◌, length, take, drop, Option, Some, None, Result, Ok, inl, inr, refl, sym, ap, subst, ◌∙◌, arith, append-nil, append_assoc, take-append-drop}
 use Rattle.std.proofs.lemmas.Bool.{cases_lt, lt-ltb, le-ltb}
 use Rattle.std.proofs.lemmas.List.{drop_at, take_at, length-append}
@@ -29,7 +29,7 @@ on_end (Some bytes) None taken P h e p = absurd h
 on_end (Some bytes) (Some rest) taken P h e p =
     subst (λ (r : List ℕ). P bytes r) (sym e) (subst (λ (b : List ℕ). P b []) (sym (h ∙ ap (λ r. taken ++ r) e ∙ append-nil taken)) p)
 
--- 2. What stands there
+-- 2. What is first
 
 pub cut_none : cut [] ≡ record { found = Ok None; rest = [] }
 unfolding cut
@@ -40,7 +40,7 @@ unfolding cut
 cut_is [] some = absurd (omega arith)
 cut_is (b ∷ bytes) some = refl
 
--- less than a length
+-- fewer bytes than a length
 pub cut_short : (taken : List ℕ) → 0 < length taken → length taken < 4 → cut taken ≡ fails Truncated []
 unfolding number_at
 cut_short taken some few = cut_is taken some ∙ rw (lt-ltb (length taken) 4 few) refl
@@ -78,7 +78,7 @@ cut_whole head k kind body rest four fits e whole =
     cut_fits head (k ∷ (body ++ rest)) four fits ∙ ap (cut_body (big_number 4 head) (body ++ rest)) e
     ∙ rw (le-ltb (length (body ++ rest)) (big_number 4 head) long, take_at body rest (big_number 4 head) whole, drop_at body rest (big_number 4 head) whole) refl
 
--- 3. What is left is the back of what was there.
+-- 3. What is left is a suffix of what was there.
 
 IsFront-all : (bytes : List ℕ) → IsFront bytes []
 IsFront-all bytes = (bytes, sym (append-nil bytes))
@@ -113,7 +113,7 @@ behind_length bytes = elim (cases_lt (length bytes) 4) [
   | inr le ↦ rw (le-ltb (length bytes) 4 le) (front_number (big_number 4 bytes) (drop 4 bytes))
 ]
 
--- a frame has four bytes at least, or the input ends within them
+-- a frame has at least four bytes, or the input ends within them
 cut_behind : (bytes : List ℕ) → IsFront (drop 4 bytes) (cut bytes).rest
 unfolding cut
 cut_behind [] = ([], refl)
@@ -133,9 +133,9 @@ within_found None new found h = tt
 within_found (Some bytes) None found h = absurd h
 within_found (Some bytes) (Some rest) found h = within_of bytes rest (Ok found) h
 
--- 4. A reader that stops on the way has read nothing behind the frame.
+-- 4. A reader that stops part of the way has read nothing behind the frame.
 
--- who took fewer has left more
+-- taking fewer bytes leaves more
 drop_fewer : (n : ℕ) (taken rest : List ℕ) → length taken ≤ n → IsFront rest (drop n (taken ++ rest))
 drop_fewer n taken rest few =
     let more : n ≡ length taken + (n - length taken) = omega arith in
@@ -148,7 +148,7 @@ within_head taken rest few = record {
   behind = IsFront-trans rest (drop 4 (taken ++ rest)) (cut (taken ++ rest)).rest (drop_fewer 4 taken rest few) (cut_behind (taken ++ rest));
 }
 
--- from here on the length is told, and allowed
+-- here the length has been read, and is not too long
 behind_kind : (n : ℕ) (taken rest : List ℕ) → length taken ≤ 1 → IsFront rest (cut_kind n (taken ++ rest)).rest
 behind_kind n [] rest few = front_kind n rest
 behind_kind n (k ∷ []) rest few = front_body n rest (kind_of k)
@@ -180,7 +180,7 @@ within_body head k kind taken rest four fits e few =
       behind = subst (IsFront rest) (sym (ap (λ (c : Cut Raw). c.rest) is)) (behind_body n kind taken rest few);
     }
 
--- the same of a reader
+-- the same for a reader
 pub stops_in_head : (old new : Option (List ℕ)) → GivesUpTo 4 old new → OnBytes old new IsWithin
 stops_in_head old new (taken, few, h) = on_bytes old new taken IsWithin h (λ rest. within_head taken rest few)
 

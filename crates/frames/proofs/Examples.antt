@@ -1,10 +1,10 @@
--- The definitions, computed: what stands in a frame's place, and the frames of a ring of three
+-- The definitions, computed: what is first in a stream, and the frames of a ring of three
 -- processes.
 use Rattle.std.proofs.Common.{◌≡◌, List, ℕ, [], ◌∷◌, ◌++◌, length, length-append, arith, ap, refl, Some, Ok}
 use Rattle.byteorder.specs.Endian.{big_bytes}
 use Rattle.eventkey.specs.Reading.{number_at, items_at}
-use Rattle.eventkey.specs.Spelling.{message_at, signed_at}
-use Rattle.model.specs.Spelling.{words_at}
+use Rattle.eventkey.specs.Encoding.{message_at, signed_at}
+use Rattle.model.specs.Encoding.{words_at}
 use Rattle.frames.specs.Bodies.{load_in, parcel_in, part_at, fault_in}
 use Rattle.frames.specs.Cutting.{cut, frame_cut, fails}
 use Rattle.frames.specs.Streams.{IsWithin}
@@ -47,7 +47,7 @@ load : frame_cut (0 ∷ 0 ∷ 0 ∷ 53 ∷ 1 ∷ (load_body ++ 9 ∷ []))
 unfolding cut number_at items_at message_at words_at part_at load_in
 load = refl
 
--- a parcel of no deliveries
+-- a parcel without deliveries
 abbrev parcel_body : List ℕ
 parcel_body = big_bytes 4 0 ++ (big_bytes 4 16 ++ big_bytes 8 1)
 
@@ -76,7 +76,7 @@ not_behind w =
     let size : 0 ≡ length (w.behind.0 ++ 9 ∷ []) = ap length none in
     absurd (omega (arith, length-append w.behind.0 (9 ∷ []), size))
 
--- of a length that is too long its four bytes
+-- if the length is too long, its four bytes
 not_behind_length : IsWithin (1 ∷ 0 ∷ 0 ∷ 1 ∷ 9 ∷ []) [] → ⊥
 unfolding cut number_at
 not_behind_length w =

@@ -1,4 +1,4 @@
--- A buffer that is filled from its front.
+-- A buffer that is filled from its start.
 use Rattle.std.proofs.Common.{◌≡◌, ℕ, ◌+◌, ◌-◌, ◌≤◌, List, ◌++◌, arith, length, take, slice_range, Option, sym, ap, ◌∙◌, subst, le_refl, drop_at, length-take-le}
 use Rattle.std.proofs.lemmas.List.{length-take}
 use Rattle.std.proofs.lemmas.Slice.{take-put_mid_below}
@@ -19,17 +19,17 @@ slice_range-put_mid a k n xs ys within fits =
     let after = post_of a k xs in
     ap (take ((a + n) - a)) (drop_at (take a xs) (ys ++ after) a (length-take-le a xs within)) ∙ ap (λ m. take m (ys ++ after)) same ∙ take-append-le n ys after fits
 
--- more came behind what is there
+-- more bytes arrived behind those in the buffer
 pub fill_more : (old mid new : Option (List ℕ)) (a k n : ℕ) (xs ys : List ℕ) → a ≤ length xs → n ≤ length ys → Consumes old mid (take a xs) → Consumes mid new (take n ys) →
     Consumes old new (take (a + n) (put_mid a k xs ys))
 fill_more old mid new a k n xs ys within fits h more =
     let joined = take_split a (a + n) xs (put_mid a k xs ys) (omega arith) (take-put_mid_below _ _ _ _ _ (le_refl _) within) in
     subst (Consumes old new) (ap (λ l. take a xs ++ l) (sym (slice_range-put_mid a k n xs ys within fits)) ∙ joined) (Consumes-trans old mid new _ _ h more)
 
--- nothing came, and what is behind may have changed
+-- no bytes arrived, and what is behind them in the buffer may have changed
 pub fill_kept : (old mid new : Option (List ℕ)) (a k : ℕ) (xs ys : List ℕ) → a ≤ length xs → Consumes old mid (take a xs) → Keeps mid new → Consumes old new (take a (put_mid a k xs ys))
 fill_kept old mid new a k xs ys within h kept = subst (Consumes old new) (sym (take-put_mid_below _ _ _ _ _ (le_refl _) within)) (Consumes-kept old mid new _ h kept)
 
--- the reader failed there
+-- the reader failed at this point
 pub fill_stopped : (old mid new : Option (List ℕ)) (a k : ℕ) (xs ys : List ℕ) → a ≤ length xs → Consumes old mid (take a xs) → Keeps mid new → GivesUpTo (length (put_mid a k xs ys)) old new
 fill_stopped old mid new a k xs ys within h kept = (take a (put_mid a k xs ys), omega (arith, length-take a (put_mid a k xs ys)), fill_kept old mid new a k xs ys within h kept)

@@ -1,4 +1,4 @@
--- Steps of readers, and of what they read again.
+-- Steps of readers, and of reading back what was written.
 use Rattle.std.proofs.Common.{◌≡◌, ℕ, ◌^◌, ◌<◌, ◌≤◌, cond, List, [], ◌++◌, length, Option, Some, None, sym, ap, subst, ◌∙◌, append_assoc, append-nil, arith, inl, inr, ◌⊎◌, eqb-true}
 use Rattle.std.specs.Prelude.{nat_le, nat_eq}
 use Rattle.std.specs.List.{flat_map, AllByRecursion as Every}
@@ -22,14 +22,14 @@ module _ {X Y : Type 0} {Fits : X → Type 0} {write : X → List ℕ} {read : R
 pub whole : (bytes text rest : List ℕ) → Takes bytes text rest → rest ≡ [] → bytes ≡ text
 whole bytes text rest t e = t.parts ∙ ap (λ (r : List ℕ). text ++ r) e ∙ append-nil text
 
--- the first of some tests that is passed
+-- the first of some tests that succeeds
 pub pick : {X : Type 0} (b k : ℕ) (x f : X) (more : Option X) → cond (nat_eq b k) (Some x) more ≡ Some f → ((b ≡ k) × (x ≡ f)) ⊎ (more ≡ Some f)
 pick b k x f more e = elim (cases_Bool (nat_eq b k)) [
   | inl t ↦ (let is : Some x ≡ Some f = rw t at e in inl (eqb-true b k t, same_Some x f is))
   | inr t ↦ (let is : more ≡ Some f = rw t at e in inr is)
 ]
 
--- 2. A count, and so many
+-- 2. A count, and that number of items
 
 module _ {X Y : Type 0} {Fits : X → Type 0} {write : X → List ℕ} {read : Reader X} (format : IsFormat Fits write read) where
   pub counted_step : (bytes : List ℕ) → IsBytes bytes → (f : List X × List ℕ → Option Y) (y : Y) →
@@ -59,7 +59,7 @@ module _ {X Y : Type 0} {Fits : X → Type 0} {write : X → List ℕ} {read : R
       ap (λ (b : List ℕ). number_at 4 b >>= λ count. items_at read count.0 count.1 >>= f) (append_assoc (counted_bytes 4 write xs) tail rest)
       ∙ counted_last xs (tail ++ rest) f few fits
 
--- a count of one byte, at most so much
+-- a count of one byte, at most `most`
 module _ {X : Type 0} {Fits : X → Type 0} {write : X → List ℕ} {read : Reader X} (format : IsFormat Fits write read) (most : ℕ) (small : most < 256) where
   abbrev pub Few : List X → Type 0
   Few xs = (length xs ≤ most) × Every Fits xs

@@ -1,4 +1,4 @@
--- Whole frames: each has one spelling, and no other bytes are read.
+-- Whole frames: each has one encoding, and no other bytes are read as a frame.
 use Rattle.std.proofs.Common.{◌≡◌, ℕ, ◌^◌, ◌≤◌, Bool, true, false, cond, List, [], ◌∷◌, ◌++◌, length, take, drop, Option, Some, None, Result, Ok, Err, refl, sym, ap, subst, ◌∙◌, arith, inl, inr, append_assoc, append-nil, take-append-drop}
 use Rattle.std.specs.Prelude.{nat_eq}
 use Rattle.std.proofs.lemmas.Bool.{cases_lt, lt-ltb, le-ltb, le-leb, eq-eqb, ne_eqb}
@@ -11,7 +11,7 @@ use Rattle.eventkey.proofs.Fields.{IsBytes-drop, IsBytes-take, format4}
 use Rattle.eventkey.proofs.Readings.{first_number}
 use Rattle.frames.specs.Bodies.{body_bytes, fault_in, frame_bytes, frame_in, framed, kind_in, kind_number, kind_of, load_in, parcel_in, reply_in, seen_as}
 use Rattle.frames.specs.Cutting.{Cut, cut, cut_body, cut_kind, cut_length, fails, opened_cut, raw_in}
-use Rattle.frames.specs.Laws.{BodiesAreSpelled, FramesAreReadBack, FramesAreReadWhole, FramesAreSpelled, IsBodyOf, NoByteIsLeftOver}
+use Rattle.frames.specs.Laws.{BodiesAreCanonical, FramesAreReadBack, FramesAreReadWhole, FramesAreCanonical, IsBodyOf, NoByteIsLeftOver}
 use Rattle.frames.specs.Ranges.{IsInRange}
 use Rattle.frames.specs.Streams.{Finds}
 use Rattle.frames.specs.declared.Frame.{Frame}
@@ -31,24 +31,24 @@ seen_some : {X : Type 0} (f : X → Frame) (o : Option X) (y : Frame) → seen_a
 seen_some f (Some x) y e = (x, refl, same_Some (f x) y e)
 seen_some f None y e = absurd (none-some y e)
 
-pub bodies_are_spelled : BodiesAreSpelled
-bodies_are_spelled kind.Load body f fits e =
+pub bodies_are_canonical : BodiesAreCanonical
+bodies_are_canonical kind.Load body f fits e =
     let x = seen_some (λ l. frame.Load l) (load_in body) f e in
     let is = load_takes body x.0 fits x.1 in
-    subst (IsBodyOf kind.Load body) x.2 (record { kind_is = refl; spelled = is.0; in_range = is.1 })
-bodies_are_spelled kind.Parcel body f fits e =
+    subst (IsBodyOf kind.Load body) x.2 (record { kind_is = refl; encoded = is.0; in_range = is.1 })
+bodies_are_canonical kind.Parcel body f fits e =
     let x = seen_some (λ p. frame.Parcel p) (parcel_in body) f e in
     let is = parcel_takes body x.0 fits x.1 in
-    subst (IsBodyOf kind.Parcel body) x.2 (record { kind_is = refl; spelled = is.0; in_range = is.1 })
-bodies_are_spelled kind.Reply body f fits e =
+    subst (IsBodyOf kind.Parcel body) x.2 (record { kind_is = refl; encoded = is.0; in_range = is.1 })
+bodies_are_canonical kind.Reply body f fits e =
     let x = seen_some (λ r. frame.Reply r) (reply_in body) f e in
     let is = reply_takes body x.0 fits x.1 in
-    subst (IsBodyOf kind.Reply body) x.2 (record { kind_is = refl; spelled = is.0; in_range = is.1 })
-bodies_are_spelled kind.Fault body f fits e =
+    subst (IsBodyOf kind.Reply body) x.2 (record { kind_is = refl; encoded = is.0; in_range = is.1 })
+bodies_are_canonical kind.Fault body f fits e =
     let x = seen_some (λ n. frame.Fault n) (fault_in body) f e in
-    subst (IsBodyOf kind.Fault body) x.2 (record { kind_is = refl; spelled = fault_takes body x.0 x.1; in_range = tt })
+    subst (IsBodyOf kind.Fault body) x.2 (record { kind_is = refl; encoded = fault_takes body x.0 x.1; in_range = tt })
 
--- what is read of a body's bytes, and of more
+-- what is read from the bytes of a body, with and without further bytes
 alone_seen : {X : Type 0} (f : X → Frame) (rest : List ℕ) (x : X) → seen_as f (alone rest x) ≡ alone rest (f x)
 alone_seen f rest x = go (nat_eq (length rest) 0)
   where
@@ -67,9 +67,9 @@ not_alone f byte more = rw (ne_eqb (length (byte ∷ more)) 0 (λ e. omega arith
 
 pub no_byte_is_left_over : NoByteIsLeftOver
 no_byte_is_left_over kind body f byte more fits e =
-    let is = bodies_are_spelled kind body f fits e in
+    let is = bodies_are_canonical kind body f fits e in
     subst (λ k. frame_in k (body ++ byte ∷ more) ≡ None) (sym is.kind_is)
-    (subst (λ b. frame_in (kind_in f) (b ++ byte ∷ more) ≡ None) (sym is.spelled) (body_again f (byte ∷ more) is.in_range ∙ not_alone f byte more))
+    (subst (λ b. frame_in (kind_in f) (b ++ byte ∷ more) ≡ None) (sym is.encoded) (body_again f (byte ∷ more) is.in_range ∙ not_alone f byte more))
 
 -- 2. Frames
 
@@ -111,7 +111,7 @@ frames_are_read_back f rest is few =
     open_found (cut (frame_bytes f ++ rest)) (kind_in f) (body_bytes f) rest f (cut_again (kind_in f) (body_bytes f) rest few)
     (ap (frame_in (kind_in f)) (sym (append-nil (body_bytes f))) ∙ body_again f [] is)
 
--- from a frame's bytes alone its kind and its body are taken
+-- the kind and the body are read back from the bytes of one frame
 taken_alone : (k : Kind) (body : List ℕ) → length body ≤ 2 ^ 24 → raw_in (framed k body) ≡ Some (record { kind = k; body = body })
 unfolding raw_in framed
 taken_alone k body few =
@@ -122,13 +122,13 @@ frames_are_read_whole f is few =
     ap (λ (o : Option Raw). o >>= (λ raw. frame_in raw.kind raw.body)) (taken_alone (kind_in f) (body_bytes f) few)
     ∙ ap (frame_in (kind_in f)) (sym (append-nil (body_bytes f))) ∙ body_again f [] is
 
--- what was cut off
+-- the bytes begin with this frame
 record IsCutOff (bytes : List ℕ) (raw : Raw) (rest : List ℕ) : Type 0 where
-  pub spelled : bytes ≡ framed raw.kind raw.body ++ rest
+  pub encoded : bytes ≡ framed raw.kind raw.body ++ rest
   pub fits : length raw.body ≤ 2 ^ 24
   pub are_bytes : IsBytes raw.body
 
--- a cut that found a fault found no frame
+-- a cut that found a fault did not find a frame
 no_frame : {X : Type 0} (fault : WireFault) (after rest : List ℕ) (x : X) → fails fault after ≡ record { found = Ok (Some x); rest = rest } → ⊥
 no_frame {X} fault after rest x e = let found : Err fault ≡ Ok (Some x) = ap (λ (c : Cut X). c.found) e in cc
 
@@ -147,7 +147,7 @@ whole_body head n k bytes kind raw rest h few e enough fits f =
     ∙ ap (λ b. big_bytes 4 (length (take n bytes)) ++ kind_number kind ∷ b) (sym (take-append-drop n bytes))
     ∙ sym (append_assoc (big_bytes 4 (length (take n bytes))) (kind_number kind ∷ take n bytes) (drop n bytes)) in
     subst (λ r. IsCutOff (head ++ k ∷ bytes) raw r) left (subst (λ b. IsCutOff (head ++ k ∷ bytes) b (drop n bytes)) is
-    (record { spelled = parts; fits = omega (arith, long); are_bytes = IsBytes-take n bytes fits }))
+    (record { encoded = parts; fits = omega (arith, long); are_bytes = IsBytes-take n bytes fits }))
 
 cut_off_body : (head : List ℕ) (n k : ℕ) (bytes : List ℕ) (kind : Option Kind) (raw : Raw) (rest : List ℕ) → head ≡ big_bytes 4 n → n ≤ 2 ^ 24 → kind_of k ≡ kind → IsBytes bytes →
     Finds (cut_body n bytes kind) (Ok (Some raw)) rest → IsCutOff (head ++ k ∷ bytes) raw rest
@@ -177,7 +177,7 @@ unfolding cut
 cut_off [] raw rest fits f = absurd (let found : Ok None ≡ Ok (Some raw) = ap (λ (c : Cut Raw). c.found) f in cc)
 cut_off (b ∷ bytes) raw rest fits f = cut_off_length (b ∷ bytes) (number_at 4 (b ∷ bytes)) raw rest fits refl f
 
--- the raw frame under a frame that was read
+-- the raw frame of a frame that was read
 record IsOpenedOf (c : Cut Raw) (f : Frame) (rest : List ℕ) : Type 0 where
   pub raw : Raw
   pub found : Finds c (Ok (Some raw)) rest
@@ -198,13 +198,13 @@ opened_of (Ok (Some raw)) after rest f e = opened_of_body raw after rest f (fram
 opened_of (Ok None) after rest f e = absurd (let found : Ok None ≡ Ok (Some f) = ap (λ (c : Cut Frame). c.found) e in cc)
 opened_of (Err fault) after rest f e = absurd (no_frame fault after rest f e)
 
-pub frames_are_spelled : FramesAreSpelled
-frames_are_spelled bytes rest f fits e =
+pub frames_are_canonical : FramesAreCanonical
+frames_are_canonical bytes rest f fits e =
     let o = opened_of (cut bytes).found (cut bytes).rest rest f e in
     let c = cut_off bytes o.raw rest fits o.found in
-    let b = bodies_are_spelled o.raw.kind o.raw.body f c.are_bytes o.is in
+    let b = bodies_are_canonical o.raw.kind o.raw.body f c.are_bytes o.is in
     record {
-      spelled = c.spelled ∙ ap (λ k. framed k o.raw.body ++ rest) b.kind_is ∙ ap (λ x. framed (kind_in f) x ++ rest) b.spelled;
+      encoded = c.encoded ∙ ap (λ k. framed k o.raw.body ++ rest) b.kind_is ∙ ap (λ x. framed (kind_in f) x ++ rest) b.encoded;
       in_range = b.in_range;
-      fits = subst (λ x. length x ≤ 2 ^ 24) b.spelled c.fits;
+      fits = subst (λ x. length x ≤ 2 ^ 24) b.encoded c.fits;
     }

@@ -1,4 +1,4 @@
--- Calls that came only halfway.
+-- Calls that stopped part of the way.
 use Rattle.std.proofs.Common.{◌≡◌, ℕ, ◌<◌, ◌≤◌, min, ◌+◌, List, ◌++◌, length, Option, Result, Ok, Err, inl, inr, sym, subst, arith, length-append}
 use Rattle.std.specs.Result.{IsErrAnd}
 use Rattle.std.specs.Io.KnownBytes.{Consumes, IsAtEnd}

@@ -1,4 +1,4 @@
--- The parts of bodies: each has one spelling, and no other bytes are read.
+-- The parts of bodies: each has one encoding, and no other bytes are read.
 use Rattle.std.proofs.Common.{◌≡◌, ℕ, ◌^◌, ◌<◌, ◌≤◌, cond, List, ◌++◌, length, Option, Some, None, refl, subst, ◌∙◌, arith, inl, inr, eqb-true}
 use Rattle.std.specs.Prelude.{nat_le, nat_lt, nat_eq, IfSome}
 use Rattle.std.specs.List.{AllByRecursion as Every}
@@ -7,11 +7,11 @@ use Rattle.std.proofs.lemmas.Option.{cond_some, same_Some}
 use Rattle.byteorder.specs.Endian.{big_bytes}
 use Rattle.eventkey.specs.Message.{Message, IsRanged}
 use Rattle.eventkey.specs.Reading.{IsBytes, ◌>>=◌, number_at, items_at}
-use Rattle.eventkey.specs.Spelling.{message_at, message_bytes}
+use Rattle.eventkey.specs.Encoding.{message_at, message_bytes}
 use Rattle.eventkey.proofs.Fields.{IsFormat, Takes, Takes-then, format1, format4, format8, step_of, when_some}
 use Rattle.eventkey.proofs.Spellings.{message_format}
-use Rattle.model.proofs.Spelling.{words_format}
-use Rattle.model.specs.Spelling.{words_at, words_bytes}
+use Rattle.model.proofs.Encoding.{words_format}
+use Rattle.model.specs.Encoding.{words_at, words_bytes}
 use Rattle.node.specs.declared.Part.{Part}
 use Rattle.process.specs.declared.Done.{Done}
 use Rattle.frames.specs.Bodies.{counted_bytes, counted_at, done_at, done_bytes, low_at, low_bytes, part_at, part_bytes}
@@ -26,12 +26,12 @@ Field = ℕ × List ℕ
 abbrev Messages : Type 0
 Messages = List Message × List ℕ
 
-abbrev part_told : ℕ → ℕ → List ℕ → Messages → Option (Part × List ℕ)
-part_told lp number words pending =
+abbrev part_read : ℕ → ℕ → List ℕ → Messages → Option (Part × List ℕ)
+part_read lp number words pending =
     cond (nat_le number (2 ^ 63)) (Some (record { lp = lp; number = number; words = words; pending = pending.0 }, pending.1)) None
 
 abbrev part_after_words : ℕ → ℕ → List ℕ × List ℕ → Option (Part × List ℕ)
-part_after_words lp number words = number_at 4 words.1 >>= λ count. items_at message_at count.0 count.1 >>= part_told lp number words.0
+part_after_words lp number words = number_at 4 words.1 >>= λ count. items_at message_at count.0 count.1 >>= part_read lp number words.0
 
 abbrev part_after_number : ℕ → Field → Option (Part × List ℕ)
 part_after_number lp number = words_at number.1 >>= part_after_words lp number.0
@@ -45,7 +45,7 @@ part_takes bytes x fits e =
     let lp = step_of format4 bytes fits part_after_lp x e in
     let number = step_of format8 lp.got.1 lp.front.fits (part_after_number lp.got.0) x lp.rest in
     let words = step_of words_format number.got.1 number.front.fits (part_after_words lp.got.0 number.got.0) x number.rest in
-    let pending = counted_step message_format words.got.1 words.front.fits (part_told lp.got.0 number.got.0 words.got.0) x words.rest in
+    let pending = counted_step message_format words.got.1 words.front.fits (part_read lp.got.0 number.got.0 words.got.0) x words.rest in
     let made : Part = record { lp = lp.got.0; number = number.got.0; words = words.got.0; pending = pending.got.0 } in
     let is = cond_some (nat_le number.got.0 (2 ^ 63)) (made, pending.got.1) x pending.rest in
     let front = Takes-then _ _ _ _ _ lp.front (Takes-then _ _ _ _ _ number.front (Takes-then _ _ _ _ _ words.front pending.front)) in
@@ -60,13 +60,13 @@ part_again p rest is =
     again_step format4 p.lp (big_bytes 8 p.number ++ (words_bytes p.words ++ pending)) rest part_after_lp is.lp
     ∙ again_step format8 p.number (words_bytes p.words ++ pending) rest (part_after_number p.lp) (omega arith)
     ∙ again_step words_format p.words pending rest (part_after_words p.lp p.number) is.words
-    ∙ counted_last message_format p.pending rest (part_told p.lp p.number p.words) is.count is.pending
+    ∙ counted_last message_format p.pending rest (part_read p.lp p.number p.words) is.count is.pending
     ∙ rw (le-leb p.number (2 ^ 63) n) refl
 
 pub part_format : IsFormat IsPart part_bytes part_at
 part_format = record { takes = part_takes; again = part_again }
 
--- 2. A time, where there is one
+-- 2. An optional time
 
 abbrev IsLow : Option ℕ → Type 0
 IsLow low = IfSome low (λ time. time < 2 ^ 41)
@@ -81,13 +81,13 @@ low_takes : (bytes : List ℕ) (x : Option ℕ × List ℕ) → IsBytes bytes �
 unfolding low_at low_bytes
 low_takes bytes x fits e =
     let flag = step_of format1 bytes fits low_flag x e in
-    let told = flag.rest in
+    let known = flag.rest in
     elim (cases_Bool (nat_eq flag.got.0 0)) [
-      | inl none ↦ (let is : Some (None, flag.got.1) ≡ Some x = rw none at told in
+      | inl none ↦ (let is : Some (None, flag.got.1) ≡ Some x = rw none at known in
           let front : Takes bytes (big_bytes 1 0) flag.got.1 = subst (λ (k : ℕ). Takes bytes (big_bytes 1 k) flag.got.1) (eqb-true flag.got.0 0 none) flag.front in
           subst (λ (y : Option ℕ × List ℕ). Takes bytes (low_bytes y.0) y.1 × IsLow y.0) (same_Some {A = Option ℕ × List ℕ} (None, flag.got.1) x is) (front, tt))
       | inr some ↦
-          let then_one : cond (nat_eq flag.got.0 1) (number_at 8 flag.got.1 >>= low_time) None ≡ Some x = rw some at told in
+          let then_one : cond (nat_eq flag.got.0 1) (number_at 8 flag.got.1 >>= low_time) None ≡ Some x = rw some at known in
           let one = when_some (nat_eq flag.got.0 1) (number_at 8 flag.got.1 >>= low_time) x then_one in
           let time = step_of format8 flag.got.1 flag.front.fits low_time x one.1 in
           let is = cond_some (nat_lt time.got.0 (2 ^ 41)) (Some time.got.0, time.got.1) x time.rest in
@@ -106,14 +106,14 @@ low_again (Some time) rest is =
 pub low_format : IsFormat IsLow low_bytes low_at
 low_format = record { takes = low_takes; again = low_again }
 
--- 3. A handling that is told
+-- 3. A reported record
 
-abbrev done_told : Message → List Message → List ℕ → Field → Option (Done × List ℕ)
-done_told message sent after number =
+abbrev done_read : Message → List Message → List ℕ → Field → Option (Done × List ℕ)
+done_read message sent after number =
     cond (nat_le number.0 (2 ^ 63)) (Some (record { message = message; sent = sent; after = after; number_after = number.0 }, number.1)) None
 
 abbrev done_after_words : Message → List Message → List ℕ × List ℕ → Option (Done × List ℕ)
-done_after_words message sent after = number_at 8 after.1 >>= done_told message sent after.0
+done_after_words message sent after = number_at 8 after.1 >>= done_read message sent after.0
 
 abbrev done_after_sent : Message → Messages → Option (Done × List ℕ)
 done_after_sent message sent = words_at sent.1 >>= done_after_words message sent.0
@@ -130,7 +130,7 @@ done_takes bytes x fits e =
     let message = step_of message_format bytes fits done_after_message x e in
     let sent = step_of sent_format message.got.1 message.front.fits (done_after_sent message.got.0) x message.rest in
     let after = step_of words_format sent.got.1 sent.front.fits (done_after_words message.got.0 sent.got.0) x sent.rest in
-    let number = step_of format8 after.got.1 after.front.fits (done_told message.got.0 sent.got.0 after.got.0) x after.rest in
+    let number = step_of format8 after.got.1 after.front.fits (done_read message.got.0 sent.got.0 after.got.0) x after.rest in
     let made : Done = record { message = message.got.0; sent = sent.got.0; after = after.got.0; number_after = number.got.0 } in
     let is = cond_some (nat_le number.got.0 (2 ^ 63)) (made, number.got.1) x number.rest in
     let front = Takes-then _ _ _ _ _ message.front (Takes-then _ _ _ _ _ sent.front (Takes-then _ _ _ _ _ after.front number.front)) in
@@ -144,7 +144,7 @@ done_again d rest is =
     again_step message_format d.message (counted_bytes 1 message_bytes d.sent ++ (words_bytes d.after ++ big_bytes 8 d.number_after)) rest done_after_message is.message
     ∙ again_step sent_format d.sent (words_bytes d.after ++ big_bytes 8 d.number_after) rest (done_after_sent d.message) (is.few, is.sent)
     ∙ again_step words_format d.after (big_bytes 8 d.number_after) rest (done_after_words d.message d.sent) is.after
-    ∙ again_last format8 d.number_after rest (done_told d.message d.sent d.after) (omega arith)
+    ∙ again_last format8 d.number_after rest (done_read d.message d.sent d.after) (omega arith)
     ∙ rw (le-leb d.number_after (2 ^ 63) n) refl
 
 pub done_format : IsFormat IsDone done_bytes done_at

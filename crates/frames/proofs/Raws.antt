@@ -1,4 +1,5 @@
--- The exits of reading one frame: what came of the head and of the kind, and what stands there.
+-- The exits of reading one frame: which bytes of the head and of the kind arrived, and what the
+-- frame is.
 use Rattle.std.proofs.Common.{◌≡◌, ℕ, ◌<◌, ◌≤◌, ◌^◌, List, [], ◌∷◌, ◌++◌, length, take, Option, Some, None, Result, Ok, Err, inl, inr, sym, ap, subst, ◌∙◌, arith, append-nil, append_assoc, slice_index}
 use Rattle.std.proofs.lemmas.List.{take_all, length-take}
 use Rattle.std.specs.Io.KnownBytes.{Consumes, IsAtEnd}
@@ -13,7 +14,7 @@ use Rattle.wire.specs.declared.port.WireFault.{WireFault}
 use Rattle.wire.specs.declared.port.WireFault.TheVariants.{BadKind, TooLong, Truncated}
 use Rattle.frames.proofs.Cuts.{cut_bad_kind, cut_long, cut_no_body, cut_no_kind, cut_none, cut_short, cut_whole, on_bytes, on_end, stops_in_body}
 
--- what filling a buffer says
+-- what the contract of `fill` says on success
 pub record Came (old new : Option (List ℕ)) (buffer : List ℕ) (n came : ℕ) : Type 0 where
   pub size : length buffer ≡ n
   pub bytes : Consumes old new (take came buffer)
@@ -36,7 +37,7 @@ raw_short old new head came c some few =
 pub raw_long : (old new : Option (List ℕ)) (head : List ℕ) (came : ℕ) → Came old new head 4 came → 4 ≤ came → 2 ^ 24 < big_number 4 head → OnBytes old new (IsCutBy cut (Err TooLong))
 raw_long old new head came c all long = on_bytes old new head (IsCutBy cut (Err TooLong)) (came_all old new head 4 came c all) (λ rest. cut_long head rest c.size long)
 
--- the head has come, and its length is allowed
+-- the head was read, and its length is not too long
 pub record HasHead (old mid : Option (List ℕ)) (head : List ℕ) : Type 0 where
   pub size : length head ≡ 4
   pub bytes : Consumes old mid head
@@ -47,7 +48,7 @@ raw_no_kind old mid new head number came h c e =
     let both = subst (Consumes old new) (append-nil head) (Consumes-trans old mid new head [] h.bytes (came_none mid new number 1 came c e)) in
     on_end old new head (IsCutBy cut (Err Truncated)) both (c.ended (omega (arith, e, c.size))) (cut_no_kind head h.size h.fits)
 
--- and the number of the kind
+-- the same, and the number of the kind was read
 pub record HasKind (old mid : Option (List ℕ)) (head number : List ℕ) : Type 0 where
   pub size : length head ≡ 4
   pub one : length number ≡ 1
@@ -80,7 +81,7 @@ raw_whole old mid new head (k ∷ []) body kind h e whole given =
     (λ rest. ap cut (append_assoc (head ++ k ∷ []) body rest ∙ append_assoc head (k ∷ []) (body ++ rest)) ∙ cut_whole head k kind body rest h.size h.fits e whole)
 raw_whole old mid new head (k ∷ (j ∷ more)) body kind h e whole given = absurd (let one = h.one in omega arith)
 
--- the body came only halfway
+-- reading the body stopped part of the way
 pub raw_part : (old mid new : Option (List ℕ)) (head number : List ℕ) (kind : Kind) → HasKind old mid head number → kind_of (slice_index number 0) ≡ Some kind → GivesUpTo (big_number 4 head) mid new →
     OnBytes old new IsWithin
 raw_part old mid new head [] kind h e some = absurd (let one = h.one in omega arith)
@@ -93,7 +94,7 @@ cut_halfway cut old new fault (Ok x) e h within = absurd e
 cut_halfway cut old new fault (Err f) e (inl io) within = subst (λ g. OnBytes old new (IsCutBy cut (Err g))) (sym (e ∙ io)) within
 cut_halfway cut old new fault (Err f) e (inr memory) within = subst (λ g. OnBytes old new (IsCutBy cut (Err g))) (sym (e ∙ memory)) within
 
--- what a body says, of which it is known how it came
+-- the bytes of a body that was read, or is missing
 module _ {X : Type 0} (seen : X → List ℕ) (n : ℕ) (old new : Option (List ℕ)) (found : Option X) where
   pub body_missing : Comes seen n old new (Ok found) → found ≡ None → GivesFewer n old new
   body_missing c e = subst (λ (o : Option X). Comes seen n old new (Ok o)) e c

@@ -124,7 +124,7 @@ module _ (m : Meaning) (old new : Node) (raw : Raw) where
       (a.0, inl (is ∙ ap response_to a.1 ∙ sym (ap (λ (r : Reaction). r.response) at), a.2 ∙ sym (ap (λ (r : Reaction). r.node) at)))
   react_done p r result e f h (inr is) = (false, inr is)
 
-  -- a reply that was answered is the node's own, and not one for want of memory
+  -- a reply that was encoded is the node's own, not an allocation failure
   pub react_in_range : (p : Parcel) (r : Result Reply NodeFault) (result : Result Response WireFault) → parcel_in raw.body ≡ Some p → IsAnswered m p old new r →
       (result ≡ response_to r) ⊎ (result ≡ Err NoMemory) → OnOk result (IfOk r (λ reply. IsReply reply)) → IfOk result (λ response. RepliesInRange m old raw response)
   react_in_range p r (Err fault) e h is fits = tt

@@ -1,12 +1,12 @@
--- The definitions, computed: what node zero of a ring of three processes serves.
+-- The definitions, computed: what node 0 of a ring of three processes serves.
 use Rattle.std.specs.Prelude.{Ok, Err, false}
 use Rattle.std.proofs.Common.{◌≡◌, ℕ, List, [], ◌∷◌, ◌++◌, refl, replicate}
 use Rattle.byteorder.specs.Endian.{big_bytes}
 use Rattle.eventkey.specs.Message.{Message, message_cmp}
 use Rattle.eventkey.specs.Reading.{number_at, items_at}
-use Rattle.eventkey.specs.Spelling.{message_bytes, message_at, signed_bytes, signed_at}
+use Rattle.eventkey.specs.Encoding.{message_bytes, message_at, signed_bytes, signed_at}
 use Rattle.process.specs.Ring.{ring_meaning}
-use Rattle.model.specs.Spelling.{words_at, words_bytes}
+use Rattle.model.specs.Encoding.{words_at, words_bytes}
 use Rattle.frames.specs.Bodies.{done_bytes, low_bytes, reply_bytes, fault_bytes, part_at, load_in, parcel_in, framed}
 use Rattle.frames.specs.Cutting.{cut}
 use Rattle.frames.specs.Reactions.{begun, reaction}
@@ -16,7 +16,7 @@ use Rattle.wire.specs.declared.port.WireFault.TheVariants.{BadBody, BadKind, Too
 abbrev first : Message
 first = record { time = 1; from = 0; number = 0; to = 0; a = 0; b = 0; c = 0; d = 0 }
 
--- the load of node 0, a parcel of no deliveries, the reply to it, and the refusal of a message
+-- the load of node 0, a parcel without deliveries, the reply to it, and the refusal of a message
 -- before the floor
 abbrev load : List ℕ
 load =

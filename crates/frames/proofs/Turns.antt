@@ -1,4 +1,4 @@
--- Turn after turn.
+-- One turn after another.
 use Rattle.std.proofs.Common.{◌≡◌, ℕ, zero, suc, ◌+◌, ◌-◌, ◌<◌, ◌≤◌, Bool, true, false, List, [], ◌++◌, Option, Some, None, Result, Ok, Err, refl, sym, ap, subst, ◌∙◌, arith, append-nil, append_assoc}
 use Rattle.std.specs.Io.KnownBytes.{Appends}
 use Rattle.std.proofs.KnownBytes.{Appends-nil, Appends-trans}
@@ -7,26 +7,26 @@ use Rattle.model.specs.Meaning.{Meaning}
 use Rattle.node.specs.Handling.{Node}
 use Rattle.frames.specs.Streams.{IsFront, IsWithin, OnBytes}
 use Rattle.frames.specs.Serving.{Lacks, Served, behind, next_turn, plus, served_from, then_on}
-use Rattle.frames.specs.Told.{IsServedFrom, IsTurn, StopsFrom}
+use Rattle.frames.specs.Outcomes.{IsServedFrom, IsTurn, StopsFrom}
 use Rattle.eventkey.specs.Writing.{TakesBeginning}
 use Rattle.wire.specs.declared.port.WireFault.{WireFault}
 use Rattle.wire.specs.declared.port.WireFault.TheVariants as wire
 use Rattle.frames.proofs.Cuts.{IsFront-trans}
 
--- one reader after another
+-- one read after another
 pub on_then : (a b c : Option (List ℕ)) (P Q R : List ℕ → List ℕ → Type 0) → ((x y z : List ℕ) → P x y → Q y z → R x z) → OnBytes a b P → OnBytes b c Q → OnBytes a c R
 on_then None b c P Q R f p q = tt
 on_then (Some x) None c P Q R f p q = absurd p
 on_then (Some x) (Some y) None P Q R f p q = absurd q
 on_then (Some x) (Some y) (Some z) P Q R f p q = f x y z p q
 
--- the loop's turn is put in front of what is lacked later
+-- this turn, and then the later turns without memory
 abbrev pub lacks_first : Bool → Lacks → ℕ → Bool
 lacks_first b lacks zero = b
 lacks_first b lacks (suc turn) = lacks turn
 
--- What was served so far: whatever the node lacks from here on, what is served of all the bytes is
--- that, and then what is served of the rest.
+-- What was served so far: whichever later turns are without memory, the served text of all the
+-- bytes is this text followed by the served text of the rest.
 pub record SoFar (m : Meaning) (done : ℕ) (start now : Node) (old new : Option (List ℕ)) (bytes rest : List ℕ) : Type 0 where
   pub text : List ℕ
   pub appended : Appends old new text
@@ -57,7 +57,7 @@ so_far_none m n old bytes = record {
   goes = λ lacks. (lacks, λ left. ap (λ k. served_from m lacks k n bytes) (omega arith) ∙ sym (behind_none (served_from m lacks left n bytes)));
 }
 
--- one turn more
+-- one more turn
 turn_more : (m : Meaning) (left : ℕ) (lacks : Bool) (later : Lacks) (n v : Node) (bytes rest : List ℕ) → (next_turn lacks m n bytes).result ≡ Ok (Some v) → rest ≡ (next_turn lacks m n bytes).rest →
     served_from m (lacks_first lacks later) (suc left) n bytes ≡ behind (next_turn lacks m n bytes).text 1 (served_from m later left v rest)
 unfolding served_from
@@ -69,7 +69,7 @@ pub so_far_more : (m : Meaning) (done : ℕ) (start n v : Node) (old mid new : O
     IsTurn m n v mid new (Ok true) rest after → SoFar m (done + 1) start v old new bytes after
 so_far_more m done start n v old mid new bytes rest after s t = record {
   text = s.text ++ (next_turn t.lacks m n rest).text;
-  appended = Appends-trans old mid new s.text (next_turn t.lacks m n rest).text s.appended t.tells.1;
+  appended = Appends-trans old mid new s.text (next_turn t.lacks m n rest).text s.appended t.outcome.1;
   front = IsFront-trans bytes rest after s.front t.within.front;
   goes = λ later.
       let before = s.goes (lacks_first t.lacks later) in (
@@ -77,18 +77,18 @@ so_far_more m done start n v old mid new bytes rest after s t = record {
         λ left.
             let next : (done + 1) + left ≡ done + suc left = omega arith in
             ap (λ k. served_from m before.0 k start bytes) next ∙ before.1 (suc left)
-            ∙ ap (behind s.text done) (turn_more m left t.lacks later n v rest after t.tells.0 t.tells.2)
+            ∙ ap (behind s.text done) (turn_more m left t.lacks later n v rest after t.outcome.0 t.outcome.2)
             ∙ behind_behind s.text (next_turn t.lacks m n rest).text done 1 (served_from m later left v after),
       );
 }
 
 -- The loop's exits
 
--- what the node lacks later doesn't matter
+-- which later turns are without memory does not matter
 abbrev pub never : Lacks
 never turn = false
 
--- the turn ends the loop, or a fault stands there
+-- the turn ends the loop, or ends with a fault
 turn_ends : (m : Meaning) (left : ℕ) (lacks : Bool) (n : Node) (bytes : List ℕ) → (next_turn lacks m n bytes).result ≡ Ok None →
     served_from m (lacks_first lacks never) (suc left) n bytes ≡ record { text = (next_turn lacks m n bytes).text; result = Ok 0; rest = (next_turn lacks m n bytes).rest }
 unfolding served_from
@@ -99,7 +99,7 @@ turn_stops : (m : Meaning) (left : ℕ) (lacks : Bool) (n : Node) (bytes : List 
 unfolding served_from
 turn_stops m left lacks n bytes fault e = ap (then_on (λ text v rest. behind text 1 (served_from m never left v rest)) (next_turn lacks m n bytes).text (next_turn lacks m n bytes).rest) e
 
--- what is served begins with the text of the turn
+-- the served text begins with the text of the turn
 then_begins : (next : Node → List ℕ → Served) (text rest : List ℕ) (r : Result (Option Node) WireFault) → (more : List ℕ) × ((then_on (λ t v left. behind t 1 (next v left)) text rest r).text ≡ text ++ more)
 then_begins next text rest (Ok (Some v)) = ((next v rest).text, refl)
 then_begins next text rest (Ok None) = ([], sym (append-nil text))
@@ -109,7 +109,7 @@ turn_begins : (m : Meaning) (left : ℕ) (lacks : Bool) (n : Node) (bytes : List
 unfolding served_from
 turn_begins m left lacks n bytes = then_begins (λ v rest. served_from m never left v rest) (next_turn lacks m n bytes).text (next_turn lacks m n bytes).rest (next_turn lacks m n bytes).result
 
--- with so many turns and no more
+-- with exactly this number of turns
 whole_so_far : (m : Meaning) (done : ℕ) (start n : Node) (text bytes rest : List ℕ) (lacks all : Lacks) → served_from m all (done + 0) start bytes ≡ behind text done (served_from m lacks 0 n rest) →
     served_from m all done start bytes ≡ record { text = text; result = Ok done; rest = rest }
 unfolding served_from
@@ -134,17 +134,17 @@ served_ends m limit done start n v old mid new bytes rest after lt s t =
     let turn = next_turn t.lacks m n rest in
     let left : limit ≡ done + suc (limit - (done + 1)) = omega arith in
     let is : served_from m all.0 limit start bytes ≡ behind s.text done (record { text = turn.text; result = Ok 0; rest = turn.rest }) =
-    ap (λ k. served_from m all.0 k start bytes) left ∙ all.1 (suc (limit - (done + 1))) ∙ ap (behind s.text done) (turn_ends m (limit - (done + 1)) t.lacks n rest t.tells.0) in
+    ap (λ k. served_from m all.0 k start bytes) left ∙ all.1 (suc (limit - (done + 1))) ∙ ap (behind s.text done) (turn_ends m (limit - (done + 1)) t.lacks n rest t.outcome.0) in
     let count : done + 0 ≡ done = omega arith in (
       all.0,
       (
         ap (λ (x : Served). x.result) is ∙ ap (λ i. Ok i) count,
-        subst (Appends old new) (sym (ap (λ (x : Served). x.text) is)) (Appends-trans old mid new s.text turn.text s.appended t.tells.1),
-        t.tells.2 ∙ sym (ap (λ (x : Served). x.rest) is),
+        subst (Appends old new) (sym (ap (λ (x : Served). x.text) is)) (Appends-trans old mid new s.text turn.text s.appended t.outcome.1),
+        t.outcome.2 ∙ sym (ap (λ (x : Served). x.rest) is),
       ),
     )
 
--- a fault stands in the turn's place
+-- the turn ends with a fault
 record StopsAt (m : Meaning) (limit : ℕ) (start : Node) (old new : Option (List ℕ)) (fault : WireFault) (bytes after : List ℕ) : Type 0 where
   pub lacks : Lacks
   pub result : (served_from m lacks limit start bytes).result ≡ Err fault
@@ -166,7 +166,7 @@ stops_at m limit done start n old mid new bytes rest after fault lacks lt s e ap
       rest = r ∙ sym (ap (λ (x : Served). x.rest) is);
     }
 
--- the turn came only halfway: what was written is a beginning
+-- the turn stopped part of the way: what was written is a prefix of the served text
 record IsHalfway (m : Meaning) (limit : ℕ) (start : Node) (old new : Option (List ℕ)) (bytes after : List ℕ) : Type 0 where
   pub lacks : Lacks
   pub begun : TakesBeginning old new (served_from m lacks limit start bytes).text
@@ -200,21 +200,21 @@ halfway m limit done start n old mid new bytes rest after lacks lt s h within =
 pub served_err : (m : Meaning) (limit done : ℕ) (start n v : Node) (old mid new : Option (List ℕ)) (bytes rest after : List ℕ) (fault : WireFault) → done < limit → SoFar m done start n old mid bytes rest →
     IsTurn m n v mid new (Err fault) rest after → IsServedFrom m limit start old new (Err fault) bytes after
 served_err m limit done start n v old mid new bytes rest after wire.Io lt s t =
-    let h = halfway m limit done start n old mid new bytes rest after t.lacks lt s t.tells t.within in
+    let h = halfway m limit done start n old mid new bytes rest after t.lacks lt s t.outcome t.within in
     (h.lacks, (h.begun, IsFront-trans bytes rest after s.front t.within.front, h.stops))
 served_err m limit done start n v old mid new bytes rest after wire.NoMemory lt s t =
-    let h = halfway m limit done start n old mid new bytes rest after t.lacks lt s t.tells t.within in
+    let h = halfway m limit done start n old mid new bytes rest after t.lacks lt s t.outcome t.within in
     (h.lacks, (h.begun, IsFront-trans bytes rest after s.front t.within.front, h.stops))
 served_err m limit done start n v old mid new bytes rest after wire.Truncated lt s t =
-    let h = stops_at m limit done start n old mid new bytes rest after wire.Truncated t.lacks lt s t.tells.0 t.tells.1 t.tells.2 in (h.lacks, (h.result, h.appended, h.rest))
+    let h = stops_at m limit done start n old mid new bytes rest after wire.Truncated t.lacks lt s t.outcome.0 t.outcome.1 t.outcome.2 in (h.lacks, (h.result, h.appended, h.rest))
 served_err m limit done start n v old mid new bytes rest after wire.TooLong lt s t =
-    let h = stops_at m limit done start n old mid new bytes rest after wire.TooLong t.lacks lt s t.tells.0 t.tells.1 t.tells.2 in (h.lacks, (h.result, h.appended, h.rest))
+    let h = stops_at m limit done start n old mid new bytes rest after wire.TooLong t.lacks lt s t.outcome.0 t.outcome.1 t.outcome.2 in (h.lacks, (h.result, h.appended, h.rest))
 served_err m limit done start n v old mid new bytes rest after wire.BadKind lt s t =
-    let h = stops_at m limit done start n old mid new bytes rest after wire.BadKind t.lacks lt s t.tells.0 t.tells.1 t.tells.2 in (h.lacks, (h.result, h.appended, h.rest))
+    let h = stops_at m limit done start n old mid new bytes rest after wire.BadKind t.lacks lt s t.outcome.0 t.outcome.1 t.outcome.2 in (h.lacks, (h.result, h.appended, h.rest))
 served_err m limit done start n v old mid new bytes rest after wire.BadBody lt s t =
-    let h = stops_at m limit done start n old mid new bytes rest after wire.BadBody t.lacks lt s t.tells.0 t.tells.1 t.tells.2 in (h.lacks, (h.result, h.appended, h.rest))
+    let h = stops_at m limit done start n old mid new bytes rest after wire.BadBody t.lacks lt s t.outcome.0 t.outcome.1 t.outcome.2 in (h.lacks, (h.result, h.appended, h.rest))
 
--- The same of a reader that may tell its bytes
+-- The same for a reader whose bytes contracts may see
 
 pub on_map : (a b : Option (List ℕ)) (P Q : List ℕ → List ℕ → Type 0) → ((x y : List ℕ) → P x y → Q x y) → OnBytes a b P → OnBytes a b Q
 on_map None b P Q f p = tt

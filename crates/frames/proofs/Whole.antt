@@ -1,4 +1,4 @@
--- Whole bodies: each has one spelling, no other bytes are read, and no byte is left over.
+-- Whole bodies: each has one encoding, no other bytes are read, and no byte is left over.
 use Rattle.std.proofs.Common.{◌≡◌, ℕ, ◌^◌, ◌<◌, ◌≤◌, Bool, true, cond, List, [], ◌∷◌, ◌++◌, length, Option, Some, None, refl, sym, ap, subst, ◌∙◌, arith, inl, inr, eqb-true}
 use Rattle.std.specs.Prelude.{nat_le, nat_lt, nat_eq, ◌&&◌, IfOk, IfSome, Result, Ok, Err}
 use Rattle.std.proofs.lemmas.Bool.{and_from, and_parts, leb-true, le-leb, ltb-true, lt-ltb}
@@ -28,12 +28,12 @@ alone rest x = cond (nat_eq (length rest) 0) (Some x) None
 
 -- 1. A load
 
-abbrev load_told : ℕ → ℕ → ℕ → ℕ → List Part × List ℕ → Option Load
-load_told node nodes end floor parts =
+abbrev load_read : ℕ → ℕ → ℕ → ℕ → List Part × List ℕ → Option Load
+load_read node nodes end floor parts =
     cond (is_place node nodes end floor && nat_eq (length parts.1) 0) (Some (record { node = node; nodes = nodes; end = end; floor = floor; parts = parts.0 })) None
 
 abbrev load_after_floor : ℕ → ℕ → ℕ → Field → Option Load
-load_after_floor node nodes end floor = number_at 4 floor.1 >>= λ count. items_at part_at count.0 count.1 >>= load_told node nodes end floor.0
+load_after_floor node nodes end floor = number_at 4 floor.1 >>= λ count. items_at part_at count.0 count.1 >>= load_read node nodes end floor.0
 
 abbrev load_after_end : ℕ → ℕ → Field → Option Load
 load_after_end node nodes end = number_at 8 end.1 >>= load_after_floor node nodes end.0
@@ -78,7 +78,7 @@ load_takes bytes l fits e =
     let nodes = step_of format4 node.got.1 node.front.fits (load_after_nodes node.got.0) l node.rest in
     let end = step_of format8 nodes.got.1 nodes.front.fits (load_after_end node.got.0 nodes.got.0) l nodes.rest in
     let floor = step_of format8 end.got.1 end.front.fits (load_after_floor node.got.0 nodes.got.0 end.got.0) l end.rest in
-    let parts = counted_step part_format floor.got.1 floor.front.fits (load_told node.got.0 nodes.got.0 end.got.0 floor.got.0) l floor.rest in
+    let parts = counted_step part_format floor.got.1 floor.front.fits (load_read node.got.0 nodes.got.0 end.got.0 floor.got.0) l floor.rest in
     let made : Load = record { node = node.got.0; nodes = nodes.got.0; end = end.got.0; floor = floor.got.0; parts = parts.got.0 } in
     let is = cond_some (is_place node.got.0 nodes.got.0 end.got.0 floor.got.0 && nat_eq (length parts.got.1) 0) made l parts.rest in
     let tests = and_parts (is_place node.got.0 nodes.got.0 end.got.0 floor.got.0) (nat_eq (length parts.got.1) 0) is.0 in
@@ -102,10 +102,10 @@ load_again l rest is =
     ∙ again_step format4 l.nodes (big_bytes 8 l.end ++ (big_bytes 8 l.floor ++ parts)) rest (load_after_nodes l.node) (omega arith)
     ∙ again_step format8 l.end (big_bytes 8 l.floor ++ parts) rest (load_after_end l.node l.nodes) (omega arith)
     ∙ again_step format8 l.floor parts rest (load_after_floor l.node l.nodes l.end) (omega arith)
-    ∙ counted_last part_format l.parts rest (load_told l.node l.nodes l.end l.floor) is.count is.parts
+    ∙ counted_last part_format l.parts rest (load_read l.node l.nodes l.end l.floor) is.count is.parts
     ∙ ap (λ (b : Bool). cond (b && nat_eq (length rest) 0) (Some l) None) (place_is l is)
 
--- a load that was read
+-- a load that was read is in range
 pub load_in_range : {E : Type 0} (bytes : List ℕ) (result : Result (Option Load) E) → IsBytes bytes → IfOk result (λ load. load ≡ load_in bytes) → IfOk result (λ load. IfSome load IsLoad)
 load_in_range bytes (Ok (Some l)) fits e = (load_takes bytes l fits (sym e)).1
 load_in_range bytes (Ok None) fits e = tt
@@ -113,11 +113,11 @@ load_in_range bytes (Err fault) fits e = tt
 
 -- 2. A parcel
 
-abbrev parcel_told : List Signed → ℕ → Field → Option Parcel
-parcel_told deliver budget floor = cond (nat_le floor.0 (2 ^ 40) && nat_eq (length floor.1) 0) (Some (record { deliver = deliver; budget = budget; floor = floor.0 })) None
+abbrev parcel_read : List Signed → ℕ → Field → Option Parcel
+parcel_read deliver budget floor = cond (nat_le floor.0 (2 ^ 40) && nat_eq (length floor.1) 0) (Some (record { deliver = deliver; budget = budget; floor = floor.0 })) None
 
 abbrev parcel_after_budget : List Signed → Field → Option Parcel
-parcel_after_budget deliver budget = number_at 8 budget.1 >>= parcel_told deliver budget.0
+parcel_after_budget deliver budget = number_at 8 budget.1 >>= parcel_read deliver budget.0
 
 abbrev parcel_after_deliver : List Signed × List ℕ → Option Parcel
 parcel_after_deliver deliver = number_at 4 deliver.1 >>= parcel_after_budget deliver.0
@@ -127,7 +127,7 @@ unfolding parcel_in parcel_bytes
 parcel_takes bytes p fits e =
     let deliver = counted_step signed_format bytes fits parcel_after_deliver p e in
     let budget = step_of format4 deliver.got.1 deliver.front.fits (parcel_after_budget deliver.got.0) p deliver.rest in
-    let floor = step_of format8 budget.got.1 budget.front.fits (parcel_told deliver.got.0 budget.got.0) p budget.rest in
+    let floor = step_of format8 budget.got.1 budget.front.fits (parcel_read deliver.got.0 budget.got.0) p budget.rest in
     let made : Parcel = record { deliver = deliver.got.0; budget = budget.got.0; floor = floor.got.0 } in
     let is = cond_some (nat_le floor.got.0 (2 ^ 40) && nat_eq (length floor.got.1) 0) made p floor.rest in
     let tests = and_parts (nat_le floor.got.0 (2 ^ 40)) (nat_eq (length floor.got.1) 0) is.0 in
@@ -144,19 +144,19 @@ parcel_again p rest is =
     let floor = is.floor in
     counted_again signed_format p.deliver (big_bytes 4 p.budget ++ big_bytes 8 p.floor) rest parcel_after_deliver is.count is.deliver
     ∙ again_step format4 p.budget (big_bytes 8 p.floor) rest (parcel_after_budget p.deliver) is.budget
-    ∙ again_last format8 p.floor rest (parcel_told p.deliver p.budget) (omega arith)
+    ∙ again_last format8 p.floor rest (parcel_read p.deliver p.budget) (omega arith)
     ∙ ap (λ (b : Bool). cond (b && nat_eq (length rest) 0) (Some p) None) (le-leb p.floor (2 ^ 40) floor)
 
 -- 3. A reply
 
-abbrev reply_told : List Signed → Option ℕ → List Done → Field → Option Reply
-reply_told out low fossils ran = cond (nat_eq (length ran.1) 0) (Some (record { out = out; low = low; fossils = fossils; ran = ran.0 })) None
+abbrev reply_read : List Signed → Option ℕ → List Done → Field → Option Reply
+reply_read out low fossils ran = cond (nat_eq (length ran.1) 0) (Some (record { out = out; low = low; fossils = fossils; ran = ran.0 })) None
 
 abbrev reply_after_fossils : List Signed → Option ℕ → List Done × List ℕ → Option Reply
-reply_after_fossils out low fossils = number_at 4 fossils.1 >>= reply_told out low fossils.0
+reply_after_fossils out low fossils = number_at 4 fossils.1 >>= reply_read out low fossils.0
 
 abbrev reply_after_low : List Signed → Option ℕ × List ℕ → Option Reply
-reply_after_low out low = number_at 4 low.1 >>= λ told. items_at done_at told.0 told.1 >>= reply_after_fossils out low.0
+reply_after_low out low = number_at 4 low.1 >>= λ known. items_at done_at known.0 known.1 >>= reply_after_fossils out low.0
 
 abbrev reply_after_out : List Signed × List ℕ → Option Reply
 reply_after_out out = low_at out.1 >>= reply_after_low out.0
@@ -167,14 +167,14 @@ reply_takes bytes r fits e =
     let out = counted_step signed_format bytes fits reply_after_out r e in
     let low = step_of low_format out.got.1 out.front.fits (reply_after_low out.got.0) r out.rest in
     let fossils = counted_step done_format low.got.1 low.front.fits (reply_after_fossils out.got.0 low.got.0) r low.rest in
-    let ran = step_of format4 fossils.got.1 fossils.front.fits (reply_told out.got.0 low.got.0 fossils.got.0) r fossils.rest in
+    let ran = step_of format4 fossils.got.1 fossils.front.fits (reply_read out.got.0 low.got.0 fossils.got.0) r fossils.rest in
     let made : Reply = record { out = out.got.0; low = low.got.0; fossils = fossils.got.0; ran = ran.got.0 } in
     let is = cond_some (nat_eq (length ran.got.1) 0) made r ran.rest in
     let none : ran.got.1 ≡ [] = nil_from_length ran.got.1 (eqb-true (length ran.got.1) 0 is.0) in
     let front = Takes-then _ _ _ _ _ out.front (Takes-then _ _ _ _ _ low.front (Takes-then _ _ _ _ _ fossils.front ran.front)) in
     subst (λ (y : Reply). (bytes ≡ reply_bytes y) × IsReply y) is.1 (
       whole bytes (reply_bytes made) ran.got.1 front none,
-      record { count = out.is.0; out = out.is.1; low = low.is; told = fossils.is.0; fossils = fossils.is.1; ran = ran.is },
+      record { count = out.is.0; out = out.is.1; low = low.is; known = fossils.is.0; fossils = fossils.is.1; ran = ran.is },
     )
 
 pub reply_again : (r : Reply) (rest : List ℕ) → IsReply r → reply_in (reply_bytes r ++ rest) ≡ alone rest r
@@ -183,13 +183,13 @@ reply_again r rest is =
     let fossils = counted_bytes 4 done_bytes r.fossils in
     counted_again signed_format r.out (low_bytes r.low ++ (fossils ++ big_bytes 4 r.ran)) rest reply_after_out is.count is.out
     ∙ again_step low_format r.low (fossils ++ big_bytes 4 r.ran) rest (reply_after_low r.out) is.low
-    ∙ counted_again done_format r.fossils (big_bytes 4 r.ran) rest (reply_after_fossils r.out r.low) is.told is.fossils
-    ∙ again_last format4 r.ran rest (reply_told r.out r.low r.fossils) is.ran
+    ∙ counted_again done_format r.fossils (big_bytes 4 r.ran) rest (reply_after_fossils r.out r.low) is.known is.fossils
+    ∙ again_last format4 r.ran rest (reply_read r.out r.low r.fossils) is.ran
 
 -- 4. A fault
 
-abbrev fault_told : Field → Option NodeFault
-fault_told number = cond (nat_eq (length number.1) 0) (fault_of number.0) None
+abbrev fault_read : Field → Option NodeFault
+fault_read number = cond (nat_eq (length number.1) 0) (fault_of number.0) None
 
 fault_of_number : (f : NodeFault) → fault_of (number_of f) ≡ Some f
 fault_of_number node.NotMine = refl
@@ -224,11 +224,11 @@ no_number : number_at 1 [] ≡ None
 unfolding number_at
 no_number = refl
 
-fault_takes_number : (bytes : List ℕ) (f : NodeFault) → (number_at 1 bytes >>= fault_told) ≡ Some f → bytes ≡ number_of f ∷ []
-fault_takes_number [] f e = absurd (none-some f (sym (ap (λ (o : Option Field). o >>= fault_told) no_number) ∙ e))
+fault_takes_number : (bytes : List ℕ) (f : NodeFault) → (number_at 1 bytes >>= fault_read) ≡ Some f → bytes ≡ number_of f ∷ []
+fault_takes_number [] f e = absurd (none-some f (sym (ap (λ (o : Option Field). o >>= fault_read) no_number) ∙ e))
 fault_takes_number (b ∷ rest) f e =
-    let told : fault_told (b, rest) ≡ Some f = sym (ap (λ (o : Option Field). o >>= fault_told) (first_number b rest)) ∙ e in
-    let is = when_some (nat_eq (length rest) 0) (fault_of b) f told in
+    let known : fault_read (b, rest) ≡ Some f = sym (ap (λ (o : Option Field). o >>= fault_read) (first_number b rest)) ∙ e in
+    let is = when_some (nat_eq (length rest) 0) (fault_of b) f known in
     ap (λ (r : List ℕ). b ∷ r) (nil_from_length rest (eqb-true (length rest) 0 is.0)) ∙ ap (λ (n : ℕ). n ∷ []) (number_of_fault b f is.1)
 
 pub length-fault : (f : NodeFault) → length (fault_bytes f) ≡ 1
@@ -242,4 +242,4 @@ fault_takes bytes f e = fault_takes_number bytes f e
 pub fault_again : (f : NodeFault) (rest : List ℕ) → fault_in (fault_bytes f ++ rest) ≡ alone rest f
 unfolding fault_in fault_bytes
 fault_again f rest =
-    ap (λ (o : Option Field). o >>= fault_told) (first_number (number_of f) rest) ∙ ap (λ (o : Option NodeFault). cond (nat_eq (length rest) 0) o None) (fault_of_number f)
+    ap (λ (o : Option Field). o >>= fault_read) (first_number (number_of f) rest) ∙ ap (λ (o : Option NodeFault). cond (nat_eq (length rest) 0) o None) (fault_of_number f)

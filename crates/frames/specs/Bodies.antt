@@ -1,12 +1,12 @@
--- The bodies of frames (this project's profile): how they are spelled, and how they are read.
--- Numbers have their highest byte first.
+-- The bodies of frames (this project's profile): their encodings, and their readers. All numbers
+-- are big-endian.
 use Rattle.std.specs.Prelude.{ℕ, ◌^◌, Bool, nat_le, nat_lt, nat_eq, ◌&&◌, if◌then◌else◌}
 use Rattle.std.specs.Prelude.{List, [], ◌∷◌, ◌++◌, length, Option, Some, None}
 use Rattle.std.specs.List.{flat_map}
 use Rattle.byteorder.specs.Endian.{big_bytes}
 use Rattle.eventkey.specs.Reading.{◌>>=◌, Reader, number_at, items_at}
-use Rattle.eventkey.specs.Spelling.{message_bytes, message_at, signed_bytes, signed_at}
-use Rattle.model.specs.Spelling.{words_at, words_bytes}
+use Rattle.eventkey.specs.Encoding.{message_bytes, message_at, signed_bytes, signed_at}
+use Rattle.model.specs.Encoding.{words_at, words_bytes}
 use Rattle.node.specs.declared.Load.{Load}
 use Rattle.node.specs.declared.NodeFault.{NodeFault}
 use Rattle.node.specs.declared.NodeFault.TheVariants as node
@@ -19,11 +19,11 @@ use Rattle.frames.specs.declared.Frame.TheVariants as frame
 use Rattle.frames.specs.declared.Kind.{Kind}
 use Rattle.frames.specs.declared.Kind.TheVariants as kind
 
--- 1. How they are spelled
+-- 1. Encodings
 
--- how many there are, in so many bytes, and then they
+-- the number of items, in `n` bytes, and the items
 abbrev pub counted_bytes : {X : Type 0} → ℕ → (X → List ℕ) → List X → List ℕ
-counted_bytes n spelled xs = big_bytes n (length xs) ++ flat_map spelled xs
+counted_bytes n encoded xs = big_bytes n (length xs) ++ flat_map encoded xs
 
 unfoldable pub part_bytes : Part → List ℕ
 part_bytes p =
@@ -40,7 +40,7 @@ unfoldable pub parcel_bytes : Parcel → List ℕ
 parcel_bytes p =
     counted_bytes 4 signed_bytes p.deliver ++ (big_bytes 4 p.budget ++ big_bytes 8 p.floor)
 
--- a time, where there is one
+-- an optional time
 unfoldable pub low_bytes : Option ℕ → List ℕ
 low_bytes None = big_bytes 1 0
 low_bytes (Some time) = big_bytes 1 1 ++ big_bytes 8 time
@@ -66,9 +66,9 @@ number_of node.FloorFell = 6
 unfoldable pub fault_bytes : NodeFault → List ℕ
 fault_bytes fault = number_of fault ∷ []
 
--- 2. How they are read
+-- 2. Readers
 
--- a count in so many bytes, at most so much, and so many values
+-- a count in `n` bytes, at most `most`, and that number of items
 abbrev pub counted_at : {X : Type 0} → ℕ → ℕ → Reader X → Reader (List X)
 counted_at n most item bytes = do
   count ← number_at n bytes
@@ -108,9 +108,9 @@ done_at bytes = do
       )
       else None
 
--- 3. Whole bodies: nothing is left over
+-- 3. Whole bodies: no byte is left over
 
--- these are a node of so many, an end and a floor
+-- node `node` of `nodes`, with an end and a floor, all in range
 abbrev pub is_place : ℕ → ℕ → ℕ → ℕ → Bool
 is_place node nodes end floor =
     nat_lt node nodes
@@ -149,8 +149,8 @@ reply_in bytes = do
   count ← number_at 4 bytes
   out ← items_at signed_at count.0 count.1
   low ← low_at out.1
-  told ← number_at 4 low.1
-  fossils ← items_at done_at told.0 told.1
+  known ← number_at 4 low.1
+  fossils ← items_at done_at known.0 known.1
   ran ← number_at 4 fossils.1
   if nat_eq (length ran.1) 0 then
       Some (record { out = out.0; low = low.0; fossils = fossils.0; ran = ran.0 })
@@ -199,19 +199,19 @@ body_bytes (frame.Parcel p) = parcel_bytes p
 body_bytes (frame.Reply r) = reply_bytes r
 body_bytes (frame.Fault f) = fault_bytes f
 
--- the length of the body, the kind, the body
+-- the length of the body, the kind, and the body
 unfoldable pub framed : Kind → List ℕ → List ℕ
 framed k body = big_bytes 4 (length body) ++ (kind_number k ∷ body)
 
 abbrev pub frame_bytes : Frame → List ℕ
 frame_bytes f = framed (kind_in f) (body_bytes f)
 
--- what is read of a body
+-- the frame of a body that was read
 abbrev pub seen_as : {X : Type 0} → (X → Frame) → Option X → Option Frame
 seen_as f (Some x) = Some (f x)
 seen_as f None = None
 
--- the frame of this kind that all of the bytes spell
+-- the frame of this kind that all of the bytes encode
 abbrev pub frame_in : Kind → List ℕ → Option Frame
 frame_in kind.Load body = seen_as (λ l. frame.Load l) (load_in body)
 frame_in kind.Parcel body = seen_as (λ p. frame.Parcel p) (parcel_in body)

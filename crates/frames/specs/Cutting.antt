@@ -1,5 +1,5 @@
--- A stream of bytes is cut from the left into frames (this project's profile).
--- What stands in one frame's place, and what is behind it.
+-- A stream of bytes is cut from the left into frames (this project's profile): what is first in it,
+-- and what is behind that.
 use Rattle.std.specs.Prelude.{ℕ, ◌^◌, nat_lt, nat_le, nat_eq, ◌&&◌, if◌then◌else◌}
 use Rattle.std.specs.Prelude.{List, [], ◌∷◌, take, drop, length}
 use Rattle.std.specs.Prelude.{Option, Some, None, Result, Ok, Err}
@@ -11,7 +11,7 @@ use Rattle.frames.specs.declared.stream.Raw.{Raw}
 use Rattle.wire.specs.declared.port.WireFault.{WireFault}
 use Rattle.wire.specs.declared.port.WireFault.TheVariants.{BadBody, BadKind, TooLong, Truncated}
 
--- what is found, and the bytes that are left: nothing where there are no bytes
+-- what is found (nothing if there are no bytes), and the bytes that are left
 pub record Cut (X : Type 0) : Type 0 where
   pub found : Result (Option X) WireFault
   pub rest : List ℕ
@@ -19,7 +19,7 @@ pub record Cut (X : Type 0) : Type 0 where
 abbrev pub fails : {X : Type 0} → WireFault → List ℕ → Cut X
 fails fault rest = record { found = Err fault; rest = rest }
 
--- Looked for are in this order: a length above 2^24, a kind that is none, too few bytes.
+-- The faults are found in this order: a length above 2^24, an unknown kind, too few bytes.
 abbrev pub cut_body : ℕ → List ℕ → Option Kind → Cut Raw
 cut_body n bytes None = fails BadKind bytes
 cut_body n bytes (Some kind) =
@@ -38,12 +38,12 @@ abbrev pub cut_length : Option (ℕ × List ℕ) → Cut Raw
 cut_length None = fails Truncated []
 cut_length (Some n) = if nat_lt (2 ^ 24) n.0 then fails TooLong n.1 else cut_kind n.0 n.1
 
--- a frame whose body is not yet looked at
+-- the first frame, with its body not decoded
 unfoldable pub cut : List ℕ → Cut Raw
 cut [] = record { found = Ok None; rest = [] }
 cut (b ∷ bytes) = cut_length (number_at 4 (b ∷ bytes))
 
--- the frame that a kind and a body spell
+-- the frame that a kind and a body encode, or `BadBody`
 abbrev pub opened : Raw → Result (Option Frame) WireFault
 opened raw = elim (frame_in raw.kind raw.body) [ Some f ↦ Ok (Some f) | None ↦ Err BadBody ]
 
@@ -56,11 +56,11 @@ opened_cut c = elim c.found [
   | Err fault ↦ fails fault c.rest
 ]
 
--- the frame that stands first in the bytes
+-- the first frame
 abbrev pub frame_cut : List ℕ → Cut Frame
 frame_cut bytes = opened_cut (cut bytes)
 
--- the frame that all of the bytes are, its body not yet looked at
+-- the frame that takes up all of the bytes, with its body not decoded
 unfoldable pub raw_in : List ℕ → Option Raw
 raw_in bytes = do
   size ← number_at 4 bytes
@@ -70,6 +70,6 @@ raw_in bytes = do
       Some (record { kind = kind; body = number.1 })
       else None
 
--- the frame that all of the bytes spell
+-- the frame that all of the bytes encode
 abbrev pub whole_in : List ℕ → Option Frame
 whole_in bytes = raw_in bytes >>= (λ raw. frame_in raw.kind raw.body)

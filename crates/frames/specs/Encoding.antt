@@ -1,11 +1,11 @@
--- What an encoder answers: the bytes of a frame, or a fault in their place.
+-- What an encoder returns: the bytes of a frame, or a fault.
 use Rattle.std.specs.Prelude.{◌≡◌, ◌<◌, ◌≤◌, ◌^◌, ◌⊎◌, ℕ, List, length, Result, Ok, Err}
 use Rattle.frames.specs.Bodies.{body_bytes, frame_bytes}
 use Rattle.frames.specs.declared.Frame.{Frame}
 use Rattle.wire.specs.declared.port.WireFault.{WireFault}
 use Rattle.wire.specs.declared.port.WireFault.TheVariants.{NoMemory, TooLong}
 
--- TooLong exactly where the body is; and else the bytes of the frame, or there was no memory
+-- the bytes of the frame if its body fits, else `TooLong`; `NoMemory` may replace either
 abbrev pub Encodes : {X : Type 0} → (X → List ℕ) → Frame → Result X WireFault → Type 0
 Encodes seen f (Ok x) = (length (body_bytes f) ≤ 2 ^ 24) × (seen x ≡ frame_bytes f)
 Encodes seen f (Err fault) =

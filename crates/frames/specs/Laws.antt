@@ -1,4 +1,4 @@
--- The laws of frames, as statements about definitions alone.
+-- The laws of frames, stated over definitions alone.
 use Rattle.std.specs.Prelude.{◌≡◌, ◌≤◌, ◌^◌, List, ℕ, ◌∷◌, ◌++◌, length, Ok, None, Some}
 use Rattle.eventkey.specs.Reading.{IsBytes}
 use Rattle.frames.specs.Bodies.{body_bytes, frame_bytes, frame_in, kind_in}
@@ -13,33 +13,33 @@ abbrev pub FramesAreReadBack : Type 0
 FramesAreReadBack = (f : Frame) (rest : List ℕ) → IsInRange f → length (body_bytes f) ≤ 2 ^ 24 →
     Finds (frame_cut (frame_bytes f ++ rest)) (Ok (Some f)) rest
 
--- the same of bytes that are one frame and nothing more
+-- the same for bytes that are one frame and nothing more
 abbrev pub FramesAreReadWhole : Type 0
 FramesAreReadWhole =
     (f : Frame) → IsInRange f → length (body_bytes f) ≤ 2 ^ 24 → whole_in (frame_bytes f) ≡ Some f
 
--- a frame that was read is spelled so, lies in its ranges, and was not too long
-pub record IsSpelled (bytes : List ℕ) (f : Frame) (rest : List ℕ) : Type 0 where
-  pub spelled : bytes ≡ frame_bytes f ++ rest
+-- a frame that was read: the bytes begin with its encoding, it is in range, and its body fits
+pub record IsEncoded (bytes : List ℕ) (f : Frame) (rest : List ℕ) : Type 0 where
+  pub encoded : bytes ≡ frame_bytes f ++ rest
   pub in_range : IsInRange f
   pub fits : length (body_bytes f) ≤ 2 ^ 24
 
-abbrev pub FramesAreSpelled : Type 0
-FramesAreSpelled = (bytes rest : List ℕ) (f : Frame) → IsBytes bytes →
-    Finds (frame_cut bytes) (Ok (Some f)) rest → IsSpelled bytes f rest
+abbrev pub FramesAreCanonical : Type 0
+FramesAreCanonical = (bytes rest : List ℕ) (f : Frame) → IsBytes bytes →
+    Finds (frame_cut bytes) (Ok (Some f)) rest → IsEncoded bytes f rest
 
--- the same of a body alone
+-- the same for a body alone
 pub record IsBodyOf (kind : Kind) (body : List ℕ) (f : Frame) : Type 0 where
   pub kind_is : kind ≡ kind_in f
-  pub spelled : body ≡ body_bytes f
+  pub encoded : body ≡ body_bytes f
   pub in_range : IsInRange f
 
-abbrev pub BodiesAreSpelled : Type 0
-BodiesAreSpelled =
+abbrev pub BodiesAreCanonical : Type 0
+BodiesAreCanonical =
     (kind : Kind) (body : List ℕ) (f : Frame) → IsBytes body → frame_in kind body ≡ Some f →
     IsBodyOf kind body f
 
--- behind a body that is read there is no further byte
+-- a body with further bytes behind it is refused
 abbrev pub NoByteIsLeftOver : Type 0
 NoByteIsLeftOver = (kind : Kind) (body : List ℕ) (f : Frame) (byte : ℕ) (more : List ℕ) →
     IsBytes body → frame_in kind body ≡ Some f → frame_in kind (body ++ byte ∷ more) ≡ None

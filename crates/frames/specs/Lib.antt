@@ -1,12 +1,12 @@
--- For callers: what is spelled and how, what a stream begins with, what a call answers.
-pub mod Ranges  -- what has a spelling
-pub mod Bodies  -- the bodies of frames and whole frames: written and read
-pub mod Cutting  -- the frame that stands first in a stream, or the fault there
-pub mod Streams  -- readers and writers that tell their bytes
-pub mod Encoding  -- what an encoder answers
-pub mod Laws  -- one spelling a frame
--- For callers: the served text, and what a call answers.
-pub mod Serving  -- the served text, one function of the model, the limit and the bytes
-pub mod Told  -- what `serve` answers, writes and reads
--- Inside: one frame's place, and texts that are written.
+-- For callers: which values have an encoding, what a stream begins with, what a call returns.
+pub mod Ranges  -- which values have an encoding
+pub mod Bodies  -- the bodies of frames, and whole frames: encodings and readers
+pub mod Cutting  -- the frame that is first in a stream, or the fault there
+pub mod Streams  -- readers whose bytes contracts see
+pub mod Encoding  -- what an encoder returns
+pub mod Laws  -- each frame has one encoding
+-- For callers: the served text, and what `serve` returns.
+pub mod Serving  -- the served text, by the model, the limit, the bytes and the turns without memory
+pub mod Outcomes  -- what `serve` returns, writes and reads
+-- Internal: what the loop does with one frame.
 pub mod Reactions

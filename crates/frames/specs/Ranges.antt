@@ -1,4 +1,4 @@
--- What has a spelling.
+-- Which values have an encoding.
 use Rattle.std.specs.List.{AllByRecursion as Every}
 use Rattle.std.specs.Prelude.{◌^◌, ◌<◌, ◌≤◌, length, IfSome}
 use Rattle.eventkey.specs.Message.{IsRanged}
@@ -45,7 +45,7 @@ pub record IsReply (r : Reply) : Type 0 where
   pub count : length r.out < 2 ^ 32
   pub out : Every (λ (s : Signed). IsRanged s.message) r.out
   pub low : IfSome r.low (λ time. time < 2 ^ 41)
-  pub told : length r.fossils < 2 ^ 32
+  pub known : length r.fossils < 2 ^ 32
   pub fossils : Every IsDone r.fossils
   pub ran : r.ran < 2 ^ 32
 

@@ -1,10 +1,9 @@
--- One frame's place in a node's loop (this project's profile): what the loop does with a frame
--- whose body is not yet looked at.
+-- What a node's loop does with one frame whose body is not decoded yet (this project's profile).
 use Rattle.std.specs.Prelude.{ℕ, ◌^◌, Bool, true, false, nat_lt, if◌then◌else◌, ◌≡◌, ◌⊎◌, length}
 use Rattle.std.specs.Prelude.{List}
 use Rattle.std.specs.Prelude.{Option, Some, None, Result, Ok, Err, IfOk}
 use Rattle.model.specs.Meaning.{Meaning}
-use Rattle.node.specs.Handling.{Answer, Node, answer, ended, load_answer, load_refusal, refusal}
+use Rattle.node.specs.Handling.{Answer, Node, answer, spent_node, load_answer, load_refusal, refusal}
 use Rattle.node.specs.Kept.{HasHistories}
 use Rattle.node.specs.declared.Load.{Load}
 use Rattle.node.specs.declared.NodeFault.{NodeFault}
@@ -23,7 +22,7 @@ use Rattle.frames.specs.declared.reaction.Response.{Response}
 use Rattle.wire.specs.declared.port.WireFault.{WireFault}
 use Rattle.wire.specs.declared.port.WireFault.TheVariants.{BadBody, BadKind, NoMemory, TooLong}
 
--- 1. What the node answers, where it finds memory and where it lacks it
+-- 1. What the node answers, with memory and without
 
 abbrev pub lacking : Option NodeFault → Result Node NodeFault
 lacking (Some fault) = Err fault
@@ -35,23 +34,23 @@ load_at lacks lps load =
 
 abbrev pub answer_lacking : Node → Option NodeFault → Answer
 answer_lacking n (Some fault) = record { result = Err fault; node = n }
-answer_lacking n None = record { result = Err node.NoMemory; node = ended n }
+answer_lacking n None = record { result = Err node.NoMemory; node = spent_node n }
 
 abbrev pub answer_at : Bool → Meaning → Node → Parcel → Answer
 answer_at lacks m n parcel =
     if lacks then answer_lacking n (refusal n parcel) else answer m n parcel
 
--- 2. What the loop makes of it
+-- 2. What the loop does with a frame
 
--- A reply is written, and the loop goes on; one whose body is too long is a fault in its place. A
--- refusal is written and ends the loop.
+-- A reply is written, and the loop goes on; a reply whose body is too long is a fault instead. A
+-- refusal is written, and ends the loop.
 abbrev pub response_to : Result Reply NodeFault → Result Response WireFault
 response_to (Ok reply) =
     if nat_lt (2 ^ 24) (length (reply_bytes reply)) then Err TooLong
     else Ok (record { frame = frame_bytes (frame.Reply reply); goes_on = true })
 response_to (Err fault) = Ok (record { frame = frame_bytes (frame.Fault fault); goes_on = false })
 
--- the loop's response, and the node then
+-- the loop's response, and the node after it
 pub record Reaction : Type 0 where
   pub response : Result Response WireFault
   pub node : Node
@@ -63,7 +62,7 @@ on_parcel lacks m n (Some parcel) = record {
   node = (answer_at lacks m n parcel).node;
 }
 
--- a parcel is allowed in all places but the first
+-- a parcel is allowed everywhere but first
 abbrev pub reaction_to : Bool → Meaning → Node → Kind → List ℕ → Reaction
 reaction_to lacks m n kind.Parcel body = on_parcel lacks m n (parcel_in body)
 reaction_to lacks m n kind.Load body = record { response = Err BadKind; node = n }
@@ -81,7 +80,7 @@ abbrev pub on_load : Bool → ℕ → Option Load → Result Begun WireFault
 on_load lacks lps None = Err BadBody
 on_load lacks lps (Some load) = Ok (begun_by (load_at lacks lps load))
 
--- a load is allowed in the first place
+-- a load is allowed first
 abbrev pub begun_with : Bool → ℕ → Kind → List ℕ → Result Begun WireFault
 begun_with lacks lps kind.Load body = on_load lacks lps (load_in body)
 begun_with lacks lps kind.Parcel body = Err BadKind
@@ -91,7 +90,7 @@ begun_with lacks lps kind.Fault body = Err BadKind
 unfoldable pub begun : Bool → ℕ → Raw → Result Begun WireFault
 begun lacks lps raw = begun_with lacks lps raw.kind raw.body
 
--- 3. What the calls answer: it, or there was no memory
+-- 3. What the calls return: the above, or `NoMemory`
 
 abbrev pub IsReaction : Reaction → Node → Result Response WireFault → Type 0
 IsReaction r n result = ((result ≡ r.response) × (n ≡ r.node)) ⊎ (result ≡ Err NoMemory)
@@ -103,18 +102,18 @@ abbrev pub Begins : ℕ → Raw → Result Begun WireFault → Type 0
 Begins lps raw result =
     (lacks : Bool) × ((result ≡ begun lacks lps raw) ⊎ (result ≡ Err NoMemory))
 
--- a reply that was answered lies in the ranges of a frame, so that its bytes are read back as it
+-- a reply that was encoded is in the ranges of a frame, so that it is read back
 abbrev pub RepliesInRange : Meaning → Node → Raw → Response → Type 0
 RepliesInRange m n raw r =
     (parcel : Parcel) → parcel_in raw.body ≡ Some parcel → r.goes_on ≡ true →
     IfOk (answer m n parcel).result IsReply
 
--- a node that was made has handled what the model does
+-- the histories of a node that was made are what the model does
 abbrev pub FollowsModel : Meaning → Begun → Type 0
 FollowsModel m (Loaded n) = HasHistories m n
 FollowsModel m (Refused text) = Unit {0}
 
--- a node that was made is one of so many processes
+-- a node that was made is of a model with `lps` processes
 abbrev pub HasProcesses : ℕ → Begun → Type 0
 HasProcesses lps (Loaded n) = lps ≡ n.lps
 HasProcesses lps (Refused text) = Unit {0}

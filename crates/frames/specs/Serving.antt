@@ -1,5 +1,5 @@
--- The served text (this project's profile): what a node's loop writes and answers, as one function
--- of the model, the limit and the bytes.
+-- The served text (this project's profile): what a node's loop writes and returns, as one function
+-- of the model, the limit, the bytes, and the turns at which memory is refused.
 use Rattle.std.specs.Prelude.{ℕ, zero, suc, ◌+◌, Bool, if◌then◌else◌, List, [], ◌++◌}
 use Rattle.std.specs.Prelude.{Option, Some, None, Result, Ok, Err}
 use Rattle.model.specs.Meaning.{Meaning}
@@ -14,8 +14,8 @@ use Rattle.wire.specs.declared.port.WireFault.{WireFault}
 
 -- 1. One turn of the loop
 
--- what is written, the node with which the loop goes on (none where it ends there) or the fault
--- that stands there, and the bytes behind it
+-- what is written; the node with which the loop goes on (none if it ends here), or the fault; and
+-- the bytes behind the frame
 pub record Turn : Type 0 where
   pub text : List ℕ
   pub result : Result (Option Node) WireFault
@@ -39,7 +39,7 @@ begun_to rest (Ok (Loaded n)) = goes_on rest [] n
 begun_to rest (Ok (Refused text)) = ends rest text
 begun_to rest (Err fault) = stops rest fault
 
--- the loop ends where the stream has ended between frames
+-- the loop ends if the stream has ended between frames
 abbrev pub on_found : List ℕ → (Raw → Turn) → Result (Option Raw) WireFault → Turn
 on_found rest next (Ok (Some raw)) = next raw
 on_found rest next (Ok None) = ends rest []
@@ -60,9 +60,9 @@ unfoldable pub next_turn : Bool → Meaning → Node → List ℕ → Turn
 next_turn lacks m n bytes =
     on_found (cut bytes).rest (parcel_turn lacks m n (cut bytes).rest) (cut bytes).found
 
--- 2. All of them
+-- 2. All turns
 
--- what is written, the answer (the count of replies), and the bytes that are not read
+-- what is written, the result (the number of replies, or a fault), and the bytes that are not read
 pub record Served : Type 0 where
   pub text : List ℕ
   pub result : Result ℕ WireFault
@@ -72,11 +72,11 @@ abbrev pub plus : ℕ → Result ℕ WireFault → Result ℕ WireFault
 plus k (Ok n) = Ok (k + n)
 plus k (Err fault) = Err fault
 
--- behind what was written and counted before
+-- the same, after `text` was written and `k` replies were counted
 abbrev pub behind : List ℕ → ℕ → Served → Served
 behind text k s = record { text = text ++ s.text; result = plus k s.result; rest = s.rest }
 
--- a turn, and what follows where the loop goes on
+-- a turn, and what follows it if the loop goes on
 abbrev pub then_on : (List ℕ → Node → List ℕ → Served) → List ℕ → List ℕ →
     Result (Option Node) WireFault → Served
 then_on next text rest (Ok (Some n)) = next text n rest
@@ -86,21 +86,21 @@ then_on next text rest (Err fault) = record { text = text; result = Err fault; r
 abbrev pub after_turn : (List ℕ → Node → List ℕ → Served) → Turn → Served
 after_turn next t = then_on next t.text t.rest t.result
 
--- at which turns the node lacks memory: the load's is turn 0
+-- the turns at which the node is refused memory; the load's is turn 0
 abbrev pub Lacks : Type 0
 Lacks = ℕ → Bool
 
 abbrev pub later : Lacks → Lacks
 later lacks turn = lacks (suc turn)
 
--- at most so many parcels, from a node on
+-- at most `limit` parcels, starting with this node
 unfoldable pub served_from : Meaning → Lacks → ℕ → Node → List ℕ → Served
 served_from m lacks zero n bytes = record { text = []; result = Ok 0; rest = bytes }
 served_from m lacks (suc limit) n bytes =
     after_turn (λ text v rest. behind text 1 (served_from m (later lacks) limit v rest))
     (next_turn (lacks 0) m n bytes)
 
--- the load first, and then the parcels
+-- first the load, then the parcels
 unfoldable pub served : Meaning → Lacks → ℕ → List ℕ → Served
 served m lacks limit bytes =
     after_turn (λ text v rest. served_from m (later lacks) limit v rest)

@@ -1,18 +1,18 @@
-// Laws of frames, as contracts of calls that do nothing.
+// Laws of frames, as contracts of functions that do nothing.
 
-ghost use Rattle.frames.specs.Laws.{BodiesAreSpelled, FramesAreReadBack, FramesAreReadWhole};
-ghost use Rattle.frames.specs.Laws.{FramesAreSpelled, NoByteIsLeftOver};
+ghost use Rattle.frames.specs.Laws.{BodiesAreCanonical, FramesAreReadBack, FramesAreReadWhole};
+ghost use Rattle.frames.specs.Laws.{FramesAreCanonical, NoByteIsLeftOver};
 
-/// Each frame has one spelling: what is written is read back, whatever follows, and what is read is
-/// spelled so.
+/// Each frame has one encoding: what is written is read back, whatever follows, and what is read
+/// has exactly this encoding.
 pub fn law_of_frames()
     ensures again { FramesAreReadBack }
     ensures whole { FramesAreReadWhole }
-    ensures spelled { FramesAreSpelled }
+    ensures encoded { FramesAreCanonical }
 {}
 
-/// Each body has one spelling, and none is read that has a byte more.
+/// Each body has one encoding, and a body with further bytes behind it is refused.
 pub fn law_of_bodies()
-    ensures spelled { BodiesAreSpelled }
+    ensures encoded { BodiesAreCanonical }
     ensures whole { NoByteIsLeftOver }
 {}

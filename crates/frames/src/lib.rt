@@ -1,5 +1,5 @@
 //! Frames of bytes between a session and its nodes (this project's profile): the length of a body,
-//! its kind, the body; and the loop that serves a node behind a stream of them.
+//! its kind, and the body. Also the loop that serves a node behind a stream of frames.
 #![tactic(auto)]
 
 ghost use Rattle.std.specs.Prelude.{◌≡◌};
@@ -24,28 +24,28 @@ pub use single::{read_whole_frame, read_whole_raw};
 pub use stream::{MOST_BYTES, Raw, read_frame, read_raw};
 pub use writing::{encode_fault, encode_load, encode_parcel, encode_reply};
 
-/// What stands between a session and a node.
+/// What a session and a node exchange.
 #[derive(Drop)]
 pub enum Frame {
-    /// What a node is made of.
+    /// What a node is made from.
     Load(Load),
     /// What a node is posted.
     Parcel(Parcel),
-    /// What a node answers.
+    /// What a node returns for a parcel.
     Reply(Reply),
-    /// Why a node refuses.
+    /// Why a node refuses a load or a parcel.
     Fault(NodeFault),
 }
 
 /// The kind of a frame.
 #[derive(Clone, Copy, Debug, PartialEq, Eq)]
 pub enum Kind {
-    /// What a node is made of.
+    /// What a node is made from.
     Load,
     /// What a node is posted.
     Parcel,
-    /// What a node answers.
+    /// What a node returns for a parcel.
     Reply,
-    /// Why a node refuses.
+    /// Why a node refuses a load or a parcel.
     Fault,
 }

@@ -3,7 +3,7 @@
 ghost use Rattle.std.specs.Prelude.{◌≡◌, false};
 ghost use Rattle.frames.specs.Streams.{OnBytes};
 ghost use Rattle.node.specs.Kept.{HasHistories};
-ghost use Rattle.frames.specs.Told.{IsServed, IsServedFrom, IsTurn};
+ghost use Rattle.frames.specs.Outcomes.{IsServed, IsServedFrom, IsTurn};
 
 use crate::output::write_all;
 use crate::reaction::{Begun, begin, react};
@@ -14,7 +14,8 @@ use std::alloc::Global;
 use std::io::{Read, Write};
 use wire::WireFault;
 
-/// Answers one parcel of the stream; false where the stream has ended, or the node refused.
+/// Reads one parcel and writes the answer. Returns false if the stream has ended or the node
+/// refused.
 fn turn<M: Simulated, R: Read, W: Write>(
     alloc: Global,
     model: &M,
@@ -24,7 +25,7 @@ fn turn<M: Simulated, R: Read, W: Write>(
 ) -> Result<bool, WireFault>
     requires lps { node.old.spent ≡ false → (M.meaning model.now).lps ≡ node.old.lps }
     requires histories { HasHistories (M.meaning model.now) node.old }
-    ensures told { OnBytes (R.remaining reader.old) (R.remaining reader.new)
+    ensures known { OnBytes (R.remaining reader.old) (R.remaining reader.new)
         (IsTurn (M.meaning model.now) node.old node.new
         (W.contents writer.old) (W.contents writer.new) result) }
     ensures lps { node.new.spent ≡ false → (M.meaning model.now).lps ≡ node.new.lps }
@@ -38,7 +39,7 @@ fn turn<M: Simulated, R: Read, W: Write>(
     Ok(response.goes_on)
 }
 
-/// Answers at most so many parcels of the stream, and how many it was.
+/// Answers at most `limit` parcels of the stream. Returns the number of replies.
 fn serve_parcels<M: Simulated, R: Read, W: Write>(
     alloc: Global,
     model: &M,
@@ -62,15 +63,16 @@ fn serve_parcels<M: Simulated, R: Read, W: Write>(
     Ok(limit)
 }
 
-/// Serves a node of this model to a stream of frames: first a load, then parcels, each of which is
-/// answered by a reply, `limit` at the most. It ends where the stream ends between frames, where
-/// the node refuses (the refusal is written), and after the last reply. It answers how many replies
-/// it wrote, all of them taken by the writer, which it does not flush.
+/// Serves a node of this model to a stream of frames: first a load, then parcels. Each parcel is
+/// answered by a reply, up to `limit` replies. The loop ends if the stream ends between frames, if
+/// the node refuses (the refusal is written), or after the last reply. Returns the number of
+/// replies; the writer has taken all of them, and is not flushed.
 ///
-/// Truncated, TooLong, BadKind and BadBody where the stream has such a fault before any such end,
-/// TooLong also for a reply of more than 2^24 bytes: all replies before it are written then. Io
-/// where the reader or the writer fails, NoMemory where memory is refused for a frame: a beginning
-/// of the text is written then, and nothing behind that frame is read. One frame is held at a time.
+/// `Truncated`, `TooLong`, `BadKind` and `BadBody` are returned if the stream has such a fault
+/// before the loop ends, and `TooLong` also for a reply of more than 2^24 bytes; all replies before
+/// the fault are written. `Io` is returned if the reader or the writer fails, `NoMemory` if an
+/// allocation for a frame fails; a prefix of the text is then written, and nothing behind that
+/// frame is read. One frame is held in memory at a time.
 pub fn serve<M: Simulated, R: Read, W: Write>(
     alloc: Global,
     model: &M,

@@ -1,5 +1,5 @@
-// What an encoder accepts lies in the ranges of its frame. These calls answer nothing: their
-// contracts say it.
+// What an encoder accepts is in the ranges of its frame. These functions return nothing; they exist
+// for their contracts.
 
 ghost use Rattle.std.specs.Prelude.{◌≤◌, ◌<◌, ◌^◌, length};
 ghost use Rattle.std.specs.List.{AllByRecursion as Every};
@@ -15,7 +15,7 @@ use model::ranged;
 use node::{Load, Parcel, Part, Reply};
 use process::Done;
 
-/// The numbers of these messages.
+/// Messages are in range.
 fn messages_ranged(messages: &[Message])
     ensures { Every IsRanged messages.now }
 {
@@ -24,7 +24,7 @@ fn messages_ranged(messages: &[Message])
     }
 }
 
-/// The numbers of these messages and antimessages.
+/// Messages and antimessages are in range.
 fn signed_ranged(list: &[Signed])
     ensures { Every (λ s. IsRanged s.message) list.now }
 {
@@ -33,7 +33,7 @@ fn signed_ranged(list: &[Signed])
     }
 }
 
-/// A part of a load, where its state words are few and its send number is no more than it may be.
+/// A part of a load that a node accepts is in range if it fits a frame.
 fn part_ranged(part: &Part)
     ensures { IsInRange part.now → length (part_bytes part.now) ≤ 2 ^ 24 → IsPart part.now }
 {
@@ -42,7 +42,7 @@ fn part_ranged(part: &Part)
     messages_ranged(part.pending.as_slice());
 }
 
-/// The parts of a load.
+/// The same for the parts of a load.
 fn parts_ranged(parts: &[Part])
     ensures { Every (λ p. IsInRange p → length (part_bytes p) ≤ 2 ^ 24 → IsPart p) parts.now }
 {
@@ -51,14 +51,14 @@ fn parts_ranged(parts: &[Part])
     }
 }
 
-/// A load that a node takes.
+/// A load that a node accepts is in range if it fits a frame.
 pub(crate) fn load_ranged(load: &Load)
     ensures { IsLoadInRange load.now → length (load_bytes load.now) ≤ 2 ^ 24 → IsLoad load.now }
 {
     parts_ranged(load.parts.as_slice());
 }
 
-/// A parcel whose floor is no later than an end may be.
+/// A parcel with a floor of at most 2^40 ticks is in range if it fits a frame.
 pub(crate) fn parcel_ranged(parcel: &Parcel)
     ensures { parcel.now.floor ≤ 2 ^ 40 → length (parcel_bytes parcel.now) ≤ 2 ^ 24 →
         IsParcel parcel.now }
@@ -67,7 +67,7 @@ pub(crate) fn parcel_ranged(parcel: &Parcel)
     signed_ranged(parcel.deliver.as_slice());
 }
 
-/// A handling that is told.
+/// A reported record is in range.
 fn done_ranged(done: &Done)
     ensures { IsDoneInRange done.now → IsDone done.now }
 {
@@ -76,7 +76,7 @@ fn done_ranged(done: &Done)
     ranged(done.after.as_slice());
 }
 
-/// Handlings that are told.
+/// Reported records are in range.
 fn fossils_ranged(fossils: &[Done])
     ensures { Every (λ d. IsDoneInRange d → IsDone d) fossils.now }
 {
@@ -85,7 +85,7 @@ fn fossils_ranged(fossils: &[Done])
     }
 }
 
-/// A reply that a node answers.
+/// A reply that a node returns is in range if it fits a frame.
 pub(crate) fn reply_ranged(reply: &Reply)
     ensures { IsReplyInRange reply.now → length (reply_bytes reply.now) ≤ 2 ^ 24 →
         IsReply reply.now }

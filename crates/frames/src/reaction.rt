@@ -1,4 +1,4 @@
-// What a node's loop does with one frame.
+// What the loop of a node does with one frame.
 
 ghost use Rattle.std.specs.Prelude.{◌≡◌, ◌⊎◌, Err, IfOk, OnOk, false};
 ghost use Rattle.frames.specs.Ranges.{IsReply};
@@ -15,16 +15,16 @@ use node::{Node, NodeFault, Reply};
 use std::alloc::Global;
 use wire::WireFault;
 
-/// What is written in a frame's place, and whether the loop goes on.
+/// What the loop writes for a frame, and whether it goes on.
 #[derive(Drop)]
 pub struct Response {
-    /// The bytes of a reply or of a fault.
+    /// The bytes of a reply or a fault.
     pub frame: Listed<u8>,
     /// Whether it is a reply.
     pub goes_on: bool,
 }
 
-/// What is made of the first frame: a node, or what is written in its place.
+/// What the first frame leads to: a node, or a refusal to write.
 #[derive(Drop)]
 pub enum Begun {
     /// The node.
@@ -33,10 +33,10 @@ pub enum Begun {
     Refused(Listed<u8>),
 }
 
-/// Makes the node of the frame of a load.
+/// Makes a node from the frame of a load.
 ///
-/// BadKind for a frame of another kind, else BadBody for a body that is no load; NoMemory where
-/// memory is refused for the load or for the frame of the node's refusal.
+/// `BadKind` for a frame of another kind, else `BadBody` if the body is not a load; `NoMemory` if
+/// an allocation failed for the load or for the frame of the node's refusal.
 pub fn begin<M: Simulated>(alloc: Global, model: &M, raw: &Raw) -> Result<Begun, WireFault>
     ensures begins { Begins (M.meaning model.now).lps raw.now result }
     ensures lps { IfOk result (λ begun. HasProcesses (M.meaning model.now).lps begun) }
@@ -59,9 +59,9 @@ pub fn begin<M: Simulated>(alloc: Global, model: &M, raw: &Raw) -> Result<Begun,
 
 /// Lets the node handle the frame of a parcel.
 ///
-/// BadKind for a frame of another kind, else BadBody for a body that is no parcel, else TooLong for
-/// a reply of more than 2^24 bytes; NoMemory where memory is refused for the parcel or for the
-/// response.
+/// `BadKind` for a frame of another kind, else `BadBody` if the body is not a parcel, else
+/// `TooLong` for a reply of more than 2^24 bytes; `NoMemory` if an allocation failed for the parcel
+/// or for the response.
 pub fn react<M: Simulated>(
     alloc: Global,
     model: &M,
@@ -70,7 +70,7 @@ pub fn react<M: Simulated>(
 ) -> Result<Response, WireFault>
     requires lps { node.old.spent ≡ false → (M.meaning model.now).lps ≡ node.old.lps }
     requires histories { HasHistories (M.meaning model.now) node.old }
-    ensures told { Reacts (M.meaning model.now) node.old node.new raw.now result }
+    ensures known { Reacts (M.meaning model.now) node.old node.new raw.now result }
     ensures range { IfOk result (λ response.
         RepliesInRange (M.meaning model.now) node.old raw.now response) }
     ensures lps { node.new.spent ≡ false → (M.meaning model.now).lps ≡ node.new.lps }
@@ -86,7 +86,7 @@ pub fn react<M: Simulated>(
     respond(alloc, answer)
 }
 
-/// What is written for a node's answer.
+/// The response for a node's answer.
 fn respond(alloc: Global, answer: Result<Reply, NodeFault>) -> Result<Response, WireFault>
     ensures exact { (result ≡ response_to answer) ⊎ (result ≡ Err NoMemory) }
     ensures range { IfOk answer (λ reply. IsReplyInRange reply) →

@@ -1,4 +1,4 @@
-// Frames are read from bytes that are one frame and nothing more.
+// Reads frames from bytes that are one frame and nothing more.
 
 ghost use Rattle.std.specs.Prelude.{◌≡◌, IfOk};
 ghost use Rattle.frames.specs.Cutting.{raw_in, whole_in};
@@ -9,8 +9,8 @@ use crate::stream::{MOST_BYTES, Raw, kind_of};
 use eventkey::{Listed, read_u8, read_u32};
 use std::alloc::{AllocError, Global};
 
-/// The frame that all of the bytes are, with a body that is not yet looked at, or `None` where they
-/// are none. No reader stands between, so it fails for want of memory alone. It copies the body.
+/// The frame that takes up all of the bytes, with its body not decoded; `None` if they are not one
+/// frame. Copies the body. There is no reader, so it fails only if an allocation failed.
 #[tactic(auto, unfolding(crate::specs::Cutting::raw_in))]
 pub fn read_whole_raw(alloc: Global, bytes: &[u8]) -> Result<Option<Raw>, AllocError>
     ensures { IfOk result (λ raw. raw ≡ raw_in bytes.now) }
@@ -35,7 +35,7 @@ pub fn read_whole_raw(alloc: Global, bytes: &[u8]) -> Result<Option<Raw>, AllocE
     }))
 }
 
-/// The frame that all of the bytes spell, or `None` where they spell none. It copies the body.
+/// Decodes a frame from all of the bytes; `None` if they do not encode one. Copies the body.
 pub fn read_whole_frame(alloc: Global, bytes: &[u8]) -> Result<Option<Frame>, AllocError>
     ensures { IfOk result (λ frame. frame ≡ whole_in bytes.now) }
 {

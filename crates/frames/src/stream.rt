@@ -1,4 +1,4 @@
-// Frames are read from a stream.
+// Reads frames from a stream.
 
 ghost use Rattle.std.specs.Prelude.{◌≡◌, ◌<◌, ◌≤◌, ◌++◌, ◌^◌, IfOk, OnErr, length, take, Option};
 ghost use Rattle.std.specs.Prelude.{Ok, Err, Some, None, List, ℕ};
@@ -15,20 +15,20 @@ use std::alloc::Global;
 use std::io::{self, ErrorKind, Read};
 use wire::WireFault;
 
-/// The most bytes of a frame's body.
+/// The maximum number of bytes in a frame's body.
 pub const MOST_BYTES: u32 = 1 << 24;
 
-/// How many bytes of a body are asked for at once.
+/// The number of bytes of a body that are read at once.
 const PIECE: usize = 4096;
 
-/// A frame whose body is not yet looked at.
+/// A frame whose body is not decoded yet.
 #[derive(Drop)]
 pub struct Raw {
     pub kind: Kind,
     pub body: Listed<u8>,
 }
 
-/// Reads until the buffer is full or the input has ended, and answers how many bytes came.
+/// Reads until the buffer is full or the input has ended. Returns the number of bytes read.
 fn fill<R: Read>(reader: &mut R, buffer: &mut [u8]) -> io::Result<usize>
     ensures bound { IfOk result (λ n. n ≤ length buffer.new) }
     ensures bytes { IfOk result (λ n. Consumes (R.remaining reader.old) (R.remaining reader.new)
@@ -55,8 +55,8 @@ fn fill<R: Read>(reader: &mut R, buffer: &mut [u8]) -> io::Result<usize>
     Err(io::Error::from(ErrorKind::TimedOut))
 }
 
-/// Reads so many bytes; `None` where the input ends before. The memory that it takes grows with the
-/// bytes that come.
+/// Reads `count` bytes; `None` if the input ends before. The memory that it takes grows with the
+/// bytes that arrive.
 fn read_bytes<R: Read>(
     alloc: Global,
     reader: &mut R,
@@ -77,7 +77,7 @@ fn read_bytes<R: Read>(
     Ok(Some(body))
 }
 
-/// The kind of this number.
+/// The kind with this number.
 pub(crate) fn kind_of(number: u8) -> Option<Kind>
     ensures { result ≡ kind_of number }
 {
@@ -90,11 +90,12 @@ pub(crate) fn kind_of(number: u8) -> Option<Kind>
     }
 }
 
-/// Reads one frame, and not a byte more, and leaves its body as it is. `None` where the input has
+/// Reads one frame and not a byte more, and does not decode its body. `None` if the input has
 /// ended.
 ///
-/// TooLong for a body of more than 2^24 bytes, before the kind is read; else BadKind for a kind
-/// that is none, before the body is read; else Truncated where the input ends within the frame.
+/// `TooLong` for a body of more than 2^24 bytes, before the kind is read; else `BadKind` for an
+/// unknown kind, before the body is read; else `Truncated` if the input ends within the frame. `Io`
+/// and `NoMemory` as for `read_frame`.
 pub fn read_raw<R: Read>(alloc: Global, reader: &mut R) -> Result<Option<Raw>, WireFault>
     ensures { OnBytes (R.remaining reader.old) (R.remaining reader.new) (IsCutBy cut result) }
 {
@@ -127,13 +128,13 @@ pub fn read_raw<R: Read>(alloc: Global, reader: &mut R) -> Result<Option<Raw>, W
     }))
 }
 
-/// Reads one frame, and not a byte more. `None` where the input has ended.
+/// Reads one frame and not a byte more. `None` if the input has ended.
 ///
-/// TooLong for a body of more than 2^24 bytes, before the kind is read; else BadKind for a kind
-/// that is none, before the body is read; else Truncated where the input ends within the frame;
-/// else BadBody where the body is not of its kind. Io where the reader fails, and NoMemory where
-/// memory is refused: some bytes of the frame are taken then, and none behind it. The memory for a
-/// body grows with the bytes that come, not with the length that is stated.
+/// `TooLong` for a body of more than 2^24 bytes, before the kind is read; else `BadKind` for an
+/// unknown kind, before the body is read; else `Truncated` if the input ends within the frame; else
+/// `BadBody` if the body is not an encoding of its kind. `Io` if the reader fails, `NoMemory` if an
+/// allocation fails: some bytes of the frame may then have been read, and none behind it. The
+/// memory for a body grows with the bytes that arrive, not with the stated length.
 pub fn read_frame<R: Read>(alloc: Global, reader: &mut R) -> Result<Option<Frame>, WireFault>
     ensures { OnBytes (R.remaining reader.old) (R.remaining reader.new) (IsCutBy frame_cut result) }
 {

@@ -12,13 +12,13 @@ pub use laws::law_of_growth;
 use recovery::RecoveryFault;
 use thiserror::Error;
 
-/// Why a disk does not grow.
+/// Why a disk has not grown.
 #[derive(Clone, Copy, Debug, PartialEq, Eq, Error)]
 pub enum GrowingFault {
-    /// It has no log of this model. It is only looked at.
+    /// The log of the disk could not be read, or is not of this model. Nothing was written.
     #[error("{0}")]
     Recovery(RecoveryFault),
-    /// It does not get so many sectors.
+    /// The disk could not grow to this number of sectors.
     #[error("{0}")]
     Growth(GrowthFault),
 }

@@ -1,4 +1,4 @@
--- Least times: of parts, of one more, of all that a ledger keeps.
+-- Least times: of parts, with one item more, of all that a ledger keeps.
 use Rattle.std.specs.Prelude.{option_map}
 use Rattle.std.proofs.Common.{ℕ, ◌≡◌, List, [], ◌∷◌, ◌++◌, map, flat_map, min, Option, Some, None, refl, ap, ◌∙◌, sym, arith, ◌<◌, ◌+◌, length, get_or, take}
 use Rattle.std.proofs.lemmas.List.{map-append, take_more}
@@ -25,7 +25,7 @@ least_time-lesser t a xs =
     let back : min a (least_time t xs) ≡ min (least_time t xs) a = omega arith in
     ap (λ n. least_time n xs) swap ∙ (least_time-min a t xs ∙ back)
 
--- of some times together it is the lesser of a time and of their own least
+-- the least of a time and several others is the lesser of it and of their own least
 pub least_time_by_low : (t : ℕ) (ss : List Signed) → least_time t (messages ss) ≡ least_low t (low_in ss ∷ [])
 least_time_by_low t [] = refl
 least_time_by_low t (s ∷ ss) = least_time-min t s.message.time (messages ss)
@@ -52,15 +52,15 @@ nodes_floor t (account ∷ accounts) =
     let here = messages (delivered_by (parcel_at account)) in
     let rest = messages (flat_map delivered_by (parcels_in accounts)) in
     let lows = lows_in accounts in
-    let told = least_low t (account.low ∷ []) in
+    let reported = least_low t (account.low ∷ []) in
     nodes_floor (with_node t account) accounts
-    ∙ (ap (λ n. least_low (least_time n rest) lows) (low_posted_is told account)
+    ∙ (ap (λ n. least_low (least_time n rest) lows) (low_posted_is reported account)
     ∙ (low_last t account.low lows here rest
     ∙ ap (λ n. least_low n (account.low ∷ lows)) (sym (
     ap (least_time t) (map-append (λ (s : Signed). s.message) (delivered_by (parcel_at account)) (flat_map delivered_by (parcels_in accounts)))
     ∙ least_time-append t here rest))))
 
--- The floor is found from what is kept
+-- The floor computed from the accounts is the ledger's floor
 pub floor_is : (end : ℕ) (transit : List Signed) (accounts : List Account) →
     fold with_node (least_low end (low_in transit ∷ [])) accounts ≡ ledger_floor end transit (parcels_in accounts) (lows_in accounts)
 floor_is end transit accounts =

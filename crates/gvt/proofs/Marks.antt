@@ -1,4 +1,4 @@
--- Items with no mark: part by part, moved to the front in place, and as what no pick names.
+-- Items without a mark: part by part, moved to the front in place, and as those that no pick names.
 use Rattle.std.proofs.Common.{ℕ, zero, suc, ◌≡◌, ◌+◌, ◌≤◌, ◌<◌, List, [], ◌∷◌, ◌++◌, Bool, true, false, cond, length, take, drop, get_or, set, append-nil, replicate, ◌-◌, refl, ap, ◌∙◌, sym, arith, add-one, subst}
 use Rattle.std.proofs.Math.Seq.{drop-cons}
 use Rattle.std.proofs.lemmas.List.{drop-set-lt, get_or-drop, length-replicate, length-set, length-take, replicate-append-replicate, take_all, take_more, take_more_set}
@@ -18,8 +18,8 @@ module _ {X : Type 0} where
   unmarked-append (true ∷ bs) cs (x ∷ xs) ys e = unmarked-append bs cs xs ys (omega arith)
   unmarked-append (false ∷ bs) cs (x ∷ xs) ys e = ap (λ (zs : List X). x ∷ zs) (unmarked-append bs cs xs ys (omega arith))
 
-  -- xs became ys: what has no mark of the first i of xs stands in the first k places of ys, and
-  -- from i on ys is as xs
+  -- xs became ys: the unmarked of the first i items of xs are the first k of ys, and from i on ys
+  -- equals xs
   pub record IsKeptInPlace (marks : List Bool) (xs ys : List X) (k i : ℕ) : Type 0 where
     pub front : take k ys ≡ unmarked (take i marks) (take i xs)
     pub rest : drop i ys ≡ drop i xs
@@ -64,7 +64,7 @@ module _ {X : Type 0} where
       long = length-set ys k x ∙ h.long;
     }
 
--- no mark is no pick
+-- the unmarked are those that no pick names
 pub unmarked_is : (marks : List Bool) (picks : List ℕ) (i : ℕ) (ss : List Signed) → length marks ≡ length ss →
     ((k : ℕ) → k < length marks → get_or marks k false ≡ has (i + k) picks) → unmarked marks ss ≡ not_picked picks i ss
 unmarked_is [] picks i [] e h = refl

@@ -1,4 +1,4 @@
--- Accounts as they are opened.
+-- Accounts of a new ledger.
 use Rattle.std.proofs.Common.{ℕ, ◌≡◌, List, [], ◌∷◌, map, Option, None, refl, ap, length, replicate}
 use Rattle.gvt.specs.Accounts.{floors_in, lows_in, parcels_in}
 use Rattle.gvt.specs.Ledger.{Ledger, first_ledger}
@@ -20,7 +20,7 @@ floors_opened : (floor : ℕ) (lows : List (Option ℕ)) → floors_in (map (acc
 floors_opened floor [] = refl
 floors_opened floor (low ∷ lows) = ap (λ (fs : List ℕ). floor ∷ fs) (floors_opened floor lows)
 
--- what a ledger of new accounts shows
+-- the ledger that new accounts make up
 pub opened_is : (nodes end floor : ℕ) (lows : List (Option ℕ)) (accounts : List Account) → length lows ≡ nodes → accounts ≡ map (account_of floor) lows →
     ◌≡◌ {A = Ledger} (record { end = end; transit = []; parcels = parcels_in accounts; lows = lows_in accounts; floors = floors_in accounts }) (first_ledger nodes end floor lows)
 opened_is nodes end floor lows accounts count are =

@@ -1,4 +1,4 @@
--- Picks one by one: which places they have named, and whether all of them may be picked.
+-- Picks one by one: the places they have named, and whether all of them may be picked.
 use Rattle.std.proofs.Common.{ℕ, zero, suc, ◌≡◌, ◌+◌, ◌<◌, List, [], ◌∷◌, ◌++◌, Bool, true, false, length, take, drop, get_or, set, refl, ap, ◌∙◌, sym, arith, inl, inr, replicate, get_or-set_same, get_or-set_other, ◌%◌}
 use Rattle.std.proofs.Math.Seq.{drop-cons}
 use Rattle.std.proofs.lemmas.Bool.{and_parts, and_left, and_right, and_from, cases_Bool, eqb-true, eqb-false, eq-eqb, ne_eqb, not-true, or_parts, or_cases, or_left, or_right, or_from, not_from_true, not_from_false, cases_eq, lt-ltb, ltb-true}
@@ -23,7 +23,7 @@ can_pick-append nodes node transit (x ∷ xs) ys = elim (cases_Bool (nat_lt x (l
   | inr e ↦ rw e refl
 ]
 
--- a number that comes again
+-- a number that repeats an earlier one
 repeated : (p : ℕ) (xs ys : List ℕ) → has p xs ≡ true → are_distinct (xs ++ p ∷ ys) ≡ false
 repeated p [] ys h = absurd (cc)
 repeated p (x ∷ xs) ys h = elim (or_cases (nat_eq p x) (has p xs) h) [
@@ -32,7 +32,7 @@ repeated p (x ∷ xs) ys h = elim (or_cases (nat_eq p x) (has p xs) h) [
   | inr e ↦ and_right (not (has x (xs ++ p ∷ ys))) (are_distinct (xs ++ p ∷ ys)) (repeated p xs ys e)
 ]
 
--- one number more that is new
+-- one more number, which is new
 distinct-push : (p : ℕ) (xs : List ℕ) → has p xs ≡ false → are_distinct xs ≡ true → are_distinct (xs ++ p ∷ []) ≡ true
 distinct-push p [] new apart = refl
 distinct-push p (x ∷ xs) new apart =
@@ -43,7 +43,7 @@ distinct-push p (x ∷ xs) new apart =
     (not_from_false (has x (xs ++ p ∷ [])) (has-append x xs (p ∷ []) ∙ or_from (has x xs) (nat_eq x p || false) (not-true (has x xs) b.0) (or_from (nat_eq x p) false other refl)))
     (distinct-push p xs a.1 b.1)
 
--- The picks so far are good and apart, and just they are marked
+-- The picks so far are good and distinct, and exactly they are marked
 pub record IsPicking (nodes node : ℕ) (transit : List Signed) (marks : List Bool) (done : List ℕ) : Type 0 where
   pub long : length marks ≡ length transit
   pub each : (k : ℕ) → k < length marks → get_or marks k false ≡ has k done
@@ -66,7 +66,7 @@ module _ (nodes node : ℕ) (transit : List Signed) (marks : List Bool) (picks :
   unfolding rest
   split = sym (take-append-drop i picks) ∙ ap (λ (ns : List ℕ). take i picks ++ ns) (drop-cons picks i 0 within ∙ ap (λ (n : ℕ). n ∷ drop (suc i) picks) (sym at))
 
-  -- this pick is bad: so are they all
+  -- this pick is bad, so the picks as a whole are
   pub picking-bad : (nat_lt p (length transit) && sits_on nodes node (get_or transit p nothing).message.to) ≡ false → (can_pick nodes node transit picks && are_distinct picks) ≡ false
   picking-bad e = and_left (can_pick nodes node transit picks) (are_distinct picks)
       (ap (can_pick nodes node transit) split
@@ -107,7 +107,7 @@ module _ (nodes node : ℕ) (transit : List Signed) (marks : List Bool) (picks :
 pub picking-all : (nodes node : ℕ) (transit : List Signed) (marks : List Bool) (picks : List ℕ) → IsPicking nodes node transit marks picks → (can_pick nodes node transit picks && are_distinct picks) ≡ true
 picking-all nodes node transit marks picks h = and_from (can_pick nodes node transit picks) (are_distinct picks) h.good h.apart
 
--- each pick is a place
+-- each pick is a place in transit
 pub picks_within : (nodes node : ℕ) (transit : List Signed) (picks : List ℕ) → can_pick nodes node transit picks ≡ true → (k : ℕ) → k < length picks → get_or picks k 0 < length transit
 picks_within nodes node transit [] e k l = absurd (omega arith)
 picks_within nodes node transit (p ∷ ps) e zero l =
@@ -117,6 +117,6 @@ picks_within nodes node transit (p ∷ ps) e (suc k) l =
     let a = and_parts (nat_lt p (length transit) && sits_on nodes node (get_or transit p nothing).message.to) (can_pick nodes node transit ps) e in
     picks_within nodes node transit ps a.1 k (omega arith)
 
--- to whom the message at a place goes
+-- the receiver of the message at a place
 pub to_of : (transit : List Signed) (p : ℕ) (s : Signed) → p < length transit → (get_or transit p nothing).message.to ≡ (get_or transit p s).message.to
 to_of transit p s l = ap (λ (x : Signed). x.message.to) (get_or_default transit p nothing s l)

@@ -1,5 +1,5 @@
--- One pass over transit: what has no mark moves to the front, the marks are cleared, and the least
--- time is found.
+-- One pass over transit: it moves unmarked messages to the front, clears the marks and finds the
+-- least time.
 use Rattle.std.proofs.Common.{ℕ, zero, suc, ◌≡◌, ◌+◌, ◌≤◌, ◌<◌, List, [], ◌∷◌, ◌++◌, Bool, true, false, Option, None, Some, length, take, drop, get_or, set, replicate, refl, ap, ◌∙◌, sym, arith}
 use Rattle.std.proofs.lemmas.List.{length-replicate, length-take, take_all, take_more_set}
 use Rattle.eventkey.specs.declared.Signed.{Signed}
@@ -39,7 +39,7 @@ cleared-all [] (suc i) l k = absurd (omega arith)
 cleared-all (m ∷ ms) zero l k = absurd (omega arith)
 cleared-all (m ∷ ms) (suc i) l k = ap (λ (xs : List Bool). false ∷ xs) (cleared-all ms i (omega arith) (omega arith))
 
--- the first i places are swept, and the k messages among them that had no mark stand in front
+-- the first i places are swept, and the k unmarked messages among them are in front
 pub record IsSwept (before : List Bool) (old : List Signed) (marks : List Bool) (now : List Signed) (k i : ℕ) (least : Option ℕ) : Type 0 where
   pub in_place : IsKeptInPlace before old now k i
   pub clear : marks ≡ cleared i before
@@ -73,7 +73,7 @@ module _ {before : List Bool} {old : List Signed} {marks : List Bool} {now : Lis
 pub swept_all : {before : List Bool} {old : List Signed} {marks : List Bool} {now : List Signed} {k i : ℕ} {least : Option ℕ} → IsSwept before old marks now k i least → length before ≡ length old → length before ≤ i → take k now ≡ unmarked before old
 swept_all {before} {old} {marks} {now} {k} {i} h same all = h.in_place.front ∙ ap (λ (ms : List Bool). unmarked ms (take i old)) (take_all i before all) ∙ ap (unmarked before) (take_all i old (omega arith))
 
--- no picks take nothing
+-- no picks remove nothing
 pub not_picked-none : (i : ℕ) (ss : List Signed) → not_picked [] i ss ≡ ss
 not_picked-none i [] = refl
 not_picked-none i (s ∷ ss) = ap (λ (xs : List Signed). s ∷ xs) (not_picked-none (i + 1) ss)
@@ -82,7 +82,7 @@ pub no_picks : (picks : List ℕ) (ss : List Signed) → length picks ≡ 0 → 
 no_picks [] ss e = sym (not_picked-none 0 ss)
 no_picks (p ∷ ps) ss e = absurd (omega arith)
 
--- Cut off behind the places that are kept
+-- Truncated behind the places that are kept
 
 take_seam : {X : Type 0} (xs rest : List X) → take (length xs) (xs ++ rest) ≡ xs
 take_seam [] rest = refl

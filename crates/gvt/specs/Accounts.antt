@@ -1,4 +1,4 @@
--- What a ledger keeps of each node.
+-- What the ledger keeps for each node.
 use Rattle.std.specs.Prelude.{ℕ, List, [], ◌∷◌, map, Option, Some, None, option_map}
 use Rattle.node.specs.declared.Parcel.{Parcel}
 use Rattle.gvt.specs.Ledger.{least_low}
@@ -18,12 +18,12 @@ lows_in accounts = map (λ (account : Account). account.low) accounts
 abbrev pub floors_in : List Account → List ℕ
 floors_in accounts = map (λ (account : Account). account.answered) accounts
 
--- the least time that an outstanding parcel delivers
+-- the least time of an outstanding parcel, if there is one
 abbrev pub low_posted : Option Posted → Option ℕ
 low_posted None = None
 low_posted (Some posted) = posted.least
 
--- a floor of some nodes, with one node more
+-- the floor of some nodes, lowered by the account of one more
 abbrev pub with_node : ℕ → Account → ℕ
 with_node floor account =
     least_low (least_low floor (account.low ∷ [])) (low_posted account.posted ∷ [])

@@ -1,4 +1,4 @@
--- The ledger of a running system: what travels, what the nodes told last, and the floor that
+-- The ledger of a running system: what travels, what each node reported last, and the floor that
 -- follows (global virtual time: Jefferson 1985, Fujimoto 1990).
 use Rattle.std.specs.Prelude.{ℕ, List, [], ◌∷◌, min, Option, Some, None, ◌++◌, map, flat_map, Bool}
 use Rattle.std.specs.Prelude.{is_some, get_or, set, length, ◌&&◌, replicate}
@@ -8,13 +8,13 @@ use Rattle.node.specs.declared.Parcel.{Parcel}
 use Rattle.node.specs.declared.Reply.{Reply}
 use Rattle.gvt.specs.Picks.{are_distinct, can_pick, not_picked, picked}
 
--- the least of a time and of the lows that nodes told
+-- the least of a time and of the lows that nodes reported
 abbrev pub least_low : ℕ → List (Option ℕ) → ℕ
 least_low t [] = t
 least_low t (None ∷ lows) = least_low t lows
 least_low t (Some low ∷ lows) = least_low (min t low) lows
 
--- what an outstanding parcel delivers; nothing where none is outstanding
+-- the messages of an outstanding parcel; none if no parcel is outstanding
 abbrev pub delivered_by : Option Parcel → List Signed
 delivered_by None = []
 delivered_by (Some parcel) = parcel.deliver
@@ -27,16 +27,16 @@ ledger_floor end transit parcels lows =
     (least_time end (map (λ (s : Signed). s.message) (transit ++ flat_map delivered_by parcels)))
     lows
 
-abbrev pub least_floor : ℕ → List ℕ → ℕ  -- of a time and of the floors that nodes have answered
+abbrev pub least_floor : ℕ → List ℕ → ℕ  -- of a time and of floors that nodes answered
 least_floor t [] = t
 least_floor t (f ∷ fs) = least_floor (min t f) fs
 
--- A ledger; its last three lists have one entry a node (this project's profile)
+-- A ledger. Its last three lists have one entry per node.
 pub record Ledger : Type 0 where
   pub end : ℕ
   pub transit : List Signed
-  pub parcels : List (Option Parcel)  -- the outstanding ones
-  pub lows : List (Option ℕ)  -- as each node told last
+  pub parcels : List (Option Parcel)  -- those outstanding
+  pub lows : List (Option ℕ)  -- as each node last reported
   pub floors : List ℕ  -- of the parcel that each node answered last
 
 abbrev pub floor_of : Ledger → ℕ
@@ -52,7 +52,7 @@ outstanding ledger node = get_or ledger.parcels node None
 abbrev pub is_busy : Ledger → ℕ → Bool
 is_busy ledger node = is_some (outstanding ledger node)
 
--- the picks are places of transit, no two the same, and each has a message for the node
+-- the picks are distinct places in transit, and each has a message for the node
 abbrev pub may_pick : Ledger → ℕ → List ℕ → Bool
 may_pick ledger node picks =
     can_pick (nodes_of ledger) node ledger.transit picks && are_distinct picks
@@ -67,7 +67,7 @@ first_ledger nodes end floor lows = record {
   floors = replicate nodes floor;
 }
 
--- the parcel of these picks, with the floor that holds before it is posted
+-- the parcel of these picks, with the floor before it is posted
 abbrev pub parcel_of : Ledger → List ℕ → ℕ → Parcel
 parcel_of ledger picks budget = record {
   deliver = picked ledger.transit picks;
@@ -75,7 +75,7 @@ parcel_of ledger picks budget = record {
   floor = floor_of ledger;
 }
 
--- the ledger after the node is posted that parcel
+-- the ledger after that parcel is posted to the node
 abbrev pub after_post : Ledger → ℕ → List ℕ → ℕ → Ledger
 after_post ledger node picks budget = record ledger {
   transit = not_picked picks 0 ledger.transit;

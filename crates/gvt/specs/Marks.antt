@@ -1,7 +1,7 @@
 -- Marks: one for each place of a list.
 use Rattle.std.specs.Prelude.{Bool, true, false, List, [], ◌∷◌}
 
--- the items with no mark
+-- the items without a mark
 abbrev pub unmarked : {X : Type 0} → List Bool → List X → List X
 unmarked [] xs = xs
 unmarked (mark ∷ marks) [] = []

@@ -1,4 +1,4 @@
--- The least time of what travels, where there is any.
+-- The least time of what travels, if anything does.
 use Rattle.std.specs.Prelude.{ℕ, List, map, Option}
 use Rattle.eventkey.specs.declared.Signed.{Signed}
 use Rattle.node.specs.Node.{first_time}

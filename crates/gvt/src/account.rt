@@ -1,4 +1,4 @@
-// What a ledger keeps of each node.
+// What the ledger keeps for each node.
 
 ghost use Rattle.std.specs.Prelude.{◌≡◌};
 ghost use Rattle.std.proofs.Props.{props};
@@ -8,12 +8,12 @@ use crate::times::least_of;
 use node::Parcel;
 use std::snapshot::Snapshot;
 
-/// What is kept of a parcel that its node has not answered yet. The parcel itself is handed out:
-/// only clauses see it here.
+/// What the ledger keeps of a parcel that its node has not answered yet. The caller holds the
+/// parcel itself; only contracts see it here.
 #[derive(Drop)]
 pub(crate) struct Posted {
     pub parcel: Snapshot<Parcel>,
-    /// The least time that it delivers, in ticks.
+    /// The least time of the parcel's messages and antimessages, in ticks.
     pub least: Option<u64>,
     /// In ticks.
     pub floor: u64,
@@ -21,12 +21,12 @@ pub(crate) struct Posted {
     ghost floor_is: { floor ≡ parcel.value.floor },
 }
 
-/// What is kept of a node.
+/// What the ledger keeps for one node.
 #[derive(Drop)]
 pub(crate) struct Account {
     pub posted: Option<Posted>,
-    /// The least time that waits at the node, in ticks, as it told last.
+    /// The least time of what waits at the node, in ticks, as last reported.
     pub low: Option<u64>,
-    /// The floor of the parcel that it answered last, in ticks.
+    /// The floor of the parcel that the node answered last, in ticks.
     pub answered: u64,
 }

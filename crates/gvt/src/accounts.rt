@@ -1,4 +1,4 @@
-// The nodes' accounts: made, read and changed.
+// Creates, reads and updates the nodes' accounts.
 
 ghost use Rattle.std.specs.Prelude.{◌≡◌, ◌<◌, Some, None, IfOk, length, map, option_map, set};
 ghost use Rattle.std.specs.Prelude.{is_some};
@@ -11,7 +11,7 @@ use node::Parcel;
 use std::alloc::{AllocError, Global};
 use std::snapshot::Snapshot;
 
-/// An account for each of these lows, with nothing outstanding.
+/// Creates one account per entry of `lows`, with no outstanding parcel.
 pub(crate) fn opened(
     alloc: Global,
     floor: u64,
@@ -29,7 +29,7 @@ pub(crate) fn opened(
         .collect(alloc)
 }
 
-/// What is kept of this parcel while it is outstanding.
+/// Returns what the ledger keeps of an outstanding parcel.
 fn kept(parcel: &Parcel) -> Posted
     ensures { result.parcel.value ≡ parcel.now }
 {
@@ -40,7 +40,7 @@ fn kept(parcel: &Parcel) -> Posted
     }
 }
 
-/// Notes that this parcel is outstanding at a node.
+/// Records that the parcel is outstanding at the node.
 pub(crate) fn note_posted(accounts: &mut [Account], node: usize, parcel: &Parcel)
     requires { node < length accounts.old }
     ensures parcels { parcels_in accounts.new ≡ set (parcels_in accounts.old) node
@@ -52,7 +52,7 @@ pub(crate) fn note_posted(accounts: &mut [Account], node: usize, parcel: &Parcel
     account.posted = Some(kept(parcel));
 }
 
-/// Notes that a node answered its parcel, of this floor, and told this low.
+/// Records that the node answered its parcel, which had this floor, and reported this low.
 pub(crate) fn note_answered(accounts: &mut [Account], node: usize, low: Option<u64>, floor: u64)
     requires { node < length accounts.old }
     ensures parcels { parcels_in accounts.new ≡ set (parcels_in accounts.old) node None }
@@ -84,8 +84,8 @@ impl Account {
         }
     }
 
-    /// This floor of other nodes, in ticks, with the node's low and what its outstanding parcel
-    /// delivers.
+    /// Returns the floor of other nodes, in ticks, lowered by this node's low and by the least time
+    /// of its outstanding parcel.
     pub(crate) fn lowers(&self, floor: u64) -> u64
         ensures { result ≡ with_node floor self.now }
     {

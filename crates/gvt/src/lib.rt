@@ -1,5 +1,5 @@
-//! The ledger of a running simulation: what travels between its nodes, and the floor below which no
-//! rollback goes (global virtual time: Jefferson 1985, Fujimoto 1990).
+//! The ledger of a running simulation: what travels between its nodes, and the floor below which
+//! nothing rolls back (global virtual time: Jefferson 1985, Fujimoto 1990).
 #![tactic(auto)]
 
 ghost use Rattle.std.specs.Prelude.{◌≡◌, ◌<◌, ◌≤◌, ◌↔◌, ℕ, true, false, length, IfOk, OnOk, OnErr};
@@ -36,11 +36,10 @@ pub enum LedgerFault {
     /// No node has this number.
     #[error("NoSuchNode")]
     NoSuchNode,
-    /// A pick is no place of transit, or has a message for another node, or names the same place as
-    /// another pick.
+    /// A pick is not a place in transit, has a message for another node, or repeats another pick.
     #[error("NoSuchPick")]
     NoSuchPick,
-    /// Memory was refused.
+    /// An allocation failed.
     #[error("NoMemory")]
     NoMemory,
 }
@@ -61,10 +60,11 @@ impl<T: Drop> From<AllocFailed<T>> for LedgerFault {
     }
 }
 
-/// What travels between the nodes, what each node told last, and the floor that follows from both.
+/// What travels between the nodes, what each node reported last, and the floor that follows from
+/// both.
 ///
-/// Contracts see it as the record of its end, its transit, and for each node its outstanding
-/// parcel, its last low and the floor of the parcel that it answered last.
+/// In contracts it is a record: the end, the transit, and for each node its outstanding parcel, its
+/// last low and the floor of the parcel that it answered last.
 pub struct Ledger {
     end: u64,
     nodes: u32,
@@ -72,7 +72,8 @@ pub struct Ledger {
     accounts: Vec<Account>,
 }
 
-// Not derived: each caller that drops one would prove again how its parts are dropped.
+// Not derived: with a derived `Drop`, each caller that drops a ledger would have to prove again how
+// its fields are dropped.
 impl Drop for Ledger {
     fn drop(self) {
         let Ledger {
@@ -105,11 +106,11 @@ impl Model for Ledger {
 }
 
 impl Ledger {
-    /// A ledger of so many nodes, over which nothing travels yet.
+    /// Returns a ledger of `nodes` nodes over which nothing travels yet.
     ///
-    /// No time counts past `end`, in ticks. Each node starts with `floor` as the floor that it
-    /// answered last, in ticks, and with its entry of `lows`: the least time, in ticks, of what
-    /// waits at it, none where nothing does. It is refused for memory alone.
+    /// No floor is above `end`, in ticks. Each node starts with `floor` as the floor that it
+    /// answered last, in ticks, and with its entry of `lows`: the least time of what waits at it,
+    /// in ticks, or `None` if nothing waits. Fails only with `NoMemory`.
     pub fn new(
         alloc: Global,
         nodes: u32,
@@ -129,14 +130,15 @@ impl Ledger {
         })
     }
 
-    /// What travels and is in no parcel, by place. It takes no memory.
+    /// The messages and antimessages in transit, which are in no parcel, by place. Does not
+    /// allocate.
     pub fn transit(&self) -> &[Signed]
         ensures { result.now ≡ self.now.transit }
     {
         self.transit.as_slice()
     }
 
-    /// Whether a parcel is outstanding at the node, which is there. It takes no memory.
+    /// Returns whether a parcel is outstanding at the node, which must exist. Does not allocate.
     pub fn busy(&self, node: u32) -> bool
         requires { node < nodes_of self.now }
         ensures { result ≡ is_busy self.now node }
@@ -145,8 +147,8 @@ impl Ledger {
     }
 
     /// The floor, in ticks: the least of the end, the times in transit, the times in outstanding
-    /// parcels and the lows that the nodes told last. It takes no memory, and its cost is that of
-    /// one pass over the nodes.
+    /// parcels and the lows that the nodes reported last. Does not allocate; costs one pass over
+    /// the nodes.
     pub fn floor(&self) -> u64
         ensures { result ≡ floor_of self.now }
     {
@@ -158,7 +160,7 @@ impl Ledger {
     }
 
     /// The least of the end and of the floors of the parcels that the nodes answered last, in
-    /// ticks. It takes no memory.
+    /// ticks. Does not allocate.
     pub fn least_answered(&self) -> u64
         ensures { result ≡ least_floor self.now.end self.now.floors }
     {
@@ -169,14 +171,14 @@ impl Ledger {
         least
     }
 
-    /// Takes the messages at these places of transit out of it, as the parcel that the node is to
-    /// handle, with at most `budget` messages to be handled and the floor that held before.
+    /// Removes the picked places from transit and returns their messages as the node's parcel, with
+    /// the floor that held before the call. The node may handle at most `budget` messages.
     ///
-    /// The parcel has them in the order of the picks, and the others keep their order. It is
-    /// refused, in this order, where no node has this number, where a parcel is outstanding there,
-    /// where a pick is no place of transit, has a message for another node or comes twice, and
-    /// where memory is refused; then nothing changes. Its cost is that of the picks and of the
-    /// nodes, and where there are picks, of one pass over transit.
+    /// The parcel has the messages in the order of the picks; the others keep their order. Fails,
+    /// checked in this order, if no node has this number (`NoSuchNode`), if a parcel is outstanding
+    /// there (`Busy`), if a pick is not a place in transit, has a message for another node or comes
+    /// twice (`NoSuchPick`), or if an allocation fails (`NoMemory`); then nothing changes. The cost
+    /// is that of the picks and of the nodes and, if there are picks, of one pass over transit.
     pub fn post(&mut self, node: u32, picks: &[u32], budget: u32) -> Result<Parcel, LedgerFault>
         ensures parcel { IfOk result (λ parcel. parcel ≡ parcel_of self.old picks.now budget) }
         ensures posted { OnOk result (self.new ≡ after_post self.old node picks.now budget) }
@@ -207,11 +209,11 @@ impl Ledger {
         Ok(parcel)
     }
 
-    /// Notes the node's reply to its outstanding parcel: what it sent joins transit's end, and its
-    /// low and the floor of that parcel are the last ones.
+    /// Records the node's reply to its outstanding parcel: what it sent is appended to transit, and
+    /// its low and that parcel's floor replace the node's earlier ones.
     ///
-    /// It is refused, in this order, where no node has this number, where no parcel is outstanding
-    /// there, and where memory is refused; then nothing changes.
+    /// Fails, checked in this order, if no node has this number (`NoSuchNode`), if no parcel is
+    /// outstanding there (`Idle`), or if an allocation fails (`NoMemory`); then nothing changes.
     pub fn take(&mut self, node: u32, reply: &Reply) -> Result<(), LedgerFault>
         ensures ok { (parcel : Parcel) → outstanding self.old node ≡ Some parcel → OnOk result
             (self.new ≡ after_take self.old node parcel reply.now) }

@@ -7,7 +7,7 @@ ghost use Rattle.gvt.specs.Times.{low_in};
 
 use eventkey::Signed;
 
-/// The lesser of two times; an absent one is no bound.
+/// The lesser of two times; `None` is no bound.
 pub(crate) fn lesser(first: Option<u64>, second: Option<u64>) -> Option<u64>
     ensures { result ≡ earliest first second }
 {
@@ -18,7 +18,7 @@ pub(crate) fn lesser(first: Option<u64>, second: Option<u64>) -> Option<u64>
     }
 }
 
-/// A time, or the low where that is less.
+/// The lesser of a time and a low; `None` is no bound.
 pub(crate) fn lowered(time: u64, low: Option<u64>) -> u64
     ensures { result ≡ least_low time (low ∷ []) }
 {

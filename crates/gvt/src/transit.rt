@@ -14,11 +14,11 @@ use eventkey::Signed;
 use std::alloc::{AllocError, Global};
 use std::marker::Model;
 
-/// The messages that travel and are in no parcel, each at its place.
+/// The messages and antimessages that are in no parcel, each at its place.
 #[derive(Drop)]
 pub(crate) struct Transit {
     messages: Vec<Signed>,
-    /// One for each place; set only while places are picked.
+    /// One mark per place; all are clear except while places are picked.
     marks: Vec<bool>,
     /// The least time of the messages, in ticks.
     least: Option<u64>,
@@ -38,7 +38,7 @@ impl Model for Transit {
 }
 
 impl Transit {
-    /// Nothing travels. It takes no memory.
+    /// Returns an empty transit. Does not allocate.
     pub(crate) fn new(alloc: Global) -> Transit
         ensures { result ≡ [] }
     {
@@ -63,7 +63,7 @@ impl Transit {
         self.least
     }
 
-    /// Puts these messages at the end.
+    /// Appends these messages.
     pub(crate) fn append(&mut self, sent: &[Signed]) -> Result<(), AllocError>
         ensures ok { OnOk result (self.new ≡ self.old ++ sent.now) }
         ensures err { OnErr result (self.new ≡ self.old) }
@@ -75,10 +75,10 @@ impl Transit {
         Ok(())
     }
 
-    /// Takes out the messages at these places, in the order of the picks; the others keep their
-    /// order.
+    /// Removes and returns the messages at the picked places, in the order of the picks; the others
+    /// keep their order.
     ///
-    /// Its cost is that of the picks, and where there are any, of one pass over what is in transit.
+    /// The cost is that of the picks and, if there are any, of one pass over transit.
     pub(crate) fn pick(
         &mut self,
         nodes: u32,
@@ -114,8 +114,8 @@ impl Transit {
     }
 }
 
-/// Marks the picked places, as far as each has a message for the node and is picked once. Whether
-/// all are so.
+/// Marks the picked places until a pick is not a place, has a message for another node or comes
+/// twice. Returns whether all picks are good.
 fn mark(messages: &[Signed], marks: &mut [bool], nodes: u32, node: u32, picks: &[u32]) -> bool
     requires some { 0 < nodes }
     requires clear { marks.old ≡ replicate (length messages.now) false }
@@ -133,7 +133,8 @@ fn mark(messages: &[Signed], marks: &mut [bool], nodes: u32, node: u32, picks: &
     true
 }
 
-/// The messages at these places, in the order of the picks; then just the places are marked.
+/// Returns the messages at the picked places, in the order of the picks. On success exactly these
+/// places are marked.
 fn chosen(
     alloc: Global,
     messages: &[Signed],
@@ -171,8 +172,8 @@ fn copied(alloc: Global, messages: &[Signed], picks: &[u32]) -> Result<Vec<Signe
     Ok(picked)
 }
 
-/// Moves the messages with no mark to the front, in their order, and clears the marks. Their
-/// number, and their least time in ticks, if there are any.
+/// Moves the unmarked messages to the front, in their order, and clears the marks. Returns their
+/// number and their least time in ticks, if there are any.
 fn sweep(messages: &mut [Signed], marks: &mut [bool]) -> (usize, Option<u64>)
     requires { length marks.old ≡ length messages.old }
     ensures within { result.0 ≤ length messages.old }
@@ -195,8 +196,8 @@ fn sweep(messages: &mut [Signed], marks: &mut [bool]) -> (usize, Option<u64>)
     (kept, least)
 }
 
-/// Takes out the messages with a mark; the others keep their order, and have clear marks. Their
-/// least time, in ticks, if there are any.
+/// Removes the marked messages; the others keep their order, and their marks are clear. Returns the
+/// least time of those left, in ticks, if there are any.
 fn drop_marked(messages: &mut Vec<Signed>, marks: &mut Vec<bool>) -> Option<u64>
     requires { length marks.old.items ≡ length messages.old.items }
     ensures left { messages.new.items ≡ unmarked marks.old.items messages.old.items }

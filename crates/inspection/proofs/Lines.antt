@@ -12,7 +12,7 @@ use Rattle.inspection.specs.Text.{bytes_each, events_text, full_at, line, pace_t
 -- 1. One line
 
 module _ {X : Type 0} (f : X → List ℕ × ℕ) (last : List ℕ) where
-  -- the line from a fact on begins with it
+  -- the line from a fact on begins with that fact
   pub line-drop : (xs : List X) (i : ℕ) (d : X) → i < length xs → line (map f (drop i xs)) last ≡ (f (get_or xs i d)).0 ++ decimal (f (get_or xs i d)).1 ++ line (map f (drop (i + 1) xs)) last
   line-drop xs i d l = ap (λ (ys : List X). line (map f ys) last) (drop_more xs i d l)
 

@@ -1,6 +1,6 @@
--- For callers: what is told of a disk, its text, and why nothing is told
+-- For callers: what a disk shows, its text, and why an inspection fails
 pub mod Inspected
 pub mod Text
 pub mod Refused
--- Inside: what is counted in a log
+-- Internal: counts over a log
 pub mod Counted

@@ -1,31 +1,30 @@
--- The text of what a disk tells (this project's profile): one fact a line, numbers in decimal
--- digits.
+-- The text of an inspection (this project's profile): one fact per line, numbers in decimal.
 use Rattle.std.specs.Prelude.{ℕ, ◌+◌, ◌-◌, ◌*◌, ◌/◌, ◌^◌, ◌==◌, ◌||◌, nat_le, min, if◌then◌else◌}
 use Rattle.std.specs.Prelude.{List, [], ◌∷◌, ◌++◌, codes, decimal, Option, Some, None}
 use Rattle.inspection.specs.declared.inspecting.Inspection.{Inspection}
 
 -- 1. Numbers
 
--- the greatest that is written
+-- the maximum that is written
 abbrev pub most : ℕ
 most = 2 ^ 64 - 1
 
--- how much of the end is reached, rounded down; 0 where the end is 0
+-- the percentage of the end that is reached, rounded down; 0 if the end is 0
 abbrev pub percent : ℕ → ℕ → ℕ
 percent time end = if end == 0 then 0 else min (time * 100 / end) most
 
--- the bytes of so many sectors for each of the events, of which there are some, rounded up
+-- the bytes of these sectors per event, rounded up; there is at least one event
 abbrev pub bytes_each : ℕ → ℕ → ℕ
 bytes_each sectors events = min ((sectors * 512 + (events - 1)) / events) most
 
--- The time at which the free sectors are used up, when they last in the measure in which those of
--- the last commits did. A disk with more sectors in use than there are has none free.
+-- The time at which the free sectors are used up at the rate of the last commits. A disk with more
+-- sectors in use than it has counts as full.
 abbrev pub full_at : Inspection → ℕ
 full_at i = i.time + (i.sectors - i.used) * (i.time - i.pace.from) / i.pace.sectors
 
 -- 2. Lines
 
--- each number behind its text, and what ends the line
+-- each number behind its text, and then the end of the line
 abbrev pub line : List (List ℕ × ℕ) → List ℕ → List ℕ
 line [] last = last
 line (fact ∷ rest) last = fact.0 ++ decimal fact.1 ++ line rest last
@@ -42,7 +41,7 @@ events_text i =
     else line ((codes "events ", i.events) ∷ (codes ", ", bytes_each i.used i.events) ∷ [])
     (codes " bytes of disk an event\n")
 
--- with the time of the last checkpoint where there is one
+-- with the time of the last checkpoint, if there is one
 abbrev pub checkpoints_text : Option ℕ → ℕ → ℕ → ℕ → List ℕ
 checkpoints_text None records checkpoints ends =
     line ((codes "records ", records) ∷ (codes ", of them ", checkpoints)
@@ -60,7 +59,7 @@ sectors_text i =
     line ((codes "sectors ", i.used) ∷ (codes " used of ", i.sectors)
     ∷ (codes ", ", i.sectors - i.used) ∷ []) (codes " free\n")
 
--- left out where there is no commit
+-- left out if there is no commit
 abbrev pub pace_text : Inspection → List ℕ
 pace_text i =
     if i.pace.commits == 0 then []
@@ -70,7 +69,7 @@ pace_text i =
     else line ((codes "full at about ", full_at i)
     ∷ (codes " ticks at the pace of the last ", i.pace.commits) ∷ []) (codes " commits\n")
 
--- 3. All of it
+-- 3. The whole text
 
 abbrev pub inspection_text : Inspection → List ℕ
 inspection_text i =

@@ -1,4 +1,4 @@
-//! Inspection: what a disk tells of the run on it, and the text of that.
+//! Inspection: what a disk shows of its run, and the text of that.
 #![tactic(auto)]
 
 mod counting;

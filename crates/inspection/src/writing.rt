@@ -1,4 +1,4 @@
-// The text of what a disk tells.
+// The text of an inspection.
 
 ghost use Rattle.std.specs.Prelude.{◌≡◌, ◌<◌, ◌-◌, ◌^◌, ◌==◌, ◌||◌, nat_le, min, map};
 ghost use Rattle.std.specs.Prelude.{if◌then◌else◌, Option, Some, None};
@@ -11,74 +11,73 @@ use crate::inspecting::Inspection;
 use std::io::{Result, Write};
 use texts::{write_number, write_text};
 
-/// Writes what a disk tells, one fact a line: how far its run has come, how many events are
-/// committed, which records it has, how many sectors are in use, and, where there is a commit, when
+/// Writes an inspection, one fact per line: how far the run has come, how many events are
+/// committed, which records there are, how many sectors are in use, and, if there is a commit, when
 /// the disk is full at the pace of the last ones.
 ///
-/// Where the writer fails, what it has taken is a beginning of the text, and the answer is its
-/// error.
-pub fn write_inspection<W: Write>(told: &Inspection, out: &mut W) -> Result<()>
-    ensures { Writes (W.contents out.old) (W.contents out.new) result (inspection_text told.now) }
+/// If the writer fails, it has taken a prefix of the text, and its error is returned.
+pub fn write_inspection<W: Write>(shown: &Inspection, out: &mut W) -> Result<()>
+    ensures { Writes (W.contents out.old) (W.contents out.new) result (inspection_text shown.now) }
 {
-    write_time(told, out)?;
-    write_events(told, out)?;
-    write_records(told, out)?;
-    write_sectors(told, out)?;
-    write_pace(told, out)
+    write_time(shown, out)?;
+    write_events(shown, out)?;
+    write_records(shown, out)?;
+    write_sectors(shown, out)?;
+    write_pace(shown, out)
 }
 
-/// How far the run has come.
-fn write_time<W: Write>(told: &Inspection, out: &mut W) -> Result<()>
-    ensures { Writes (W.contents out.old) (W.contents out.new) result (time_text told.now) }
+/// Writes how far the run has come.
+fn write_time<W: Write>(shown: &Inspection, out: &mut W) -> Result<()>
+    ensures { Writes (W.contents out.old) (W.contents out.new) result (time_text shown.now) }
 {
-    let percent = percent(told.time, told.end);
+    let percent = percent(shown.time, shown.end);
     let facts = [
-        ("virtual time ", told.time),
-        (" of ", told.end),
+        ("virtual time ", shown.time),
+        (" of ", shown.end),
         (" ticks, ", percent),
     ];
     write_line(&facts, " percent\n", out)
 }
 
-/// How many events are committed, and how many bytes of the disk each of them takes.
-fn write_events<W: Write>(told: &Inspection, out: &mut W) -> Result<()>
-    ensures { Writes (W.contents out.old) (W.contents out.new) result (events_text told.now) }
+/// Writes how many events are committed, and how many bytes of the disk each of them takes.
+fn write_events<W: Write>(shown: &Inspection, out: &mut W) -> Result<()>
+    ensures { Writes (W.contents out.old) (W.contents out.new) result (events_text shown.now) }
 {
-    if told.events == 0 {
+    if shown.events == 0 {
         return write_line(
-            &[("events ", told.events)],
+            &[("events ", shown.events)],
             ", - bytes of disk an event\n",
             out,
         );
     }
-    let each = bytes_each(told.used, told.events);
+    let each = bytes_each(shown.used, shown.events);
     write_line(
-        &[("events ", told.events), (", ", each)],
+        &[("events ", shown.events), (", ", each)],
         " bytes of disk an event\n",
         out,
     )
 }
 
-/// How many records there are, and of which kinds.
-fn write_records<W: Write>(told: &Inspection, out: &mut W) -> Result<()>
-    ensures { Writes (W.contents out.old) (W.contents out.new) result (records_text told.now) }
+/// Writes how many records there are, and of which kinds.
+fn write_records<W: Write>(shown: &Inspection, out: &mut W) -> Result<()>
+    ensures { Writes (W.contents out.old) (W.contents out.new) result (records_text shown.now) }
 {
-    match told.last_checkpoint {
+    match shown.last_checkpoint {
         None => write_line(
             &[
-                ("records ", told.records),
-                (", of them ", told.checkpoints),
-                (" checkpoints and ", told.ends),
+                ("records ", shown.records),
+                (", of them ", shown.checkpoints),
+                (" checkpoints and ", shown.ends),
             ],
             " ends\n",
             out,
         ),
         Some(time) => write_line(
             &[
-                ("records ", told.records),
-                (", of them ", told.checkpoints),
+                ("records ", shown.records),
+                (", of them ", shown.checkpoints),
                 (" checkpoints (the last at ", time),
-                (" ticks) and ", told.ends),
+                (" ticks) and ", shown.ends),
             ],
             " ends\n",
             out,
@@ -86,33 +85,33 @@ fn write_records<W: Write>(told: &Inspection, out: &mut W) -> Result<()>
     }
 }
 
-/// How many sectors are in use.
-fn write_sectors<W: Write>(told: &Inspection, out: &mut W) -> Result<()>
-    ensures { Writes (W.contents out.old) (W.contents out.new) result (sectors_text told.now) }
+/// Writes how many sectors are in use.
+fn write_sectors<W: Write>(shown: &Inspection, out: &mut W) -> Result<()>
+    ensures { Writes (W.contents out.old) (W.contents out.new) result (sectors_text shown.now) }
 {
     write_line(
         &[
-            ("sectors ", told.used),
-            (" used of ", told.sectors),
-            (", ", told.sectors.saturating_sub(told.used)),
+            ("sectors ", shown.used),
+            (" used of ", shown.sectors),
+            (", ", shown.sectors.saturating_sub(shown.used)),
         ],
         " free\n",
         out,
     )
 }
 
-/// When the disk is full at the pace of the last commits, where there are some.
-fn write_pace<W: Write>(told: &Inspection, out: &mut W) -> Result<()>
-    ensures { Writes (W.contents out.old) (W.contents out.new) result (pace_text told.now) }
+/// Writes when the disk is full at the pace of the last commits, if there are any.
+fn write_pace<W: Write>(shown: &Inspection, out: &mut W) -> Result<()>
+    ensures { Writes (W.contents out.old) (W.contents out.new) result (pace_text shown.now) }
 {
-    if told.pace.commits == 0 {
+    if shown.pace.commits == 0 {
         return Ok(());
     }
-    match full_before_end(told) {
+    match full_before_end(shown) {
         None => write_line(
             &[(
                 "room to the end at the pace of the last ",
-                told.pace.commits,
+                shown.pace.commits,
             )],
             " commits\n",
             out,
@@ -120,7 +119,7 @@ fn write_pace<W: Write>(told: &Inspection, out: &mut W) -> Result<()>
         Some(time) => write_line(
             &[
                 ("full at about ", time),
-                (" ticks at the pace of the last ", told.pace.commits),
+                (" ticks at the pace of the last ", shown.pace.commits),
             ],
             " commits\n",
             out,
@@ -128,7 +127,7 @@ fn write_pace<W: Write>(told: &Inspection, out: &mut W) -> Result<()>
     }
 }
 
-/// Each number behind its text, and what ends the line.
+/// Writes each number behind its text, and then the end of the line.
 fn write_line<W: Write>(facts: &[(&str, u64)], last: &str, out: &mut W) -> Result<()>
     ensures { Writes (W.contents out.old) (W.contents out.new) result
         (line (map (λ fact. (fact.0.now, fact.1)) facts.now) last.now) }
@@ -139,7 +138,7 @@ fn write_line<W: Write>(facts: &[(&str, u64)], last: &str, out: &mut W) -> Resul
     write_text(last, out)
 }
 
-/// The number, or the greatest of 64 bits where it is greater.
+/// The number, or the maximum of 64 bits if it is greater.
 fn at_most(number: u128) -> u64
     ensures { result ≡ min number (2 ^ 64 - 1) }
 {
@@ -149,7 +148,7 @@ fn at_most(number: u128) -> u64
     number as u64
 }
 
-/// How much of the end is reached, in hundredths, rounded down; 0 where the end is 0.
+/// The percentage of the end that is reached, rounded down; 0 if the end is 0.
 fn percent(time: u64, end: u64) -> u64
     ensures { result ≡ percent time end }
 {
@@ -159,7 +158,7 @@ fn percent(time: u64, end: u64) -> u64
     at_most(u128::from(time) * 100 / u128::from(end))
 }
 
-/// The bytes of so many sectors for each of the events, rounded up.
+/// The bytes of `sectors` sectors per event, rounded up.
 fn bytes_each(sectors: u64, events: u64) -> u64
     requires { 0 < events }
     ensures { result ≡ bytes_each sectors events }
@@ -168,18 +167,18 @@ fn bytes_each(sectors: u64, events: u64) -> u64
     at_most((bytes + u128::from(events - 1)) / u128::from(events))
 }
 
-/// The time at which the disk is full, where that is before the end.
-fn full_before_end(told: &Inspection) -> Option<u64>
-    ensures { result ≡ (if told.now.pace.sectors == 0 || nat_le told.now.end (full_at told.now)
-        then None else Some (full_at told.now)) }
+/// The time at which the disk is full, if that is before the end.
+fn full_before_end(shown: &Inspection) -> Option<u64>
+    ensures { result ≡ (if shown.now.pace.sectors == 0 || nat_le shown.now.end (full_at shown.now)
+        then None else Some (full_at shown.now)) }
 {
-    if told.pace.sectors == 0 {
+    if shown.pace.sectors == 0 {
         return None;
     }
-    let free = u128::from(told.sectors.saturating_sub(told.used));
-    let past = u128::from(told.time.saturating_sub(told.pace.from));
-    let full = u128::from(told.time) + free * past / u128::from(told.pace.sectors);
-    if u128::from(told.end) <= full {
+    let free = u128::from(shown.sectors.saturating_sub(shown.used));
+    let past = u128::from(shown.time.saturating_sub(shown.pace.from));
+    let full = u128::from(shown.time) + free * past / u128::from(shown.pace.sectors);
+    if u128::from(shown.end) <= full {
         return None;
     }
     Some(full as u64)

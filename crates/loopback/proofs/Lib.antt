@@ -1,3 +1,3 @@
 pub mod Passing
 pub mod Reading
-mod Telling
+mod Faithfulness

@@ -1,4 +1,4 @@
--- What a node makes of a load and of a parcel comes back as its frame.
+-- The answer of a node to a load and to a parcel comes back as a frame.
 use Rattle.std.proofs.Common.{◌≡◌, ℕ, ◌≤◌, ◌^◌, Bool, true, false, List, [], length, Option, Some, None, Result, Ok, Err, inl, inr, refl, sym, ap, subst, ◌∙◌}
 use Rattle.std.specs.Prelude.{IfErr, IfOk}
 use Rattle.std.specs.Result.{IsErrAnd}
@@ -11,7 +11,7 @@ use Rattle.node.specs.declared.NodeFault.TheVariants as node
 use Rattle.node.specs.declared.Parcel.{Parcel}
 use Rattle.node.specs.declared.Reply.{Reply}
 use Rattle.frames.specs.Bodies.{frame_bytes, frame_in, parcel_in, reply_bytes}
-use Rattle.frames.specs.Laws.{IsSpelled}
+use Rattle.frames.specs.Laws.{IsEncoded}
 use Rattle.frames.specs.Ranges.{IsReply}
 use Rattle.frames.specs.declared.Frame.{Frame}
 use Rattle.frames.specs.declared.Frame.TheVariants as frame
@@ -26,16 +26,16 @@ use Rattle.wire.specs.declared.port.PortFault.TheVariants.{BadReply, Closed, Pee
 use Rattle.wire.specs.declared.port.WireFault.{WireFault}
 use Rattle.wire.specs.declared.port.WireFault.TheVariants.{BadBody, BadKind, Io, NoMemory, TooLong, Truncated}
 use Rattle.loopback.specs.Passing.{IsLoadCause, IsMade, IsReadOf, IsReplyBy, IsTakeCause}
-use Rattle.loopback.proofs.Reading.{load_within, parcel_within, spelled_as, spelled_fault}
+use Rattle.loopback.proofs.Reading.{load_within, parcel_within, encoded_as, encoded_fault}
 
 -- 1. Faults of frames
 
--- where it is told that memory was refused
-pub told_so : {T : Type 0} (P : PortFault → Type 0) (r : Result T PortFault) (fault : PortFault) → IsErrAnd r (λ e. e ≡ fault) → fault ≡ Wire NoMemory → P (Wire NoMemory) → IfErr r P
-told_so P (Ok x) fault h e p = absurd h
-told_so P (Err f) fault h e p = subst P (sym (h ∙ e)) p
+-- the fault is a failed allocation
+pub reported_so : {T : Type 0} (P : PortFault → Type 0) (r : Result T PortFault) (fault : PortFault) → IsErrAnd r (λ e. e ≡ fault) → fault ≡ Wire NoMemory → P (Wire NoMemory) → IfErr r P
+reported_so P (Ok x) fault h e p = absurd h
+reported_so P (Err f) fault h e p = subst P (sym (h ∙ e)) p
 
--- no refusal is read of a reply
+-- reading a reply gives no refusal
 reply_fault : (P : PortFault → Type 0) (r : Reply) (fault : PortFault) → IsReadOf (frame.Reply r) fault → P (Wire NoMemory) → P fault
 reply_fault P r (Peer f) e none = absurd (cc)
 reply_fault P r (Wire NoMemory) e none = none
@@ -47,7 +47,7 @@ reply_fault P r (Wire Io) e none = absurd e
 reply_fault P r Closed e none = absurd e
 reply_fault P r BadReply e none = absurd e
 
--- a fault of a node that was read, of which this holds
+-- a fault of the node that was read, or a failed allocation
 passed : (P : PortFault → Type 0) (n : NodeFault) (fault : PortFault) → IsReadOf (frame.Fault n) fault → P (Wire NoMemory) → P (Peer n) → P fault
 passed P n (Peer f) e none some = let same : n ≡ f = cc in subst (λ g. P (Peer g)) same some
 passed P n (Wire NoMemory) e none some = none
@@ -92,25 +92,25 @@ module _ (lps : ℕ) (raw : Raw) (l : Load) where
       go false None e b = (let c = b ∙ ap begun_by (load_by_is false None e) in (e, cc))
 
   load_refused : (text : List ℕ) → frame_in raw.kind raw.body ≡ Some (frame.Load l) → Begins lps raw (Ok (Refused text)) →
-      (n : NodeFault) × IsSpelled text (frame.Fault n) [] × IsLoadCause lps l (Peer n)
+      (n : NodeFault) × IsEncoded text (frame.Fault n) [] × IsLoadCause lps l (Peer n)
   load_refused text is h = let b = made_by (Refused text) is h in go b.0 (load_refusal lps l) refl b.1
     where
       go : (lacks : Bool) (o : Option NodeFault) → load_refusal lps l ≡ o → Refused text ≡ begun_by (load_at lacks lps l) →
-          (n : NodeFault) × IsSpelled text (frame.Fault n) [] × IsLoadCause lps l (Peer n)
-      go true (Some fault) e b = (let c = b ∙ ap begun_by (load_by_is true (Some fault) e) in (fault, spelled_fault text fault (cc), inl e))
-      go true None e b = (let c = b ∙ ap begun_by (load_by_is true None e) in (node.NoMemory, spelled_fault text node.NoMemory (cc), inr (e, refl)))
-      go false (Some fault) e b = (let c = b ∙ ap begun_by (load_by_is false (Some fault) e) in (fault, spelled_fault text fault (cc), inl e))
+          (n : NodeFault) × IsEncoded text (frame.Fault n) [] × IsLoadCause lps l (Peer n)
+      go true (Some fault) e b = (let c = b ∙ ap begun_by (load_by_is true (Some fault) e) in (fault, encoded_fault text fault (cc), inl e))
+      go true None e b = (let c = b ∙ ap begun_by (load_by_is true None e) in (node.NoMemory, encoded_fault text node.NoMemory (cc), inr (e, refl)))
+      go false (Some fault) e b = (let c = b ∙ ap begun_by (load_by_is false (Some fault) e) in (fault, encoded_fault text fault (cc), inl e))
       go false None e b = absurd (let c = b ∙ ap begun_by (load_by_is false None e) in cc)
 
   pub load_fault : (text : List ℕ) (fault : PortFault) → frame_in raw.kind raw.body ≡ Some (frame.Load l) → Begins lps raw (Ok (Refused text)) →
-      ((f : Frame) → IsSpelled text f [] → IsReadOf f fault) → IsLoadCause lps l fault
+      ((f : Frame) → IsEncoded text f [] → IsReadOf f fault) → IsLoadCause lps l fault
   load_fault text fault is h read =
       let r = load_refused text is h in
       passed (IsLoadCause lps l) r.0 fault (read (frame.Fault r.0) r.1) tt r.2
 
-  -- a refusal is read as no reply
+  -- a refusal is not read as a reply
   pub load_reply : (text : List ℕ) (reply : Reply) → frame_in raw.kind raw.body ≡ Some (frame.Load l) → Begins lps raw (Ok (Refused text)) →
-      ((f : Frame) → IsSpelled text f [] → f ≡ frame.Reply reply) → ⊥
+      ((f : Frame) → IsEncoded text f [] → f ≡ frame.Reply reply) → ⊥
   load_reply text reply is h read =
       let r = load_refused text is h in
       let e = read (frame.Fault r.0) r.1 in
@@ -122,7 +122,7 @@ module _ (lps : ℕ) (raw : Raw) (l : Load) where
 
 -- 3. A parcel
 
--- what a frame says of an answer, and of the node then
+-- the frame of an answer, and the node after it
 abbrev pub IsOutcome : Meaning → Node → Parcel → Node → Frame → Type 0
 IsOutcome m old p new (frame.Reply r) = IsReplyBy (answer m old p) new r × (length (reply_bytes r) ≤ 2 ^ 24)
 IsOutcome m old p new (frame.Fault n) = IsTakeCause m old p (Peer n)
@@ -152,7 +152,7 @@ module _ (m : Meaning) (old new : Node) (raw : Raw) (p : Parcel) where
   fault_so true n e = lacking_so n (refusal old p) refl e
 
   abbrev Out : Response → Type 0
-  Out response = (f : Frame) × IsSpelled response.frame f [] × IsOutcome m old p new f
+  Out response = (f : Frame) × IsEncoded response.frame f [] × IsOutcome m old p new f
 
   replied_so : (lacks : Bool) (reply : Reply) (response : Response) → parcel_in raw.body ≡ Some p → (answer_at lacks m old p).result ≡ Ok reply → new ≡ (answer_at lacks m old p).node →
       RepliesInRange m old raw response → Ok response ≡ response_to (Ok reply) → Out response
@@ -164,7 +164,7 @@ module _ (m : Meaning) (old new : Node) (raw : Raw) (p : Parcel) where
         let c : Ok response ≡ Ok (record { frame = frame_bytes (frame.Reply reply); goes_on = true }) = rw t at is in
         let same : response ≡ record { frame = frame_bytes (frame.Reply reply); goes_on = true } = cc in
         let in_range = subst (λ (r : Result Reply NodeFault). IfOk r IsReply) e (range p body (ap (λ (r : Response). r.goes_on) same)) in
-        (frame.Reply reply, spelled_as response.frame (frame.Reply reply) (ap (λ (r : Response). r.frame) same) in_range short, ((e, n), short))
+        (frame.Reply reply, encoded_as response.frame (frame.Reply reply) (ap (λ (r : Response). r.frame) same) in_range short, ((e, n), short))
   ]
 
   answered_so : (lacks : Bool) (r : Result Reply NodeFault) (response : Response) → parcel_in raw.body ≡ Some p → (answer_at lacks m old p).result ≡ r → new ≡ (answer_at lacks m old p).node →
@@ -172,7 +172,7 @@ module _ (m : Meaning) (old new : Node) (raw : Raw) (p : Parcel) where
   answered_so lacks (Ok reply) response body e n range is = replied_so lacks reply response body e n range is
   answered_so lacks (Err fault) response body e n range is =
       let same : response ≡ record { frame = frame_bytes (frame.Fault fault); goes_on = false } = cc in
-      (frame.Fault fault, spelled_fault response.frame fault (ap (λ (r : Response). r.frame) same), fault_so lacks fault e)
+      (frame.Fault fault, encoded_fault response.frame fault (ap (λ (r : Response). r.frame) same), fault_so lacks fault e)
 
   answered : (response : Response) → frame_in raw.kind raw.body ≡ Some (frame.Parcel p) → Reacts m old new raw (Ok response) → RepliesInRange m old raw response → Out response
   answered response is (lacks, inl e) range =
@@ -191,12 +191,12 @@ module _ (m : Meaning) (old new : Node) (raw : Raw) (p : Parcel) where
 
   module _ (response : Response) (is : frame_in raw.kind raw.body ≡ Some (frame.Parcel p)) (h : Reacts m old new raw (Ok response)) (range : RepliesInRange m old raw response) where
     pub take_ok : (r : Result Reply PortFault) →
-        ((f : Frame) → IsSpelled response.frame f [] → IfOk r (λ reply. f ≡ frame.Reply reply)) → IfOk r (λ reply. IsReplyBy (answer m old p) new reply × (length (reply_bytes reply) ≤ 2 ^ 24))
+        ((f : Frame) → IsEncoded response.frame f [] → IfOk r (λ reply. f ≡ frame.Reply reply)) → IfOk r (λ reply. IsReplyBy (answer m old p) new reply × (length (reply_bytes reply) ≤ 2 ^ 24))
     take_ok (Ok reply) read = let out = answered response is h range in outcome_reply out.0 reply out.2 (read out.0 out.1)
     take_ok (Err fault) read = tt
 
     pub take_err : (r : Result Reply PortFault) →
-        ((f : Frame) → IsSpelled response.frame f [] → IfErr r (λ fault. IsReadOf f fault)) → IfErr r (λ fault. IsTakeCause m old p fault)
+        ((f : Frame) → IsEncoded response.frame f [] → IfErr r (λ fault. IsReadOf f fault)) → IfErr r (λ fault. IsTakeCause m old p fault)
     take_err (Ok reply) read = tt
     take_err (Err fault) read = let out = answered response is h range in outcome_fault out.0 fault out.2 (read out.0 out.1)
 
@@ -220,7 +220,7 @@ module _ (m : Meaning) (old new : Node) (raw : Raw) (p : Parcel) where
   take_unsent fault is (lacks, inl e) = long_so lacks (answer_at lacks m old p).result fault refl (e.0 ∙ ap (λ (r : Reaction). r.response) (reaction_of lacks is))
   take_unsent fault is (lacks, inr e) = let same : fault ≡ NoMemory = cc in subst (λ g. IsTakeCause m old p (Wire g)) (sym same) tt
 
--- both of two facts of an answer
+-- both of two facts about an answer
 pub both_ok : (P Q : Reply → Type 0) (r : Result Reply PortFault) → IfOk r (λ reply. P reply × Q reply) → IfOk r P × IfOk r Q
 both_ok P Q (Ok reply) h = h
 both_ok P Q (Err fault) h = (tt, tt)

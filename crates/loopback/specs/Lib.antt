@@ -1,3 +1,3 @@
 -- For callers
-pub mod Loop  -- where a port stands, and the parcel that was posted
-pub mod Passing  -- why a call is refused, and what comes back of what was sent
+pub mod Loop  -- the stage of a port, and the parcel that was posted
+pub mod Passing  -- why a call fails, and what comes back of what was sent

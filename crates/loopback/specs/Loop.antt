@@ -5,7 +5,7 @@ use Rattle.node.specs.Handling.{Node}
 use Rattle.node.specs.Kept.{HasHistories}
 use Rattle.node.specs.declared.Parcel.{Parcel}
 use Rattle.frames.specs.Cutting.{frame_cut}
-use Rattle.frames.specs.Laws.{IsSpelled}
+use Rattle.frames.specs.Laws.{IsEncoded}
 use Rattle.frames.specs.declared.Frame.{Frame}
 use Rattle.frames.specs.declared.Frame.TheVariants as frame
 use Rattle.wire.specs.Port.{PortState, Stage, nobody}
@@ -15,12 +15,12 @@ use Rattle.wire.specs.declared.port.WireFault.{WireFault}
 use Rattle.loopback.specs.declared.port.Held.{Held}
 use Rattle.loopback.specs.declared.port.Held.TheVariants.{Ended, Fresh, Idle, Posted}
 
--- the model of a port, and its node
+-- a port: its model, and what it holds of its node
 pub record Loop (M : Type 0) : Type 0 where
   pub model : M
   pub held : Held
 
--- delivers nothing
+-- a parcel that delivers nothing
 abbrev pub no_parcel : Parcel
 no_parcel = record { deliver = []; budget = 0; floor = 0 }
 
@@ -28,7 +28,7 @@ abbrev pub parcel_of : Result (Option Frame) WireFault → Parcel
 parcel_of (Ok (Some (frame.Parcel p))) = p
 parcel_of found = no_parcel
 
--- the parcel whose frame stands first in the bytes
+-- the parcel whose frame is first in the bytes
 abbrev pub posted_in : List ℕ → Parcel
 posted_in bytes = parcel_of (frame_cut bytes).found
 
@@ -46,17 +46,17 @@ loopback_node Ended = nobody
 
 abbrev pub state_of : Meaning → Held → PortState
 state_of m held =
-    record { stage = stage_of held; tells = true; meaning = m; node = loopback_node held }
+    record { stage = stage_of held; faithful = true; meaning = m; node = loopback_node held }
 
--- the same of a port
+-- the same for a `Loop`
 abbrev pub state_by : {M : Type 0} → (M → Meaning) → Loop M → PortState
 state_by meaning port = state_of (meaning port.model) port.held
 
--- its node is one of this model and has handled what it does, and the bytes are the frame of a
--- parcel, and nothing else
+-- the invariant of a port: its node is not spent, runs this model and has handled messages as the
+-- model does, and the bytes are exactly the frame of a parcel
 abbrev pub IsOfModel : Meaning → Held → Type 0
 IsOfModel m (Idle node) = (node.spent ≡ false) × (node.lps ≡ m.lps) × HasHistories m node
 IsOfModel m (Posted node bytes) =
     (node.spent ≡ false) × (node.lps ≡ m.lps) × HasHistories m node
-    × IsSpelled bytes (frame.Parcel (posted_in bytes)) []
+    × IsEncoded bytes (frame.Parcel (posted_in bytes)) []
 IsOfModel m held = Unit {0}

@@ -1,5 +1,5 @@
-//! A port to a node behind bytes in memory: what passes between a session and the node is frames.
-//! And sessions over such ports.
+//! A port to a node behind bytes in memory, with frames between the session and the node, and
+//! sessions over such ports.
 #![tactic(auto)]
 
 mod port;

@@ -4,7 +4,7 @@ ghost use Rattle.std.specs.Prelude.{◌≡◌, true, IfErr, IfOk, OnErr, OnOk, l
 ghost use Rattle.frames.specs.Bodies.{load_bytes, parcel_bytes, reply_bytes};
 ghost use Rattle.loopback.specs.Passing.{IsLoadCause, IsPostCause, IsTakeCause};
 ghost use Rattle.node.specs.declared.Parcel.{Parcel};
-ghost use Rattle.wire.specs.Port.{IsForWant, IsLoadFault, IsLoadInRange, IsLoaded, IsSamePort};
+ghost use Rattle.wire.specs.Port.{IsResourceFault, IsLoadFault, IsLoadInRange, IsLoaded, IsSamePort};
 ghost use Rattle.wire.specs.Port.{IsTakeFault, IsTaken};
 ghost use Rattle.wire.specs.Port.Stage.{Ended as AtEnd, Fresh as AtFirst};
 ghost use Rattle.wire.specs.Port.Stage.{Idle as AtRest, Posted as AtWork};
@@ -20,7 +20,7 @@ use std::alloc::Global;
 use std::marker::Model;
 use wire::{Port, PortFault};
 
-/// The node of a port, as far as there is one, and the frame of the parcel that it is to handle.
+/// The node of a port, if there is one, and the frame of the parcel that it has not handled yet.
 #[derive(Drop)]
 enum Held {
     Fresh,
@@ -30,18 +30,19 @@ enum Held {
 }
 
 /// A node behind bytes in memory: a load, a parcel, a reply and a refusal pass as the frames that a
-/// stream to another program has. The node handles a parcel when it is asked for the reply.
+/// stream to another program would carry. The node handles a parcel when its reply is taken.
 ///
-/// A call is refused for bytes that are too many, a body of more than 2^24 (`Wire(TooLong)`), for
-/// want of memory for a frame (`Wire(NoMemory)`), and as the node refuses (`Peer`), and for nothing
-/// else: bytes in memory do not fail. The port has ended then.
+/// A call fails if a body has more than 2^24 bytes (`Wire(TooLong)`), if an allocation for a frame
+/// fails (`Wire(NoMemory)`), or if the node refuses (`Peer`), and for no other reason: bytes in
+/// memory do not fail. After a fault the port has ended.
 pub struct LoopPort<'m, M: Simulated> {
     alloc: Global,
     model: &'m M,
     held: Held,
 }
 
-// Not derived: each caller that drops one would prove again how its parts are dropped.
+// Not derived: with a derived `Drop`, each caller that drops a port would have to prove again how
+// its fields are dropped.
 impl<M: Simulated> Drop for LoopPort<'_, M> {
     fn drop(self) {
         let LoopPort {
@@ -65,7 +66,7 @@ impl<'m, M: Simulated> Model for LoopPort<'m, M> {
 }
 
 impl<'m, M: Simulated> LoopPort<'m, M> {
-    /// A port to a node that runs this model. Nothing is loaded yet.
+    /// Returns a port to a node that runs this model. Nothing is loaded yet. Does not allocate.
     pub fn new(alloc: Global, model: &'m M) -> LoopPort<'m, M>
         ensures { result ≡ record { model = model.now; held = Fresh } }
     {
@@ -86,12 +87,13 @@ impl<'m, M: Simulated> Port for LoopPort<'m, M> {
         ensures idle { OnOk result ((state_by M.meaning self.new).stage ≡ AtRest) }
         ensures ended { OnErr result ((state_by M.meaning self.new).stage ≡ AtEnd) }
         ensures same { IsSamePort (state_by M.meaning self.old) (state_by M.meaning self.new) }
-        ensures ok { (state_by M.meaning self.old).tells ≡ true →
+        ensures ok { (state_by M.meaning self.old).faithful ≡ true →
             OnOk result (IsLoaded load (state_by M.meaning self.old) (state_by M.meaning self.new)) }
-        ensures err { (state_by M.meaning self.old).tells ≡ true →
+        ensures err { (state_by M.meaning self.old).faithful ≡ true →
             IfErr result (λ fault. IsLoadFault load (state_by M.meaning self.old) fault) }
 
-        // TooLong exactly where the body is; else what the node refuses, or there was no memory.
+        // `TooLong` comes only if the body is too long, and `Ok` only if it is not. The other
+        // causes are the node's refusal and a failed allocation.
         ensures fits { OnOk result (length (load_bytes load) ≤ 2 ^ 24) }
         ensures cause { IfErr result (IsLoadCause (M.meaning self.old.model).lps load) }
     {
@@ -113,12 +115,13 @@ impl<'m, M: Simulated> Port for LoopPort<'m, M> {
         ensures posted { OnOk result ((state_by M.meaning self.new).stage ≡ AtWork parcel) }
         ensures ended { OnErr result ((state_by M.meaning self.new).stage ≡ AtEnd) }
         ensures same { IsSamePort (state_by M.meaning self.old) (state_by M.meaning self.new) }
-        ensures ok { (state_by M.meaning self.old).tells ≡ true →
+        ensures ok { (state_by M.meaning self.old).faithful ≡ true →
             OnOk result ((state_by M.meaning self.new).node ≡ (state_by M.meaning self.old).node) }
-        ensures err { (state_by M.meaning self.old).tells ≡ true →
-            IfErr result (λ fault. IsForWant fault) }
+        ensures err { (state_by M.meaning self.old).faithful ≡ true →
+            IfErr result (λ fault. IsResourceFault fault) }
 
-        // TooLong exactly where the body is; else there was no memory.
+        // `TooLong` comes only if the body is too long, and `Ok` only if it is not. The other cause
+        // is a failed allocation.
         ensures fits { OnOk result (length (parcel_bytes parcel) ≤ 2 ^ 24) }
         ensures cause { IfErr result (IsPostCause parcel) }
     {
@@ -142,15 +145,15 @@ impl<'m, M: Simulated> Port for LoopPort<'m, M> {
         ensures same { IsSamePort (state_by M.meaning self.old) (state_by M.meaning self.new) }
         ensures ok { (parcel : Parcel) →
             (state_by M.meaning self.old).stage ≡ AtWork parcel →
-            (state_by M.meaning self.old).tells ≡ true → IfOk result (λ reply.
+            (state_by M.meaning self.old).faithful ≡ true → IfOk result (λ reply.
             IsTaken parcel (state_by M.meaning self.old) (state_by M.meaning self.new) reply) }
         ensures err { (parcel : Parcel) →
             (state_by M.meaning self.old).stage ≡ AtWork parcel →
-            (state_by M.meaning self.old).tells ≡ true →
+            (state_by M.meaning self.old).faithful ≡ true →
             IfErr result (λ fault. IsTakeFault parcel (state_by M.meaning self.old) fault) }
 
-        // TooLong exactly where the reply's body is; else what the node refuses, or there was no
-        // memory.
+        // `TooLong` comes only if the reply's body is too long, and `Ok` only if it is not. The
+        // other causes are the node's refusal and a failed allocation.
         ensures fits { IfOk result (λ reply. length (reply_bytes reply) ≤ 2 ^ 24) }
         ensures cause { (parcel : Parcel) →
             (state_by M.meaning self.old).stage ≡ AtWork parcel → IfErr result

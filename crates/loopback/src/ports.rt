@@ -8,7 +8,8 @@ use crate::port::LoopPort;
 use model::Model as Simulated;
 use std::alloc::{AllocFailed, Global};
 
-/// So many ports to nodes behind bytes in memory, which all run this model and are not loaded yet.
+/// Returns ports to `nodes` nodes behind bytes in memory, which all run this model and are not
+/// loaded yet.
 pub fn loop_ports<'m, M: Simulated>(
     alloc: Global,
     model: &'m M,

@@ -1,8 +1,8 @@
-// Frames on their way to a node and back.
+// Passes frames to a node and back.
 
 ghost use Rattle.std.specs.Prelude.{◌≡◌, ◌≤◌, ◌^◌, [], Some, IfErr, IfOk, OnOk, false, length};
 ghost use Rattle.frames.specs.Bodies.{frame_in, load_bytes, reply_bytes};
-ghost use Rattle.frames.specs.Laws.{IsSpelled};
+ghost use Rattle.frames.specs.Laws.{IsEncoded};
 ghost use Rattle.frames.specs.declared.Frame.{Frame};
 ghost use Rattle.frames.specs.declared.Frame.TheVariants as frame;
 ghost use Rattle.loopback.specs.Passing.{IsLoadCause, IsMade, IsReadOf, IsReplyBy, IsTakeCause};
@@ -19,12 +19,12 @@ use node::{Load, Node, Reply};
 use std::alloc::Global;
 use wire::{PortFault, WireFault};
 
-/// The frame that these bytes are, with a body that is not yet looked at. Where bytes are no frame,
-/// the way to the node has ended; of a frame that was sent that does not come.
+/// Returns the frame that these bytes are, with its body not decoded yet. Returns `Closed` if they
+/// are no frame, which cannot happen to a frame that was sent.
 fn arrived(alloc: Global, bytes: &[u8]) -> Result<Raw, PortFault>
-    ensures ok { (f : Frame) → IsSpelled bytes.now f [] →
+    ensures ok { (f : Frame) → IsEncoded bytes.now f [] →
         IfOk result (λ raw. frame_in raw.kind raw.body ≡ Some f) }
-    ensures err { (f : Frame) → IsSpelled bytes.now f [] →
+    ensures err { (f : Frame) → IsEncoded bytes.now f [] →
         IfErr result (λ fault. fault ≡ Wire NoMemory) }
 {
     match read_whole_raw(alloc, bytes) {
@@ -34,12 +34,12 @@ fn arrived(alloc: Global, bytes: &[u8]) -> Result<Raw, PortFault>
     }
 }
 
-/// The reply in these bytes, or the refusal in them. Where they are neither, the way to the node
-/// has ended.
+/// Returns the reply in these bytes, or the refusal in them as `Peer`; `Closed` if they are
+/// neither.
 fn replied(alloc: Global, bytes: &[u8]) -> Result<Reply, PortFault>
-    ensures ok { (f : Frame) → IsSpelled bytes.now f [] →
+    ensures ok { (f : Frame) → IsEncoded bytes.now f [] →
         IfOk result (λ reply. f ≡ frame.Reply reply) }
-    ensures err { (f : Frame) → IsSpelled bytes.now f [] →
+    ensures err { (f : Frame) → IsEncoded bytes.now f [] →
         IfErr result (λ fault. IsReadOf f fault) }
 {
     match read_whole_frame(alloc, bytes) {
@@ -52,7 +52,7 @@ fn replied(alloc: Global, bytes: &[u8]) -> Result<Reply, PortFault>
     }
 }
 
-/// The node that is made of the frame of a load.
+/// Encodes a load, and returns the node that its frame makes.
 pub(crate) fn loaded<M: Simulated>(alloc: Global, model: &M, load: &Load) -> Result<Node, PortFault>
     requires { IsLoadInRange load.now }
     ensures ok { IfOk result (λ n. IsMade (M.meaning model.now).lps load.now n) }
@@ -84,11 +84,11 @@ pub(crate) fn handled<M: Simulated>(
 ) -> Result<Reply, PortFault>
     requires lps { node.old.spent ≡ false → (M.meaning model.now).lps ≡ node.old.lps }
     requires histories { HasHistories (M.meaning model.now) node.old }
-    ensures ok { (p : Parcel) → IsSpelled parcel.now (frame.Parcel p) [] →
+    ensures ok { (p : Parcel) → IsEncoded parcel.now (frame.Parcel p) [] →
         IfOk result (λ reply. IsReplyBy (answer (M.meaning model.now) node.old p) node.new reply) }
-    ensures fits { (p : Parcel) → IsSpelled parcel.now (frame.Parcel p) [] →
+    ensures fits { (p : Parcel) → IsEncoded parcel.now (frame.Parcel p) [] →
         IfOk result (λ reply. length (reply_bytes reply) ≤ 2 ^ 24) }
-    ensures err { (p : Parcel) → IsSpelled parcel.now (frame.Parcel p) [] →
+    ensures err { (p : Parcel) → IsEncoded parcel.now (frame.Parcel p) [] →
         IfErr result (λ fault. IsTakeCause (M.meaning model.now) node.old p fault) }
     ensures lps { node.new.spent ≡ false → (M.meaning model.now).lps ≡ node.new.lps }
     ensures histories { HasHistories (M.meaning model.now) node.new }

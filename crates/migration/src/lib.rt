@@ -1,4 +1,4 @@
-//! Migration: a disk of format 1 is read, and its records, widened, are appended to a new disk.
+//! Migration: reads a disk of format 1, and appends its records, widened, to a new disk.
 #![tactic(auto)]
 
 ghost use Rattle.std.specs.Prelude.{◌≡◌};
@@ -14,17 +14,17 @@ pub use old::{old_end_of, old_header_end};
 use recovery::RecoveryFault;
 use thiserror::Error;
 
-/// Why a disk is not migrated, or not all of it.
+/// Why a disk was not migrated, or only in part.
 #[derive(Clone, Copy, Debug, PartialEq, Eq, Error)]
 pub enum MigrateFault {
-    /// The new log has records, or its header is not the model's with the end that the old header
-    /// names. Nothing is written.
+    /// The new log has records, or its header is not that of the model with the end in the old
+    /// header. Nothing is written.
     #[error("NotEmpty")]
     NotEmpty,
-    /// The old log is not recovered. Nothing is written.
+    /// The old log cannot be recovered. Nothing is written.
     #[error("Old {0}")]
     Old(RecoveryFault),
-    /// The new log refused a record. Those before it stand there.
+    /// The new log refused a record. It keeps the records before that.
     #[error("New {0}")]
     New(LogFault),
 }

@@ -1,4 +1,5 @@
--- For models of one's own: the lemmas that the ten laws of a model want, in one place. The guide to models names them beside the laws.
+-- For authors of models: the lemmas that the ten laws of a model need, in one place. The guide to models
+-- names them beside the laws.
 use Rattle.std.specs.List.{AllByRecursion as Every}
 use Rattle.std.specs.Prelude.{ℕ, zero, suc, ◌^◌, ◌<◌, ◌≤◌, List, [], ◌∷◌, drop, length, map, slice_index, take}
 use Rattle.std.proofs.Common.{arith, lit<}
@@ -6,13 +7,13 @@ use Rattle.std.proofs.lemmas.List.{length-map}
 use Rattle.model.specs.Meaning.{IsSend, IsWords}
 use Rattle.model.specs.World.{below}
 use Rattle.model.specs.declared.Outgoing.{Outgoing}
--- of every item of a list: where one is read, with a default; of what a function makes of each; by a weaker fact; by places
+-- about every item of a list: an item that is read, with a default; mapped items; a weaker fact; by index
 pub use Rattle.eventkey.proofs.Lists.{Every-append, Every-get_or, Every-get_or-default, Every-map, Every-set, Every-weaker}
 pub use Rattle.eventkey.proofs.Times.{Every-from_get_or}
--- of 0, 1, .. below a number
+-- about 0, 1, .. below a number
 pub use Rattle.model.proofs.Worlds.{Every-below, length-below}
 
--- of a part of a list
+-- about a part of a list
 pub Every-drop : {X : Type 0} (P : X → Type 0) (n : ℕ) (xs : List X) → Every P xs → Every P (drop n xs)
 Every-drop P zero xs h = h
 Every-drop P (suc n) [] h = tt
@@ -32,7 +33,7 @@ length-take-le (suc n) (x ∷ xs) = omega (arith, length-take-le n xs)
 pub word_fits : (state : List ℕ) (i : ℕ) → IsWords state → slice_index state i < 2 ^ 64
 word_fits state i words = Every-get_or-default (λ w. w < 2 ^ 64) state i 0 words.1 (lit< tt)
 
--- so many sends, one for each number, each of them lawful
+-- `count` sends, one for each number, are lawful if each of them is
 module _ (lps count : ℕ) (send : ℕ → Outgoing) where
   pub few_numbered : count ≤ 8 → length (map send (below count)) ≤ 8
   few_numbered few = rw (length-map, length-below count) few

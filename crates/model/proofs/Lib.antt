@@ -5,5 +5,5 @@ pub mod Heaps
 pub mod Slots
 pub mod Nearest
 pub mod Both
-pub mod Spelling
+pub mod Encoding
 pub mod ForLaws

@@ -1,4 +1,4 @@
--- The opening world, one step and runs of steps, in the values that the code has.
+-- The opening world, one step and runs of steps, in terms of the values that the code has.
 use Rattle.std.specs.Prelude.{nat_lt, nat_le, Result, Ok, IsErr, ◌↔◌}
 use Rattle.std.proofs.Common.{◌≡◌, ℕ, zero, suc, ◌+◌, ◌-◌, ◌*◌, ◌^◌, ◌<◌, ◌≤◌, Bool, true, false, if◌then◌else◌, List, [], ◌∷◌, ◌++◌, length, drop, map, flat_map, set, get_or, Option, Some, None, refl, sym, ap, subst, ◌∙◌, append-nil, arith, lit<}
 use Rattle.std.proofs.lemmas.Bool.{false≢true, ltb-true, ltb-false, and_parts, leb-true}
@@ -26,7 +26,7 @@ add_all-append : (ms ns xs : List Message) → add_all (ms ++ ns) xs ≡ add_all
 add_all-append [] ns xs = refl
 add_all-append (m ∷ ms) ns xs = add_all-append ms ns (add m xs)
 
--- one more process
+-- the values of one more process
 pub map_below : {X : Type 0} (f : ℕ → X) (n : ℕ) (xs : List X) (x : X) → xs ≡ map f (below n) → x ≡ f n → xs ++ x ∷ [] ≡ map f (below (suc n))
 map_below f n xs x e h = rw (e, h) (sym (map-append f (below n) (n ∷ [])))
 
@@ -52,7 +52,7 @@ same_world a b p q r s t = ap (λ (v : ℕ × List (List ℕ) × List ℕ × Lis
 
 -- 2. One step
 
--- the first element, as a look-up finds it
+-- the first element, if a look-up finds one
 pub first_is : {X : Type 0} (xs : List X) (x : X) → Some x ≡ slice_get xs 0 → xs ≡ x ∷ drop 1 xs
 first_is [] x e = cc
 first_is (y ∷ ys) x e = cc
@@ -73,7 +73,7 @@ not_idle end w x rest first early idle =
     let late = all.0 in
     omega arith
 
--- the receiver's number after the message is handled
+-- the receiver's send number after the message is handled
 abbrev pub number_after : Meaning → World → Message → ℕ
 number_after m w x = number_of w x.to + length (m.sends x.to (state_of w x.to) x)
 
@@ -98,7 +98,7 @@ answered x y e = cc
 pub err_not_ok : {T E : Type 0} (r : Result T E) (x : T) → IsErr r → r ≡ Ok x → ⊥
 err_not_ok {T} {E} r x h e = let h' : IsErr {T = T} {E = E} (Ok x) = subst IsErr e h in false≢true h'
 
--- an element that was read, through a function, and at any default
+-- an element that was read, after a function is mapped over the list, with any default
 pub read_map : {X Y : Type 0} (f : X → Y) (xs : List X) (i : ℕ) (x : X) (e : Y) → i < length (map f xs) → x ≡ get_or xs i x → f x ≡ get_or (map f xs) i e
 read_map f xs i x e h r = ap f r ∙ sym (get_or-map f xs i x e (rw length-map at h))
 
@@ -135,11 +135,11 @@ handled_is m w x rest lp state words sent number count time new at' f h t st nu 
     let pe' = rw l at pe in
     same_world new (handled m w x rest) t (st' ∙ rw (f', s') refl) (nu' ∙ rw (at'.count_is, e', s', k') refl) (pe' ∙ rw (e', s', k', h) refl) lo
 
--- the receiver of the least pending message is there, and the message is in its ranges
+-- the least pending message goes to an existing process, and its numbers are in their ranges
 pub first_addressed : (s : Simulation) (x : Message) (rest : List Message) → IsSimulation s → s.world.pending ≡ x ∷ rest → IsAddressed (length s.world.states) x
 first_addressed s x rest is first = let all : Every (IsAddressed (length s.world.states)) (x ∷ rest) = rw first at is.world.addressed in all.0
 
--- a step keeps what holds of each world
+-- a step keeps the invariant of worlds
 pub handled_keeps : (m : Meaning) (s : Simulation) (x : Message) (rest : List Message) (new : World) → IsLawful m → length s.world.states ≡ m.lps → IsSimulation s → s.world.pending ≡ x ∷ rest → x.time < s.end →
     number_after m s.world x ≤ 2 ^ 63 → new ≡ handled m s.world x rest → IsSimulation (record { end = s.end; world = new })
 handled_keeps m s x rest new law lps is first early fits e =
@@ -165,8 +165,8 @@ reaches_more m bound (suc n) old mid new r s = (r.0, r.1, reaches_more m bound n
 pub run_more : (m : Meaning) (bound : ℕ) (old mid new : World) → IsRun m bound old mid → step m bound mid ≡ Some new → IsRun m bound old new
 run_more m bound old mid new r s = record { steps = suc r.steps; reached = reaches_more m bound r.steps old mid new r.reached s }
 
--- How much there is to do below the bound: a message makes at most eight others, each of a later
--- time.
+-- The amount of work before the bound: a handled message sends at most eight others, each with a
+-- later time.
 unfoldable pub weight : ℕ → List Message → ℕ
 weight bound [] = 0
 weight bound (x ∷ xs) = 9 ^ (bound - x.time) + weight bound xs
@@ -202,7 +202,7 @@ weight-stamp b lps lp time n (o ∷ os) h all =
     let count : suc (length os) ≡ length os + 1 = omega arith in
     rw (count, product, front) (omega (arith, power, rest))
 
--- a handling leaves less to do
+-- each step leaves less work
 pub step_lighter : (m : Meaning) (b end : ℕ) (s : Simulation) (new : World) → IsLawful m → length s.world.states ≡ m.lps → IsSimulation s → is_due b s.world.pending ≡ true → step m end s.world ≡ Some new → weight b new.pending < weight b s.world.pending
 step_lighter m b end s new law lps is due e =
     let w = s.world in
@@ -226,7 +226,7 @@ step_lighter m b end s new law lps is due e =
     let new' : weight b new.pending ≡ weight b (handled m w x rest).pending = ap (λ (v : World). weight b v.pending) st.3 in
     omega (arith, made, eight, some, nine, all, old, new')
 
--- a step of a message that is due is one before the bound too
+-- a step of a message before the bound is also a step with the bound as the end
 pub step_below : (m : Meaning) (bound end : ℕ) (w new : World) → is_due bound w.pending ≡ true → step m end w ≡ Some new → step m bound w ≡ Some new
 step_below m bound end w new due e =
     let s = step_is m end w new e in
@@ -234,7 +234,7 @@ step_below m bound end w new due e =
     let can = and_parts (nat_lt s.0.time end) (nat_le (number_after m w s.0) (2 ^ 63)) s.4 in
     step_made m bound w s.0 s.1 s.2 (ltb-true s.0.time bound due') (leb-true (number_after m w s.0) (2 ^ 63) can.1) ∙ ap Some (sym s.3)
 
--- where a message is due the world is not idle
+-- a world with a message before the bound is not idle
 pub not_due : (bound : ℕ) (w : World) → is_due bound w.pending ≡ true → IsIdle bound w → ⊥
 not_due bound w due idle = go w.pending refl
   where
@@ -244,7 +244,7 @@ not_due bound w due idle = go w.pending refl
         let due' : is_due bound (x ∷ rest) ≡ true = subst (λ (xs : List Message). is_due bound xs ≡ true) e due in
         not_idle bound w x rest e (ltb-true x.time bound due') idle
 
--- what a call of `step` did where a message is due before the bound
+-- a successful call of `step` made a step if a message is due before the bound
 pub went : (m : Meaning) (bound end : ℕ) (old new : World) (r : Option Message) → bound ≤ end → is_due bound old.pending ≡ true →
     ((x : Message) → ◌≡◌ {A = Result (Option Message) WorldFault} (Ok r) (Ok (Some x)) → Handles m end old x new) → (◌≡◌ {A = Result (Option Message) WorldFault} (Ok r) (Ok None) ↔ IsIdle end old) → step m end old ≡ Some new
 went m bound end old new None le due handled idle = absurd (not_due bound old due (Every-weaker (λ (x : Message). end ≤ x.time) (λ (x : Message). bound ≤ x.time) (λ x h. omega arith) old.pending (idle.0 refl)))
@@ -253,7 +253,7 @@ went m bound end old new (Some x) le due handled idle = (handled x refl).is
 pub step_time : (m : Meaning) (end : ℕ) (w v : World) → step m end w ≡ Some v → v.time ≡ w.time
 step_time m end w v e = ap (λ (u : World). u.time) (step_is m end w v e).3
 
--- what is left where nothing is due
+-- if no message is due, nothing is pending before the bound
 pub left_over : (bound : ℕ) (w : World) → IsAscending w.pending → is_due bound w.pending ≡ false → IsIdle bound w
 left_over bound w up due = go w.pending refl
   where
@@ -263,7 +263,7 @@ left_over bound w up due = go w.pending refl
         let due' : is_due bound (x ∷ rest) ≡ false = subst (λ (xs : List Message). is_due bound xs ≡ false) e due in
         idle_late bound w x rest up e (ltb-false x.time bound due')
 
--- a step that is refused at the limit is one below the bound too, where a message is due
+-- a step that is refused at the limit is also refused with the bound as the end, if a message is due
 pub limited_below : (m : Meaning) (bound end : ℕ) (w : World) → is_due bound w.pending ≡ true → IsLimited m end w → IsLimited m bound w
 limited_below m bound end w due h =
     let due' : is_due bound (h.least ∷ h.rest) ≡ true = subst (λ (xs : List Message). is_due bound xs ≡ true) h.pending due in

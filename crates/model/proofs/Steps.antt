@@ -1,5 +1,5 @@
 -- What steps of the sequential simulation keep of the log and the numbers, and that they lead from
--- one world up to some time to each later one.
+-- the simulation up to a time to any later one.
 use Rattle.std.specs.Prelude.{nat_lt, nat_le}
 use Rattle.std.proofs.Common.{◌≡◌, ℕ, zero, suc, ◌+◌, ◌-◌, ◌^◌, ◌<◌, ◌≤◌, max, true, List, [], ◌∷◌, ◌++◌, length, Some, None, refl, sym, ap, subst, ◌∙◌, arith}
 use Rattle.std.specs.List.{AllByRecursion as Every}
@@ -14,7 +14,7 @@ use Rattle.model.specs.Sequential.{EachWorldIsReached, OpeningIsUpto, RunsAreUpt
 use Rattle.model.specs.World.{IsUpto, IsWorld, Reaches, World, at_time, below, can_handle, handled, number_of, opening, state_of, step, step_from}
 use Rattle.model.proofs.Worlds.{Every-below, Reaches-append, fewer_steps, handled_IsWorld, opening_IsWorld, same_steps, stamp_later, step_is, words_at}
 
--- 1. The log ascends, and what is in it is at most what is pending
+-- 1. The log ascends, and each logged message is at most each pending one
 
 pub opening_IsReached : (m : Meaning) → IsLawful m → IsReached m.lps (opening m)
 opening_IsReached m law = record {
@@ -72,7 +72,7 @@ module _ (m : Meaning) (end : ℕ) (law : IsLawful m) (short : end ≤ 2 ^ 40) w
           (Every-weaker (IsAtMost x) (λ (y : Message). Every (λ (l : Message). IsAtMost l y) (a.log ++ x ∷ [])) log_before rest up.0);
     }
 
-    -- where all was pending from g on, it still is
+    -- if no message was pending before g, none is now
     next_left : (g : ℕ) → IsIdle g a → IsIdle g (handled m a x rest)
     next_left g left =
         let all : Every (λ (y : Message). g ≤ y.time) (x ∷ rest) = rw first at left in
@@ -108,7 +108,7 @@ each_world_is_reached m end n w law short f = Reaches_IsReached m end law short 
 pub IsUpto_IsReached : (m : Meaning) (end g : ℕ) (w : World) → IsLawful m → end ≤ 2 ^ 40 → IsUpto m end g w → IsReached m.lps w
 IsUpto_IsReached m end g w law short u = IsReached-at_time m.lps w.time (at_time 0 w) (each_world_is_reached m end u.steps (at_time 0 w) law short u.reached)
 
--- 2. From the simulation up to one time to that up to another
+-- 2. From the simulation up to one time to the simulation up to another
 
 pub upto_is_reached_from : UptoIsReachedFrom
 upto_is_reached_from m end g1 g2 v w le f g =
@@ -152,7 +152,7 @@ module _ (m : Meaning) where
   Reaches-sooner bound end zero a b le f = f
   Reaches-sooner bound end (suc n) a b le f = (f.0, step-sooner bound end a f.0 le f.1, Reaches-sooner bound end n f.0 b le f.2)
 
-  -- what they put into the log
+  -- steps before a bound log only messages before the bound
   pub Reaches_logged : (bound g n : ℕ) (a b : World) → bound ≤ g → Every (λ (x : Message). x.time < g) a.log → Reaches m bound n a b → Every (λ (x : Message). x.time < g) b.log
   Reaches_logged bound g zero a b le h f = subst (λ (w : World). Every (λ (x : Message). x.time < g) w.log) (sym f) h
   Reaches_logged bound g (suc n) a b le h f =

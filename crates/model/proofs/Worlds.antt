@@ -37,7 +37,7 @@ stamp_addressed lps lp t k (o ∷ os) few l early fits h = (
   stamp_addressed lps lp t (k + 1) os few l early (omega arith) h.1,
 )
 
--- 3. What holds of every world
+-- 3. Properties of every world
 
 pub length-below : (n : ℕ) → length (below n) ≡ n
 length-below zero = refl
@@ -90,7 +90,7 @@ handled_IsWorld m w x rest law is at early fits up all =
       words = Every-set IsWords w.states x.to (m.next_state x.to state x) (law.words x.to state x at.to words at.ranged) is.words;
     }
 
--- a step handles the first pending message
+-- a step handles the least pending message
 pub step_is : (m : Meaning) (end : ℕ) (w v : World) → step m end w ≡ Some v →
     (x : Message) × (rest : List Message) × (w.pending ≡ x ∷ rest) × (v ≡ handled m w x rest) × (can_handle m end w x ≡ true)
 step_is m end w v e = go w.pending refl
@@ -147,7 +147,7 @@ same_steps m end (suc k) n a b c f g =
     let mid : g'.0 ≡ f.0 = cc in
     same_steps m end k n f.0 b c f.2 (subst (λ w. Reaches m end (k + n) w c) mid g'.2)
 
--- a world up to a time goes on with no message that is before it
+-- a step from a world up to g2 handles a message at g2 or later
 pub late_step : (m : Meaning) (end g1 g2 k : ℕ) (v w : World) → Every (λ (x : Message). x.time < g1) v.log → Every (λ (x : Message). g2 ≤ x.time) w.pending →
     Reaches m end (suc k) w v → g2 < g1
 late_step m end g1 g2 k v w logged left f =
@@ -160,7 +160,7 @@ late_step m end g1 g2 k v w logged left f =
     let late' : g2 ≤ s.0.time = late.0 in
     omega arith
 
--- an earlier time takes no more steps
+-- the simulation up to an earlier time has at most as many steps
 pub fewer_steps : (m : Meaning) (end g1 g2 : ℕ) (v w : World) → g1 ≤ g2 → (f : IsUpto m end g1 v) (g : IsUpto m end g2 w) → f.steps ≤ g.steps
 fewer_steps m end g1 g2 v w le f g = elim (cases_lt g.steps f.steps) [
   | inl h ↦ absurd (

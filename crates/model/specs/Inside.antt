@@ -1,4 +1,4 @@
--- What a contract sees of a `World`.
+-- The value of a `World` that contracts see.
 use Rattle.std.specs.List.{AllByRecursion as Every}
 use Rattle.std.specs.Prelude.{◌≤◌, ◌^◌, map, length}
 use Rattle.model.specs.Runner.{Simulation}
@@ -17,7 +17,7 @@ simulation_of w = record {
   };
 }
 
--- what holds of each
+-- the invariant of a `World`
 pub record IsSimulation (s : Simulation) : Type 0 where
   pub some : 1 ≤ s.end
   pub end : s.end ≤ 2 ^ 40

@@ -1,11 +1,11 @@
--- For callers: what a model means, its laws, and the sequential simulation
+-- For callers: the meaning of a model, its laws, and the sequential simulation
 pub mod Meaning
 pub mod World
 pub mod Sequential
 pub mod Runner
--- For callers: how state words are spelled
-pub mod Spelling
--- Inside: what contracts see of a world, and how the runner keeps what is pending
+-- For callers: the encoding of state words
+pub mod Encoding
+-- Inside: the value of a world that contracts see, and how the runner keeps pending messages
 pub mod Inside
 pub mod Pending
 pub mod Ticks

@@ -1,19 +1,19 @@
--- What a model means: functions of the arguments alone, and the laws that they keep (this project's
--- profile).
+-- The meaning of a model: functions of their arguments alone, and the laws that they obey (this
+-- project's profile).
 use Rattle.std.specs.List.{AllByRecursion as Every}
 use Rattle.std.specs.Prelude.{ℕ, List, ◌+◌, [], ◌∷◌, ◌≤◌, ◌<◌, ◌^◌, length}
 use Rattle.eventkey.specs.Message.{IsRanged, Message}
 use Rattle.model.specs.declared.Outgoing.{Outgoing}
 
 pub record Meaning : Type 0 where
-  pub lps : ℕ  -- how many logical processes there are
-  pub identity : List ℕ  -- the words that tell this model from others
+  pub lps : ℕ  -- the number of logical processes
+  pub identity : List ℕ  -- the words that distinguish this model from others
   pub start_state : ℕ → List ℕ
   pub start_sends : ℕ → List Outgoing
   pub next_state : ℕ → List ℕ → Message → List ℕ
   pub sends : ℕ → List ℕ → Message → List Outgoing
 
--- the message that a handling at this time makes of one send
+-- the message that a handling by process lp at this time makes of one send
 abbrev pub stamped : ℕ → ℕ → ℕ → Outgoing → Message
 stamped lp time number o = record {
   time = time + o.delay;
@@ -26,21 +26,21 @@ stamped lp time number o = record {
   d = o.d;
 }
 
--- those that it makes of all its sends, numbered from number on
+-- the messages that it makes of all its sends, numbered from number on
 abbrev pub stamp : ℕ → ℕ → ℕ → List Outgoing → List Message
 stamp lp time number [] = []
 stamp lp time number (o ∷ os) = stamped lp time number o ∷ stamp lp time (number + 1) os
 
--- the words of a state
+-- at most 16 words of 64 bits
 abbrev pub IsWords : List ℕ → Type 0
 IsWords words = (length words ≤ 16) × Every (λ word. word < 2 ^ 64) words
 
--- a message to one of the processes, in its ranges
+-- a message to an existing process, with all numbers in their ranges
 pub record IsAddressed (lps : ℕ) (x : Message) : Type 0 where
   pub to : x.to < lps
   pub ranged : IsRanged x
 
--- what holds of each send
+-- each send goes to an existing process, at least one tick later, with all numbers in their ranges
 pub record IsSend (lps : ℕ) (o : Outgoing) : Type 0 where
   pub delay : 1 ≤ o.delay
   pub delay_fits : o.delay < 2 ^ 32
@@ -50,7 +50,7 @@ pub record IsSend (lps : ℕ) (o : Outgoing) : Type 0 where
   pub c : o.c < 2 ^ 64
   pub d : o.d < 2 ^ 64
 
--- the laws of a model, at states and messages whose numbers lie in their ranges
+-- the laws of a model, for states and messages whose numbers are in their ranges
 pub record IsLawful (m : Meaning) : Type 0 where
   pub some : 1 ≤ m.lps
   pub few_lps : m.lps ≤ 1024

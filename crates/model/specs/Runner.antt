@@ -1,4 +1,4 @@
--- What the plain runner of a simulation does, call by call (this project's profile).
+-- What each call of the plain runner of a simulation does (this project's profile).
 use Rattle.std.specs.List.{AllByRecursion as Every}
 use Rattle.std.specs.Prelude.{◌≡◌, ℕ, List, [], ◌∷◌, ◌++◌, ◌+◌, ◌^◌, ◌<◌, ◌≤◌, length, max, Some}
 use Rattle.std.specs.Prelude.{Bool, false, nat_lt}
@@ -12,17 +12,17 @@ pub record Simulation : Type 0 where
   pub end : ℕ
   pub world : World
 
--- nothing is pending before this time
+-- no message is pending before this time
 abbrev pub IsIdle : ℕ → World → Type 0
 IsIdle end w = Every (λ (x : Message). end ≤ x.time) w.pending
 
--- the first of these is before this time
+-- the first of these messages is before this time
 abbrev pub is_due : ℕ → List Message → Bool
 is_due bound [] = false
 is_due bound (x ∷ rest) = nat_lt x.time bound
 
--- x is pending before the end, nothing pending is less, and the send number of its receiver would
--- pass the limit
+-- the least pending message is before the end, and handling it would take the send number of its
+-- receiver past the limit
 pub record IsLimited (m : Meaning) (end : ℕ) (w : World) : Type 0 where
   pub least : Message
   pub rest : List Message
@@ -30,7 +30,7 @@ pub record IsLimited (m : Meaning) (end : ℕ) (w : World) : Type 0 where
   pub early : least.time < end
   pub over : 2 ^ 63 < number_of w least.to + length (m.sends least.to (state_of w least.to) least)
 
--- new is old after one step, which handled x and put it at the end of the log
+-- new is old after one step, which handles x and appends it to the log
 pub record Handles (m : Meaning) (end : ℕ) (old : World) (x : Message) (new : World) : Type 0 where
   pub is : step m end old ≡ Some new
   pub logged : new.log ≡ old.log ++ x ∷ []
@@ -40,20 +40,20 @@ pub record IsRun (m : Meaning) (bound : ℕ) (old new : World) : Type 0 where
   pub steps : ℕ
   pub reached : Reaches m bound steps old new
 
--- new is old after all steps of messages before the bound, and its time is then at least the bound
+-- new is old after all steps of messages before the bound, with a time that is at least the bound
 pub record RunsTo (m : Meaning) (bound : ℕ) (old new : World) : Type 0 where
   pub run : IsRun m bound old (at_time old.time new)
   pub left : IsIdle bound new
   pub time : new.time ≡ max old.time bound
 
--- a world whose processes can be loaded on nodes that go on from its time, before this end
+-- nodes can be loaded with this world and go on from its time up to this end
 pub record IsLoadable (lps end : ℕ) (w : World) : Type 0 where
   pub world : IsWorld lps w
   pub numbers : Every (λ number. number ≤ 2 ^ 63) w.numbers
   pub within : w.time ≤ end
   pub left : IsIdle w.time w
 
--- what holds of every world that a simulation reaches
+-- a world that a simulation reaches is in order: so are its states, numbers, messages and log
 pub record IsReached (lps : ℕ) (w : World) : Type 0 where
   pub world : IsWorld lps w
   pub numbers : Every (λ number. number ≤ 2 ^ 63) w.numbers

@@ -11,7 +11,7 @@ pub record World : Type 0 where
   pub time : ℕ
   pub states : List (List ℕ)
   pub numbers : List ℕ
-  pub pending : List Message  -- a bag
+  pub pending : List Message  -- a bag, so in ascending order
   pub log : List Message
 
 -- the world of these parts
@@ -44,7 +44,7 @@ state_of w lp = get_or w.states lp []
 abbrev pub number_of : World → ℕ → ℕ
 number_of w lp = get_or w.numbers lp 0
 
--- the world after its least pending message, of which rest are the others
+-- the world after its least pending message x is handled; rest are the other pending messages
 abbrev pub handled : Meaning → World → Message → List Message → World
 handled m w x rest =
     let sent = m.sends x.to (state_of w x.to) x in
@@ -56,7 +56,7 @@ handled m w x rest =
       log = w.log ++ x ∷ [];
     }
 
--- the least pending message can be handled before this end
+-- the least pending message is before the end, and its sends keep within the limit of send numbers
 abbrev pub can_handle : Meaning → ℕ → World → Message → Bool
 can_handle m end w x =
     nat_lt x.time end
@@ -69,12 +69,12 @@ step_from m end w (x ∷ rest) = if can_handle m end w x then Some (handled m w 
 abbrev pub step : Meaning → ℕ → World → Option World
 step m end w = step_from m end w w.pending
 
--- after n steps
+-- n steps lead from v to w
 abbrev pub Reaches : Meaning → ℕ → ℕ → World → World → Type 0
 Reaches m end zero v w = w ≡ v
 Reaches m end (suc n) v w = (u : World) × (step m end v ≡ Some u) × Reaches m end n u w
 
--- what holds of every world that is reached
+-- there is a state and a send number for each process, and pending messages ascend and are valid
 pub record IsWorld (lps : ℕ) (w : World) : Type 0 where
   pub states : length w.states ≡ lps
   pub numbers : length w.numbers ≡ lps
@@ -85,8 +85,9 @@ pub record IsWorld (lps : ℕ) (w : World) : Type 0 where
 abbrev pub at_time : ℕ → World → World
 at_time g w = record w { time = g }
 
--- The sequential simulation up to g: all before g is in the log, and nothing before g is left. It
--- is meant for g at most the end: past the end there is one only where nothing is left before g.
+-- w is the sequential simulation up to g: every message before g is in the log, and none before g is
+-- pending. It is meant for g up to the end: past the end there is such a world only if nothing
+-- before g is left.
 pub record IsUpto (m : Meaning) (end g : ℕ) (w : World) : Type 0 where
   pub steps : ℕ
   pub reached : Reaches m end steps (opening m) (at_time 0 w)

@@ -1,23 +1,24 @@
-// Laws of the sequential simulation, as contracts of calls that do nothing.
+// Laws of the sequential simulation, each the contract of a function that does nothing.
 
 ghost use Rattle.model.specs.Sequential.{EachWorldIsReached, OpeningIsUpto, RunsAreUpto};
 ghost use Rattle.model.specs.Sequential.{UptoGoesOn, UptoIsOne, UptoIsReachedFrom};
 
-/// The sequential simulation up to a time is one world, its log begins that of any later one, and
-/// steps lead from it there.
+/// States that the sequential simulation up to a time is one world, that its log is the beginning
+/// of the log of any later one, and that steps lead from it to any later one.
 pub fn law_of_sequential_simulation()
     ensures one { UptoIsOne }
     ensures goes_on { UptoGoesOn }
     ensures reached { UptoIsReachedFrom }
 {}
 
-/// From the opening world runs lead to the sequential simulation up to their bound.
+/// States that the opening world is the sequential simulation up to 0, and that a run from the
+/// simulation up to a time leads to the simulation up to its bound.
 pub fn law_of_runs()
     ensures opening { OpeningIsUpto }
     ensures runs { RunsAreUpto }
 {}
 
-/// What holds of each world that a simulation reaches.
+/// States what holds of each world that a simulation reaches: it is in order, and so is its log.
 pub fn law_of_worlds()
     ensures { EachWorldIsReached }
 {}

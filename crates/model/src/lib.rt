@@ -28,7 +28,7 @@ use thiserror::Error;
 /// The state words of a process: at most 16, of 64 bits (this project's profile).
 pub type Words = SmallVec<u64, 16>;
 
-/// A message that is to be sent.
+/// A message to send.
 #[derive(Clone, Copy, Debug, Default, PartialEq, Eq)]
 pub struct Outgoing {
     /// The number of the logical process that receives it.
@@ -48,10 +48,10 @@ pub struct Outgoing {
 /// The sends of one handling, or of one start: at most 8, in the order of sending.
 pub type Sends = SmallVec<Outgoing, 8>;
 
-/// Why a world can't go on.
+/// The reason why a world can't go on.
 #[derive(Clone, Copy, Debug, PartialEq, Eq, Error)]
 pub enum WorldFault {
-    /// Memory is refused.
+    /// An allocation failed.
     #[error("NoMemory")]
     NoMemory,
     /// The send number of a process would pass 2^63.
@@ -59,28 +59,30 @@ pub enum WorldFault {
     NumberLimit,
 }
 
-/// What a simulation runs: logical processes that act only by handling messages (Jefferson 1985).
-/// Each answer is a function of the arguments and takes no memory; the laws of `IsLawful` bound it.
+/// A model of a simulation: logical processes that act only by handling messages (Jefferson 1985).
+///
+/// Each function returns a value of its arguments alone, and does not allocate. The laws of
+/// `IsLawful` bound these values.
 pub trait Model {
     ghost meaning: { Self → Meaning };
 
-    /// How many logical processes there are, 1 to 1,024.
+    /// Returns the number of logical processes, 1 to 1,024.
     fn lps(&self) -> u32
         ensures { result ≡ (meaning self.now).lps };
 
-    /// The words that tell this model from others, at most 8.
+    /// Returns the words that distinguish this model from others, at most 8.
     fn identity(&self, alloc: Global) -> SmallVec<u64, 8>
         ensures { result.items ≡ (meaning self.now).identity };
 
-    /// The state in which a process that is there starts, and what it sends then.
+    /// Returns the state in which process `lp` starts, and what it sends then.
     fn start(&self, alloc: Global, lp: u32) -> (Words, Sends)
         requires { lp < (meaning self.now).lps }
         ensures state { result.0.items ≡ (meaning self.now).start_state lp }
         ensures sends { result.1.items ≡ (meaning self.now).start_sends lp };
 
-    /// The state of a process after a message, and what it sends then. It is defined for every
-    /// process that is there, every list of at most 16 words and every message, also for those that
-    /// never come in a sequential simulation.
+    /// Returns the state of process `lp` after a message, and what it sends then. It is defined for
+    /// every process, every list of at most 16 words and every message, also for those that never
+    /// occur in the sequential simulation.
     fn handle(&self, alloc: Global, lp: u32, state: &Words, message: &Message) -> (Words, Sends)
         requires in_range { lp < (meaning self.now).lps }
         requires few { length state.now.items ≤ 16 }
@@ -88,9 +90,9 @@ pub trait Model {
             ≡ (meaning self.now).next_state lp state.now.items message.now }
         ensures sends { result.1.items ≡ (meaning self.now).sends lp state.now.items message.now };
 
-    /// The same as `handle`, written into `next` and `sends`, which are empty. A runner that keeps
-    /// these two neither clears nor moves a whole answer for each message; a model that is to run
-    /// fast writes it out, and has `handle` call it.
+    /// Does what `handle` does, but writes into `next` and `sends`, which are empty. A runner that
+    /// keeps these two neither clears nor moves a whole answer for each message. A model that must
+    /// be fast implements this function, and calls it from `handle`.
     fn handle_into(
         &self,
         alloc: Global,
@@ -117,8 +119,8 @@ pub trait Model {
     ghost lawful: { (m : Self) → IsLawful (meaning m) };
 }
 
-/// The message that a handling at this time makes of a send: the time in ticks, below 2^40, and the
-/// send number below 2^63. It takes no memory.
+/// Returns the message that a handling by process `lp` makes of a send, without an allocation. The
+/// handling's time is in ticks, below 2^40; the send number is below 2^63.
 pub fn stamp(lp: u32, time: u64, number: u64, outgoing: &Outgoing) -> Message
     requires time { time < 2 ^ 40 }
     requires number { number < 2 ^ 63 }
@@ -135,7 +137,7 @@ pub fn stamp(lp: u32, time: u64, number: u64, outgoing: &Outgoing) -> Message
     Message::new(time + u64::from(delay), lp, number, to, a, b, c, d).unwrap()
 }
 
-/// Answers nothing: the contract says that the words are numbers of 64 bits.
+/// Does nothing: its contract states that the words are 64-bit numbers.
 pub fn ranged(words: &[u64])
     ensures { All (λ w. w < 2 ^ 64) words.now }
 {}

@@ -1,18 +1,17 @@
-// A state that is told or committed.
+// A state that is reported or committed.
 
 ghost use Rattle.std.specs.Prelude.{◌≡◌, ◌≤◌, length, IfOk, IsOk};
 
 use smallvec::SmallVec;
 use std::alloc::{AllocError, Global};
 
-/// State words that take the memory that they need, which contracts see as the list of them. Most
-/// models have one or two: they lie in the value itself, and more lie in an allocation of their
-/// length.
+/// State words in a compact form, which contracts see as a list. One or two words, as most models
+/// have, are in the value itself; more are in an allocation of their length.
 pub struct SavedState {
     words: SmallVec<u64, 2>,
 }
 
-// Not derived: each caller that drops one would prove again how its parts are dropped.
+// Not derived: the proof of each caller that drops a state would have to go through its parts.
 impl Drop for SavedState {
     fn drop(self) {
         let SavedState { words: _ } = self;
@@ -28,7 +27,7 @@ impl std::marker::Model for SavedState {
 }
 
 impl SavedState {
-    /// A copy of these words. It takes no memory for two.
+    /// Copies these words, without an allocation for two words or fewer.
     pub fn from_slice(alloc: Global, words: &[u64]) -> Result<SavedState, AllocError>
         ensures ok { IfOk result (λ saved. saved ≡ words.now) }
         ensures succeeds { length words.now ≤ 2 → IsOk result }
@@ -37,7 +36,7 @@ impl SavedState {
         Ok(SavedState { words })
     }
 
-    /// The words.
+    /// Returns the words.
     pub fn as_slice(&self) -> &[u64]
         ensures { result.now ≡ self.now }
     {

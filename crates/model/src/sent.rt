@@ -1,4 +1,4 @@
-// What one handling sent.
+// The messages that one handling sent.
 
 ghost use Rattle.std.specs.Prelude.{◌≡◌, ◌<◌, ◌≤◌, ◌+◌, ◌^◌, length, IfOk, IsOk};
 ghost use Rattle.model.specs.Meaning.{stamp as stamped_all};
@@ -8,13 +8,13 @@ use eventkey::Message;
 use smallvec::SmallVec;
 use std::alloc::{AllocError, Global};
 
-/// The messages that one handling sent, in the order of sending, which contracts see as the list of
-/// them. Most models send one: it lies in the value itself, and more lie in an allocation.
+/// The messages that one handling sent, in the order of sending, which contracts see as a list. One
+/// message, as most models send, is in the value itself; more are in an allocation.
 pub struct Sent {
     messages: SmallVec<Message, 1>,
 }
 
-// Not derived: each caller that drops one would prove again how its parts are dropped.
+// Not derived: the proof of each caller that drops these would have to go through its parts.
 impl Drop for Sent {
     fn drop(self) {
         let Sent { messages: _ } = self;
@@ -31,7 +31,7 @@ impl std::marker::Model for Sent {
 }
 
 impl Sent {
-    /// Copies of these messages. It takes no memory for one.
+    /// Copies these messages, without an allocation for at most one.
     pub fn from_slice(alloc: Global, messages: &[Message]) -> Result<Sent, AllocError>
         ensures ok { IfOk result (λ sent. sent ≡ messages.now) }
         ensures succeeds { length messages.now ≤ 1 → IsOk result }
@@ -40,8 +40,8 @@ impl Sent {
         Ok(Sent { messages })
     }
 
-    /// The messages that process `lp` makes of its sends in a handling at this time in ticks, below
-    /// 2^40, numbered from `number` on. It takes no memory for one.
+    /// Makes the messages that process `lp` sends in a handling at `time` ticks, below 2^40,
+    /// numbered from `number` on, without an allocation for at most one.
     pub fn stamped(
         alloc: Global,
         lp: u32,
@@ -63,7 +63,7 @@ impl Sent {
         Ok(Sent { messages })
     }
 
-    /// The messages.
+    /// Returns the messages.
     pub fn as_slice(&self) -> &[Message]
         ensures { result.now ≡ self.now }
     {

@@ -1,16 +1,16 @@
-// A state of a process.
+// The state of a process.
 
 ghost use Rattle.std.specs.Prelude.{◌≡◌};
 
 use crate::Words;
 
-/// State words that contracts see as the list of them, so that a struct with such a field is seen
-/// as plain data.
+/// State words that contracts see as a list, so that they see a struct with such a field as plain
+/// data.
 pub struct State {
     words: Words,
 }
 
-// Not derived: each caller that drops one would prove again how its parts are dropped.
+// Not derived: the proof of each caller that drops a state would have to go through its parts.
 impl Drop for State {
     fn drop(self) {
         let State { words: _ } = self;
@@ -26,21 +26,21 @@ impl std::marker::Model for State {
 }
 
 impl State {
-    /// The state of these words. It takes no memory.
+    /// Wraps these words, without an allocation.
     pub fn from_words(words: Words) -> State
         ensures { result ≡ words.items }
     {
         State { words }
     }
 
-    /// The words.
+    /// Returns the words.
     pub fn words(&self) -> &Words
         ensures { result.now.items ≡ self.now }
     {
         &self.words
     }
 
-    /// The words themselves. It takes no memory.
+    /// Returns the words by value, without an allocation.
     pub fn into_words(self) -> Words
         ensures { result.items ≡ self }
     {

@@ -1,4 +1,4 @@
--- A loop over the tokens that start at a process.
+-- The loop over the tokens that start at a process.
 use Rattle.std.specs.Prelude.{ℕ, zero, suc, ◌+◌, ◌-◌, ◌*◌, ◌%◌, ◌<◌, ◌≤◌, ◌≡◌, ◌==◌, ◌++◌, List, [], ◌∷◌, filter, map, length}
 use Rattle.std.proofs.Common.{arith, ap, ◌∙◌, sym, inl, inr, length-append}
 use Rattle.std.proofs.Math.Nat.{mul-le-mul_right}
@@ -9,14 +9,14 @@ use Rattle.model.specs.declared.Outgoing.{Outgoing}
 use Rattle.models.specs.Ring.{first_send, tokens_at}
 use Rattle.models.specs.RingLaws.{no_first, one_more, none_first}
 
--- all places of the process before this one are sent
+-- all tokens of the process before this one are sent
 pub record HasSent (lps lp tokens token : ℕ) (sends : List Outgoing) : Type 0 where
   pub place : token ≡ length sends * lps + lp
   pub near : token < tokens + lps
   pub sent : sends ≡ map (first_send lp) (filter (λ j. j % lps == lp) (below token))
 
 module _ (lps lp : ℕ) (l : lp < lps) where
-  -- the next place is one more
+  -- the next token is one more
   next_at : (k : ℕ) → map (first_send lp) (filter (λ j. j % lps == lp) (below (k * lps + lp + lps)))
       ≡ map (first_send lp) (filter (λ j. j % lps == lp) (below (k * lps + lp))) ++ first_send lp (k * lps + lp) ∷ []
   next_at k =
@@ -25,7 +25,7 @@ module _ (lps lp : ℕ) (l : lp < lps) where
       ∙ ap (map (first_send lp)) (one_more lps lp l k (lps - 1) (omega arith))
       ∙ map-append (first_send lp) (filter (λ j. j % lps == lp) (below (k * lps + lp))) ((k * lps + lp) ∷ [])
 
-  -- where the next place is no token's, all tokens of the process are before it
+  -- if there is no next token, all tokens of the process are sent
   all_at : (k tokens : ℕ) → tokens ≤ k * lps + lp → k * lps + lp < tokens + lps
       → filter (λ j. j % lps == lp) (below (k * lps + lp)) ≡ filter (λ j. j % lps == lp) (below tokens)
   all_at zero tokens past near = no_first lps lp l (0 * lps + lp) (omega arith) ∙ sym (no_first lps lp l tokens (omega arith))

@@ -1,4 +1,4 @@
--- PHOLD keeps the laws of a model.
+-- PHOLD obeys the laws of a model.
 use Rattle.std.specs.Prelude.{ℕ, ◌+◌, ◌*◌, ◌^◌, ◌<◌, ◌≤◌}
 use Rattle.std.proofs.Common.{arith, lit<, lit≤}
 use Rattle.std.proofs.Math.Nat.{mod-lt, mul-le-mul_left}

@@ -1,5 +1,5 @@
--- A job shop (this project's profile): machines in a ring, each of which serves one job at a time,
--- in the order in which jobs come, and sends it to the next machine.
+-- A job shop (this project's profile): machines in a ring. Each serves one job at a time, in the
+-- order of arrival, and sends it to the next machine.
 use Rattle.std.specs.Prelude.{ℕ, ◌+◌, ◌-◌, ◌*◌, ◌%◌, ◌^◌, ◌<◌, ◌≤◌, List, [], ◌∷◌, Bool, nat_lt}
 use Rattle.std.specs.Prelude.{map, max, min, slice_index, if◌then◌else◌}
 use Rattle.eventkey.specs.Message.{Message}
@@ -8,9 +8,9 @@ use Rattle.model.specs.World.{below}
 use Rattle.model.specs.declared.Outgoing.{Outgoing}
 use Rattle.models.specs.Words.{next_key, word}
 
--- what tells one from another
+-- the parameters of a job shop
 pub record Shop : Type 0 where
-  pub lps : ℕ  -- how many machines there are
+  pub lps : ℕ  -- the number of machines
   pub jobs : ℕ  -- how many jobs each of them starts with
   pub service : ℕ  -- the greatest number of ticks for which a machine serves a job
   pub seed : ℕ  -- the key of the first words
@@ -24,7 +24,7 @@ pub record IsShop (s : Shop) : Type 0 where
   pub service_fits : s.service < 2 ^ 32
   pub seed_fits : s.seed < 2 ^ 63
 
--- one whose numbers lie in their ranges
+-- a job shop whose parameters are in their ranges
 pub record GoodShop : Type 0 where
   pub shop : Shop
   pub good : IsShop shop
@@ -45,27 +45,27 @@ turned_away state = slice_index state 3
 abbrev pub shop_key : List ℕ → ℕ
 shop_key state = slice_index state 4
 
--- a count stays at the greatest number of 64 bits
+-- counts saturate at the greatest 64-bit number
 abbrev pub saturated : ℕ → ℕ
 saturated n = min n (2 ^ 64 - 1)
 
--- a job that comes at time t is begun when the machine is free
+-- service of a job that arrives at time t begins when the machine is free
 abbrev pub begun : List ℕ → ℕ → ℕ
 begun state t = max t (free_at state)
 
--- and ended after 1 to service ticks, by word 0
+-- and ends 1 to service ticks later, by word 0
 abbrev pub ended : Shop → ℕ → List ℕ → ℕ → ℕ
 ended s lp state t = begun state t + 1 + word (shop_key state) lp 0 % s.service
 
--- a job that would leave later than any delay can say is turned away
+-- a job that would leave after more ticks than a delay can have is turned away
 abbrev pub is_turned_away : Shop → ℕ → List ℕ → ℕ → Bool
 is_turned_away s lp state t = nat_lt (2 ^ 32 - 1) (ended s lp state t - t)
 
--- job k of a machine's first ones comes to it at time 1 + k
+-- first job k of a machine arrives at time 1 + k
 abbrev pub first_job : Shop → ℕ → ℕ → Outgoing
 first_job s lp k = record { to = lp; delay = 1 + k; a = lp * s.jobs + k; b = 0; c = 0; d = 0 }
 
--- a job that is served goes to the next machine when it is ended, and b counts its machines
+-- a served job goes to the next machine when its service ends, and b counts its machines
 abbrev pub passed_on : Shop → ℕ → List ℕ → Message → Outgoing
 passed_on s lp state x = record {
   to = (lp + 1) % s.lps;
@@ -76,7 +76,7 @@ passed_on s lp state x = record {
   d = x.d;
 }
 
--- the state after a job that was served, and after one that was turned away
+-- the state after a job that is served
 abbrev pub after_service : Shop → ℕ → List ℕ → ℕ → List ℕ
 after_service s lp state t =
     ended s lp state t
@@ -86,6 +86,7 @@ after_service s lp state t =
     ∷ next_key (shop_key state) lp 1
     ∷ []
 
+-- the state after a job that is turned away
 abbrev pub after_refusal : ℕ → List ℕ → List ℕ
 after_refusal lp state =
     free_at state

@@ -1,5 +1,5 @@
--- PHOLD (Fujimoto 1990), in this project's profile: each message that is handled sends one on, to a
--- process and with a delay that are drawn.
+-- PHOLD (Fujimoto 1990), in this project's profile: each handled message is sent on to a drawn
+-- process, with a drawn delay.
 use Rattle.std.specs.Prelude.{ℕ, ◌+◌, ◌-◌, ◌*◌, ◌%◌, ◌^◌, ◌<◌, ◌≤◌, List, [], ◌∷◌, map, min}
 use Rattle.std.specs.Prelude.{slice_index}
 use Rattle.eventkey.specs.Message.{Message}
@@ -8,9 +8,9 @@ use Rattle.model.specs.World.{below}
 use Rattle.model.specs.declared.Outgoing.{Outgoing}
 use Rattle.models.specs.Words.{next_key, word}
 
--- what tells one from another
+-- the parameters of PHOLD
 pub record Hold : Type 0 where
-  pub lps : ℕ  -- how many processes there are
+  pub lps : ℕ  -- the number of processes
   pub population : ℕ  -- how many messages each of them starts with
   pub spread : ℕ  -- the greatest delay, in ticks
   pub seed : ℕ  -- the key of the first words
@@ -24,7 +24,7 @@ pub record IsHold (h : Hold) : Type 0 where
   pub spread_fits : h.spread < 2 ^ 32
   pub seed_fits : h.seed < 2 ^ 63
 
--- one whose numbers lie in their ranges
+-- parameters that are in their ranges
 pub record GoodHold : Type 0 where
   pub hold : Hold
   pub good : IsHold hold
@@ -36,11 +36,11 @@ hold_key state = slice_index state 0
 abbrev pub hold_count : List ℕ → ℕ
 hold_count state = slice_index state 1
 
--- a delay of 1 to spread ticks, by a word
+-- a delay of 1 to spread ticks, by a drawn word
 abbrev pub delay_by : ℕ → ℕ → ℕ
 delay_by spread word = 1 + word % spread
 
--- message k of a process's first ones goes to itself, with a delay by word k
+-- a process sends its first message k to itself, with a delay by word k
 abbrev pub first_hold : Hold → ℕ → ℕ → Outgoing
 first_hold h lp k = record {
   to = lp;
@@ -51,7 +51,7 @@ first_hold h lp k = record {
   d = 0;
 }
 
--- one message goes on: word 0 draws to whom, word 1 the delay, and b counts its handlings
+-- a message is sent on: word 0 draws the receiver, word 1 the delay, and b counts its handlings
 abbrev pub held_on : Hold → ℕ → List ℕ → Message → Outgoing
 held_on h lp state x = record {
   to = word (hold_key state) lp 0 % h.lps;
@@ -62,7 +62,7 @@ held_on h lp state x = record {
   d = x.d;
 }
 
--- the key, then how many messages were handled, which stays at the greatest number of 64 bits
+-- the state is the key, then the number of handled messages, which saturates at 64 bits
 abbrev pub hold_meaning : Hold → Meaning
 hold_meaning h = record {
   lps = h.lps;

@@ -1,5 +1,5 @@
--- Six processes that send each message on twice, soon and much later (this project's profile): to
--- whom and when depends on what they were.
+-- Six processes that send each message on twice, soon and much later (this project's profile). The
+-- receiver and the delay of the first depend on the state.
 use Rattle.std.specs.Prelude.{ℕ, ◌+◌, ◌*◌, ◌%◌, ◌^◌, ◌<◌, List, [], ◌∷◌, slice_index}
 use Rattle.std.proofs.Common.{arith, lit<, lit≤}
 use Rattle.std.proofs.Math.Nat.{mod-lt}
@@ -11,7 +11,7 @@ use Rattle.model.specs.declared.Outgoing.{Outgoing}
 abbrev pub seen : List ℕ → ℕ
 seen state = slice_index state 0
 
--- the word after a message: it depends on the order of the messages
+-- the word after a message, which depends on the order of the messages
 abbrev pub seen_after : List ℕ → Message → ℕ
 seen_after state x = ((seen state * 3) % 2 ^ 64 + x.time) % 2 ^ 64
 

@@ -8,11 +8,11 @@ use Rattle.model.specs.Meaning.{Meaning}
 use Rattle.model.specs.World.{below}
 use Rattle.model.specs.declared.Outgoing.{Outgoing}
 
--- what tells one ring from another
+-- the parameters of a ring
 pub record Ring : Type 0 where
-  pub lps : ℕ  -- how many processes there are
+  pub lps : ℕ  -- the number of processes
   pub hold : ℕ  -- for how many ticks a process holds a token
-  pub tokens : ℕ  -- how many tokens there are
+  pub tokens : ℕ  -- the number of tokens
 
 pub record IsRing (r : Ring) : Type 0 where
   pub some : 1 ≤ r.lps
@@ -22,12 +22,12 @@ pub record IsRing (r : Ring) : Type 0 where
   pub some_tokens : 1 ≤ r.tokens
   pub few_tokens : r.tokens ≤ 8 * r.lps
 
--- a ring whose numbers lie in their ranges
+-- a ring whose parameters are in their ranges
 pub record GoodRing : Type 0 where
   pub ring : Ring
   pub good : IsRing ring
 
--- token j starts at process j mod lps; these start at process lp, ascending
+-- the tokens that start at process lp, ascending: token j starts at process j mod lps
 abbrev pub tokens_at : ℕ → ℕ → ℕ → List ℕ
 tokens_at lps tokens lp = filter (λ j. j % lps == lp) (below tokens)
 
@@ -35,12 +35,11 @@ tokens_at lps tokens lp = filter (λ j. j % lps == lp) (below tokens)
 abbrev pub first_send : ℕ → ℕ → Outgoing
 first_send lp j = record { to = lp; delay = 1; a = j; b = 0; c = 0; d = 0 }
 
--- the count, in which a missing word counts as 0, goes up by one and stays at the greatest number
--- of 64 bits
+-- the count goes up by one and saturates at 64 bits; a missing word counts as 0
 abbrev pub counted : List ℕ → ℕ
 counted state = min (slice_index state 0 + 1) (2 ^ 64 - 1)
 
--- a token goes on to the next process, and b counts the hands that it went through
+-- a token goes to the next process, and b counts how often it was handed on
 abbrev pub handed_on : Ring → ℕ → Message → Outgoing
 handed_on r lp x = record {
   to = (lp + 1) % r.lps;

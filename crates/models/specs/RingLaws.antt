@@ -1,4 +1,4 @@
--- Every ring of tokens keeps the laws of a model.
+-- Every token ring obeys the laws of a model.
 use Rattle.std.specs.List.{AllByRecursion as Every}
 use Rattle.std.specs.Prelude.{ℕ, zero, suc, ◌+◌, ◌-◌, ◌*◌, ◌%◌, ◌<◌, ◌≤◌, ◌≡◌, ◌==◌, ◌++◌, [], ◌∷◌}
 use Rattle.std.specs.Prelude.{Bool, true, false, filter, length, cond}
@@ -14,7 +14,7 @@ use Rattle.model.specs.Meaning.{IsLawful, IsSend}
 use Rattle.model.specs.World.{below}
 use Rattle.models.specs.Ring.{GoodRing, IsRing, Ring, first_send, ring_meaning, tokens_at}
 
--- what holds of each number below n holds of those that a test keeps
+-- a property of each number below n holds of those that a test keeps
 pub Every-kept : (P : ℕ → Type 0) (p : ℕ → Bool) (n : ℕ) →
     ((j : ℕ) → j < n → P j) → Every P (filter p (below n))
 Every-kept P p zero h = tt
@@ -25,7 +25,7 @@ Every-kept P p (suc n) h =
     (elim (p n) as (λ b. Every P (cond b (n ∷ []) []))
     [ true ↦ (h n (omega arith), tt) | false ↦ tt ]))
 
--- numbers that a test does not keep
+-- further numbers, none of which the test keeps
 pub none_kept : (p : ℕ → Bool) (m d : ℕ) → ((i : ℕ) → i < d → p (m + i) ≡ false) →
     filter p (below (m + d)) ≡ filter p (below m)
 none_kept p m zero h = rw add-zero
@@ -33,12 +33,12 @@ none_kept p m (suc d) h =
     rw (add-suc, filter-append p (below (m + d)) ((m + d) ∷ []), h d (omega arith), append-nil)
     (none_kept p m d (λ i l. h i (omega arith)))
 
--- one that it keeps
+-- one further number, which the test keeps
 pub one_kept : (p : ℕ → Bool) (m : ℕ) → p m ≡ true →
     filter p (below (m + 1)) ≡ filter p (below m) ++ m ∷ []
 one_kept p m h = rw (add-one, filter-append p (below m) (m ∷ []), h)
 
--- of more numbers it keeps no fewer
+-- of more numbers the test keeps at least as many
 pub more_kept : (p : ℕ → Bool) (m d : ℕ) →
     length (filter p (below m)) ≤ length (filter p (below (m + d)))
 more_kept p m zero = rw add-zero (omega arith)
@@ -50,7 +50,7 @@ module _ (n lp : ℕ) (l : lp < n) where
   pub is_place : (k : ℕ) → ((k * n + lp) % n == lp) ≡ true
   is_place k = eq-eqb _ _ (mod-mul-add k n lp l)
 
-  -- between two places of this process there are only places of others
+  -- no token between two tokens of this process starts at it
   no_place : (k d : ℕ) → d + 1 < n → ((k * n + lp + 1 + d) % n == lp) ≡ false
   no_place k d h = elim (cases_lt (lp + 1 + d) n) [
     | inl low ↦
@@ -76,7 +76,7 @@ module _ (n lp : ℕ) (l : lp < n) where
   pub none_first : filter (λ j. j % n == lp) (below lp) ≡ []
   none_first = no_first lp (omega arith)
 
-  -- up to the next place
+  -- up to the next token of this process there is one more
   pub one_more : (k d : ℕ) → d < n →
       filter (λ j. j % n == lp) (below (k * n + lp + 1 + d))
       ≡ filter (λ j. j % n == lp) (below (k * n + lp)) ++ (k * n + lp) ∷ []

@@ -1,4 +1,4 @@
--- A job shop keeps the laws of a model.
+-- Every job shop obeys the laws of a model.
 use Rattle.std.specs.List.{AllByRecursion as Every}
 use Rattle.std.specs.Prelude.{◌≡◌, ℕ, ◌+◌, ◌-◌, ◌*◌, ◌^◌, ◌<◌, ◌≤◌, List, [], ◌∷◌, false, length}
 use Rattle.std.specs.Prelude.{if◌then◌else◌, slice_index}

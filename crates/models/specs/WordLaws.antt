@@ -1,4 +1,4 @@
--- How great drawn words and keys are.
+-- The bounds of drawn words and keys.
 use Rattle.std.specs.Prelude.{ℕ, ◌+◌, ◌-◌, ◌*◌, ◌/◌, ◌%◌, ◌^◌, ◌<◌, bit_xor}
 use Rattle.std.proofs.Common.{arith, lit<}
 use Rattle.std.proofs.Math.Nat.{mod-lt}

@@ -11,11 +11,11 @@ use std::alloc::Global;
 /// One of the models that a model file can name.
 #[derive(Clone, Copy, Debug, PartialEq, Eq)]
 pub enum AnyModel {
-    /// Processes that hand tokens round.
+    /// Processes in a ring that hand tokens round.
     TokenRing(TokenRing),
-    /// Processes that send messages on to drawn processes.
+    /// Processes that send each message on to a drawn process.
     Phold(Phold),
-    /// Machines that serve jobs and hand them on.
+    /// Machines in a ring that serve jobs and send them on.
     JobShop(JobShop),
 }
 

@@ -12,15 +12,14 @@ use smallvec::SmallVec;
 use std::alloc::Global;
 use std::marker::Model;
 
-/// A job shop, a model of this project's own: machines in a ring, each of which serves one job at a
-/// time, in the order in which jobs come, for 1 to `service` ticks by a drawn word, and then sends
-/// it to the next machine.
+/// A job shop (a model of this project): machines in a ring that serve jobs one after another.
 ///
-/// Each machine starts with `jobs` jobs, which come to it one a tick from time 1 on. The state is
-/// the time at which the machine is free, how many jobs it has served, how many ticks they waited
-/// in all, how many jobs it has turned away, and the key of the next words. A job that would leave
-/// more than 2^32 - 1 ticks after it came is turned away. A message's content is the job's number
-/// and how many machines have served it.
+/// A machine serves one job at a time, in the order of arrival, for 1 to `service` ticks by a drawn
+/// word, and then sends it to the next machine. Each machine starts with `jobs` jobs, which arrive
+/// one per tick from time 1 on. A job that would leave more than 2^32 - 1 ticks after its arrival
+/// is turned away. The state is the time at which the machine is free, how many jobs it has served,
+/// how many ticks they waited in all, how many jobs it has turned away, and the key of the next
+/// words. A message's content is the job's number and how many machines have served it.
 #[derive(Clone, Copy, Debug, PartialEq, Eq)]
 pub struct JobShop {
     lps: u32,
@@ -50,8 +49,9 @@ impl Model for JobShop {
 }
 
 impl JobShop {
-    /// A job shop of `lps` machines, 1 to 1,024, with `jobs` jobs each, 1 to 8, that serves a job
-    /// for 1 to `service` ticks, `service` at least 1, with words that `seed`, below 2^63, begins.
+    /// Makes a job shop of `lps` machines, 1 to 1,024, each with `jobs` jobs, 1 to 8, that serve a
+    /// job for 1 to `service` ticks, `service` at least 1. The key of the first words is `seed`,
+    /// below 2^63.
     pub fn new(lps: u32, jobs: u32, service: u32, seed: u64) -> JobShop
         requires some { 1 ≤ lps }
         requires few { lps ≤ 1024 }
@@ -69,28 +69,28 @@ impl JobShop {
         }
     }
 
-    /// How many jobs each machine starts with.
+    /// Returns how many jobs each machine starts with.
     pub fn jobs(&self) -> u32
         ensures { result ≡ self.now.shop.jobs }
     {
         self.jobs
     }
 
-    /// The most ticks for which a machine serves a job.
+    /// Returns the most ticks for which a machine serves a job.
     pub fn service(&self) -> u32
         ensures { result ≡ self.now.shop.service }
     {
         self.service
     }
 
-    /// What begins the drawn words.
+    /// Returns the seed of the drawn words.
     pub fn seed(&self) -> u64
         ensures { result ≡ self.now.shop.seed }
     {
         self.seed
     }
 
-    /// The jobs that come to a machine first.
+    /// Returns the sends by which a machine starts: its first jobs.
     fn first_sends(&self, alloc: Global, lp: u32) -> Sends
         requires { lp < self.now.shop.lps }
         ensures { result.items ≡ map (first_job self.now.shop lp) (below self.now.shop.jobs) }
@@ -110,7 +110,7 @@ impl JobShop {
     }
 }
 
-/// The state of a machine: the words of its process, of which a missing one counts as 0.
+/// The state of a machine: the words of its process, where a missing word counts as 0.
 #[derive(Clone, Copy)]
 struct Machine {
     free_at: u64,
@@ -173,7 +173,7 @@ impl Simulated for JobShop {
         let begun = time.max(machine.free_at);
         let work = 1 + u64::from(word(machine.key, lp, 0) % self.service);
         machine.key = next_key(machine.key, lp, 1);
-        // A sum that does not fit is far past every delay.
+        // A sum that overflows is above every delay, so it may saturate.
         match u32::try_from((begun - time).saturating_add(work)) {
             Ok(delay) => {
                 machine.free_at = begun + work;
@@ -214,7 +214,7 @@ impl Machine {
         }
     }
 
-    /// Writes the words, where there are none.
+    /// Writes the words into an empty list.
     fn write(self, words: &mut Words)
         requires { (words.old.items ≡ []) × (16 ≤ words.old.capacity) }
         ensures { words.new.items ≡ self.free_at ∷ self.served ∷ self.waited

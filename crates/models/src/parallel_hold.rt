@@ -1,4 +1,4 @@
-// PHOLD: messages that go from process to process, each with a drawn delay.
+// PHOLD: messages that go from process to process, with drawn receivers and delays.
 
 ghost use Rattle.std.specs.Prelude.{◌≡◌, ◌≤◌, ◌<◌, ◌*◌, ◌^◌, map};
 ghost use Rattle.model.specs.World.{below};
@@ -12,12 +12,12 @@ use smallvec::SmallVec;
 use std::alloc::Global;
 use std::marker::Model;
 
-/// PHOLD (Fujimoto 1990), in this project's profile: each message that a process handles goes on to
-/// a process and with a delay that are drawn, so that as many messages are pending at each time.
+/// PHOLD (Fujimoto 1990), in this project's profile: a process sends each message on.
 ///
-/// Each process starts with `population` messages to itself, with drawn delays. The state is the
-/// key of the next words and how many messages the process has handled; a message's content is its
-/// number and how often it was handled.
+/// The receiver and the delay are drawn. Each handling sends one message, so the number of pending
+/// messages never changes. Each process starts with `population` messages to itself, with drawn
+/// delays. The state is the key of the next words and how many messages the process has handled; a
+/// message's content is its number and how often it was handled.
 #[derive(Clone, Copy, Debug, PartialEq, Eq)]
 pub struct Phold {
     lps: u32,
@@ -52,8 +52,9 @@ impl Model for Phold {
 }
 
 impl Phold {
-    /// PHOLD of `lps` processes, 1 to 1,024, with `population` messages each, 1 to 8, delays of 1
-    /// to `spread` ticks, `spread` at least 1, and words that `seed`, below 2^63, begins.
+    /// Makes PHOLD of `lps` processes, 1 to 1,024, each with `population` messages, 1 to 8, and
+    /// with delays of 1 to `spread` ticks, `spread` at least 1. The key of the first words is
+    /// `seed`, below 2^63.
     pub fn new(lps: u32, population: u32, spread: u32, seed: u64) -> Phold
         requires some { 1 ≤ lps }
         requires few { lps ≤ 1024 }
@@ -76,28 +77,28 @@ impl Phold {
         }
     }
 
-    /// How many messages each process starts with.
+    /// Returns how many messages each process starts with.
     pub fn population(&self) -> u32
         ensures { result ≡ self.now.hold.population }
     {
         self.population
     }
 
-    /// The greatest delay, in ticks.
+    /// Returns the greatest delay, in ticks.
     pub fn spread(&self) -> u32
         ensures { result ≡ self.now.hold.spread }
     {
         self.spread
     }
 
-    /// What begins the drawn words.
+    /// Returns the seed of the drawn words.
     pub fn seed(&self) -> u64
         ensures { result ≡ self.now.hold.seed }
     {
         self.seed
     }
 
-    /// What a process sends at its start.
+    /// Returns the sends by which a process starts.
     fn first_sends(&self, alloc: Global, lp: u32) -> Sends
         requires { lp < self.now.hold.lps }
         ensures { result.items
@@ -119,7 +120,7 @@ impl Phold {
     }
 }
 
-/// A delay of 1 to `spread` ticks, by a word.
+/// Returns a delay of 1 to `spread` ticks, by a drawn word.
 fn delay_by(spread: u32, word: u32) -> u32
     requires { 1 ≤ spread }
     ensures { result ≡ delay_by spread word }

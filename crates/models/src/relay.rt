@@ -1,4 +1,4 @@
-// Processes that send on what they get, to whom their state says.
+// Processes that send each message on, to a receiver that depends on their state.
 
 ghost use Rattle.models.specs.Relay.{relay_lawful, relay_meaning};
 
@@ -7,15 +7,16 @@ use model::{Model as Simulated, Outgoing, Sends, Words};
 use smallvec::SmallVec;
 use std::alloc::Global;
 
-/// Six processes, each of which sends a message on twice: soon, to whom its state says, and 23
-/// ticks later. Each starts with one message to itself.
+/// A model of this project for tests: six processes that send each message on twice.
 ///
-/// A model of this project's own, for tests: the one word of a state depends on the order of the
-/// messages, and the sends depend on the state, so that a wrong rollback shows in what is sent.
+/// One send is received 1 to 3 ticks later, by a process that depends on the state, and the other
+/// one 23 ticks later, by the next process. Each process starts with one message to itself. The one
+/// word of a state depends on the order of the messages, and the sends depend on the state, so a
+/// wrong rollback shows in the sends.
 #[derive(Clone, Copy, Debug, Drop, PartialEq, Eq)]
 pub struct Relay;
 
-/// How many processes there are.
+/// The number of processes.
 const RELAYS: u32 = 6;
 
 impl Simulated for Relay {

@@ -10,11 +10,11 @@ use smallvec::SmallVec;
 use std::alloc::Global;
 use std::marker::Model;
 
-/// A ring of processes that hand tokens round: a model of this project's own.
+/// A ring of processes that hand tokens round (a model of this project).
 ///
-/// Token `j` starts at process `j mod lps`, at time 1. A process that is handed a token counts it,
-/// holds it for `hold` ticks and hands it to the next process, the last to the first. The state is
-/// the count, and a message's content is the token's number and how often it was handed on.
+/// Token `j` starts at process `j mod lps`, at time 1. A process counts each token that it gets,
+/// holds it for `hold` ticks and hands it to the next process, the last one to the first. The state
+/// is the count; a message's content is the token's number and how often it was handed on.
 #[derive(Clone, Copy, Debug, PartialEq, Eq)]
 pub struct TokenRing {
     lps: u32,
@@ -42,8 +42,8 @@ impl Model for TokenRing {
 }
 
 impl TokenRing {
-    /// A ring of `lps` processes, 1 to 1,024, that hold a token for `hold` ticks, at least 1, with
-    /// `tokens` tokens, 1 to `8 * lps`.
+    /// Makes a ring of `lps` processes, 1 to 1,024, that hold a token for `hold` ticks, at least 1,
+    /// with `tokens` tokens, 1 to `8 * lps`.
     pub fn new(lps: u32, hold: u32, tokens: u32) -> TokenRing
         requires some { 1 ≤ lps }
         requires few { lps ≤ 1024 }
@@ -55,14 +55,14 @@ impl TokenRing {
         TokenRing { lps, hold, tokens }
     }
 
-    /// For how many ticks a process holds a token.
+    /// Returns for how many ticks a process holds a token.
     pub fn hold(&self) -> u32
         ensures { result ≡ self.now.ring.hold }
     {
         self.hold
     }
 
-    /// How many tokens there are.
+    /// Returns the number of tokens.
     pub fn tokens(&self) -> u32
         ensures { result ≡ self.now.ring.tokens }
     {
@@ -122,7 +122,7 @@ impl Simulated for TokenRing {
     }
 }
 
-/// The sends by which a process starts: one for each of its tokens.
+/// Returns the sends by which a process starts: one for each of its tokens.
 fn first_sends(alloc: Global, lps: u32, tokens: u32, lp: u32) -> Sends
     requires in_range { lp < lps }
     requires few_lps { lps ≤ 1024 }

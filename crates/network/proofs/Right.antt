@@ -1,4 +1,4 @@
--- Tables of networks with which nothing is wrong.
+-- Tables of networks without mistakes.
 use Rattle.std.proofs.Common.{◌≡◌, ℕ, ◌/◌, ◌≤◌, [], ◌++◌, Some, codes, refl, ap, subst, ◌∙◌}
 use Rattle.network.specs.Network.{Torus}
 use Rattle.network.specs.NetworkFile.{IsNetworkTable, most_rows, network_keys, network_numbers, network_wrong}
@@ -9,14 +9,14 @@ use Rattle.toml.specs.Data.{Members}
 rows_most : (table : Members) (width : ℕ) → number_at (codes "width") 1 1024 table ≡ Some width → most_rows table ≡ 1024 / width
 rows_most table width is = rw is refl
 
--- with what describes a network nothing is wrong
+-- a table that describes a network has no mistakes
 pub network_right : (table : Members) (n : Torus) (end : ℕ) → IsNetworkTable table n end → network_wrong table ≡ []
 network_right table n end h =
     let height : number_at (codes "height") 1 (most_rows table) table ≡ Some n.height = rw (rows_most table n.width h.width) h.height in
     ap (λ l. l ++ unknown_wrong network_keys table)
     (numbers_right (network_numbers table) table ((end, h.last), ((n.width, h.width), ((n.height, height), ((n.service, h.service), ((n.wire, h.wire), ((n.gap, h.gap), ((n.seed, h.seed), ((n.work, h.work), tt))))))))) ∙ h.only
 
--- where nothing is wrong, a network is described
+-- a table without mistakes describes a network
 pub network_there : (table : Members) → network_wrong table ≡ [] → (n : Torus) × (end : ℕ) × IsNetworkTable table n end
 network_there table none =
     let numbers = numbers_wrong (network_numbers table) table in

@@ -1,4 +1,4 @@
-pub mod Words  -- words that a switch draws for nothing
+pub mod Words  -- the unused words that a switch draws
 pub mod Network  -- what a network does
-pub mod NetworkLaws  -- that it keeps the laws of a model
-pub mod NetworkFile  -- what its model file says
+pub mod NetworkLaws  -- every network keeps the laws of a model
+pub mod NetworkFile  -- what a network's model file means

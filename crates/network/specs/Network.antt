@@ -1,6 +1,5 @@
 -- What a network of switches on a torus does: packets go from switch to switch, first along the row
--- and then along the column, and each switch serves one packet at a time, in the order in which
--- they come.
+-- and then along the column, and each switch serves one packet at a time, in the order of arrival.
 use Rattle.std.specs.Int.{div_ceil}
 use Rattle.std.specs.Prelude.{ℕ, ◌+◌, ◌-◌, ◌*◌, ◌/◌, ◌%◌, ◌^◌, ◌<◌, ◌≤◌, ◌==◌, List, [], ◌∷◌}
 use Rattle.std.specs.Prelude.{Bool, Option, Some, None, if◌then◌else◌, max, min, nat_le, nat_lt}
@@ -9,21 +8,21 @@ use Rattle.eventkey.specs.Message.{Message}
 use Rattle.model.specs.Meaning.{Meaning}
 use Rattle.model.specs.declared.Outgoing.{Outgoing}
 use Rattle.models.specs.Words.{next_key, word}
-use Rattle.network.specs.Words.{worked}
+use Rattle.network.specs.Words.{unused_words}
 use Rattle.network.specs.declared.parts.Packet.{Packet}
 use Rattle.network.specs.declared.parts.Switch.{Switch}
 
--- what tells one network from another
+-- the values that make up a network
 pub record Torus : Type 0 where
-  pub width : ℕ  -- how many switches a row has
-  pub height : ℕ  -- how many rows there are
-  pub service : ℕ  -- for how many ticks a switch serves a packet
-  pub wire : ℕ  -- how many ticks a packet takes from one switch to the next
-  pub gap : ℕ  -- the most ticks from one packet of a switch's source to its next
+  pub width : ℕ  -- the number of switches in a row
+  pub height : ℕ  -- the number of rows
+  pub service : ℕ  -- the ticks for which a switch serves a packet
+  pub wire : ℕ  -- the ticks of a packet from one switch to the next
+  pub gap : ℕ  -- the most ticks between two packets of a switch's source
   pub seed : ℕ  -- the key of the first words
-  pub work : ℕ  -- how many words each handling draws for nothing
+  pub work : ℕ  -- the number of unused words that each handling draws
 
--- switch 0 begins the first row, and switch `width` the second
+-- The number of switches. Row 0 begins with switch 0, and row 1 with switch `width`.
 abbrev pub switches : Torus → ℕ
 switches n = n.height * n.width
 
@@ -39,13 +38,13 @@ pub record IsTorus (n : Torus) : Type 0 where
   pub seed_fits : n.seed < 2 ^ 63
   pub work_fits : n.work < 2 ^ 32
 
--- one whose numbers lie in their ranges
+-- a torus whose numbers are in their ranges
 pub record GoodTorus : Type 0 where
   pub torus : Torus
   pub good : IsTorus torus
 
--- the neighbour on a ring of so many places, the shorter way round to another place, and upwards
--- where both ways are as long
+-- The neighbour on a ring of `size` places, the shorter way round to another place, and upwards if
+-- both ways are equally long.
 abbrev pub toward : ℕ → ℕ → ℕ → ℕ
 toward size from to = if nat_le (2 * ((to + size - from) % size)) size then (from + 1) % size
     else (from + size - 1) % size
@@ -56,7 +55,7 @@ next_switch n at to = if at % n.width == to % n.width
     then toward n.height (at / n.width) (to / n.width) * n.width + at % n.width
     else at / n.width * n.width + toward n.width (at % n.width) (to % n.width)
 
--- the state's words; a missing one counts as 0
+-- the switch whose state has these words; a missing word counts as 0
 abbrev pub switch_of : List ℕ → Switch
 switch_of state = record {
   delivered = slice_index state 0;
@@ -81,7 +80,8 @@ saturated n = min n (2 ^ 64 - 1)
 abbrev pub is_wake : Message → Bool
 is_wake x = x.a == 1024
 
--- word 0 of a key draws a destination, and word 1 the ticks until the source is woken again
+-- The message that wakes a source. Word 1 of a key draws the ticks until then, and word 0 is for
+-- the destination.
 abbrev pub waked : Torus → ℕ → ℕ → Outgoing
 waked n lp key = record {
   to = lp;
@@ -92,25 +92,25 @@ waked n lp key = record {
   d = 0;
 }
 
--- a source that is woken makes a packet; any other message is one
+-- a woken source makes a packet; any other message is one
 abbrev pub packet_of : Torus → ℕ → ℕ → Message → Packet
 packet_of n lp key x = if is_wake x
     then record { destination = word key lp 0 % switches n; born = x.time }
     else record { destination = x.a % switches n; born = x.b }
 
--- the tick at which a switch has served a packet that comes at tick t: those before it come first
+-- the tick at which a switch has served a packet that arrives at tick t, after those before it
 abbrev pub served_at : Torus → Switch → ℕ → ℕ
 served_at n s t = max t s.free_at + n.service
 
--- so many ticks later the packet is at the next switch
+-- the ticks from the arrival of a packet to its arrival at the next switch
 abbrev pub hop : Torus → Switch → ℕ → ℕ
 hop n s t = served_at n s t - t + n.wire
 
--- a packet that would be there later than any delay can say is dropped
+-- a packet is dropped if its hop is longer than any delay
 abbrev pub is_dropped : Torus → Switch → ℕ → Bool
 is_dropped n s t = nat_lt (2 ^ 32 - 1) (hop n s t)
 
--- how many packets are at the switch once the one of tick t has come, itself among them
+-- the number of packets at the switch after the arrival at tick t, including that one
 abbrev pub queue : Torus → Switch → ℕ → ℕ
 queue n s t = div_ceil (served_at n s t - t) n.service
 
@@ -156,7 +156,7 @@ after_packet n lp s p t = if p.destination == lp then after_delivery s (t - p.bo
     else if is_dropped n s t then after_drop s
     else after_service n s t
 
--- and where the packet goes
+-- where the packet goes
 abbrev pub onward : Torus → ℕ → Switch → Packet → ℕ → Option Outgoing
 onward n lp s p t = if p.destination == lp then None
     else if is_dropped n s t then None
@@ -169,7 +169,7 @@ onward n lp s p t = if p.destination == lp then None
       d = 0;
     })
 
--- a source that was woken takes the next key, and each handling works
+-- A source that was woken takes the next key, and each handling draws the unused words.
 abbrev pub drawn : Torus → ℕ → Switch → Message → Switch
 drawn n lp s x = record {
   delivered = s.delivered;
@@ -179,7 +179,7 @@ drawn n lp s x = record {
   dropped = s.dropped;
   free_at = s.free_at;
   key = if is_wake x then next_key s.key lp 2 else s.key;
-  scratch = worked n.work lp s.scratch;
+  scratch = unused_words n.work lp s.scratch;
 }
 
 abbrev pub listed : Option Outgoing → List Outgoing
@@ -195,7 +195,7 @@ sent n lp s x = if is_wake x
     then waked n lp s.key ∷ listed (onward n lp s (packet_of n lp s.key x) x.time)
     else listed (onward n lp s (packet_of n lp s.key x) x.time)
 
--- Each switch begins empty, and wakes its source by word 1 of the seed.
+-- Each switch starts empty, and wakes its source by word 1 of the seed.
 abbrev pub network_meaning : Torus → Meaning
 network_meaning n = record {
   lps = switches n;

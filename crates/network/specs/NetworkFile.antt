@@ -1,5 +1,5 @@
--- What the table of a network's model file says: exactly these eight keys; and what is wrong with
--- one that says nothing.
+-- What the table of a network's model file means: it has exactly these eight keys. And all that is
+-- wrong with any other table.
 use Rattle.std.specs.Prelude.{◌≡◌, ℕ, ◌-◌, ◌/◌, ◌^◌, List, [], ◌∷◌, ◌++◌, Some, codes, unwrap_or}
 use Rattle.network.specs.Network.{Torus}
 use Rattle.texts.specs.AnyModel.{line_then}
@@ -12,7 +12,7 @@ abbrev pub network_keys : List (List ℕ)
 network_keys = codes "end" ∷ codes "width" ∷ codes "height" ∷ codes "service"
     ∷ codes "wire" ∷ codes "gap" ∷ codes "seed" ∷ codes "work" ∷ []
 
--- the table of a network that is run to this end
+-- the table describes this network, run to this end
 pub record IsNetworkTable (table : Members) (n : Torus) (end : ℕ) : Type 0 where
   pub last : number_at (codes "end") 1 (2 ^ 40) table ≡ Some end
   pub width : number_at (codes "width") 1 1024 table ≡ Some n.width
@@ -24,7 +24,7 @@ pub record IsNetworkTable (table : Members) (n : Torus) (end : ℕ) : Type 0 whe
   pub work : number_at (codes "work") 0 (2 ^ 32 - 1) table ≡ Some n.work
   pub only : unknown_wrong network_keys table ≡ []
 
--- the most rows that there may be: where the width is not said, those of the narrowest torus
+-- the most rows of a torus of this width, or of the narrowest if the width cannot be read
 abbrev pub most_rows : Members → ℕ
 most_rows table = 1024 / unwrap_or (number_at (codes "width") 1 1024 table) 1
 
@@ -43,7 +43,7 @@ abbrev pub network_wrong : Members → List Wrong
 network_wrong table =
     numbers_wrong (network_numbers table) table ++ unknown_wrong network_keys table
 
--- the values of what goes on in it, and all its values
+-- the lines of the values that follow the size, and of all values
 abbrev pub rates_text : Torus → List ℕ
 rates_text n = line_then (codes "service") n.service
     (line_then (codes "wire") n.wire

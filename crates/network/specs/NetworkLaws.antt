@@ -1,4 +1,4 @@
--- A network keeps the laws of a model.
+-- Every network keeps the laws of a model.
 use Rattle.std.specs.Int.{div_ceil}
 use Rattle.std.specs.List.{AllByRecursion as Every}
 use Rattle.std.specs.Prelude.{◌≡◌, ℕ, ◌+◌, ◌-◌, ◌*◌, ◌/◌, ◌%◌, ◌^◌, ◌<◌, ◌≤◌, ◌==◌, List, [], ◌∷◌}
@@ -19,11 +19,11 @@ use Rattle.network.specs.Network.{network_meaning, next_switch, onward, packet_o
 use Rattle.network.specs.Network.{served_at, switch_of, switches, toward, waked, words_of}
 use Rattle.models.specs.WordLaws.{key_lt, word_lt}
 use Rattle.models.specs.Words.{next_key, word}
-use Rattle.network.specs.Words.{worked, worked_lt}
+use Rattle.network.specs.Words.{unused_words, worked_lt}
 use Rattle.network.specs.declared.parts.Packet.{Packet}
 use Rattle.network.specs.declared.parts.Switch.{Switch}
 
--- its numbers fit words
+-- the numbers of a switch fit in words
 record IsSwitch (s : Switch) : Type 0 where
   pub delivered : s.delivered < 2 ^ 64
   pub latency : s.latency < 2 ^ 64
@@ -59,7 +59,7 @@ written_switch s
       ),
     )
 
--- a packet's switch
+-- a switch after a packet
 
 delivered_is : (s : Switch) (ticks : ℕ) → ticks < 2 ^ 64 → IsSwitch s →
     IsSwitch (after_delivery s ticks)

@@ -8,7 +8,7 @@ ghost use Rattle.network.specs.NetworkFile.{network_text, rates_text};
 ghost use Rattle.std.specs.Prelude.{IfOk, string_bytes};
 
 use crate::parts::{Packet, Switch};
-use crate::words::worked;
+use crate::words::unused_words;
 use eventkey::Message;
 use model::{Model as Simulated, Outgoing, Sends, Words};
 use models::{next_key, word};
@@ -16,11 +16,11 @@ use smallvec::SmallVec;
 use std::alloc::{AllocError, Global};
 use std::marker::Model;
 
-/// Switches on a torus, each with a source of packets to drawn destinations.
+/// A torus of switches, each with a source of packets to drawn destinations.
 ///
 /// A packet goes along the row to the column of its destination, and then along the column, the
-/// shorter way round. A switch serves one packet at a time, in the order in which they come. One
-/// that would be at the next switch more than 2^32 - 1 ticks after it came is dropped.
+/// shorter way round. A switch serves one packet at a time, in the order of arrival. It drops a
+/// packet that would reach the next switch more than 2^32 - 1 ticks after its arrival.
 #[derive(Clone, Copy, Debug, PartialEq, Eq)]
 pub struct Network {
     width: u32,
@@ -71,14 +71,15 @@ impl Model for Network {
     } };
 }
 
-/// What the message that wakes a source has in place of a destination.
+/// What a message that wakes a source has in place of a destination.
 const WAKE: u64 = 1024;
 
 impl Network {
-    /// A network of `height` rows of `width` switches, 1 to 1,024 in all, that serve a packet for
-    /// `service` ticks, at least 1. The next switch is `wire` ticks away. Each source makes a
-    /// packet every 1 to `gap` ticks, `gap` at least 1, by words that `seed`, below 2^63, begins.
-    /// Each handling draws `work` words for nothing, so that it takes as long as is wanted.
+    /// Makes a network of `height` rows of `width` switches, 1 to 1,024 in all. A switch serves a
+    /// packet for `service` ticks, at least 1, and the next switch is `wire` ticks away. Each
+    /// source makes a packet every 1 to `gap` ticks, `gap` at least 1. `seed`, below 2^63, is the
+    /// key of the first drawn words. Each handling draws `work` unused words, to make it as slow as
+    /// desired.
     pub fn new(
         width: u32,
         height: u32,
@@ -115,7 +116,7 @@ impl Network {
         }
     }
 
-    /// The values of its model file, a line each.
+    /// Returns the values of the model file, one per line.
     pub(crate) fn values(&self, alloc: Global, end: u64) -> Result<String, AllocError>
         ensures { IfOk result (λ text. string_bytes text ≡ network_text self.now.torus end) }
     {
@@ -124,7 +125,7 @@ impl Network {
         format!(in alloc; "end: {end}\nwidth: {width}\nheight: {height}\n{rates}")
     }
 
-    /// Those of what goes on in it.
+    /// Returns the values that follow the size: the times, the seed and the work.
     fn rates(&self, alloc: Global) -> Result<String, AllocError>
         ensures { IfOk result (λ text. string_bytes text ≡ rates_text self.now.torus) }
     {
@@ -135,14 +136,14 @@ impl Network {
         )
     }
 
-    /// How many switches there are.
+    /// Returns the number of switches.
     fn switches(&self) -> u32
         ensures { result ≡ switches self.now.torus }
     {
         self.height * self.width
     }
 
-    /// The message that wakes the source of a switch with this key.
+    /// Returns the message that wakes the source of a switch with this key.
     fn wake(&self, lp: u32, key: u64) -> Outgoing
         ensures { result ≡ waked self.now.torus lp key }
     {
@@ -156,7 +157,7 @@ impl Network {
         }
     }
 
-    /// The packet that a message is, or that a source makes.
+    /// Returns the packet in a message, or the one that a woken source makes.
     fn packet(&self, lp: u32, key: u64, message: &Message) -> Packet
         ensures value { result ≡ packet_of self.now.torus lp key message.now }
         ensures there { result.destination < switches self.now.torus }
@@ -174,7 +175,7 @@ impl Network {
         }
     }
 
-    /// The next switch on the way from one to another.
+    /// Returns the next switch on the way from one to another.
     fn next_switch(&self, from: u32, to: u32) -> u32
         requires from { from < switches self.now.torus }
         requires to { to < switches self.now.torus }
@@ -188,7 +189,7 @@ impl Network {
         }
     }
 
-    /// The switch after a packet that comes at this tick, and where the packet goes.
+    /// Returns the switch after a packet that arrives at this tick, and where the packet goes.
     fn pass(&self, lp: u32, switch: Switch, packet: Packet, time: u64) -> (Switch, Option<Outgoing>)
         requires there { lp < switches self.now.torus }
         requires somewhere { packet.destination < switches self.now.torus }
@@ -206,7 +207,7 @@ impl Network {
         }
         let begun = time.max(switch.free_at);
         let service = u64::from(self.service);
-        // A sum that does not fit is far past every delay.
+        // A sum that overflows is far beyond every delay.
         let hop = (begun - time).saturating_add(service + u64::from(self.wire));
         let Ok(delay) = u32::try_from(hop) else {
             after.dropped = switch.dropped.saturating_add(1);
@@ -226,7 +227,7 @@ impl Network {
     }
 }
 
-/// The neighbour on a ring of so many places, the shorter way round to another place.
+/// Returns the neighbour on a ring of `size` places, the shorter way round to another place.
 fn toward(size: u32, from: u32, to: u32) -> u32
     requires few { size ≤ 1024 }
     requires from { from < size }
@@ -284,7 +285,7 @@ impl Simulated for Network {
         let switch = Switch::of(state.as_slice());
         let packet = self.packet(lp, switch.key, message);
         let (mut after, onward) = self.pass(lp, switch, packet, message.time());
-        after.scratch = worked(self.work, lp, switch.scratch);
+        after.scratch = unused_words(self.work, lp, switch.scratch);
         let mut sends = SmallVec::new(alloc);
         if message.a() == WAKE {
             after.key = next_key(switch.key, lp, 2);

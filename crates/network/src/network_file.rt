@@ -1,4 +1,4 @@
-// Networks as model files describe them.
+// Networks from model files.
 
 ghost use Rattle.std.specs.Prelude.{◌≡◌, ◌≤◌, ◌/◌, ◌^◌, ℕ, IfOk, IfSome, IsErr, unwrap_or};
 ghost use Rattle.network.specs.Network.{Torus};
@@ -10,7 +10,7 @@ use std::alloc::{AllocError, Global};
 use texts::{Described, Findings, Mistake, ModelFault, number_at, only};
 use toml::Table;
 
-/// What the help of a program says of the keys of a network's model file.
+/// What a program's help says of the keys of a network's model file.
 pub const NETWORK_KEYS: &str = "\
 A network is a torus of switches, each being a process, and has these keys:
   end         ticks at which the run ends, 1 to 1099511627776
@@ -48,15 +48,14 @@ impl Described for Network {
     }
 }
 
-/// The greatest number of ticks, or of words, that a key says.
+/// The greatest number of ticks or of words at a key.
 const MOST: u64 = (1 << 32) - 1;
 
-/// The keys of a network.
 const KEYS: [&str; 8] = [
     "end", "width", "height", "service", "wire", "gap", "seed", "work",
 ];
 
-/// The network and the end of a table.
+/// Returns the network and the end that a table describes.
 fn network_of(table: &Table) -> Result<(Network, u64), Mistake>
     ensures ok { IfOk result (λ file. IsNetworkTable (table_view table.now) file.0.torus file.1) }
     ensures bad { IsErr result →
@@ -87,7 +86,7 @@ fn network_of(table: &Table) -> Result<(Network, u64), Mistake>
     ))
 }
 
-/// What is wrong with a table.
+/// Returns all mistakes of a table.
 fn mistakes_of(alloc: Global, table: &Table) -> Result<Findings, AllocError>
     ensures { IfOk result (λ found. found ≡ network_wrong (table_view table.now)) }
 {
@@ -104,7 +103,7 @@ fn mistakes_of(alloc: Global, table: &Table) -> Result<Findings, AllocError>
     Ok(found)
 }
 
-/// The most rows of a torus of this width, or of the narrowest.
+/// Returns the most rows of a torus of this width, or without a width of the narrowest.
 fn most_rows(width: Option<u64>) -> u64
     requires { IfSome width (λ n. (1 ≤ n) × (n ≤ 1024)) }
     ensures { result ≡ 1024 / unwrap_or width 1 }

@@ -1,4 +1,4 @@
-// What a network has in it.
+// The packets and switches of a network.
 
 ghost use Rattle.std.specs.Prelude.{◌≡◌};
 ghost use Rattle.network.specs.Network.{switch_of, words_of};
@@ -7,38 +7,38 @@ use model::Words;
 use smallvec::SmallVec;
 use std::alloc::Global;
 
-/// A packet on its way.
+/// A packet in the network.
 #[derive(Clone, Copy, Debug, PartialEq, Eq)]
 pub struct Packet {
-    /// The switch to which it goes.
+    /// The switch that is its destination.
     pub destination: u32,
     /// The tick at which it was made.
     pub born: u64,
 }
 
-/// The state of a switch, whose words stand in this order.
+/// The state of a switch. Its words are in this order.
 #[derive(Clone, Copy, Debug, PartialEq, Eq)]
 pub struct Switch {
-    /// How many packets came here as their destination.
+    /// The number of packets that arrived here as their destination.
     pub delivered: u64,
-    /// How many ticks those were on their way, in all.
+    /// The total number of ticks from making those packets to their arrival.
     pub latency: u64,
-    /// How many ticks the slowest of them was.
+    /// The ticks of the slowest of them.
     pub slowest: u64,
-    /// The most packets that were at the switch at once, with the one that it served.
+    /// The most packets that were at the switch at once, including the one in service.
     pub longest: u64,
-    /// How many packets it dropped.
+    /// The number of packets that it dropped.
     pub dropped: u64,
-    /// The tick at which it has served all that came.
+    /// The tick at which it has served all packets that arrived.
     pub free_at: u64,
     /// The key of the words that its source draws next.
     pub key: u64,
-    /// The last word that it drew for nothing.
+    /// The last of its unused words.
     pub scratch: u64,
 }
 
 impl Switch {
-    /// The switch whose state has these words. A missing one counts as 0.
+    /// Returns the switch whose state has these words. A missing word counts as 0.
     pub fn of(words: &[u64]) -> Switch
         ensures { result ≡ switch_of words.now }
     {
@@ -55,7 +55,7 @@ impl Switch {
         }
     }
 
-    /// The words of its state.
+    /// Returns the words of the state.
     pub(crate) fn words(self, alloc: Global) -> Words
         ensures { result.items ≡ words_of self }
     {

@@ -1,12 +1,13 @@
-// Words that a switch draws for nothing.
+// The unused words that a switch draws.
 
 ghost use Rattle.std.specs.Prelude.{◌≡◌};
-ghost use Rattle.network.specs.Words.{worked as words_on};
+ghost use Rattle.network.specs.Words.{unused_words as words_on};
 
 use models::word;
 
-/// The last of so many words, each drawn by the one before it, and the first by this word.
-pub(crate) fn worked(count: u32, lp: u32, scratch: u64) -> u64
+/// Draws `count` words, each with the one before it as its key and the first with `scratch`, and
+/// returns the last, or `scratch` if `count` is 0.
+pub(crate) fn unused_words(count: u32, lp: u32, scratch: u64) -> u64
     ensures { result ≡ words_on count lp scratch }
 {
     let mut last = scratch;

@@ -1,4 +1,4 @@
-//! `networks`: simulates packets on a torus of switches, each switch being a logical process.
+//! `networks`: simulates packets on a torus of switches, where each switch is a logical process.
 #![tactic(auto)]
 
 use network::{NETWORK_KEYS, Network};

@@ -1,5 +1,4 @@
--- One message that arrives at one process: what holds of all messages there, and of those that go
--- out.
+-- One message that arrives at one process: what holds of all messages there, and of those sent.
 use Rattle.std.proofs.Common.{◌++◌}
 use Rattle.std.proofs.lemmas.Bool.{cond_both}
 use Rattle.std.proofs.lemmas.List.{map-append}
@@ -18,7 +17,7 @@ use Rattle.queues.specs.Record.{messages, sent_in}
 use Rattle.queues.specs.declared.Record.{Record}
 use Rattle.queues.specs.Queue.{Queue, arrived, back, but_last, last_of, settle, wait_again}
 use Rattle.process.proofs.Arrivals.{IsFine}
-use Rattle.process.specs.Process.{Process, arrive, queue_of, taken_back}
+use Rattle.process.specs.Process.{Process, arrive, queue_of, cancelled_sends}
 
 settle_parts : (sign : Sign) (m : Message) (k : Queue) (P : Message → Type 0) → P m → Every P k.waiting → Every P k.antis →
     Every P (settle (record { sign = sign; message = m }) k).waiting × Every P (settle (record { sign = sign; message = m }) k).antis
@@ -29,8 +28,8 @@ settle_parts Minus m k P p w a =
     cond_both (is_among m k.waiting) (record k { waiting = remove_one m k.waiting }) (record k { antis = add m k.antis }) (λ (r : Queue). Every P r.waiting × Every P r.antis)
     (λ _. (Every-remove_one P m k.waiting w, a)) (λ _. (w, Every-add P m k.antis p a))
 
--- what holds of the message, of all that is not before it, and of what waited, holds of what waits
--- afterwards
+-- P holds of what waits afterwards if it holds of the message, of all that is not before it, and of
+-- what waited
 pub arrived_parts : (s : Signed) (k : Queue) (P : Message → Type 0) → IsAscending k.done → ((x : Message) → IsAtMost s.message x → P x) → P s.message → Every P k.waiting → Every P k.antis →
     Every P (arrived s k).waiting × Every P (arrived s k).antis
 arrived_parts s k P up later p w a =
@@ -55,6 +54,6 @@ module _ (P : Message → Type 0) (s : Signed) (q : Process) (h : IsFine P q) wh
         sent = Every-left P (sent_in (but_last n q.done)) (sent_in (last_of n q.done)) sent_split;
       }
 
-  pub fine_taken_back : Every (λ (t : Signed). P t.message) (taken_back s q)
-  fine_taken_back = Every-map (λ (t : Signed). P t.message) minus (sent_in (last_of (back s (queue_of q)) q.done))
+  pub fine_cancelled : Every (λ (t : Signed). P t.message) (cancelled_sends s q)
+  fine_cancelled = Every-map (λ (t : Signed). P t.message) minus (sent_in (last_of (back s (queue_of q)) q.done))
       (Every-right P (sent_in (but_last (back s (queue_of q)) q.done)) (sent_in (last_of (back s (queue_of q)) q.done)) sent_split)

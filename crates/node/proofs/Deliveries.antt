@@ -1,4 +1,4 @@
--- One delivery at its process, and all of them, one after the other.
+-- One delivery at its process, and all of them, one after another.
 use Rattle.std.proofs.Common.{◌≡◌, ℕ, ◌+◌, ◌/◌, ◌%◌, ◌<◌, ◌≤◌, true, false, List, [], ◌∷◌, ◌++◌, length, get_or, set, drop, Option, Some, None, refl, sym, subst, ◌∙◌, ap, cond, inl, inr}
 use Rattle.std.specs.Prelude.{nat_lt}
 use Rattle.std.proofs.lemmas.Bool.{and_parts, cases_Bool, cond-true, cond-false, eqb-true, ltb-false, ltb-true}
@@ -6,14 +6,14 @@ use Rattle.std.proofs.lemmas.List.{map-set}
 use Rattle.eventkey.proofs.Lists.{drop_here}
 use Rattle.eventkey.specs.Message.{Message}
 use Rattle.eventkey.specs.declared.Signed.{Signed}
-use Rattle.process.specs.Process.{Process, arrive, nobody, taken_back}
+use Rattle.process.specs.Process.{Process, arrive, nobody, cancelled_sends}
 use Rattle.node.proofs.Owns.{arrive_done, arrive_waiting}
 use Rattle.node.proofs.Seats.{IsAt, picked, staffed_again}
 use Rattle.node.specs.Fault.{fault_of}
 use Rattle.node.specs.Handling.{Node, first_fault, is_own}
 use Rattle.process.specs.View.{ProcessView}
-use Rattle.node.specs.Seats.{standing_of}
-use Rattle.node.specs.declared.standing.Standing.{Standing}
+use Rattle.node.specs.Seats.{represented_of}
+use Rattle.node.specs.declared.summary.Summary.{Summary}
 use Rattle.node.specs.Node.{Work, deliver_here, deliver_one_here, sits_on}
 use Rattle.node.specs.Roster.{IsSeated, IsStaffed, Place, processes_of}
 use Rattle.node.specs.declared.NodeFault.{NodeFault}
@@ -26,7 +26,7 @@ own_parts n lp e =
     let parts = and_parts (sits_on n.nodes n.node lp) (nat_lt lp n.lps) e in
     (eqb-true (lp % n.nodes) n.node parts.0, ltb-true lp n.lps parts.1)
 
--- a process that refuses what is for it and not before its floor wants memory
+-- a process that refuses its own message, not before its floor, has met an allocation failure
 pub memory_left : (fault : ProcessFault) → (fault ≡ NotMine → ⊥) → (fault ≡ BelowFloor → ⊥) → (fault ≡ NumberLimit → ⊥) → (fault ≡ Spent → ⊥) → fault_of fault ≡ node.NoMemory
 memory_left NotMine a b c d = absurd (a refl)
 memory_left BelowFloor a b c d = absurd (b refl)
@@ -46,15 +46,15 @@ seated_delivered floor s q own h = record {
   own_waiting = arrive_waiting (λ (x : Message). x.to ≡ q.lp) s q.process own h.own_done h.own_waiting;
 }
 
-pub delivered_ready : (p : Place) (seats : List ProcessView) (standings : List Standing) (s : Signed) (q r : ProcessView) (standing : Standing) → IsStaffed p seats standings → IsAt p seats s.message.to q →
-    q ≡ get_or seats (s.message.to / p.nodes) q → r ≡ delivered_to s q → standing ≡ standing_of p.end r → IsStaffed p (set seats (s.message.to / p.nodes) r) (set standings (s.message.to / p.nodes) standing)
-delivered_ready p seats standings s q r standing h at read is known =
-    staffed_again p seats standings (s.message.to / p.nodes) q r standing h read (ap (λ (v : ProcessView). v.lp) is) (subst (IsSeated p.floor) (sym is) (seated_delivered p.floor s q (sym at.lp_is) at.seated)) known
+pub delivered_ready : (p : Place) (seats : List ProcessView) (summaries : List Summary) (s : Signed) (q r : ProcessView) (summary : Summary) → IsStaffed p seats summaries → IsAt p seats s.message.to q →
+    q ≡ get_or seats (s.message.to / p.nodes) q → r ≡ delivered_to s q → summary ≡ represented_of p.end r → IsStaffed p (set seats (s.message.to / p.nodes) r) (set summaries (s.message.to / p.nodes) summary)
+delivered_ready p seats summaries s q r summary h at read is known =
+    staffed_again p seats summaries (s.message.to / p.nodes) q r summary h read (ap (λ (v : ProcessView). v.lp) is) (subst (IsSeated p.floor) (sym is) (seated_delivered p.floor s q (sym at.lp_is) at.seated)) known
 
 abbrev pub working : List Process → List Signed → ℕ → Work
 working processes out ran = record { processes = processes; out = out; ran = ran }
 
-pub delivered_work : (p : Place) (seats : List ProcessView) (s : Signed) (q r : ProcessView) (out out' : List Signed) (ran : ℕ) → IsAt p seats s.message.to q → r ≡ delivered_to s q → out' ≡ out ++ taken_back s q.process →
+pub delivered_work : (p : Place) (seats : List ProcessView) (s : Signed) (q r : ProcessView) (out out' : List Signed) (ran : ℕ) → IsAt p seats s.message.to q → r ≡ delivered_to s q → out' ≡ out ++ cancelled_sends s q.process →
     working (processes_of (set seats (s.message.to / p.nodes) r)) out' ran ≡ deliver_one_here p.nodes s (working (processes_of seats) out ran)
 delivered_work p seats s q r out out' ran at is sent =
     let i : ℕ = s.message.to / p.nodes in
@@ -63,9 +63,9 @@ delivered_work p seats s q r out out' ran at is sent =
     (map-set (λ (v : ProcessView). v.process) seats i r
     ∙ ap (λ (v : ProcessView). set qs i v.process) is
     ∙ ap (λ (v : Process). set qs i (arrive s v)) (sym at.here))
-    ∙ ap (λ (xs : List Signed). working (set qs i (arrive s (get_or qs i nobody))) xs ran) (sent ∙ ap (λ (v : Process). out ++ taken_back s v) (sym at.here))
+    ∙ ap (λ (xs : List Signed). working (set qs i (arrive s (get_or qs i nobody))) xs ran) (sent ∙ ap (λ (v : Process). out ++ cancelled_sends s v) (sym at.here))
 
--- The deliveries that a node accepts, it accepts one by one.
+-- A node that accepts all deliveries accepts each of them.
 pub record IsAccepted (n : Node) (s : Signed) (rest : List Signed) : Type 0 where
   pub own : is_own n s.message.to ≡ true
   pub late : n.floor ≤ s.message.time
@@ -90,33 +90,33 @@ accepted n s rest e =
       | inr other' ↦ absurd (some-none node.NotMine (sym (cond-false (is_own n s.message.to) other (Some node.NotMine) other') ∙ e))
     ]
 
--- What is read before a delivery: the process at the place of the receiver, for which it is
-pub record IsPicked (p : Place) (seats : List ProcessView) (standings : List Standing) (s : Signed) (lp : ℕ) (q : ProcessView) : Type 0 where
+-- The facts before a delivery: the process at the place of the receiver is the receiver
+pub record IsPicked (p : Place) (seats : List ProcessView) (summaries : List Summary) (s : Signed) (lp : ℕ) (q : ProcessView) : Type 0 where
   pub lp_is : lp ≡ s.message.to
-  pub staffed : IsStaffed p seats standings
+  pub staffed : IsStaffed p seats summaries
   pub node : s.message.to % p.nodes ≡ p.node
   pub there : s.message.to < p.lps
   pub read : q ≡ get_or seats (lp / p.nodes) q
 
-picked_at : (p : Place) (seats : List ProcessView) (standings : List Standing) (s : Signed) (lp : ℕ) (q : ProcessView) → IsPicked p seats standings s lp q → q ≡ get_or seats (s.message.to / p.nodes) q
-picked_at p seats standings s lp q h = subst (λ k. q ≡ get_or seats (k / p.nodes) q) h.lp_is h.read
+picked_at : (p : Place) (seats : List ProcessView) (summaries : List Summary) (s : Signed) (lp : ℕ) (q : ProcessView) → IsPicked p seats summaries s lp q → q ≡ get_or seats (s.message.to / p.nodes) q
+picked_at p seats summaries s lp q h = subst (λ k. q ≡ get_or seats (k / p.nodes) q) h.lp_is h.read
 
-pub at_of : (p : Place) (seats : List ProcessView) (standings : List Standing) (s : Signed) (lp : ℕ) (q : ProcessView) → IsPicked p seats standings s lp q → IsAt p seats s.message.to q
-at_of p seats standings s lp q h = picked p seats standings s.message.to q h.staffed h.node h.there (picked_at p seats standings s lp q h)
+pub at_of : (p : Place) (seats : List ProcessView) (summaries : List Summary) (s : Signed) (lp : ℕ) (q : ProcessView) → IsPicked p seats summaries s lp q → IsAt p seats s.message.to q
+at_of p seats summaries s lp q h = picked p seats summaries s.message.to q h.staffed h.node h.there (picked_at p seats summaries s lp q h)
 
-pub deliver_ready : (p : Place) (seats : List ProcessView) (standings : List Standing) (s : Signed) (lp : ℕ) (q r : ProcessView) (standing : Standing) → IsPicked p seats standings s lp q →
-    r ≡ delivered_to s q → standing ≡ standing_of p.end r → IsStaffed p (set seats (lp / p.nodes) r) (set standings (lp / p.nodes) standing)
-deliver_ready p seats standings s lp q r standing h is known =
-    subst (λ k. IsStaffed p (set seats (k / p.nodes) r) (set standings (k / p.nodes) standing)) (sym h.lp_is)
-    (delivered_ready p seats standings s q r standing h.staffed (at_of p seats standings s lp q h) (picked_at p seats standings s lp q h) is known)
+pub deliver_ready : (p : Place) (seats : List ProcessView) (summaries : List Summary) (s : Signed) (lp : ℕ) (q r : ProcessView) (summary : Summary) → IsPicked p seats summaries s lp q →
+    r ≡ delivered_to s q → summary ≡ represented_of p.end r → IsStaffed p (set seats (lp / p.nodes) r) (set summaries (lp / p.nodes) summary)
+deliver_ready p seats summaries s lp q r summary h is known =
+    subst (λ k. IsStaffed p (set seats (k / p.nodes) r) (set summaries (k / p.nodes) summary)) (sym h.lp_is)
+    (delivered_ready p seats summaries s q r summary h.staffed (at_of p seats summaries s lp q h) (picked_at p seats summaries s lp q h) is known)
 
-pub deliver_work : (p : Place) (seats : List ProcessView) (standings : List Standing) (s : Signed) (lp : ℕ) (q r : ProcessView) (out out' : List Signed) (ran : ℕ) → IsPicked p seats standings s lp q →
-    r ≡ delivered_to s q → out' ≡ out ++ taken_back s q.process → working (processes_of (set seats (lp / p.nodes) r)) out' ran ≡ deliver_one_here p.nodes s (working (processes_of seats) out ran)
-deliver_work p seats standings s lp q r out out' ran h is sent =
+pub deliver_work : (p : Place) (seats : List ProcessView) (summaries : List Summary) (s : Signed) (lp : ℕ) (q r : ProcessView) (out out' : List Signed) (ran : ℕ) → IsPicked p seats summaries s lp q →
+    r ≡ delivered_to s q → out' ≡ out ++ cancelled_sends s q.process → working (processes_of (set seats (lp / p.nodes) r)) out' ran ≡ deliver_one_here p.nodes s (working (processes_of seats) out ran)
+deliver_work p seats summaries s lp q r out out' ran h is sent =
     ap (λ k. working (processes_of (set seats (k / p.nodes) r)) out' ran) h.lp_is
-    ∙ delivered_work p seats s q r out out' ran (at_of p seats standings s lp q h) is sent
+    ∙ delivered_work p seats s q r out out' ran (at_of p seats summaries s lp q h) is sent
 
--- All deliveries: those that are done, and those that are left
+-- All deliveries: those done, and those left
 
 abbrev pub node_at : Place → List Process → Node
 node_at p qs = record { node = p.node; nodes = p.nodes; lps = p.lps; end = p.end; floor = p.floor; spent = false; processes = qs }

@@ -1,4 +1,4 @@
--- The parts of a parcel's handling, put together.
+-- The parts of handling a parcel, put together.
 use Rattle.std.proofs.Common.{◌≡◌, ℕ, List, [], ◌∷◌, ◌++◌, map, Option, Some, None, refl, sym, ◌∙◌, ap}
 use Rattle.std.specs.Prelude.{flat_map}
 use Rattle.eventkey.specs.Message.{Message}
@@ -13,7 +13,7 @@ use Rattle.node.specs.Roster.{IsWorked, Place}
 use Rattle.node.specs.declared.Parcel.{Parcel}
 use Rattle.node.specs.declared.Reply.{Reply}
 
--- what is let go waits for nothing
+-- a release does not change what waits
 pub waits-released : (floor : ℕ) (qs : List Process) → flat_map (λ (q : Process). q.waiting ++ q.antis) (map (λ (q : Process). release floor q) qs) ≡ flat_map (λ (q : Process). q.waiting ++ q.antis) qs
 waits-released floor [] = refl
 waits-released floor (q ∷ qs) = ap (λ (xs : List Message). (q.waiting ++ q.antis) ++ xs) (waits-released floor qs)
@@ -46,10 +46,10 @@ answered m parcel p p1 p2 qs qs1 qs2 deliver out0 out1 out2 out ran low fossils 
     go o o' e l l' g f f' h =
         ap (λ (x : List Signed). replied x l' f' ran) (sym e) ∙ ap (λ (x : Option ℕ). replied o x f' ran) (sym g) ∙ ap (λ (x : List Done). replied o l x ran) (sym h)
 
--- a parcel that delivers nothing leaves the first turn as it is
-pub limited_then : (m : Meaning) (p p1 : Place) (wanted deliver : List Signed) (qs qs1 : List Process) (out0 out1 : List Signed) → deliver ≡ wanted → out0 ≡ [] → p1 ≡ p → working qs1 out1 0 ≡ deliver_here p.nodes deliver (working qs out0 0) →
-    wanted ≡ [] → run_here m p.end p.nodes 1 (working qs [] 0) ≡ None → run_here m p1.end p1.nodes 1 (working qs1 out1 0) ≡ None
-limited_then m p p1 wanted deliver qs qs1 out0 out1 d e same done empty none =
+-- a parcel that delivers nothing does not change the first turn
+pub limited_then : (m : Meaning) (p p1 : Place) (requested deliver : List Signed) (qs qs1 : List Process) (out0 out1 : List Signed) → deliver ≡ requested → out0 ≡ [] → p1 ≡ p → working qs1 out1 0 ≡ deliver_here p.nodes deliver (working qs out0 0) →
+    requested ≡ [] → run_here m p.end p.nodes 1 (working qs [] 0) ≡ None → run_here m p1.end p1.nodes 1 (working qs1 out1 0) ≡ None
+limited_then m p p1 requested deliver qs qs1 out0 out1 d e same done empty none =
     ap (λ (k : Place). run_here m k.end k.nodes 1 (working qs1 out1 0)) same
     ∙ ap (run_here m p.end p.nodes 1) (done ∙ ap (λ (ss : List Signed). deliver_here p.nodes ss (working qs out0 0)) (d ∙ empty) ∙ ap (λ (ss : List Signed). working qs ss 0) e)
     ∙ none

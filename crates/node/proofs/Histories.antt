@@ -1,5 +1,5 @@
--- What the processes of a node have handled is what the model does: when it is loaded, and after
--- each call of one of them.
+-- The handlings of the processes of a node are what the model does: after loading, and after each
+-- call of a process.
 use Rattle.std.proofs.Common.{ℕ, ◌<◌, ◌≡◌, ◌/◌, ◌∙◌, List, [], ◌∷◌, length, refl, ap, zero, suc, subst, Bool, None, Some, cond, inl, inr, get_or, false, map, sym, set}
 use Rattle.std.proofs.lemmas.Bool.{cases_Bool, cond-true}
 use Rattle.std.proofs.lemmas.List.{get_or-map, get_or_default}
@@ -9,7 +9,7 @@ use Rattle.eventkey.proofs.Times.{Every-from_get_or}
 use Rattle.eventkey.proofs.Lists.{Every-get_or, Every-set}
 use Rattle.model.specs.Meaning.{Meaning}
 use Rattle.process.specs.Process.{nobody}
-use Rattle.process.specs.Told.{IsHistory}
+use Rattle.process.specs.Consistent.{IsHistory}
 use Rattle.process.specs.View.{ProcessView, loaded}
 use Rattle.node.proofs.Deliveries.{node_at}
 use Rattle.node.proofs.Seats.{length-lps, own_at, picked, place_inside}
@@ -20,9 +20,9 @@ use Rattle.node.specs.declared.NodeFault.TheVariants.{FloorFell, Spent}
 use Rattle.node.specs.declared.Parcel.{Parcel}
 use Rattle.node.specs.declared.Part.{Part}
 use Rattle.node.specs.declared.roster.Roster.{Roster}
-use Rattle.node.specs.declared.standing.Standing.{Standing}
+use Rattle.node.specs.declared.summary.Summary.{Summary}
 
--- 1. A node that is loaded has handled nothing.
+-- 1. The histories of a node that has just been loaded are empty.
 
 pub histories_begin : HistoriesBegin
 histories_begin m lps load lp there on = begins load.parts (lp / load.nodes)
@@ -38,14 +38,14 @@ module _ (m : Meaning) (seats : List ProcessView) (h : Every (IsModelled m) seat
   pub modelled_at : (i : ℕ) (q : ProcessView) → i < length seats → q ≡ get_or seats i q → IsModelled m q
   modelled_at i q inside read = subst (IsModelled m) (sym read) (Every-get_or (IsModelled m) seats i q inside h)
 
-  -- after a call of it that has done what the model does
+  -- after a call of a process that keeps its history what the model does
   pub modelled_again : (i : ℕ) (q r : ProcessView) → IsModelled m q → r.lp ≡ q.lp → IsHistory m r.lp r.process → Every (IsModelled m) (set seats i r)
   modelled_again i q r of_model same history =
       Every-set (IsModelled m) seats i r (record { there = subst (λ (lp : ℕ). lp < m.lps) (sym same) of_model.there; history = history }) h
 
 -- 3. All of them
 
-module _ (m : Meaning) (p : Place) (seats : List ProcessView) (standings : List Standing) (h : IsStaffed p seats standings) where
+module _ (m : Meaning) (p : Place) (seats : List ProcessView) (summaries : List Summary) (h : IsStaffed p seats summaries) where
   nobody_there : ProcessView
   nobody_there = record { lp = 0; floor = 0; spent = false; process = nobody }
 
@@ -64,9 +64,9 @@ module _ (m : Meaning) (p : Place) (seats : List ProcessView) (standings : List 
 
   pub have_histories : Every (IsModelled m) seats → HasHistories m (node_at p (processes_of seats))
   have_histories modelled lp there on =
-      let inside = place_inside p seats standings lp h on there in
+      let inside = place_inside p seats summaries lp h on there in
       let q : ProcessView = get_or seats (lp / p.nodes) nobody_there in
-      let at = picked p seats standings lp q h on there (get_or_default seats (lp / p.nodes) nobody_there q inside) in
+      let at = picked p seats summaries lp q h on there (get_or_default seats (lp / p.nodes) nobody_there q inside) in
       let mine = Every-get_or (IsModelled m) seats (lp / p.nodes) nobody_there inside modelled in
       subst (IsHistory m lp) (sym at.here) (subst (λ (k : ℕ). IsHistory m k q.process) at.lp_is mine.history)
 
@@ -82,6 +82,6 @@ pub modelled_where_accepted : (m : Meaning) (parcel : Parcel) (spent : Bool) (r 
     (old.spent ≡ false → m.lps ≡ old.lps) → HasHistories m old → Every (IsModelled m) r.processes.items
 modelled_where_accepted m parcel spent r old view fine ready lps histories =
     let unspent : spent ≡ false = refusal_unspent (node_of_roster spent r) parcel (subst (λ (n : Node). refusal n parcel ≡ None) (sym view) fine) in
-    are_modelled m (place_of r) r.processes.items r.standings (ready unspent)
+    are_modelled m (place_of r) r.processes.items r.summaries (ready unspent)
     (subst (λ (n : Node). n.spent ≡ false → m.lps ≡ n.lps) (sym view) lps unspent)
     (subst (λ (b : Bool). HasHistories m (node_of_roster b r)) unspent (subst (HasHistories m) (sym view) histories))

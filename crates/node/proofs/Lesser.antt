@@ -1,4 +1,4 @@
--- The lesser of two messages, where each may be missing.
+-- The lesser of two messages, either of which can be missing.
 use Rattle.std.proofs.Common.{◌≡◌, Option, Some, None, refl, sym, ◌∙◌, ap, inl, inr}
 use Rattle.std.proofs.lemmas.Bool.{cond-true, cond-false, cases_Bool}
 use Rattle.eventkey.specs.Message.{IsAtMost, Message, is_before}

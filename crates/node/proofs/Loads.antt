@@ -1,5 +1,4 @@
--- What a load has to be: tests that go through lists one by one, and the processes of a node as a
--- progression.
+-- The conditions on a load: tests that scan lists, and the processes of a node as a progression.
 use Rattle.std.proofs.Common.{◌≡◌, ℕ, ◌+◌, ◌*◌, ◌<◌, ◌≤◌, List, [], ◌∷◌, ◌++◌, length, get_or, map, drop, set, ◌-◌, ◌^◌, replicate, Some, None, Ok, Err, refl, sym, subst, ◌∙◌, ap, arith, inl, inr}
 use Rattle.std.specs.List.{AllByRecursion as Every, list_any}
 use Rattle.std.proofs.Math.Nat.{mul-le-mul_left}
@@ -22,9 +21,9 @@ use Rattle.node.specs.declared.Load.{Load}
 use Rattle.process.proofs.Sound.{own_from}
 use Rattle.process.specs.Process.{Process}
 use Rattle.node.specs.Roster.{IsSeated, IsStaffed, Place, lps_of, processes_of}
-use Rattle.node.specs.Seats.{seat_of, standing_of, standings_of}
+use Rattle.node.specs.Seats.{seat_of, represented_of, standings_of}
 use Rattle.node.specs.Tournament.{absent}
-use Rattle.node.specs.declared.standing.Standing.{Standing}
+use Rattle.node.specs.declared.summary.Summary.{Summary}
 use Rattle.node.specs.declared.Part.{Part}
 
 -- 1. Each element passes
@@ -41,7 +40,7 @@ module _ {X : Type 0} (P : X → Type 0) where
 
 -- 2. The parts are those of the node's processes
 
--- so many of them are, where next is the process that comes then
+-- the first i processes are those of the node, and next is the one that comes then
 pub record IsOwnSoFar (node nodes lps : ℕ) (xs : List ℕ) (i next : ℕ) : Type 0 where
   pub next_is : next ≡ node + i * nodes
   pub small : next < lps + nodes + node + 1
@@ -119,34 +118,34 @@ none_early floor xs h e =
 
 -- 4. The processes of the parts
 
--- of these parts some are seated, and the rest is to come
-pub record IsSeatedSoFar (end floor : ℕ) (parts done rest : List Part) (seats : List ProcessView) (standings : List Standing) : Type 0 where
+-- some of these parts are seated, and the rest are left
+pub record IsSeatedSoFar (end floor : ℕ) (parts done rest : List Part) (seats : List ProcessView) (summaries : List Summary) : Type 0 where
   pub all : done ++ rest ≡ parts
   pub seats_are : seats ≡ map (seat_of floor) done
-  pub standings_are : standings ≡ standings_of end (map (seat_of floor) done) ++ replicate (length rest) absent
+  pub standings_are : summaries ≡ standings_of end (map (seat_of floor) done) ++ replicate (length rest) absent
 
 pub every_next : (P : Part → Type 0) (parts done rest rest' : List Part) (p : Part) → done ++ rest ≡ parts → rest ≡ p ∷ rest' → Every P parts → P p
 every_next P parts done rest rest' p all step h = (Every-right P done (p ∷ rest') (subst (Every P) (sym all ∙ ap (λ (r : List Part). done ++ r) step) h)).0
 
-pub seats_place : {end floor : ℕ} {parts done rest : List Part} {seats : List ProcessView} {standings : List Standing} (rest' : List Part) (p : Part) → IsSeatedSoFar end floor parts done rest seats standings → rest ≡ p ∷ rest' → length seats < length standings
-seats_place {end} {floor} {parts} {done} {rest} {seats} {standings} rest' p h step =
-    let known : List Standing = standings_of end (map (seat_of floor) done) in
+pub seats_place : {end floor : ℕ} {parts done rest : List Part} {seats : List ProcessView} {summaries : List Summary} (rest' : List Part) (p : Part) → IsSeatedSoFar end floor parts done rest seats summaries → rest ≡ p ∷ rest' → length seats < length summaries
+seats_place {end} {floor} {parts} {done} {rest} {seats} {summaries} rest' p h step =
+    let known : List Summary = standings_of end (map (seat_of floor) done) in
     let size = size_of end floor done seats h.seats_are in
     let more = ap length h.standings_are ∙ length-append known (replicate (length rest) absent) in
-    let last = length-replicate {A = Standing} (length rest) absent in
+    let last = length-replicate {A = Summary} (length rest) absent in
     let some = ap length step in
     omega arith
   where
     size_of : (end floor : ℕ) (done : List Part) (seats : List ProcessView) → seats ≡ map (seat_of floor) done → length seats ≡ length (standings_of end (map (seat_of floor) done))
-    size_of end floor done seats is = ap length is ∙ sym (length-map (map (seat_of floor) done) (λ (q : ProcessView). standing_of end q))
+    size_of end floor done seats is = ap length is ∙ sym (length-map (map (seat_of floor) done) (λ (q : ProcessView). represented_of end q))
 
-pub seats_more : {end floor : ℕ} {parts done rest : List Part} {seats : List ProcessView} {standings : List Standing} (rest' : List Part) (p : Part) (seat : ProcessView) (seats' : List ProcessView) (standing : Standing) (standings' : List Standing) →
-    IsSeatedSoFar end floor parts done rest seats standings → rest ≡ p ∷ rest' → seat ≡ seat_of floor p → seats' ≡ seats ++ seat ∷ [] → standing ≡ standing_of end seat → standings' ≡ set standings (length seats) standing →
-    IsSeatedSoFar end floor parts (done ++ p ∷ []) rest' seats' standings'
-seats_more {end} {floor} {parts} {done} {rest} {seats} {standings} rest' p seat seats' standing standings' h step seat_is more standing_is set_is =
-    let known : List Standing = standings_of end (map (seat_of floor) done) in
-    let left : List Standing = replicate (length rest') absent in
-    let size : length seats ≡ length known = ap length h.seats_are ∙ sym (length-map (map (seat_of floor) done) (λ (q : ProcessView). standing_of end q)) in
+pub seats_more : {end floor : ℕ} {parts done rest : List Part} {seats : List ProcessView} {summaries : List Summary} (rest' : List Part) (p : Part) (seat : ProcessView) (seats' : List ProcessView) (summary : Summary) (summaries' : List Summary) →
+    IsSeatedSoFar end floor parts done rest seats summaries → rest ≡ p ∷ rest' → seat ≡ seat_of floor p → seats' ≡ seats ++ seat ∷ [] → summary ≡ represented_of end seat → summaries' ≡ set summaries (length seats) summary →
+    IsSeatedSoFar end floor parts (done ++ p ∷ []) rest' seats' summaries'
+seats_more {end} {floor} {parts} {done} {rest} {seats} {summaries} rest' p seat seats' summary summaries' h step seat_is more summary_is set_is =
+    let known : List Summary = standings_of end (map (seat_of floor) done) in
+    let left : List Summary = replicate (length rest') absent in
+    let size : length seats ≡ length known = ap length h.seats_are ∙ sym (length-map (map (seat_of floor) done) (λ (q : ProcessView). represented_of end q)) in
     let open_ones : replicate (length rest) absent ≡ absent ∷ left = ap (λ (r : List Part). replicate (length r) absent) step in
     record {
       all = append_assoc done (p ∷ []) rest' ∙ ap (λ (r : List Part). done ++ r) (sym step) ∙ h.all;
@@ -157,19 +156,19 @@ seats_more {end} {floor} {parts} {done} {rest} {seats} {standings} rest' p seat 
           ∙ sym (map-append (seat_of floor) done (p ∷ []));
       standings_are =
           set_is
-          ∙ ap (λ (xs : List Standing). set xs (length seats) standing) (h.standings_are ∙ ap (λ (xs : List Standing). known ++ xs) open_ones)
-          ∙ ap (λ n. set (known ++ absent ∷ left) n standing) size
-          ∙ set-append_seam known absent left standing
-          ∙ ap (λ (x : Standing). known ++ x ∷ left) (standing_is ∙ ap (λ (q : ProcessView). standing_of end q) seat_is)
-          ∙ sym (append_assoc known (standing_of end (seat_of floor p) ∷ []) left)
-          ∙ ap (λ (xs : List Standing). xs ++ left)
-          (sym (map-append (λ (q : ProcessView). standing_of end q) (map (seat_of floor) done) (seat_of floor p ∷ []))
+          ∙ ap (λ (xs : List Summary). set xs (length seats) summary) (h.standings_are ∙ ap (λ (xs : List Summary). known ++ xs) open_ones)
+          ∙ ap (λ n. set (known ++ absent ∷ left) n summary) size
+          ∙ set-append_seam known absent left summary
+          ∙ ap (λ (x : Summary). known ++ x ∷ left) (summary_is ∙ ap (λ (q : ProcessView). represented_of end q) seat_is)
+          ∙ sym (append_assoc known (represented_of end (seat_of floor p) ∷ []) left)
+          ∙ ap (λ (xs : List Summary). xs ++ left)
+          (sym (map-append (λ (q : ProcessView). represented_of end q) (map (seat_of floor) done) (seat_of floor p ∷ []))
           ∙ ap (standings_of end) (sym (map-append (seat_of floor) done (p ∷ []))));
     }
 
-pub all_seated : {end floor : ℕ} {parts done rest : List Part} {seats : List ProcessView} {standings : List Standing} → IsSeatedSoFar end floor parts done rest seats standings → length rest ≡ 0 →
-    (seats ≡ map (seat_of floor) parts) × (standings ≡ standings_of end (map (seat_of floor) parts))
-all_seated {end} {floor} {parts} {done} {rest} {seats} {standings} h none =
+pub all_seated : {end floor : ℕ} {parts done rest : List Part} {seats : List ProcessView} {summaries : List Summary} → IsSeatedSoFar end floor parts done rest seats summaries → length rest ≡ 0 →
+    (seats ≡ map (seat_of floor) parts) × (summaries ≡ standings_of end (map (seat_of floor) parts))
+all_seated {end} {floor} {parts} {done} {rest} {seats} {summaries} h none =
     let empty : rest ≡ [] = nil_from_length rest none in
     let every : done ≡ parts = sym (append-nil done) ∙ ap (λ (r : List Part). done ++ r) (sym empty) ∙ h.all in (
       h.seats_are ∙ ap (map (seat_of floor)) every,
@@ -214,7 +213,7 @@ own_few node nodes lps some =
       | inr e ↦ omega arith
     ]
 
--- the load, as it is found to be
+-- the load, by the results of the tests
 
 own_foreign : (lp : ℕ) (xs : List Message) → Every (λ (x : Message). x.to ≡ lp) xs → has_foreign lp xs ≡ false
 own_foreign lp [] h = refl
@@ -232,7 +231,7 @@ parts_late : (floor : ℕ) (parts : List Part) → Every (λ (p : Part). Every (
 parts_late floor [] h = refl
 parts_late floor (p ∷ ps) h = rw (late_early floor p.pending h.0) (parts_late floor ps h.1)
 
--- and the other way round
+-- and the converse
 
 early_late : (floor : ℕ) (xs : List Message) → has_early floor xs ≡ false → Every (λ (x : Message). floor ≤ x.time) xs
 early_late floor [] e = tt
@@ -267,7 +266,7 @@ module _ (lps lps' : ℕ) (load : Load) (parts : List Part) (l : lps' ≡ lps) (
   own_then : is_own_load lps load ≡ true → map (λ (q : Part). q.lp) parts ≡ own_lps load.nodes load.node lps'
   own_then t = ap (map (λ (q : Part). q.lp)) e ∙ (same_text (map (λ (q : Part). q.lp) load.parts) (own_lps load.nodes load.node lps) (sym t) ∙ ap (own_lps load.nodes load.node) (sym l))
 
-  -- what is refused
+  -- the refusals of a load
   pub not_mine : (map (λ (q : Part). q.lp) parts ≡ own_lps load.nodes load.node lps' → Every (λ (q : Part). Every (λ (x : Message). x.to ≡ q.lp) q.pending) parts → ⊥) → load_refusal lps load ≡ Some NotMine
   not_mine other = elim (cases_Bool (is_own_load lps load)) [
     | inl t ↦ elim (cases_Bool (list_any (λ (p : Part). has_foreign p.lp p.pending) load.parts)) [

@@ -1,4 +1,4 @@
--- The least time of what waits at a node, as its tournament tells it.
+-- The least waiting time of a node is that of its tournament.
 use Rattle.std.proofs.Common.{◌≡◌, ℕ, List, [], ◌∷◌, ◌++◌, Option, Some, refl, sym, ◌∙◌, ap}
 use Rattle.std.specs.Prelude.{flat_map}
 use Rattle.std.proofs.lemmas.List.{append-nil}
@@ -11,7 +11,7 @@ use Rattle.node.specs.Node.{earliest, first_time, low_of}
 use Rattle.node.specs.Roster.{IsStaffed, Place, processes_of}
 use Rattle.node.specs.Seats.{standings_of}
 use Rattle.node.specs.Tournament.{least_among}
-use Rattle.node.specs.declared.standing.Standing.{Standing}
+use Rattle.node.specs.declared.summary.Summary.{Summary}
 
 pub first_time-append : (xs ys : List Message) → first_time (xs ++ ys) ≡ earliest (first_time xs) (first_time ys)
 first_time-append [] ys = refl
@@ -24,5 +24,5 @@ least_low end (q ∷ seats) =
     ap (earliest (first_time (q.process.waiting ++ q.process.antis))) (least_low end seats)
     ∙ sym (first_time-append (q.process.waiting ++ q.process.antis) (flat_map (λ (p : Process). p.waiting ++ p.antis) (processes_of seats)))
 
-pub low_told : (p : Place) (seats : List ProcessView) (standings : List Standing) (low : Option ℕ) → IsStaffed p seats standings → low ≡ (least_among standings).low → low ≡ low_of (processes_of seats)
-low_told p seats standings low h is = is ∙ ap (λ (xs : List Standing). (least_among xs).low) h.known ∙ least_low p.end seats
+pub low_reported : (p : Place) (seats : List ProcessView) (summaries : List Summary) (low : Option ℕ) → IsStaffed p seats summaries → low ≡ (least_among summaries).low → low ≡ low_of (processes_of seats)
+low_reported p seats summaries low h is = is ∙ ap (λ (xs : List Summary). (least_among xs).low) h.known ∙ least_low p.end seats

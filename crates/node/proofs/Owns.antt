@@ -1,4 +1,4 @@
--- The messages of a process stay its own: those that it handled and those that wait.
+-- The messages of a process, handled and waiting, stay its own.
 use Rattle.std.proofs.Common.{ℕ, [], ◌∷◌}
 use Rattle.std.specs.List.{AllByRecursion as Every}
 use Rattle.std.proofs.lemmas.Bool.{cond_both}

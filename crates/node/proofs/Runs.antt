@@ -1,4 +1,4 @@
--- All turns of a node, one after the other: those that are done, and those that are left.
+-- All turns of a node, one after another: those done, and those left.
 use Rattle.std.proofs.Common.{◌≡◌, ℕ, zero, suc, ◌+◌, ◌-◌, ◌<◌, ◌≤◌, true, false, List, [], ◌∷◌, Option, Some, None, Result, Err, refl, sym, subst, ◌∙◌, ap, arith, cond, inl, inr}
 use Rattle.std.specs.Prelude.{nat_lt}
 use Rattle.std.proofs.lemmas.Bool.{both_ways, cases_Bool, cases_lt, cond-true, cond-false, lt-ltb, le-ltb}
@@ -15,7 +15,7 @@ use Rattle.queues.specs.Queue.{first_before}
 use Rattle.node.specs.Node.{Work, first, here, least_of, lesser, run_here, run_one_here, turn_here}
 use Rattle.node.specs.Roster.{IsStaffed, Place, processes_of}
 use Rattle.node.specs.Seats.{standings_of}
-use Rattle.node.specs.declared.standing.Standing.{Standing}
+use Rattle.node.specs.declared.summary.Summary.{Summary}
 use Rattle.node.specs.Tournament.{least_among}
 
 -- 1. The least message before the end
@@ -61,9 +61,9 @@ least_nexts end (q ∷ seats) =
     ∙ ap (lesser (before end (first q.process.waiting))) (least_nexts end seats)
     ∙ sym (before_lesser end (first q.process.waiting) (least_of (processes_of seats)))
 
--- what the tournament tells is what the node handles next
-pub least_is : (p : Place) (seats : List ProcessView) (standings : List Standing) → IsStaffed p seats standings → before p.end (least_of (processes_of seats)) ≡ (least_among standings).next
-least_is p seats standings h = sym (ap (λ (xs : List Standing). (least_among xs).next) h.known ∙ least_nexts p.end seats)
+-- the least message of the tournament is the one that the node handles next
+pub least_is : (p : Place) (seats : List ProcessView) (summaries : List Summary) → IsStaffed p seats summaries → before p.end (least_of (processes_of seats)) ≡ (least_among summaries).next
+least_is p seats summaries h = sym (ap (λ (xs : List Summary). (least_among xs).next) h.known ∙ least_nexts p.end seats)
 
 -- 2. Turns
 
@@ -117,29 +117,29 @@ module _ (m : Meaning) (end nodes : ℕ) where
   pub turns_done : (budget ran : ℕ) (w : Work) (total : Option Work) → budget ≤ ran → run_here m end nodes (budget - ran) w ≡ total → total ≡ Some w
   turns_done budget ran w total l so_far = sym so_far ∙ ap (λ n. run_here m end nodes n w) {x = budget - ran} {y = zero} (omega arith)
 
--- 3. The loop of turns, at a place that stays what it was
+-- 3. The loop of turns; the fixed parts of the roster do not change
 
-module _ (m : Meaning) (p p' : Place) (seats : List ProcessView) (standings : List Standing) (same : p ≡ p') (staffed : IsStaffed p seats standings) (budget ran : ℕ) (out : List Signed) (total : Option Work) where
-  pub run_goes_on : (x : Message) (w : Work) → ran < budget → (least_among standings).next ≡ Some x → has_room m x (here p.nodes (working (processes_of seats) out ran) x.to) ≡ true → w ≡ run_one_here m p.nodes x (working (processes_of seats) out ran) →
+module _ (m : Meaning) (p p' : Place) (seats : List ProcessView) (summaries : List Summary) (same : p ≡ p') (staffed : IsStaffed p seats summaries) (budget ran : ℕ) (out : List Signed) (total : Option Work) where
+  pub run_goes_on : (x : Message) (w : Work) → ran < budget → (least_among summaries).next ≡ Some x → has_room m x (here p.nodes (working (processes_of seats) out ran) x.to) ≡ true → w ≡ run_one_here m p.nodes x (working (processes_of seats) out ran) →
       run_here m p'.end p'.nodes (budget - ran) (working (processes_of seats) out ran) ≡ total → run_here m p'.end p'.nodes (budget - (ran + 1)) w ≡ total
   run_goes_on x w l e room one =
       subst (λ (k : Place). run_here m k.end k.nodes (budget - ran) (working (processes_of seats) out ran) ≡ total → run_here m k.end k.nodes (budget - (ran + 1)) w ≡ total) same
-      (turns_go_on m p.end p.nodes budget ran (working (processes_of seats) out ran) w x total l (least_is p seats standings staffed ∙ e) room one)
+      (turns_go_on m p.end p.nodes budget ran (working (processes_of seats) out ran) w x total l (least_is p seats summaries staffed ∙ e) room one)
 
-  pub run_fails : (x : Message) → ran < budget → (least_among standings).next ≡ Some x → has_room m x (here p.nodes (working (processes_of seats) out ran) x.to) ≡ false →
+  pub run_fails : (x : Message) → ran < budget → (least_among summaries).next ≡ Some x → has_room m x (here p.nodes (working (processes_of seats) out ran) x.to) ≡ false →
       run_here m p'.end p'.nodes (budget - ran) (working (processes_of seats) out ran) ≡ total → total ≡ None
   run_fails x l e room =
       subst (λ (k : Place). run_here m k.end k.nodes (budget - ran) (working (processes_of seats) out ran) ≡ total → total ≡ None) same
-      (turns_fail m p.end p.nodes budget ran (working (processes_of seats) out ran) x total l (least_is p seats standings staffed ∙ e) room)
+      (turns_fail m p.end p.nodes budget ran (working (processes_of seats) out ran) x total l (least_is p seats summaries staffed ∙ e) room)
 
-  pub run_stops : (least_among standings).next ≡ None → run_here m p'.end p'.nodes (budget - ran) (working (processes_of seats) out ran) ≡ total → total ≡ Some (working (processes_of seats) out ran)
+  pub run_stops : (least_among summaries).next ≡ None → run_here m p'.end p'.nodes (budget - ran) (working (processes_of seats) out ran) ≡ total → total ≡ Some (working (processes_of seats) out ran)
   run_stops e =
       subst (λ (k : Place). run_here m k.end k.nodes (budget - ran) (working (processes_of seats) out ran) ≡ total → total ≡ Some (working (processes_of seats) out ran)) same
-      (turns_stop m p.end p.nodes budget ran (working (processes_of seats) out ran) total (least_is p seats standings staffed ∙ e))
+      (turns_stop m p.end p.nodes budget ran (working (processes_of seats) out ran) total (least_is p seats summaries staffed ∙ e))
 
--- 4. A first turn that has no room
+-- 4. A first turn without room
 
--- after so many turns the work is what it was at first, or the first turn had room
+-- before the first turn the work is the initial one; after it, the first turn had room
 pub record HasBegun (m : Meaning) (end nodes ran : ℕ) (first now : Work) : Type 0 where
   pub same : ran ≡ 0 → now ≡ first
   pub room : 0 < ran → run_here m end nodes 1 first ≡ None → ⊥
@@ -147,7 +147,7 @@ pub record HasBegun (m : Meaning) (end nodes ran : ℕ) (first now : Work) : Typ
 pub begun : (m : Meaning) (end nodes : ℕ) (w : Work) → HasBegun m end nodes 0 w w
 begun m end nodes w = record { same = λ e. refl; room = λ l e. absurd (omega arith) }
 
-module _ (m : Meaning) (p p' : Place) (seats : List ProcessView) (standings : List Standing) (same : p ≡ p') (staffed : IsStaffed p seats standings) (ran : ℕ) (out : List Signed) (first : Work) (h : HasBegun m p'.end p'.nodes ran first (working (processes_of seats) out ran)) where
+module _ (m : Meaning) (p p' : Place) (seats : List ProcessView) (summaries : List Summary) (same : p ≡ p') (staffed : IsStaffed p seats summaries) (ran : ℕ) (out : List Signed) (first : Work) (h : HasBegun m p'.end p'.nodes ran first (working (processes_of seats) out ran)) where
   at_first : (none : run_here m p'.end p'.nodes 1 first ≡ None) → (ran ≡ 0) × (run_here m p'.end p'.nodes (1 - 0) (working (processes_of seats) out 0) ≡ None)
   at_first none = elim (cases_lt 0 ran) [
     | inl l ↦ absurd (h.room l none)
@@ -155,23 +155,23 @@ module _ (m : Meaning) (p p' : Place) (seats : List ProcessView) (standings : Li
         (zero_is, ap (run_here m p'.end p'.nodes 1) (ap (working (processes_of seats) out) (sym zero_is) ∙ h.same zero_is) ∙ none))
   ]
 
-  -- it has no least message then: so it is not limited
-  pub not_idle : (least_among standings).next ≡ None → run_here m p'.end p'.nodes 1 first ≡ None → ⊥
+  -- a node without a least message is not limited
+  pub not_idle : (least_among summaries).next ≡ None → run_here m p'.end p'.nodes 1 first ≡ None → ⊥
   not_idle e none =
       let now = at_first none in
-      some-none (working (processes_of seats) out 0) (sym (run_stops m p p' seats standings same staffed 1 0 out None e now.1))
+      some-none (working (processes_of seats) out 0) (sym (run_stops m p p' seats summaries same staffed 1 0 out None e now.1))
 
-  -- its least message has no room then
-  pub lacks_at_first : (x : Message) → (least_among standings).next ≡ Some x → run_here m p'.end p'.nodes 1 first ≡ None → has_room m x (here p.nodes (working (processes_of seats) out ran) x.to) ≡ false
+  -- the least message has no room
+  pub lacks_at_first : (x : Message) → (least_among summaries).next ≡ Some x → run_here m p'.end p'.nodes 1 first ≡ None → has_room m x (here p.nodes (working (processes_of seats) out ran) x.to) ≡ false
   lacks_at_first x e none =
       let now = at_first none in
       elim (cases_Bool (has_room m x (here p.nodes (working (processes_of seats) out 0) x.to))) [
         | inl room ↦ absurd (some-none (run_one_here m p.nodes x (working (processes_of seats) out 0))
-            (run_goes_on m p p' seats standings same staffed 1 0 out None x (run_one_here m p.nodes x (working (processes_of seats) out 0)) (omega arith) e room refl now.1))
+            (run_goes_on m p p' seats summaries same staffed 1 0 out None x (run_one_here m p.nodes x (working (processes_of seats) out 0)) (omega arith) e room refl now.1))
         | inr room ↦ ap (λ n. has_room m x (here p.nodes (working (processes_of seats) out n) x.to)) now.0 ∙ room
       ]
 
-  pub begun_more : (x : Message) (w : Work) → (least_among standings).next ≡ Some x → has_room m x (here p.nodes (working (processes_of seats) out ran) x.to) ≡ true → HasBegun m p'.end p'.nodes (ran + 1) first w
+  pub begun_more : (x : Message) (w : Work) → (least_among summaries).next ≡ Some x → has_room m x (here p.nodes (working (processes_of seats) out ran) x.to) ≡ true → HasBegun m p'.end p'.nodes (ran + 1) first w
   begun_more x w e room = record {
     same = λ z. absurd (omega arith);
     room = λ l none. both_ways (has_room m x (here p.nodes (working (processes_of seats) out ran) x.to)) (lacks_at_first x e none) room;

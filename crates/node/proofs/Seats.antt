@@ -1,4 +1,4 @@
--- The processes of a node stand at their places, and stay there when one of them changes.
+-- The processes of a node are at their places, and stay there when one of them changes.
 use Rattle.std.proofs.Common.{◌≡◌, ℕ, zero, suc, ◌+◌, ◌*◌, ◌/◌, ◌%◌, ◌<◌, ◌≤◌, List, [], ◌∷◌, ◌++◌, length, get_or, set, sym, subst, ◌∙◌, ap, arith, inl, inr}
 use Rattle.std.proofs.Math.Nat.{mul-le-mul_right, mod-add-div', mod-eq_of_lt, add-mul-mod_self_right}
 use Rattle.std.proofs.Math.Seq.{get_or-append_seam, map-set_same}
@@ -13,8 +13,8 @@ use Rattle.node.specs.Handling.{own_lps}
 use Rattle.process.specs.View.{ProcessView}
 use Rattle.node.specs.Node.{sits_on}
 use Rattle.node.specs.Roster.{IsSeated, IsStaffed, Place, lps_of, processes_of}
-use Rattle.node.specs.Seats.{standing_of, standings_of}
-use Rattle.node.specs.declared.standing.Standing.{Standing}
+use Rattle.node.specs.Seats.{represented_of, standings_of}
+use Rattle.node.specs.declared.summary.Summary.{Summary}
 
 -- 1. The processes of a node are node, node + nodes, node + 2 nodes and so on.
 
@@ -23,7 +23,7 @@ pub record IsStrided (nodes node n : ℕ) (lps : List ℕ) : Type 0 where
   pub within : (i : ℕ) → i < length lps → node + i * nodes < n
   pub all : n ≤ node + length lps * nodes
 
--- what stands at a place
+-- the process number at a place
 pub record IsOwnAt (nodes node n i lp : ℕ) : Type 0 where
   pub there : lp < n
   pub place : lp / nodes ≡ i
@@ -81,7 +81,7 @@ module _ (nodes node : ℕ) (some : node < nodes) where
             (rw append-nil (strided_without n xs (own_strided n) (λ f. both_ways (sits_on nodes node n) e (eq-eqb (n % nodes) node f))))
       ])
 
-  -- the place of one of them
+  -- the place of a process
   pub own_place : (n lp : ℕ) → lp % nodes ≡ node → lp < n → (lp / nodes < length (own_lps nodes node n)) × (get_or (own_lps nodes node n) (lp / nodes) 0 ≡ lp)
   own_place n lp e l =
       let h = own_strided n in
@@ -114,18 +114,18 @@ pub record IsAt (p : Place) (seats : List ProcessView) (lp : ℕ) (q : ProcessVi
 pub length-lps : (p : Place) (seats : List ProcessView) → lps_of seats ≡ own_lps p.nodes p.node p.lps → length seats ≡ length (own_lps p.nodes p.node p.lps)
 length-lps p seats h = sym (length-map seats (λ (q : ProcessView). q.lp)) ∙ ap length h
 
-pub length-standings : (p : Place) (seats : List ProcessView) (standings : List Standing) → IsStaffed p seats standings → length standings ≡ length seats
-length-standings p seats standings h = ap length h.known ∙ length-map seats (λ (q : ProcessView). standing_of p.end q)
+pub length-summaries : (p : Place) (seats : List ProcessView) (summaries : List Summary) → IsStaffed p seats summaries → length summaries ≡ length seats
+length-summaries p seats summaries h = ap length h.known ∙ length-map seats (λ (q : ProcessView). represented_of p.end q)
 
-pub place_inside : (p : Place) (seats : List ProcessView) (standings : List Standing) (lp : ℕ) → IsStaffed p seats standings → lp % p.nodes ≡ p.node → lp < p.lps → lp / p.nodes < length seats
-place_inside p seats standings lp h e l = let o = own_place p.nodes p.node h.node p.lps lp e l in rw (length-lps p seats h.lps) o.0
+pub place_inside : (p : Place) (seats : List ProcessView) (summaries : List Summary) (lp : ℕ) → IsStaffed p seats summaries → lp % p.nodes ≡ p.node → lp < p.lps → lp / p.nodes < length seats
+place_inside p seats summaries lp h e l = let o = own_place p.nodes p.node h.node p.lps lp e l in rw (length-lps p seats h.lps) o.0
 
--- the process that is read at the place of lp is lp
-pub picked : (p : Place) (seats : List ProcessView) (standings : List Standing) (lp : ℕ) (q : ProcessView) → IsStaffed p seats standings → lp % p.nodes ≡ p.node → lp < p.lps →
+-- the process read at the place of lp is lp
+pub picked : (p : Place) (seats : List ProcessView) (summaries : List Summary) (lp : ℕ) (q : ProcessView) → IsStaffed p seats summaries → lp % p.nodes ≡ p.node → lp < p.lps →
     q ≡ get_or seats (lp / p.nodes) q → IsAt p seats lp q
-picked p seats standings lp q h e l read =
+picked p seats summaries lp q h e l read =
     let o = own_place p.nodes p.node h.node p.lps lp e l in
-    let inside = place_inside p seats standings lp h e l in
+    let inside = place_inside p seats summaries lp h e l in
     record {
       place = inside;
       seated = subst (IsSeated p.floor) (sym read) (Every-get_or (IsSeated p.floor) seats (lp / p.nodes) q inside h.seated);
@@ -133,16 +133,16 @@ picked p seats standings lp q h e l read =
       here = get_or-map (λ (v : ProcessView). v.process) seats (lp / p.nodes) q nobody inside ∙ ap (λ (v : ProcessView). v.process) (sym read);
     }
 
--- one process has changed, and what stands of it is known
-pub staffed_again : (p : Place) (seats : List ProcessView) (standings : List Standing) (i : ℕ) (q r : ProcessView) (standing : Standing) → IsStaffed p seats standings → q ≡ get_or seats i q →
-    r.lp ≡ q.lp → IsSeated p.floor r → standing ≡ standing_of p.end r → IsStaffed p (set seats i r) (set standings i standing)
-staffed_again p seats standings i q r standing h read same seated known = record {
+-- one process has changed, and so has its summary
+pub staffed_again : (p : Place) (seats : List ProcessView) (summaries : List Summary) (i : ℕ) (q r : ProcessView) (summary : Summary) → IsStaffed p seats summaries → q ≡ get_or seats i q →
+    r.lp ≡ q.lp → IsSeated p.floor r → summary ≡ represented_of p.end r → IsStaffed p (set seats i r) (set summaries i summary)
+staffed_again p seats summaries i q r summary h read same seated known = record {
   node = h.node;
   end = h.end;
   lps = map-set_same (λ (v : ProcessView). v.lp) seats i r q (same ∙ ap (λ (v : ProcessView). v.lp) read) ∙ h.lps;
   seated = Every-set (IsSeated p.floor) seats i r seated h.seated;
   known =
-      ap (λ (xs : List Standing). set xs i standing) h.known
+      ap (λ (xs : List Summary). set xs i summary) h.known
       ∙ ap (set (standings_of p.end seats) i) known
-      ∙ sym (map-set (λ (v : ProcessView). standing_of p.end v) seats i r);
+      ∙ sym (map-set (λ (v : ProcessView). represented_of p.end v) seats i r);
 }

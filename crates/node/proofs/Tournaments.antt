@@ -1,12 +1,12 @@
--- The winner at the root of a tournament has the message that comes first, and replaying the
--- matches above a leaf keeps it so.
+-- The winner at the root of a tournament has the least message, and replaying the matches above a
+-- leaf keeps it so.
 use Rattle.std.proofs.Common.{◌≡◌, ◌≢◌, ◌⊎◌, ℕ, zero, suc, ◌+◌, ◌*◌, ◌/◌, ◌<◌, ◌≤◌, ◌^◌, List, [], ◌∷◌, length, get_or, set, ◌++◌, ◌-◌, take, replicate, refl, sym, subst, ◌∙◌, ap, arith, inl, inr, Option, Some, None, IfSome}
 use Rattle.std.proofs.lemmas.Bool.{cases_eq}
 use Rattle.std.proofs.lemmas.List.{get_or-set_other, get_or-set_same, length-set, get_or_default, length-replicate}
 use Rattle.std.proofs.Math.Seq.{take-nil}
 use Rattle.eventkey.specs.Message.{Message}
 use Rattle.node.specs.Node.{earliest, lesser}
-use Rattle.node.specs.declared.standing.Standing.{Standing}
+use Rattle.node.specs.declared.summary.Summary.{Summary}
 use Rattle.node.specs.Tournament.{HasWon, IsBelow, IsLowInRange, IsTournament, absent, least_among, next_at, up, winner_next}
 use Rattle.node.proofs.Lesser.{lesser_assoc, lesser_comm, lesser_none}
 
@@ -15,7 +15,7 @@ use Rattle.node.proofs.Lesser.{lesser_assoc, lesser_comm, lesser_none}
 abbrev Won : (ℕ → Option Message) → ℕ → Type 0
 Won f k = f k ≡ lesser (f (2 * k)) (f (2 * k + 1))
 
--- the first message at so many cells from this one on
+-- the least message at n cells from this one on
 abbrev least_from : (ℕ → Option Message) → ℕ → ℕ → Option Message
 least_from f start zero = None
 least_from f start (suc n) = lesser (f start) (least_from f (start + 1) n)
@@ -27,7 +27,7 @@ least_from-last f start (suc n) =
     ∙ sym (lesser_assoc (f start) (least_from f (start + 1) n) (f (start + 1 + n)))
     ∙ ap (λ (k : ℕ). lesser (least_from f start (suc n)) (f k)) {x = start + 1 + n} {y = start + suc n} (omega arith)
 
--- one match down: the winner leaves the window, the two that it beat join it
+-- one match down: the winner leaves the window, and the two cells below it join
 least_from-down : (f : ℕ → Option Message) (k : ℕ) → Won f (suc k) → least_from f (suc k) (suc k) ≡ least_from f (suc (suc k)) (suc (suc k))
 least_from-down f k won =
     let start : ℕ = suc k + 1 in
@@ -54,7 +54,7 @@ root_for : (f : ℕ → Option Message) (leaves : ℕ) → ((j : ℕ) → 1 ≤ 
 root_for f zero h some = absurd (omega arith)
 root_for f (suc n) h some = sym (lesser_none (f 1)) ∙ root_at f n (suc n) h (omega arith)
 
-leaves_least : (f : ℕ → Option Message) (xs : List Standing) (start : ℕ) → ((p : ℕ) → p < length xs → f (start + p) ≡ next_at xs p) → least_from f start (length xs) ≡ (least_among xs).next
+leaves_least : (f : ℕ → Option Message) (xs : List Summary) (start : ℕ) → ((p : ℕ) → p < length xs → f (start + p) ≡ next_at xs p) → least_from f start (length xs) ≡ (least_among xs).next
 leaves_least f [] start h = refl
 leaves_least f (x ∷ xs) start h =
     ap (λ (m : Option Message). lesser m (least_from f (start + 1) (length xs))) (ap f {x = start} {y = start + 0} (omega arith) ∙ h zero (omega arith))
@@ -72,20 +72,20 @@ own_from : (levels leaves place cell : ℕ) → place < leaves → up levels (le
 own_from zero leaves place cell there e l = omega arith
 own_from (suc levels) leaves place cell there e l = absurd (let most = up_most levels (leaves + place) in omega arith)
 
--- at a leaf's own cell stands its place
+-- the cell of a leaf has the place of the leaf
 own_place : (leaves place cell : ℕ) → IsBelow leaves place cell → leaves ≤ cell → place ≡ cell - leaves
 own_place leaves place cell h l = own_from h.levels leaves place cell h.there h.above l
 
-pub root_is_least : (leaves : List Standing) (winners : List ℕ) → IsTournament leaves winners → 1 ≤ length leaves → winner_next leaves winners 1 ≡ (least_among leaves).next
+pub root_is_least : (leaves : List Summary) (winners : List ℕ) → IsTournament leaves winners → 1 ≤ length leaves → winner_next leaves winners 1 ≡ (least_among leaves).next
 root_is_least leaves winners h some =
     let n : ℕ = length leaves in
     root_for (winner_next leaves winners) n h.won some
     ∙ leaves_least (winner_next leaves winners) leaves n (λ p l. ap (next_at leaves) (own_place n (get_or winners (n + p) 0) (n + p) (h.below (n + p) (omega arith) (omega arith)) (omega arith) ∙ omega arith))
 
--- 2. Matches played again
+-- 2. Matches replayed
 
--- while the matches above a cell are played again: all but those above it are won
-pub record IsReplaying (leaves : List Standing) (winners : List ℕ) (cell : ℕ) : Type 0 where
+-- while the matches above a cell are replayed, all matches but those above it are won
+pub record IsReplaying (leaves : List Summary) (winners : List ℕ) (cell : ℕ) : Type 0 where
   pub size : length winners ≡ 2 * length leaves
   pub few : length leaves < 2 ^ 32
   pub some : 1 ≤ cell
@@ -94,21 +94,21 @@ pub record IsReplaying (leaves : List Standing) (winners : List ℕ) (cell : ℕ
   pub won : (k : ℕ) → 1 ≤ k → k < length leaves → ((levels : ℕ) → up (suc levels) cell ≢ k) → HasWon leaves winners k
   pub lows : (k : ℕ) → IsLowInRange (get_or leaves k absent)
 
-pub lows_set : (leaves : List Standing) (i : ℕ) (x : Standing) → IsLowInRange x → ((k : ℕ) → IsLowInRange (get_or leaves k absent)) → (k : ℕ) → IsLowInRange (get_or (set leaves i x) k absent)
+pub lows_set : (leaves : List Summary) (i : ℕ) (x : Summary) → IsLowInRange x → ((k : ℕ) → IsLowInRange (get_or leaves k absent)) → (k : ℕ) → IsLowInRange (get_or (set leaves i x) k absent)
 lows_set [] i x h f k = f k
 lows_set (c ∷ cs) zero x h f zero = h
 lows_set (c ∷ cs) zero x h f (suc k) = f (suc k)
 lows_set (c ∷ cs) (suc i) x h f zero = f zero
 lows_set (c ∷ cs) (suc i) x h f (suc k) = lows_set cs i x h (λ j. f (suc j)) k
 
--- a leaf that changes is the winner at no cell that is not above it
+-- a changed leaf is the winner only at cells above it
 not_there : (leaves leaf place cell : ℕ) → IsBelow leaves place cell → ((levels : ℕ) → up levels (leaves + leaf) ≢ cell) → place ≢ leaf
 not_there leaves leaf place cell h none e = none h.levels (ap (λ (p : ℕ). up h.levels (leaves + p)) (sym e) ∙ h.above)
 
-other_next : (leaves : List Standing) (leaf place : ℕ) (x : Standing) → place ≢ leaf → next_at (set leaves leaf x) place ≡ next_at leaves place
-other_next leaves leaf place x other = ap (λ (s : Standing). s.next) (get_or-set_other leaves leaf place x absent other)
+other_next : (leaves : List Summary) (leaf place : ℕ) (x : Summary) → place ≢ leaf → next_at (set leaves leaf x) place ≡ next_at leaves place
+other_next leaves leaf place x other = ap (λ (s : Summary). s.next) (get_or-set_other leaves leaf place x absent other)
 
-pub replay_begins : (leaves : List Standing) (winners : List ℕ) (leaf : ℕ) (x : Standing) → IsTournament leaves winners → leaf < length leaves → IsLowInRange x →
+pub replay_begins : (leaves : List Summary) (winners : List ℕ) (leaf : ℕ) (x : Summary) → IsTournament leaves winners → leaf < length leaves → IsLowInRange x →
     IsReplaying (set leaves leaf x) winners (length leaves + leaf)
 replay_begins leaves winners leaf x h l fits =
     let n : ℕ = length leaves in
@@ -136,11 +136,11 @@ replay_begins leaves winners leaf x h l fits =
     not_at n leaf k zero none l e = omega arith
     not_at n leaf k (suc levels) none l e = none levels e
 
--- a leaf below a cell is below the one above that
+-- a leaf below a cell is below the cell above that
 pub below_up : (leaves place cell above : ℕ) → IsBelow leaves place cell → cell / 2 ≡ above → IsBelow leaves place above
 below_up leaves place cell above h e = record { there = h.there; levels = suc h.levels; above = ap (λ (k : ℕ). k / 2) h.above ∙ e }
 
-pub replay_goes_on : (leaves : List Standing) (winners : List ℕ) (cell place : ℕ) → 1 < cell → IsReplaying leaves winners cell →
+pub replay_goes_on : (leaves : List Summary) (winners : List ℕ) (cell place : ℕ) → 1 < cell → IsReplaying leaves winners cell →
     (place ≡ get_or winners (2 * (cell / 2)) 0) ⊎ (place ≡ get_or winners (2 * (cell / 2) + 1) 0) →
     next_at leaves place ≡ lesser (winner_next leaves winners (2 * (cell / 2))) (winner_next leaves winners (2 * (cell / 2) + 1)) →
     IsReplaying leaves (set winners (cell / 2) place) (cell / 2)
@@ -185,7 +185,7 @@ replay_goes_on leaves winners cell place many h either first =
 none_above_root : (levels : ℕ) → up (suc levels) 1 ≡ 0
 none_above_root levels = let most = up_most levels 1 in omega arith
 
-pub replay_ends : (leaves : List Standing) (winners : List ℕ) (cell : ℕ) → cell ≤ 1 → IsReplaying leaves winners cell → IsTournament leaves winners
+pub replay_ends : (leaves : List Summary) (winners : List ℕ) (cell : ℕ) → cell ≤ 1 → IsReplaying leaves winners cell → IsTournament leaves winners
 replay_ends leaves winners cell last h =
     let some = h.some in
     let root : cell ≡ 1 = omega arith in
@@ -197,15 +197,15 @@ replay_ends leaves winners cell last h =
       lows = h.lows;
     }
 
--- a leaf changes, and its next message stays
-pub same_matches : (leaves : List Standing) (winners : List ℕ) (leaf : ℕ) (x : Standing) → IsTournament leaves winners → leaf < length leaves → IsLowInRange x → x.next ≡ next_at leaves leaf →
+-- a leaf changes, but its next message does not
+pub same_matches : (leaves : List Summary) (winners : List ℕ) (leaf : ℕ) (x : Summary) → IsTournament leaves winners → leaf < length leaves → IsLowInRange x → x.next ≡ next_at leaves leaf →
     IsTournament (set leaves leaf x) winners
 same_matches leaves winners leaf x h l fits keeps =
     let same : length (set leaves leaf x) ≡ length leaves = length-set leaves leaf x in
     let size = h.size in
     let few = h.few in
     let still : (place : ℕ) → next_at (set leaves leaf x) place ≡ next_at leaves place = λ place. elim (cases_eq place leaf) [
-      | inl e ↦ ap (next_at (set leaves leaf x)) e ∙ ap (λ (s : Standing). s.next) (get_or-set_same leaves leaf x absent l) ∙ keeps ∙ ap (next_at leaves) (sym e)
+      | inl e ↦ ap (next_at (set leaves leaf x)) e ∙ ap (λ (s : Summary). s.next) (get_or-set_same leaves leaf x absent l) ∙ keeps ∙ ap (next_at leaves) (sym e)
       | inr e ↦ other_next leaves leaf place x e
     ] in
     record {
@@ -220,8 +220,8 @@ same_matches leaves winners leaf x h l fits keeps =
       lows = lows_set leaves leaf x fits h.lows;
     }
 
--- an element that is there is what an index reads, whatever stands for those that aren't
-pub leaf_at : (leaves : List Standing) (k : ℕ) (x : Standing) → x ≡ get_or leaves k x → k < length leaves → x ≡ get_or leaves k absent
+-- for an element that is there, the default of an index does not matter
+pub leaf_at : (leaves : List Summary) (k : ℕ) (x : Summary) → x ≡ get_or leaves k x → k < length leaves → x ≡ get_or leaves k absent
 leaf_at leaves k x e h = e ∙ get_or_default leaves k x absent h
 
 pub place_at : (winners : List ℕ) (k x : ℕ) → x ≡ get_or winners k x → k < length winners → x ≡ get_or winners k 0
@@ -233,13 +233,13 @@ earliest_in_range (Some x) None h k = h
 earliest_in_range (Some x) (Some y) h k = omega arith
 
 -- the least time lies in its range
-pub least_in_range : (leaves : List Standing) → ((k : ℕ) → IsLowInRange (get_or leaves k absent)) → IsLowInRange (least_among leaves)
+pub least_in_range : (leaves : List Summary) → ((k : ℕ) → IsLowInRange (get_or leaves k absent)) → IsLowInRange (least_among leaves)
 least_in_range [] h = tt
 least_in_range (x ∷ xs) h = earliest_in_range x.low (least_among xs).low (h zero) (least_in_range xs (λ k. h (suc k)))
 
--- 3. A tournament where nothing stands
+-- 3. A tournament of empty summaries
 
--- the cells from this one on name leaves below them
+-- the cells from this one on have leaves below them
 pub record IsSeeded (leaves cell : ℕ) (winners : List ℕ) : Type 0 where
   pub size : length winners ≡ 2 * leaves
   pub most : cell ≤ 2 * leaves
@@ -260,11 +260,11 @@ seeded_with leaves cell place winners many h is =
       ];
     }
 
--- a leaf at its own cell
+-- a leaf is below its own cell
 pub own_below : (leaves cell : ℕ) → leaves ≤ cell → cell < 2 * leaves → IsBelow leaves (cell - leaves) cell
 own_below leaves cell from before = record { there = omega arith; levels = 0; above = omega arith }
 
--- the winner of the left one of two cells
+-- the winner of the left of two cells
 pub left_below : (leaves cell : ℕ) (winners : List ℕ) → 1 ≤ cell → cell < leaves → IsSeeded leaves (suc cell) winners → IsBelow leaves (get_or winners (2 * cell) 0) cell
 left_below leaves cell winners some inside h = below_up leaves (get_or winners (2 * cell) 0) (2 * cell) cell (h.below (2 * cell) (omega arith) (omega arith)) (omega arith)
 
@@ -273,12 +273,12 @@ none_at zero k = refl
 none_at (suc count) zero = refl
 none_at (suc count) (suc k) = none_at count k
 
-pub seeded_is_tournament : (leaves cell : ℕ) (standings : List Standing) (winners : List ℕ) → leaves < 2 ^ 32 → cell ≤ 1 → standings ≡ replicate leaves absent → IsSeeded leaves cell winners → IsTournament standings winners
-seeded_is_tournament leaves cell standings winners few last is h =
+pub seeded_is_tournament : (leaves cell : ℕ) (summaries : List Summary) (winners : List ℕ) → leaves < 2 ^ 32 → cell ≤ 1 → summaries ≡ replicate leaves absent → IsSeeded leaves cell winners → IsTournament summaries winners
+seeded_is_tournament leaves cell summaries winners few last is h =
     let same : length (replicate leaves absent) ≡ leaves = length-replicate leaves absent in
     let size = h.size in
-    let none : (place : ℕ) → next_at (replicate leaves absent) place ≡ None = λ place. ap (λ (s : Standing). s.next) (none_at leaves place) in
-    subst (λ (xs : List Standing). IsTournament xs winners) (sym is) (record {
+    let none : (place : ℕ) → next_at (replicate leaves absent) place ≡ None = λ place. ap (λ (s : Summary). s.next) (none_at leaves place) in
+    subst (λ (xs : List Summary). IsTournament xs winners) (sym is) (record {
       size = omega arith;
       few = omega arith;
       below = λ k a b. subst (λ (m : ℕ). IsBelow m (get_or winners k 0) k) (sym same) (h.below k (omega arith) (omega arith));
@@ -288,7 +288,7 @@ seeded_is_tournament leaves cell standings winners few last is h =
       lows = λ k. subst IsLowInRange (sym (none_at leaves k)) tt;
     })
 
--- a vector that was empty and grew to so many
+-- an empty vector grown to `count` elements
 pub grown : {A : Type 0} (x : A) (count : ℕ) (before after : List A) (len : ℕ) → before ≡ [] → len ≡ 0 → after ≡ take count before ++ replicate (count - len) x → after ≡ replicate count x
 grown {A} x count before after len e l h =
     h

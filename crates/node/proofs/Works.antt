@@ -1,5 +1,5 @@
--- A node at work on a parcel: its processes are told truly all along, what it sends is not before
--- what it was handed, and each message is accounted for.
+-- A node at work on a parcel: its processes stay consistent with the model, it sends nothing before
+-- its deliveries, and each message is accounted for.
 use Rattle.std.proofs.Common.{ℕ, ◌<◌, ◌≤◌, ◌≡◌, ◌+◌, ◌*◌, ◌/◌, ◌%◌, ◌^◌, ◌++◌, ◌∙◌, List, [], ◌∷◌, flat_map, length, refl, ap, inl, inr, arith, ◌⊎◌, Option, Some, None, zero, suc, subst, get_or, true, cond, map, sym, set, length-set, get_or-set_same, get_or-set_other}
 use Rattle.std.proofs.lemmas.Bool.{cond_both, cases_eq, ltb-true, leb-true}
 use Rattle.std.proofs.lemmas.List.{length-map, map-append, get_or-map}
@@ -23,11 +23,11 @@ use Rattle.queues.specs.Record.{handled_before, handled_from, messages, number_b
 use Rattle.queues.specs.declared.Record.{Record}
 use Rattle.process.proofs.Arrivals.{IsFine, IsLater, fold_kept, stamp_later}
 use Rattle.process.proofs.Handlings.{fine_handle, handled_before-from}
-use Rattle.process.proofs.Laws.{arrival_is_balanced, arrival_is_told, arrival_looks_ahead, arrival_takes_back, handling_is_balanced, handling_is_told, telling_is_told}
-use Rattle.process.specs.Process.{Process, arrive, fossils_of, handle, handling_of, has_room, nobody, queue_of, release, sent_by, state_after, taken_back}
-use Rattle.process.specs.Told.{IsTold, IsToldFold, held}
+use Rattle.process.proofs.Laws.{arrival_is_balanced, arrival_stays_consistent, arrival_looks_ahead, arrival_cancels_sends, handling_is_balanced, handling_stays_consistent, reports_stay_consistent}
+use Rattle.process.specs.Process.{Process, arrive, fossils_of, handle, handling_of, has_room, nobody, queue_of, release, sent_by, state_after, cancelled_sends}
+use Rattle.process.specs.Consistent.{IsConsistentProcess, AreConsistent, held}
 use Rattle.process.specs.declared.Done.{Done}
-use Rattle.node.proofs.Arrived.{arrived_parts, fine_arrive, fine_taken_back}
+use Rattle.node.proofs.Arrived.{arrived_parts, fine_arrive, fine_cancelled}
 use Rattle.node.proofs.Seats.{own_at, own_place}
 use Rattle.node.specs.Handling.{own_lps}
 use Rattle.node.specs.Kept.{HasRanged, IsNodeKept, IsPast, IsUnderWay, Past, ReleasingIsKept, WorkIsKept, own}
@@ -35,15 +35,15 @@ use Rattle.node.specs.Node.{Work, deliver_here, deliver_one_here, first, here, l
 
 -- 1. One process
 
--- the words of the state that follows what was told
-pub told_words : (m : Meaning) (lp : ℕ) → IsLawful m → lp < m.lps → (ds : List Done) (state : List ℕ) (number : ℕ) → IsWords state → Every (λ (d : Done). IsRanged d.message) ds →
-    IsToldFold m lp state number ds → IsWords (state_after ds state)
-told_words m lp law there [] state number words ranged f = words
-told_words m lp law there (d ∷ ds) state number words ranged f =
-    told_words m lp law there ds d.after d.number_after (rw f.1 (law.words lp state d.message there words ranged.0)) ranged.1 f.4
+-- the state after the reported handlings is a list of words
+pub reported_words : (m : Meaning) (lp : ℕ) → IsLawful m → lp < m.lps → (ds : List Done) (state : List ℕ) (number : ℕ) → IsWords state → Every (λ (d : Done). IsRanged d.message) ds →
+    AreConsistent m lp state number ds → IsWords (state_after ds state)
+reported_words m lp law there [] state number words ranged f = words
+reported_words m lp law there (d ∷ ds) state number words ranged f =
+    reported_words m lp law there ds d.after d.number_after (rw f.1 (law.words lp state d.message there words ranged.0)) ranged.1 f.4
 
-done_ascending : {m : Meaning} {lp time : ℕ} {state : List ℕ} {number floor : ℕ} {told : List Done} {q : Process} → IsTold m lp time state number floor told q → IsAscending (messages q.done)
-done_ascending {told = told} {q = q} h = IsAscending-right (map (λ (d : Done). d.message) told) (messages q.done) h.ascending
+done_ascending : {m : Meaning} {lp time : ℕ} {state : List ℕ} {number floor : ℕ} {reported : List Done} {q : Process} → IsConsistentProcess m lp time state number floor reported q → IsAscending (messages q.done)
+done_ascending {reported = reported} {q = q} h = IsAscending-right (map (λ (d : Done). d.message) reported) (messages q.done) h.ascending
 
 fine_of : (q : Process) → HasRanged q → IsFine IsRanged q
 fine_of q h = record { handled = h.done; waiting = h.waiting; antis = h.antis; sent = h.sent }
@@ -102,8 +102,8 @@ same_place nodes a b e f = let g = ap (λ (z : ℕ). z * nodes) f in omega (arit
 -- 3. A change of one process
 
 module _ (m : Meaning) (nodes node floor low : ℕ) (small : node < nodes) (past : Past) where
-  abbrev ToldAt : ℕ → Process → Type 0
-  ToldAt lp q = IsTold m lp past.time (past.state lp) (past.number lp) floor (past.told lp) q
+  abbrev ReportedAt : ℕ → Process → Type 0
+  ReportedAt lp q = IsConsistentProcess m lp past.time (past.state lp) (past.number lp) floor (past.reported lp) q
 
   abbrev Waits : Process → Type 0
   Waits q = Every (IsFrom low) (q.waiting ++ q.antis)
@@ -124,18 +124,18 @@ module _ (m : Meaning) (nodes node floor low : ℕ) (small : node < nodes) (past
     pub own_other : (q : Process) (k : ℕ) → k % nodes ≡ node → (k ≡ lp → ⊥) → own nodes (set qs (lp / nodes) q) k ≡ own nodes qs k
     own_other q k e apart = get_or-set_other qs (lp / nodes) (k / nodes) q nobody (λ f. apart (same_place nodes k lp (e ∙ sym on) f))
 
-    pub kept_set : (q : Process) → ToldAt lp q → HasRanged q → Waits q → IsNodeKept m nodes node floor low past (set qs (lp / nodes) q)
-    kept_set q told ranged waits = record {
+    pub kept_set : (q : Process) → ReportedAt lp q → HasRanged q → Waits q → IsNodeKept m nodes node floor low past (set qs (lp / nodes) q)
+    kept_set q reported ranged waits = record {
       size = length-set qs (lp / nodes) q ∙ h.size;
-      told = λ k k_there k_on. elim (cases_eq k lp) [
-        | inl e ↦ subst (λ (j : ℕ). ToldAt j (own nodes (set qs (lp / nodes) q) j)) (sym e) (subst (ToldAt lp) (sym (own_same q)) told)
-        | inr e ↦ subst (ToldAt k) (sym (own_other q k k_on e)) (h.told k k_there k_on)
+      reported = λ k k_there k_on. elim (cases_eq k lp) [
+        | inl e ↦ subst (λ (j : ℕ). ReportedAt j (own nodes (set qs (lp / nodes) q) j)) (sym e) (subst (ReportedAt lp) (sym (own_same q)) reported)
+        | inr e ↦ subst (ReportedAt k) (sym (own_other q k k_on e)) (h.reported k k_there k_on)
       ];
       ranged = Every-set HasRanged qs (lp / nodes) q ranged h.ranged;
       late = Every-set Waits qs (lp / nodes) q waits h.late;
     }
 
-  -- what is known of the least waiting message
+  -- the facts about the least waiting message
   record IsLeast (qs : List Process) (x : Message) : Type 0 where
     there : x.to < m.lps
     on : x.to % nodes ≡ node
@@ -149,7 +149,7 @@ module _ (m : Meaning) (nodes node floor low : ℕ) (small : node < nodes) (past
       let lp : ℕ = get_or (own_lps nodes node m.lps) k 0 in
       let a = own_at nodes node small m.lps k (let s = h.size in let b = r.1 in omega arith) in
       let heads : (own nodes qs lp).waiting ≡ x ∷ r.2.0 = ap (λ (j : ℕ). (get_or qs j nobody).waiting) a.place ∙ r.2.1 in
-      let mine : Every (λ (y : Message). y.to ≡ lp) (x ∷ r.2.0) = subst (Every (λ (y : Message). y.to ≡ lp)) heads (h.told lp a.there a.sits).own_waiting in
+      let mine : Every (λ (y : Message). y.to ≡ lp) (x ∷ r.2.0) = subst (Every (λ (y : Message). y.to ≡ lp)) heads (h.reported lp a.there a.sits).own_waiting in
       let same : x.to ≡ lp = mine.0 in
       record {
         there = subst (λ (j : ℕ). j < m.lps) (sym same) a.there;
@@ -161,7 +161,7 @@ module _ (m : Meaning) (nodes node floor low : ℕ) (small : node < nodes) (past
 -- 4. Deliveries and turns
 
 module _ (m : Meaning) (law : IsLawful m) (end : ℕ) (short : end ≤ 2 ^ 40) (nodes node floor low : ℕ) (there : node < nodes) (under : floor ≤ low) (past : Past) (known : IsPast m past) (all : List Signed) (qs : List Process) where
-  -- these are still to be delivered
+  -- the work so far, with these deliveries left
   record IsGoing (ss : List Signed) (w : Work) : Type 0 where
     kept : IsNodeKept m nodes node floor low past w.processes
     out : Every (IsUnderWay m.lps low) w.out
@@ -170,9 +170,9 @@ module _ (m : Meaning) (law : IsLawful m) (end : ℕ) (short : end ≤ 2 ^ 40) (
         ≡ held x (own nodes qs x.to) + copies x (own nodes w.processes x.to).antis + copies x (of_sign Plus all) + copies x (of_sign Minus ss)
     sent_is : (x : Message) → copies x (flat_map sent_by w.processes) + copies x (of_sign Minus w.out) ≡ copies x (flat_map sent_by qs) + copies x (of_sign Plus w.out)
 
-  -- the words of the state before what a process has
-  words_before : (lp : ℕ) (q : Process) → lp < m.lps → ToldAt m nodes node floor low there past lp q → IsWords (state_before q.done q.state)
-  words_before lp q l h = rw h.state_meets (told_words m lp law l (past.told lp) (past.state lp) (past.number lp) (known.words lp l) (known.told lp l) h.told_fold)
+  -- the state before the history of a process is a list of words
+  words_before : (lp : ℕ) (q : Process) → lp < m.lps → ReportedAt m nodes node floor low there past lp q → IsWords (state_before q.done q.state)
+  words_before lp q l h = rw h.state_meets (reported_words m lp law l (past.reported lp) (past.state lp) (past.number lp) (known.words lp l) (known.reported lp l) h.consistent_fold)
 
   deliver_one_kept : (s : Signed) (ss : List Signed) (w : Work) → s.message.to % nodes ≡ node → IsUnderWay m.lps low s → IsGoing (s ∷ ss) w → IsGoing ss (deliver_one_here nodes s w)
   deliver_one_kept s ss w on way h =
@@ -181,23 +181,23 @@ module _ (m : Meaning) (law : IsLawful m) (end : ℕ) (short : end ≤ 2 ^ 40) (
       let k = h.kept in
       let l = way.there in
       let late = way.late in
-      let told = k.told lp l on in
+      let reported = k.reported lp l on in
       let fine = fine_of q (own_ranged m nodes node floor low there past w.processes k lp l on) in
       let waits = own_waits m nodes node floor low there past w.processes k lp l on in
-      let up = done_ascending told in
+      let up = done_ascending reported in
       let parts = arrived_parts s (queue_of q) (IsFrom low) up (λ x p. let t = time_from_at_most s.message x p in omega arith) late
       (Every-left (IsFrom low) q.waiting q.antis waits) (Every-right (IsFrom low) q.waiting q.antis waits) in
       let new : Process = arrive s q in
       record {
         kept = kept_set m nodes node floor low there past w.processes k lp l on new
-            (arrival_is_told m lp past.time (past.state lp) (past.number lp) floor (past.told lp) s q refl (omega arith) told)
+            (arrival_stays_consistent m lp past.time (past.state lp) (past.number lp) floor (past.reported lp) s q refl (omega arith) reported)
             (ranged_of new (fine_arrive IsRanged s q fine way.ranged))
             (Every-append (IsFrom low) new.waiting new.antis parts.0 parts.1);
-        out = Every-append (IsUnderWay m.lps low) w.out (taken_back s q) h.out
+        out = Every-append (IsUnderWay m.lps low) w.out (cancelled_sends s q) h.out
             (Every-both (λ (t : Signed). (s.message.time ≤ t.message.time) × (t.message.to < m.lps)) (λ (t : Signed). IsRanged t.message) (IsUnderWay m.lps low)
-            (λ t p r. record { late = (let a = p.0 in omega arith); there = p.1; ranged = r }) (taken_back s q)
-            (arrival_looks_ahead m lp s q law l told.history (words_before lp q l told) fine.handled up)
-            (fine_taken_back IsRanged s q fine));
+            (λ t p r. record { late = (let a = p.0 in omega arith); there = p.1; ranged = r }) (cancelled_sends s q)
+            (arrival_looks_ahead m lp s q law l reported.history (words_before lp q l reported) fine.handled up)
+            (fine_cancelled IsRanged s q fine));
         held_is = λ x x_l x_on.
             let old = h.held_is x x_l x_on in
             elim (cases_eq x.to lp) [
@@ -217,11 +217,11 @@ module _ (m : Meaning) (law : IsLawful m) (end : ℕ) (short : end ≤ 2 ^ 40) (
             ];
         sent_is = λ x.
             let old = h.sent_is x in
-            let back = arrival_takes_back x s q in
+            let back = arrival_cancels_sends x s q in
             let b0 = back.0 in
             let b1 = back.1 in
             let sent = copies-flat_map-set sent_by x w.processes (lp / nodes) new nobody (place m nodes node floor low there past w.processes k lp l on) in
-            omega (arith, copies-append_signed x Plus w.out (taken_back s q), copies-append_signed x Minus w.out (taken_back s q));
+            omega (arith, copies-append_signed x Plus w.out (cancelled_sends s q), copies-append_signed x Minus w.out (cancelled_sends s q));
       }
 
   deliver_kept : (ss : List Signed) (w : Work) → Every (λ (s : Signed). s.message.to % nodes ≡ node) ss → Every (IsUnderWay m.lps low) ss → IsGoing ss w → IsGoing [] (deliver_here nodes ss w)
@@ -237,12 +237,12 @@ module _ (m : Meaning) (law : IsLawful m) (end : ℕ) (short : end ≤ 2 ^ 40) (
       let on = least.on in
       let rest = least.rest in
       let heads = least.heads in
-      let told = k.told lp l on in
+      let reported = k.reported lp l on in
       let fine = fine_of q (own_ranged m nodes node floor low there past w.processes k lp l on) in
       let waits = own_waits m nodes node floor low there past w.processes k lp l on in
       let ranged : Every IsRanged (x ∷ rest) = subst (Every IsRanged) heads fine.waiting in
       let from : Every (IsFrom low) (x ∷ rest) = subst (Every (IsFrom low)) heads (Every-left (IsFrom low) q.waiting q.antis waits) in
-      let now : IsWords q.state = (fold_kept m lp law l q.done (state_before q.done q.state) (number_before q.done q.number) q.state q.number (words_before lp q l told) fine.handled told.history).1 in
+      let now : IsWords q.state = (fold_kept m lp law l q.done (state_before q.done q.state) (number_before q.done q.number) q.state q.number (words_before lp q l reported) fine.handled reported.history).1 in
       let goes = law.each lp q.state x l now ranged.0 in
       let fits : q.number + length (m.sends lp q.state x) ≤ 2 ^ 63 = leb-true (q.number + length (m.sends lp q.state x)) (2 ^ 63) room in
       let later = stamp_later m.lps lp x.time q.number (m.sends lp q.state x) goes in
@@ -251,7 +251,7 @@ module _ (m : Meaning) (law : IsLawful m) (end : ℕ) (short : end ≤ 2 ^ 40) (
       let new : Process = handle m lp x q in
       record {
         kept = kept_set m nodes node floor low there past w.processes k lp l on new
-            (handling_is_told m lp x q past.time (past.state lp) (past.number lp) floor (past.told lp) rest heads fits told)
+            (handling_stays_consistent m lp x q past.time (past.state lp) (past.number lp) floor (past.reported lp) rest heads fits reported)
             (ranged_of new (fine_handle IsRanged m lp x q fine rest heads (Every-weaker (IsAddressed m.lps) IsRanged (λ y a. a.ranged) sent addressed)))
             (Every-append (IsFrom low) new.waiting new.antis (Every-remove_one (IsFrom low) x q.waiting (Every-left (IsFrom low) q.waiting q.antis waits)) (Every-right (IsFrom low) q.waiting q.antis waits));
         out = Every-append (IsUnderWay m.lps low) w.out (map plus sent) h.out
@@ -311,7 +311,7 @@ work_is_kept m end nodes node floor low past parcel qs w law short there under k
       sent_is = done.sent_is;
     }
 
--- 5. Letting go of what is told
+-- 5. Releasing what is reported
 
 pub own_released : (m : Meaning) (nodes node floor low : ℕ) (past : Past) (qs : List Process) (floor' lp : ℕ) → node < nodes → IsNodeKept m nodes node floor low past qs → lp < m.lps → lp % nodes ≡ node →
     own nodes (map (λ (q : Process). release floor' q) qs) lp ≡ release floor' (own nodes qs lp)
@@ -320,12 +320,12 @@ own_released m nodes node floor low past qs floor' lp there h l on = get_or-map 
 pub releasing_is_kept : ReleasingIsKept
 releasing_is_kept m nodes node floor floor' low past qs there start less under h = record {
   size = length-map qs (λ (q : Process). release floor' q) ∙ h.size;
-  told = λ lp l on.
+  reported = λ lp l on.
       let q : Process = own nodes qs lp in
       let waits = Every-weaker (IsFrom low) (IsFrom floor') (λ x a. omega arith) (q.waiting ++ q.antis) (own_waits m nodes node floor low there past qs h lp l on) in
-      subst (IsTold m lp past.time (past.state lp) (past.number lp) floor' (past.told lp ++ fossils_of floor' q)) (sym (own_released m nodes node floor low past qs floor' lp there h l on))
-      (telling_is_told m lp past.time (past.state lp) (past.number lp) floor floor' (past.told lp) q start less
-      (Every-left (IsFrom floor') q.waiting q.antis waits) (Every-right (IsFrom floor') q.waiting q.antis waits) (h.told lp l on));
+      subst (IsConsistentProcess m lp past.time (past.state lp) (past.number lp) floor' (past.reported lp ++ fossils_of floor' q)) (sym (own_released m nodes node floor low past qs floor' lp there h l on))
+      (reports_stay_consistent m lp past.time (past.state lp) (past.number lp) floor floor' (past.reported lp) q start less
+      (Every-left (IsFrom floor') q.waiting q.antis waits) (Every-right (IsFrom floor') q.waiting q.antis waits) (h.reported lp l on));
   ranged = Every-map HasRanged (λ (q : Process). release floor' q) qs (Every-weaker HasRanged (λ (q : Process). HasRanged (release floor' q)) (λ q a. ranged_release floor' q a) qs h.ranged);
   late = Every-map (λ (q : Process). Every (IsFrom low) (q.waiting ++ q.antis)) (λ (q : Process). release floor' q) qs h.late;
 }

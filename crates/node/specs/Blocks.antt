@@ -1,36 +1,37 @@
--- Standings in blocks of 32, and for each block two times that no standing there is before.
+-- Summaries of processes in blocks of 32, and a bound for each block: two times that no time there
+-- is before.
 use Rattle.std.specs.Prelude.{ℕ, List, false, length, get_or, take, drop, ◌+◌, ◌*◌, ◌/◌, ◌≡◌, ◌≤◌}
 use Rattle.std.specs.Prelude.{◌<◌, None}
 use Rattle.node.specs.Node.{earliest}
 use Rattle.node.specs.Seats.{is_due}
 use Rattle.node.specs.Tournament.{absent}
 use Rattle.node.specs.declared.blocks.Bound.{Bound}
-use Rattle.node.specs.declared.standing.Standing.{Standing}
+use Rattle.node.specs.declared.summary.Summary.{Summary}
 
--- the bound where nothing stands
+-- the bound of empty summaries
 abbrev pub unbounded : Bound
 unbounded = record { low = None; oldest = None }
 
--- a bound that is lowered to the times of a standing
-abbrev pub lowered : Bound → Standing → Bound
+-- the bound lowered to the times of a summary
+abbrev pub lowered : Bound → Summary → Bound
 lowered b s = record { low = earliest b.low s.low; oldest = earliest b.oldest s.oldest }
 
--- no time of a standing is before its bound
-pub record IsBounded (b : Bound) (s : Standing) : Type 0 where
+-- no time of this summary is before the bound
+pub record IsBounded (b : Bound) (s : Summary) : Type 0 where
   pub low_is : earliest b.low s.low ≡ b.low
   pub oldest_is : earliest b.oldest s.oldest ≡ b.oldest
 
--- the standings of a block
-abbrev pub block_at : ℕ → List Standing → List Standing
-block_at block standings = take 32 (drop (32 * block) standings)
+-- the summaries of a block
+abbrev pub block_at : ℕ → List Summary → List Summary
+block_at block summaries = take 32 (drop (32 * block) summaries)
 
--- each standing has the bound of its block
-pub record AreBlocks (standings : List Standing) (bounds : List Bound) : Type 0 where
-  pub size : length bounds ≡ length standings / 32 + 1
+-- each summary has the bound of its block
+pub record AreBlocks (summaries : List Summary) (bounds : List Bound) : Type 0 where
+  pub size : length bounds ≡ length summaries / 32 + 1
   pub bounded :
-      (k : ℕ) → IsBounded (get_or bounds (k / 32) unbounded) (get_or standings k absent)
+      (k : ℕ) → IsBounded (get_or bounds (k / 32) unbounded) (get_or summaries k absent)
 
--- nothing is due from one place on, before another
-abbrev pub IsQuietFrom : ℕ → List Standing → ℕ → ℕ → Type 0
-IsQuietFrom floor standings from to =
-    (k : ℕ) → from ≤ k → k < to → is_due floor (get_or standings k absent).oldest ≡ false
+-- no place, from one on and before another, has a handling below the floor
+abbrev pub IsQuietFrom : ℕ → List Summary → ℕ → ℕ → Type 0
+IsQuietFrom floor summaries from to =
+    (k : ℕ) → from ≤ k → k < to → is_due floor (get_or summaries k absent).oldest ≡ false

@@ -1,4 +1,4 @@
--- What a process refuses, its node refuses.
+-- The fault of a node for each fault of its processes.
 use Rattle.node.specs.declared.NodeFault.{NodeFault}
 use Rattle.node.specs.declared.NodeFault.TheVariants as node
 use Rattle.process.specs.declared.ProcessFault.{ProcessFault}

@@ -1,4 +1,4 @@
--- A node at work on its own processes: deliveries, turns, collection. Process lp is its number lp /
+-- A node at work on its own processes: deliveries, turns, collection. Process lp is at place lp /
 -- nodes.
 use Rattle.std.specs.Prelude.{ℕ, List, [], ◌∷◌, Option, Some, None, ◌++◌, flat_map, ◌%◌, Bool}
 use Rattle.std.specs.Prelude.{nat_eq, if◌then◌else◌, ◌/◌, get_or, ◌+◌, set, map, nat_lt, zero, suc}
@@ -8,29 +8,28 @@ use Rattle.eventkey.specs.Signed.{plus}
 use Rattle.eventkey.specs.declared.Signed.{Signed}
 use Rattle.model.specs.Meaning.{Meaning}
 use Rattle.process.specs.Process.{Process, arrive, fossils_of, handle, handling_of, has_room}
-use Rattle.process.specs.Process.{nobody, release, taken_back}
+use Rattle.process.specs.Process.{nobody, release, cancelled_sends}
 pub use Rattle.queues.specs.Queue.{first_time}
 use Rattle.node.specs.declared.Parcel.{Parcel}
 use Rattle.node.specs.declared.Reply.{Reply}
 
--- the least time of what waits and of the antimessages of these processes
+-- the least time of the waiting messages and antimessages of these processes
 abbrev pub low_of : List Process → Option ℕ
 low_of qs = first_time (flat_map (λ (q : Process). q.waiting ++ q.antis) qs)
 
--- the lesser of two times, where each may be missing
+-- the lesser of two times, either of which can be missing
 abbrev pub earliest : Option ℕ → Option ℕ → Option ℕ
 earliest None y = y
 earliest (Some x) None = Some x
 earliest (Some x) (Some y) = Some (min x y)
 
--- A node at work: all processes (it changes its own), what it sent so far, and how many messages it
--- handled
+-- A node at work: its processes, what it sent so far, and the number of messages that it handled
 pub record Work : Type 0 where
   pub processes : List Process
   pub out : List Signed
   pub ran : ℕ
 
--- process lp sits on this node of so many
+-- process lp is on this node of this number of nodes
 abbrev pub sits_on : ℕ → ℕ → ℕ → Bool
 sits_on nodes node lp = nat_eq (lp % nodes) node
 
@@ -46,8 +45,8 @@ abbrev pub lesser : Option Message → Option Message → Option Message
 lesser None y = y
 lesser (Some x) y = lesser_with x y
 
--- A node handles a parcel: all deliveries in order, then the turns, then it collects what is below
--- the floor
+-- A node handles a parcel: all deliveries in order, then turns up to the budget, then the
+-- collection of what is below the floor
 abbrev pub start : List Process → Work
 start qs = record { processes = qs; out = []; ran = 0 }
 
@@ -57,7 +56,7 @@ here nodes w lp = get_or w.processes (lp / nodes) nobody
 abbrev pub deliver_one_here : ℕ → Signed → Work → Work
 deliver_one_here nodes s w = record {
   processes = set w.processes (s.message.to / nodes) (arrive s (here nodes w s.message.to));
-  out = w.out ++ taken_back s (here nodes w s.message.to);
+  out = w.out ++ cancelled_sends s (here nodes w s.message.to);
   ran = w.ran;
 }
 
@@ -86,7 +85,7 @@ run_here m end nodes zero w = Some w
 run_here m end nodes (suc budget) w = turn_here m end nodes (λ (v : Work). run_here m end nodes
     budget v) w (least_of w.processes)
 
--- what the node makes of a parcel before it collects
+-- the work of the node on a parcel before it collects
 abbrev pub work_here : Meaning → ℕ → ℕ → Parcel → List Process → Option Work
 work_here m end nodes parcel qs = run_here m end nodes parcel.budget
     (deliver_here nodes parcel.deliver (start qs))
@@ -100,6 +99,6 @@ reply_of floor w = record {
   ran = w.ran;
 }
 
--- the processes of the node afterwards
+-- the processes of the node after the collection
 abbrev pub released_processes : ℕ → Work → List Process
 released_processes floor w = map (λ (q : Process). release floor q) w.processes

@@ -1,4 +1,4 @@
-// What stands of many processes, in blocks, so that a pass over their times leaves most of it out.
+// Per-process summaries in blocks, so that a search by time skips most of them.
 
 ghost use Rattle.std.specs.Prelude.{◌≡◌, ◌<◌, ◌≤◌, ◌*◌, length, set, get_or, replicate};
 ghost use Rattle.std.specs.Prelude.{IfOk, true};
@@ -6,117 +6,117 @@ ghost use Rattle.node.specs.Blocks.{IsQuietFrom, block_at, lowered};
 ghost use Rattle.node.specs.Seats.{is_due};
 ghost use Rattle.node.specs.Tournament.{absent, least_among};
 
-use crate::standing::{Standing, earliest, is_due};
+use crate::summary::{Summary, earliest, is_due};
 use std::alloc::{AllocError, Global};
 
-/// How many standings a block has.
+/// The number of summaries in a block.
 const BLOCK: usize = 32;
 
-/// Two times, in ticks, that no standing of a block is before; where one is missing, no standing
-/// has such a time.
+/// Two times, in ticks, each at most the least such time in the summaries of a block. If one is
+/// missing, no summary there has such a time.
 #[derive(Clone, Copy)]
 pub(crate) struct Bound {
-    /// Of what waits.
+    /// A lower bound of the times of waiting messages and antimessages.
     pub low: Option<u64>,
-    /// Of what is kept.
+    /// A lower bound of the times of handlings in the histories.
     pub oldest: Option<u64>,
 }
 
 impl Bound {
-    /// Where nothing stands.
+    /// The bound of empty summaries.
     const ABSENT: Bound = Bound {
         low: None,
         oldest: None,
     };
 
-    /// The bound of the same standings and this one.
+    /// Returns the bound of the same summaries and this one.
     #[inline(always)]
-    fn with(self, standing: &Standing) -> Bound
-        ensures { result ≡ lowered self standing.now }
+    fn with(self, summary: &Summary) -> Bound
+        ensures { result ≡ lowered self summary.now }
     {
         Bound {
-            low: earliest(self.low, standing.low),
-            oldest: earliest(self.oldest, standing.oldest),
+            low: earliest(self.low, summary.low),
+            oldest: earliest(self.oldest, summary.oldest),
         }
     }
 }
 
-/// Standings, each at its place, and for each block of them a bound. A standing that changes lowers
-/// the bound of its block and never raises it, so that it costs no scan: a pass that goes over a
-/// block makes its bound the latest again.
+/// A summary for each process, by place, and a bound for each block of them. A change of a summary
+/// lowers the bound of its block and never raises it, so that it needs no scan. A search that scans
+/// a block makes its bound exact again.
 #[derive(Drop)]
 pub(crate) struct Blocks {
-    standings: Vec<Standing>,
+    summaries: Vec<Summary>,
     bounds: Vec<Bound>,
 }
 
 impl std::marker::Model for Blocks {
     ghost use Rattle.std.specs.Prelude.{List};
-    ghost use Rattle.node.specs.declared.standing.Standing.{Standing};
+    ghost use Rattle.node.specs.declared.summary.Summary.{Summary};
 
-    ghost Value = { List Standing };
+    ghost Value = { List Summary };
 
     ghost use Rattle.node.specs.Blocks.{AreBlocks};
 
-    ghost view = { λ b. b.standings.items };
+    ghost view = { λ b. b.summaries.items };
 
-    ghost invariant = { λ b. AreBlocks b.standings.items b.bounds.items };
+    ghost invariant = { λ b. AreBlocks b.summaries.items b.bounds.items };
 }
 
 impl Blocks {
-    /// So many places, at none of which anything stands.
+    /// Returns this number of places, with empty summaries.
     pub(crate) fn new(alloc: Global, places: usize) -> Result<Blocks, AllocError>
         ensures { IfOk result (λ b. b ≡ replicate places absent) }
     {
-        let mut standings = Vec::new(alloc);
-        standings.resize(places, Standing::ABSENT)?;
+        let mut summaries = Vec::new(alloc);
+        summaries.resize(places, Summary::ABSENT)?;
         let mut bounds = Vec::new(alloc);
         bounds.resize(places / BLOCK + 1, Bound::ABSENT)?;
-        Ok(Blocks { standings, bounds })
+        Ok(Blocks { summaries, bounds })
     }
 
-    /// All standings, by place.
+    /// Returns all summaries, by place.
     #[inline(always)]
-    pub(crate) fn as_slice(&self) -> &[Standing]
+    pub(crate) fn as_slice(&self) -> &[Summary]
         ensures { result.now ≡ self.now }
     {
-        self.standings.as_slice()
+        self.summaries.as_slice()
     }
 
-    /// Puts another standing at a place. It takes no memory, and costs the same however many there
-    /// are.
+    /// Replaces the summary at a place. Allocates nothing; takes constant time.
     #[inline(always)]
-    pub(crate) fn set(&mut self, place: usize, standing: Standing)
+    pub(crate) fn set(&mut self, place: usize, summary: Summary)
         requires { place < length self.old }
-        ensures { self.new ≡ set self.old place standing }
+        ensures { self.new ≡ set self.old place summary }
     {
-        let bound = self.bounds[place / BLOCK].with(&standing);
+        let bound = self.bounds[place / BLOCK].with(&summary);
         self.bounds[place / BLOCK] = bound;
-        self.standings[place] = standing;
+        self.summaries[place] = summary;
     }
 
-    /// The least time of what waits at any place. It takes no memory, and costs the blocks, and the
-    /// places of those whose bound is before the least time of the blocks before them.
+    /// Returns the least waiting time, in ticks, at any place. Allocates nothing. Takes one step
+    /// for each block, and a scan of each block whose bound is below the least time found before
+    /// it.
     pub(crate) fn low(&mut self) -> Option<u64>
         ensures same { self.new ≡ self.old }
         ensures low { result ≡ (least_among self.old).low }
     {
         let mut low = None;
         for block in 0..self.bounds.len() {
-            // Nothing there is before what was found.
+            // No time there is below the least one found.
             if earliest(low, self.bounds[block].low) == low {
                 continue;
             }
-            let least = least_low(block_of(&self.standings, block));
+            let least = least_low(block_of(&self.summaries, block));
             self.bounds[block].low = least;
             low = earliest(low, least);
         }
         low
     }
 
-    /// The first place, from one on, whose oldest time is below the floor, in ticks; the number of
-    /// places where there is none. It takes no memory, and costs the blocks that it goes past, and
-    /// the places of those whose bound is below the floor.
+    /// Returns the first place, from `from` on, whose oldest time is below `floor`, in ticks, or
+    /// the number of places if there is none. Allocates nothing. Takes one step for each block
+    /// passed, and a scan of each block whose bound is below `floor`.
     pub(crate) fn first_due(&mut self, from: usize, floor: u64) -> usize
         requires { from ≤ length self.old }
         ensures same { self.new ≡ self.old }
@@ -127,16 +127,16 @@ impl Blocks {
             ≡ true }
     {
         let mut place = from;
-        while place < self.standings.len() {
+        while place < self.summaries.len() {
             let block = place / BLOCK;
-            let end = self.standings.len().min((block + 1) * BLOCK);
+            let end = self.summaries.len().min((block + 1) * BLOCK);
             if is_due(self.bounds[block].oldest, floor) {
-                let found = first_due_before(&self.standings, place, end, floor);
+                let found = first_due_before(&self.summaries, place, end, floor);
                 if found < end {
                     return found;
                 }
-                // The bound may be of a standing that is gone.
-                let least = least_oldest(block_of(&self.standings, block));
+                // The bound can be that of a summary since replaced.
+                let least = least_oldest(block_of(&self.summaries, block));
                 self.bounds[block].oldest = least;
             }
             place = end;
@@ -145,50 +145,50 @@ impl Blocks {
     }
 }
 
-/// The standings of a block.
-fn block_of(standings: &[Standing], block: usize) -> &[Standing]
-    requires { 32 * block ≤ length standings.now }
-    ensures { result.now ≡ block_at block standings.now }
+/// Returns the summaries of a block.
+fn block_of(summaries: &[Summary], block: usize) -> &[Summary]
+    requires { 32 * block ≤ length summaries.now }
+    ensures { result.now ≡ block_at block summaries.now }
 {
     let start = block * BLOCK;
-    let end = standings.len().min(start + BLOCK);
-    &standings[start..end]
+    let end = summaries.len().min(start + BLOCK);
+    &summaries[start..end]
 }
 
-/// The least time of what waits at these standings. It costs them.
-fn least_low(standings: &[Standing]) -> Option<u64>
-    ensures { result ≡ (least_among standings.now).low }
+/// Returns the least waiting time of these summaries. Scans them all.
+fn least_low(summaries: &[Summary]) -> Option<u64>
+    ensures { result ≡ (least_among summaries.now).low }
 {
     let mut low = None;
-    for standing in standings {
-        low = earliest(low, standing.low);
+    for summary in summaries {
+        low = earliest(low, summary.low);
     }
     low
 }
 
-/// The oldest time of what is kept at these standings. It costs them.
-fn least_oldest(standings: &[Standing]) -> Option<u64>
-    ensures { result ≡ (least_among standings.now).oldest }
+/// Returns the least `oldest` time of these summaries. Scans them all.
+fn least_oldest(summaries: &[Summary]) -> Option<u64>
+    ensures { result ≡ (least_among summaries.now).oldest }
 {
     let mut oldest = None;
-    for standing in standings {
-        oldest = earliest(oldest, standing.oldest);
+    for summary in summaries {
+        oldest = earliest(oldest, summary.oldest);
     }
     oldest
 }
 
-/// The first place, from one on and before another, whose oldest time is below the floor, in ticks;
-/// the other where there is none.
-fn first_due_before(standings: &[Standing], from: usize, end: usize, floor: u64) -> usize
+/// Returns the first place, from `from` on and before `end`, whose oldest time is below `floor`, in
+/// ticks, or `end` if there is none.
+fn first_due_before(summaries: &[Summary], from: usize, end: usize, floor: u64) -> usize
     requires from { from ≤ end }
-    requires end { end ≤ length standings.now }
+    requires end { end ≤ length summaries.now }
     ensures after { from ≤ result }
     ensures within { result ≤ end }
-    ensures quiet { IsQuietFrom floor standings.now from result }
-    ensures due { result < end → is_due floor (get_or standings.now result absent).oldest ≡ true }
+    ensures quiet { IsQuietFrom floor summaries.now from result }
+    ensures due { result < end → is_due floor (get_or summaries.now result absent).oldest ≡ true }
 {
     for place in from..end {
-        if is_due(standings[place].oldest, floor) {
+        if is_due(summaries[place].oldest, floor) {
             return place;
         }
     }

@@ -1,4 +1,4 @@
-//! A node: some logical processes, which handle parcels.
+//! A node: some of the logical processes of a simulation; it handles parcels.
 #![tactic(auto)]
 
 ghost use Rattle.std.specs.Prelude.{◌≡◌};
@@ -9,7 +9,7 @@ ghost use Rattle.node.specs.declared.NodeFault.TheVariants.{NoMemory};
 mod blocks;
 mod node;
 mod roster;
-mod standing;
+mod summary;
 mod tournament;
 
 use eventkey::{Listed, Message, Signed};
@@ -19,80 +19,80 @@ use process::{Done, ProcessFault};
 use std::alloc::{AllocError, AllocFailed};
 use thiserror::Error;
 
-/// One process as a node loads it.
+/// One process of a load.
 #[derive(Drop)]
 pub struct Part {
-    /// The process.
+    /// The number of the process.
     pub lp: u32,
-    /// Its send number, at most 2^63.
+    /// The send number of the process, at most 2^63.
     pub number: u64,
-    /// Its state words, at most 16.
+    /// The state words of the process, at most 16.
     pub words: State,
-    /// The messages that wait for it, in any order.
+    /// The messages that wait for the process, in any order.
     pub pending: Listed<Message>,
 }
 
-/// What a node is made of.
+/// The data from which a node is loaded.
 #[derive(Drop)]
 pub struct Load {
     /// The number of the node, below `nodes`.
     pub node: u32,
-    /// How many nodes there are, 1 to 64: process lp sits on node lp mod nodes.
+    /// The number of nodes, 1 to 64: process lp is on node lp mod `nodes`.
     pub nodes: u32,
-    /// The time, in ticks, from which nothing is handled, at most 2^40.
+    /// The end, in ticks, at most 2^40: no message at or after it is handled.
     pub end: u64,
-    /// The time, in ticks, before which nothing arrives any more.
+    /// The floor, in ticks: no message before it arrives.
     pub floor: u64,
     /// The processes of the node, ascending.
     pub parts: Listed<Part>,
 }
 
-/// What a node is posted: messages and antimessages for its processes, how many messages it may
-/// handle, and the floor below which it lets go of what it handled.
+/// A parcel for a node: messages and antimessages for its processes, the number of messages that it
+/// may handle, and the floor below which it releases its handlings.
 #[derive(Drop)]
 pub struct Parcel {
-    /// In the order in which they arrive.
+    /// The messages and antimessages, in the order of arrival.
     pub deliver: Listed<Signed>,
-    /// How many messages the node handles at the most.
+    /// The greatest number of messages that the node handles.
     pub budget: u32,
-    /// In ticks.
+    /// The floor, in ticks, at least that of the node.
     pub floor: u64,
 }
 
-/// What a node answers to a parcel.
+/// The reply of a node to a parcel.
 #[derive(Drop)]
 pub struct Reply {
-    /// The messages and antimessages that it sent, in the order in which they were made.
+    /// The messages and antimessages that the node sent, in the order in which they were made.
     pub out: Listed<Signed>,
-    /// The least time, in ticks, of what waits at the node, antimessages too; none where nothing
-    /// does.
+    /// The least time, in ticks, of the messages and antimessages that wait at the node, or `None`
+    /// if none waits.
     pub low: Option<u64>,
-    /// The handlings below the floor, by process ascending, each process's in order.
+    /// The handlings below the floor, by process ascending, those of each process in order.
     pub fossils: Listed<Done>,
-    /// How many messages the node handled.
+    /// The number of messages that the node handled.
     pub ran: u32,
 }
 
-/// Why a node refuses a load or a parcel.
+/// The reason why a node refuses a load or a parcel.
 #[derive(Clone, Copy, Debug, PartialEq, Eq, Error)]
 pub enum NodeFault {
-    /// Something is for a process of another node, or the parts of a load are not the node's
-    /// processes, ascending.
+    /// A message is for a process of another node, or the parts of a load are not the processes of
+    /// the node, ascending, or have messages for other processes.
     #[error("NotMine")]
     NotMine,
-    /// A message or an antimessage has a time before the node's floor.
+    /// The time of a message or an antimessage is below the floor of the node.
     #[error("BelowFloor")]
     BelowFloor,
-    /// There was no memory left.
+    /// An allocation failed.
     #[error("NoMemory")]
     NoMemory,
-    /// A send number would have passed 2^63.
+    /// A send number would pass 2^63.
     #[error("NumberLimit")]
     NumberLimit,
-    /// An earlier parcel found no memory, or a send number at its limit.
+    /// Poisoned by an earlier allocation failure or by the number limit.
     #[error("Spent")]
     Spent,
-    /// The floor of a parcel is before the node's.
+    /// The floor of a parcel is below that of the node.
     #[error("FloorFell")]
     FloorFell,
 }
@@ -127,15 +127,15 @@ impl From<ProcessFault> for NodeFault {
     }
 }
 
-/// What a node keeps of its processes: while it handles a parcel whose messages are not before a
-/// time, and when it lets go of what it tells.
+/// States the invariants that a node keeps of its processes: while it handles a parcel whose
+/// messages are not before a time, and when it releases the handlings that it reports.
 pub fn law_of_work()
     ensures kept { WorkIsKept }
     ensures released { ReleasingIsKept }
 {}
 
-/// What the processes of a node have handled is what the model does: when it is loaded, and so
-/// after any parcels, since `Node::handle` keeps it.
+/// States that the handlings of a loaded node are what the model does. They stay so after any
+/// parcels, since `Node::handle` keeps it.
 pub fn law_of_histories()
     ensures { HistoriesBegin }
 {}

@@ -9,7 +9,7 @@ ghost use Rattle.node.specs.Seats.{seat_of, standings_of};
 ghost use Rattle.node.specs.declared.NodeFault.TheVariants.{NoMemory, NumberLimit};
 
 use crate::roster::Roster;
-use crate::standing::Standing;
+use crate::summary::Summary;
 use crate::tournament::Tournament;
 use crate::{Load, NodeFault, Parcel, Part, Reply};
 use eventkey::Message;
@@ -17,14 +17,15 @@ use model::Model as Simulated;
 use process::Process;
 use std::alloc::Global;
 
-/// Some logical processes of a simulation: all those whose number leaves the node's number, divided
-/// by how many nodes there are.
+/// Some logical processes of a simulation: all those whose number, modulo the number of nodes, is
+/// the number of this node.
 pub struct Node {
     spent: bool,
     roster: Roster,
 }
 
-// Not derived: each caller that drops one would prove again how its parts are dropped.
+// Handwritten: with a derived drop, each caller that drops a node proves again how its parts are
+// dropped.
 impl Drop for Node {
     fn drop(self) {
         let Node {
@@ -51,11 +52,11 @@ impl Node {
     ghost use Rattle.node.specs.Handling.{IsAnswered, IsLimitedAtOnce, IsLoaded, IsReplyInRange};
     ghost use Rattle.node.specs.Handling.{refusal};
 
-    /// The node of a model that a load tells of.
+    /// Returns the node of a model that `load` describes.
     ///
-    /// NotMine where the parts are not exactly the node's processes, ascending, or where a message
-    /// is pending for another process than its part's; else BelowFloor where a message is pending
-    /// before the floor.
+    /// Refuses with `NotMine` if the parts are not exactly the processes of the node, ascending, or
+    /// if a message is pending for another process than its part's; else with `BelowFloor` if a
+    /// message is pending before the floor; and with `NoMemory` only if an allocation fails.
     pub fn load<M: Simulated>(alloc: Global, model: &M, load: Load) -> Result<Node, NodeFault>
         requires node { load.node < load.nodes }
         requires nodes { load.nodes ≤ 64 }
@@ -79,7 +80,7 @@ impl Node {
             floor,
             parts,
         } = load;
-        let (processes, standings) = seat_all(alloc, parts.into_vec(), end, floor)?;
+        let (processes, summaries) = seat_all(alloc, parts.into_vec(), end, floor)?;
         Ok(Node {
             spent: false,
             roster: Roster {
@@ -90,24 +91,26 @@ impl Node {
                 end,
                 floor,
                 processes,
-                standings,
+                summaries,
             },
         })
     }
 
-    /// Handles a parcel: all deliveries in their order, then up to its budget of messages, each
-    /// time the least one of the whole node below the end, then it collects what is below the
+    /// Handles a parcel: delivers everything in order, then handles up to `budget` messages, each
+    /// time the least one of the whole node below the end, then collects the handlings below the
     /// parcel's floor.
     ///
-    /// Spent where the node is; FloorFell where the parcel's floor is before the node's; else the
-    /// fault of the first delivery that has one: NotMine, or BelowFloor by the floor that the node
-    /// had before. These leave the node as it was. After want of memory, and after NumberLimit, the
-    /// node is spent. The number limit may be met after memory is wanted, but not where the parcel
-    /// delivers nothing and the first message has no room.
+    /// Refuses with `Spent` if the node is spent; with `FloorFell` if the parcel's floor is below
+    /// the node's; else with the fault of the first delivery that has one: `NotMine`, or
+    /// `BelowFloor` by the floor that the node had before. These leave the node as it was.
+    /// `NoMemory` and `NumberLimit` leave it spent. An allocation failure can come before a number
+    /// limit is found, but not if the parcel delivers nothing and the first message has no room:
+    /// then the fault is `NumberLimit`.
     ///
-    /// It costs the deliveries and the handlings, each with the logarithm of the node's processes,
-    /// the handlings let go, one step for each 32 processes, and a pass over what stands of those 32
-    /// where one of them may have something below the floor, or the least time that waits.
+    /// The cost is that of the deliveries and handlings, each with the logarithm of the number of
+    /// processes of the node, and of the released handlings; one step for each 32 processes; and a
+    /// scan of the summaries of those 32 if one of them may have a handling below the floor or the
+    /// least waiting time.
     pub fn handle<M: Simulated>(&mut self, model: &M, parcel: Parcel) -> Result<Reply, NodeFault>
         requires lps { self.old.spent ≡ false → (M.meaning model.now).lps ≡ self.old.lps }
         requires histories { HasHistories (M.meaning model.now) self.old }
@@ -121,14 +124,14 @@ impl Node {
         if let Some(fault) = self.refusal(&parcel) {
             return Err(fault);
         }
-        // Cleared at the end: where memory is refused midway, the value stays spent.
+        // Cleared at the end, so that an allocation failure midway leaves the node spent.
         self.spent = true;
         let reply = self.roster.handle(model, parcel)?;
         self.spent = false;
         Ok(reply)
     }
 
-    // Why the whole parcel is refused, if it is.
+    // Returns why the whole parcel is refused, if it is.
     fn refusal(&self, parcel: &Parcel) -> Option<NodeFault>
         ensures { result ≡ refusal self.now parcel.now }
     {
@@ -142,7 +145,7 @@ impl Node {
     }
 }
 
-/// Whether these are the parts of the node's processes, ascending.
+/// Returns whether these are the parts of the node's processes, ascending.
 fn are_own(parts: &[Part], node: u32, nodes: u32, lps: u32) -> bool
     requires node { node < nodes }
     requires nodes { nodes ≤ 64 }
@@ -162,7 +165,7 @@ fn are_own(parts: &[Part], node: u32, nodes: u32, lps: u32) -> bool
     next >= lps
 }
 
-/// Whether all messages that are pending are for the process of their part.
+/// Returns whether all pending messages are for the process of their part.
 fn are_for_own(parts: &[Part]) -> bool
     ensures { IsTrue result ↔ Every (λ p. Every (λ x. x.to ≡ p.lp) p.pending) parts.now }
 {
@@ -174,7 +177,7 @@ fn are_for_own(parts: &[Part]) -> bool
     true
 }
 
-/// Whether all these messages are for one process.
+/// Returns whether all these messages are for one process.
 fn are_for(lp: u32, pending: &[Message]) -> bool
     ensures { IsTrue result ↔ Every (λ x. x.to ≡ lp) pending.now }
 {
@@ -186,7 +189,7 @@ fn are_for(lp: u32, pending: &[Message]) -> bool
     true
 }
 
-/// Whether nothing is pending before the floor, in ticks.
+/// Returns whether no message is pending before `floor`, in ticks.
 fn are_all_from(floor: u64, parts: &[Part]) -> bool
     ensures { IsTrue result ↔ Every (λ p. Every (λ x. floor ≤ x.time) p.pending) parts.now }
 {
@@ -198,7 +201,7 @@ fn are_all_from(floor: u64, parts: &[Part]) -> bool
     true
 }
 
-/// Whether none of these messages is before the floor, in ticks.
+/// Returns whether none of these messages is before `floor`, in ticks.
 fn are_from(floor: u64, pending: &[Message]) -> bool
     ensures { IsTrue result ↔ Every (λ x. floor ≤ x.time) pending.now }
 {
@@ -210,7 +213,7 @@ fn are_from(floor: u64, pending: &[Message]) -> bool
     true
 }
 
-/// The processes of these parts, and what stands of them.
+/// Returns the processes of these parts, and their summaries.
 fn seat_all(
     alloc: Global,
     parts: Vec<Part>,
@@ -222,21 +225,21 @@ fn seat_all(
     requires own { Every (λ p. Every (λ x. x.to ≡ p.lp) p.pending) parts.items }
     requires late { Every (λ p. Every (λ x. floor ≤ x.time) p.pending) parts.items }
     ensures processes { IfOk result (λ seats. seats.0.items ≡ map (seat_of floor) parts.items) }
-    ensures standings { IfOk result (λ seats. seats.1 ≡ standings_of end
+    ensures summaries { IfOk result (λ seats. seats.1 ≡ standings_of end
         (map (seat_of floor) parts.items)) }
     ensures memory { IfErr result (λ fault. fault ≡ NoMemory) }
 {
     let mut processes = Vec::with_capacity(alloc, parts.len())?;
-    let mut standings = Tournament::new(alloc, parts.len())?;
+    let mut summaries = Tournament::new(alloc, parts.len())?;
     for part in parts {
         let process = seated(alloc, part, floor)?;
-        standings.set(processes.len(), Standing::of(&process, end));
+        summaries.set(processes.len(), Summary::of(&process, end));
         processes.push(process)?;
     }
-    Ok((processes, standings))
+    Ok((processes, summaries))
 }
 
-/// The process of a part whose messages are for it, and not before the floor.
+/// Returns the process of a part, whose messages are for it and not before `floor`.
 fn seated(alloc: Global, part: Part, floor: u64) -> Result<Process, NodeFault>
     requires range { IsInRange part }
     requires own { Every (λ x. x.to ≡ part.lp) part.pending }

@@ -1,4 +1,4 @@
-// The processes of a node, and what is known of them without a visit.
+// The processes of a node, with their summaries.
 
 ghost use Rattle.std.specs.Prelude.{◌≡◌, ◌≤◌, ◌<◌, ◌+◌, ◌++◌, ◌⊎◌, ℕ, Option, Some, None, Err, []};
 ghost use Rattle.std.specs.Prelude.{IsOk, OnOk, OnErr, IfOk, IfErr, MatchOption, get_or, length};
@@ -14,7 +14,7 @@ ghost use Rattle.node.specs.Roster.{node_of_roster, place_of, processes_of, work
 ghost use Rattle.node.specs.Tournament.{least_among};
 ghost use Rattle.node.specs.declared.NodeFault.TheVariants.{NoMemory, NumberLimit};
 
-use crate::standing::Standing;
+use crate::summary::Summary;
 use crate::tournament::Tournament;
 use crate::{NodeFault, Parcel, Reply};
 use eventkey::{Listed, Message, Signed};
@@ -22,8 +22,8 @@ use model::Model as Simulated;
 use process::{Done, Process};
 use std::alloc::Global;
 
-/// The processes of one node, process lp at place lp / nodes, and the tournament of what stands of
-/// them.
+/// The processes of one node, process lp at place lp / `nodes`, and the tournament of their
+/// summaries.
 #[derive(Drop)]
 pub(crate) struct Roster {
     pub alloc: Global,
@@ -33,11 +33,11 @@ pub(crate) struct Roster {
     pub end: u64,
     pub floor: u64,
     pub processes: Vec<Process>,
-    pub standings: Tournament,
+    pub summaries: Tournament,
 }
 
 impl Roster {
-    /// Whether process `lp` is one of the node's.
+    /// Returns whether process `lp` is one of the node's.
     pub(crate) fn is_own(&self, lp: u32) -> bool
         requires { self.now.node < self.now.nodes }
         ensures { result ≡ is_own (node_of_roster false self.now) lp }
@@ -45,7 +45,7 @@ impl Roster {
         lp % self.nodes == self.node && lp < self.lps
     }
 
-    /// Why the first delivery at fault is refused, if there is one.
+    /// Returns why the first delivery at fault is refused, if there is one.
     pub(crate) fn first_fault(&self, deliveries: &[Signed]) -> Option<NodeFault>
         requires { self.now.node < self.now.nodes }
         ensures { result ≡ first_fault (node_of_roster false self.now) deliveries.now }
@@ -61,7 +61,7 @@ impl Roster {
         None
     }
 
-    /// Hands a delivery to its process.
+    /// Delivers a message or an antimessage to its process.
     pub(crate) fn deliver<M: Simulated>(
         &mut self,
         model: &M,
@@ -83,12 +83,12 @@ impl Roster {
         let place = (delivery.message.to() / self.nodes) as usize;
         let process = &mut self.processes[place];
         process.deliver(model, *delivery, out)?;
-        let standing = Standing::of(process, self.end);
-        self.standings.set(place, standing);
+        let summary = Summary::of(process, self.end);
+        self.summaries.set(place, summary);
         Ok(())
     }
 
-    /// Hands all deliveries over, in their order.
+    /// Delivers all messages and antimessages, in order.
     pub(crate) fn deliver_all<M: Simulated>(
         &mut self,
         model: &M,
@@ -113,7 +113,7 @@ impl Roster {
         Ok(())
     }
 
-    /// Handles the least message of the node.
+    /// Handles `message`, the least message of the node.
     pub(crate) fn run_one<M: Simulated>(
         &mut self,
         model: &M,
@@ -123,7 +123,7 @@ impl Roster {
         requires ready { IsReady self.old }
         requires lps { (M.meaning model.now).lps ≡ self.old.lps }
         requires modelled { Every (IsModelled (M.meaning model.now)) self.old.processes.items }
-        requires least { (least_among self.old.standings).next ≡ Some message.now }
+        requires least { (least_among self.old.summaries).next ≡ Some message.now }
         ensures ready { OnOk result (IsReady self.new) }
         ensures modelled { OnOk result
             (Every (IsModelled (M.meaning model.now)) self.new.processes.items) }
@@ -143,12 +143,12 @@ impl Roster {
         let place = (message.to() / self.nodes) as usize;
         let process = &mut self.processes[place];
         process.run_one(model, self.end, out)?;
-        let standing = Standing::of(process, self.end);
-        self.standings.set(place, standing);
+        let summary = Summary::of(process, self.end);
+        self.summaries.set(place, summary);
         Ok(())
     }
 
-    /// Handles up to so many times the least message of the node, and answers how often it did.
+    /// Handles the least message of the node, up to `budget` times, and returns how often it did.
     pub(crate) fn run<M: Simulated>(
         &mut self,
         model: &M,
@@ -172,7 +172,7 @@ impl Roster {
             (work_of self.old out.old.items 0) ≡ None → result ≡ Err NumberLimit }
     {
         for ran in 0..budget {
-            let Some(message) = self.standings.next() else {
+            let Some(message) = self.summaries.next() else {
                 return Ok(ran);
             };
             self.run_one(model, &message, out)?;
@@ -180,7 +180,7 @@ impl Roster {
         Ok(budget)
     }
 
-    /// Takes what is below the floor, in ticks, out of the process at this place, to the end of
+    /// Moves the handlings below `floor`, in ticks, from the process at this place to the end of
     /// `fossils`.
     fn collect_at<M: Simulated>(
         &mut self,
@@ -190,11 +190,11 @@ impl Roster {
         fossils: &mut Vec<Done>,
     ) -> Result<(), NodeFault>
         requires staffed { IsStaffed (at_floor floor
-            (place_of self.old)) self.old.processes.items self.old.standings }
+            (place_of self.old)) self.old.processes.items self.old.summaries }
         requires modelled { Every (IsModelled (M.meaning model.now)) self.old.processes.items }
         requires there { place < length self.old.processes.items }
         ensures staffed { OnOk result (IsStaffed (at_floor floor
-            (place_of self.old)) self.new.processes.items self.new.standings) }
+            (place_of self.old)) self.new.processes.items self.new.summaries) }
         ensures modelled { OnOk result
             (Every (IsModelled (M.meaning model.now)) self.new.processes.items) }
         ensures place { place_of self.new ≡ place_of self.old }
@@ -209,15 +209,14 @@ impl Roster {
     {
         let process = &mut self.processes[place];
         process.collect_into(model, floor, fossils)?;
-        let standing = Standing::of(process, self.end);
-        self.standings.set(place, standing);
+        let summary = Summary::of(process, self.end);
+        self.summaries.set(place, summary);
         Ok(())
     }
 
-    /// Takes what is below the floor, in ticks, out of all processes. It visits only those that
-    /// have something there. To find them it goes once over the blocks of what stands of all, and
-    /// into those blocks alone that may have something there. The list that it answers has room for
-    /// so many from the start.
+    /// Removes the handlings below `floor`, in ticks, from all processes and returns them. Visits
+    /// only processes that have some: it goes once over the blocks of summaries, and scans only the
+    /// blocks that may have some. The returned list starts with capacity for `room` handlings.
     fn collect<M: Simulated>(
         &mut self,
         model: &M,
@@ -239,17 +238,17 @@ impl Roster {
         ensures memory { IfErr result (λ fault. fault ≡ NoMemory) }
     {
         let mut fossils = Vec::with_capacity(self.alloc, room)?;
-        let mut place = self.standings.first_due(0, floor);
+        let mut place = self.summaries.first_due(0, floor);
         while place < self.processes.len() {
             self.collect_at(model, place, floor, &mut fossils)?;
-            place = self.standings.first_due(place + 1, floor);
+            place = self.summaries.first_due(place + 1, floor);
         }
         self.floor = floor;
         Ok(fossils)
     }
 
-    /// Handles a parcel: all deliveries in their order, then up to its budget of messages, then it
-    /// collects what is below the parcel's floor.
+    /// Handles a parcel: delivers everything in order, handles messages up to the budget, and
+    /// collects the handlings below the parcel's floor.
     pub(crate) fn handle<M: Simulated>(
         &mut self,
         model: &M,
@@ -278,14 +277,15 @@ impl Roster {
             budget,
             floor,
         } = parcel;
-        // In the long run as much goes out as comes in, and as much is told as is handled.
+        // In the long run a node sends as many messages as it receives, and reports as many as it
+        // handles.
         let mut out = Vec::with_capacity(self.alloc, deliver.as_slice().len())?;
         self.deliver_all(model, deliver.as_slice(), &mut out)?;
         let ran = self.run(model, budget, &mut out)?;
         let fossils = self.collect(model, floor, ran as usize)?;
         Ok(Reply {
             out: Listed::from_vec(out),
-            low: self.standings.low(),
+            low: self.summaries.low(),
             fossils: Listed::from_vec(fossils),
             ran,
         })

@@ -1,4 +1,5 @@
-// What stands of many processes, and which of them has the message that comes first.
+// Per-process summaries under a tournament tree, whose root names the process with the least next
+// message.
 
 ghost use Rattle.std.specs.Prelude.{◌≡◌, ◌<◌, ◌≤◌, ◌^◌, ◌⊎◌, ℕ, length, set, get_or, replicate};
 ghost use Rattle.std.specs.Prelude.{IfOk, IfSome, true};
@@ -8,14 +9,15 @@ ghost use Rattle.node.specs.Seats.{is_due};
 ghost use Rattle.node.specs.Tournament.{next_at};
 
 use crate::blocks::Blocks;
-use crate::standing::Standing;
+use crate::summary::Summary;
 use eventkey::Message;
 use std::alloc::{AllocError, Global};
 
-/// The standings of processes, its leaves, and a tree of matches between them. A cell of the tree
-/// names the place of a leaf: the last cells are the leaves' own, and each cell above them has the
-/// winner of the two below it, the one whose next message comes first. So a match reads two places
-/// and compares two messages, and a leaf that changes plays one match a level again.
+/// The summaries of processes, which are the leaves, and a tree of matches between them. A cell of
+/// the tree has the place of a leaf: the last cells are those of the leaves, and each cell above
+/// them has the winner of the two cells below it, the leaf with the lesser next message. So a match
+/// reads two places and compares two messages, and a change of a leaf replays one match for each
+/// level.
 #[derive(Drop)]
 pub(crate) struct Tournament {
     leaves: Blocks,
@@ -24,9 +26,9 @@ pub(crate) struct Tournament {
 
 impl std::marker::Model for Tournament {
     ghost use Rattle.std.specs.Prelude.{List};
-    ghost use Rattle.node.specs.declared.standing.Standing.{Standing};
+    ghost use Rattle.node.specs.declared.summary.Summary.{Summary};
 
-    ghost Value = { List Standing };
+    ghost Value = { List Summary };
 
     ghost use Rattle.node.specs.Tournament.{IsTournament};
 
@@ -38,15 +40,15 @@ impl std::marker::Model for Tournament {
 impl Tournament {
     ghost use Rattle.node.specs.Tournament.{IsLowInRange, absent, least_among};
 
-    /// A tournament of so many leaves, at none of which anything stands.
+    /// Returns a tournament of this number of leaves, with empty summaries.
     pub(crate) fn new(alloc: Global, leaves: usize) -> Result<Tournament, AllocError>
         requires { leaves < 2 ^ 32 }
         ensures { IfOk result (λ t. t ≡ replicate leaves absent) }
     {
-        let standings = Blocks::new(alloc, leaves)?;
+        let summaries = Blocks::new(alloc, leaves)?;
         let mut winners = Vec::new(alloc);
         winners.resize(2 * leaves, 0)?;
-        // Where nothing stands, either one may have won.
+        // While all summaries are empty, either of two leaves can win.
         let mut cell = 2 * leaves;
         while cell > 1 {
             cell -= 1;
@@ -58,22 +60,22 @@ impl Tournament {
             winners[cell] = winner;
         }
         Ok(Tournament {
-            leaves: standings,
+            leaves: summaries,
             winners,
         })
     }
 
-    /// Gives a leaf another standing. It takes no memory, and costs the logarithm of the leaves at
-    /// the most.
+    /// Replaces the summary of a leaf. Allocates nothing; takes at most the logarithm of the number
+    /// of leaves.
     #[inline(always)]
-    pub(crate) fn set(&mut self, leaf: usize, standing: Standing)
+    pub(crate) fn set(&mut self, leaf: usize, summary: Summary)
         requires inside { leaf < length self.old }
-        requires range { IsLowInRange standing }
-        ensures { self.new ≡ set self.old leaf standing }
+        requires range { IsLowInRange summary }
+        ensures { self.new ≡ set self.old leaf summary }
     {
-        let keeps_next = standing.has_next_of(&self.leaves.as_slice()[leaf]);
-        self.leaves.set(leaf, standing);
-        // Matches are about the next message alone, and most deliveries leave it.
+        let keeps_next = summary.has_next_of(&self.leaves.as_slice()[leaf]);
+        self.leaves.set(leaf, summary);
+        // Matches compare the next messages alone, and most deliveries do not change them.
         if keeps_next {
             return;
         }
@@ -85,8 +87,7 @@ impl Tournament {
         }
     }
 
-    /// The message that comes first of the next ones of all leaves. It takes no memory, and costs
-    /// the same however many leaves there are.
+    /// Returns the least next message of all leaves. Allocates nothing; takes constant time.
     pub(crate) fn next(&self) -> Option<Message>
         ensures { result ≡ (least_among self.now).next }
     {
@@ -97,9 +98,9 @@ impl Tournament {
         leaves[self.winners[1] as usize].next
     }
 
-    /// The least time of what waits at any leaf. It takes no memory, and costs one step for each
-    /// block of leaves, and the leaves of those blocks that may have an earlier time than the blocks
-    /// before them.
+    /// Returns the least waiting time, in ticks, at any leaf. Allocates nothing. Takes one step for
+    /// each block of leaves, and a scan of each block that may have a lesser time than the blocks
+    /// before it.
     pub(crate) fn low(&mut self) -> Option<u64>
         ensures same { self.new ≡ self.old }
         ensures low { result ≡ (least_among self.old).low }
@@ -108,9 +109,9 @@ impl Tournament {
         self.leaves.low()
     }
 
-    /// The first leaf, from one on, whose oldest time is below the floor, in ticks; the number of
-    /// leaves where there is none. It takes no memory, and costs one step for each block of leaves
-    /// that it goes past, and the leaves of those blocks that may have such a time.
+    /// Returns the first leaf, from `from` on, whose oldest time is below `floor`, in ticks, or the
+    /// number of leaves if there is none. Allocates nothing. Takes one step for each block of
+    /// leaves passed, and a scan of each block that may have such a time.
     pub(crate) fn first_due(&mut self, from: usize, floor: u64) -> usize
         requires { from ≤ length self.old }
         ensures same { self.new ≡ self.old }
@@ -124,8 +125,8 @@ impl Tournament {
     }
 }
 
-/// Of two leaves, by their places, the one whose next message comes first.
-fn winner(leaves: &[Standing], left: u32, right: u32) -> u32
+/// Returns the leaf with the lesser next message, of two leaves given by their places.
+fn winner(leaves: &[Summary], left: u32, right: u32) -> u32
     requires left { left < length leaves.now }
     requires right { right < length leaves.now }
     ensures either { (result ≡ left) ⊎ (result ≡ right) }

@@ -1,4 +1,4 @@
-// Why node programs are not met, or a node is not served.
+// Why connecting to node programs, or serving a node, failed.
 
 ghost use Rattle.std.specs.IoError.{error_kind};
 ghost use Rattle.std.specs.Prelude.{◌≡◌, ◌≢◌};
@@ -10,17 +10,17 @@ use std::io::{Error as IoError, ErrorKind};
 use thiserror::Error;
 use wire::WireFault;
 
-/// Why node programs are not met, or a node is not served.
+/// Why connecting to node programs, or serving a node, failed.
 #[derive(Clone, Copy, Debug, PartialEq, Eq, Error)]
 pub enum NodesFault {
-    /// A node's socket is not made, or its program does not start or does not connect; or a node
-    /// finds nothing behind its socket.
+    /// A node's socket cannot be made, its program does not start or does not connect, or a node
+    /// cannot connect to its socket.
     #[error("File")]
     File,
-    /// Memory ran out.
+    /// An allocation failed.
     #[error("NoMemory")]
     NoMemory,
-    /// What came to a node is no frame in its place, or its connection failed.
+    /// What a node received is not a frame allowed at that point, or its connection failed.
     #[error("Wire {0}")]
     Wire(WireFault),
 }
@@ -33,7 +33,7 @@ impl From<WireFault> for NodesFault {
     }
 }
 
-/// Where memory is refused for a path.
+/// An allocation for a path failed.
 impl From<AllocError> for NodesFault {
     ghost from_gives = { λ _ e. e ≡ NoMemory };
 
@@ -42,7 +42,7 @@ impl From<AllocError> for NodesFault {
     }
 }
 
-/// Where memory is refused for what is gathered.
+/// An allocation for a list failed.
 impl<T: Drop> From<AllocFailed<T>> for NodesFault {
     ghost from_gives = { λ _ e. e ≡ NoMemory };
 
@@ -51,7 +51,7 @@ impl<T: Drop> From<AllocFailed<T>> for NodesFault {
     }
 }
 
-/// Why a call on a socket or a program failed.
+/// The fault for a failed call on a socket or a program.
 pub(crate) fn unreadable(error: IoError) -> NodesFault
     ensures memory { error_kind error ≡ ErrorKind.OutOfMemory → result ≡ NodesFault.NoMemory }
     ensures file { error_kind error ≢ ErrorKind.OutOfMemory → result ≡ NodesFault.File }

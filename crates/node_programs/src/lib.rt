@@ -1,6 +1,6 @@
-//! Nodes that are programs of their own, behind Unix sockets: they are started or waited for, met,
-//! served, and cleared up after. None of it needs a session, so that it is proved beside the crates
-//! that `program` waits for.
+//! Nodes that are programs of their own, behind Unix sockets: starting or awaiting them,
+//! connecting, serving, and clearing up. Nothing here needs a session, so this crate is proved in
+//! parallel with the crates that `program` waits for.
 #![tactic(auto)]
 
 mod fault;

@@ -12,6 +12,7 @@ use std::alloc::{AllocError, Global};
 use std::fs::{self, File};
 use std::io::{self, BufReader, Error as IoError, ErrorKind};
 use std::net::Net;
+use std::os::unix::fs::FileTypeExt;
 use std::os::unix::net::{UnixListener, UnixStream};
 use std::process::{Child, Command, OpenProcess, Processes, Stdio};
 use std::rt::Files;
@@ -19,38 +20,45 @@ use std::thread;
 use std::time::{Clock, Duration};
 use terminal::Progress;
 
-/// Which programs are the nodes of a run, and where their sockets are.
+/// The node programs of a run, and where their sockets are.
 #[derive(Clone, Copy)]
 pub struct Behind<'a> {
-    /// The program that is started for each node, with the words of the command `node`.
+    /// The program to start for each node, with the command `node`.
     pub program: &'a str,
     /// The path of the model file.
     pub model: &'a str,
     /// The folder of the sockets.
     pub folder: &'a str,
-    /// The node whose program ends after one reply, where it is started.
+    /// The node whose program is started to end after one reply.
     pub cut: Option<u32>,
-    /// Whether no program is started: those that connect are waited for.
+    /// Whether to wait for programs that others start, instead of starting them.
     pub attach: bool,
 }
 
-/// What has to be cleared up of a node: the socket's file, which this run has made, its listener,
-/// the program, where it was started, and the connection, where it came before it was asked for.
+/// What must be cleared up for a node: the socket file that this run made, its listener, the
+/// program if it was started, and the connection if it arrived before it was asked for. The first
+/// node also has the locked folder of the sockets, which is kept until their files are removed.
 #[derive(Drop)]
 pub struct Met<P: OpenProcess + Drop> {
     path: String,
     listener: Option<UnixListener>,
     child: Option<Child<P>>,
     stream: Option<UnixStream>,
+    lock: Option<File>,
 }
 
-/// A port to each of so many node programs: all sockets are made, all programs started or waited
-/// for, and a connection of each is taken. What has to be cleared up is in `met`, whatever is
-/// answered.
+/// Returns a port to each of `nodes` node programs: makes all sockets, starts or awaits all
+/// programs, and accepts a connection of each. Whatever the result, `met` has what must be cleared
+/// up.
 ///
-/// Refused is `File` where a socket is not made, a program is not started, or one ends before it
-/// connects, or `NoMemory`. Where no program is started, the call waits without limit until each
-/// node has connected, in whichever order they come, and tells `progress` which ones it waits for.
+/// Fails with `File` if a socket cannot be made, a program does not start, or one ends before it
+/// connects, and with `NoMemory` if an allocation failed. If programs are not started, the call
+/// waits without limit until each node has connected, in any order, and reports to `progress` which
+/// nodes it waits for.
+///
+/// Replaces sockets that a killed run left in the folder. A socket of a run that is still alive, a
+/// socket at which another program listens, and any other file stay as they are: the call fails
+/// with `File`.
 pub fn meet<R, P>(
     rt: &R,
     behind: Behind<'_>,
@@ -65,19 +73,36 @@ where
     ensures { IfOk result (λ ports.
         map (λ p. state_of p.held) ports.items ≡ replicate nodes (state_of Fresh)) }
 {
+    let mut lock = lock_folder(rt, behind.folder);
+    let is_locked = lock.is_some();
     'nodes: for node in 0..nodes {
-        bind(rt, behind.folder, node, met)?;
+        bind(rt, behind.folder, node, is_locked, lock.take(), met)?;
     }
     let met = met.as_mut_slice();
     gather(rt, behind, met, progress)?;
     accept_all(rt, met)
 }
 
-/// Makes the socket of a node.
+/// Locks the folder of the sockets for this run. Returns `None` if another program has the lock, or
+/// the folder cannot be locked.
+///
+/// The lock keeps other runs from the sockets of a living run. A run could not tell by connecting:
+/// the connection would take the place of a node's, and a socket whose node has connected refuses
+/// others, as if its run had been killed.
+fn lock_folder<R: Files<File = File>>(rt: &R, folder: &str) -> Option<File> {
+    let file = File::open(rt, folder).ok()?;
+    file.try_lock().ok()?;
+    Some(file)
+}
+
+/// Makes the socket of a node, and appends it to `met`, with the folder's lock if it is there.
+/// `is_locked` says whether this run has locked the folder.
 fn bind<R>(
     rt: &R,
     folder: &str,
     node: u32,
+    is_locked: bool,
+    lock: Option<File>,
     met: &mut Vec<Met<R::Started>>,
 ) -> Result<(), NodesFault>
 where
@@ -86,16 +111,47 @@ where
 {
     let path = format!(in rt.alloc(); "{folder}/node{node}")?;
     met.reserve(1)?;
-    let listener = UnixListener::bind(rt, path.as_str()).map_err(unreadable)?;
-    // what was made is noted before anything else can fail
+    let listener = listen(rt, path.as_str(), is_locked).map_err(unreadable)?;
+    // recorded before anything else can fail, so that it is cleared up
     let nonblocking = listener.set_nonblocking(true);
     met.push_reserved(Met {
         path,
         listener: Some(listener),
         child: None,
         stream: None,
+        lock,
     });
     nonblocking.map_err(unreadable)
+}
+
+/// Makes a socket at `path`. If the folder is locked for this run, first removes a socket there at
+/// which nobody listens.
+fn listen<R>(rt: &R, path: &str, is_locked: bool) -> io::Result<UnixListener>
+where
+    R: Files<File = File> + Net,
+{
+    match UnixListener::bind(rt, path) {
+        Err(error) if error.kind() == ErrorKind::AddrInUse => {
+            if !is_locked || !is_abandoned(rt, path) {
+                return Err(error);
+            }
+            fs::remove_file(rt, path)?;
+            UnixListener::bind(rt, path)
+        }
+        bound => bound,
+    }
+}
+
+/// Returns whether there is a socket at `path` at which nobody listens. A link is no socket, even
+/// if it leads to one.
+fn is_abandoned<R: Files<File = File> + Net>(rt: &R, path: &str) -> bool {
+    match fs::symlink_metadata(rt, path) {
+        Ok(metadata) if metadata.file_type().is_socket() => match UnixStream::connect(rt, path) {
+            Err(error) => error.kind() == ErrorKind::ConnectionRefused,
+            Ok(_) => false,
+        },
+        _ => false,
+    }
 }
 
 /// Starts the program of each node, or waits until each has connected.
@@ -116,9 +172,8 @@ where
     }
 }
 
-/// Takes a connection of each node's program in whichever order they come, for which it looks at
-/// all sockets once a millisecond. `progress` is told which nodes it waits for, each time that one
-/// has come.
+/// Accepts a connection of each node's program, in any order. Polls all sockets once a millisecond.
+/// Reports to `progress` which nodes it waits for, at first and whenever one has connected.
 fn await_all<R, P>(rt: &R, met: &mut [Met<R::Started>], progress: &mut P) -> Result<(), NodesFault>
 where
     R: Processes + Clock + AllocGlobal,
@@ -155,7 +210,8 @@ where
     Ok(absent)
 }
 
-/// Looks at each socket once, and takes the connections that are there; whether there was one.
+/// Polls each socket once, and accepts the connections that are there. Returns whether there was
+/// one.
 fn take_arrived<P>(met: &mut [Met<P>]) -> io::Result<bool>
 where
     P: OpenProcess + Drop,
@@ -169,8 +225,8 @@ where
     Ok(has_come)
 }
 
-/// Takes the connection that is there for a node; whether there was one. Behind it the socket takes
-/// no other.
+/// Accepts the connection that is there for a node, and then closes its listener, so that it
+/// accepts no other. Returns whether there was a connection.
 fn has_arrived<P>(met: &mut Met<P>) -> io::Result<bool>
 where
     P: OpenProcess + Drop,
@@ -211,7 +267,7 @@ where
     Ok(())
 }
 
-/// Starts the program of the node behind this socket, with no standard streams.
+/// Starts the program of the node behind this socket, without standard streams.
 fn start<R>(rt: &R, behind: Behind<'_>, path: &str, is_cut: bool) -> io::Result<Child<R::Started>>
 where
     R: Processes + AllocGlobal,
@@ -228,7 +284,7 @@ where
     command.spawn(rt)
 }
 
-/// A port to each node's program, as they connect.
+/// Waits for the program of each node to connect. Returns a port to each.
 fn accept_all<R>(
     rt: &R,
     met: &mut [Met<R::Started>],
@@ -247,8 +303,8 @@ where
     Ok(ports)
 }
 
-/// The connection of a node's program: the one that has come, or that for which it looks once a
-/// millisecond; an error where the program has ended and there is none.
+/// The connection of a node's program: the one that has arrived already, or the next one, for which
+/// it polls once a millisecond. Fails if the program has ended and there is no connection.
 fn accept<R, P>(rt: &R, met: &mut Met<P>) -> io::Result<UnixStream>
 where
     R: Clock,
@@ -258,7 +314,7 @@ where
         return Ok(stream);
     }
     for _ in 0..u64::MAX {
-        // asked first, so that a program which connects and then ends is still met
+        // checked first, so that a program that connects and then ends is still accepted
         let has_ended = match &mut met.child {
             Some(child) => child.try_wait()?.is_some(),
             None => true,
@@ -280,13 +336,13 @@ where
     Err(IoError::from(ErrorKind::TimedOut))
 }
 
-/// Clears up after node programs to which no connection is left: waits for each that was started,
-/// and removes each socket that was made.
+/// Clears up after node programs, once all ports to them are dropped: waits for each program that
+/// was started, and removes each socket that was made.
 pub fn clear<R>(rt: &R, mut met: Vec<Met<R::Started>>)
 where
     R: Files<File = File> + Processes,
 {
-    // a program that was not accepted yet sees its end where its listener is closed
+    // a program whose connection was not accepted sees its end once the listener is closed
     for node in met.iter_mut() {
         node.listener = None;
         node.stream = None;
@@ -301,11 +357,10 @@ where
     }
 }
 
-/// Works as a node that runs this model, behind this socket, until so many parcels are answered at
-/// most.
+/// Serves a node of this model behind this socket, until at most `parcels` parcels are answered.
 ///
-/// The faults come in this order: `File` where no connection is made, and `Wire`. A node's own
-/// refusal is told at the other end, and is no fault here.
+/// Fails with `File` if no connection is made, with `NoMemory` if an allocation for it failed, and
+/// then with `Wire`. A node's own refusal is reported to the other end, and is not a fault here.
 pub fn serve_on<M, R>(rt: &R, model: &M, socket: &str, parcels: u32) -> Result<(), NodesFault>
 where
     M: Simulated,

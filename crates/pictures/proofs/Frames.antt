@@ -33,14 +33,14 @@ steps_in_range span = step_in_range span STEPS refl
 
 pub filter_fits : {X : Type 0} (p : X → Bool) (xs : List X) (i n : ℕ) (x : X) → i < length xs → x ≡ get_or xs i x → p x ≡ true
     → n + length (filter p (drop i xs)) ≡ length (filter p xs) → n + 1 ≤ length xs
-filter_fits p xs i n x l is wanted so_far =
-    let h = rw (drop_here xs i x l is, wanted) at so_far in
+filter_fits p xs i n x l is selected so_far =
+    let h = rw (drop_here xs i x l is, selected) at so_far in
     omega (arith, length-filter-le p xs, h)
 
 module _ {X : Type 0} (f : X → List ℕ) (p : X → Bool) (xs : List X) (i : ℕ) (x : X) (l : i < length xs) (is : x ≡ get_or xs i x) where
   pub first-here : (left : ℕ) → 0 < left → p x ≡ true → flat_map f (take left (filter p (drop i xs))) ≡ f x ++ flat_map f (take (left - 1) (filter p (drop (i + 1) xs)))
-  first-here zero some wanted = absurd (omega arith)
-  first-here (suc left) some wanted = let e : suc left - 1 ≡ left = omega arith in rw (drop_here xs i x l is, wanted, e) refl
+  first-here zero some selected = absurd (omega arith)
+  first-here (suc left) some selected = let e : suc left - 1 ≡ left = omega arith in rw (drop_here xs i x l is, selected, e) refl
 
   pub first-passed : (left : ℕ) → p x ≡ false → flat_map f (take left (filter p (drop i xs))) ≡ flat_map f (take left (filter p (drop (i + 1) xs)))
   first-passed left other = rw (drop_here xs i x l is, other) refl

@@ -1,4 +1,4 @@
--- The course of a trace's rounds.
+-- The drawing of a run's course, in terms of the values that the code has.
 use Rattle.std.proofs.Common.{◌≡◌, ◌≤◌, ◌^◌, ◌+◌, ◌-◌, ◌*◌, ◌∙◌, ℕ, List, [], ◌∷◌, ap, arith, min, refl}
 use Rattle.pictures.specs.Course.{column_left, column_width, course_text, efficiency_of, least_round}
 use Rattle.pictures.specs.Course.{most_antimessages, picture_text, pixels_of, slice_of, slice_text, window_of}
@@ -12,7 +12,7 @@ pub least_round-le : (rows : List Row) → least_round rows ≤ 2 ^ 32
 least_round-le [] = omega arith
 least_round-le (r ∷ rs) = omega arith
 
--- what a column shows
+-- a column
 pub slice_is : (w : Window) (gvt most place : ℕ) (s : Slice) (last x width efficiency far back a b d some : ℕ) →
     last ≡ s.to - 1 → x ≡ column_left w place → width ≡ column_width w place → efficiency ≡ efficiency_of s →
     far ≡ pixels_of s.gvt gvt → back ≡ pixels_of s.antimessages most →

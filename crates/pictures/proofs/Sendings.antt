@@ -1,4 +1,4 @@
--- What the handlings of a log send, and when each process sent.
+-- The number of messages that each handling of a log sends, and when each process sent.
 use Rattle.std.proofs.Common.{◌≡◌, ◌≢◌, ℕ, ◌+◌, ◌<◌, ◌≤◌, ◌==◌, List, [], ◌∷◌, ◌++◌, length, get_or, set, drop, replicate, refl, ap, ◌∙◌, sym, append_assoc, append-nil, eqb-true, inl, inr, if◌then◌else◌}
 use Rattle.std.proofs.lemmas.Bool.{cases_Bool, eqb-false}
 use Rattle.std.proofs.lemmas.List.{drop_all, drop_more, get_or-set_other, get_or-set_same, replicate-append-replicate}
@@ -7,12 +7,12 @@ use Rattle.eventkey.specs.Message.{Message}
 use Rattle.model.specs.Meaning.{Meaning}
 use Rattle.pictures.specs.Run.{sends_of, sent_in}
 
--- 1. One time more
+-- 1. One more time
 
 pub once_more : (row : List ℕ) (k time : ℕ) → (row ++ replicate k time) ++ (time ∷ []) ≡ row ++ replicate (k + 1) time
 once_more row k time = append_assoc row (replicate k time) (time ∷ []) ∙ ap (λ r. row ++ r) (replicate-append-replicate k 1 time)
 
--- 2. One handling more
+-- 2. One more handling
 
 module _ (m : Meaning) where
   pub sends_more : (states : List (List ℕ)) (log : List Message) (i : ℕ) (x : Message) (n : ℕ) (words done all : List ℕ) → i < length log → x ≡ get_or log i x
@@ -25,7 +25,7 @@ module _ (m : Meaning) where
       ∙ ap (λ es. done ++ sends_of m states es) (sym (drop_here log i x l is))
       ∙ so_far
 
-  -- the same in the values that the code has
+  -- the same in terms of the values that the code has
   pub sends_read : (states : List (List ℕ)) (log : List Message) (i : ℕ) (x : Message) (lp n : ℕ) (state words done all : List ℕ) → i < length log → x ≡ get_or log i x
       → lp ≡ x.to → state ≡ get_or states lp [] → n ≡ length (m.sends lp state x) → words ≡ m.next_state lp state x
       → done ++ sends_of m states (drop i log) ≡ all → (done ++ n ∷ []) ++ sends_of m (set states lp words) (drop (i + 1) log) ≡ all
@@ -38,12 +38,12 @@ module _ (m : Meaning) where
   pub sends_none : (states : List (List ℕ)) (log : List Message) (i : ℕ) (done all : List ℕ) → length log ≤ i → done ++ sends_of m states (drop i log) ≡ all → done ≡ all
   sends_none states log i done all l so_far = sym (append-nil done) ∙ sym (ap (λ es. done ++ sends_of m states es) (drop_all i log l)) ∙ so_far
 
--- 3. Times more in the row of one process
+-- 3. More times in the row of one process
 
 at_front : {A : Type 0} (xs : List A) → xs ≡ [] ++ xs
 at_front xs = refl
 
--- the row of a process, with the times of the events to come, is as before
+-- each row, together with the times of the events that are left, stays the same
 pub row_kept : (rows : List (List ℕ)) (events : List Message) (sends : List ℕ) (i lp k n : ℕ) (x : Message) (row all : List ℕ) → i < length events → i < length sends → x ≡ get_or events i x
     → lp < length rows → lp ≡ x.to → n ≡ get_or sends i 0 → row ≡ get_or rows lp [] ++ replicate n x.time
     → get_or rows k [] ++ sent_in k (drop i events) (drop i sends) ≡ all

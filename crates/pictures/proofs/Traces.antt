@@ -1,4 +1,4 @@
--- What holds of the run of a model.
+-- Properties of the run of a model.
 use Rattle.std.specs.List.{AllByRecursion as Every}
 use Rattle.std.proofs.Common.{◌≡◌, ℕ, ◌≤◌, ◌^◌, List, [], ◌∷◌, length, max, min, refl, ap, ◌∙◌, sym, subst, suc, arith, set, get_or}
 use Rattle.eventkey.specs.Message.{Message}
@@ -14,7 +14,7 @@ pub length-sends_of : (m : Meaning) (states : List (List ℕ)) (log : List Messa
 length-sends_of m states [] = refl
 length-sends_of m states (x ∷ xs) = ap suc (length-sends_of m (set states x.to (m.next_state x.to (get_or states x.to []) x)) xs)
 
--- the world to which the code runs from the opening
+-- the simulation reaches the world to which the code runs from the opening
 pub run_reached : (m : Meaning) (end to : ℕ) (s : Simulation) (w : World) → IsLawful m → end ≤ 2 ^ 40 → s ≡ record { end = end; world = opening m }
     → (IsUpto m s.end s.world.time s.world → IsUpto m s.end (max s.world.time (min to s.end)) w) → IsReached m.lps w
 run_reached m end to s w law short is runs =

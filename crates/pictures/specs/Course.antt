@@ -1,6 +1,6 @@
--- The course of a run, by the rows of its trace: over its rounds, in at most 90 columns, how far
--- GVT came, how many of the messages handled were worth it, and how many antimessages there were.
--- Rounds from 2^32 on count as that, other numbers and sums from 2^56 on as that.
+-- The course of a run, from the rows of its trace: in at most 90 columns over its rounds, GVT, the
+-- events committed per message handled, antimessages and commits. Rounds above 2^32 count as 2^32,
+-- and other numbers and sums above 2^56 as 2^56.
 use Rattle.std.specs.List.{filter}
 use Rattle.std.specs.Prelude.{ℕ, ◌+◌, ◌-◌, ◌*◌, ◌/◌, ◌^◌, ◌&&◌, ◌==◌, Bool, suc, zero, List, []}
 use Rattle.std.specs.Prelude.{◌∷◌, ◌++◌, flat_map, if◌then◌else◌, length, max, min, nat_le, nat_lt}
@@ -18,7 +18,7 @@ round_of r = min (2 ^ 32) r.round
 abbrev pub capped : ℕ → ℕ
 capped n = min (2 ^ 56) n
 
--- 1. Over some rows
+-- 1. A list of rows
 
 -- the first and the last round
 abbrev pub least_round : List Row → ℕ
@@ -37,32 +37,32 @@ abbrev pub greatest_of : (Row → ℕ) → List Row → ℕ
 greatest_of f [] = 0
 greatest_of f (r ∷ rs) = max (f r) (greatest_of f rs)
 
--- the rows with another commit than the row before, the first of which comes after one with this
--- time
+-- the rows with another last commit than the row before, where the last commit before the first row
+-- is at this time
 abbrev pub committing : ℕ → List Row → List Row
 committing time [] = []
 committing time (r ∷ rs) =
     if r.committed == time then committing r.committed rs else r ∷ committing r.committed rs
 
--- what the first row has; 0 of none
+-- the number of the first row, or 0 if there are no rows
 abbrev pub at_first : (Row → ℕ) → List Row → ℕ
 at_first f [] = 0
 at_first f (r ∷ rs) = f r
 
--- 2. Over some rounds
+-- 2. A range of rounds
 
--- whether a row is of the rounds from one to before another
+-- the round of the row is from `from` on and before `to`
 abbrev pub is_between : ℕ → ℕ → Row → Bool
 is_between from to r = nat_le from (round_of r) && nat_lt (round_of r) to
 
 abbrev pub sum_between : (Row → ℕ) → ℕ → ℕ → List Row → ℕ
 sum_between f from to rows = capped (sum_of f (filter (is_between from to) rows))
 
--- the greatest number up to before a round
+-- the greatest number before a round
 abbrev pub reached : (Row → ℕ) → ℕ → List Row → ℕ
 reached f to rows = capped (greatest_of f (filter (is_between 0 to) rows))
 
--- how many events were committed before a round, those before the first row among them
+-- how many events were committed before a round, including those before the first row
 abbrev pub events_before : ℕ → List Row → ℕ
 events_before to rows =
     max (capped (at_first (λ r. r.events) rows)) (reached (λ r. r.events) to rows)
@@ -79,7 +79,7 @@ slice_of rows from to = record {
       (length (filter (is_between from to) (committing (at_first (λ r. r.committed) rows) rows)));
 }
 
--- events committed of messages handled, in percent
+-- the events committed as a percentage of the messages handled, at most 100
 abbrev pub efficiency_of : Slice → ℕ
 efficiency_of s = if s.handled == 0 then 0 else min 100 (100 * s.events / s.handled)
 
@@ -107,7 +107,7 @@ most_antimessages rows w (suc k) =
 
 -- 4. The picture
 
--- the pixels of a number where 100 are the greatest
+-- the pixels of a number, on a scale where the greatest one has 100
 abbrev pub pixels_of : ℕ → ℕ → ℕ
 pixels_of n greatest = 100 * n / max 1 greatest
 
@@ -118,7 +118,7 @@ column_left w k = 60 + k * 900 / w.columns
 abbrev pub column_width : Window → ℕ → ℕ
 column_width w k = (k + 1) * 900 / w.columns - k * 900 / w.columns
 
--- a column, with its words; GVT and antimessages are scaled to these
+-- a column with its title; `gvt` and `antimessages` are the greatest numbers of their scales
 abbrev pub slice_text : Window → ℕ → ℕ → ℕ → Slice → List ℕ
 slice_text w gvt antimessages k s = filled COLUMN.now
     (s.from ∷ (s.to - 1) ∷ s.gvt ∷ s.handled ∷ s.events ∷ efficiency_of s ∷ s.antimessages
@@ -134,7 +134,7 @@ abbrev pub column_text : List Row → Window → ℕ → ℕ → ℕ → List �
 column_text rows w gvt antimessages k =
     slice_text w gvt antimessages k (column_of rows w k)
 
--- under the columns: scales, the first and the last round, and what the whole run did
+-- under the columns: scales, the first and the last round, and the sums of the whole run
 abbrev pub foot_text : Window → ℕ → ℕ → Slice → List ℕ
 foot_text w antimessages rows s = filled COURSE_FOOT.now
     (s.gvt ∷ antimessages ∷ w.first ∷ (w.first + w.rounds - 1) ∷ w.rounds ∷ rows ∷ s.handled

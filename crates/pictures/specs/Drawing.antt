@@ -13,8 +13,8 @@ use Rattle.pictures.specs.declared.drawn.View.{View}
 use Rattle.pictures.specs.declared.drawn.TheConstants.{DOT, HEAD, LINE, NOTE, PENDING, ROW, RULE}
 use Rattle.pictures.specs.declared.drawn.TheConstants.{STEPS, STYLE, TAIL, TICK}
 
--- the part of a run that a picture shows: ticks from one to another, and so many processes, at
--- most 64, from the first on
+-- the part of a run that a picture shows: a range of ticks, and at most 64 processes from the first
+-- one of the view on
 abbrev pub frame_of : Run → View → Frame
 frame_of r v =
     let from = min v.from (2 ^ 41) in
@@ -25,15 +25,15 @@ frame_of r v =
       rows = min 64 (min (v.last + 1) (length r.first) - v.first);
     }
 
--- how many ticks it shows
+-- the number of ticks that the frame shows, at least 1
 abbrev pub span_of : Frame → ℕ
 span_of f = max 1 (f.to - f.from)
 
--- where a time lies, one outside at the edge
+-- the x coordinate of a time; a time outside the frame is at the edge
 abbrev pub x_of : Frame → ℕ → ℕ
 x_of f time = 60 + min (time - f.from) (span_of f) * 900 / span_of f
 
--- where a process lies, one outside beyond the edge
+-- the y coordinate of a process; a process outside the frame is beyond the edge
 abbrev pub y_of : Frame → ℕ → ℕ
 y_of f process =
     if nat_lt process f.first then 40 else 60 + 20 * min (process - f.first) f.rows
@@ -47,19 +47,19 @@ is_shown r f before x =
     nat_le f.from x.time && (nat_lt x.time before && (nat_lt (sent_at r x) f.to
     && (nat_le f.first x.to && nat_lt (x.to - f.first) f.rows)))
 
--- where it is sent and received, and what it is
+-- the numbers of a mark: the coordinates of sending and receiving, then the message itself
 abbrev pub mark_numbers : Run → Frame → Message → List ℕ
 mark_numbers r f x =
     x_of f (sent_at r x) ∷ y_of f x.from ∷ x_of f x.time ∷ y_of f x.to
     ∷ sent_at r x ∷ x.time ∷ x.from ∷ x.number ∷ x.to ∷ x.a ∷ x.b ∷ x.c ∷ x.d ∷ []
 
--- marks of the first 2,000 messages that are shown
+-- the marks of the first 2,000 messages that are shown, without the first `skip` numbers
 abbrev pub marks_text : Run → Frame → List ℕ → ℕ → ℕ → List Message → List ℕ
 marks_text r f text skip before xs =
     flat_map (λ x. filled text (drop skip (mark_numbers r f x)))
     (take 2000 (filter (is_shown r f before) xs))
 
--- the least of the round steps of which ten span the frame
+-- the least of these ascending steps of which ten cover the span, or 10^12
 unfoldable pub step_from : ℕ → List ℕ → ℕ
 step_from span [] = 1000000000000
 step_from span (step ∷ steps) =
@@ -68,10 +68,11 @@ step_from span (step ∷ steps) =
 abbrev pub step_of : Frame → ℕ
 step_of f = step_from (span_of f) STEPS
 
--- the first multiple of the step in the frame, and how many there are
+-- the first multiple of the step in the frame
 abbrev pub first_tick : Frame → ℕ
 first_tick f = (f.from + step_of f - 1) / step_of f * step_of f
 
+-- the number of its multiples in the frame
 abbrev pub tick_count : Frame → ℕ
 tick_count f = (f.to + step_of f - first_tick f) / step_of f
 
@@ -89,13 +90,13 @@ row_text f k = filled ROW.now
 abbrev pub rows_text : Frame → List ℕ
 rows_text f = flat_map (row_text f) (below f.rows)
 
--- the virtual time up to which the run went, where the frame shows it
+-- a line at the virtual time up to which the run went, if it is in the frame
 abbrev pub rule_text : Run → Frame → List ℕ
 rule_text r f =
     if nat_le f.from r.time && nat_le r.time f.to then filled RULE.now
     (x_of f r.time ∷ x_of f r.time ∷ bottom_of f ∷ r.time ∷ []) else []
 
--- how many events lie in the frame
+-- how many events the frame shows
 abbrev pub shown_count : Run → Frame → ℕ
 shown_count r f = length (filter (is_shown r f f.to) r.events)
 

@@ -11,18 +11,19 @@ use Rattle.pictures.specs.declared.counted.Busy.{Busy}
 use Rattle.pictures.specs.declared.counted.Figures.{Figures}
 use Rattle.pictures.specs.declared.counted.Spread.{Spread}
 
--- how many events a process handled, and how many messages it sent
+-- how many events a process handled
 abbrev pub handled_by : Run → ℕ → ℕ
 handled_by r lp = length (filter (λ (x : Message). x.to == lp) r.events)
 
+-- how many messages a process sent
 abbrev pub sent_by : Run → ℕ → ℕ
 sent_by r lp = length (sending_times r lp)
 
--- how many ticks a message was on its way
+-- the ticks from the sending of a message to its receiving
 abbrev pub delay_of : Run → Message → ℕ
 delay_of r x = x.time - sent_at r x
 
--- the least of these numbers, their lower median, and the greatest; 0 where there are none
+-- the least, the lower median and the greatest of these numbers; 0 if there are none
 pub record IsSpread (numbers : List ℕ) (s : Spread) : Type 0 where
   pub sorted : List ℕ
   pub ascending : IsSorted nat_cmp sorted
@@ -31,18 +32,19 @@ pub record IsSpread (numbers : List ℕ) (s : Spread) : Type 0 where
   pub median : s.median ≡ get_or sorted ((length sorted - 1) / 2) 0
   pub most : s.most ≡ get_or sorted (length sorted - 1) 0
 
--- a process, and what it did
+-- the work of a process
 abbrev pub busy_of : Run → ℕ → Busy
 busy_of r lp = record { process = lp; events = handled_by r lp; sends = sent_by r lp }
 
--- one more, behind all that handled as many events or more
+-- inserts a process behind all that handled as many events or more
 abbrev pub insert_busy : Busy → List Busy → List Busy
 insert_busy b [] = b ∷ []
 insert_busy b (first ∷ others) =
     if nat_lt first.events b.events then b ∷ first ∷ others
     else first ∷ insert_busy b others
 
--- the processes below n, the busiest first, and of those with as many events the least first
+-- the processes below n, the busiest first; those with the same number of events are in the order of
+-- their numbers
 abbrev pub ranked : Run → ℕ → List Busy
 ranked r zero = []
 ranked r (suc n) = insert_busy (busy_of r n) (ranked r n)
@@ -53,12 +55,12 @@ pub record AreFigures (r : Run) (f : Figures) : Type 0 where
   pub processes : f.processes ≡ length r.first
   pub events : f.events ≡ length r.events
   pub pending : f.pending ≡ length r.pending
-  -- a process: events handled, messages sent
+  -- per process: events handled, messages sent
   pub handled : IsSpread (map (handled_by r) (below (length r.first))) f.handled
   pub sent : IsSpread (map (sent_by r) (below (length r.first))) f.sent
-  -- a message, handled or pending: ticks on its way
+  -- per message, handled or pending: ticks from sending to receiving
   pub delay : IsSpread (map (delay_of r) (r.events ++ r.pending)) f.delay
-  -- events a tick, rounded down
+  -- events per tick, rounded down
   pub whole : f.rate.whole ≡ length r.events / max 1 r.time
   pub thousandths : f.rate.thousandths
       ≡ 1000 * (length r.events % max 1 r.time) / max 1 r.time

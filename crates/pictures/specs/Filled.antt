@@ -1,8 +1,8 @@
--- A line of a picture or a table: a text with numbers in its holes.
+-- Lines of pictures and tables: texts with placeholders for numbers.
 use Rattle.std.specs.Prelude.{ℕ, List, [], ◌∷◌, ◌++◌, ◌==◌, if◌then◌else◌, decimal}
 
--- the text with these numbers in decimal digits, each in place of one `$`, from left to right;
--- where there are fewer of them than holes, the last holes stay
+-- the text with these numbers in decimal digits, each in place of one `$`, from left to right; if
+-- there are fewer numbers than `$`, the last `$` stay
 unfoldable pub filled : List ℕ → List ℕ → List ℕ
 filled [] numbers = []
 filled (byte ∷ bytes) [] = byte ∷ bytes

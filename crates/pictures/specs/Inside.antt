@@ -1,4 +1,4 @@
--- Inside: what contracts see of a trace.
+-- Inside: the value of a trace that contracts see.
 use Rattle.std.specs.List.{AllByRecursion as Every}
 use Rattle.std.specs.Prelude.{ℕ, ◌≡◌, ◌≤◌, ◌^◌, List, [], get_or, length, map}
 use Rattle.std.specs.declared.vec.Vec.{Vec}
@@ -19,7 +19,7 @@ run_of t = record {
 abbrev pub lists : List (Vec ℕ Global) → List (List ℕ)
 lists rows = map (λ (row : Vec ℕ Global). row.items) rows
 
--- what holds of each run
+-- the ranges of a run: its time, the number of its processes, and its messages
 pub record IsWholeRun (r : Run) : Type 0 where
   pub time : r.time ≤ 2 ^ 40
   pub few : length r.first ≤ 1024

@@ -1,12 +1,12 @@
 -- For callers
 pub mod Chosen  -- a part of a log
-pub mod Run  -- what a run was made of, and when a message was sent
+pub mod Run  -- a run in detail, and when a message was sent
 pub mod Figures  -- figures of a run
 pub mod Tables  -- the figures as texts
 pub mod Drawing  -- the space-time diagram
 pub mod Load  -- the load, as a heat map
 pub mod Turns  -- the rows of a trace
-pub mod Course  -- what a run did, round by round
+pub mod Course  -- the course of a run, round by round
 -- Inside
-pub mod Filled  -- a text with numbers in its holes
-pub mod Inside  -- what contracts see of a trace
+pub mod Filled  -- texts with placeholders for numbers
+pub mod Inside  -- the value of a trace that contracts see

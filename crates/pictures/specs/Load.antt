@@ -13,10 +13,11 @@ use Rattle.pictures.specs.declared.drawn.View.{View}
 use Rattle.pictures.specs.declared.drawn.TheConstants.{STYLE, TAIL}
 use Rattle.pictures.specs.declared.loads.TheConstants.{CELL, LOAD_HEAD}
 
--- how many slices of time there are, at most 64, and in which one a time of the frame lies
+-- the number of slices of time, at most 64
 abbrev pub slices_of : Frame → ℕ
 slices_of f = min 64 (span_of f)
 
+-- the slice that a time of the frame is in
 abbrev pub slice_at : Frame → ℕ → ℕ
 slice_at f time = (time - f.from) * slices_of f / span_of f
 
@@ -24,25 +25,27 @@ slice_at f time = (time - f.from) * slices_of f / span_of f
 abbrev pub slice_start : Frame → ℕ → ℕ
 slice_start f slice = f.from + (slice * span_of f + slices_of f - 1) / slices_of f
 
--- an event that the process of a row handled in the frame
+-- the process of the row handled this event in the frame
 abbrev pub is_in_row : Frame → ℕ → Message → Bool
 is_in_row f row x = nat_le f.from x.time && (nat_lt x.time f.to && (x.to == f.first + row))
 
+-- how many events the process of a row handled in a slice
 abbrev pub cell_count : Run → Frame → ℕ → ℕ → ℕ
 cell_count r f row slice =
     length (filter (λ (x : Message). is_in_row f row x && (slice_at f x.time == slice)) r.events)
 
--- the most events of a cell, in the first slices of a row, and in the first rows
+-- the most events of a cell in the first slices of a row
 abbrev pub most_in_row : Run → Frame → ℕ → ℕ → ℕ
 most_in_row r f row zero = 0
 most_in_row r f row (suc slice) = max (most_in_row r f row slice) (cell_count r f row slice)
 
+-- the most events of a cell in the first rows
 abbrev pub most_in_rows : Run → Frame → ℕ → ℕ
 most_in_rows r f zero = 0
 most_in_rows r f (suc row) = max (most_in_rows r f row) (most_in_row r f row (slices_of f))
 
--- the tenths of its colour, ten where it has the most, and none where it has no event; counts from
--- 2^56 on as that
+-- the depth of colour of a cell in tenths: ten for the most events, and none for no event; counts
+-- above 2^56 count as 2^56
 abbrev pub level_of : ℕ → ℕ → ℕ
 level_of most count =
     (10 * min (2 ^ 56) count + min (2 ^ 56) most - 1) / max 1 (min (2 ^ 56) most)

@@ -1,5 +1,5 @@
--- What a run was made of: its events, how many messages each handling sent, and so when each
--- message was sent.
+-- A run in detail: its events and how many messages each handling sent, and so when each message was
+-- sent.
 use Rattle.std.specs.Prelude.{ℕ, ◌≡◌, ◌==◌, List, [], ◌∷◌, ◌++◌, if◌then◌else◌, get_or, length, min}
 use Rattle.std.specs.Prelude.{replicate, set}
 use Rattle.eventkey.specs.Message.{Message}
@@ -8,11 +8,11 @@ use Rattle.model.specs.Runner.{IsLimited, IsRun}
 use Rattle.model.specs.World.{IsUpto, World, opening}
 
 pub record Run : Type 0 where
-  pub time : ℕ  -- the virtual time up to which it went
+  pub time : ℕ  -- the virtual time up to which the run went
   pub first : List ℕ  -- how many messages each process sent at the opening
-  pub events : List Message  -- those that were handled, in the order of handling
+  pub events : List Message  -- the handled messages, in the order of handling
   pub sends : List ℕ  -- how many messages the handling of each of these sent
-  pub pending : List Message  -- those that were not handled
+  pub pending : List Message  -- the messages that were not handled
 
 -- how many messages the handling of each event of a log sends, from these states on
 abbrev pub sends_of : Meaning → List (List ℕ) → List Message → List ℕ
@@ -21,7 +21,7 @@ sends_of m states (x ∷ xs) =
     length (m.sends x.to (get_or states x.to []) x)
     ∷ sends_of m (set states x.to (m.next_state x.to (get_or states x.to []) x)) xs
 
--- the sequential simulation of a model, which ends at its end, up to a time
+-- r is the sequential simulation of a model up to a time, or up to its end if that is earlier
 pub record IsRunOf (m : Meaning) (end to : ℕ) (r : Run) : Type 0 where
   pub world : World
   pub upto : IsUpto m end (min to end) world
@@ -31,21 +31,21 @@ pub record IsRunOf (m : Meaning) (end to : ℕ) (r : Run) : Type 0 where
   pub first : r.first ≡ (opening m).numbers
   pub sends : r.sends ≡ sends_of m (opening m).states world.log
 
--- on its way there is a world where the send number of a process would pass the limit
+-- the run reaches a world where the send number of a process would pass the limit
 pub record IsOverLimit (m : Meaning) (end to : ℕ) : Type 0 where
   pub world : World
   pub run : IsRun m (min to end) (opening m) world
   pub limited : IsLimited m (min to end) world
 
--- when a process sent in these events: the time of each that it handled, as often as that handling
--- sent
+-- when a process sent in these events: the time of each event that it handled, once for each message
+-- that the handling sent
 abbrev pub sent_in : ℕ → List Message → List ℕ → List ℕ
 sent_in lp [] counts = []
 sent_in lp (x ∷ xs) [] = []
 sent_in lp (x ∷ xs) (n ∷ ns) =
     (if x.to == lp then replicate n x.time else []) ++ sent_in lp xs ns
 
--- when a process sent its messages 0, 1, ..: at 0 those of the opening
+-- when a process sent its messages 0, 1, ..; those of the opening at 0
 abbrev pub sending_times : Run → ℕ → List ℕ
 sending_times r lp = replicate (get_or r.first lp 0) 0 ++ sent_in lp r.events r.sends
 

@@ -7,11 +7,11 @@ use Rattle.pictures.specs.declared.counted.Figures.{Figures}
 use Rattle.pictures.specs.declared.counted.Spread.{Spread}
 use Rattle.pictures.specs.declared.tables.TheConstants.{BUSIEST, CSV, CSV_ROW, SPREADS, SUMMARY}
 
--- a number at the right of a column
+-- a number, right-aligned in a column of 12 characters
 abbrev pub right : ℕ → List ℕ
 right n = replicate (12 - length (decimal n)) 32 ++ decimal n
 
--- a label, a column for each number
+-- a line: a label, and a column for each number
 abbrev pub columns_text : List ℕ → List ℕ → List ℕ
 columns_text label numbers = label ++ flat_map right numbers ++ codes "\n"
 
@@ -31,7 +31,7 @@ second_digit n = n / 10 % 10
 abbrev pub third_digit : ℕ → ℕ
 third_digit n = n % 10
 
--- a line of words, a line for each spread, and a line for each of the busiest processes
+-- the table: a summary line, a line for each spread, and a line for each of the busiest processes
 abbrev pub stats_text : Figures → List ℕ
 stats_text f =
     filled SUMMARY.now (f.events ∷ f.pending ∷ f.processes ∷ f.time ∷ f.rate.whole
@@ -44,7 +44,7 @@ stats_text f =
     ++ BUSIEST.now
     ++ flat_map (λ (b : Busy). columns_text [] (busy_numbers b)) f.busiest
 
--- the same, with a line of names before each table
+-- the same figures as comma-separated values, with a line of names before each of three tables
 abbrev pub csv_text : Figures → List ℕ
 csv_text f =
     filled CSV.now (f.time ∷ f.processes ∷ f.events ∷ f.pending ∷ f.rate.whole

@@ -1,4 +1,4 @@
-// The course of a run: what it did, round by round.
+// The course of a run, round by round, as a drawing.
 
 ghost use Rattle.std.specs.List.{filter};
 ghost use Rattle.std.specs.Prelude.{◌≡◌, ◌≤◌, ◌<◌, ◌+◌, ◌-◌, ◌*◌, ◌/◌, ◌^◌, ◌++◌, ◌&&◌, ◌==◌, ℕ};
@@ -21,7 +21,7 @@ use crate::turns::Row;
 use std::io::{Result, Write};
 use texts::write_text;
 
-/// The rounds of a run, and in how many columns they are shown.
+/// The rounds of a run, and the number of columns that show them.
 #[derive(Clone, Copy)]
 struct Window {
     first: u64,
@@ -29,12 +29,12 @@ struct Window {
     columns: u64,
 }
 
-/// What a run did in some of its rounds.
+/// The work of a run in a range of its rounds.
 #[derive(Clone, Copy)]
 struct Slice {
     /// The first round.
     from: u64,
-    /// The round before which it ends.
+    /// The round after the last.
     to: u64,
     /// GVT at its end, in ticks.
     gvt: u64,
@@ -48,24 +48,24 @@ struct Slice {
     commits: u64,
 }
 
-/// How far a run came before a round: GVT in ticks, and events committed.
+/// How far a run had come before a round: GVT in ticks, and events committed.
 #[derive(Clone, Copy)]
 struct Reached {
     gvt: u64,
     events: u64,
 }
 
-/// How much work there was in some rounds.
+/// Messages handled and antimessages delivered in a range of rounds.
 #[derive(Clone, Copy)]
 struct Work {
     handled: u64,
     antimessages: u64,
 }
 
-/// What numbers and sums are cut to, so that none overflows.
+/// The cap of numbers and sums, so that no calculation overflows.
 const MOST: u64 = 1 << 56;
 
-// Each `$` is the place of a number.
+// A number replaces each `$`.
 const COURSE_HEAD: &str = "\
 <svg xmlns=\"http://www.w3.org/2000/svg\" viewBox=\"0 0 1000 520\" width=\"1000\" height=\"520\" role=\"img\">
 <title>Course of a run of $ rounds</title>
@@ -98,14 +98,15 @@ $ antimessages, $ commits</text>
 </svg>
 ";
 
-/// Writes the course of a run, of the rows of its trace, as a stand-alone SVG: at most 90 columns,
-/// each for a slice of the rounds, with GVT at its end, how many events were committed in it of the
-/// messages handled in it, in percent, how many antimessages were delivered in it, and whether
-/// there was a commit in it; and a line of words with the sums. Rounds from 2^32 on count as that,
-/// other numbers and sums from 2^56 on as that.
+/// Writes the course of a run, from the rows of its trace, as a stand-alone SVG.
 ///
-/// Where the writer fails, what it has taken is a beginning of the text, and the answer is its
-/// error. It costs the rows, eight times for each column, and takes no memory.
+/// It has at most 90 columns, each for a slice of the rounds. A column shows GVT at the end of its
+/// slice, the events committed as a percentage of the messages handled, the antimessages delivered,
+/// and whether there was a commit. A line of text has the sums. Rounds above 2^32 count as 2^32,
+/// and other numbers and sums above 2^56 as 2^56.
+///
+/// If the writer fails, its error is returned, and it has taken a beginning of the text. The rows
+/// are read eight times for each column, and nothing is allocated.
 pub fn write_course<W: Write>(rows: &[Row], out: &mut W) -> Result<()>
     ensures { Writes (W.contents out.old) (W.contents out.new) result (course_text rows.now) }
 {
@@ -173,7 +174,7 @@ fn write_column<W: Write>(
     write_slice(window, gvt, most, place, &slice, out)
 }
 
-/// The column at a place, which shows this slice.
+/// Writes the column at a place, which shows this slice.
 fn write_slice<W: Write>(
     window: &Window,
     gvt: u64,
@@ -225,7 +226,7 @@ fn write_slice<W: Write>(
     write_filled(COLUMN, &numbers, out)
 }
 
-/// Where a column begins.
+/// Returns the left edge of a column in pixels.
 fn left(window: &Window, place: u64) -> u64
     requires some { 1 ≤ window.now.columns }
     requires place { place ≤ 90 }
@@ -272,7 +273,7 @@ fn write_foot<W: Write>(
     write_filled(COURSE_FOOT, &numbers, out)
 }
 
-/// The pixels of a number where 100 are the greatest.
+/// Returns the pixels of a number, on a scale where the greatest one has 100.
 fn pixels(number: u64, greatest: u64) -> u64
     requires { number ≤ 2 ^ 56 }
     ensures { result ≡ pixels_of number greatest }
@@ -280,7 +281,7 @@ fn pixels(number: u64, greatest: u64) -> u64
     100 * number / greatest.max(1)
 }
 
-/// Events committed of messages handled, in percent.
+/// Returns the events committed as a percentage of the messages handled, at most 100.
 fn efficiency(slice: &Slice) -> u64
     requires { slice.now.events ≤ 2 ^ 56 }
     ensures { result ≡ efficiency_of slice.now }
@@ -291,7 +292,7 @@ fn efficiency(slice: &Slice) -> u64
     (100 * slice.events / slice.handled).min(100)
 }
 
-/// The most antimessages of a column.
+/// Returns the most antimessages of a column.
 fn most_antimessages(rows: &[Row], window: &Window) -> u64
     requires first { window.now.first ≤ 2 ^ 32 }
     requires rounds { window.now.rounds ≤ 2 ^ 32 + 1 }
@@ -305,7 +306,7 @@ fn most_antimessages(rows: &[Row], window: &Window) -> u64
     most
 }
 
-/// What the run did in the rounds of a column.
+/// Returns the slice that a column shows.
 fn column(rows: &[Row], window: &Window, place: u64) -> Slice
     requires first { window.now.first ≤ 2 ^ 32 }
     requires rounds { window.now.rounds ≤ 2 ^ 32 + 1 }
@@ -319,7 +320,7 @@ fn column(rows: &[Row], window: &Window, place: u64) -> Slice
     slice_of(rows, start(window, place), start(window, place + 1))
 }
 
-/// The first round of a column.
+/// Returns the first round of a column.
 fn start(window: &Window, place: u64) -> u64
     requires first { window.now.first ≤ 2 ^ 32 }
     requires rounds { window.now.rounds ≤ 2 ^ 32 + 1 }
@@ -330,7 +331,7 @@ fn start(window: &Window, place: u64) -> u64
     window.first + place * window.rounds / window.columns
 }
 
-/// The rounds of a run, from the least to the greatest.
+/// Returns the window of all rounds of a run, from the least to the greatest.
 fn window_of(rows: &[Row]) -> Window
     ensures window { result ≡ window_from rows.now }
     ensures first { result.first ≤ 2 ^ 32 }
@@ -369,7 +370,7 @@ fn last_round(rows: &[Row]) -> u64
     last
 }
 
-/// What the run did in the rounds from one to before another.
+/// Returns the slice of the rounds from `from` on and before `to`.
 fn slice_of(rows: &[Row], from: u64, to: u64) -> Slice
     ensures slice { result ≡ slice_from rows.now from to }
     ensures gvt { result.gvt ≤ 2 ^ 56 }
@@ -391,7 +392,7 @@ fn slice_of(rows: &[Row], from: u64, to: u64) -> Slice
     }
 }
 
-/// Whether a row is of the rounds from one to before another.
+/// Returns whether the round of a row is from `from` on and before `to`.
 fn is_between(row: &Row, from: u64, to: u64) -> bool
     ensures { result ≡ is_within from to row.now }
 {
@@ -399,7 +400,7 @@ fn is_between(row: &Row, from: u64, to: u64) -> bool
     from <= round && round < to
 }
 
-/// How far the run came before a round.
+/// Returns how far the run had come before round `to`.
 fn reached_before(rows: &[Row], to: u64) -> Reached
     ensures gvt { result.gvt ≡ reached (λ (r : Row). r.gvt) to rows.now }
     ensures events { result.events ≡ events_before to rows.now }
@@ -415,7 +416,7 @@ fn reached_before(rows: &[Row], to: u64) -> Reached
     Reached { gvt, events }
 }
 
-/// How many events were committed at the first row.
+/// Returns how many events were committed at the first row, or 0 if there are no rows.
 fn events_at_first(rows: &[Row]) -> u64
     ensures { result ≡ capped (at_first (λ (r : Row). r.events) rows.now) }
 {
@@ -425,7 +426,7 @@ fn events_at_first(rows: &[Row]) -> u64
     }
 }
 
-/// How much work there was in the rounds from one to before another.
+/// Returns the work in the rounds from `from` on and before `to`.
 fn work_between(rows: &[Row], from: u64, to: u64) -> Work
     ensures handled { result.handled ≡ sum_between (λ (r : Row). r.handled) from to rows.now }
     ensures antimessages { result.antimessages
@@ -445,7 +446,7 @@ fn work_between(rows: &[Row], from: u64, to: u64) -> Work
     }
 }
 
-/// How many rows of these rounds have another commit than the row before.
+/// Returns how many rows of these rounds have another last commit than the row before.
 fn commits_between(rows: &[Row], from: u64, to: u64) -> u64
     ensures { result ≡ capped (length (filter (is_within from to)
         (committing (at_first (λ (r : Row). r.committed) rows.now) rows.now))) }
@@ -461,14 +462,14 @@ fn commits_between(rows: &[Row], from: u64, to: u64) -> u64
     commits
 }
 
-/// Whether a row of these rounds has another commit than one at this time.
+/// Returns whether a row is of these rounds, and its last commit is not the one at `time`.
 fn is_commit(row: &Row, time: u64, from: u64, to: u64) -> bool
     ensures { result ≡ not (row.now.committed == time) && is_within from to row.now }
 {
     row.committed != time && is_between(row, from, to)
 }
 
-/// The time of the last commit before the first row.
+/// Returns the time of the last commit before the first row, or 0 if there are no rows.
 fn time_at_first(rows: &[Row]) -> u64
     ensures { result ≡ at_first (λ (r : Row). r.committed) rows.now }
 {

@@ -19,12 +19,12 @@ use eventkey::Message;
 use std::io::{Result, Write};
 use texts::write_text;
 
-/// The part of a run that a picture is to show.
+/// The part of a run to show in a picture.
 #[derive(Clone, Copy, Debug, PartialEq, Eq)]
 pub struct View {
     /// The first time in ticks.
     pub from: u64,
-    /// The time in ticks before which it ends.
+    /// The time in ticks before which the part ends.
     pub to: u64,
     /// The first process.
     pub first: u32,
@@ -32,7 +32,7 @@ pub struct View {
     pub last: u32,
 }
 
-/// What a picture shows of it: at most 64 processes, and those that are there.
+/// The part of a view that a picture can show: at most 64 processes, and only those that exist.
 #[derive(Clone, Copy)]
 pub(crate) struct Frame {
     pub(crate) from: u64,
@@ -81,7 +81,7 @@ const STEPS: [u64; 36] = [
     500000000000,
 ];
 
-// Each `$` is the place of a number.
+// A number replaces each `$`.
 const HEAD: &str = "\
 <svg xmlns=\"http://www.w3.org/2000/svg\" viewBox=\"0 0 1000 $\" width=\"1000\" height=\"$\" role=\"img\">
 <title>Space-time diagram, virtual time $ to $</title>
@@ -132,13 +132,15 @@ const NOTE: &str = "\
 
 pub(crate) const TAIL: &str = "</svg>\n";
 
-/// Writes the space-time diagram of a run as a stand-alone SVG: virtual time along x, a line for
-/// each process, a dot for each event in the view, a line for each of their messages, and a dashed
-/// one for each that is pending. Of a larger view it shows the first 64 processes and the first
-/// 2,000 events and pending messages, and says so. Times from 2^41 on count as that.
+/// Writes the space-time diagram of a run as a stand-alone SVG.
 ///
-/// Where the writer fails, what it has taken is a beginning of the text, and the answer is its
-/// error. It costs the run's messages and takes no memory.
+/// Virtual time is along x. There is a line for each process, a dot for each event in the view, a
+/// line for the message of each event, and a dashed line for each pending message. Of a larger view
+/// it shows the first 64 processes and the first 2,000 events and pending messages, and says so.
+/// Times above 2^41 count as 2^41.
+///
+/// If the writer fails, its error is returned, and it has taken a beginning of the text. The time
+/// is in proportion to the run's messages, and nothing is allocated.
 pub fn write_drawing<W: Write>(trace: &Trace, view: &View, out: &mut W) -> Result<()>
     ensures { Writes (W.contents out.old) (W.contents out.new) result
         (drawing_text trace.now view.now) }
@@ -147,7 +149,7 @@ pub fn write_drawing<W: Write>(trace: &Trace, view: &View, out: &mut W) -> Resul
     write_picture(trace, &frame, out)
 }
 
-/// What a view shows.
+/// Returns the frame of a view.
 pub(crate) fn framed(trace: &Trace, view: &View) -> Frame
     ensures { result ≡ frame_of trace.now view.now }
 {
@@ -238,7 +240,7 @@ pub(crate) fn write_ticks<W: Write>(frame: &Frame, out: &mut W) -> Result<()>
     Ok(())
 }
 
-/// The ticks between two labels.
+/// Returns the ticks between two labels.
 fn step(frame: &Frame) -> u64
     requires { frame.now.to ≤ 2 ^ 41 }
     ensures step { result ≡ step_of frame.now }
@@ -248,7 +250,7 @@ fn step(frame: &Frame) -> u64
     first_round(span(frame), &STEPS)
 }
 
-/// The least of some ascending numbers of which ten reach so far.
+/// Returns the least of these ascending steps of which ten cover the span, or 10^12 if none does.
 #[tactic(auto, unfolding(crate::specs::Drawing::step_from))]
 fn first_round(span: u64, steps: &[u64]) -> u64
     requires { span ≤ 2 ^ 41 }
@@ -293,7 +295,8 @@ fn write_process<W: Write>(frame: &Frame, place: u32, out: &mut W) -> Result<()>
     write_filled(ROW, &[y, y, y + 4, process], out)
 }
 
-/// Whether a message has marks.
+/// Returns whether a message is drawn: it is received in the frame before the time `before`, and
+/// sent before the frame's end.
 fn has_marks(trace: &Trace, frame: &Frame, before: u64, message: &Message) -> bool
     ensures { result ≡ is_shown trace.now frame.now before message.now }
 {
@@ -305,7 +308,8 @@ fn has_marks(trace: &Trace, frame: &Frame, before: u64, message: &Message) -> bo
     to >= frame.first && to - frame.first < frame.rows
 }
 
-/// A mark of each of the first 2,000 messages that are shown.
+/// Writes a mark for each of the first 2,000 messages that are drawn. The mark's text gets all
+/// numbers of a message but the first `skip`.
 fn write_marks<W: Write>(
     trace: &Trace,
     frame: &Frame,
@@ -396,7 +400,7 @@ fn write_note<W: Write>(trace: &Trace, frame: &Frame, out: &mut W) -> Result<()>
     write_filled(NOTE, &numbers, out)
 }
 
-/// How many events lie in the frame.
+/// Returns how many events the frame shows.
 fn count_shown(trace: &Trace, frame: &Frame) -> u64
     ensures { result ≡ shown_count trace.now frame.now }
 {

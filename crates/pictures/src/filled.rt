@@ -1,4 +1,4 @@
-// Texts with numbers in their holes.
+// Texts with placeholders for numbers.
 
 ghost use Rattle.eventkey.specs.Writing.{Writes};
 ghost use Rattle.pictures.specs.Filled.{filled as filled_with};
@@ -8,8 +8,7 @@ use texts::{write_number, write_text};
 
 /// Writes a text with these numbers in decimal digits, each in place of one `$`.
 ///
-/// Where the writer fails, what it has taken is a beginning of the text, and the answer is its
-/// error.
+/// If the writer fails, its error is returned, and it has taken a beginning of the text.
 pub(crate) fn write_filled<W: Write>(text: &str, numbers: &[u64], out: &mut W) -> Result<()>
     ensures { Writes (W.contents out.old) (W.contents out.new) result
         (filled_with text.now numbers.now) }

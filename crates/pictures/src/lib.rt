@@ -1,4 +1,4 @@
-//! What a committed run looks like: parts of its log, figures, and drawings.
+//! Views of a committed run: parts of its log, figures, and drawings.
 #![tactic(auto)]
 
 mod chosen;

@@ -15,10 +15,10 @@ use eventkey::Message;
 use std::io::{Result, Write};
 use texts::write_text;
 
-/// Greater numbers count as this.
+/// The cap of counts: greater ones count as this, so that no product overflows.
 const MOST: u64 = 1 << 56;
 
-// Each `$` is the place of a number.
+// A number replaces each `$`.
 const LOAD_HEAD: &str = "\
 <svg xmlns=\"http://www.w3.org/2000/svg\" viewBox=\"0 0 1000 $\" width=\"1000\" height=\"$\" role=\"img\">
 <title>Events a process, virtual time $ to $</title>
@@ -30,12 +30,14 @@ const CELL: &str = "\
 <title>process $, $ to $: $ events</title></rect>
 ";
 
-/// Writes how many events each process handled in each slice of virtual time as a stand-alone SVG:
-/// a rectangle for each, up to 64 slices and the first 64 processes of the view, in ten depths of
-/// colour of which the last is that of the most events. Times from 2^41 on count as that.
+/// Writes the load of a run as a heat map in a stand-alone SVG: how many events each process
+/// handled in each slice of virtual time.
 ///
-/// Where the writer fails, what it has taken is a beginning of the text, and the answer is its
-/// error. It costs the events, twice for each process shown, and takes no memory.
+/// There is a rectangle for each of up to 64 slices of each of the first 64 processes of the view,
+/// in ten depths of colour; the deepest is that of the most events. Times above 2^41 count as 2^41.
+///
+/// If the writer fails, its error is returned, and it has taken a beginning of the text. The events
+/// are read twice for each process shown, and nothing is allocated.
 pub fn write_load<W: Write>(trace: &Trace, view: &View, out: &mut W) -> Result<()>
     ensures { Writes (W.contents out.old) (W.contents out.new) result
         (load_text trace.now view.now) }
@@ -77,7 +79,7 @@ fn write_all_cells<W: Write>(trace: &Trace, frame: &Frame, most: u64, out: &mut 
     Ok(())
 }
 
-/// The cells of one row.
+/// Writes the cells of one row.
 fn write_cells<W: Write>(
     trace: &Trace,
     frame: &Frame,
@@ -132,7 +134,7 @@ fn write_cell<W: Write>(
     write_filled(CELL, &numbers, out)
 }
 
-/// The tenths of colour of a count, where this is the most.
+/// Returns the depth of colour of a count in tenths, where `most` is the greatest count.
 fn level(count: u64, most: u64) -> u64
     ensures { result ≡ level_of most count }
 {
@@ -140,7 +142,7 @@ fn level(count: u64, most: u64) -> u64
     (10 * count.min(MOST) + most).saturating_sub(1) / most.max(1)
 }
 
-/// The most events of a process in a slice.
+/// Returns the most events of a process in a slice.
 fn most_in_rows(trace: &Trace, frame: &Frame) -> u64
     requires to { frame.now.to ≤ 2 ^ 41 }
     ensures { result ≡ most_in_rows trace.now frame.now frame.now.rows }
@@ -172,7 +174,7 @@ fn slices(frame: &Frame) -> u64
     span(frame).min(64)
 }
 
-/// The first time of a slice.
+/// Returns the first time of a slice.
 fn start(frame: &Frame, slice: u64) -> u64
     requires order { frame.now.from ≤ frame.now.to }
     requires to { frame.now.to ≤ 2 ^ 41 }
@@ -183,7 +185,7 @@ fn start(frame: &Frame, slice: u64) -> u64
     frame.from + (slice * span(frame) + slices - 1) / slices
 }
 
-/// How many events the process of a row handled in each slice.
+/// Returns how many events the process of a row handled in each slice.
 fn counts_of(trace: &Trace, frame: &Frame, row: u32) -> [u64; 64]
     requires to { frame.now.to ≤ 2 ^ 41 }
     ensures { (slice : ℕ) → slice < 64 →
@@ -208,7 +210,7 @@ fn is_here(frame: &Frame, row: u32, event: &Message) -> bool
     u64::from(event.to()) == u64::from(frame.first) + u64::from(row)
 }
 
-/// The slice in which a time of the frame lies.
+/// Returns the slice that a time of the frame is in.
 fn slice_of(frame: &Frame, time: u64) -> usize
     requires from { frame.now.from ≤ time }
     requires to { time < frame.now.to }

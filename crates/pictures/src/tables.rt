@@ -14,7 +14,7 @@ use itoa::Buffer;
 use std::io::{Result, Write};
 use texts::write_text;
 
-// Each `$` is the place of a number.
+// A number replaces each `$`.
 const SUMMARY: &str = "\
 $ events and $ pending messages of $ processes, up to virtual time $: $.$$$ events a tick
 ";
@@ -39,12 +39,11 @@ process,handled,sent
 
 const CSV_ROW: &str = "$,$,$\n";
 
-/// Writes the figures of a run as a table: a line of words; the least, the lower median and the
-/// greatest of the events handled and the messages sent by a process and of the ticks that a
-/// message was on its way; and the ten busiest processes.
+/// Writes the figures of a run as a table: a summary line; the least, the lower median and the
+/// greatest of the events handled by a process, the messages sent by a process, and the ticks from
+/// sending to receiving of a message; and the ten busiest processes.
 ///
-/// Where the writer fails, what it has taken is a beginning of the text, and the answer is its
-/// error.
+/// If the writer fails, its error is returned, and it has taken a beginning of the text.
 pub fn write_stats<W: Write>(figures: &Figures, out: &mut W) -> Result<()>
     ensures { Writes (W.contents out.old) (W.contents out.new) result
         (stats_text figures.now) }
@@ -60,8 +59,7 @@ pub fn write_stats<W: Write>(figures: &Figures, out: &mut W) -> Result<()>
 
 /// Writes the figures of a run as comma-separated values: three tables, each after a line of names.
 ///
-/// Where the writer fails, what it has taken is a beginning of the text, and the answer is its
-/// error.
+/// If the writer fails, its error is returned, and it has taken a beginning of the text.
 pub fn write_stats_csv<W: Write>(figures: &Figures, out: &mut W) -> Result<()>
     ensures { Writes (W.contents out.old) (W.contents out.new) result (csv_text figures.now) }
 {
@@ -108,7 +106,7 @@ fn write_busiest<W: Write>(busiest: &[Busy], out: &mut W) -> Result<()>
     Ok(())
 }
 
-/// A label, and a column for each number.
+/// Writes a line: a label, and a column for each number.
 fn write_columns<W: Write>(label: &str, numbers: &[u64], out: &mut W) -> Result<()>
     ensures { Writes (W.contents out.old) (W.contents out.new) result
         (columns_text label.now numbers.now) }
@@ -128,7 +126,7 @@ fn write_row<W: Write>(numbers: &[u64], out: &mut W) -> Result<()>
     Ok(())
 }
 
-/// A number at the right of a column of 12.
+/// Writes a number, right-aligned in a column of 12 characters.
 fn write_right<W: Write>(number: u64, out: &mut W) -> Result<()>
     ensures { Writes (W.contents out.old) (W.contents out.new) result (right number) }
 {

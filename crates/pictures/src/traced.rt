@@ -1,4 +1,4 @@
-// What a run was made of.
+// A run in detail: its events and what they sent.
 
 ghost use Rattle.std.specs.List.{AllByRecursion as Every};
 ghost use Rattle.std.specs.Prelude.{◌≡◌, ◌≤◌, ◌<◌, ◌^◌, ◌++◌, ℕ, Err, IfOk, OnOk, List, [], get_or};
@@ -14,18 +14,18 @@ use eventkey::Message;
 use model::{Model, Words, World, WorldFault, WorldParts};
 use std::alloc::{AllocError, Global};
 
-/// What a run was made of: its events, how many messages each handling sent, and what is pending.
+/// A run in detail: its events, how many messages each handling sent, and the pending messages.
 pub struct Trace {
     time: u64,
     first: Vec<u64>,
     sends: Vec<u64>,
     events: Vec<Message>,
     pending: Vec<Message>,
-    // For each process the times at which it sent its messages, in the order of their numbers.
+    // For each process, the times at which it sent its messages, in the order of send numbers.
     times: Vec<Vec<u64>>,
 }
 
-// Not derived: each caller that drops one would prove again how its parts are dropped.
+// Not derived: the proof of each caller that drops a trace would have to go through its parts.
 impl Drop for Trace {
     fn drop(self) {
         let Trace {
@@ -51,14 +51,14 @@ impl std::marker::Model for Trace {
 }
 
 impl Trace {
-    /// The virtual time in ticks up to which the run went.
+    /// Returns the virtual time in ticks up to which the run went.
     pub fn time(&self) -> u64
         ensures { result ≡ self.now.time }
     {
         self.time
     }
 
-    /// How many messages each process sent at the opening.
+    /// Returns how many messages each process sent at the opening.
     pub fn first(&self) -> &[u64]
         ensures first { result.now ≡ self.now.first }
         ensures whole { IsWholeRun self.now }
@@ -66,28 +66,29 @@ impl Trace {
         self.first.as_slice()
     }
 
-    /// The events, in the order of handling.
+    /// Returns the events, in the order of handling.
     pub fn events(&self) -> &[Message]
         ensures { result.now ≡ self.now.events }
     {
         self.events.as_slice()
     }
 
-    /// How many messages the handling of each event sent.
+    /// Returns how many messages the handling of each event sent.
     pub fn sends(&self) -> &[u64]
         ensures { result.now ≡ self.now.sends }
     {
         self.sends.as_slice()
     }
 
-    /// The messages that were not handled, the least first.
+    /// Returns the messages that were not handled, the least first.
     pub fn pending(&self) -> &[Message]
         ensures { result.now ≡ self.now.pending }
     {
         self.pending.as_slice()
     }
 
-    /// The virtual time in ticks at which a message of the run was sent, in constant time.
+    /// Returns the virtual time in ticks at which a message of the run was sent, in constant time.
+    /// For a number that its sender did not send it returns 0.
     pub fn sent_at(&self, message: &Message) -> u64
         ensures { result ≡ sent_at self.now message.now }
     {
@@ -97,7 +98,7 @@ impl Trace {
         times.get(message.number() as usize).copied().unwrap_or(0)
     }
 
-    /// How many messages a process sent.
+    /// Returns how many messages a process sent.
     pub fn sent_by(&self, process: u32) -> usize
         ensures { result ≡ length (sending_times self.now process) }
     {
@@ -108,10 +109,12 @@ impl Trace {
     }
 }
 
-/// The run of a model from its opening, whose simulation ends at `end` ticks, 1 to 2^40, up to `to`
-/// ticks. `NumberLimit` comes where the send number of a process would pass 2^63 before that,
-/// `NoMemory` where memory is refused. It costs the simulation, each handling once more, and memory
-/// in proportion to the events.
+/// Runs a model from its opening up to `to` ticks, and returns its `Trace`. The simulation ends at
+/// `end` ticks, 1 to 2^40.
+///
+/// `NumberLimit` comes if the send number of a process would pass 2^63 before that, and `NoMemory`
+/// if an allocation failed. It costs the simulation, each handling a second time, and memory in
+/// proportion to the events.
 pub fn trace_of<M: Model>(alloc: Global, model: &M, end: u64, to: u64) -> Result<Trace, WorldFault>
     requires some { 1 ≤ end }
     requires end { end ≤ 2 ^ 40 }
@@ -142,7 +145,7 @@ pub fn trace_of<M: Model>(alloc: Global, model: &M, end: u64, to: u64) -> Result
     })
 }
 
-/// The states of the opening, and how many messages each process sends then.
+/// Returns the states of the opening, and how many messages each process sends then.
 fn opening<M: Model>(alloc: Global, model: &M) -> Result<(Vec<Words>, Vec<u64>), AllocError>
     ensures states { IfOk result (λ o. map (λ s. s.items) o.0.items
         ≡ (opening_of (M.meaning model.now)).states) }
@@ -159,7 +162,7 @@ fn opening<M: Model>(alloc: Global, model: &M) -> Result<(Vec<Words>, Vec<u64>),
     Ok((states, numbers))
 }
 
-/// How many messages each handling of a log sends, from these states on.
+/// Returns how many messages each handling of a log sends, from these states on.
 fn sends_of<M: Model>(
     alloc: Global,
     model: &M,
@@ -184,7 +187,7 @@ fn sends_of<M: Model>(
     Ok(counts)
 }
 
-/// For each process the times at which it sent its messages.
+/// Returns, for each process, the times at which it sent its messages.
 fn times_of(
     alloc: Global,
     first: &[u64],
@@ -203,7 +206,7 @@ fn times_of(
     Ok(rows)
 }
 
-/// A row for each process, with the time 0 for each message of the opening.
+/// Returns a row for each process, with the time 0 for each message that it sent at the opening.
 fn opening_rows(alloc: Global, first: &[u64]) -> Result<Vec<Vec<u64>>, AllocError>
     ensures { IfOk result (λ rows. lists rows.items ≡ map (λ n. replicate n 0) first.now) }
 {
@@ -216,7 +219,7 @@ fn opening_rows(alloc: Global, first: &[u64]) -> Result<Vec<Vec<u64>>, AllocErro
     Ok(rows)
 }
 
-/// A time more for each of so many messages.
+/// Appends a time `count` times, once for each message.
 fn add_times(row: &mut Vec<u64>, count: u64, time: u64) -> Result<(), AllocError>
     ensures { OnOk result (row.new.items ≡ row.old.items ++ replicate count time) }
 {

@@ -1,4 +1,4 @@
-// The rows of a trace, read of its text.
+// The rows of a trace: reading and writing its text.
 
 ghost use Rattle.std.specs.Prelude.{◌≡◌, IfOk, flat_map, true};
 ghost use Rattle.eventkey.specs.Writing.{Writes};
@@ -12,7 +12,7 @@ use std::str::Split;
 use texts::write_text;
 use thiserror::Error;
 
-/// A turn of a node, as a row of a trace tells it.
+/// A row of a trace: one turn of a node.
 #[derive(Clone, Copy, Debug, PartialEq, Eq)]
 pub struct Row {
     /// The number of the round.
@@ -21,7 +21,7 @@ pub struct Row {
     pub node: u64,
     /// How many events the node was allowed to handle.
     pub budget: u64,
-    /// The node's GVT in ticks.
+    /// The node's GVT in ticks: the floor that its parcel brought.
     pub gvt: u64,
     /// How many messages were delivered to it.
     pub delivered: u64,
@@ -31,31 +31,31 @@ pub struct Row {
     pub handled: u64,
     /// How many messages it sent.
     pub sent: u64,
-    /// How many events it told as committed.
-    pub told: u64,
+    /// How many events it reported, which no rollback can reach.
+    pub reported: u64,
     /// The time in ticks of the last commit before the turn.
     pub committed: u64,
-    /// How many events the log then had.
+    /// How many events the log had after that commit.
     pub events: u64,
 }
 
-/// Why no rows were read.
+/// The reason why a trace can't be read.
 #[derive(Clone, Copy, Debug, PartialEq, Eq, Error)]
 pub enum NotRead {
-    /// Memory ran out.
+    /// An allocation failed.
     #[error("NoMemory")]
     NoMemory,
-    /// The text is not that of a trace.
+    /// The text is not a trace.
     #[error("BadTrace")]
     BadTrace,
 }
 
-// Each `$` is the place of a number.
+// A number replaces each `$`.
 const TURN: &str = "$,$,$,$,$,$,$,$,$,$,$\n";
 
 /// The names of a row's fields.
 const TRACE_HEAD: &str =
-    "round,node,budget,gvt,delivered,antimessages,handled,sent,told,committed,events\n";
+    "round,node,budget,gvt,delivered,antimessages,handled,sent,reported,committed,events\n";
 
 impl From<AllocError> for NotRead {
     ghost use Rattle.pictures.specs.declared.turns.NotRead.TheVariants.{NoMemory};
@@ -82,17 +82,18 @@ impl From<IoError> for NotRead {
 
     ghost from_gives = { λ _ e. e ≡ NoMemory };
 
-    /// A text in memory refuses to be written for want of memory alone.
+    /// A write to a text in memory fails only if an allocation failed.
     fn from(_error: IoError) -> NotRead {
         NotRead::NoMemory
     }
 }
 
-/// The rows of a trace's text.
+/// Reads the rows of a trace's text.
 ///
-/// A text is `BadTrace` that is not the line of names and then rows: each of 11 numbers below 2^64
-/// in plain decimal digits, with commas between and a line feed behind. It costs the text's bytes,
-/// and memory for the rows and for the text once more.
+/// `BadTrace` comes if the text is not the line of names followed by rows: 11 numbers below 2^64
+/// each, in plain decimal digits, separated by commas and ended by a line feed. `NoMemory` comes if
+/// an allocation failed. It costs time in proportion to the text, and memory for the rows and for a
+/// copy of the text.
 pub fn read_rows(alloc: Global, text: &[u8]) -> Result<Vec<Row>, NotRead>
     ensures { IfOk result (λ rows. trace_text rows.items ≡ text.now) }
 {
@@ -104,7 +105,7 @@ pub fn read_rows(alloc: Global, text: &[u8]) -> Result<Vec<Row>, NotRead>
     }
 }
 
-/// The rows that a text seems to tell.
+/// Parses the rows of a text leniently; `is_text_of` refuses the texts that it should not accept.
 fn rows_of(alloc: Global, text: &[u8]) -> Result<Vec<Row>, NotRead> {
     let Ok(text) = str::from_utf8(text) else {
         return Err(NotRead::BadTrace);
@@ -122,7 +123,7 @@ fn rows_of(alloc: Global, text: &[u8]) -> Result<Vec<Row>, NotRead> {
     Ok(rows)
 }
 
-/// Whether a text is that of these rows: they are written, and compared with it.
+/// Returns whether a text is that of these rows, by writing them and comparing.
 fn is_text_of(alloc: Global, rows: &[Row], text: &[u8]) -> Result<bool, NotRead>
     ensures { IfOk result (λ same. same ≡ true → trace_text rows.now ≡ text.now) }
 {
@@ -133,8 +134,7 @@ fn is_text_of(alloc: Global, rows: &[Row], text: &[u8]) -> Result<bool, NotRead>
 
 /// Writes the line of a trace that names the fields of its rows.
 ///
-/// Where the writer fails, what it has taken is a beginning of the line, and the answer is its
-/// error.
+/// If the writer fails, its error is returned, and it has taken a beginning of the line.
 pub fn write_names<W: Write>(out: &mut W) -> IoResult<()>
     ensures { Writes (W.contents out.old) (W.contents out.new) result TRACE_HEAD.now }
 {
@@ -161,8 +161,7 @@ fn write_turns<W: Write>(rows: &[Row], out: &mut W) -> IoResult<()>
 
 /// Writes the row of a turn.
 ///
-/// Where the writer fails, what it has taken is a beginning of the row, and the answer is its
-/// error.
+/// If the writer fails, its error is returned, and it has taken a beginning of the row.
 pub fn write_turn<W: Write>(row: &Row, out: &mut W) -> IoResult<()>
     ensures { Writes (W.contents out.old) (W.contents out.new) result (turn_text row.now) }
 {
@@ -175,14 +174,14 @@ pub fn write_turn<W: Write>(row: &Row, out: &mut W) -> IoResult<()>
         row.antimessages,
         row.handled,
         row.sent,
-        row.told,
+        row.reported,
         row.committed,
         row.events,
     ];
     write_filled(TURN, &numbers, out)
 }
 
-/// The row whose numbers a line seems to tell.
+/// Parses the row of a line, as leniently as `rows_of`.
 fn row_of(line: &str) -> Option<Row> {
     let mut fields = line.split(',');
     Some(Row {
@@ -194,13 +193,13 @@ fn row_of(line: &str) -> Option<Row> {
         antimessages: next_of(&mut fields)?,
         handled: next_of(&mut fields)?,
         sent: next_of(&mut fields)?,
-        told: next_of(&mut fields)?,
+        reported: next_of(&mut fields)?,
         committed: next_of(&mut fields)?,
         events: next_of(&mut fields)?,
     })
 }
 
-/// The number of the next field.
+/// Parses the number of the next field.
 fn next_of(fields: &mut Split<'_, char>) -> Option<u64> {
     fields.next()?.parse().ok()
 }

@@ -1,4 +1,4 @@
--- What an arrival keeps of a process, and where its messages go.
+-- The invariants that an arrival keeps, and where the messages of a process go.
 use Rattle.std.proofs.Common.{◌≡◌, ℕ, ◌+◌, ◌++◌, [], ◌∷◌, arith, ap, ◌^◌, ◌≤◌, List, ◌∙◌, length, ◌<◌, sym, subst, map}
 use Rattle.std.proofs.lemmas.List.{map-append, append_assoc}
 use Rattle.std.proofs.lemmas.List.Concat.{flat_map-append}
@@ -18,8 +18,8 @@ use Rattle.queues.specs.Record.{messages, number_before, sent_in, state_before}
 use Rattle.queues.specs.declared.Record.{Record}
 use Rattle.queues.specs.Queue.{arrived, back, but_last, last_of, wait_again}
 use Rattle.process.proofs.Histories.{fold_front, fold_numbers, fold_whole, number_before-append, state_before-append}
-use Rattle.process.specs.Process.{Process, arrive, queue_of, sent_by, taken_back}
-use Rattle.process.specs.Told.{IsFold, IsHistory, IsTold, held}
+use Rattle.process.specs.Process.{Process, arrive, queue_of, sent_by, cancelled_sends}
+use Rattle.process.specs.Consistent.{IsFold, IsHistory, IsConsistentProcess, held}
 use Rattle.process.specs.declared.Done.{Done}
 
 -- 1. The handlings
@@ -36,7 +36,7 @@ stamp_later lps lp time number [] h = tt
 stamp_later lps lp time number (o ∷ os) h = (let d : 1 ≤ o.delay = h.0.delay in (omega arith, h.0.to), stamp_later lps lp time (number + 1) os h.1)
 
 module _ (m : Meaning) (lp : ℕ) (law : IsLawful m) (here : lp < m.lps) where
-  -- each handling sends to later times, and the state behind the last one has words
+  -- each handling sends to later times, and the state after the last one is a list of words
   pub fold_kept : (hs : List Record) (state : List ℕ) (number : ℕ) (state' : List ℕ) (number' : ℕ) → IsWords state → Every IsRanged (messages hs) →
       IsFold m lp state number hs state' number' → Every (SendsLater m.lps) hs × IsWords state'
   fold_kept [] state number state' number' words ranged f = (tt, rw f.0 words)
@@ -49,12 +49,12 @@ module _ (m : Meaning) (lp : ℕ) (law : IsLawful m) (here : lp < m.lps) where
 abbrev pub Fits : ℕ → ℕ → Message → Type 0
 Fits floor lp x = (x.to ≡ lp) × (floor ≤ x.time)
 
-pub queue_from_told : (m : Meaning) (lp time : ℕ) (state : List ℕ) (number floor : ℕ) (told : List Done) (q : Process) → IsTold m lp time state number floor told q → IsQueue (Fits floor lp) (queue_of q)
-queue_from_told m lp time state number floor told q h =
+pub queue_from_reported : (m : Meaning) (lp time : ℕ) (state : List ℕ) (number floor : ℕ) (reported : List Done) (q : Process) → IsConsistentProcess m lp time state number floor reported q → IsQueue (Fits floor lp) (queue_of q)
+queue_from_reported m lp time state number floor reported q h =
     let both = λ (xs : List Message) (own : Every (λ (x : Message). x.to ≡ lp) xs) (late : Every (λ (x : Message). floor ≤ x.time) xs).
     Every-both (λ (x : Message). x.to ≡ lp) (λ (x : Message). floor ≤ x.time) (Fits floor lp) (λ x p t. (p, t)) xs own late in
     record {
-      done_up = IsAscending-right (map (λ (d : Done). d.message) told) (messages q.done) h.ascending;
+      done_up = IsAscending-right (map (λ (d : Done). d.message) reported) (messages q.done) h.ascending;
       waiting_up = h.waiting_ascending;
       antis_up = h.antis_ascending;
       behind = h.behind;
@@ -72,7 +72,7 @@ in_time floor lp xs = Every-weaker (Fits floor lp) (λ (x : Message). floor ≤ 
 pub done_of_arrive : (s : Signed) (q : Process) → messages (but_last (back s (queue_of q)) q.done) ≡ (arrived s (queue_of q)).done
 done_of_arrive s q = map-but_last (λ (h : Record). h.message) (back s (queue_of q)) q.done ∙ sym (settle_done s.sign s.message (wait_again (back s (queue_of q)) (queue_of q)))
 
--- what is before the history does not change
+-- the state before the history does not change
 module _ (s : Signed) (q : Process) where
   pub state_of_arrive : state_before (arrive s q).done (arrive s q).state ≡ state_before q.done q.state
   state_of_arrive =
@@ -100,14 +100,14 @@ number_within : (hs : List Record) (number : ℕ) → Every (λ (h : Record). h.
 number_within [] number h l = l
 number_within (r ∷ rs) number h l = h.0
 
-pub told_arrive : (m : Meaning) (lp time : ℕ) (state : List ℕ) (number floor : ℕ) (told : List Done) (s : Signed) (q : Process) → s.message.to ≡ lp → floor ≤ s.message.time →
-    IsTold m lp time state number floor told q → IsTold m lp time state number floor told (arrive s q)
-told_arrive m lp time state number floor told s q own late h =
+pub reported_arrive : (m : Meaning) (lp time : ℕ) (state : List ℕ) (number floor : ℕ) (reported : List Done) (s : Signed) (q : Process) → s.message.to ≡ lp → floor ≤ s.message.time →
+    IsConsistentProcess m lp time state number floor reported q → IsConsistentProcess m lp time state number floor reported (arrive s q)
+reported_arrive m lp time state number floor reported s q own late h =
     let n = back s (queue_of q) in
     let kept = but_last n q.done in
     let undone = last_of n q.done in
-    let gone = map (λ (d : Done). d.message) told in
-    let k = arrived_kept (Fits floor lp) s (queue_of q) (own, late) (queue_from_told m lp time state number floor told q h) in
+    let gone = map (λ (d : Done). d.message) reported in
+    let k = arrived_kept (Fits floor lp) s (queue_of q) (own, late) (queue_from_reported m lp time state number floor reported q h) in
     let done = done_of_arrive s q in
     let split : messages kept ++ messages undone ≡ messages q.done = sym (map-append (λ (h : Record). h.message) kept undone) ∙ ap messages (but_last-last_of n q.done) in
     let up : IsAscending ((gone ++ messages kept) ++ messages undone) =
@@ -115,7 +115,7 @@ told_arrive m lp time state number floor told s q own late h =
     let numbers : Every (λ (h : Record). h.number_before ≤ 2 ^ 63) (kept ++ undone) =
     subst (Every (λ (h : Record). h.number_before ≤ 2 ^ 63)) (sym (but_last-last_of n q.done)) (fold_numbers m lp q.done (state_before q.done q.state) (number_before q.done q.number) q.state q.number h.history) in
     record {
-      told_fold = h.told_fold;
+      consistent_fold = h.consistent_fold;
       history = history_arrive m lp s q h.history;
       state_meets = state_of_arrive s q ∙ h.state_meets;
       number_meets = number_of_arrive s q ∙ h.number_meets;
@@ -124,12 +124,12 @@ told_arrive m lp time state number floor told s q own late h =
       waiting_ascending = k.waiting_up;
       antis_ascending = k.antis_up;
       behind = rw done k.behind;
-      own_told = h.own_told;
+      own_reported = h.own_reported;
       own_done = rw done (owned floor lp (arrived s (queue_of q)).done k.done_fits);
       own_waiting = owned floor lp (arrived s (queue_of q)).waiting k.waiting_fits;
       own_antis = owned floor lp (arrived s (queue_of q)).antis k.antis_fits;
-      told_from = h.told_from;
-      told_below = h.told_below;
+      reported_from = h.reported_from;
+      reported_below = h.reported_below;
       done_from = rw done (in_time floor lp (arrived s (queue_of q)).done k.done_fits);
       waiting_from = in_time floor lp (arrived s (queue_of q)).waiting k.waiting_fits;
       antis_from = in_time floor lp (arrived s (queue_of q)).antis k.antis_fits;
@@ -139,7 +139,7 @@ pub arrive_held : (x : Message) (s : Signed) (q : Process) →
     held x (arrive s q) + copies x q.antis + copies x (of_sign Minus (s ∷ [])) ≡ held x q + copies x (arrive s q).antis + copies x (of_sign Plus (s ∷ []))
 arrive_held x s q = let done = ap (copies x) (done_of_arrive s q) in omega (arith, arrived_copies x s (queue_of q))
 
-pub arrive_sent : (x : Message) (s : Signed) (q : Process) → copies x (sent_by (arrive s q)) + copies x (of_sign Minus (taken_back s q)) ≡ copies x (sent_by q)
+pub arrive_sent : (x : Message) (s : Signed) (q : Process) → copies x (sent_by (arrive s q)) + copies x (of_sign Minus (cancelled_sends s q)) ≡ copies x (sent_by q)
 arrive_sent x s q =
     let n = back s (queue_of q) in
     let out = ap (copies x) (minus_of_minus (sent_in (last_of n q.done))) in
@@ -147,13 +147,13 @@ arrive_sent x s q =
     let two = ap (copies x) (flat_map-append (λ (h : Record). h.sent) (but_last n q.done) (last_of n q.done)) in
     omega (arith, copies-append x (sent_in (but_last n q.done)) (sent_in (last_of n q.done)))
 
-pub arrive_none : (x : Message) (s : Signed) (q : Process) → copies x (of_sign Plus (taken_back s q)) ≡ 0
+pub arrive_none : (x : Message) (s : Signed) (q : Process) → copies x (of_sign Plus (cancelled_sends s q)) ≡ 0
 arrive_none x s q = ap (copies x) (plus_of_minus (sent_in (last_of (back s (queue_of q)) q.done)))
 
--- what is sent back goes to processes that exist, and is not before what arrived
-pub taken_back_later : (m : Meaning) (lp : ℕ) (s : Signed) (q : Process) → IsLawful m → lp < m.lps → IsHistory m lp q → IsWords (state_before q.done q.state) → Every IsRanged (messages q.done) → IsAscending (messages q.done) →
-    Every (λ (t : Signed). (s.message.time ≤ t.message.time) × (t.message.to < m.lps)) (taken_back s q)
-taken_back_later m lp s q law here h words ranged up =
+-- the antimessages that an arrival sends are for processes that exist, and not before what arrived
+pub cancelled_later : (m : Meaning) (lp : ℕ) (s : Signed) (q : Process) → IsLawful m → lp < m.lps → IsHistory m lp q → IsWords (state_before q.done q.state) → Every IsRanged (messages q.done) → IsAscending (messages q.done) →
+    Every (λ (t : Signed). (s.message.time ≤ t.message.time) × (t.message.to < m.lps)) (cancelled_sends s q)
+cancelled_later m lp s q law here h words ranged up =
     let n = back s (queue_of q) in
     let later = (fold_kept m lp law here q.done (state_before q.done q.state) (number_before q.done q.number) q.state q.number words ranged h).0 in
     let later' : Every (SendsLater m.lps) (but_last n q.done ++ last_of n q.done) = rw (but_last-last_of n q.done) later in
@@ -167,7 +167,7 @@ taken_back_later m lp s q law here h words ranged up =
     (Every-right (SendsLater m.lps) (but_last n q.done) (last_of n q.done) later')
     (Every-unmap (IsAtMost s.message) (λ (h : Record). h.message) (last_of n q.done) undone)))
 
--- What holds of every message that a process has, or sent
+-- P holds of every message that a process has, or sent
 pub record IsFine (P : Message → Type 0) (q : Process) : Type 0 where
   pub handled : Every P (messages q.done)
   pub waiting : Every P q.waiting

@@ -1,4 +1,4 @@
--- The fields as the calls leave them are the process after the call.
+-- The fields that the calls leave make the process after the call.
 use Rattle.std.proofs.Common.{◌≡◌, ℕ, ◌+◌, ◌≤◌, ◌++◌, List, [], ◌∷◌, Some, zero, suc, length, take, drop, ap, sym, ◌∙◌, arith, subst}
 use Rattle.std.proofs.lemmas.List.{append-nil, append_assoc, length-map}
 use Rattle.std.proofs.lemmas.Option.{same_Some}
@@ -9,7 +9,7 @@ use Rattle.eventkey.specs.declared.Signed.{Signed}
 use Rattle.model.proofs.Worlds.{length-stamp}
 use Rattle.model.specs.Meaning.{Meaning}
 use Rattle.queues.proofs.Moves.{same_queue}
-use Rattle.queues.proofs.Queues.{arrivals_tell_back}
+use Rattle.queues.proofs.Queues.{arrivals_count_undone}
 use Rattle.queues.specs.Queue.{Queue, arrival, arrived, back, back_of, but_last, first_before, last_of, released, taken}
 use Rattle.queues.specs.Record.{handled_from, messages, number_before, sends, sent_in, state_before}
 use Rattle.queues.specs.declared.Arrival.{Arrival}
@@ -20,25 +20,25 @@ use Rattle.process.specs.Process.{Process, arrive, handle, handling_of, queue_of
 pub same_process : (p q : Process) → p.done ≡ q.done → p.waiting ≡ q.waiting → p.antis ≡ q.antis → p.state ≡ q.state → p.number ≡ q.number → p ≡ q
 same_process p q d w a s n = λ i. record { done = d i; waiting = w i; antis = a i; state = s i; number = n i }
 
--- the queue and the history of a process that is whole
+-- the queue and the history of a process that is not spent
 module _ (old : Queue) (q : Process) (same : old.done ≡ messages q.done) (waits : old.waiting ≡ q.waiting) (against : old.antis ≡ q.antis) where
   pub queue_is : old ≡ queue_of q
   queue_is = same_queue old (queue_of q) same waits against
 
   -- 1. An arrival
 
-  module _ (s : Signed) (n : ℕ) (told : Arrival) (told_is : told ≡ arrival s old) (n_is : n ≡ back_of told) (up : IsAscending (messages q.done)) where
-    tells : (n ≡ back s old) × (n ≤ length old.done)
-    tells =
-        let both = arrivals_tell_back s old (subst IsAscending (sym same) up) in
-        let is : n ≡ back s old = n_is ∙ (ap back_of told_is ∙ both.0) in
+  module _ (s : Signed) (n : ℕ) (reported : Arrival) (reported_is : reported ≡ arrival s old) (n_is : n ≡ back_of reported) (up : IsAscending (messages q.done)) where
+    reports : (n ≡ back s old) × (n ≤ length old.done)
+    reports =
+        let both = arrivals_count_undone s old (subst IsAscending (sym same) up) in
+        let is : n ≡ back s old = n_is ∙ (ap back_of reported_is ∙ both.0) in
         (is, subst (λ (k : ℕ). k ≤ length old.done) (sym is) both.1)
 
     pub back_fits : n ≤ length q.done
-    back_fits = let long = tells.1 in let same_long = ap length same ∙ length-map q.done (λ (h : Record). h.message) in omega arith
+    back_fits = let long = reports.1 in let same_long = ap length same ∙ length-map q.done (λ (h : Record). h.message) in omega arith
 
     back_is : n ≡ back s (queue_of q)
-    back_is = tells.0 ∙ ap (back s) queue_is
+    back_is = reports.0 ∙ ap (back s) queue_is
 
     pub undone_is : (undone : List Record) → undone ≡ last_of n q.done → undone ≡ last_of (back s (queue_of q)) q.done
     undone_is undone u = u ∙ ap (λ (k : ℕ). last_of k q.done) back_is
@@ -87,7 +87,7 @@ module _ (old : Queue) (q : Process) (same : old.done ≡ messages q.done) (wait
     pub collected_done : now.done ≡ messages new.done
     collected_done = ap (λ (c : Queue). c.done) now_released ∙ ap (λ (c : Process). messages c.done) (sym collected_is)
 
--- what one more of the records from a place on sent
+-- the sends of one more record, from a place on
 pub sent_in_more : (s : List Message) (hs : List Record) (k n i : ℕ) → i ≡ k + n → slice_get (sends hs) i ≡ Some s → sent_in (take (n + 1) (drop k hs)) ≡ sent_in (take n (drop k hs)) ++ s
 sent_in_more s hs zero n i is e = ap (λ (j : ℕ). sent_in (take j hs)) {x = n + 1} {y = suc n} (omega arith) ∙ first hs n (ap (slice_get (sends hs)) {x = n} {y = i} (omega arith) ∙ e)
   where

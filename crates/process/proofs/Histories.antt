@@ -1,16 +1,15 @@
--- Handlings that are what the model does: parts of them, one more of them, and what is told of
--- them.
+-- Handlings that are what the model does: parts of them, one more of them, and their reports.
 use Rattle.std.proofs.Common.{◌≡◌, ℕ, ◌+◌, ◌++◌, [], ◌∷◌, List, length, map, flat_map, ap, ◌^◌, ◌<◌, ◌≤◌, ◌∙◌, refl, sym, subst, arith}
 use Rattle.std.specs.List.{AllByRecursion as Every}
 use Rattle.eventkey.specs.Message.{Message}
 use Rattle.model.specs.Meaning.{Meaning, stamp}
 use Rattle.queues.specs.Record.{AreHandlings, left_by, messages, number_before, sent_in, state_before}
 use Rattle.queues.specs.declared.Record.{Record}
-use Rattle.process.specs.Process.{number_after, state_after, told}
-use Rattle.process.specs.Told.{IsFold, IsToldFold}
+use Rattle.process.specs.Process.{number_after, state_after, reported}
+use Rattle.process.specs.Consistent.{IsFold, AreConsistent}
 use Rattle.process.specs.declared.Done.{Done}
 
--- 1. What was before handlings in two parts
+-- 1. The state and number before concatenated handlings
 
 pub state_before-append : (hs ks : List Record) (state : List ℕ) → state_before (hs ++ ks) state ≡ state_before hs (state_before ks state)
 state_before-append [] ks state = refl
@@ -56,14 +55,15 @@ module _ (m : Meaning) (lp : ℕ) where
   fold_push (k ∷ hs) h state number state' number' f b n s l =
       (f.0, f.1, f.2, f.3, fold_push hs h (m.next_state lp state k.message) (number + length k.sent) state' number' f.4 b n s l)
 
-  -- the send numbers of a fold are within the limit
+  -- the send numbers of a fold are at most the limit
   pub fold_numbers : (hs : List Record) (state : List ℕ) (number : ℕ) (state' : List ℕ) (number' : ℕ) →
       IsFold m lp state number hs state' number' → Every (λ (h : Record). h.number_before ≤ 2 ^ 63) hs
   fold_numbers [] state number state' number' f = tt
   fold_numbers (h ∷ hs) state number state' number' f =
       (let same : h.number_before ≡ number = f.1 in let room : number + length h.sent ≤ 2 ^ 63 = f.3 in omega arith, fold_numbers hs (m.next_state lp state h.message) (number + length h.sent) state' number' f.4)
 
-  -- a fold of its own messages, in states of few words, can be gone forward along
+  -- a fold of the process's own messages, in states of at most 16 words, can be coasted forward
+  -- along
   pub fold_handlings : (hs : List Record) (state : List ℕ) (number : ℕ) (state' : List ℕ) (number' : ℕ) → lp < m.lps → IsFold m lp state number hs state' number' →
       Every (λ (x : Message). x.to ≡ lp) (messages hs) → Every (λ (h : Record). length h.before ≤ 16) hs → AreHandlings m hs
   fold_handlings [] state number state' number' there f own few = tt
@@ -75,23 +75,23 @@ module _ (m : Meaning) (lp : ℕ) where
       goes_on [] e up f = refl
       goes_on (k ∷ ks) e up f = f.0 ∙ sym e
 
-  -- what is told of a fold is one, and ends where it does
-  pub fold_told : (hs : List Record) (state : List ℕ) (number : ℕ) (state' : List ℕ) (number' : ℕ) → IsFold m lp state number hs state' number' →
-      IsToldFold m lp state number (told hs state' number') × (state_after (told hs state' number') state ≡ state') × (number_after (told hs state' number') number ≡ number')
-  fold_told [] state number state' number' f = (tt, sym f.0, sym f.1)
-  fold_told (h ∷ hs) state number state' number' f =
+  -- the reports of a fold are what the model does, and end where the fold does
+  pub fold_consistent : (hs : List Record) (state : List ℕ) (number : ℕ) (state' : List ℕ) (number' : ℕ) → IsFold m lp state number hs state' number' →
+      AreConsistent m lp state number (reported hs state' number') × (state_after (reported hs state' number') state ≡ state') × (number_after (reported hs state' number') number ≡ number')
+  fold_consistent [] state number state' number' f = (tt, sym f.0, sym f.1)
+  fold_consistent (h ∷ hs) state number state' number' f =
       let next : List ℕ = m.next_state lp state h.message in
       let up : ℕ = number + length h.sent in
       let start = fold_start hs next up state' number' f.4 in
-      let rest = fold_told hs (state_before hs state') (number_before hs number') state' number' (fold_whole hs next up state' number' f.4) in
+      let rest = fold_consistent hs (state_before hs state') (number_before hs number') state' number' (fold_whole hs next up state' number' f.4) in
       ((f.2, start.0, start.1, subst (λ (n : ℕ). n ≤ 2 ^ 63) (sym start.1) f.3, rest.0), rest.1, rest.2)
 
-  -- 3. What was told in two parts
+  -- 3. Concatenated reports
 
-  pub told_fold-append : (ds es : List Done) (state : List ℕ) (number : ℕ) → IsToldFold m lp state number ds → IsToldFold m lp (state_after ds state) (number_after ds number) es →
-      IsToldFold m lp state number (ds ++ es)
-  told_fold-append [] es state number f g = g
-  told_fold-append (d ∷ ds) es state number f g = (f.0, f.1, f.2, f.3, told_fold-append ds es d.after d.number_after f.4 g)
+  pub consistent_fold-append : (ds es : List Done) (state : List ℕ) (number : ℕ) → AreConsistent m lp state number ds → AreConsistent m lp (state_after ds state) (number_after ds number) es →
+      AreConsistent m lp state number (ds ++ es)
+  consistent_fold-append [] es state number f g = g
+  consistent_fold-append (d ∷ ds) es state number f g = (f.0, f.1, f.2, f.3, consistent_fold-append ds es d.after d.number_after f.4 g)
 
 pub state_after-append : (ds es : List Done) (state : List ℕ) → state_after (ds ++ es) state ≡ state_after es (state_after ds state)
 state_after-append [] es state = refl
@@ -101,10 +101,10 @@ pub number_after-append : (ds es : List Done) (number : ℕ) → number_after (d
 number_after-append [] es number = refl
 number_after-append (d ∷ ds) es number = number_after-append ds es d.number_after
 
-pub messages_told : (hs : List Record) (state : List ℕ) (number : ℕ) → map (λ (d : Done). d.message) (told hs state number) ≡ messages hs
-messages_told [] state number = refl
-messages_told (h ∷ hs) state number = ap (λ (xs : List Message). h.message ∷ xs) (messages_told hs state number)
+pub reported_messages : (hs : List Record) (state : List ℕ) (number : ℕ) → map (λ (d : Done). d.message) (reported hs state number) ≡ messages hs
+reported_messages [] state number = refl
+reported_messages (h ∷ hs) state number = ap (λ (xs : List Message). h.message ∷ xs) (reported_messages hs state number)
 
-pub sent_told : (hs : List Record) (state : List ℕ) (number : ℕ) → flat_map (λ (d : Done). d.sent) (told hs state number) ≡ sent_in hs
-sent_told [] state number = refl
-sent_told (h ∷ hs) state number = ap (λ (xs : List Message). h.sent ++ xs) (sent_told hs state number)
+pub reported_sends : (hs : List Record) (state : List ℕ) (number : ℕ) → flat_map (λ (d : Done). d.sent) (reported hs state number) ≡ sent_in hs
+reported_sends [] state number = refl
+reported_sends (h ∷ hs) state number = ap (λ (xs : List Message). h.sent ++ xs) (reported_sends hs state number)

@@ -1,4 +1,4 @@
--- The state words that are kept beside a history, as records come and go.
+-- The state words that are kept beside a history, as records are added and removed.
 use Rattle.std.proofs.Common.{◌≡◌, ℕ, Bool, true, false, zero, suc, Option, None, Some, ◌-◌, ◌<◌, ◌≤◌, List, [], ◌∷◌, ◌++◌, sym, ap, arith, ◌∙◌, length, take, drop, subst}
 use Rattle.std.proofs.lemmas.List.{length-take}
 use Rattle.std.proofs.lemmas.Option.{same_Some}
@@ -10,7 +10,7 @@ use Rattle.queues.specs.Record.{AreHandlings, AreNextWords, state_before}
 use Rattle.queues.specs.declared.Record.{Record}
 use Rattle.process.specs.Later.{AreWordsBefore}
 
--- 1. One more at the end
+-- 1. A record appended
 
 words_pushed : (later : List (Option (List ℕ))) (hs : List Record) (words : Option (List ℕ)) (h : Record) → AreWordsBefore later hs → IfSome words (λ (w : List ℕ). w ≡ h.before) →
     AreWordsBefore (later ++ words ∷ []) (hs ++ h ∷ [])
@@ -24,13 +24,13 @@ pub later_pushed : (later : List (Option (List ℕ))) (hs : List Record) (words 
 later_pushed later [] words h b l e = absurd (omega arith)
 later_pushed later (r ∷ rs) words h b l e = words_pushed later rs words h b e
 
--- words that are kept where a test says so
+-- words that are kept if a test holds
 pub kept_or_not : (kept : Bool) (before : List ℕ) (words : Option (List ℕ)) → words ≡ (if kept then Some before else None) → IfSome words (λ (w : List ℕ). w ≡ before)
 kept_or_not kept before None e = tt
 kept_or_not true before (Some w) e = same_Some w before e
 kept_or_not false before (Some w) e = absurd (cc)
 
--- 2. The last ones gone
+-- 2. The last records removed
 
 words_taken : (later : List (Option (List ℕ))) (hs : List Record) (n : ℕ) → AreWordsBefore later hs → AreWordsBefore (take n later) (take n hs)
 words_taken later hs zero b = tt
@@ -62,7 +62,7 @@ later_undone later later' hs hs' count long kept b c left is k l =
     let last : later' ≡ take (n - 1) later = l ∙ ap (λ (i : ℕ). take i later) (k ∙ ap (λ (i : ℕ). i - 1) many) in
     subst (λ (ws : List (Option (List ℕ))). AreWordsBefore ws (drop 1 hs')) (sym last) (subst (λ (rs : List Record). AreWordsBefore (take (n - 1) later) (drop 1 rs)) (sym cut) (later_taken later hs n b))
 
--- 3. The first one gone
+-- 3. The first record removed
 
 later_gone : (later : List (Option (List ℕ))) (hs : List Record) → AreWordsBefore later hs → AreWordsBefore (drop 1 later) (drop 1 hs)
 later_gone [] [] b = tt
@@ -73,7 +73,7 @@ later_gone (x ∷ xs) (r ∷ rs) b = b.1
 pub later_popped : (later : List (Option (List ℕ))) (hs hs' : List Record) (h : Record) → AreWordsBefore later (drop 1 hs) → hs ≡ h ∷ hs' → AreWordsBefore (drop 1 later) (drop 1 hs')
 later_popped later hs hs' h b e = later_gone later hs' (subst (λ (rs : List Record). AreWordsBefore later (drop 1 rs)) e b)
 
--- the first of the words are those before the second record
+-- these words are those before the second record
 pub record AreFirstWords (words : List ℕ) (hs : List Record) : Type 0 where
   pub few : length words ≤ 16
   pub next : AreNextWords words hs

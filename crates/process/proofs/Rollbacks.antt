@@ -1,4 +1,4 @@
--- What no rollback reaches, and why it may be let go.
+-- No rollback reaches what is before the floor, so it can be released.
 use Rattle.std.proofs.Common.{◌≡◌, ℕ, ◌+◌, ◌≤◌, ◌<◌, List, [], ◌∷◌, ◌++◌, length, map, refl, ap, sym, ◌∙◌, arith, inl, inr, subst}
 use Rattle.std.proofs.lemmas.Bool.{cases_Bool, le-ltb, lt-ltb}
 use Rattle.std.proofs.lemmas.List.{length-append, length-map, map-append}
@@ -13,16 +13,16 @@ use Rattle.eventkey.specs.declared.Sign.{Sign}
 use Rattle.eventkey.specs.declared.Sign.TheVariants.{Minus, Plus}
 use Rattle.queues.proofs.Arrivals.{undone_from}
 use Rattle.queues.proofs.Places.{but_last-last_of, map-last_of}
-use Rattle.queues.proofs.Queues.{arrivals_tell_back}
+use Rattle.queues.proofs.Queues.{arrivals_count_undone}
 use Rattle.queues.specs.Queue.{after, back, but_last, last_of, settle}
 use Rattle.queues.specs.Record.{handled_before, handled_from, messages, number_before, sent_in, state_before}
 use Rattle.queues.specs.declared.Record.{Record}
 use Rattle.process.proofs.Handlings.{before_is_below, from_is_late, handled_before-from}
 use Rattle.process.proofs.Histories.{number_before-append, state_before-append}
-use Rattle.process.specs.Process.{handling_of, queue_of, release, told}
-use Rattle.process.specs.Told.{FossilsAreFinal, ReleasesAreUnseen, RollbacksStayAbove}
+use Rattle.process.specs.Process.{handling_of, queue_of, release, reported}
+use Rattle.process.specs.Consistent.{FossilsAreFinal, ReleasesAreUnseen, RollbacksStayAbove}
 
--- 1. Records whose end is late, or whose beginning is early
+-- 1. Records with late ends or early beginnings
 
 abbrev pub IsLate : ℕ → Record → Type 0
 IsLate floor h = floor ≤ h.message.time
@@ -54,13 +54,13 @@ module _ (floor : ℕ) where
   from-early [] ks e = refl
   from-early (h ∷ hs) ks e = rw (lt-ltb h.message.time floor e.0) (from-early hs ks e.1)
 
-told-append : (floor : ℕ) (hs ks : List Record) (state : List ℕ) (number : ℕ) → Every (IsLate floor) ks →
-    told (handled_before floor (hs ++ ks)) (state_before (handled_from floor (hs ++ ks)) state) (number_before (handled_from floor (hs ++ ks)) number)
-    ≡ told (handled_before floor hs) (state_before (handled_from floor hs) (state_before ks state)) (number_before (handled_from floor hs) (number_before ks number))
-told-append floor hs ks state number l =
+reported-append : (floor : ℕ) (hs ks : List Record) (state : List ℕ) (number : ℕ) → Every (IsLate floor) ks →
+    reported (handled_before floor (hs ++ ks)) (state_before (handled_from floor (hs ++ ks)) state) (number_before (handled_from floor (hs ++ ks)) number)
+    ≡ reported (handled_before floor hs) (state_before (handled_from floor hs) (state_before ks state)) (number_before (handled_from floor hs) (number_before ks number))
+reported-append floor hs ks state number l =
     rw (before-append floor hs ks l, from-append floor hs ks l, state_before-append (handled_from floor hs) ks state, number_before-append (handled_from floor hs) ks number) refl
 
--- 2. What no rollback reaches
+-- 2. The records before the floor
 
 pub rollbacks_stay_above : RollbacksStayAbove
 rollbacks_stay_above floor s q up late =
@@ -73,12 +73,12 @@ pub fossils_are_final : FossilsAreFinal
 fossils_are_final floor q up = (
   λ s late.
       let n = back s (queue_of q) in
-      sym (told-append floor (but_last n q.done) (last_of n q.done) q.state q.number (rollbacks_stay_above floor s q up late))
-      ∙ ap (λ (hs : List Record). told (handled_before floor hs) (state_before (handled_from floor hs) q.state) (number_before (handled_from floor hs) q.number)) (but_last-last_of n q.done),
-  λ m lp x late. told-append floor q.done (handling_of m lp x q ∷ []) (m.next_state lp q.state x) (q.number + length (handling_of m lp x q).sent) (late, tt),
+      sym (reported-append floor (but_last n q.done) (last_of n q.done) q.state q.number (rollbacks_stay_above floor s q up late))
+      ∙ ap (λ (hs : List Record). reported (handled_before floor hs) (state_before (handled_from floor hs) q.state) (number_before (handled_from floor hs) q.number)) (but_last-last_of n q.done),
+  λ m lp x late. reported-append floor q.done (handling_of m lp x q ∷ []) (m.next_state lp q.state x) (q.number + length (handling_of m lp x q).sent) (late, tt),
 )
 
--- 3. What was let go
+-- 3. Released records
 
 module _ (floor : ℕ) (m : Message) (late : floor ≤ m.time) where
   after-early : (xs ys : List Message) → Every (λ (x : Message). x.time < floor) xs → after m (xs ++ ys) ≡ after m ys
@@ -107,7 +107,7 @@ back-same : (sign : Sign) (m : Message) (done done' waiting antis : List Message
 back-same Plus m done done' waiting antis e f = ap (λ (n : ℕ). if is_among m antis then 0 else n) e
 back-same Minus m done done' waiting antis e f = rw (e, f) refl
 
--- the bags do not depend on what is done
+-- the bags do not depend on the done messages
 settle-same : (sign : Sign) (m : Message) (done done' waiting antis : List Message) →
     ((settle (record { sign = sign; message = m }) (record { done = done'; waiting = waiting; antis = antis })).waiting ≡ (settle (record { sign = sign; message = m }) (record { done = done; waiting = waiting; antis = antis })).waiting)
     × ((settle (record { sign = sign; message = m }) (record { done = done'; waiting = waiting; antis = antis })).antis ≡ (settle (record { sign = sign; message = m }) (record { done = done; waiting = waiting; antis = antis })).antis)
@@ -128,7 +128,7 @@ releases_are_unseen floor s q up late =
     let same : k ≡ n = back-same s.sign s.message (messages q.done) (messages left) q.waiting q.antis
     (sym (after-early floor s.message late (messages gone) (messages left) early) ∙ ap (after s.message) two)
     (sym (among-early floor s.message late (messages gone) (messages left) early) ∙ ap (is_among s.message) two) in
-    let fits : n ≤ length left = (let within = (arrivals_tell_back s (queue_of (release floor q)) left_up).1 in let many = length-map left (λ (h : Record). h.message) in omega arith) in
+    let fits : n ≤ length left = (let within = (arrivals_count_undone s (queue_of (release floor q)) left_up).1 in let many = length-map left (λ (h : Record). h.message) in omega arith) in
     let undone : last_of k left ≡ last_of n q.done = ap (λ (i : ℕ). last_of i left) same ∙ (sym (last_of-late gone left n fits) ∙ ap (last_of n) split) in
     let kept_late : Every (IsLate floor) (but_last n left) = Every-left (IsLate floor) (but_last n left) (last_of n left) (subst (λ (hs : List Record). Every (IsLate floor) hs) (sym (but_last-last_of n left)) left_late) in
     let parted : handled_from floor (but_last n q.done) ≡ but_last n left =

@@ -1,4 +1,4 @@
--- What every call keeps of a process.
+-- The invariants that every call of a process keeps.
 use Rattle.std.proofs.Common.{◌≡◌, ℕ, ◌+◌, ◌<◌, ◌≤◌, ◌^◌, ◌++◌, ◌==◌, Bool, List, [], ◌∷◌, Some, true, false, length, refl, ap, sym, ◌∙◌, arith, subst, inl, inr, eqb-true}
 use Rattle.std.proofs.lemmas.Bool.{cases_Bool, cond_both, le-leb, lt-leb, ltb-false, ltb-true}
 use Rattle.std.proofs.lemmas.List.{map-append}
@@ -22,8 +22,8 @@ use Rattle.queues.specs.declared.Record.{Record}
 use Rattle.process.proofs.Arrivals.{done_of_arrive, fold_arrive}
 use Rattle.process.proofs.Histories.{fold_handlings, fold_whole}
 use Rattle.process.proofs.Handlings.{fold_fossils, fold_handle, fold_kept, handled_before-from}
-use Rattle.process.specs.Process.{Process, arrive, fossils_of, handle, handling_of, number_after, queue_of, release, state_after, told}
-use Rattle.process.specs.Told.{IsHistory, IsToldFold}
+use Rattle.process.specs.Process.{Process, arrive, fossils_of, handle, handling_of, number_after, queue_of, release, state_after, reported}
+use Rattle.process.specs.Consistent.{IsHistory, AreConsistent}
 use Rattle.process.specs.View.{HasDone, HasRun, IsDoneInRange, IsSound, ProcessView, has_foreign, loaded}
 
 -- 1. Loading
@@ -160,14 +160,14 @@ released_sound floor spent v h =
       few_sent = Every-from (λ (r : Record). length r.sent ≤ 8) floor q.done h.few_sent;
     }
 
--- 5. What is told
+-- 5. Reports
 
-told_in_range : (hs : List Record) (state : List ℕ) (number : ℕ) → length state ≤ 16 → number ≤ 2 ^ 63 →
-    Every (λ (r : Record). length r.before ≤ 16) hs → Every (λ (r : Record). r.number_before ≤ 2 ^ 63) hs → Every (λ (r : Record). length r.sent ≤ 8) hs → Every IsDoneInRange (told hs state number)
-told_in_range [] state number few fits b n s = tt
-told_in_range (r ∷ rs) state number few fits b n s = (
+reported_in_range : (hs : List Record) (state : List ℕ) (number : ℕ) → length state ≤ 16 → number ≤ 2 ^ 63 →
+    Every (λ (r : Record). length r.before ≤ 16) hs → Every (λ (r : Record). r.number_before ≤ 2 ^ 63) hs → Every (λ (r : Record). length r.sent ≤ 8) hs → Every IsDoneInRange (reported hs state number)
+reported_in_range [] state number few fits b n s = tt
+reported_in_range (r ∷ rs) state number few fits b n s = (
   record { after = before_all (λ (u : List ℕ). length u ≤ 16) rs state b.1 few; number_after = number_all (λ (u : ℕ). u ≤ 2 ^ 63) rs number n.1 fits; sent = s.0 },
-  told_in_range rs state number few fits b.1 n.1 s.1,
+  reported_in_range rs state number few fits b.1 n.1 s.1,
 )
 
 pub fossils_in_range : (floor : ℕ) (v : ProcessView) → IsSound v → Every IsDoneInRange (fossils_of floor v.process)
@@ -179,14 +179,14 @@ fossils_in_range floor v h =
     let words : Every (λ (r : Record). length r.before ≤ 16) (before ++ from) = rw split h.few_before in
     let numbers : Every (λ (r : Record). r.number_before ≤ 2 ^ 63) (before ++ from) = rw split h.number_before in
     let sent : Every (λ (r : Record). length r.sent ≤ 8) (before ++ from) = rw split h.few_sent in
-    told_in_range before (state_before from q.state) (number_before from q.number)
+    reported_in_range before (state_before from q.state) (number_before from q.number)
     (before_all (λ (u : List ℕ). length u ≤ 16) from q.state (Every-right (λ (r : Record). length r.before ≤ 16) before from words) h.few)
     (number_all (λ (u : ℕ). u ≤ 2 ^ 63) from q.number (Every-right (λ (r : Record). r.number_before ≤ 2 ^ 63) before from numbers) h.number)
     (Every-left (λ (r : Record). length r.before ≤ 16) before from words)
     (Every-left (λ (r : Record). r.number_before ≤ 2 ^ 63) before from numbers)
     (Every-left (λ (r : Record). length r.sent ≤ 8) before from sent)
 
--- 6. What is done is what the model does
+-- 6. The handlings are what the model does
 
 pub done_arrived : (m : Meaning) (s : Signed) (v : ProcessView) (state : List ℕ) (number : ℕ) → HasDone m v state number → HasDone m (record v { process = arrive s v.process }) state number
 done_arrived m s v state number f = fold_arrive m v.lp s v.process state number f
@@ -198,11 +198,11 @@ done_ran m end old new before after state number r limit f =
     subst (λ (w : ProcessView). HasDone m w state number) (sym r.process) (fold_handle m old.lp r.message old.process state number (omega arith) f)
 
 pub done_collected : (m : Meaning) (floor : ℕ) (v : ProcessView) (state : List ℕ) (number : ℕ) → HasDone m v state number →
-    IsToldFold m v.lp state number (fossils_of floor v.process)
+    AreConsistent m v.lp state number (fossils_of floor v.process)
     × HasDone m (record v { floor = floor; process = release floor v.process }) (state_after (fossils_of floor v.process) state) (number_after (fossils_of floor v.process) number)
 done_collected m floor v state number f = ((fold_fossils m v.lp floor v.process state number f).0, fold_kept m v.lp floor v.process state number f)
 
--- 7. A process whose history is what the model does can go forward along it.
+-- 7. A history that is what the model does can be coasted forward along.
 
 pub has_history : (m : Meaning) (v : ProcessView) (state : List ℕ) (number : ℕ) → HasDone m v state number → IsHistory m v.lp v.process
 has_history m v state number done = fold_whole m v.lp v.process.done state number v.process.state v.process.number done

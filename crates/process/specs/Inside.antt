@@ -1,4 +1,4 @@
--- What a contract sees of a process: its queue and its history are one record of lists.
+-- The process that contracts see: its queue and its history as one record of lists.
 use Rattle.std.specs.Prelude.{◌≡◌, false}
 use Rattle.queues.specs.Record.{messages}
 use Rattle.process.specs.View.{IsSound, ProcessView}
@@ -18,6 +18,6 @@ view_of p = record {
   };
 }
 
--- a process that is not spent is sound, and its queue has done what its history tells
+-- a process that is not spent is sound, and its queue and its history have the same done messages
 abbrev pub IsWholeProcess : Inside → Type 0
 IsWholeProcess p = p.spent ≡ false → (p.queue.done ≡ messages p.history) × IsSound (view_of p)

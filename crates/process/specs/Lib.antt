@@ -1,8 +1,8 @@
--- For callers: one logical process, what its calls answer and leave, and what it keeps true
+-- For callers: one logical process, what its calls return and change, and its invariants
 pub mod Process
 pub mod View
-pub mod Told
--- Inside: how the code keeps a process
+pub mod Consistent
+-- Inside: the parts of a process in the code
 pub mod Later
 pub mod Inside
 -- For tests: a ring of three processes

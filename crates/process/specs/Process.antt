@@ -1,4 +1,4 @@
--- One logical process (Jefferson 1985): how it takes an arrival, handles a message, and lets go of
+-- One logical process (Jefferson 1985): how it takes an arrival, handles a message, and releases
 -- what no rollback reaches.
 use Rattle.process.specs.declared.Done.{Done}
 use Rattle.std.specs.Prelude.{ℕ, List, map, ◌+◌, [], ◌∷◌, ◌++◌, length, ◌^◌, Bool, nat_le}
@@ -12,7 +12,8 @@ use Rattle.queues.specs.Record.{state_before}
 use Rattle.queues.specs.declared.Record.{Record}
 use Rattle.queues.specs.Queue.{Queue, arrived, back, but_last, last_of}
 
--- one logical process: what it handled and has not told yet, its bags, and itself
+-- one logical process: what it handled and has not reported yet, its two bags, its state and its
+-- send number
 pub record Process : Type 0 where
   pub done : List Record
   pub waiting : List Message  -- a bag
@@ -23,7 +24,7 @@ pub record Process : Type 0 where
 abbrev pub queue_of : Process → Queue
 queue_of q = record { done = messages q.done; waiting = q.waiting; antis = q.antis }
 
--- the process after an arrival, and the antimessages of what it undid
+-- the process after an arrival, and the antimessages of the sends that the arrival undoes
 abbrev pub arrive : Signed → Process → Process
 arrive s q =
     let n = back s (queue_of q) in
@@ -36,10 +37,10 @@ arrive s q =
       number = number_before (last_of n q.done) q.number;
     }
 
-abbrev pub taken_back : Signed → Process → List Signed
-taken_back s q = map minus (sent_in (last_of (back s (queue_of q)) q.done))
+abbrev pub cancelled_sends : Signed → Process → List Signed
+cancelled_sends s q = map minus (sent_in (last_of (back s (queue_of q)) q.done))
 
--- What one process makes of a message: the handling, and the process after it
+-- The record that a process makes of a message, and the process after it
 abbrev pub handling_of : Meaning → ℕ → Message → Process → Record
 handling_of m lp x q = record {
   message = x;
@@ -57,37 +58,37 @@ handle m lp x q = record {
   number = q.number + length (handling_of m lp x q).sent;
 }
 
--- the send number of the process has room for what it sends
+-- the send number has room for the sends of this handling
 abbrev pub has_room : Meaning → Message → Process → Bool
 has_room m x q = nat_le (q.number + length (m.sends x.to q.state x)) (2 ^ 63)
 
 abbrev pub nobody : Process
 nobody = record { done = []; waiting = []; antis = []; state = []; number = 0 }
 
--- all that a process sent in handlings that it has not told yet
+-- the messages sent by the handlings that the process has not reported yet
 abbrev pub sent_by : Process → List Message
 sent_by q = sent_in q.done
 
--- what was handled before the floor is let go
+-- the process without the handlings before the floor
 abbrev pub release : ℕ → Process → Process
 release floor q = record q { done = handled_from floor q.done }
 
--- these handlings are told, where this state and number came after them
-abbrev pub told : List Record → List ℕ → ℕ → List Done
-told [] state number = []
-told (h ∷ hs) state number = record {
+-- the reports of these handlings, where this state and this number follow the last one
+abbrev pub reported : List Record → List ℕ → ℕ → List Done
+reported [] state number = []
+reported (h ∷ hs) state number = record {
   message = h.message;
   sent = h.sent;
   after = state_before hs
       state;
   number_after = number_before hs number;
-} ∷ told hs state number
+} ∷ reported hs state number
 
 abbrev pub fossils_of : ℕ → Process → List Done
-fossils_of floor q = told (handled_before floor q.done) (state_before (handled_from floor q.done)
+fossils_of floor q = reported (handled_before floor q.done) (state_before (handled_from floor q.done)
     q.state) (number_before (handled_from floor q.done) q.number)
 
--- the state after these handlings that were told, or this one where there are none
+-- the state after these reported handlings, or the given state if there are none
 abbrev pub state_after : List Done → List ℕ → List ℕ
 state_after [] state = state
 state_after (d ∷ ds) state = state_after ds d.after

@@ -1,10 +1,10 @@
--- Three processes that hand a token round, each after two ticks, for the tests.
+-- A model for the tests: three processes pass a token around, each after two ticks.
 use Rattle.std.specs.Prelude.{ℕ, ◌+◌, ◌-◌, ◌%◌, ◌^◌, List, [], ◌∷◌, min, slice_index}
 use Rattle.std.proofs.Common.{arith, lit<, lit≤}
 use Rattle.std.proofs.Math.Nat.{mod-lt}
 use Rattle.model.specs.Meaning.{IsLawful, Meaning}
 
--- the count of messages so far, which stays at the greatest number
+-- the number of messages so far, which stops at the greatest number
 abbrev pub counted : List ℕ → ℕ
 counted state = min (slice_index state 0 + 1) (2 ^ 64 - 1)
 

@@ -1,5 +1,4 @@
--- What a caller sees of a logical process, and what its calls answer and leave (this project's
--- profile).
+-- The process that callers see, and what its calls return and change.
 use Rattle.std.specs.List.{AllByRecursion as Every, list_any}
 use Rattle.std.specs.Prelude.{not, nat_lt, ◌==◌, ℕ, Bool, false, true, List, [], ◌++◌, map, Some}
 use Rattle.std.specs.Prelude.{length, ◌≡◌, ◌≤◌, ◌^◌}
@@ -12,21 +11,21 @@ use Rattle.queues.specs.Queue.{IsInOrder, first_before}
 use Rattle.queues.specs.Record.{messages}
 use Rattle.queues.specs.declared.Record.{Record}
 use Rattle.process.specs.Process.{Process, handle, handling_of, has_room, queue_of}
-use Rattle.process.specs.Told.{IsFold, IsHistory}
+use Rattle.process.specs.Consistent.{IsFold, IsHistory}
 use Rattle.process.specs.declared.Done.{Done}
 use Rattle.process.specs.declared.ProcessFault.{ProcessFault}
 use Rattle.process.specs.declared.ProcessFault.TheVariants.{BelowFloor, NoMemory, NotMine}
 use Rattle.process.specs.declared.ProcessFault.TheVariants.{NumberLimit, Spent}
 
--- a process, its number, the floor before which it takes nothing, and whether it has ended at want
--- of memory or at the number limit
+-- a process, its number, the floor below which it accepts nothing, and whether an allocation
+-- failure or the number limit has poisoned it
 pub record ProcessView : Type 0 where
   pub lp : ℕ
   pub floor : ℕ
   pub spent : Bool
   pub process : Process
 
--- what holds of every process that is not spent
+-- the invariant of every process that is not spent
 pub record IsSound (v : ProcessView) : Type 0 where
   pub in_order : IsInOrder (queue_of v.process)
   pub own_done : Every (λ (x : Message). x.to ≡ v.lp) (messages v.process.done)
@@ -38,13 +37,13 @@ pub record IsSound (v : ProcessView) : Type 0 where
   pub number_before : Every (λ (h : Record). h.number_before ≤ 2 ^ 63) v.process.done
   pub few_sent : Every (λ (h : Record). length h.sent ≤ 8) v.process.done
 
--- What the process has done is what the model does, from this state and send number on to those
--- that it has.
+-- The handlings of the process are what the model does, from this state and send number to those
+-- that it has now.
 abbrev pub HasDone : Meaning → ProcessView → List ℕ → ℕ → Type 0
 HasDone m v state number = IsFold m v.lp state number v.process.done v.process.state
     v.process.number
 
--- what is told of a handling, in range
+-- the ranges of a reported handling
 pub record IsDoneInRange (d : Done) : Type 0 where
   pub after : length d.after ≤ 16
   pub number_after : d.number_after ≤ 2 ^ 63
@@ -60,7 +59,7 @@ loaded state number pending = record {
   number = number;
 }
 
--- A process that is loaded has nothing handled.
+-- The history of a process that has just been loaded is what the model does: it is empty.
 abbrev pub HistoriesBegin : Type 0
 HistoriesBegin = (m : Meaning) (lp : ℕ) (state : List ℕ) (number : ℕ) (pending : List Message) →
     IsHistory m lp (loaded state number pending)
@@ -72,8 +71,7 @@ has_foreign lp xs = list_any (λ (x : Message). not (x.to == lp)) xs
 abbrev pub has_early : ℕ → List Message → Bool
 has_early floor xs = list_any (λ (x : Message). nat_lt x.time floor) xs
 
--- A refused call: what was handed in is no more than added to, and either the process has ended or
--- nothing changed
+-- A refused call only appends to its output, and either the process is spent or nothing changes
 abbrev pub IsRefused : ProcessFault → ProcessView → ProcessView → List Signed → List Signed → Type 0
 IsRefused NotMine old new before after = (new ≡ old) × (after ≡ before)
 IsRefused BelowFloor old new before after = (new ≡ old) × (after ≡ before)
@@ -83,7 +81,7 @@ IsRefused NumberLimit old new before after = (new.spent ≡ true) × (more : Lis
     × (after ≡ before ++ more)
 IsRefused Spent old new before after = (new ≡ old) × (after ≡ before)
 
--- the least waiting message below the end was handled, and what it sends was appended
+-- the least waiting message below the end was handled, and its sends were appended
 pub record HasRun (m : Meaning) (end : ℕ) (old new : ProcessView) (before after : List Signed) :
     Type 0 where
   pub message : Message

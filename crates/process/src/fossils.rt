@@ -1,19 +1,19 @@
-// What is told of handlings that no rollback reaches any more.
+// Reports the handlings that no rollback reaches any more.
 
 ghost use Rattle.std.specs.Prelude.{◌≡◌, ◌++◌, IfOk, IfSome, OnOk};
 ghost use Rattle.queues.specs.Record.{AreHandlings, handled_before, handled_from, number_before};
 ghost use Rattle.queues.specs.Record.{state_before};
-ghost use Rattle.process.specs.Process.{told};
+ghost use Rattle.process.specs.Process.{reported};
 
 use crate::{Done, Handled};
 use model::{Model as Simulated, SavedState, State};
 use queues::Released;
 use std::alloc::{AllocError, Global};
 
-/// Takes the handlings below the floor, in ticks, out of a history, where this state and this send
-/// number came after all of it, and tells of them at the end of `fossils`. Each is moved once.
-/// Where memory is wanted some of them are told.
-pub(crate) fn tell<M: Simulated>(
+/// Removes the handlings below `floor`, in ticks, from a history, and appends their reports to
+/// `fossils`, one at a time; `state` and `number` are the state and the send number after the whole
+/// history. After an allocation failure some of them are in `fossils`.
+pub(crate) fn report<M: Simulated>(
     alloc: Global,
     model: &M,
     floor: u64,
@@ -23,8 +23,8 @@ pub(crate) fn tell<M: Simulated>(
     fossils: &mut Vec<Done>,
 ) -> Result<(), AllocError>
     requires { AreHandlings (M.meaning model.now) history.old }
-    ensures told { OnOk result (fossils.new.items ≡ fossils.old.items
-        ++ told (handled_before floor history.old)
+    ensures reported { OnOk result (fossils.new.items ≡ fossils.old.items
+        ++ reported (handled_before floor history.old)
         (state_before (handled_from floor history.old) state.now)
         (number_before (handled_from floor history.old) number)) }
     ensures left { OnOk result (history.new ≡ handled_from floor history.old) }
@@ -42,8 +42,8 @@ pub(crate) fn tell<M: Simulated>(
     Ok(())
 }
 
-/// The state words after a handling that was taken out, which are those before the rest, and this
-/// state where there is no rest. They are copied only where they are not known.
+/// Returns the state words after a handling that was removed: those before the first record of
+/// `rest`, or `state` if there is none. Copies them only if they are not in `known`.
 fn after_first(
     alloc: Global,
     known: Option<SavedState>,

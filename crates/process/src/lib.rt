@@ -1,13 +1,13 @@
-//! One logical process (Jefferson 1985): it handles its messages in order, and takes back what came
-//! too early.
+//! One logical process (Jefferson 1985): it handles its messages in order, and rolls back what it
+//! handled too early.
 #![tactic(auto)]
 
 ghost use Rattle.std.specs.Prelude.{◌≡◌};
-ghost use Rattle.process.specs.Told.{HistoriesAreKept, TellingIsTrue, ArrivalIsTold};
-ghost use Rattle.process.specs.Told.{ArrivalIsBalanced, ArrivalTakesBack, ArrivalLooksAhead};
-ghost use Rattle.process.specs.Told.{HandlingIsTold, HandlingIsBalanced, TellingIsTold};
-ghost use Rattle.process.specs.Told.{TellingIsBalanced, RollbacksStayAbove, FossilsAreFinal};
-ghost use Rattle.process.specs.Told.{ReleasesAreUnseen};
+ghost use Rattle.process.specs.Consistent.{HistoriesAreKept, ReportsFollowModel, ArrivalStaysConsistent};
+ghost use Rattle.process.specs.Consistent.{ArrivalIsBalanced, ArrivalCancelsSends, ArrivalLooksAhead};
+ghost use Rattle.process.specs.Consistent.{HandlingStaysConsistent, HandlingIsBalanced, ReportsStayConsistent};
+ghost use Rattle.process.specs.Consistent.{ReportIsBalanced, RollbacksStayAbove, FossilsAreFinal};
+ghost use Rattle.process.specs.Consistent.{ReleasesAreUnseen};
 ghost use Rattle.process.specs.View.{HistoriesBegin};
 ghost use Rattle.process.specs.declared.ProcessFault.TheVariants.{NoMemory};
 
@@ -23,22 +23,22 @@ pub(crate) use past::Handled;
 use std::alloc::{AllocError, AllocFailed};
 use thiserror::Error;
 
-/// Why a process refuses a call.
+/// The reason why a process refuses a call.
 #[derive(Clone, Copy, Debug, PartialEq, Eq, Error)]
 pub enum ProcessFault {
     /// The message is for another process.
     #[error("NotMine")]
     NotMine,
-    /// The time of the message is below the process's floor.
+    /// The time of the message is below the floor of the process.
     #[error("BelowFloor")]
     BelowFloor,
-    /// Memory was wanted and not there.
+    /// An allocation failed.
     #[error("NoMemory")]
     NoMemory,
     /// The sends would take the send number past its limit.
     #[error("NumberLimit")]
     NumberLimit,
-    /// An earlier call ended the process, by want of memory or at the number limit.
+    /// Poisoned by an earlier allocation failure or by the number limit.
     #[error("Spent")]
     Spent,
 }
@@ -62,46 +62,45 @@ impl<T: Drop> From<AllocFailed<T>> for ProcessFault {
 /// A handling that no rollback reaches any more, with what the process was after it.
 #[derive(Drop)]
 pub struct Done {
-    /// The message that was handled.
+    /// The handled message.
     pub message: Message,
     /// The messages that the handling sent, in the order of sending.
     pub sent: Sent,
-    /// The state words after it.
+    /// The state words after the handling.
     pub after: SavedState,
-    /// The send number after it.
+    /// The send number after the handling.
     pub number_after: u64,
 }
 
-/// The history of a process is what its model does: when it is loaded, and whatever happens to it
-/// then, in any order.
+/// States the law of histories: the handlings of a process are what the model does, after it is
+/// loaded and after any calls, and so are the handlings that it reports.
 pub fn law_of_histories()
     ensures begin { HistoriesBegin }
     ensures kept { HistoriesAreKept }
-    ensures told { TellingIsTrue }
+    ensures reported { ReportsFollowModel }
 {}
 
-/// One message that arrives at one process.
+/// States the laws of one message that arrives at one process.
 pub fn law_of_arrivals()
-    ensures told { ArrivalIsTold }
+    ensures reported { ArrivalStaysConsistent }
     ensures balanced { ArrivalIsBalanced }
-    ensures takes_back { ArrivalTakesBack }
+    ensures cancels { ArrivalCancelsSends }
     ensures looks_ahead { ArrivalLooksAhead }
 {}
 
-/// One message that a process handles.
+/// States the laws of one message that a process handles.
 pub fn law_of_handlings()
-    ensures told { HandlingIsTold }
+    ensures reported { HandlingStaysConsistent }
     ensures balanced { HandlingIsBalanced }
 {}
 
-/// What a process tells of what is below a floor.
-pub fn law_of_telling()
-    ensures told { TellingIsTold }
-    ensures balanced { TellingIsBalanced }
+/// States the laws of what a process reports below a floor.
+pub fn law_of_reports()
+    ensures reported { ReportsStayConsistent }
+    ensures balanced { ReportIsBalanced }
 {}
 
-/// What no rollback reaches: the handlings before a floor, where nothing arrives before it any
-/// more.
+/// States that no rollback reaches the handlings before a floor if no message arrives before it.
 pub fn law_of_rollbacks()
     ensures above { RollbacksStayAbove }
     ensures fossils { FossilsAreFinal }

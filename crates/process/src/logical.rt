@@ -8,15 +8,15 @@ ghost use Rattle.model.specs.Meaning.{Meaning};
 ghost use Rattle.queues.specs.Queue.{first_before, first_time};
 ghost use Rattle.queues.specs.Record.{first_handled};
 ghost use Rattle.process.specs.Process.{arrive, fossils_of, number_after, release, state_after};
-ghost use Rattle.process.specs.Process.{taken_back};
-ghost use Rattle.process.specs.Told.{IsHistory, IsToldFold};
+ghost use Rattle.process.specs.Process.{cancelled_sends};
+ghost use Rattle.process.specs.Consistent.{IsHistory, AreConsistent};
 ghost use Rattle.process.specs.View.{HasDone, HasRun, IsDoneInRange, IsRefused, IsSound, LacksRoom};
 ghost use Rattle.process.specs.View.{has_early, has_foreign, loaded};
 ghost use Rattle.process.specs.declared.ProcessFault.TheVariants.{BelowFloor, NoMemory, NotMine};
 ghost use Rattle.process.specs.declared.ProcessFault.TheVariants.{NumberLimit, Spent};
 
-use crate::fossils::tell;
-use crate::sends::{append, take_back_sends};
+use crate::fossils::report;
+use crate::sends::{append, cancel_sends};
 use crate::{Done, Handled, ProcessFault};
 use eventkey::{Message, Sign, Signed};
 use model::{Model as Simulated, Sent, State, Words};
@@ -25,10 +25,10 @@ use smallvec::SmallVec;
 use std::alloc::Global;
 
 /// A logical process (Jefferson 1985): its input queue, the history of what it handled, its state
-/// words and its send number. After want of memory, and at the limit of the send number, it is
-/// spent.
+/// words and its send number. An allocation failure, or sends past the limit of the send number,
+/// leave it spent.
 ///
-/// No rollback takes back a handling below the floor, since what arrives is not below it.
+/// No rollback undoes a handling below the floor, since no message below it is accepted.
 pub struct Process {
     alloc: Global,
     lp: u32,
@@ -40,7 +40,8 @@ pub struct Process {
     number: u64,
 }
 
-// Not derived: each caller that drops one would prove again how its parts are dropped.
+// Handwritten: with a derived drop, each caller that drops a process proves again how its parts are
+// dropped.
 impl Drop for Process {
     fn drop(self) {
         let Process {
@@ -71,11 +72,10 @@ impl Process {
     /// The greatest send number.
     pub const NUMBER_LIMIT: u64 = 1 << 63;
 
-    /// The process number `lp` in the state of these words, at most 16, whose next send has this
-    /// number, at most 2^63, and for which these messages wait, in whatever order they are handed
-    /// in. NotMine where one of
-    /// them is for another process; else BelowFloor where the time of one is below the floor, in
-    /// ticks.
+    /// Returns process number `lp` in the state `words`, at most 16, whose next send has the number
+    /// `number`, at most 2^63, and for which the messages `pending`, in any order, wait. Refuses
+    /// with `NotMine` if one of them is for another process, else with `BelowFloor` if the time of
+    /// one is below `floor`, in ticks, and with `NoMemory` only if an allocation fails.
     pub fn load(
         alloc: Global,
         lp: u32,
@@ -118,78 +118,79 @@ impl Process {
         })
     }
 
-    /// Answers nothing: the contract says that a process that is not spent has its lists in order,
-    /// its messages its own, and its numbers in their ranges.
+    /// Checks nothing at run time. The contract states that a process that is not spent has its
+    /// lists in order, only its own messages, and its numbers in range.
     pub fn sound(&self)
         ensures { self.now.spent ≡ false → IsSound self.now }
     {
         let _ = &self.queue;
     }
 
-    /// The number of the process.
+    /// Returns the number of the process.
     pub fn lp(&self) -> u32
         ensures { result ≡ self.now.lp }
     {
         self.lp
     }
 
-    /// The floor, in ticks: nothing before it arrives any more.
+    /// Returns the floor, in ticks: no message below it is accepted.
     pub fn floor(&self) -> u64
         ensures { result ≡ self.now.floor }
     {
         self.floor
     }
 
-    /// Whether the process has ended, at want of memory or at the limit of its send number.
+    /// Returns whether the process is poisoned, by an allocation failure or by the limit of its
+    /// send number.
     pub fn is_spent(&self) -> bool
         ensures { result ≡ self.now.spent }
     {
         self.spent
     }
 
-    /// The state words.
+    /// Returns the state words.
     pub fn state(&self) -> &Words
         ensures { result.now.items ≡ self.now.process.state }
     {
         self.state.words()
     }
 
-    /// The number of the next send.
+    /// Returns the number of the next send.
     pub fn number(&self) -> u64
         ensures { result ≡ self.now.process.number }
     {
         self.number
     }
 
-    /// How many handlings a rollback may still take back.
+    /// Returns the number of handlings that a rollback can still undo.
     pub fn done_len(&self) -> usize
         ensures { result ≡ length self.now.process.done }
     {
         self.history.len()
     }
 
-    /// How many messages wait.
+    /// Returns the number of waiting messages.
     pub fn waiting_len(&self) -> usize
         ensures { result ≡ length self.now.process.waiting }
     {
         self.queue.waiting_len()
     }
 
-    /// How many antimessages wait for their message.
+    /// Returns the number of antimessages that wait for their message.
     pub fn antis_len(&self) -> usize
         ensures { result ≡ length self.now.process.antis }
     {
         self.queue.antis_len()
     }
 
-    /// A message or an antimessage arrives. Where it is a straggler, or takes back a message that
-    /// is handled, what it undoes is taken back: state and send number are again those from before
-    /// it, and the antimessages of its sends are appended to `out`, those of the earliest handling
-    /// first.
+    /// Delivers a message or an antimessage. If it is a straggler, or the antimessage of a handled
+    /// message, the handlings that it undoes are rolled back: state and send number are again those
+    /// before them, and the antimessages of their sends are appended to `out`, those of the
+    /// earliest handling first.
     ///
-    /// Spent where the process is; NotMine where the message is for another process; BelowFloor
-    /// where its time is below the floor, whatever its sign. These change nothing; want of memory
-    /// leaves the process spent.
+    /// Refuses with `Spent` if the process is spent, with `NotMine` if the message is for another
+    /// process, and with `BelowFloor` if its time is below the floor, whatever its sign; these
+    /// change nothing. `NoMemory`, only if an allocation fails, leaves the process spent.
     pub fn deliver<M: Simulated>(
         &mut self,
         model: &M,
@@ -202,7 +203,7 @@ impl Process {
         ensures delivered { OnOk result (self.new
             ≡ record self.old { process = arrive signed self.old.process }) }
         ensures out { OnOk result (out.new.items ≡ out.old.items
-            ++ taken_back signed self.old.process) }
+            ++ cancelled_sends signed self.old.process) }
         ensures spent { (result ≡ Err Spent) ↔ (self.old.spent ≡ true) }
         ensures not_mine { (result ≡ Err NotMine) ↔ ((self.old.spent ≡ false)
             × (signed.message.to ≢ self.old.lp)) }
@@ -227,26 +228,26 @@ impl Process {
         if signed.message.time() < self.floor {
             return Err(ProcessFault::BelowFloor);
         }
-        // Cleared at the end: where memory is refused midway, the value stays spent.
+        // Cleared at the end, so that an allocation failure midway leaves the process spent.
         self.spent = true;
         let arrival = self.queue.arrive(signed)?;
         let back = arrival.back();
-        take_back_sends(&self.history, back, out)?;
+        cancel_sends(&self.history, back, out)?;
         self.history
             .roll_back(model, back, &mut self.state, &mut self.number)?;
         self.spent = false;
         Ok(())
     }
 
-    /// The least waiting message, if its time is below `end`, in ticks. It takes no memory.
+    /// Returns the least waiting message if its time is below `end`, in ticks. Allocates nothing.
     pub fn next(&self, end: u64) -> Option<Message>
         ensures { result ≡ first_before end self.now.process.waiting }
     {
         self.queue.next(end)
     }
 
-    /// The least time, in ticks, of what waits, antimessages too; none where nothing does. It takes
-    /// no memory.
+    /// Returns the least time, in ticks, of the waiting messages and antimessages, or `None` if
+    /// none waits. Allocates nothing.
     pub fn low(&self) -> Option<u64>
         ensures low { result ≡ first_time (self.now.process.waiting ++ self.now.process.antis) }
         ensures range { IfSome result (λ time. time < 2 ^ 41) }
@@ -254,19 +255,20 @@ impl Process {
         self.queue.low()
     }
 
-    /// The time, in ticks, of the earliest handling that the process keeps; none where it keeps
-    /// none. It takes no memory.
+    /// Returns the time, in ticks, of the earliest handling in the history, or `None` if it is
+    /// empty. Allocates nothing.
     pub fn oldest(&self) -> Option<u64>
         ensures { result ≡ first_handled self.now.process.done }
     {
         self.history.first_time()
     }
 
-    /// Handles the least waiting message, if its time is below `end`, at most 2^40 ticks, and
-    /// appends what it sends to `out`. It answers whether there was one.
+    /// Handles the least waiting message if its time is below `end`, at most 2^40 ticks, and
+    /// appends the messages that it sends to `out`. Returns whether there was one.
     ///
-    /// Spent where the process is. NumberLimit where the sends would take the send number past its
-    /// limit: then, and after want of memory, the process is spent.
+    /// Refuses with `Spent` if the process is spent, which changes nothing, and with `NumberLimit`
+    /// if the sends would take the send number past its limit. `NumberLimit` and `NoMemory` leave
+    /// the process spent.
     pub fn run_one<M: Simulated>(
         &mut self,
         model: &M,
@@ -304,7 +306,7 @@ impl Process {
         let Some(message) = self.next(end) else {
             return Ok(false);
         };
-        // What the model's laws ask.
+        // The laws of the model require these ranges.
         message.ranged();
         model::ranged(self.state.words().as_slice());
         let mut next = SmallVec::new(self.alloc);
@@ -318,7 +320,7 @@ impl Process {
             &mut sends,
         );
         let count = sends.len() as u64;
-        // Cleared at the end: where memory is refused midway, the value stays spent.
+        // Cleared at the end, so that an allocation failure midway leaves the process spent.
         self.spent = true;
         if count > Process::NUMBER_LIMIT - self.number {
             return Err(ProcessFault::NumberLimit);
@@ -340,11 +342,11 @@ impl Process {
         Ok(true)
     }
 
-    /// Takes the handlings below the floor, in ticks, out and answers them in their order, each
-    /// with what the process was after it. The floor, which is not below the process's, is then its
-    /// own.
+    /// Removes the handlings below `floor`, in ticks, and returns them in order, each with what the
+    /// process was after it. `floor` is at least the floor of the process, and becomes its floor.
     ///
-    /// Spent where the process is, which changes nothing; want of memory leaves the process spent.
+    /// Refuses with `Spent` if the process is spent, which changes nothing. `NoMemory`, only if an
+    /// allocation fails, leaves the process spent.
     pub fn collect<M: Simulated>(
         &mut self,
         model: &M,
@@ -365,7 +367,7 @@ impl Process {
         ensures range { IfOk result (λ fossils. Every IsDoneInRange fossils.items) }
         ensures done { (m : Meaning) (state : List ℕ) (number : ℕ) →
             HasDone m self.old state number → IfOk result
-            (λ fossils. IsToldFold m self.old.lp state number fossils.items × HasDone m self.new
+            (λ fossils. AreConsistent m self.old.lp state number fossils.items × HasDone m self.new
             (state_after fossils.items state) (number_after fossils.items number)) }
         ensures history { self.new.spent ≡ false →
             IsHistory (M.meaning model.now) self.new.lp self.new.process }
@@ -376,8 +378,8 @@ impl Process {
         Ok(fossils)
     }
 
-    /// As `collect`, but appends the handlings to `fossils`, which may hold some of them where
-    /// memory is refused.
+    /// Does the same as `collect`, but appends the handlings to `fossils`, which may hold some of
+    /// them after an allocation failure.
     pub fn collect_into<M: Simulated>(
         &mut self,
         model: &M,
@@ -398,9 +400,9 @@ impl Process {
         ensures floor { OnErr result (self.new.floor ≡ self.old.floor) }
         ensures range { OnOk result (Every IsDoneInRange (fossils_of floor self.old.process)) }
         ensures done { (m : Meaning) (state : List ℕ) (number : ℕ) → HasDone m self.old state number
-            → OnOk result (let told = fossils_of floor self.old.process in IsToldFold m self.old.lp
-            state number told × HasDone m self.new (state_after told state)
-            (number_after told number)) }
+            → OnOk result (let reported = fossils_of floor self.old.process in AreConsistent m self.old.lp
+            state number reported × HasDone m self.new (state_after reported state)
+            (number_after reported number)) }
         ensures history { self.new.spent ≡ false →
             IsHistory (M.meaning model.now) self.new.lp self.new.process }
         ensures refused { IfErr result (λ fault. IsRefused fault self.old self.new [] []) }
@@ -408,10 +410,10 @@ impl Process {
         if self.spent {
             return Err(ProcessFault::Spent);
         }
-        // Cleared at the end: where memory is refused midway, the value stays spent.
+        // Cleared at the end, so that an allocation failure midway leaves the process spent.
         self.spent = true;
         self.queue.release(floor);
-        tell(
+        report(
             self.alloc,
             model,
             floor,
@@ -426,14 +428,14 @@ impl Process {
     }
 }
 
-/// Whether one of these messages is for another process.
+/// Returns whether one of these messages is for another process.
 fn is_foreign(lp: u32, messages: &[Message]) -> bool
     ensures { result ≡ has_foreign lp messages.now }
 {
     messages.iter().any(|message| message.to() != lp)
 }
 
-/// Whether the time of one of these messages is below the floor.
+/// Returns whether the time of one of these messages is below the floor.
 fn is_early(floor: u64, messages: &[Message]) -> bool
     ensures { result ≡ has_early floor messages.now }
 {

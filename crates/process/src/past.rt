@@ -1,4 +1,4 @@
-// What a process handled, with more of its state words than its history keeps.
+// The handled messages of a process, with more of their state words than the history saves.
 
 ghost use Rattle.std.specs.Prelude.{◌≡◌, ◌<◌, ◌≤◌, ◌++◌, ◌∷◌, [], length, nat_lt, ◌&&◌, if◌then◌else◌};
 ghost use Rattle.std.specs.Prelude.{IfOk, IfSome, OnOk, OnErr, Some, None, IsOk, List, ℕ};
@@ -14,23 +14,25 @@ use queues::{History, Released};
 use std::alloc::{AllocError, Global};
 use std::collections::VecDeque;
 
-/// A record that is pushed where so many are there keeps no state words beside the history.
+/// A record keeps no state words beside the history if `AT_HAND` records or more precede it.
 const AT_HAND: usize = 64;
 
-/// What a process handled, seen as the list of records.
+/// The handled messages of a process, seen as the list of records.
 ///
-/// Its history keeps the state words before one record in eight, and rebuilds the others by coasting
-/// forward with the model. To tell of a handling takes those after it, which are those before the
-/// next. So these are kept beside the history, of fewer than `AT_HAND` records: they are told without
-/// a handling.
+/// The history saves the state words before one record in eight, and rebuilds the others by
+/// coasting forward with the model. Reporting a handling needs the words after it, which are those
+/// before the next one. So the words before a record that fewer than `AT_HAND` records preceded
+/// when it was pushed are kept beside the history too, and the handling before it is reported
+/// without running the model.
 pub(crate) struct Handled {
     alloc: Global,
     history: History<8>,
-    // The state words before each record after the first, or nothing.
+    // For each record after the first, the state words before it, if they are kept.
     later: VecDeque<Option<SavedState>>,
 }
 
-// Not derived: each caller that drops one would prove again how its parts are dropped.
+// Handwritten: with a derived drop, each caller that drops one proves again how its parts are
+// dropped.
 impl Drop for Handled {
     fn drop(self) {
         let Handled {
@@ -54,7 +56,7 @@ impl std::marker::Model for Handled {
 }
 
 impl Handled {
-    /// Nothing was handled.
+    /// Returns an empty list of records.
     pub fn new(alloc: Global) -> Handled
         ensures { result ≡ [] }
     {
@@ -65,35 +67,39 @@ impl Handled {
         }
     }
 
-    /// How many records there are.
+    /// Returns the number of records.
     pub fn len(&self) -> usize
         ensures { result ≡ length self.now }
     {
         self.history.len()
     }
 
-    /// The time of the first record's message, in ticks, if there is one. It takes no memory.
+    /// Returns the time of the first record's message, in ticks, if there is one. Allocates
+    /// nothing.
     pub fn first_time(&self) -> Option<u64>
         ensures { result ≡ first_handled self.now }
     {
         self.history.first_time()
     }
 
-    /// The state words before the first record; these where there is none. It takes no memory.
+    /// Returns the state words before the first record, or `words` if there are no records.
+    /// Allocates nothing.
     pub fn words_before<'h>(&'h self, words: &'h Words) -> &'h Words
         ensures { result.now.items ≡ state_before self.now words.now.items }
     {
         self.history.words_before(words)
     }
 
-    /// The send number before the first record; this one where there is none. It takes no memory.
+    /// Returns the send number before the first record, or `number` if there are no records.
+    /// Allocates nothing.
     pub fn number_before(&self, number: u64) -> u64
         ensures { result ≡ number_before self.now number }
     {
         self.history.number_before(number)
     }
 
-    /// The messages that the record at this place sent; the place is below the number of records.
+    /// Returns the messages that the record at index `at` sent; `at` is below the number of
+    /// records.
     pub fn sent(&self, at: usize) -> &[Message]
         requires { at < length self.now }
         ensures { slice_get (sends self.now) at ≡ Some result.now }
@@ -101,8 +107,8 @@ impl Handled {
         self.history.sent(at)
     }
 
-    /// One more record, of these parts, at the end. It is refused only for want of memory, and then
-    /// nothing is changed.
+    /// Appends the record with these parts. Returns `AllocError` only if an allocation fails;
+    /// nothing is then changed.
     pub fn push_handling(
         &mut self,
         message: Message,
@@ -119,7 +125,7 @@ impl Handled {
         ensures unchanged { OnErr result (self.new ≡ self.old) }
     {
         let at = self.history.len();
-        // What can fail comes first.
+        // The calls that can fail come first.
         let words = words_at(self.alloc, at, before)?;
         self.later.reserve(at.min(1))?;
         self.history
@@ -130,9 +136,10 @@ impl Handled {
         Ok(())
     }
 
-    /// Lets go of the last `count` records, and puts state words and send number back to those
-    /// before them. It is refused only for want of memory, and then nothing is changed. It takes at
-    /// most 8 handlings; none, and no memory, where `count` is 0.
+    /// Rolls back: drops the last `count` records, and sets `state` and `number` to the state words
+    /// and the send number before them. Runs at most 8 handlings; if `count` is 0, none, and it
+    /// allocates nothing. Returns `AllocError` only if an allocation fails; nothing is then
+    /// changed.
     pub fn roll_back<M: Simulated>(
         &mut self,
         model: &M,
@@ -155,9 +162,9 @@ impl Handled {
         Ok(())
     }
 
-    /// Takes the first record out, if its message is below the floor, in ticks, and answers what it
-    /// handled and sent, and the state words after it where they are kept. It takes no memory, and
-    /// at most one handling; none where it answers the words.
+    /// Removes the first record if its message is below `floor`, in ticks, and returns what it
+    /// handled and sent, and the state words after it if they are kept. Allocates nothing. Runs at
+    /// most one handling, and none if it returns the words.
     pub fn release_first<M: Simulated>(
         &mut self,
         model: &M,
@@ -179,8 +186,8 @@ impl Handled {
     }
 }
 
-/// The state words that are kept beside the history before a record that is pushed where so many are
-/// there. Those before the first record the history has.
+/// Returns the state words to keep beside the history before a record that `at` records precede:
+/// none for the first record, whose words the history has, and none from `AT_HAND` on.
 fn words_at(alloc: Global, at: usize, before: &State) -> Result<Option<SavedState>, AllocError>
     ensures { IfOk result (λ words. words ≡
         (if nat_lt 0 at && nat_lt at 64 then Some before.now else None)) }

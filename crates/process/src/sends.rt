@@ -1,4 +1,4 @@
-// What handlings send, and how it is taken back.
+// The messages that handlings send, and the antimessages that cancel them.
 
 ghost use Rattle.std.specs.Prelude.{◌≡◌, ◌≤◌, ◌++◌, List, length, map, OnOk};
 ghost use Rattle.std.specs.Prelude.{OnErr};
@@ -11,7 +11,7 @@ use crate::Handled;
 use eventkey::{Message, Sign, Signed};
 use std::alloc::{AllocError, Global};
 
-/// Appends these messages with this sign. Where memory is wanted nothing is appended.
+/// Appends these messages with this sign. After an allocation failure none is appended.
 pub(crate) fn append(
     out: &mut Vec<Signed>,
     sign: Sign,
@@ -32,9 +32,9 @@ pub(crate) fn append(
     Ok(())
 }
 
-/// Appends the antimessages of all that was sent in the last `count` handlings, those of the
-/// earliest first. Where memory is wanted some of them are appended.
-pub(crate) fn take_back_sends(
+/// Appends the antimessages of all that the last `count` handlings sent, those of the earliest
+/// first. After an allocation failure some of them are in `out`.
+pub(crate) fn cancel_sends(
     history: &Handled,
     count: usize,
     out: &mut Vec<Signed>,

@@ -1,9 +1,9 @@
--- What the commands print, in one form.
+-- What the commands print, in a common form.
 use Rattle.std.specs.Io.KnownBytes.{Appends}
 use Rattle.std.specs.Prelude.{◌≡◌, ◌⊎◌, ◌≢◌, ℕ, List, Option, Result, Ok, Err, OnOk, OnErr, length}
 use Rattle.std.proofs.Common.{refl, inl, inr}
-use Rattle.commands.specs.Commands.{BeginsCommitted, PrintsCommitted, TellsExtended, TellsRun, TellsRunOver, extended_text, ran_text}
-use Rattle.commands.specs.Migrating.{TellsMigrated, migrated_text}
+use Rattle.commands.specs.Commands.{BeginsCommitted, PrintsCommitted, PrintsExtended, PrintsEndOfRun, PrintsEndOfRunOver, extended_text, ran_text}
+use Rattle.commands.specs.Migrating.{PrintsMigrated, migrated_text}
 use Rattle.commands.specs.declared.fault.CommandFault.{CommandFault}
 use Rattle.commands.specs.declared.fault.CommandFault.TheVariants as on_disk
 use Rattle.commitlog.specs.Records.{Holds}
@@ -17,7 +17,7 @@ use Rattle.model.specs.Meaning.{Meaning}
 use Rattle.texts.specs.ModelFile.{IsModelFile}
 use Rattle.wire.specs.Port.{PortState}
 use Rattle.views.specs.Views.{Begins, Describes, IsCommitted, Prints}
-use Rattle.program.specs.Command.{IsCarriedOn, IsRan, IsRanBehind, IsWrittenAnew}
+use Rattle.program.specs.Command.{IsExtendedText, IsRan, IsRanBehind, IsMigratedText}
 
 pub at_ok : {T E X : Type 0} {r : Result T E} {x : T} → r ≡ Ok x → OnOk r X → X
 at_ok {r = Ok x} e h = h
@@ -27,12 +27,16 @@ pub at_err : {T E X : Type 0} {r : Result T E} {f : E} → r ≡ Err f → OnErr
 at_err {r = Ok x} e h = cc
 at_err {r = Err x} e h = h
 
+pub when_ok : {T E X : Type 0} (r : Result T E) → X → OnOk r X
+when_ok (Ok x) h = h
+when_ok (Err e) h = tt
+
 pub on_any : {T E X : Type 0} (r : Result T E) → X → OnErr r X
 on_any (Ok x) h = tt
 on_any (Err e) h = h
 
 module _ {T A B : Type 0} where
-  -- a refusal is the writer's, or another
+  -- a fault is `Output`, or another one
   pub on_command : (r : Result T CommandFault) → (r ≡ Err on_disk.Output → B) → ((f : CommandFault) → r ≡ Err f → f ≢ on_disk.Output → A) → OnErr r (A ⊎ B)
   on_command (Ok x) h k = tt
   on_command (Err on_disk.Output) h k = inr (h refl)
@@ -43,9 +47,9 @@ module _ {T A B : Type 0} where
   on_command (Err on_disk.Rounds) h k = inl (k on_disk.Rounds refl (λ e. cc))
   on_command (Err (on_disk.Migrate f)) h k = inl (k (on_disk.Migrate f) refl (λ e. cc))
 
--- what is told of a run, of the model of a file
+-- the output of a run, for the model of a file
 module _ {M : Type 0} (meaning : M → Meaning) (says : Describes M) (source : List ℕ) (model : M) (end : ℕ) (file : IsModelFile says source model end) where
-  ran_taken : {Taken : List ℕ → Type 0} (image : List (List ℕ)) (nodes : ℕ) → TellsRun (meaning model) end nodes image Taken → (text : List ℕ) × IsRan meaning says nodes text × Taken text
+  ran_taken : {Taken : List ℕ → Type 0} (image : List (List ℕ)) (nodes : ℕ) → PrintsEndOfRun (meaning model) end nodes image Taken → (text : List ℕ) × IsRan meaning says nodes text × Taken text
   ran_taken image nodes p = (
     ran_text p.ran p.time p.events,
     record {
@@ -65,14 +69,14 @@ module _ {M : Type 0} (meaning : M → Meaning) (says : Describes M) (source : L
     p.taken,
   )
 
-  pub ran_printed : (image : List (List ℕ)) (nodes : ℕ) (old new : Option (List ℕ)) → TellsRun (meaning model) end nodes image (Appends old new) → Prints (IsRan meaning says nodes) old new
+  pub ran_printed : (image : List (List ℕ)) (nodes : ℕ) (old new : Option (List ℕ)) → PrintsEndOfRun (meaning model) end nodes image (Appends old new) → Prints (IsRan meaning says nodes) old new
   ran_printed image nodes old new p = ran_taken image nodes p
 
-  pub ran_begun : (image : List (List ℕ)) (nodes : ℕ) (old new : Option (List ℕ)) → TellsRun (meaning model) end nodes image (TakesBeginning old new) → Begins (IsRan meaning says nodes) old new
+  pub ran_begun : (image : List (List ℕ)) (nodes : ℕ) (old new : Option (List ℕ)) → PrintsEndOfRun (meaning model) end nodes image (TakesBeginning old new) → Begins (IsRan meaning says nodes) old new
   ran_begun image nodes old new p = ran_taken image nodes p
 
-  -- what is told of a later end
-  carried_taken : {Taken : List ℕ → Type 0} (begun left : DiskState) → TellsExtended (meaning model) end begun left Taken → (text : List ℕ) × IsCarriedOn meaning says text × Taken text
+  -- the output for a later end
+  carried_taken : {Taken : List ℕ → Type 0} (begun left : DiskState) → PrintsExtended (meaning model) end begun left Taken → (text : List ℕ) × IsExtendedText meaning says text × Taken text
   carried_taken begun left p = (
     extended_text p.before end,
     record {
@@ -90,15 +94,15 @@ module _ {M : Type 0} (meaning : M → Meaning) (says : Describes M) (source : L
     p.taken,
   )
 
-  pub carried_printed : (begun left : DiskState) (old new : Option (List ℕ)) → TellsExtended (meaning model) end begun left (Appends old new) → Prints (IsCarriedOn meaning says) old new
+  pub carried_printed : (begun left : DiskState) (old new : Option (List ℕ)) → PrintsExtended (meaning model) end begun left (Appends old new) → Prints (IsExtendedText meaning says) old new
   carried_printed begun left old new p = carried_taken begun left p
 
-  pub carried_begun : (begun left : DiskState) (old new : Option (List ℕ)) → TellsExtended (meaning model) end begun left (TakesBeginning old new) → Begins (IsCarriedOn meaning says) old new
+  pub carried_begun : (begun left : DiskState) (old new : Option (List ℕ)) → PrintsExtended (meaning model) end begun left (TakesBeginning old new) → Begins (IsExtendedText meaning says) old new
   carried_begun begun left old new p = carried_taken begun left p
 
-  -- what is told of a migration
+  -- the output of a migration
   module _ (image : List (List ℕ)) (header : List ℕ) (olds : List Entry) (held : Holds header olds image) (ours : IsOldLog (meaning model) end header olds) (left : DiskState) where
-    anew_taken : {Taken : List ℕ → Type 0} → TellsMigrated (meaning model) header olds left Taken → (text : List ℕ) × IsWrittenAnew meaning says text × Taken text
+    anew_taken : {Taken : List ℕ → Type 0} → PrintsMigrated (meaning model) header olds left Taken → (text : List ℕ) × IsMigratedText meaning says text × Taken text
     anew_taken p = (
       migrated_text p.front.time (length p.front.log),
       record {
@@ -120,10 +124,10 @@ module _ {M : Type 0} (meaning : M → Meaning) (says : Describes M) (source : L
       p.taken,
     )
 
-    pub anew_printed : (old new : Option (List ℕ)) → TellsMigrated (meaning model) header olds left (Appends old new) → Prints (IsWrittenAnew meaning says) old new
+    pub anew_printed : (old new : Option (List ℕ)) → PrintsMigrated (meaning model) header olds left (Appends old new) → Prints (IsMigratedText meaning says) old new
     anew_printed old new p = anew_taken p
 
-    pub anew_begun : (old new : Option (List ℕ)) → TellsMigrated (meaning model) header olds left (TakesBeginning old new) → Begins (IsWrittenAnew meaning says) old new
+    pub anew_begun : (old new : Option (List ℕ)) → PrintsMigrated (meaning model) header olds left (TakesBeginning old new) → Begins (IsMigratedText meaning says) old new
     anew_begun old new p = anew_taken p
 
 module _ {M : Type 0} (meaning : M → Meaning) (says : Describes M) {old new : Option (List ℕ)} where
@@ -139,7 +143,7 @@ module _ {M : Type 0} (meaning : M → Meaning) (says : Describes M) {old new : 
         world = p.world;
         file = file;
         replayed = p.replayed;
-        stands = λ genuine. (p.genuine genuine).stands;
+        represents = λ genuine. (p.genuine genuine).represents;
         upto = λ genuine. (p.genuine genuine).upto;
         within = p.within;
         is = refl;
@@ -158,7 +162,7 @@ module _ {M : Type 0} (meaning : M → Meaning) (says : Describes M) {old new : 
         world = p.world;
         file = file;
         replayed = p.replayed;
-        stands = λ genuine. (p.genuine genuine).stands;
+        represents = λ genuine. (p.genuine genuine).represents;
         upto = λ genuine. (p.genuine genuine).upto;
         within = p.within;
         is = refl;
@@ -166,9 +170,9 @@ module _ {M : Type 0} (meaning : M → Meaning) (says : Describes M) {old new : 
       p.part,
     )
 
--- a run over whatever ports
+-- the output of a run over any ports
 module _ {M P D : Type 0} (meaning : M → Meaning) (says : Describes M) (state : P → PortState) (disk : D → DiskState) (source : List ℕ) (model : M) (end : ℕ) (file : IsModelFile says source model end) (plan : Plan) (begun left : D) where
-  behind : {Taken : List ℕ → Type 0} → TellsRunOver meaning state disk model end plan begun left Taken → (text : List ℕ) × IsRanBehind says plan.nodes text × Taken text
+  behind : {Taken : List ℕ → Type 0} → PrintsEndOfRunOver meaning state disk model end plan begun left Taken → (text : List ℕ) × IsRanBehind says plan.nodes text × Taken text
   behind p = (
     ran_text p.ran p.time p.events,
     record {
@@ -186,8 +190,8 @@ module _ {M P D : Type 0} (meaning : M → Meaning) (says : Describes M) (state 
     p.taken,
   )
 
-  pub behind_printed : (old new : Option (List ℕ)) → TellsRunOver meaning state disk model end plan begun left (Appends old new) → Prints (IsRanBehind says plan.nodes) old new
+  pub behind_printed : (old new : Option (List ℕ)) → PrintsEndOfRunOver meaning state disk model end plan begun left (Appends old new) → Prints (IsRanBehind says plan.nodes) old new
   behind_printed old new p = behind p
 
-  pub behind_begun : (old new : Option (List ℕ)) → TellsRunOver meaning state disk model end plan begun left (TakesBeginning old new) → Begins (IsRanBehind says plan.nodes) old new
+  pub behind_begun : (old new : Option (List ℕ)) → PrintsEndOfRunOver meaning state disk model end plan begun left (TakesBeginning old new) → Begins (IsRanBehind says plan.nodes) old new
   behind_begun old new p = behind p

@@ -1,3 +1,3 @@
 -- For callers
 pub mod Command  -- what the commands print
-pub mod Turns  -- the turns of a run
+pub mod Turns  -- the rows of turns

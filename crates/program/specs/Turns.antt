@@ -1,8 +1,8 @@
--- What is told of a run (this project's profile): which row tells a turn of a node.
+-- The row of a trace for a turn of a node (this project's profile).
 use Rattle.runs.specs.declared.tally.Turn.{Turn}
 use Rattle.pictures.specs.declared.turns.Row.{Row}
 
--- a turn, but for what was committed before it
+-- the row of a turn, without what was committed before it
 abbrev pub row_of : Turn → Row
 row_of t = record {
   round = t.round;
@@ -13,7 +13,7 @@ row_of t = record {
   antimessages = t.antimessages;
   handled = t.handled;
   sent = t.sent;
-  told = t.told;
+  reported = t.reported;
   committed = 0;
   events = 0;
 }

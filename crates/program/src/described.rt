@@ -1,4 +1,4 @@
-// The model of a file, with the end of its simulation.
+// The model and the end that a model file describes.
 
 ghost use Rattle.std.specs.Prelude.{◌≤◌, ◌^◌, ℕ, List, IfOk};
 ghost use Rattle.texts.specs.ModelFile.{IsModelFile};
@@ -9,10 +9,9 @@ use std::rt::Files;
 use texts::Described;
 use views::read_model_file;
 
-/// The model that a file describes, and its end; a command of a program's own begins with it.
+/// Reads the model and its end from a model file. A program's own command starts with this call.
 ///
-/// Refused are `File` where the file can't be read, `BadModel` where it is no model file, and
-/// `NoMemory`.
+/// Returns `File` if the file cannot be read, `BadModel` if it is not a model file, and `NoMemory`.
 pub fn simulated<M, R>(rt: &R, path: &str) -> Result<Simulated<M>, Fault>
 where
     M: Described,

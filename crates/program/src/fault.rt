@@ -21,55 +21,56 @@ use thiserror::Error;
 use views::ViewFault;
 use wire::{PortFault, WireFault};
 
-/// Why a command failed. Its text is its name, and after a blank that of the fault that it carries.
+/// Why a command failed. Printed as its name, followed by a space and the fault that it carries, if
+/// any.
 #[derive(Clone, Copy, Debug, PartialEq, Eq, Error)]
 pub enum Fault {
-    /// The text is no model file.
+    /// The text is not a model file.
     #[error("BadModel")]
     BadModel,
-    /// A file cannot be read, or is no disk of the size that is wanted; or a node's socket is not
-    /// made, or its program does not start or does not connect.
+    /// A file cannot be read, or is not a disk of the requested size; or a node's socket was not
+    /// made, or its program did not start or connect.
     #[error("File")]
     File,
     /// The plain runner refused.
     #[error("World {0}")]
     World(WorldFault),
-    /// The log of a disk is not made, or not opened.
+    /// The log of a disk was not made, or not opened.
     #[error("Log {0}")]
     Log(LogFault),
-    /// No world is recovered of the log.
+    /// No world was recovered from the log.
     #[error("Recovery {0}")]
     Recovery(RecoveryFault),
     /// The session of a run refused its opening or a step.
     #[error("Session {0}")]
     Session(SessionFault),
-    /// What came to a node is no frame in its place, or its connection failed.
+    /// A node received something other than the expected frame, or its connection failed.
     #[error("Wire {0}")]
     Wire(WireFault),
-    /// All rounds of a run are made, and not all is committed.
+    /// The run made all its rounds before everything was committed.
     #[error("Rounds")]
     Rounds,
-    /// A disk of format 1 is not migrated, or not all of it.
+    /// A disk of format 1 was not migrated, or only in part.
     #[error("Migrate {0}")]
     Migrate(MigrateFault),
-    /// A disk is not made longer.
+    /// A disk was not made longer.
     #[error("Grow {0}")]
     Grow(GrowthFault),
-    /// What `status` finds to be wrong with a record of a disk.
+    /// `status` found a fault in a record of a disk.
     #[error("Record {number} {fault}")]
     Record {
-        /// How many records stand before it.
+        /// The number of records before it.
         number: u64,
         /// What is wrong with it.
         fault: RecoveryFault,
     },
-    /// The text is no trace of a run.
+    /// The text is not a trace of a run.
     #[error("BadTrace")]
     BadTrace,
-    /// What `check` finds to be wrong with a file that is no model file.
+    /// `check` found a mistake in a file that is not a model file.
     #[error("{0}")]
     Mistake(Mistake),
-    /// Memory ran out, but in no call that has a name of its own for it.
+    /// An allocation failed in a call without its own fault for it.
     #[error("NoMemory")]
     NoMemory,
     /// Standard output refused a write.
@@ -78,8 +79,8 @@ pub enum Fault {
 }
 
 impl Fault {
-    /// What a user can do about it, in a line that a terminal shows after the fault; none where the
-    /// fault says enough.
+    /// Returns a line of advice for the user, which a terminal shows below the fault. Returns none
+    /// if the fault says enough.
     pub fn advice(self) -> Option<&'static str> {
         match self {
             Fault::BadModel => Some("the command `check` says what is wrong with the model file"),
@@ -112,23 +113,23 @@ impl Fault {
     }
 }
 
-/// Where memory ran out.
+/// Advice if an allocation failed.
 const NO_MEMORY: &str =
     "what is committed stays: run it again with more memory, or take a smaller model";
 
-/// Where the device of a disk failed.
+/// Advice if the device of a disk failed.
 const NO_DEVICE: &str = "the disk's file could not be written: see that its device has room and \
                          works; what is committed stays";
 
-/// Where a record of a disk is at fault.
+/// Advice if a record of a disk is at fault.
 const DAMAGED: &str = "the disk is damaged: `status` says at which record";
 
-/// Where a log is cut off.
+/// Advice if a log is cut off.
 const CUT_OFF: &str =
     "the disk is damaged at the beginning of a record: go on with a copy that was \
                        made before, or begin anew on another disk";
 
-/// What to do about a fault of the plain runner.
+/// Advice for a fault of the plain runner.
 fn of_world(fault: WorldFault) -> Option<&'static str> {
     match fault {
         WorldFault::NoMemory => Some(NO_MEMORY),
@@ -136,7 +137,7 @@ fn of_world(fault: WorldFault) -> Option<&'static str> {
     }
 }
 
-/// What to do about a fault of a log.
+/// Advice for a fault of a log.
 fn of_log(fault: LogFault) -> Option<&'static str> {
     match fault {
         LogFault::NotBlank => Some("the disk has a log already, which `new` keeps"),
@@ -148,7 +149,7 @@ fn of_log(fault: LogFault) -> Option<&'static str> {
     }
 }
 
-/// What to do where no world is recovered.
+/// Advice if no world is recovered.
 fn of_recovery(fault: RecoveryFault) -> Option<&'static str> {
     match fault {
         RecoveryFault::OtherModel => Some(
@@ -161,7 +162,7 @@ fn of_recovery(fault: RecoveryFault) -> Option<&'static str> {
     }
 }
 
-/// What to do where a session stops.
+/// Advice if a session stops.
 fn of_session(fault: SessionFault) -> Option<&'static str> {
     match fault {
         SessionFault::EndRefused => {
@@ -183,7 +184,7 @@ fn of_session(fault: SessionFault) -> Option<&'static str> {
     }
 }
 
-/// What to do where a node is lost to its run.
+/// Advice if a run loses a node.
 fn of_port(fault: PortFault) -> &'static str {
     match fault {
         PortFault::Wire(WireFault::NoMemory) => NO_MEMORY,
@@ -198,7 +199,7 @@ fn of_port(fault: PortFault) -> &'static str {
     }
 }
 
-/// What to do where a node's program stops.
+/// Advice if a node's program stops.
 fn of_wire(fault: WireFault) -> Option<&'static str> {
     match fault {
         WireFault::NoMemory => Some(NO_MEMORY),
@@ -209,7 +210,7 @@ fn of_wire(fault: WireFault) -> Option<&'static str> {
     }
 }
 
-/// What to do where a disk is not migrated.
+/// Advice if a disk is not migrated.
 fn of_migration(fault: MigrateFault) -> Option<&'static str> {
     match fault {
         MigrateFault::Old(RecoveryFault::OtherModel) => Some(
@@ -228,7 +229,7 @@ fn of_migration(fault: MigrateFault) -> Option<&'static str> {
     }
 }
 
-/// What to do where a disk does not grow.
+/// Advice if a disk does not grow.
 fn of_growth(fault: GrowthFault) -> &'static str {
     match fault {
         GrowthFault::Fewer => "the disk has more sectors than asked for",
@@ -271,7 +272,7 @@ impl From<NodesFault> for Fault {
     }
 }
 
-/// A writer's error. That of a file which is read is told by `views::unreadable`.
+/// An error of a writer. `views::unreadable` converts the errors of files that are read.
 impl From<IoError> for Fault {
     ghost from_gives = { λ _ e. e ≡ Output };
 
@@ -326,7 +327,7 @@ impl From<FileFault> for Fault {
     }
 }
 
-/// Where memory is refused for a text that is written.
+/// An allocation failure for a text to write.
 impl From<AllocError> for Fault {
     ghost from_gives = { λ _ e. e ≡ NoMemory };
 
@@ -335,7 +336,7 @@ impl From<AllocError> for Fault {
     }
 }
 
-/// Where memory is refused for what is gathered.
+/// An allocation failure while values are collected.
 impl<T: Drop> From<AllocFailed<T>> for Fault {
     ghost from_gives = { λ _ e. e ≡ NoMemory };
 

@@ -1,10 +1,11 @@
-//! The program `timewarp`, over any kind of model, files and writers: what it does with the words
-//! of its command line.
+//! The program `timewarp`, over any kind of model, files and writers: from the words of its command
+//! line to an exit status.
 #![tactic(auto)]
 
 mod described;
 mod disks;
 mod fault;
+mod looking;
 mod running;
 mod starting;
 mod status;
@@ -13,6 +14,6 @@ mod watching;
 pub use described::simulated;
 pub use fault::Fault;
 pub use starting::start;
-pub use status::{About, answer, command, refuse_words, tell, words};
+pub use status::{About, answer, command, print_fault, refuse_words, words};
 pub use terminal::{Progress, TerminalProgress, Traced};
 pub use views::{ViewFault, check, seq};

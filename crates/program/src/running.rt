@@ -1,8 +1,8 @@
-// A run, over nodes in this program or behind sockets, with its trace or without; and a node.
+// Runs over nodes in this program or behind sockets, with or without a trace; and a node.
 
 ghost use Rattle.std.specs.Prelude.{◌≡◌, ◌≤◌, ◌^◌, ◌⊎◌, ℕ, List, OnErr, OnOk, map, replicate};
 ghost use Rattle.program.specs.Command.{are_rounds_cheap, most_of, plan_of, IsRanBehind};
-ghost use Rattle.program.specs.Command.{IsRanOver};
+ghost use Rattle.program.specs.Command.{IsRunOutput};
 ghost use Rattle.sockets.specs.Socket.{state_of};
 ghost use Rattle.sockets.specs.declared.port.Held.TheVariants.{Fresh};
 ghost use Rattle.texts.specs.ModelFile.{IsModelFile};
@@ -12,7 +12,7 @@ use crate::described::simulated;
 use crate::disks::run_on;
 use crate::fault::Fault;
 use crate::watching::Watching;
-use cli::BatchOption;
+use cli::{BatchOption, DiskArgs, NodeArgs, RunArgs, most_sectors};
 use commands::Simulated;
 use disk::FileDisk;
 use node_programs::{Behind, clear, meet};
@@ -30,30 +30,9 @@ use terminal::{Progress, Traced, are_one_file};
 use texts::Described;
 use views::unreadable;
 
-/// A run: of which model, on which disk, by which plan, over which nodes.
-#[derive(Clone, Copy)]
-pub(crate) struct Way<'a> {
-    /// The program that is started for each node behind a socket.
-    pub program: &'a str,
-    /// The path of the model file.
-    pub model: &'a str,
-    /// The path of the disk's file.
-    pub disk: &'a str,
-    /// How many sectors the disk has at most.
-    pub most: u32,
-    /// How it is driven.
-    pub plan: Plan,
-    /// The folder of the nodes' sockets; none where the nodes are in this program.
-    pub sockets: Option<&'a str>,
-    /// The node whose program ends after one reply.
-    pub cut: Option<u32>,
-    /// Whether no node program is started.
-    pub attach: bool,
-}
-
-/// Whether a round costs little: the nodes live in this process, and with 128 messages each tell
-/// fewer in a round than a commit waits for. Rounds of more messages would save no sync there, and
-/// undo more; between programs they save round trips.
+/// Whether a round costs little: the nodes are in this process, and at 128 messages each they
+/// report no more in a round than a commit waits for. Rounds of more messages would save no sync
+/// there, and roll back more; between programs they save round trips.
 fn are_rounds_cheap(nodes: u32, commit_every: Option<u32>, apart: bool) -> bool
     ensures { result ≡ are_rounds_cheap nodes commit_every apart }
 {
@@ -61,49 +40,43 @@ fn are_rounds_cheap(nodes: u32, commit_every: Option<u32>, apart: bool) -> bool
     !apart && in_a_round <= u64::from(commit_every.unwrap_or(0))
 }
 
-/// The most messages that a node with a budget of its own may handle at a turn: 128 where rounds
-/// are cheap, else 65,536.
+/// Returns the most messages that a node with an adjusting budget may handle at a turn: 128 if
+/// rounds are cheap, otherwise 65,536.
 fn most_of(rounds_are_cheap: bool) -> u32
     ensures { result ≡ most_of rounds_are_cheap }
 {
     if rounds_are_cheap { 128 } else { 65_536 }
 }
 
-/// How a run is driven, by the values of its line; `apart` tells that its nodes are programs of
-/// their own. A commit has room for 299,593 events, and those of a whole round come into it at
-/// once, so one is due at 250,000 at the latest.
-pub(crate) fn plan_of(
-    nodes: u32,
-    batch: BatchOption,
-    rounds: u32,
-    checkpoint: Option<u32>,
-    commit_every: Option<u32>,
-    together: bool,
-    apart: bool,
-) -> Plan
-    ensures { result ≡ plan_of nodes batch rounds checkpoint commit_every together apart }
+/// Returns the plan of a run by the options of its command. A commit has room for 299,592 events,
+/// and takes all those of a round at once, so one is due at 250,000 at the latest.
+fn plan_of(args: &RunArgs<'_>) -> Plan
+    ensures is { result ≡ plan_of args.now }
+    ensures nodes { result.nodes ≡ args.now.nodes }
 {
-    let rounds_are_cheap = are_rounds_cheap(nodes, commit_every, apart);
+    let rounds_are_cheap = are_rounds_cheap(args.nodes, args.commit_every, args.sockets.is_some());
     Plan {
-        nodes,
-        batch: match batch {
+        nodes: args.nodes,
+        batch: match args.batch {
             BatchOption::Fixed(messages) => DriverBatch::Fixed(messages),
             BatchOption::Auto => DriverBatch::Adjusting {
                 most: most_of(rounds_are_cheap),
                 rounds_are_cheap,
             },
         },
-        rounds,
-        together,
-        checkpoint_every: checkpoint.unwrap_or(0),
-        commit_every: commit_every.unwrap_or(0).min(250_000),
+        rounds: args.rounds,
+        together: args.together,
+        checkpoint_every: args.checkpoint.unwrap_or(0),
+        commit_every: args.commit_every.unwrap_or(0).min(250_000),
     }
 }
 
-/// Makes a run.
-pub(crate) fn run_way<M, R, P, O>(
+/// Runs a model on its disk, with a trace if one is asked for. Starts node programs by the name in
+/// `program`.
+pub(crate) fn run_as<M, R, P, O>(
     rt: &R,
-    way: Way<'_>,
+    program: &str,
+    args: RunArgs<'_>,
     progress: &mut P,
     out: &mut O,
 ) -> Result<(), Fault>
@@ -112,54 +85,70 @@ where
     R: Files<File = File> + Net + Processes + Clock + AllocGlobal,
     P: Progress,
     O: Write,
-    requires some { 1 ≤ way.plan.nodes }
-    requires few { way.plan.nodes ≤ 64 }
-    ensures ok { OnOk result (Prints
-        (IsRanOver M.meaning M.says way.entry.sockets way.entry.plan.nodes)
+    requires some { 1 ≤ args.nodes }
+    requires few { args.nodes ≤ 64 }
+    ensures ok { OnOk result (Prints (IsRunOutput M.meaning M.says args.entry)
         (O.contents out.old) (O.contents out.new)) }
-    ensures err { OnErr result ((out.new ≡ out.old) ⊎ Begins
-        (IsRanOver M.meaning M.says way.entry.sockets way.entry.plan.nodes)
+    ensures err { OnErr result ((out.new ≡ out.old)
+        ⊎ Begins (IsRunOutput M.meaning M.says args.entry)
         (O.contents out.old) (O.contents out.new)) }
 {
-    let Way {
-        program,
-        model,
-        disk,
-        most,
-        plan,
-        sockets,
-        cut,
-        attach,
-    } = way;
-    match sockets {
-        None => run_on::<M, R, P, O>(rt, model, disk, most, plan, progress, out),
+    match args.trace {
+        None => run_with::<M, R, P, O>(rt, program, args, progress, out),
+        Some(trace) => run_traced::<M, R, P, O>(rt, program, args, trace, progress, out),
+    }
+}
+
+/// Runs a model over nodes in this program, or over node programs if a folder of sockets is given.
+fn run_with<M, R, P, O>(
+    rt: &R,
+    program: &str,
+    args: RunArgs<'_>,
+    progress: &mut P,
+    out: &mut O,
+) -> Result<(), Fault>
+where
+    M: Described,
+    R: Files<File = File> + Net + Processes + Clock + AllocGlobal,
+    P: Progress,
+    O: Write,
+    requires some { 1 ≤ args.nodes }
+    requires few { args.nodes ≤ 64 }
+    ensures ok { OnOk result (Prints (IsRunOutput M.meaning M.says args.entry)
+        (O.contents out.old) (O.contents out.new)) }
+    ensures err { OnErr result ((out.new ≡ out.old)
+        ⊎ Begins (IsRunOutput M.meaning M.says args.entry)
+        (O.contents out.old) (O.contents out.new)) }
+{
+    let plan = plan_of(&args);
+    match args.sockets {
+        None => run_on::<M, R, P, O>(rt, args.on, plan, progress, out),
         Some(folder) => {
             let behind = Behind {
                 program,
-                model,
+                model: args.on.model,
                 folder,
-                cut,
-                attach,
+                cut: args.cut,
+                attach: args.attach,
             };
-            run_behind::<M, R, P, O>(rt, behind, disk, most, plan, progress, out)
+            run_behind::<M, R, P, O>(rt, behind, args.on, plan, progress, out)
         }
     }
 }
 
-/// Runs the model of a file on its disk, of at most `most` sectors, over node programs.
+/// Runs the model of a file on its disk, over node programs.
 ///
-/// The faults come in this order: those of the model file and of the disk's file; `File` where a
-/// socket is not made, a program is not started, or one ends before it connects, or `NoMemory`;
-/// those of the run. Whatever the end is, the connections are closed then, each program that was
-/// started is waited for, and each socket that was made is removed. What fails in that is not told.
+/// Returns, in this order, the faults of the model file and of the disk's file; `File` if a socket
+/// is not made, a program does not start, or one ends before it connects, or `NoMemory`; the faults
+/// of the run. At every exit it then closes the connections, waits for each program that it
+/// started, and removes each socket that it made. Failures of this cleanup are not reported.
 ///
-/// Where no program is started, the run waits without limit until each node has connected, in
-/// whichever order they come, and tells `progress` which ones it waits for.
+/// If no program is to be started, the run waits without limit until each node has connected, in
+/// any order, and reports to `progress` which ones it waits for.
 fn run_behind<M, R, P, O>(
     rt: &R,
     behind: Behind<'_>,
-    disk: &str,
-    most: u32,
+    on: DiskArgs<'_>,
     plan: Plan,
     progress: &mut P,
     out: &mut O,
@@ -176,20 +165,21 @@ where
     ensures err { OnErr result ((out.new ≡ out.old) ⊎ Begins (IsRanBehind M.says plan.nodes)
         (O.contents out.old) (O.contents out.new)) }
 {
-    let of: Simulated<M> = simulated(rt, behind.model)?;
-    let disk = FileDisk::open_up_to(rt, rt.alloc(), disk, None, most)?;
+    let of: Simulated<M> = simulated(rt, on.model)?;
+    let most = most_sectors(on.large);
+    let disk = FileDisk::open_up_to(rt, rt.alloc(), on.disk, None, most)?;
     let mut met = Vec::with_capacity(rt.alloc(), plan.nodes as usize)?;
-    // the one way out from here on leads through the clearing up
-    let told = match meet(rt, behind, plan.nodes, &mut met, progress) {
+    // every exit from here on passes the cleanup
+    let outcome = match meet(rt, behind, plan.nodes, &mut met, progress) {
         Ok(ports) => run_met(rt.alloc(), &of, ports, disk, plan, progress, out),
         Err(fault) => Err(Fault::from(fault)),
     };
     clear(rt, met);
-    told
+    outcome
 }
 
-/// Runs a model on its disk over node programs that are connected. At its end no connection is
-/// left.
+/// Runs a model on its disk over connected node programs. All connections are closed when it
+/// returns.
 fn run_met<M, P, O>(
     alloc: Global,
     of: &Simulated<M>,
@@ -218,17 +208,19 @@ where
     progress.begin(of.end);
     let mut watch = Watching { progress };
     let ended = commands::run_over(alloc, of, ports, disk, plan, &mut watch, out);
-    ended.told?;
+    ended.outcome?;
     watch.progress.finished();
     Ok(())
 }
 
-/// Makes a run, and writes its trace to a file, which is made or emptied first. The files of the
-/// model and of the disk are refused as `File`; so is a trace that can't be made, and, behind a
-/// run that came to its end, one of which a part was not written.
-pub(crate) fn run_traced<M, R, P, O>(
+/// Makes a run, and writes its trace to a file, which is created or emptied first.
+///
+/// Returns `File` if the trace file is the file of the model or of the disk, if it cannot be made,
+/// or, after a run that reached its end, if a part of the trace was not written.
+fn run_traced<M, R, P, O>(
     rt: &R,
-    way: Way<'_>,
+    program: &str,
+    args: RunArgs<'_>,
     trace: &str,
     progress: &mut P,
     out: &mut O,
@@ -238,16 +230,15 @@ where
     R: Files<File = File> + Net + Processes + Clock + AllocGlobal,
     P: Progress,
     O: Write,
-    requires some { 1 ≤ way.plan.nodes }
-    requires few { way.plan.nodes ≤ 64 }
-    ensures ok { OnOk result (Prints
-        (IsRanOver M.meaning M.says way.entry.sockets way.entry.plan.nodes)
+    requires some { 1 ≤ args.nodes }
+    requires few { args.nodes ≤ 64 }
+    ensures ok { OnOk result (Prints (IsRunOutput M.meaning M.says args.entry)
         (O.contents out.old) (O.contents out.new)) }
-    ensures err { OnErr result ((out.new ≡ out.old) ⊎ Begins
-        (IsRanOver M.meaning M.says way.entry.sockets way.entry.plan.nodes)
+    ensures err { OnErr result ((out.new ≡ out.old)
+        ⊎ Begins (IsRunOutput M.meaning M.says args.entry)
         (O.contents out.old) (O.contents out.new)) }
 {
-    if are_one_file(rt, way.model, trace) || are_one_file(rt, way.disk, trace) {
+    if are_one_file(rt, args.on.model, trace) || are_one_file(rt, args.on.disk, trace) {
         return Err(Fault::File);
     }
     let opened = OpenOptions::new()
@@ -258,7 +249,7 @@ where
     let file = opened.map_err(unwritable)?;
     let rows = BufWriter::new(rt.alloc(), file).map_err(unwritable)?;
     let mut traced = Traced::to(progress, rows);
-    run_way::<M, R, _, O>(rt, way, &mut traced, out)?;
+    run_with::<M, R, _, O>(rt, program, args, &mut traced, out)?;
     if traced.is_whole() {
         Ok(())
     } else {
@@ -266,21 +257,20 @@ where
     }
 }
 
-/// Works as a node that runs the model of a file, behind this socket, until so many parcels are
-/// answered at most.
+/// Serves as a node that runs the model of a file, behind a socket.
 ///
-/// The faults come in this order: those of the model file; `File` where no connection is made; and
-/// `Wire`. A node's own refusal is told at the other end, and is no fault here.
-pub(crate) fn serve_on<M, R>(rt: &R, model: &str, socket: &str, parcels: u32) -> Result<(), Fault>
+/// Returns, in this order, the faults of the model file; `File` if no connection is made; and
+/// `Wire`. A refusal by the node itself is reported at the other end, and is not a fault here.
+pub(crate) fn serve_on<M, R>(rt: &R, args: NodeArgs<'_>) -> Result<(), Fault>
 where
     M: Described,
     R: Files<File = File> + Net + AllocGlobal,
 {
-    let of: Simulated<M> = simulated(rt, model)?;
-    Ok(node_programs::serve_on(rt, &of.model, socket, parcels)?)
+    let of: Simulated<M> = simulated(rt, args.model)?;
+    Ok(node_programs::serve_on(rt, &of.model, args.socket, args.parcels)?)
 }
 
-/// Why a trace is not made: `File`, or `NoMemory` where memory ran out.
+/// Returns why a trace is not made: `NoMemory` if an allocation failed, otherwise `File`.
 fn unwritable(error: IoError) -> Fault {
     Fault::from(unreadable(error))
 }

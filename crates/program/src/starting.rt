@@ -1,9 +1,9 @@
-// The program's beginning and end.
+// The entry point of the program.
 
 ghost use Rattle.std.specs.Prelude.{◌≤◌};
 
 use crate::fault::Fault;
-use crate::status::{About, answer, tell, words};
+use crate::status::{About, answer, print_fault, words};
 use std::fs::File;
 use std::io::{self, BufWriter, IsTerminal, Print, Write};
 use std::net::Net;
@@ -14,11 +14,11 @@ use std::time::Clock;
 use terminal::TerminalProgress;
 use texts::Described;
 
-/// Does what the words of the command line ask for, over models of kind `M`, and answers the exit
-/// status: all that a program's `main` has to do.
+/// Runs the command that the words of the command line give, over models of kind `M`, and returns
+/// the exit status. A program's `main` only needs this call.
 ///
-/// What is asked for is printed. Told on `err` is what goes wrong, and on a terminal how far a run
-/// has come.
+/// Results are printed on standard output. Faults are printed on `err`, and the progress of a run
+/// if `err` is a terminal.
 pub fn start<M, R, E>(rt: &R, about: About<'_>, mut err: E) -> u8
 where
     M: Described,
@@ -28,7 +28,7 @@ where
 {
     let _filled = fill_streams(rt);
     let Ok(mut out) = BufWriter::new(rt.alloc(), io::writer(rt)) else {
-        return tell(about.name, Fault::NoMemory, &mut err);
+        return print_fault(about.name, Fault::NoMemory, &mut err);
     };
     let terminal = if err.is_terminal() { Some(err) } else { None };
     let mut progress = TerminalProgress::on(rt, terminal);
@@ -38,9 +38,9 @@ where
     status
 }
 
-/// Opens the null device in the place of each standard stream that the caller has closed, until
-/// these files are dropped: a file or a socket of a command gets another number, so that nothing
-/// printed goes to it.
+/// Opens the null device in place of each standard stream that the caller has closed. Until these
+/// files are dropped, a file or socket of a command gets another number, so nothing printed goes to
+/// it.
 fn fill_streams<R>(rt: &R) -> Vec<File>
 where
     R: Files<File = File> + AllocGlobal,

@@ -1,4 +1,4 @@
-// What a run tells on its way, handed on to what it is shown by.
+// Passes the progress of a run on to what displays it.
 
 ghost use Rattle.std.specs.Prelude.{◌≡◌};
 ghost use Rattle.program.specs.Turns.{row_of};
@@ -7,13 +7,13 @@ use pictures::Row;
 use runs::{Turn, Watch};
 use terminal::Progress;
 
-/// Hands on to a `Progress` all that a run tells.
+/// Passes all that a run reports on to a `Progress`.
 #[derive(Drop)]
 pub(crate) struct Watching<'p, P> {
     pub progress: &'p mut P,
 }
 
-/// The row of a turn, but for what was committed before it.
+/// Returns the trace row of a turn, without what was committed before it.
 fn row_of(turn: &Turn) -> Row
     ensures { result ≡ row_of turn.now }
 {
@@ -26,7 +26,7 @@ fn row_of(turn: &Turn) -> Row
         antimessages: turn.antimessages as u64,
         handled: u64::from(turn.handled),
         sent: turn.sent as u64,
-        told: turn.told as u64,
+        reported: turn.reported as u64,
         committed: 0,
         events: 0,
     }

@@ -1,27 +1,26 @@
--- A commit at work: two handlings of a token ring, told in the other order than they happened.
+-- A worked commit: two handlings of a token ring, reported in the other order than they happened.
 use Rattle.std.proofs.Common.{◌≡◌, [], ◌∷◌, refl, None}
 use Rattle.eventkey.specs.Message.{message_cmp}
 use Rattle.model.specs.World.{World}
 use Rattle.process.specs.declared.Done.{Done}
 use Rattle.process.specs.Process.{Process}
 use Rattle.protocol.proofs.Examples.{msg, ring}
-use Rattle.protocol.specs.Picture.{Picture}
-use Rattle.protocol.specs.Moves.{commit, picture_after_commit, told_front}
+use Rattle.protocol.specs.System.{System}
+use Rattle.protocol.specs.Moves.{commit, system_after_commit, reported_front}
 
 abbrev still : Process
 still = record { done = []; waiting = []; antis = []; state = 0 ∷ []; number = 0 }
 
--- process 1 handled the message of time 5, and process 2 that of time 7, which it was sent by
--- process 1
+-- process 1 handled the message of time 5, and process 2 that of time 7, which process 1 sent
 abbrev of_one : Done
 of_one = record { message = msg 5 0 0 1 0 1; sent = msg 7 1 0 2 0 2 ∷ []; after = 1 ∷ []; number_after = 1 }
 
 abbrev of_two : Done
 of_two = record { message = msg 7 1 0 2 0 2; sent = msg 9 2 0 0 0 3 ∷ []; after = 1 ∷ []; number_after = 1 }
 
--- process 0 and process 2 sit on node 0, process 1 on node 1
-abbrev told : Picture
-told = record {
+-- process 0 and process 2 are on node 0, process 1 on node 1
+abbrev reported : System
+reported = record {
   front = record { time = 0; states = (0 ∷ []) ∷ (0 ∷ []) ∷ (0 ∷ []) ∷ []; numbers = 0 ∷ 0 ∷ 0 ∷ []; pending = msg 5 0 0 1 0 1 ∷ []; log = [] };
   gathered = of_two ∷ of_one ∷ [];
   nodes = (record still { waiting = msg 9 2 0 0 0 3 ∷ [] } ∷ record still { state = 1 ∷ []; number = 1 } ∷ []) ∷ (record still { state = 1 ∷ []; number = 1 } ∷ []) ∷ [];
@@ -39,13 +38,13 @@ after_both = record {
   log = msg 5 0 0 1 0 1 ∷ msg 7 1 0 2 0 2 ∷ [];
 }
 
-by_move : (picture_after_commit ring 100 told).front ≡ after_both
+by_move : (system_after_commit ring 100 reported).front ≡ after_both
 unfolding message_cmp
 by_move = refl
 
-by_told : told_front 8 told.gathered told.front ≡ after_both
+by_reports : reported_front 8 reported.gathered reported.front ≡ after_both
 unfolding message_cmp
-by_told = refl
+by_reports = refl
 
 -- at an earlier time the first of them alone is committed
 abbrev after_one : World
@@ -57,13 +56,13 @@ after_one = record {
   log = msg 5 0 0 1 0 1 ∷ [];
 }
 
-by_commit_of_one : (commit ring 6 told).front ≡ after_one
+by_commit_of_one : (commit ring 6 reported).front ≡ after_one
 unfolding message_cmp
 by_commit_of_one = refl
 
-by_told_of_one : told_front 6 told.gathered told.front ≡ after_one
+by_reports_of_one : reported_front 6 reported.gathered reported.front ≡ after_one
 unfolding message_cmp
-by_told_of_one = refl
+by_reports_of_one = refl
 
-left_of_one : (commit ring 6 told).gathered ≡ of_two ∷ []
+left_of_one : (commit ring 6 reported).gathered ≡ of_two ∷ []
 left_of_one = refl

@@ -1,5 +1,4 @@
--- A commit of what was told: the front is the sequential simulation, and it is known by what was
--- told alone.
+-- A commit: the front is the sequential simulation, and the reports alone determine it.
 use Rattle.std.proofs.Common.{◌≡◌, ℕ, zero, suc, ◌+◌, ◌%◌, ◌<◌, ◌≤◌, ◌^◌, List, [], ◌∷◌, ◌++◌, map, flat_map, length, get_or, min, refl, sym, ap, ◌∙◌, subst, arith, nat_lt, not, ◌==◌, ◌/◌, mod-lt, append_assoc, append-nil, lt-ltb, Some}
 use Rattle.std.proofs.lemmas.Bool.{cond-true, cond_both, ltb-true}
 use Rattle.std.proofs.lemmas.Option.{same_Some}
@@ -21,11 +20,11 @@ use Rattle.process.specs.declared.Done.{Done}
 use Rattle.process.specs.Process.{Process, nobody, number_after, state_after}
 use Rattle.gvt.specs.Ledger.{least_floor}
 use Rattle.protocol.proofs.Commit.{IsDone, IsReady, NothingTravels, finish}
-use Rattle.protocol.proofs.Gathered.{before_is_early, filter_swap, length-numbers_told, length-states_told, numbers_told-at, states_told-at}
-use Rattle.protocol.specs.Picture.{IsProcessInRange, Picture, floor_at, gvt, messages_told, node_of, nodes_of, process_at, processes_of, sent_told, told_by, travelling}
-use Rattle.protocol.specs.Moves.{Commit, after_messages, commit, merged, move, numbers_told, picture_after_commit, states_told, told_before, told_from}
-use Rattle.protocol.specs.Sound.{IsSoundPicture, IsSystem}
-use Rattle.protocol.specs.Laws.{CommitIsByWhatWasTold, CommitIsSequential, CommitsTellTheNextEvents, IsByWhatWasTold, MayCommit, SystemsMayCommit}
+use Rattle.protocol.proofs.Gathered.{before_is_early, filter_swap, length-reported_numbers, length-reported_states, reported_numbers-at, reported_states-at}
+use Rattle.protocol.specs.System.{IsProcessInRange, System, floor_at, gvt, reported_messages, node_of, nodes_of, process_at, processes_of, reported_sends, reported_by, travelling}
+use Rattle.protocol.specs.Moves.{Commit, after_messages, commit, merged, move, reported_numbers, system_after_commit, reported_states, reported_before, reported_from}
+use Rattle.protocol.specs.Sound.{IsSoundSystem, IsSystem}
+use Rattle.protocol.specs.Laws.{CommitIsByReports, CommitIsSequential, CommitsLogTheNextEvents, IsByReports, MayCommit, SystemsMayCommit}
 
 below_least_time : (c t : ℕ) (xs : List Message) → c ≤ least_time t xs → (c ≤ t) × Every (λ (x : Message). c ≤ x.time) xs
 below_least_time c t [] h = (h, tt)
@@ -42,25 +41,25 @@ below_least_floor c t (f ∷ fs) h =
     go below here zero l = here
     go below here (suc k) l = below k (omega arith)
 
--- 1. A picture of which a commit may be made is ready for it
+-- 1. A system state in which a commit may be made is ready for it
 
-module _ (m : Meaning) (end c : ℕ) (p : Picture) (law : IsLawful m) (short : end ≤ 2 ^ 40) (may : MayCommit m end c p) where
+module _ (m : Meaning) (end c : ℕ) (p : System) (law : IsLawful m) (short : end ≤ 2 ^ 40) (may : MayCommit m end c p) where
   floors_above : (lp : ℕ) → c ≤ floor_at p lp
   floors_above lp = (below_least_floor c end p.floors may.answered).1 (lp % nodes_of p) (subst (λ n. lp % nodes_of p < n) (sym may.seated.floors) (mod-lt lp may.some))
 
-  copies_merged : (x : Message) → copies x (merged c p.gathered) ≡ copies x (messages_told (told_before c p.gathered))
-  copies_merged x = omega (arith, copies-add_all x (messages_told (told_before c p.gathered)) [])
+  copies_merged : (x : Message) → copies x (merged c p.gathered) ≡ copies x (reported_messages (reported_before c p.gathered))
+  copies_merged x = omega (arith, copies-add_all x (reported_messages (reported_before c p.gathered)) [])
 
   merged_below : Every (λ (x : Message). (x.to < m.lps) × (x.time < c)) (merged c p.gathered)
   merged_below =
-      let there : Every (λ (x : Message). x.to < m.lps) (messages_told (told_before c p.gathered)) =
-      Every-map (λ (x : Message). x.to < m.lps) (λ (d : Done). d.message) (told_before c p.gathered) (Every-filter (λ (d : Done). d.message.to < m.lps) (λ (d : Done). nat_lt d.message.time c) p.gathered may.seated.told) in
-      let early : Every (λ (x : Message). x.time < c) (messages_told (told_before c p.gathered)) =
-      Every-map (λ (x : Message). x.time < c) (λ (d : Done). d.message) (told_before c p.gathered) (before_is_early c p.gathered) in
+      let there : Every (λ (x : Message). x.to < m.lps) (reported_messages (reported_before c p.gathered)) =
+      Every-map (λ (x : Message). x.to < m.lps) (λ (d : Done). d.message) (reported_before c p.gathered) (Every-filter (λ (d : Done). d.message.to < m.lps) (λ (d : Done). nat_lt d.message.time c) p.gathered may.seated.reported) in
+      let early : Every (λ (x : Message). x.time < c) (reported_messages (reported_before c p.gathered)) =
+      Every-map (λ (x : Message). x.time < c) (λ (d : Done). d.message) (reported_before c p.gathered) (before_is_early c p.gathered) in
       Every-from_members (λ (x : Message). (x.to < m.lps) × (x.time < c)) (merged c p.gathered) (λ x n.
-      let some : 1 ≤ copies x (messages_told (told_before c p.gathered)) = omega (arith, copies_merged x) in (
-        Every-member (λ (x : Message). x.to < m.lps) (messages_told (told_before c p.gathered)) x there some,
-        Every-member (λ (x : Message). x.time < c) (messages_told (told_before c p.gathered)) x early some,
+      let some : 1 ≤ copies x (reported_messages (reported_before c p.gathered)) = omega (arith, copies_merged x) in (
+        Every-member (λ (x : Message). x.to < m.lps) (reported_messages (reported_before c p.gathered)) x there some,
+        Every-member (λ (x : Message). x.time < c) (reported_messages (reported_before c p.gathered)) x early some,
       ))
 
   nothing_travels : NothingTravels c p
@@ -81,16 +80,16 @@ module _ (m : Meaning) (end c : ℕ) (p : Picture) (law : IsLawful m) (short : e
 
   ready : IsReady m c p (merged c p.gathered)
   ready = record {
-    told = may.told;
+    reported = may.reported;
     balanced = may.balanced;
     seated = may.seated;
     some = may.some;
     world = IsUpto_IsWorld m end p.front.time p.front law short may.front;
-    ranged_told = Every-unmap IsRanged (λ (d : Done). d.message) p.gathered may.in_range.0;
+    ranged_reported = Every-unmap IsRanged (λ (d : Done). d.message) p.gathered may.in_range.0;
     ranged_done = λ lp. (in_range_at lp).0;
     floors = floors_above;
     clear = nothing_travels;
-    ascending = IsAscending-add_all (messages_told (told_before c p.gathered)) [] tt;
+    ascending = IsAscending-add_all (reported_messages (reported_before c p.gathered)) [] tt;
     below = merged_below;
     are = copies_merged;
   }
@@ -125,10 +124,10 @@ commit_is_sequential m end c p may =
         left = d.left;
       };
       log = log;
-      told = d.told;
+      reported = d.reported;
       balanced = d.balanced;
       in_range = (
-        Every-map IsRanged (λ (d : Done). d.message) (told_from c p.gathered)
+        Every-map IsRanged (λ (d : Done). d.message) (reported_from c p.gathered)
             (Every-filter (λ (d : Done). IsRanged d.message) (λ (d : Done). not (nat_lt d.message.time c)) p.gathered (Every-unmap IsRanged (λ (d : Done). d.message) p.gathered may.in_range.0)),
         may.in_range.1,
         may.in_range.2,
@@ -137,33 +136,33 @@ commit_is_sequential m end c p may =
         seats = may.seated.seats;
         parcels = may.seated.parcels;
         floors = may.seated.floors;
-        told = Every-filter (λ (d : Done). d.message.to < m.lps) (λ (d : Done). not (nat_lt d.message.time c)) p.gathered may.seated.told;
+        reported = Every-filter (λ (d : Done). d.message.to < m.lps) (λ (d : Done). not (nat_lt d.message.time c)) p.gathered may.seated.reported;
       };
       same_gvt = refl;
     }
 
--- 3. By what was told
+-- 3. The front from the reports
 
-pub commit_is_by_told : CommitIsByWhatWasTold
-commit_is_by_told m end c p may =
+pub commit_is_by_reports : CommitIsByReports
+commit_is_by_reports m end c p may =
     let law = may.lawful in
     let short = may.short in
     let xs : List Message = merged c p.gathered in
-    let ds : List Done = told_before c p.gathered in
+    let ds : List Done = reported_before c p.gathered in
     let d = done m end c p law short may in
     let is = IsUpto_IsWorld m end p.front.time p.front law short may.front in
     let w : World = after_messages m p.front xs in
-    let swap : (lp : ℕ) → told_before c (told_by lp p.gathered) ≡ told_by lp ds = λ lp. filter_swap (λ (d : Done). nat_lt d.message.time c) (λ (d : Done). d.message.to == lp) p.gathered in
-    let states : w.states ≡ states_told ds p.front.states =
-    ext_get_or [] w.states (states_told ds p.front.states) (d.world.states ∙ sym (length-states_told ds p.front.states ∙ is.states)) (λ lp l.
-    d.states lp ∙ ap (λ zs. state_after zs (state_of p.front lp)) (swap lp) ∙ sym (states_told-at ds p.front.states lp (subst (λ n. lp < n) (d.world.states ∙ sym is.states) l))) in
-    let numbers : w.numbers ≡ numbers_told ds p.front.numbers =
-    ext_get_or 0 w.numbers (numbers_told ds p.front.numbers) (d.world.numbers ∙ sym (length-numbers_told ds p.front.numbers ∙ is.numbers)) (λ lp l.
-    d.numbers lp ∙ ap (λ zs. number_after zs (number_of p.front lp)) (swap lp) ∙ sym (numbers_told-at ds p.front.numbers lp (subst (λ n. lp < n) (d.world.numbers ∙ sym is.numbers) l))) in
-    let bag : List Message = add_all (sent_told ds) p.front.pending in
-    let all : (y : Message) → copies y w.pending + copies y xs ≡ copies y bag = λ y. let a = d.pending y in omega (arith, copies-add_all y (sent_told ds) p.front.pending) in
+    let swap : (lp : ℕ) → reported_before c (reported_by lp p.gathered) ≡ reported_by lp ds = λ lp. filter_swap (λ (d : Done). nat_lt d.message.time c) (λ (d : Done). d.message.to == lp) p.gathered in
+    let states : w.states ≡ reported_states ds p.front.states =
+    ext_get_or [] w.states (reported_states ds p.front.states) (d.world.states ∙ sym (length-reported_states ds p.front.states ∙ is.states)) (λ lp l.
+    d.states lp ∙ ap (λ zs. state_after zs (state_of p.front lp)) (swap lp) ∙ sym (reported_states-at ds p.front.states lp (subst (λ n. lp < n) (d.world.states ∙ sym is.states) l))) in
+    let numbers : w.numbers ≡ reported_numbers ds p.front.numbers =
+    ext_get_or 0 w.numbers (reported_numbers ds p.front.numbers) (d.world.numbers ∙ sym (length-reported_numbers ds p.front.numbers ∙ is.numbers)) (λ lp l.
+    d.numbers lp ∙ ap (λ zs. number_after zs (number_of p.front lp)) (swap lp) ∙ sym (reported_numbers-at ds p.front.numbers lp (subst (λ n. lp < n) (d.world.numbers ∙ sym is.numbers) l))) in
+    let bag : List Message = add_all (reported_sends ds) p.front.pending in
+    let all : (y : Message) → copies y w.pending + copies y xs ≡ copies y bag = λ y. let a = d.pending y in omega (arith, copies-add_all y (reported_sends ds) p.front.pending) in
     let pending : w.pending ≡ remove_all xs bag =
-    same_ascending w.pending (remove_all xs bag) d.world.ascending (IsAscending-remove_all xs bag (IsAscending-add_all (sent_told ds) p.front.pending is.ascending)) (λ y.
+    same_ascending w.pending (remove_all xs bag) d.world.ascending (IsAscending-remove_all xs bag (IsAscending-add_all (reported_sends ds) p.front.pending is.ascending)) (λ y.
     let a = all y in
     omega (arith, copies-remove_all y xs bag (λ x. let b = all x in omega arith))) in
     record {
@@ -172,25 +171,25 @@ commit_is_by_told m end c p may =
       numbers = λ lp l. d.numbers lp;
     }
 
--- 4. The move of a sound picture
+-- 4. The move of a sound system state
 
 pub least_floor-le : (t : ℕ) (fs : List ℕ) → least_floor t fs ≤ t
 least_floor-le t [] = omega arith
 least_floor-le t (f ∷ fs) = omega (arith, least_floor-le (min t f) fs)
 
--- it is at most what each of them is at most, where there is one
+-- the least floor is at most any bound of all floors, if there is a floor
 least_floor-under : (t g : ℕ) (fs : List ℕ) → 1 ≤ length fs → Every (λ (f : ℕ). f ≤ g) fs → least_floor t fs ≤ g
 least_floor-under t g [] some h = absurd (omega arith)
 least_floor-under t g (f ∷ fs) some h = let a = h.0 in omega (arith, least_floor-le (min t f) fs)
 
--- at any time from the front's on that every node has answered
+-- at any time from the front's on that is at most each node's floor
 pub systems_may_commit : SystemsMayCommit
 systems_may_commit m end c p system later answered = let h = system.sound in record {
   lawful = system.lawful;
   short = system.short;
   seated = h.seated;
   in_range = h.in_range;
-  told = h.told;
+  reported = h.reported;
   balanced = h.balanced;
   front = h.front;
   some = h.some;
@@ -203,16 +202,16 @@ least_floor-each : (t : ℕ) (fs : List ℕ) → Every (λ (f : ℕ). least_floo
 least_floor-each t [] = tt
 least_floor-each t (f ∷ fs) = (omega (arith, least_floor-le (min t f) fs), least_floor-each (min t f) fs)
 
--- a commit keeps a picture sound, and global virtual time as it is
-module _ (m : Meaning) (end : ℕ) (p : Picture) (system : IsSystem m end p) where
-  sound_at : (c : ℕ) → p.front.time ≤ c → c ≤ least_floor end p.floors → IsSoundPicture m end (commit m c p)
+-- a commit keeps a system state sound, and does not change global virtual time
+module _ (m : Meaning) (end : ℕ) (p : System) (system : IsSystem m end p) where
+  sound_at : (c : ℕ) → p.front.time ≤ c → c ≤ least_floor end p.floors → IsSoundSystem m end (commit m c p)
   sound_at c later answered =
       let h = system.sound in
       let is = commit_is_sequential m end c p (systems_may_commit m end c p system later answered) in
       record {
         front = is.front;
         in_range = is.in_range;
-        told = is.told;
+        reported = is.reported;
         balanced = is.balanced;
         seated = is.seated;
         some = h.some;
@@ -222,28 +221,28 @@ module _ (m : Meaning) (end : ℕ) (p : Picture) (system : IsSystem m end p) whe
         parcels = h.parcels;
       }
 
-  sound_committed : IsSoundPicture m end (picture_after_commit m end p) × (gvt end p ≤ gvt end (picture_after_commit m end p))
+  sound_committed : IsSoundSystem m end (system_after_commit m end p) × (gvt end p ≤ gvt end (system_after_commit m end p))
   sound_committed =
-      cond_both (nat_lt p.front.time (least_floor end p.floors)) (commit m (least_floor end p.floors) p) p (λ (q : Picture). IsSoundPicture m end q × (gvt end p ≤ gvt end q))
+      cond_both (nat_lt p.front.time (least_floor end p.floors)) (commit m (least_floor end p.floors) p) p (λ (q : System). IsSoundSystem m end q × (gvt end p ≤ gvt end q))
       (λ e. let less = ltb-true p.front.time (least_floor end p.floors) e in (sound_at (least_floor end p.floors) (omega arith) (omega arith), omega arith))
       (λ _. (system.sound, omega arith))
 
-pub sound_commit : (m : Meaning) (end : ℕ) (p p' : Picture) → IsSystem m end p → move m end Commit p ≡ Some p' → IsSoundPicture m end p' × (gvt end p ≤ gvt end p')
+pub sound_commit : (m : Meaning) (end : ℕ) (p p' : System) → IsSystem m end p → move m end Commit p ≡ Some p' → IsSoundSystem m end p' × (gvt end p ≤ gvt end p')
 sound_commit m end p p' system e =
-    subst (λ (q : Picture). IsSoundPicture m end q × (gvt end p ≤ gvt end q)) (same_Some (picture_after_commit m end p) p' e) (sound_committed m end p system)
+    subst (λ (q : System). IsSoundSystem m end q × (gvt end p ≤ gvt end q)) (same_Some (system_after_commit m end p) p' e) (sound_committed m end p system)
 
--- a commit writes the next events of the sequential simulation: what was told below the new time,
--- in message order
-pub commits_tell : CommitsTellTheNextEvents
-commits_tell m end p system less =
+-- a commit appends the next events of the sequential simulation: the messages reported below the
+-- new time, in message order
+pub commits_log : CommitsLogTheNextEvents
+commits_log m end p system less =
     let c = least_floor end p.floors in
     let may = systems_may_commit m end c p system (omega arith) (omega arith) in
     let is = commit_is_sequential m end c p may in
-    let by = commit_is_by_told m end c p may in
-    let e : picture_after_commit m end p ≡ commit m c p = cond-true (nat_lt p.front.time c) (commit m c p) p (lt-ltb p.front.time c less) in
+    let by = commit_is_by_reports m end c p may in
+    let e : system_after_commit m end p ≡ commit m c p = cond-true (nat_lt p.front.time c) (commit m c p) p (lt-ltb p.front.time c less) in
     record {
-      front = subst (λ (q : Picture). IsUpto m end c q.front) (sym e) is.front;
-      log = ap (λ (q : Picture). q.front.log) e ∙ is.log;
-      in_order = IsAscending-add_all (messages_told (told_before c p.gathered)) [] tt;
-      by_told = subst (λ (q : Picture). IsByWhatWasTold m.lps c p q.front) (sym e) by;
+      front = subst (λ (q : System). IsUpto m end c q.front) (sym e) is.front;
+      log = ap (λ (q : System). q.front.log) e ∙ is.log;
+      in_order = IsAscending-add_all (reported_messages (reported_before c p.gathered)) [] tt;
+      by_reports = subst (λ (q : System). IsByReports m.lps c p q.front) (sym e) by;
     }

@@ -1,5 +1,5 @@
--- The definitions at work: what a process, a node and a whole system of a token ring do, by
--- computing.
+-- Worked examples of the definitions, by computation: a process, a node and a whole system of a
+-- token ring.
 use Rattle.std.proofs.Common.{◌≡◌, ℕ, ◌+◌, ◌%◌, List, [], ◌∷◌, refl, get_or, cond, eqb, Some}
 use Rattle.eventkey.specs.Message.{Message, message_cmp}
 use Rattle.eventkey.specs.Signed.{plus, minus}
@@ -7,8 +7,8 @@ use Rattle.model.specs.Meaning.{Meaning}
 use Rattle.model.specs.World.{opening}
 use Rattle.queues.specs.Record.{sent_in}
 use Rattle.queues.specs.Queue.{back}
-use Rattle.process.specs.Process.{Process, arrive, fossils_of, handle, queue_of, taken_back}
-use Rattle.protocol.specs.Picture.{Picture, gvt, opened}
+use Rattle.process.specs.Process.{Process, arrive, fossils_of, handle, queue_of, cancelled_sends}
+use Rattle.protocol.specs.System.{System, gvt, opened}
 use Rattle.protocol.specs.Moves.{Busy, Commit, Idle, Move, NoSuchPick, Post, Take, after_moves, refusal}
 
 abbrev pub ring : Meaning
@@ -36,7 +36,7 @@ twin = msg 5 0 1 1 9 1
 abbrev idle : Process
 idle = record { done = []; waiting = []; antis = []; state = 0 ∷ []; number = 0 }
 
--- a straggler undoes what was handled
+-- a straggler undoes a handling
 abbrev once : Process
 once = handle ring 1 a (arrive (plus a) idle)
 
@@ -44,7 +44,7 @@ straggler-sends : sent_in once.done ≡ msg 7 1 0 2 0 2 ∷ []
 unfolding message_cmp
 straggler-sends = refl
 
-straggler-out : taken_back (plus early) once ≡ minus (msg 7 1 0 2 0 2) ∷ []
+straggler-out : cancelled_sends (plus early) once ≡ minus (msg 7 1 0 2 0 2) ∷ []
 unfolding message_cmp
 straggler-out = refl
 
@@ -67,7 +67,7 @@ straggler-again_number : again.number ≡ 2
 unfolding message_cmp
 straggler-again_number = refl
 
--- an antimessage that comes first waits, and meets its message
+-- an antimessage that comes first waits, and annihilates with its message
 antimessage_first : arrive (minus a) idle ≡ record { done = []; waiting = []; antis = a ∷ []; state = 0 ∷ []; number = 0 }
 unfolding message_cmp
 antimessage_first = refl
@@ -81,11 +81,11 @@ antimessage_of_handled : arrive (minus a) once ≡ idle
 unfolding message_cmp
 antimessage_of_handled = refl
 
-antimessage_of_handled-out : taken_back (minus a) once ≡ minus (msg 7 1 0 2 0 2) ∷ []
+antimessage_of_handled-out : cancelled_sends (minus a) once ≡ minus (msg 7 1 0 2 0 2) ∷ []
 unfolding message_cmp
 antimessage_of_handled-out = refl
 
--- messages that differ in content alone are two
+-- messages that differ only in content are two messages
 twin-back : back (plus twin) (queue_of once) ≡ 0
 unfolding message_cmp
 twin-back = refl
@@ -103,7 +103,7 @@ copies_counted : arrive (minus a) (arrive (plus a) (arrive (plus a) idle)) ≡ a
 unfolding message_cmp
 copies_counted = refl
 
--- of two copies that are done the last is undone
+-- of two done copies the last is undone
 last_copy_undone : arrive (minus a) (handle ring 1 a (handle ring 1 a (arrive (plus a) (arrive (plus a) idle)))) ≡ once
 unfolding message_cmp
 last_copy_undone = refl
@@ -115,30 +115,30 @@ token = record ring { start_sends = λ lp. cond (eqb lp 0) (record { to = lp; de
 abbrev rounds : List Move
 rounds = Post 0 [] 16 ∷ Take 0 ∷ Commit ∷ Post 0 (0 ∷ []) 16 ∷ Take 0 ∷ Commit ∷ Post 0 (0 ∷ []) 16 ∷ Take 0 ∷ Commit ∷ []
 
-abbrev last_picture : Picture
-last_picture = after_moves token 10 rounds (opened 3 1 (opening token))
+abbrev last_system : System
+last_system = after_moves token 10 rounds (opened 3 1 (opening token))
 
-run_log : last_picture.front.log ≡ msg 1 0 0 0 0 0 ∷ msg 3 0 1 1 0 1 ∷ []
+run_log : last_system.front.log ≡ msg 1 0 0 0 0 0 ∷ msg 3 0 1 1 0 1 ∷ []
 unfolding message_cmp
 run_log = refl
 
-run_time : last_picture.front.time ≡ 5
+run_time : last_system.front.time ≡ 5
 unfolding message_cmp
 run_time = refl
 
-run_gvt : gvt 10 last_picture ≡ 7
+run_gvt : gvt 10 last_system ≡ 7
 unfolding message_cmp
 run_gvt = refl
 
-run_states : last_picture.front.states ≡ (1 ∷ []) ∷ (1 ∷ []) ∷ (0 ∷ []) ∷ []
+run_states : last_system.front.states ≡ (1 ∷ []) ∷ (1 ∷ []) ∷ (0 ∷ []) ∷ []
 unfolding message_cmp
 run_states = refl
 
--- a pick that is not there, one named twice, and a second post are refused
+-- a pick that is not in transit, a pick named twice, and a second post are refused
 refused_pick : refusal token 10 (Post 0 (0 ∷ []) 16) (opened 3 1 (opening token)) ≡ Some NoSuchPick
 refused_pick = refl
 
-refused_twice : refusal token 10 (Post 0 (0 ∷ 0 ∷ []) 16) last_picture ≡ Some NoSuchPick
+refused_twice : refusal token 10 (Post 0 (0 ∷ 0 ∷ []) 16) last_system ≡ Some NoSuchPick
 unfolding message_cmp
 refused_twice = refl
 
@@ -149,7 +149,7 @@ refused_busy = refl
 refused_idle : refusal token 10 (Take 0) (opened 3 1 (opening token)) ≡ Some Idle
 refused_idle = refl
 
--- what the node tells
-told_fossil : fossils_of 6 once ≡ record { message = a; sent = msg 7 1 0 2 0 2 ∷ []; after = 1 ∷ []; number_after = 1 } ∷ []
+-- the report of the node
+reported_fossil : fossils_of 6 once ≡ record { message = a; sent = msg 7 1 0 2 0 2 ∷ []; after = 1 ∷ []; number_after = 1 } ∷ []
 unfolding message_cmp
-told_fossil = refl
+reported_fossil = refl

@@ -1,4 +1,4 @@
--- The ledger's floor is global virtual time, and the ledger goes with the picture.
+-- The ledger's floor is global virtual time, and the ledger follows the system state.
 use Rattle.std.proofs.Common.{ℕ, ◌≤◌, ◌<◌, ◌++◌, Option, Some, None, List, [], ◌∷◌, arith, min, refl, sym, ap, set, ◌≡◌, map, flat_map, ◌∙◌}
 use Rattle.std.proofs.lemmas.Bool.{cond_both}
 use Rattle.std.proofs.lemmas.List.{ext_get_or, length-map, map-set, get_or-map}
@@ -16,14 +16,14 @@ use Rattle.node.specs.Node.{Work, first_time, low_of, released_processes}
 use Rattle.gvt.specs.Ledger.{ledger_floor, least_floor, least_low}
 use Rattle.gvt.specs.Picks.{are_distinct, can_pick, not_picked, picked}
 use Rattle.protocol.proofs.Gvt.{KeptFrom, gvt-le, gvt_above, gvt_nodes, gvt_travelling, kept_by}
-use Rattle.protocol.specs.Laws.{LedgersAllowPosts, LedgersFollowPictures, LedgersTellGvt}
+use Rattle.protocol.specs.Laws.{LedgersAllowPosts, LedgersFollowSystems, LedgerFloorIsGvt}
 use Rattle.protocol.specs.Moves.{Busy, NoSuchNode, NoSuchPick, commit, is_busy}
-use Rattle.protocol.specs.Picture.{Picture, gvt, lows_of, node_of, nodes_of, travelling}
+use Rattle.protocol.specs.System.{System, gvt, lows_of, node_of, nodes_of, travelling}
 use Rattle.protocol.specs.Views.{ledger_of}
 
 -- 1. Its floor
 
--- a low is at least g
+-- the low of a node, if there is one, is at least g
 abbrev IsLow : ℕ → Option ℕ → Type 0
 IsLow g None = Unit {0}
 IsLow g (Some low) = g ≤ low
@@ -52,15 +52,15 @@ first_time-above : (g : ℕ) (xs : List Message) → Every (IsFrom g) xs → IsL
 first_time-above g [] h = tt
 first_time-above g (x ∷ xs) h = least_time-above g x.time xs h.0 h.1
 
--- the low of a node is not before g exactly where nothing waits there before g
+-- the low of a node is not before g exactly if nothing waits there before g
 kept_from_low : (g : ℕ) (qs : List Process) → IsLow g (low_of qs) → Every (KeptFrom g) qs
 kept_from_low g qs h = Every-unflat_map (IsFrom g) kept_by qs (first_time-each g (flat_map kept_by qs) h)
 
 low_from_kept : (g : ℕ) (qs : List Process) → Every (KeptFrom g) qs → IsLow g (low_of qs)
 low_from_kept g qs h = first_time-above g (flat_map kept_by qs) (Every-flat_map (IsFrom g) kept_by qs h)
 
-pub ledgers_tell_gvt : LedgersTellGvt
-ledgers_tell_gvt end p =
+pub ledger_floor_is_gvt : LedgerFloorIsGvt
+ledger_floor_is_gvt end p =
     let moving : List Message = map (λ (s : Signed). s.message) (travelling p) in
     let lows = lows_of p in
     let f = ledger_floor end p.transit p.parcels lows in
@@ -79,7 +79,7 @@ ledgers_tell_gvt end p =
 
 -- 2. Move by move
 
--- letting go of what is told leaves what waits
+-- releasing what is reported does not change what waits
 kept_released : (floor : ℕ) (qs : List Process) → flat_map kept_by (map (λ (q : Process). release floor q) qs) ≡ flat_map kept_by qs
 kept_released floor [] = refl
 kept_released floor (q ∷ qs) = ap (λ (xs : List Message). kept_by q ++ xs) (kept_released floor qs)
@@ -87,7 +87,7 @@ kept_released floor (q ∷ qs) = ap (λ (xs : List Message). kept_by q ++ xs) (k
 low_released : (floor : ℕ) (w : Work) → low_of (released_processes floor w) ≡ low_of w.processes
 low_released floor w = ap first_time (kept_released floor w.processes)
 
-pub ledgers_follow : LedgersFollowPictures
+pub ledgers_follow : LedgersFollowSystems
 ledgers_follow m end = record {
   lows = λ p. ext_get_or None (lows_of p) (map (λ (node : ℕ). low_of (node_of p node)) (below (nodes_of p)))
       (length-map p.nodes low_of ∙ sym (length-map (below (nodes_of p)) (λ (node : ℕ). low_of (node_of p node)) ∙ length-below (nodes_of p)))
@@ -100,7 +100,7 @@ ledgers_follow m end = record {
       ap (λ (floor : ℕ). record (ledger_of end p) {
         transit = not_picked picks 0 p.transit;
         parcels = set p.parcels node (Some (record { deliver = picked p.transit picks; budget = budget; floor = floor }));
-      }) (ledgers_tell_gvt end p);
+      }) (ledger_floor_is_gvt end p);
   takes = λ p node parcel w.
       ap (λ (lows : List (Option ℕ)). record (ledger_of end p) {
         transit = p.transit ++ w.out;
@@ -109,10 +109,10 @@ ledgers_follow m end = record {
         floors = set p.floors node parcel.floor;
       }) (ap (λ (low : Option ℕ). set (lows_of p) node low) (sym (low_released parcel.floor w)) ∙ sym (map-set low_of p.nodes node (released_processes parcel.floor w)));
   commits = λ p.
-      cond_both (nat_lt p.front.time (least_floor end p.floors)) (commit m (least_floor end p.floors) p) p (λ (q : Picture). ledger_of end q ≡ ledger_of end p) (λ _. refl) (λ _. refl);
+      cond_both (nat_lt p.front.time (least_floor end p.floors)) (commit m (least_floor end p.floors) p) p (λ (q : System). ledger_of end q ≡ ledger_of end p) (λ _. refl) (λ _. refl);
 }
 
--- 3. What it allows
+-- 3. The posts that it allows
 
 pub ledgers_allow : LedgersAllowPosts
 ledgers_allow m end p system =

@@ -1,4 +1,4 @@
--- The picture with which a session begins is sound, and its nodes are what they are loaded with.
+-- The system state with which a session opens is sound, and its nodes are those of their loads.
 use Rattle.std.proofs.Common.{◌^◌, ◌≡◌, ℕ, zero, suc, ◌<◌, ◌/◌, ◌%◌, ◌≤◌, [], ◌∷◌, ◌++◌, false, sym, ◌∙◌, subst, arith, get_or, flat_map, replicate, refl, Ok, Some, None, List, map, filter, ◌==◌, ap, length, mod-lt, eq-eqb}
 use Rattle.std.proofs.lemmas.List.{append-nil, length-replicate, get_or-replicate, length-map, get_or-map}
 use Rattle.std.proofs.lemmas.Option.{none-some}
@@ -17,7 +17,7 @@ use Rattle.model.specs.World.{IsUpto, World, below, number_of, state_of}
 use Rattle.queues.proofs.Moves.{add_all-ascending}
 use Rattle.queues.specs.Record.{messages}
 use Rattle.process.specs.Process.{Process, nobody, sent_by}
-use Rattle.process.specs.Told.{IsTold}
+use Rattle.process.specs.Consistent.{IsConsistentProcess}
 use Rattle.process.specs.View.{loaded}
 use Rattle.node.proofs.Loads.{not_refused}
 use Rattle.node.proofs.Seats.{own_place}
@@ -27,8 +27,8 @@ use Rattle.node.specs.declared.Parcel.{Parcel}
 use Rattle.node.specs.declared.Part.{Part}
 use Rattle.gvt.specs.Ledger.{delivered_by}
 use Rattle.protocol.proofs.Gvt.{KeptFrom, SignedFrom, gvt_above}
-use Rattle.protocol.specs.Picture.{IsBalanced, IsPictureInRange, IsProcessInRange, IsSeatedBy, Picture, floor_at, gvt, node_of, nodes_of, opened, opened_process, process_at}
-use Rattle.protocol.specs.Sound.{CanOpen, IsOpening, IsSoundPicture}
+use Rattle.protocol.specs.System.{IsBalanced, IsSystemInRange, IsProcessInRange, IsSeatedBy, System, floor_at, gvt, node_of, nodes_of, opened, opened_process, process_at}
+use Rattle.protocol.specs.Sound.{CanOpen, IsOpening, IsSoundSystem}
 use Rattle.protocol.specs.Laws.{IsLoadedWith, OpenedNodes, OpeningIsSound}
 use Rattle.protocol.specs.Views.{load_of, node_view, part_of}
 
@@ -58,7 +58,7 @@ nothing_sent lps nodes w [] = refl
 nothing_sent lps nodes w (k ∷ ks) = nothing_sent_at w (own_lps nodes k lps) (flat_map (λ (qs : List Process). qs) (map (node_opened lps nodes w) ks)) (nothing_sent lps nodes w ks)
 
 module _ (m : Meaning) (end nodes : ℕ) (w : World) (can : CanOpen m end nodes w) where
-  abbrev first : Picture
+  abbrev first : System
   first = opened m.lps nodes w
 
   pub many : nodes_of first ≡ nodes
@@ -82,9 +82,9 @@ module _ (m : Meaning) (end nodes : ℕ) (w : World) (can : CanOpen m end nodes 
   floor_is : (lp : ℕ) → floor_at first lp ≡ w.time
   floor_is lp = ap (λ (n : ℕ). get_or (replicate nodes w.time) (lp % n) 0) many ∙ get_or-replicate nodes (lp % nodes) w.time 0 (mod-lt lp can.some)
 
-  process_told : (lp : ℕ) → IsTold m lp w.time (state_of w lp) (number_of w lp) w.time [] (opened_process w lp)
-  process_told lp = record {
-    told_fold = tt;
+  process_reported : (lp : ℕ) → IsConsistentProcess m lp w.time (state_of w lp) (number_of w lp) w.time [] (opened_process w lp)
+  process_reported lp = record {
+    consistent_fold = tt;
     history = (refl, refl);
     state_meets = refl;
     number_meets = refl;
@@ -93,12 +93,12 @@ module _ (m : Meaning) (end nodes : ℕ) (w : World) (can : CanOpen m end nodes 
     waiting_ascending = IsAscending-filter (λ (x : Message). x.to == lp) w.pending can.loadable.world.ascending;
     antis_ascending = tt;
     behind = Every-all (λ (y : Message). Every (λ (d : Message). IsAtMost d y) []) (λ _. tt) (filter (λ (x : Message). x.to == lp) w.pending);
-    own_told = tt;
+    own_reported = tt;
     own_done = tt;
     own_waiting = Every-passes lp w.pending;
     own_antis = tt;
-    told_from = tt;
-    told_below = tt;
+    reported_from = tt;
+    reported_below = tt;
     done_from = tt;
     waiting_from = Every-filter (λ (x : Message). w.time ≤ x.time) (λ (x : Message). x.to == lp) w.pending can.loadable.left;
     antis_from = tt;
@@ -115,7 +115,7 @@ module _ (m : Meaning) (end nodes : ℕ) (w : World) (can : CanOpen m end nodes 
       let sent = ap (copies x) (nothing_sent m.lps nodes w (below nodes)) in
       omega arith
 
-  opened_in_range : IsPictureInRange first
+  opened_in_range : IsSystemInRange first
   opened_in_range = (
     tt,
     Every-map (λ (qs : List Process). Every IsProcessInRange qs) (node_opened m.lps nodes w) (below nodes)
@@ -137,7 +137,7 @@ module _ (m : Meaning) (end nodes : ℕ) (w : World) (can : CanOpen m end nodes 
         ∙ ap (λ (n : ℕ). length (own_lps n node m.lps)) (sym many);
     parcels = length-replicate nodes None ∙ sym many;
     floors = length-replicate nodes w.time ∙ sym many;
-    told = tt;
+    reported = tt;
   }
 
   gvt_from : w.time ≤ gvt end first
@@ -151,15 +151,15 @@ module _ (m : Meaning) (end nodes : ℕ) (w : World) (can : CanOpen m end nodes 
       (Every-filter (λ (x : Message). w.time ≤ x.time) (λ (x : Message). x.to == lp) w.pending can.loadable.left) tt) (own_lps nodes node m.lps))) (below nodes)))
       (subst (Every (SignedFrom w.time)) (sym (nothing_delivered nodes)) tt)
 
-  opened_sound : IsUpto m end w.time w → IsSoundPicture m end first
+  opened_sound : IsUpto m end w.time w → IsSoundSystem m end first
   opened_sound front = record {
     front = front;
     some = (let a = can.some in let b = many in omega arith);
     seated = opened_seated;
     in_range = opened_in_range;
-    told = λ lp l.
-        subst (λ (q : Process). IsTold m lp w.time (state_of w lp) (number_of w lp) (floor_at first lp) [] q) (sym (process_is lp l))
-        (subst (λ (f : ℕ). IsTold m lp w.time (state_of w lp) (number_of w lp) f [] (opened_process w lp)) (sym (floor_is lp)) (process_told lp));
+    reported = λ lp l.
+        subst (λ (q : Process). IsConsistentProcess m lp w.time (state_of w lp) (number_of w lp) (floor_at first lp) [] q) (sym (process_is lp l))
+        (subst (λ (f : ℕ). IsConsistentProcess m lp w.time (state_of w lp) (number_of w lp) f [] (opened_process w lp)) (sym (floor_is lp)) (process_reported lp));
     balanced = opened_balanced;
     front_low = Every-replicate (λ (f : ℕ). w.time ≤ f) nodes w.time (omega arith);
     floors_low = Every-replicate (λ (f : ℕ). f ≤ gvt end first) nodes w.time gvt_from;
@@ -167,7 +167,7 @@ module _ (m : Meaning) (end nodes : ℕ) (w : World) (can : CanOpen m end nodes 
     parcels = λ node parcel e. absurd (no_parcel nodes node parcel e);
   }
 
-  -- 3. What a node is loaded with
+  -- 3. The load of a node
 
   abbrev loaded_part : Part → Process
   loaded_part p = loaded p.words p.number p.pending

@@ -1,4 +1,4 @@
--- Posting a parcel keeps a picture sound, and global virtual time does not fall.
+-- Posting a parcel keeps a system state sound, and global virtual time does not fall.
 use Rattle.std.proofs.Common.{◌≡◌, ℕ, ◌+◌, List, [], ◌∷◌, refl, ap, ◌<◌, false, cond, arith, zero, suc, true, inl, inr, length, get_or, ◌%◌, Option, Some, None, ◌≤◌, flat_map, sym, ◌∙◌, subst, length-set, get_or-set_same, get_or-set_other}
 use Rattle.std.proofs.lemmas.Bool.{cond_both, ne_eqb, cases_Bool, eq-eqb, eqb-true, ltb-true, and_parts, not-true, cases_eq}
 use Rattle.std.proofs.lemmas.Option.{same_Some, none-some}
@@ -18,9 +18,9 @@ use Rattle.gvt.proofs.Sweeps.{not_picked-none}
 use Rattle.gvt.specs.Ledger.{delivered_by}
 use Rattle.gvt.specs.Picks.{are_distinct, can_pick, has, not_picked, nothing, picked}
 use Rattle.protocol.proofs.Gvt.{Every-parcels-set, SignedFrom, copies-parcels-set, gvt-le, gvt_above, gvt_nodes, gvt_travelling}
-use Rattle.protocol.specs.Picture.{IsPictureInRange, Picture, gvt, nodes_of}
-use Rattle.protocol.specs.Moves.{Post, can_post, is_busy, move, picture_after_post}
-use Rattle.protocol.specs.Sound.{IsParcel, IsSoundPicture}
+use Rattle.protocol.specs.System.{IsSystemInRange, System, gvt, nodes_of}
+use Rattle.protocol.specs.Moves.{Post, can_post, is_busy, move, system_after_post}
+use Rattle.protocol.specs.Sound.{IsParcel, IsSoundSystem}
 
 -- 1. Picks
 
@@ -61,7 +61,7 @@ all_picks nodes node transit (i ∷ is) e =
     let b = and_parts (nat_lt i (length transit)) (sits_on nodes node (get_or transit i nothing).message.to) a.0 in
     (record { there = ltb-true i (length transit) b.0; own = eqb-true ((get_or transit i nothing).message.to % nodes) node b.1 }, all_picks nodes node transit is a.1)
 
--- what is picked and what is not are all there is
+-- what is picked and what is not are all that is in transit
 copies-picks : (x : Message) (sign : Sign) (nodes node : ℕ) (transit : List Signed) (picks : List ℕ) → Every (IsPick nodes node transit) picks → are_distinct picks ≡ true →
     copies x (of_sign sign (not_picked picks 0 transit)) + copies x (of_sign sign (picked transit picks)) ≡ copies x (of_sign sign transit)
 copies-picks x Plus nodes node transit [] h d = let e = ap (λ ts. copies x (of_sign Plus ts)) (not_picked-none 0 transit) in omega arith
@@ -84,13 +84,13 @@ on_node-picked : (nodes node : ℕ) (transit : List Signed) (picks : List ℕ) �
 on_node-picked nodes node transit [] h = tt
 on_node-picked nodes node transit (i ∷ is) h = (h.0.own, on_node-picked nodes node transit is h.1)
 
--- 2. The picture after a post
+-- 2. The system state after a post
 
 not_busy : (o : Option Parcel) → is_some o ≡ false → o ≡ None
 not_busy None e = refl
 not_busy (Some parcel) e = absurd (cc)
 
-module _ (m : Meaning) (end node : ℕ) (picks : List ℕ) (budget : ℕ) (p : Picture) (h : IsSoundPicture m end p) (can : can_post p node picks ≡ true) where
+module _ (m : Meaning) (end node : ℕ) (picks : List ℕ) (budget : ℕ) (p : System) (h : IsSoundSystem m end p) (can : can_post p node picks ≡ true) where
   checks : (node < nodes_of p) × (get_or p.parcels node None ≡ None) × Every (IsPick (nodes_of p) node p.transit) picks × (are_distinct picks ≡ true)
   checks =
       let a = and_parts (nat_lt node (nodes_of p) && not (is_busy p node)) (can_pick (nodes_of p) node p.transit picks && are_distinct picks) can in
@@ -101,8 +101,8 @@ module _ (m : Meaning) (end node : ℕ) (picks : List ℕ) (budget : ℕ) (p : P
   within : node < length p.parcels
   within = let a = checks.0 in let b = h.seated.parcels in omega arith
 
-  new : Picture
-  new = picture_after_post end node picks budget p
+  new : System
+  new = system_after_post end node picks budget p
 
   moving : Every (SignedFrom (gvt end p)) p.transit
   moving = Every-left (SignedFrom (gvt end p)) p.transit (flat_map delivered_by p.parcels) (gvt_travelling end p)
@@ -116,7 +116,7 @@ module _ (m : Meaning) (end node : ℕ) (picks : List ℕ) (budget : ℕ) (p : P
       (Every-picked (SignedFrom (gvt end p)) (nodes_of p) node p.transit picks checks.2 moving)
       (Every-right (SignedFrom (gvt end p)) p.transit (flat_map delivered_by p.parcels) (gvt_travelling end p))))
 
-  new_in_range : IsPictureInRange new
+  new_in_range : IsSystemInRange new
   unfolding new
   new_in_range = (
     h.in_range.0,
@@ -151,16 +151,16 @@ module _ (m : Meaning) (end node : ℕ) (picks : List ℕ) (budget : ℕ) (p : P
         record { from = good.from; upto = omega arith; there = good.there; on_node = good.on_node }
   ]
 
-  new_sound : IsSoundPicture m end new
+  new_sound : IsSoundSystem m end new
   unfolding new
   new_sound =
       let more = gvt_kept in
       record {
         front = h.front;
         some = h.some;
-        seated = record { seats = h.seated.seats; parcels = length-set p.parcels node _ ∙ h.seated.parcels; floors = h.seated.floors; told = h.seated.told };
+        seated = record { seats = h.seated.seats; parcels = length-set p.parcels node _ ∙ h.seated.parcels; floors = h.seated.floors; reported = h.seated.reported };
         in_range = new_in_range;
-        told = h.told;
+        reported = h.reported;
         balanced = λ x l.
             let old = h.balanced x l in
             let this : Parcel = record { deliver = picked p.transit picks; budget = budget; floor = gvt end p } in
@@ -184,9 +184,9 @@ module _ (m : Meaning) (end node : ℕ) (picks : List ℕ) (budget : ℕ) (p : P
         parcels = new_parcels;
       }
 
-pub sound_post : (m : Meaning) (end node : ℕ) (picks : List ℕ) (budget : ℕ) (p p' : Picture) → IsSoundPicture m end p → move m end (Post node picks budget) p ≡ Some p' → IsSoundPicture m end p' × (gvt end p ≤ gvt end p')
+pub sound_post : (m : Meaning) (end node : ℕ) (picks : List ℕ) (budget : ℕ) (p p' : System) → IsSoundSystem m end p → move m end (Post node picks budget) p ≡ Some p' → IsSoundSystem m end p' × (gvt end p ≤ gvt end p')
 unfolding new
 sound_post m end node picks budget p p' h =
-    cond_both (can_post p node picks) (Some (picture_after_post end node picks budget p)) None (λ (r : Option Picture). r ≡ Some p' → IsSoundPicture m end p' × (gvt end p ≤ gvt end p'))
-    (λ can e. subst (λ (q : Picture). IsSoundPicture m end q × (gvt end p ≤ gvt end q)) (same_Some (picture_after_post end node picks budget p) p' e) (new_sound m end node picks budget p h can, gvt_kept m end node picks budget p h can))
+    cond_both (can_post p node picks) (Some (system_after_post end node picks budget p)) None (λ (r : Option System). r ≡ Some p' → IsSoundSystem m end p' × (gvt end p ≤ gvt end p'))
+    (λ can e. subst (λ (q : System). IsSoundSystem m end q × (gvt end p ≤ gvt end q)) (same_Some (system_after_post end node picks budget p) p' e) (new_sound m end node picks budget p h can, gvt_kept m end node picks budget p h can))
     (λ _ e. absurd (none-some p' e))

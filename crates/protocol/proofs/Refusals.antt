@@ -1,4 +1,4 @@
--- A move is made exactly where it is not refused; and a node accepts what it is posted.
+-- A move is made exactly if it is not refused, and a node accepts every parcel posted to it.
 use Rattle.std.specs.Prelude.{is_some, not, ◌&&◌}
 use Rattle.std.proofs.Common.{◌≡◌, ℕ, zero, suc, ◌≤◌, ◌<◌, ◌%◌, Bool, true, false, cond, List, [], ◌∷◌, get_or, length, Option, None, Some, option_map, nat_lt, inl, inr, refl, arith, eq-eqb}
 use Rattle.std.specs.List.{AllByRecursion as Every}
@@ -12,15 +12,15 @@ use Rattle.node.specs.Kept.{IsUnderWay}
 use Rattle.node.specs.Node.{Work, work_here}
 use Rattle.node.specs.declared.Parcel.{Parcel}
 use Rattle.gvt.specs.Picks.{are_distinct, can_pick}
-use Rattle.protocol.specs.Picture.{Picture, gvt, node_of, nodes_of}
-use Rattle.protocol.specs.Moves.{Busy, Checkpoint, Commit, NoSuchNode, NoSuchPick, NumberLimit, Post, Take, is_busy, picture_after_answer, take_from, take_refusal}
+use Rattle.protocol.specs.System.{System, gvt, node_of, nodes_of}
+use Rattle.protocol.specs.Moves.{Busy, Checkpoint, Commit, NoSuchNode, NoSuchPick, NumberLimit, Post, Take, is_busy, system_after_answer, take_from, take_refusal}
 use Rattle.protocol.specs.Laws.{MovesAreMadeOrRefused, ParcelsAreAccepted}
 use Rattle.protocol.specs.Views.{node_view}
 use Rattle.protocol.proofs.Takes.{fits, floor_under, under_way}
 
 -- 1. Made or refused
 
-post_tested : (there busy picks distinct : Bool) (x : Picture) →
+post_tested : (there busy picks distinct : Bool) (x : System) →
     is_some (cond ((there && not busy) && (picks && distinct)) (Some x) None)
     ≡ not (is_some (cond (not there) (Some NoSuchNode) (cond busy (Some Busy) (cond (picks && distinct) None (Some NoSuchPick)))))
 post_tested false busy picks distinct x = refl
@@ -29,11 +29,11 @@ post_tested true false false distinct x = refl
 post_tested true false true false x = refl
 post_tested true false true true x = refl
 
-take_tested : (m : Meaning) (end node : ℕ) (p : Picture) (o : Option Parcel) → is_some (take_from m end node p o) ≡ not (is_some (take_refusal m end node p o))
+take_tested : (m : Meaning) (end node : ℕ) (p : System) (o : Option Parcel) → is_some (take_from m end node p o) ≡ not (is_some (take_refusal m end node p o))
 take_tested m end node p None = refl
 take_tested m end node p (Some parcel) = go (work_here m end (nodes_of p) parcel (node_of p node))
   where
-    go : (o : Option Work) → is_some (option_map (λ (w : Work). picture_after_answer node parcel p w) o) ≡ not (is_some (cond (is_some o) None (Some NumberLimit)))
+    go : (o : Option Work) → is_some (option_map (λ (w : Work). system_after_answer node parcel p w) o) ≡ not (is_some (cond (is_some o) None (Some NumberLimit)))
     go None = refl
     go (Some w) = refl
 
@@ -48,9 +48,9 @@ made_or_refused m end (Take node) p h = elim (cases_lt node (nodes_of p)) [
 made_or_refused m end Commit p h = refl
 made_or_refused m end Checkpoint p h = refl
 
--- 2. What a node accepts
+-- 2. The parcels that a node accepts
 
--- a message that the node may be handed
+-- a message that can be delivered to the node
 record IsHandy (n : Node) (s : Signed) : Type 0 where
   there : s.message.to < n.lps
   on : s.message.to % n.nodes ≡ n.node

@@ -15,13 +15,13 @@ use Rattle.protocol.proofs.Gvt.{gvt-le}
 use Rattle.protocol.proofs.Opened.{opening_is_sound}
 use Rattle.protocol.proofs.Posts.{sound_post}
 use Rattle.protocol.proofs.Takes.{sound_take, taken_from}
-use Rattle.protocol.specs.Picture.{Picture, gvt, opened}
-use Rattle.protocol.specs.Moves.{Checkpoint, Commit, Move, Post, Run, Take, after_moves, after_runs, can_post, commit, move, moves_made, picture_after_commit, picture_after_post}
-use Rattle.protocol.specs.Sound.{GoesOnFrom, IsOpening, IsSoundPicture, IsSystem}
+use Rattle.protocol.specs.System.{System, gvt, opened}
+use Rattle.protocol.specs.Moves.{Checkpoint, Commit, Move, Post, Run, Take, after_moves, after_runs, can_post, commit, move, moves_made, system_after_commit, system_after_post}
+use Rattle.protocol.specs.Sound.{GoesOnFrom, IsOpening, IsSoundSystem, IsSystem}
 use Rattle.protocol.specs.Laws.{AreMade, AreMadeInParts, FirstOpens, FrontsOpen, MovesAreSound, MovesMadeAreSound, MovesMadeJoin, MovesMadePart, RunsAreOneSimulation, RunsAreSound}
 use Rattle.protocol.specs.Readers.{OptimisticIsSequential, SchedulesAgree}
 
--- floors that are each at least what they were
+-- floors, none of which has fallen
 record HaveRisen (old new : List ℕ) : Type 0 where
   size : length new ≡ length old
   each : (i : ℕ) → get_or old i 0 ≤ get_or new i 0
@@ -39,44 +39,44 @@ risen_set fs node floor up = record { size = length-set fs node floor; each = λ
     go (f ∷ fs) (suc node) zero l = omega arith
     go (f ∷ fs) (suc node) (suc i) l = go fs node i l
 
-kept_sound : (m : Meaning) (end : ℕ) (k : Move) (p p' : Picture) → IsSystem m end p → move m end k p ≡ Some p' → IsSoundPicture m end p' × (gvt end p ≤ gvt end p')
+kept_sound : (m : Meaning) (end : ℕ) (k : Move) (p p' : System) → IsSystem m end p → move m end k p ≡ Some p' → IsSoundSystem m end p' × (gvt end p ≤ gvt end p')
 kept_sound m end (Post node picks budget) p p' h e = sound_post m end node picks budget p p' h.sound e
 kept_sound m end (Take node) p p' h e = sound_take m end node p p' h e
 kept_sound m end Commit p p' h e = sound_commit m end p p' h e
-kept_sound m end Checkpoint p p' h e = subst (λ (q : Picture). IsSoundPicture m end q × (gvt end p ≤ gvt end q)) (same_Some p p' e) (h.sound, omega arith)
+kept_sound m end Checkpoint p p' h e = subst (λ (q : System). IsSoundSystem m end q × (gvt end p ≤ gvt end q)) (same_Some p p' e) (h.sound, omega arith)
 
-later_front : (m : Meaning) (end : ℕ) (k : Move) (p p' : Picture) → move m end k p ≡ Some p' → p.front.time ≤ p'.front.time
+later_front : (m : Meaning) (end : ℕ) (k : Move) (p p' : System) → move m end k p ≡ Some p' → p.front.time ≤ p'.front.time
 later_front m end (Post node picks budget) p p' e =
-    cond_both (can_post p node picks) (Some (picture_after_post end node picks budget p)) None (λ (r : Option Picture). r ≡ Some p' → p.front.time ≤ p'.front.time)
-    (λ _ f. let g : p.front.time ≡ p'.front.time = ap (λ (q : Picture). q.front.time) (same_Some (picture_after_post end node picks budget p) p' f) in omega arith)
+    cond_both (can_post p node picks) (Some (system_after_post end node picks budget p)) None (λ (r : Option System). r ≡ Some p' → p.front.time ≤ p'.front.time)
+    (λ _ f. let g : p.front.time ≡ p'.front.time = ap (λ (q : System). q.front.time) (same_Some (system_after_post end node picks budget p) p' f) in omega arith)
     (λ _ f. absurd (none-some p' f)) e
 later_front m end (Take node) p p' e =
     let t = taken_from m end node p p' (get_or p.parcels node None) refl e in
-    let g : p.front.time ≡ p'.front.time = ap (λ (q : Picture). q.front.time) t.is in
+    let g : p.front.time ≡ p'.front.time = ap (λ (q : System). q.front.time) t.is in
     omega arith
 later_front m end Commit p p' e =
-    let g = ap (λ (q : Picture). q.front.time) (same_Some (picture_after_commit m end p) p' e) in
-    let h : p.front.time ≤ (picture_after_commit m end p).front.time =
-    cond_both (nat_lt p.front.time (least_floor end p.floors)) (commit m (least_floor end p.floors) p) p (λ (q : Picture). p.front.time ≤ q.front.time)
+    let g = ap (λ (q : System). q.front.time) (same_Some (system_after_commit m end p) p' e) in
+    let h : p.front.time ≤ (system_after_commit m end p).front.time =
+    cond_both (nat_lt p.front.time (least_floor end p.floors)) (commit m (least_floor end p.floors) p) p (λ (q : System). p.front.time ≤ q.front.time)
     (λ f. let less = ltb-true p.front.time (least_floor end p.floors) f in omega arith) (λ _. omega arith) in
     omega arith
-later_front m end Checkpoint p p' e = let g = ap (λ (q : Picture). q.front.time) (same_Some p p' e) in omega arith
+later_front m end Checkpoint p p' e = let g = ap (λ (q : System). q.front.time) (same_Some p p' e) in omega arith
 
-floors_kept : (m : Meaning) (end : ℕ) (k : Move) (p p' : Picture) → IsSoundPicture m end p → move m end k p ≡ Some p' → HaveRisen p.floors p'.floors
+floors_kept : (m : Meaning) (end : ℕ) (k : Move) (p p' : System) → IsSoundSystem m end p → move m end k p ≡ Some p' → HaveRisen p.floors p'.floors
 floors_kept m end (Post node picks budget) p p' h e =
-    cond_both (can_post p node picks) (Some (picture_after_post end node picks budget p)) None (λ (r : Option Picture). r ≡ Some p' → HaveRisen p.floors p'.floors)
-    (λ _ f. subst (λ (q : Picture). HaveRisen p.floors q.floors) (same_Some (picture_after_post end node picks budget p) p' f) (risen_none p.floors))
+    cond_both (can_post p node picks) (Some (system_after_post end node picks budget p)) None (λ (r : Option System). r ≡ Some p' → HaveRisen p.floors p'.floors)
+    (λ _ f. subst (λ (q : System). HaveRisen p.floors q.floors) (same_Some (system_after_post end node picks budget p) p' f) (risen_none p.floors))
     (λ _ f. absurd (none-some p' f)) e
 floors_kept m end (Take node) p p' h e =
     let t = taken_from m end node p p' (get_or p.parcels node None) refl e in
-    subst (λ (q : Picture). HaveRisen p.floors q.floors) t.is (risen_set p.floors node t.parcel.floor (h.parcels node t.parcel t.posted).from)
+    subst (λ (q : System). HaveRisen p.floors q.floors) t.is (risen_set p.floors node t.parcel.floor (h.parcels node t.parcel t.posted).from)
 floors_kept m end Commit p p' h e =
-    let here : HaveRisen p.floors (picture_after_commit m end p).floors =
-    cond_both (nat_lt p.front.time (least_floor end p.floors)) (commit m (least_floor end p.floors) p) p (λ (q : Picture). HaveRisen p.floors q.floors) (λ _. risen_none p.floors) (λ _. risen_none p.floors) in
-    subst (λ (q : Picture). HaveRisen p.floors q.floors) (same_Some (picture_after_commit m end p) p' e) here
-floors_kept m end Checkpoint p p' h e = subst (λ (q : Picture). HaveRisen p.floors q.floors) (same_Some p p' e) (risen_none p.floors)
+    let here : HaveRisen p.floors (system_after_commit m end p).floors =
+    cond_both (nat_lt p.front.time (least_floor end p.floors)) (commit m (least_floor end p.floors) p) p (λ (q : System). HaveRisen p.floors q.floors) (λ _. risen_none p.floors) (λ _. risen_none p.floors) in
+    subst (λ (q : System). HaveRisen p.floors q.floors) (same_Some (system_after_commit m end p) p' e) here
+floors_kept m end Checkpoint p p' h e = subst (λ (q : System). HaveRisen p.floors q.floors) (same_Some p p' e) (risen_none p.floors)
 
-goes_on : (m : Meaning) (end : ℕ) (p p' : Picture) → IsSoundPicture m end p → IsSoundPicture m end p' → gvt end p ≤ gvt end p' → HaveRisen p.floors p'.floors → p.front.time ≤ p'.front.time → GoesOnFrom end p p'
+goes_on : (m : Meaning) (end : ℕ) (p p' : System) → IsSoundSystem m end p → IsSoundSystem m end p' → gvt end p ≤ gvt end p' → HaveRisen p.floors p'.floors → p.front.time ≤ p'.front.time → GoesOnFrom end p p'
 goes_on m end p p' h h' rises risen later = record {
   gvt_rises = rises;
   same_nodes = sym h'.seated.floors ∙ risen.size ∙ h.seated.floors;
@@ -91,7 +91,7 @@ moves_are_sound m end k p p' h e =
     (record { lawful = h.lawful; short = h.short; sound = new.0 }, goes_on m end p p' h.sound new.0 new.1 (floors_kept m end k p p' h.sound e) (later_front m end k p p' e))
 
 module _ (m : Meaning) (end : ℕ) where
-  goes_on_from : (p q r : Picture) → IsSystem m end p → IsSystem m end r → GoesOnFrom end p q → GoesOnFrom end q r → GoesOnFrom end p r
+  goes_on_from : (p q r : System) → IsSystem m end p → IsSystem m end r → GoesOnFrom end p q → GoesOnFrom end q r → GoesOnFrom end p r
   goes_on_from p q r h h' a b =
       let a1 = a.gvt_rises in
       let b1 = b.gvt_rises in
@@ -106,24 +106,24 @@ module _ (m : Meaning) (end : ℕ) where
         log_grows = upto_goes_on m end p.front.time r.front.time p.front r.front later h.sound.front h'.sound.front;
       }
 
-  goes_nowhere : (p : Picture) → IsSystem m end p → GoesOnFrom end p p
+  goes_nowhere : (p : System) → IsSystem m end p → GoesOnFrom end p p
   goes_nowhere p h = goes_on m end p p h.sound h.sound (omega arith) (risen_none p.floors) (omega arith)
 
   -- a refused move changes nothing
-  one_move : (p : Picture) (o : Option Picture) → IsSystem m end p → ((p' : Picture) → o ≡ Some p' → IsSystem m end p' × GoesOnFrom end p p') →
+  one_move : (p : System) (o : Option System) → IsSystem m end p → ((p' : System) → o ≡ Some p' → IsSystem m end p' × GoesOnFrom end p p') →
       IsSystem m end (unwrap_or o p) × GoesOnFrom end p (unwrap_or o p)
   one_move p None h f = (h, goes_nowhere p h)
   one_move p (Some p') h f = f p' refl
 
-  all_moves : (ks : List Move) (p : Picture) → IsSystem m end p → IsSystem m end (after_moves m end ks p) × GoesOnFrom end p (after_moves m end ks p)
+  all_moves : (ks : List Move) (p : System) → IsSystem m end p → IsSystem m end (after_moves m end ks p) × GoesOnFrom end p (after_moves m end ks p)
   all_moves [] p h = (h, goes_nowhere p h)
   all_moves (k ∷ ks) p h =
-      let next : Picture = unwrap_or (move m end k p) p in
+      let next : System = unwrap_or (move m end k p) p in
       let one = one_move p (move m end k p) h (λ p' e. moves_are_sound m end k p p' h e) in
       let rest = all_moves ks next one.0 in
       (rest.0, goes_on_from p next (after_moves m end ks next) h rest.0 one.1 rest.1)
 
-  after-append : (ks ls : List Move) (p : Picture) → after_moves m end (ks ++ ls) p ≡ after_moves m end ls (after_moves m end ks p)
+  after-append : (ks ls : List Move) (p : System) → after_moves m end (ks ++ ls) p ≡ after_moves m end ls (after_moves m end ks p)
   after-append [] ls p = refl
   after-append (k ∷ ks) ls p = after-append ks ls (unwrap_or (move m end k p) p)
 
@@ -132,12 +132,12 @@ runs_are_sound m end nodes w ks ls begins =
     let first = all_moves m end ks (opened m.lps nodes w) (opening_is_sound m end nodes w begins) in
     rw (after-append m end ks ls (opened m.lps nodes w)) (all_moves m end ls (after_moves m end ks (opened m.lps nodes w)) first.0)
 
--- Moves that are all made
+-- Lists of moves of which none is refused
 
-abbrev made_then : Meaning → ℕ → List Move → Option Picture → Option Picture
-made_then m end ls o = option_and_then (λ (q : Picture). moves_made m end ls q) o
+abbrev made_then : Meaning → ℕ → List Move → Option System → Option System
+made_then m end ls o = option_and_then (λ (q : System). moves_made m end ls q) o
 
-join_from : (m : Meaning) (end : ℕ) (ks ls : List Move) (o : Option Picture) → ((q : Picture) → moves_made m end (ks ++ ls) q ≡ made_then m end ls (moves_made m end ks q)) →
+join_from : (m : Meaning) (end : ℕ) (ks ls : List Move) (o : Option System) → ((q : System) → moves_made m end (ks ++ ls) q ≡ made_then m end ls (moves_made m end ks q)) →
     made_then m end (ks ++ ls) o ≡ made_then m end ls (made_then m end ks o)
 join_from m end ks ls None rest = refl
 join_from m end ks ls (Some q) rest = rest q
@@ -146,14 +146,14 @@ pub moves_made_join : MovesMadeJoin
 moves_made_join m end [] ls p = refl
 moves_made_join m end (k ∷ ks) ls p = join_from m end ks ls (move m end k p) (λ q. moves_made_join m end ks ls q)
 
-parts_of : (m : Meaning) (end : ℕ) (ks ls : List Move) (p r : Picture) (o : Option Picture) → moves_made m end ks p ≡ o → made_then m end ls o ≡ Some r → AreMadeInParts m end ks ls p r
+parts_of : (m : Meaning) (end : ℕ) (ks ls : List Move) (p r : System) (o : Option System) → moves_made m end ks p ≡ o → made_then m end ls o ≡ Some r → AreMadeInParts m end ks ls p r
 parts_of m end ks ls p r None first e = absurd (none-some r e)
 parts_of m end ks ls p r (Some q) first e = record { middle = q; first = first; others = e }
 
 pub moves_made_part : MovesMadePart
 moves_made_part m end ks ls p r e = parts_of m end ks ls p r (moves_made m end ks p) refl (sym (moves_made_join m end ks ls p) ∙ e)
 
-one_more : (m : Meaning) (end : ℕ) (k : Move) (ks : List Move) (p q : Picture) (o : Option Picture) → ((r : Picture) → IsSystem m end r → moves_made m end ks r ≡ Some q → AreMade m end ks r q) →
+one_more : (m : Meaning) (end : ℕ) (k : Move) (ks : List Move) (p q : System) (o : Option System) → ((r : System) → IsSystem m end r → moves_made m end ks r ≡ Some q → AreMade m end ks r q) →
     IsSystem m end p → move m end k p ≡ o → made_then m end ks o ≡ Some q → AreMade m end (k ∷ ks) p q
 one_more m end k ks p q None rest h was e = absurd (none-some q e)
 one_more m end k ks p q (Some r) rest h was e =
@@ -162,7 +162,7 @@ one_more m end k ks p q (Some r) rest h was e =
     record {
       system = all.system;
       goes_on = goes_on_from m end p r q h all.system one.1 all.goes_on;
-      same = ap (λ (o : Option Picture). after_moves m end ks (unwrap_or o p)) was ∙ all.same;
+      same = ap (λ (o : Option System). after_moves m end ks (unwrap_or o p)) was ∙ all.same;
     }
 
 pub moves_made_are_sound : MovesMadeAreSound
@@ -191,7 +191,7 @@ fronts_open m end nodes p h some =
     let end_is = gvt-le end p in
     record { lawful = h.lawful; short = h.short; some = some; soon = omega arith; front = s.front }
 
--- a front, as it is between two runs
+-- the front between two runs
 record IsBetween (m : Meaning) (end : ℕ) (w : World) : Type 0 where
   front : IsUpto m end w.time w
   soon : w.time ≤ end
@@ -236,7 +236,7 @@ runs_are_one_simulation m end rs ss law short some =
       log_grows = upto_goes_on m end v.time (after_runs m end ss v).time v (after_runs m end ss v) then'.1 first.0.front then'.0.front;
     })
 
--- For readers
+-- The user-level theorem
 
 pub optimistic_is_sequential : OptimisticIsSequential
 optimistic_is_sequential m end nodes w ks ls law short some soon front =

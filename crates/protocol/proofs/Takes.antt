@@ -1,4 +1,4 @@
--- Taking a node's answer keeps a picture sound, and global virtual time does not fall.
+-- Taking the reply of a node keeps a system state sound, and global virtual time does not fall.
 use Rattle.std.proofs.Common.{◌≡◌, ℕ, zero, suc, ◌+◌, ◌/◌, ◌%◌, ◌<◌, ◌≤◌, ◌++◌, ◌∙◌, List, [], ◌∷◌, flat_map, length, get_or, set, Some, None, Option, refl, ap, sym, subst, arith, inl, inr, length-set, get_or-set_same, get_or-set_other}
 use Rattle.std.proofs.lemmas.Bool.{cases_lt, cases_eq}
 use Rattle.std.proofs.lemmas.List.{append-nil}
@@ -20,42 +20,42 @@ use Rattle.queues.proofs.Releases.{copies-handled_before-le}
 use Rattle.queues.specs.Record.{handled_before, handled_from, messages, number_before, state_before}
 use Rattle.queues.specs.declared.Record.{Record}
 use Rattle.process.proofs.Arrivals.{IsLater, fold_kept}
-use Rattle.process.proofs.Histories.{messages_told as messages_of_told}
-use Rattle.process.proofs.Laws.{telling_is_balanced}
+use Rattle.process.proofs.Histories.{reported_messages as messages_of_reported}
+use Rattle.process.proofs.Laws.{report_is_balanced}
 use Rattle.process.specs.Process.{Process, fossils_of, nobody, sent_by}
-use Rattle.process.specs.Told.{IsTold}
+use Rattle.process.specs.Consistent.{IsConsistentProcess}
 use Rattle.process.specs.declared.Done.{Done}
 use Rattle.node.proofs.Seats.{own_at}
-use Rattle.node.proofs.Works.{not_for, own_released, place, releasing_is_kept, told_words, work_is_kept}
+use Rattle.node.proofs.Works.{not_for, own_released, place, releasing_is_kept, reported_words, work_is_kept}
 use Rattle.node.specs.Handling.{own_lps}
-use Rattle.node.specs.Kept.{HasRanged, IsNodeKept, IsPast, IsUnderWay, IsWorkKept, Past, own, told_too}
+use Rattle.node.specs.Kept.{HasRanged, IsNodeKept, IsPast, IsUnderWay, IsWorkKept, Past, own, reported_too}
 use Rattle.node.specs.Node.{Work, released_processes, work_here}
 use Rattle.node.specs.declared.Parcel.{Parcel}
 use Rattle.gvt.specs.Ledger.{delivered_by}
-use Rattle.protocol.proofs.Fossils.{copies-messages_told, copies-sent_nodes, copies-sent_told, sent-released, told_by-all, told_by-flat_none, told_by-flat_one, told_by-none}
-use Rattle.protocol.proofs.Gathered.{copies-told_by, told_by-apart}
+use Rattle.protocol.proofs.Fossils.{copies-reported_messages, copies-sent_nodes, copies-reported_sends, sent-released, reported_by-all, reported_by-flat_none, reported_by-flat_one, reported_by-none}
+use Rattle.protocol.proofs.Gathered.{copies-reported_by, reported_by-apart}
 use Rattle.protocol.proofs.Gvt.{Every-parcels, Every-parcels-set, KeptFrom, SignedFrom, copies-parcels-set, gvt-le, gvt_above, gvt_node, gvt_nodes, gvt_travelling, some_within}
 use Rattle.protocol.proofs.Places.{at_place}
-use Rattle.protocol.specs.Picture.{IsBalanced, IsPictureInRange, IsProcessInRange, IsSeatedBy, Picture, all_sent, floor_at, gvt, messages_told, node_of, nodes_of, process_at, processes_of, sent_told, told_by, travelling}
-use Rattle.protocol.specs.Moves.{Take, move, picture_after_answer, take_from}
-use Rattle.protocol.specs.Sound.{IsParcel, IsSoundPicture, IsSystem}
+use Rattle.protocol.specs.System.{IsBalanced, IsSystemInRange, IsProcessInRange, IsSeatedBy, System, all_sent, floor_at, gvt, reported_messages, node_of, nodes_of, process_at, processes_of, reported_sends, reported_by, travelling}
+use Rattle.protocol.specs.Moves.{Take, move, system_after_answer, take_from}
+use Rattle.protocol.specs.Sound.{IsParcel, IsSoundSystem, IsSystem}
 
 -- 1. The parts of a take
 
-pub record IsTaken (m : Meaning) (end node : ℕ) (p p' : Picture) : Type 0 where
+pub record IsTaken (m : Meaning) (end node : ℕ) (p p' : System) : Type 0 where
   pub parcel : Parcel
   pub posted : get_or p.parcels node None ≡ Some parcel
   pub work : Work
   pub done : work_here m end (nodes_of p) parcel (node_of p node) ≡ Some work
-  pub is : picture_after_answer node parcel p work ≡ p'
+  pub is : system_after_answer node parcel p work ≡ p'
 
-pub taken_from : (m : Meaning) (end node : ℕ) (p p' : Picture) (o : Option Parcel) → get_or p.parcels node None ≡ o → take_from m end node p o ≡ Some p' → IsTaken m end node p p'
+pub taken_from : (m : Meaning) (end node : ℕ) (p p' : System) (o : Option Parcel) → get_or p.parcels node None ≡ o → take_from m end node p o ≡ Some p' → IsTaken m end node p p'
 taken_from m end node p p' None was e = absurd (none-some p' e)
 taken_from m end node p p' (Some parcel) was e =
-    let a = option_map_some (picture_after_answer node parcel p) (work_here m end (nodes_of p) parcel (node_of p node)) p' e in
+    let a = option_map_some (system_after_answer node parcel p) (work_here m end (nodes_of p) parcel (node_of p node)) p' e in
     record { parcel = parcel; posted = was; work = a.0; done = a.1; is = a.2 }
 
--- 2. All sends are in range: each is balanced by a message that is
+-- 2. All sends are in range, since each is balanced by a message that is
 
 plus_ranged : (x : Message) (ss : List Signed) → Every (λ (s : Signed). IsRanged s.message) ss → 1 ≤ copies x (of_sign Plus ss) → IsRanged x
 plus_ranged x ss h n = Every-member IsRanged (of_sign Plus ss) x (all ss h) n
@@ -81,18 +81,18 @@ sent_within_nodes x nodes k i = omega (arith, go nodes k, copies-sent_nodes x no
     go (qs ∷ nodes) zero = omega (arith, sent_within x qs i, copies-append x (flat_map sent_by qs) (flat_map (λ (qs : List Process). flat_map sent_by qs) nodes))
     go (qs ∷ nodes) (suc k) = omega (arith, go nodes k, copies-append x (flat_map sent_by qs) (flat_map (λ (qs : List Process). flat_map sent_by qs) nodes))
 
--- what is known of the processes from before
-abbrev pub past_of : Picture → Past
-past_of p = record { time = p.front.time; state = λ (lp : ℕ). state_of p.front lp; number = λ (lp : ℕ). number_of p.front lp; told = λ (lp : ℕ). told_by lp p.gathered }
+-- the past of the processes
+abbrev pub past_of : System → Past
+past_of p = record { time = p.front.time; state = λ (lp : ℕ). state_of p.front lp; number = λ (lp : ℕ). number_of p.front lp; reported = λ (lp : ℕ). reported_by lp p.gathered }
 
-module _ (m : Meaning) (end : ℕ) (p : Picture) (system : IsSystem m end p) where
+module _ (m : Meaning) (end : ℕ) (p : System) (system : IsSystem m end p) where
   pub past_known : IsPast m (past_of p)
   past_known =
       let h = system.sound in
       let world = IsUpto_IsWorld m end p.front.time p.front system.lawful system.short h.front in
       record {
         words = λ lp l. words_at p.front lp world.words;
-        told = λ lp l. Every-filter (λ (d : Done). IsRanged d.message) (λ (d : Done). _) p.gathered (Every-unmap IsRanged (λ (d : Done). d.message) p.gathered h.in_range.0);
+        reported = λ lp l. Every-filter (λ (d : Done). IsRanged d.message) (λ (d : Done). _) p.gathered (Every-unmap IsRanged (λ (d : Done). d.message) p.gathered h.in_range.0);
       }
 
   process_in_range : (lp : ℕ) → IsProcessInRange (process_at p lp)
@@ -105,10 +105,10 @@ module _ (m : Meaning) (end : ℕ) (p : Picture) (system : IsSystem m end p) whe
       let h = system.sound in
       let law = system.lawful in
       let q = process_at p lp in
-      let told = h.told lp l in
+      let reported = h.reported lp l in
       let words : IsWords (state_before q.done q.state) =
-      rw told.state_meets (told_words m lp law l (told_by lp p.gathered) (state_of p.front lp) (number_of p.front lp) (past_known.words lp l) (past_known.told lp l) told.told_fold) in
-      let later = (fold_kept m lp law l q.done (state_before q.done q.state) (number_before q.done q.number) q.state q.number words (process_in_range lp).0 told.history).0 in
+      rw reported.state_meets (reported_words m lp law l (reported_by lp p.gathered) (state_of p.front lp) (number_of p.front lp) (past_known.words lp l) (past_known.reported lp l) reported.consistent_fold) in
+      let later = (fold_kept m lp law l q.done (state_before q.done q.state) (number_before q.done q.number) q.state q.number words (process_in_range lp).0 reported.history).0 in
       let there : Every (λ (x : Message). x.to < m.lps) (sent_by q) =
       Every-flat_map (λ (x : Message). x.to < m.lps) (λ (h : Record). h.sent) q.done
       (Every-weaker (λ (h : Record). Every (IsLater m.lps h.message.time) h.sent) (λ (h : Record). Every (λ (x : Message). x.to < m.lps) h.sent)
@@ -118,9 +118,9 @@ module _ (m : Meaning) (end : ℕ) (p : Picture) (system : IsSystem m end p) whe
       let same = h.balanced x l' in
       let r = process_in_range x.to in
       let all = sent_within_nodes x p.nodes (lp % nodes_of p) (lp / nodes_of p) in
-      let sums = copies-append x (sent_told p.gathered) (flat_map sent_by (processes_of p)) in
-      elim (cases_lt 0 (copies x (messages_told p.gathered))) [
-        | inl a ↦ Every-member IsRanged (messages_told p.gathered) x h.in_range.0 a
+      let sums = copies-append x (reported_sends p.gathered) (flat_map sent_by (processes_of p)) in
+      elim (cases_lt 0 (copies x (reported_messages p.gathered))) [
+        | inl a ↦ Every-member IsRanged (reported_messages p.gathered) x h.in_range.0 a
         | inr a ↦ elim (cases_lt 0 (copies x (messages (process_at p x.to).done))) [
           | inl b ↦ Every-member IsRanged (messages (process_at p x.to).done) x r.0 b
           | inr b ↦ elim (cases_lt 0 (copies x (process_at p x.to).waiting)) [
@@ -141,13 +141,13 @@ module _ (m : Meaning) (end : ℕ) (p : Picture) (system : IsSystem m end p) whe
       let n : ℕ = nodes_of p in
       record {
         size = h.seated.seats node here;
-        told = λ lp l on.
-            subst (λ (k : ℕ). IsTold m lp p.front.time (state_of p.front lp) (number_of p.front lp) (get_or p.floors k 0) (told_by lp p.gathered) (get_or (node_of p k) (lp / n) nobody)) on (h.told lp l);
+        reported = λ lp l on.
+            subst (λ (k : ℕ). IsConsistentProcess m lp p.front.time (state_of p.front lp) (number_of p.front lp) (get_or p.floors k 0) (reported_by lp p.gathered) (get_or (node_of p k) (lp / n) nobody)) on (h.reported lp l);
         ranged = Every-from_get_or HasRanged (node_of p node) nobody (λ i l. at_ranged node i here l);
         late = gvt_node end p node;
       }
 
--- nothing for another node is in a parcel
+-- a parcel has nothing for another node
 not_delivered : (x : Message) (sign : Sign) (nodes node : ℕ) (ss : List Signed) → (x.to % nodes ≡ node → ⊥) → Every (λ (s : Signed). s.message.to % nodes ≡ node) ss → copies x (of_sign sign ss) ≡ 0
 not_delivered x Plus nodes node [] other h = refl
 not_delivered x Minus nodes node [] other h = refl
@@ -155,9 +155,9 @@ not_delivered x sign nodes node (s ∷ ss) other h =
     let apart : x.to ≡ s.message.to → ⊥ = λ e. other (ap (λ (k : ℕ). k % nodes) e ∙ h.0) in
     omega (arith, not_for x sign s apart, not_delivered x sign nodes node ss other h.1, copies-cons x sign s ss)
 
--- 4. The picture after it
+-- 4. The system state after the take
 
-module _ (m : Meaning) (end node : ℕ) (p : Picture) (system : IsSystem m end p) (parcel : Parcel) (posted : get_or p.parcels node None ≡ Some parcel) where
+module _ (m : Meaning) (end node : ℕ) (p : System) (system : IsSystem m end p) (parcel : Parcel) (posted : get_or p.parcels node None ≡ Some parcel) where
   pub here : node < nodes_of p
   here = let a = some_within p.parcels node parcel posted in let b = system.sound.seated.parcels in omega arith
 
@@ -187,51 +187,51 @@ module _ (m : Meaning) (end node : ℕ) (p : Picture) (system : IsSystem m end p
     pub worked : IsWorkKept m (nodes_of p) node (get_or p.floors node 0) (gvt end p) (past_of p) parcel.deliver (node_of p node) w
     worked = work_is_kept m end (nodes_of p) node (get_or p.floors node 0) (gvt end p) (past_of p) parcel (node_of p node) w system.lawful system.short here floor_under (past_known m end p system) under_way fits.on_node (node_kept m end p system node here) done
 
-    pub let_go : IsNodeKept m (nodes_of p) node parcel.floor (gvt end p) (told_too (nodes_of p) parcel.floor w.processes (past_of p)) (released_processes parcel.floor w)
+    pub let_go : IsNodeKept m (nodes_of p) node parcel.floor (gvt end p) (reported_too (nodes_of p) parcel.floor w.processes (past_of p)) (released_processes parcel.floor w)
     let_go = releasing_is_kept m (nodes_of p) node (get_or p.floors node 0) parcel.floor (gvt end p) (past_of p) w.processes here front_under fits.from fits.upto worked.kept
 
     fossils : List Done
     fossils = flat_map (λ (q : Process). fossils_of parcel.floor q) w.processes
 
-    new : Picture
-    new = picture_after_answer node parcel p w
+    new : System
+    new = system_after_answer node parcel p w
 
     same_nodes : nodes_of new ≡ nodes_of p
     unfolding new
     same_nodes = length-set p.nodes node (released_processes parcel.floor w)
 
-    -- where the processes of the node are
+    -- the reported handlings of a process of the node are its own
     own_fossils : (lp : ℕ) → lp < m.lps → lp % nodes_of p ≡ node → Every (λ (d : Done). d.message.to ≡ lp) (fossils_of parcel.floor (own (nodes_of p) w.processes lp))
-    own_fossils lp l on = Every-right (λ (d : Done). d.message.to ≡ lp) (told_by lp p.gathered) (fossils_of parcel.floor (own (nodes_of p) w.processes lp)) (let_go.told lp l on).own_told
+    own_fossils lp l on = Every-right (λ (d : Done). d.message.to ≡ lp) (reported_by lp p.gathered) (fossils_of parcel.floor (own (nodes_of p) w.processes lp)) (let_go.reported lp l on).own_reported
 
-    -- the processes of the node, by their places
+    -- the same for the process at place i
     pub own_fossils_at : (i : ℕ) → i < length w.processes → (lp : ℕ) × (lp < m.lps) × (lp % nodes_of p ≡ node) × (lp / nodes_of p ≡ i) × Every (λ (d : Done). d.message.to ≡ lp) (fossils_of parcel.floor (get_or w.processes i nobody))
     own_fossils_at i l =
         let at = own_at (nodes_of p) node here m.lps i (let e = worked.kept.size in omega arith) in
         let lp : ℕ = get_or (own_lps (nodes_of p) node m.lps) i 0 in
         (lp, at.there, at.sits, at.place, subst (λ (j : ℕ). Every (λ (d : Done). d.message.to ≡ lp) (fossils_of parcel.floor (get_or w.processes j nobody))) at.place (own_fossils lp at.there at.sits))
 
-    none_there : (lp i : ℕ) (l : i < length w.processes) → ((own_fossils_at i l).0 ≡ lp → ⊥) → told_by lp (fossils_of parcel.floor (get_or w.processes i nobody)) ≡ []
+    none_there : (lp i : ℕ) (l : i < length w.processes) → ((own_fossils_at i l).0 ≡ lp → ⊥) → reported_by lp (fossils_of parcel.floor (get_or w.processes i nobody)) ≡ []
     none_there lp i l apart =
         let at = own_fossils_at i l in
-        told_by-none lp (fossils_of parcel.floor (get_or w.processes i nobody))
+        reported_by-none lp (fossils_of parcel.floor (get_or w.processes i nobody))
         (Every-weaker (λ (d : Done). d.message.to ≡ at.0) (λ (d : Done). d.message.to ≡ lp → ⊥) (λ d e f. apart (sym e ∙ f)) (fossils_of parcel.floor (get_or w.processes i nobody)) at.4)
 
-    told_here : (lp : ℕ) → lp < m.lps → lp % nodes_of p ≡ node → told_by lp fossils ≡ fossils_of parcel.floor (own (nodes_of p) w.processes lp)
+    reported_here : (lp : ℕ) → lp < m.lps → lp % nodes_of p ≡ node → reported_by lp fossils ≡ fossils_of parcel.floor (own (nodes_of p) w.processes lp)
     unfolding fossils
-    told_here lp l on =
-        told_by-flat_one lp (λ (q : Process). fossils_of parcel.floor q) nobody w.processes (lp / nodes_of p)
+    reported_here lp l on =
+        reported_by-flat_one lp (λ (q : Process). fossils_of parcel.floor q) nobody w.processes (lp / nodes_of p)
         (place m (nodes_of p) node (get_or p.floors node 0) (gvt end p) here (past_of p) w.processes worked.kept lp l on)
         (λ i j apart. none_there lp i j (λ e. apart (sym (own_fossils_at i j).3 ∙ ap (λ (k : ℕ). k / nodes_of p) e)))
-        ∙ told_by-all lp (fossils_of parcel.floor (own (nodes_of p) w.processes lp)) (own_fossils lp l on)
+        ∙ reported_by-all lp (fossils_of parcel.floor (own (nodes_of p) w.processes lp)) (own_fossils lp l on)
 
-    told_other : (lp : ℕ) → (lp % nodes_of p ≡ node → ⊥) → told_by lp fossils ≡ []
+    reported_other : (lp : ℕ) → (lp % nodes_of p ≡ node → ⊥) → reported_by lp fossils ≡ []
     unfolding fossils
-    told_other lp other =
-        told_by-flat_none lp (λ (q : Process). fossils_of parcel.floor q) nobody w.processes
+    reported_other lp other =
+        reported_by-flat_none lp (λ (q : Process). fossils_of parcel.floor q) nobody w.processes
         (λ i j. none_there lp i j (λ e. other (ap (λ (k : ℕ). k % nodes_of p) (sym e) ∙ (own_fossils_at i j).2)))
 
-    -- where the processes are afterwards
+    -- the processes of the node after the take
     process_here : (lp : ℕ) → lp % nodes_of p ≡ node → process_at new lp ≡ own (nodes_of p) (released_processes parcel.floor w) lp
     unfolding new
     process_here lp on =
@@ -260,21 +260,21 @@ module _ (m : Meaning) (end node : ℕ) (p : Picture) (system : IsSystem m end p
         ap (λ (k : ℕ). get_or (set p.floors node parcel.floor) (lp % k) 0) (length-set p.nodes node (released_processes parcel.floor w))
         ∙ get_or-set_other p.floors node (lp % nodes_of p) parcel.floor 0 other
 
-    -- what is told of each process
-    abbrev ToldAs : ℕ → ℕ → List Done → Process → Type 0
-    ToldAs lp floor ds q = IsTold m lp p.front.time (state_of p.front lp) (number_of p.front lp) floor ds q
+    -- the process is consistent with the model, with this floor and these reports
+    abbrev ReportedAs : ℕ → ℕ → List Done → Process → Type 0
+    ReportedAs lp floor ds q = IsConsistentProcess m lp p.front.time (state_of p.front lp) (number_of p.front lp) floor ds q
 
-    as_told : (lp : ℕ) {f f' : ℕ} {ds ds' : List Done} {q q' : Process} → f' ≡ f → ds' ≡ ds → q' ≡ q → ToldAs lp f ds q → ToldAs lp f' ds' q'
-    as_told lp {f} {f'} {ds} {ds'} {q} {q'} a b c h = subst (λ (g : ℕ). ToldAs lp g ds' q') (sym a) (subst (λ (es : List Done). ToldAs lp f es q') (sym b) (subst (ToldAs lp f ds) (sym c) h))
+    as_reported : (lp : ℕ) {f f' : ℕ} {ds ds' : List Done} {q q' : Process} → f' ≡ f → ds' ≡ ds → q' ≡ q → ReportedAs lp f ds q → ReportedAs lp f' ds' q'
+    as_reported lp {f} {f'} {ds} {ds'} {q} {q'} a b c h = subst (λ (g : ℕ). ReportedAs lp g ds' q') (sym a) (subst (λ (es : List Done). ReportedAs lp f es q') (sym b) (subst (ReportedAs lp f ds) (sym c) h))
 
-    new_told : (lp : ℕ) → lp < m.lps → ToldAs lp (floor_at new lp) (told_by lp (p.gathered ++ fossils)) (process_at new lp)
-    new_told lp l = elim (cases_eq (lp % nodes_of p) node) [
-      | inl on ↦ as_told lp (floor_here lp on) (told_by-apart lp p.gathered fossils ∙ ap (λ (ds : List Done). told_by lp p.gathered ++ ds) (told_here lp l on)) (process_here lp on) (let_go.told lp l on)
-      | inr other ↦ as_told lp (floor_other lp other)
-          (told_by-apart lp p.gathered fossils ∙ (ap (λ (ds : List Done). told_by lp p.gathered ++ ds) (told_other lp other) ∙ append-nil (told_by lp p.gathered))) (process_other lp other) (system.sound.told lp l)
+    new_reported : (lp : ℕ) → lp < m.lps → ReportedAs lp (floor_at new lp) (reported_by lp (p.gathered ++ fossils)) (process_at new lp)
+    new_reported lp l = elim (cases_eq (lp % nodes_of p) node) [
+      | inl on ↦ as_reported lp (floor_here lp on) (reported_by-apart lp p.gathered fossils ∙ ap (λ (ds : List Done). reported_by lp p.gathered ++ ds) (reported_here lp l on)) (process_here lp on) (let_go.reported lp l on)
+      | inr other ↦ as_reported lp (floor_other lp other)
+          (reported_by-apart lp p.gathered fossils ∙ (ap (λ (ds : List Done). reported_by lp p.gathered ++ ds) (reported_other lp other) ∙ append-nil (reported_by lp p.gathered))) (process_other lp other) (system.sound.reported lp l)
     ]
 
-    -- what travels
+    -- what travels in the parcels of the other nodes
     rest : List Signed
     rest = flat_map delivered_by (set p.parcels node None)
 
@@ -317,23 +317,23 @@ module _ (m : Meaning) (end node : ℕ) (p : Picture) (system : IsSystem m end p
         let f = λ (qs : List Process). flat_map sent_by qs in
         omega (
           arith,
-          copies-append x (sent_told new.gathered) (flat_map sent_by (processes_of new)),
-          copies-append x (sent_told p.gathered) (flat_map sent_by (processes_of p)),
-          copies-sent_told x p.gathered (flat_map (λ (q : Process). fossils_of parcel.floor q) w.processes),
+          copies-append x (reported_sends new.gathered) (flat_map sent_by (processes_of new)),
+          copies-append x (reported_sends p.gathered) (flat_map sent_by (processes_of p)),
+          copies-reported_sends x p.gathered (flat_map (λ (q : Process). fossils_of parcel.floor q) w.processes),
           sent-released x parcel.floor w.processes,
           copies-sent_nodes x (set p.nodes node qs),
           copies-sent_nodes x p.nodes,
           copies-flat_map-set (λ (qs : List Process). flat_map sent_by qs) x p.nodes node qs [] here,
         )
 
-    -- of a message: what was told, is done and waits, and the antimessages that wait
+    -- the copies of a message that are reported, done and waiting, and its antimessages that wait
     held_now : (x : Message) → x.to < m.lps →
-        copies x (messages_told new.gathered) + copies x (messages (process_at new x.to).done) + copies x (process_at new x.to).waiting + copies x (process_at p x.to).antis + copies x (of_sign Minus parcel.deliver)
-        ≡ copies x (messages_told p.gathered) + copies x (messages (process_at p x.to).done) + copies x (process_at p x.to).waiting + copies x (process_at new x.to).antis + copies x (of_sign Plus parcel.deliver)
+        copies x (reported_messages new.gathered) + copies x (messages (process_at new x.to).done) + copies x (process_at new x.to).waiting + copies x (process_at p x.to).antis + copies x (of_sign Minus parcel.deliver)
+        ≡ copies x (reported_messages p.gathered) + copies x (messages (process_at p x.to).done) + copies x (process_at p x.to).waiting + copies x (process_at new x.to).antis + copies x (of_sign Plus parcel.deliver)
     unfolding new fossils
     held_now x l =
-        let more = copies-messages_told x p.gathered (flat_map (λ (q : Process). fossils_of parcel.floor q) w.processes) in
-        let only = copies-told_by x x.to (flat_map (λ (q : Process). fossils_of parcel.floor q) w.processes) refl in
+        let more = copies-reported_messages x p.gathered (flat_map (λ (q : Process). fossils_of parcel.floor q) w.processes) in
+        let only = copies-reported_by x x.to (flat_map (λ (q : Process). fossils_of parcel.floor q) w.processes) refl in
         elim (cases_eq (x.to % nodes_of p) node) [
           | inl on ↦
               let q : Process = own (nodes_of p) w.processes x.to in
@@ -345,8 +345,8 @@ module _ (m : Meaning) (end node : ℕ) (p : Picture) (system : IsSystem m end p
               let b1 = ap (λ (r : Process). copies x (messages r.done)) was in
               let b2 = ap (λ (r : Process). copies x r.waiting) was in
               let b3 = ap (λ (r : Process). copies x r.antis) was in
-              let told = ap (λ (ds : List Done). copies x (messages_told ds)) (told_here x.to l on) in
-              let split = (telling_is_balanced x parcel.floor q).0 in
+              let reported = ap (λ (ds : List Done). copies x (reported_messages ds)) (reported_here x.to l on) in
+              let split = (report_is_balanced x parcel.floor q).0 in
               let held = worked.held_is x l on in
               omega arith
           | inr other ↦
@@ -354,7 +354,7 @@ module _ (m : Meaning) (end node : ℕ) (p : Picture) (system : IsSystem m end p
               let a1 = ap (λ (r : Process). copies x (messages r.done)) now in
               let a2 = ap (λ (r : Process). copies x r.waiting) now in
               let a3 = ap (λ (r : Process). copies x r.antis) now in
-              let told = ap (λ (ds : List Done). copies x (messages_told ds)) (told_other x.to other) in
+              let reported = ap (λ (ds : List Done). copies x (reported_messages ds)) (reported_other x.to other) in
               let plus = not_delivered x Plus (nodes_of p) node parcel.deliver other fits.on_node in
               let minus = not_delivered x Minus (nodes_of p) node parcel.deliver other fits.on_node in
               omega arith
@@ -372,11 +372,11 @@ module _ (m : Meaning) (end node : ℕ) (p : Picture) (system : IsSystem m end p
         Every-flat_map (λ (d : Done). IsRanged d.message) (λ (q : Process). fossils_of parcel.floor q) w.processes
         (Every-weaker HasRanged (λ (q : Process). Every (λ (d : Done). IsRanged d.message) (fossils_of parcel.floor q))
         (λ q a. Every-unmap IsRanged (λ (d : Done). d.message) (fossils_of parcel.floor q)
-        (Every-from_members IsRanged (messages_told (fossils_of parcel.floor q)) (λ x n. Every-member IsRanged (messages q.done) x a.done
-        (let same = ap (copies x) (messages_of_told (handled_before parcel.floor q.done) (state_before (handled_from parcel.floor q.done) q.state) (number_before (handled_from parcel.floor q.done) q.number)) in omega (arith, copies-handled_before-le parcel.floor x q.done)))))
+        (Every-from_members IsRanged (reported_messages (fossils_of parcel.floor q)) (λ x n. Every-member IsRanged (messages q.done) x a.done
+        (let same = ap (copies x) (messages_of_reported (handled_before parcel.floor q.done) (state_before (handled_from parcel.floor q.done) q.state) (number_before (handled_from parcel.floor q.done) q.number)) in omega (arith, copies-handled_before-le parcel.floor x q.done)))))
         w.processes worked.kept.ranged)
 
-    new_in_range : IsPictureInRange new
+    new_in_range : IsSystemInRange new
     unfolding new fossils
     new_in_range = (
       Every-map IsRanged (λ (d : Done). d.message) new.gathered
@@ -406,7 +406,7 @@ module _ (m : Meaning) (end node : ℕ) (p : Picture) (system : IsSystem m end p
           ];
           parcels = length-set p.parcels node None ∙ h.parcels ∙ sym (length-set p.nodes node qs);
           floors = length-set p.floors node parcel.floor ∙ h.floors ∙ sym (length-set p.nodes node qs);
-          told = Every-append (λ (d : Done). d.message.to < m.lps) p.gathered (flat_map (λ (q : Process). fossils_of parcel.floor q) w.processes) h.told
+          reported = Every-append (λ (d : Done). d.message.to < m.lps) p.gathered (flat_map (λ (q : Process). fossils_of parcel.floor q) w.processes) h.reported
               (Every-flat_map (λ (d : Done). d.message.to < m.lps) (λ (q : Process). fossils_of parcel.floor q) w.processes
               (Every-from_get_or (λ (q : Process). Every (λ (d : Done). d.message.to < m.lps) (fossils_of parcel.floor q)) w.processes nobody (λ i l.
               let at = own_fossils_at i l in
@@ -434,7 +434,7 @@ module _ (m : Meaning) (end node : ℕ) (p : Picture) (system : IsSystem m end p
           }
     ]
 
-    new_sound : IsSoundPicture m end new
+    new_sound : IsSoundSystem m end new
     unfolding new fossils
     new_sound =
         let h = system.sound in
@@ -447,7 +447,7 @@ module _ (m : Meaning) (end node : ℕ) (p : Picture) (system : IsSystem m end p
           some = (let a = h.some in let b = length-set p.nodes node (released_processes parcel.floor w) in omega arith);
           seated = new_seated;
           in_range = new_in_range;
-          told = new_told;
+          reported = new_reported;
           balanced = new_balanced;
           front_low = Every-set (λ (f : ℕ). p.front.time ≤ f) p.floors node parcel.floor (omega arith) h.front_low;
           floors_low = Every-set (λ (f : ℕ). f ≤ gvt end new) p.floors node parcel.floor (omega arith) (Every-weaker (λ (f : ℕ). f ≤ gvt end p) (λ (f : ℕ). f ≤ gvt end new) (λ f a. omega arith) p.floors h.floors_low);
@@ -455,9 +455,9 @@ module _ (m : Meaning) (end node : ℕ) (p : Picture) (system : IsSystem m end p
           parcels = new_parcels;
         }
 
-pub sound_take : (m : Meaning) (end node : ℕ) (p p' : Picture) → IsSystem m end p → move m end (Take node) p ≡ Some p' → IsSoundPicture m end p' × (gvt end p ≤ gvt end p')
+pub sound_take : (m : Meaning) (end node : ℕ) (p p' : System) → IsSystem m end p → move m end (Take node) p ≡ Some p' → IsSoundSystem m end p' × (gvt end p ≤ gvt end p')
 unfolding new
 sound_take m end node p p' system e =
     let t = taken_from m end node p p' (get_or p.parcels node None) refl e in
-    subst (λ (q : Picture). IsSoundPicture m end q × (gvt end p ≤ gvt end q)) t.is
+    subst (λ (q : System). IsSoundSystem m end q × (gvt end p ≤ gvt end q)) t.is
     (new_sound m end node p system t.parcel t.posted t.work t.done, gvt_kept m end node p system t.parcel t.posted t.work t.done)

@@ -1,6 +1,6 @@
--- A session of three nodes, by computing: a token ring of three processes, one a node, hold 2, two
--- tokens, end 10. A straggler comes to node 2, which rolls back and cancels what it sent, and what
--- no rollback reaches is committed.
+-- A session of three nodes, by computation: a token ring of three processes, one on each node, hold
+-- 2, two tokens, end 10. A straggler comes to node 2, which rolls back and cancels what it sent,
+-- and what no rollback reaches is committed.
 use Rattle.std.proofs.Common.{◌≡◌, List, [], ◌∷◌, None, Option, Some, refl, cond, nat_lt}
 use Rattle.std.specs.Prelude.{unwrap_or}
 use Rattle.eventkey.specs.Message.{Message, message_cmp}
@@ -13,13 +13,13 @@ use Rattle.protocol.proofs.Examples.{msg, ring}
 use Rattle.protocol.specs.declared.Answer.{Answer}
 use Rattle.protocol.specs.declared.Answer.TheVariants.{Committed, Posted, Taken}
 use Rattle.protocol.specs.Moves.{Commit, Move, Post, Take, answer_of, move, moves_made}
-use Rattle.protocol.specs.Picture.{Picture, opened}
+use Rattle.protocol.specs.System.{System, opened}
 
 -- process 0 sends itself token 0, and process 1 token 1
 abbrev two_tokens : Meaning
 two_tokens = record ring { start_sends = λ lp. cond (nat_lt lp 2) (record { to = lp; delay = 1; a = lp; b = 0; c = 0; d = 0 } ∷ []) [] }
 
--- what a move answers, and what is in transit then
+-- the answer of a move, and what is then in transit
 record Row : Type 0 where
   answer : Answer
   transit : List Signed
@@ -27,14 +27,14 @@ record Row : Type 0 where
 abbrev row : Answer → List Signed → Option Row
 row answer transit = Some (record { answer = answer; transit = transit })
 
-abbrev row_of : Option Answer → Picture → Option Row
+abbrev row_of : Option Answer → System → Option Row
 row_of None p = None
 row_of (Some answer) p = Some (record { answer = answer; transit = p.transit })
 
-abbrev next : Move → Picture → Picture
+abbrev next : Move → System → System
 next k p = unwrap_or (move two_tokens 10 k p) p
 
-abbrev rows : List Move → Picture → List (Option Row)
+abbrev rows : List Move → System → List (Option Row)
 rows [] p = []
 rows (k ∷ ks) p = row_of (answer_of two_tokens 10 k p) (next k p) ∷ rows ks (next k p)
 
@@ -93,7 +93,7 @@ unfolding message_cmp
 thirteen_rows = refl
 
 -- none of them is refused, and the log has the two tokens
-abbrev log_of : Option Picture → List Message
+abbrev log_of : Option System → List Message
 log_of None = []
 log_of (Some p) = p.front.log
 
@@ -101,7 +101,7 @@ thirteen_log : log_of (moves_made two_tokens 10 thirteen (opened 3 3 (opening tw
 unfolding message_cmp
 thirteen_log = refl
 
--- The floor of a ledger counts an antimessage in transit, and what a posted parcel delivers.
+-- The floor of a ledger counts an antimessage in transit, and the messages of a posted parcel.
 floor_of_transit : ledger_floor 10 (minus (msg 3 0 0 1 0 0) ∷ []) (None ∷ None ∷ []) (Some 5 ∷ Some 5 ∷ []) ≡ 3
 floor_of_transit = refl
 

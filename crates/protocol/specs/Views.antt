@@ -1,5 +1,5 @@
--- The nodes and the ledger of a picture, as their own crates show them, and what a node is loaded
--- with.
+-- The nodes and the ledger of a system state, as their own crates show them, and the load of a
+-- node.
 use Rattle.std.specs.Prelude.{false, filter, get_or, map, ℕ, ◌==◌}
 use Rattle.eventkey.specs.Message.{Message}
 use Rattle.gvt.specs.Ledger.{Ledger}
@@ -8,10 +8,10 @@ use Rattle.model.specs.World.{World, number_of, state_of}
 use Rattle.node.specs.Handling.{Node, own_lps}
 use Rattle.node.specs.declared.Load.{Load}
 use Rattle.node.specs.declared.Part.{Part}
-use Rattle.protocol.specs.Picture.{Picture, lows_of, node_of, nodes_of}
+use Rattle.protocol.specs.System.{System, lows_of, node_of, nodes_of}
 
--- a node of the picture
-abbrev pub node_view : Meaning → ℕ → Picture → ℕ → Node
+-- a node of the system state
+abbrev pub node_view : Meaning → ℕ → System → ℕ → Node
 node_view m end p node = record {
   node = node;
   nodes = nodes_of p;
@@ -22,8 +22,8 @@ node_view m end p node = record {
   processes = node_of p node;
 }
 
--- the ledger of the picture
-abbrev pub ledger_of : ℕ → Picture → Ledger
+-- the ledger of the system state
+abbrev pub ledger_of : ℕ → System → Ledger
 ledger_of end p = record {
   end = end;
   transit = p.transit;
@@ -32,7 +32,7 @@ ledger_of end p = record {
   floors = p.floors;
 }
 
--- what a front has of process lp
+-- the part of process lp, from a front
 abbrev pub part_of : World → ℕ → Part
 part_of w lp = record {
   lp = lp;
@@ -41,7 +41,7 @@ part_of w lp = record {
   pending = filter (λ (x : Message). x.to == lp) w.pending;
 }
 
--- what a front has of the processes of a node
+-- the load of a node, from a front
 abbrev pub load_of : ℕ → ℕ → ℕ → ℕ → World → Load
 load_of lps end nodes node w = record {
   node = node;

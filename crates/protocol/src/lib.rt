@@ -1,14 +1,13 @@
-//! The protocol as a pure machine: pictures of a running system, its moves, and the laws over every
-//! list of moves.
+//! The protocol as a pure machine: system states, moves, and the laws over every list of moves.
 //!
-//! It has definitions and laws alone: each function below has an empty body, and its contract is a
-//! law of the definitions that the contracts of the crates `queues`, `process`, `node` and `gvt`
-//! cite, so a law here is a law of the code.
+//! The crate has definitions and laws alone: each function below has an empty body, and its
+//! contract is a law of the definitions that the contracts of the crates `queues`, `process`,
+//! `node` and `gvt` cite, so a law here is a law of that code.
 #![tactic(auto)]
 
-ghost use Rattle.protocol.specs.Laws.{CommitIsByWhatWasTold, CommitIsSequential};
-ghost use Rattle.protocol.specs.Laws.{CommitsTellTheNextEvents, FirstOpens, FrontsOpen};
-ghost use Rattle.protocol.specs.Laws.{LedgersAllowPosts, LedgersFollowPictures, LedgersTellGvt};
+ghost use Rattle.protocol.specs.Laws.{CommitIsByReports, CommitIsSequential};
+ghost use Rattle.protocol.specs.Laws.{CommitsLogTheNextEvents, FirstOpens, FrontsOpen};
+ghost use Rattle.protocol.specs.Laws.{LedgersAllowPosts, LedgersFollowSystems, LedgerFloorIsGvt};
 ghost use Rattle.protocol.specs.Laws.{MovesAnswer, MovesAreMadeOrRefused, MovesAreSound};
 ghost use Rattle.protocol.specs.Laws.{MovesLeaveNodes, MovesMadeAreSound, MovesMadeJoin};
 ghost use Rattle.protocol.specs.Laws.{MovesMadePart, OpenedNodes, OpeningIsSound};
@@ -17,21 +16,21 @@ ghost use Rattle.protocol.specs.Laws.{RunsAreOneSimulation, RunsAreSound};
 ghost use Rattle.protocol.specs.Laws.{SystemsMayCommit, TakesAreAnswers};
 ghost use Rattle.protocol.specs.Readers.{OptimisticIsSequential, SchedulesAgree};
 
-/// What a move answers.
+/// The answer of a move.
 #[derive(Clone, Copy, Debug, PartialEq, Eq)]
 pub enum Answer {
     /// A parcel with this floor, in ticks, was posted.
     Posted {
         floor: u64,
     },
-    /// The node handled `ran` messages, sent `out` messages and antimessages, and told of
+    /// The node handled `ran` messages, sent `out` messages and antimessages, and reported
     /// `fossils` handlings.
     Taken {
         ran: u32,
         out: usize,
         fossils: usize,
     },
-    /// The front moved to the virtual time `g`, in ticks, by so many events.
+    /// The front moved to the virtual time `g`, in ticks, by `events` events.
     Committed {
         g: u64,
         events: usize,
@@ -40,40 +39,42 @@ pub enum Answer {
     AlreadyAt {
         g: u64,
     },
-    /// The front, at the virtual time `g`, in ticks, is written whole.
+    /// The whole front, at the virtual time `g`, in ticks, is written as a checkpoint.
     Checkpointed {
         g: u64,
     },
 }
 
-/// Optimistic equals sequential, over every schedule: for every lawful model, every number of nodes
-/// and every list of moves of a system that opens with the sequential simulation up to some time,
-/// the front is the sequential simulation up to its own time, its log only grows, and global
-/// virtual time never falls. Whatever the numbers of nodes and the moves, there is one history.
+/// States that optimistic equals sequential, over every schedule. For every lawful model, every
+/// number of nodes and every list of moves of a system that opens with the sequential simulation up
+/// to some time, the front is the sequential simulation up to its own time, its log only grows, and
+/// global virtual time never falls. There is one history, whatever the numbers of nodes and the
+/// moves.
 pub fn optimistic_equals_sequential()
     ensures sequential { OptimisticIsSequential }
     ensures agree { SchedulesAgree }
 {}
 
-/// A system that opens with a front that is the sequential simulation up to its time has a sound
-/// picture. The world before any step opens one, and so does the front of any system, with any
-/// number of nodes.
+/// States the laws of openings. A system that opens with a front that is the sequential simulation
+/// up to its time has a sound system state. The world before any step opens a system, and so does
+/// the front of any system, with any number of nodes.
 pub fn law_of_openings()
     ensures sound { OpeningIsSound }
     ensures first { FirstOpens }
     ensures later { FrontsOpen }
 {}
 
-/// One move of a running system keeps its picture sound, is made exactly where it is not refused,
-/// and answers what it did.
+/// States the laws of one move of a running system: it keeps the system state sound, is made
+/// exactly if it is not refused, and its answer says what it did.
 pub fn law_of_moves()
     ensures sound { MovesAreSound }
     ensures made { MovesAreMadeOrRefused }
     ensures answers { MovesAnswer }
 {}
 
-/// Any list of moves of an opened system keeps its picture sound, where refused moves change
-/// nothing and where none is refused, and any runs one after another are one sequential simulation.
+/// States the laws of lists of moves of an opened system. Any list keeps the system state sound,
+/// whether refused moves change nothing or none is refused, and any runs one after another are one
+/// sequential simulation.
 pub fn law_of_runs()
     ensures sound { RunsAreSound }
     ensures join { MovesMadeJoin }
@@ -82,38 +83,38 @@ pub fn law_of_runs()
     ensures one { RunsAreOneSimulation }
 {}
 
-/// A commit at a time that is not above global virtual time, nor above any node's floor, makes the
-/// front of a picture that is told truly and balanced the sequential simulation up to that time,
-/// and leaves it told truly and balanced. Every picture of a system may commit so. The log grows
-/// by exactly what was told below that time, in message order, and the front is known by what was
-/// told.
+/// States the laws of commits. Take a system state that is consistent with the model and balanced,
+/// and a time that is above neither global virtual time nor any node's floor. A commit at that time
+/// makes the front the sequential simulation up to it, and leaves the system state consistent and
+/// balanced. Every system state of a system may commit so. The log grows by exactly the reported
+/// messages below that time, in message order, and the reports alone determine the front.
 pub fn law_of_commits()
     ensures may { SystemsMayCommit }
     ensures sequential { CommitIsSequential }
-    ensures told { CommitsTellTheNextEvents }
-    ensures by_told { CommitIsByWhatWasTold }
+    ensures reported { CommitsLogTheNextEvents }
+    ensures by_reports { CommitIsByReports }
 {}
 
-/// A node accepts what it is posted, and its reply names only processes that are there, as handled
-/// by it only its own.
+/// States that a node accepts every parcel posted to it, and that its reply names only processes
+/// that exist, and reports only handlings of its own.
 pub fn law_of_parcels()
     ensures accepted { ParcelsAreAccepted }
     ensures there { RepliesNameWhatIsThere }
 {}
 
-/// What each node is loaded with at the opening is accepted, and makes it that node of the opened
-/// picture. What it answers to a parcel is the reply of which the picture after its take is made,
-/// and no other move changes it.
+/// States that each node accepts its load at the opening and is then that node of the opened system
+/// state; that its reply to a parcel is the one from which the system state after its take is made;
+/// and that no other move changes the node.
 pub fn law_of_nodes()
     ensures opened { OpenedNodes }
     ensures answers { TakesAreAnswers }
     ensures left { MovesLeaveNodes }
 {}
 
-/// Global virtual time, as the ledger has it, the ledger of a picture, move by move, and the posts
-/// that it allows.
+/// States that the ledger's floor is global virtual time, that its calls make the ledger of the
+/// system state, move by move, and which posts it allows.
 pub fn law_of_ledgers()
-    ensures gvt { LedgersTellGvt }
-    ensures follow { LedgersFollowPictures }
+    ensures gvt { LedgerFloorIsGvt }
+    ensures follow { LedgersFollowSystems }
     ensures allow { LedgersAllowPosts }
 {}

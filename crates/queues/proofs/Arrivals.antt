@@ -1,4 +1,4 @@
--- What an arrival keeps of a queue, and where its messages go.
+-- The invariants that an arrival keeps, and where the messages of a queue go.
 use Rattle.std.proofs.Common.{◌≡◌, ℕ, ◌+◌, false, true, [], ◌∷◌, refl, ap, arith, ◌++◌}
 use Rattle.std.proofs.lemmas.Bool.{cond_both, ltb-true}
 use Rattle.std.specs.List.{AllByRecursion as Every}
@@ -13,7 +13,7 @@ use Rattle.eventkey.specs.declared.Signed.{Signed}
 use Rattle.queues.proofs.Places.{before_after, but_last-last_of, last_of_none, those_after, those_from}
 use Rattle.queues.specs.Queue.{Queue, after, arrived, back, but_last, last_of, settle, wait_again}
 
--- 1. What an arrival keeps
+-- 1. The invariants that an arrival keeps
 
 pub record IsQueue (P : Message → Type 0) (k : Queue) : Type 0 where
   pub done_up : IsAscending k.done
@@ -65,7 +65,7 @@ module _ (P : Message → Type 0) where
   pub arrived_kept : (s : Signed) (k : Queue) → P s.message → IsQueue P k → IsQueue P (arrived s k)
   arrived_kept s k p h = arrived_kept_by s.sign s.message k p h
 
--- what is undone is not before what arrives
+-- the undone messages are not before what arrives
 undone_from_by : (sign : Sign) (m : Message) (k : Queue) → IsAscending k.done → Every (IsAtMost m) (last_of (back (record { sign = sign; message = m }) k) k.done)
 undone_from_by Plus m k up =
     cond_both (is_among m k.antis) 0 (after m k.done) (λ n. Every (IsAtMost m) (last_of n k.done))
@@ -85,7 +85,7 @@ pub settle_done : (sign : Sign) (m : Message) (k : Queue) → (settle (record { 
 settle_done Plus m k = cond_both (is_among m k.antis) (record k { antis = remove_one m k.antis }) (record k { waiting = add m k.waiting }) (λ (r : Queue). r.done ≡ k.done) (λ _. refl) (λ _. refl)
 settle_done Minus m k = cond_both (is_among m k.waiting) (record k { waiting = remove_one m k.waiting }) (record k { antis = add m k.antis }) (λ (r : Queue). r.done ≡ k.done) (λ _. refl) (λ _. refl)
 
--- copies: what is done, waits or is consumed
+-- copies of a message: waiting, antimessages, and what arrived
 settle_copies : (x : Message) (sign : Sign) (m : Message) (k : Queue) →
     copies x (settle (record { sign = sign; message = m }) k).waiting + copies x k.antis + copies x (of_sign Minus (record { sign = sign; message = m } ∷ []))
     ≡ copies x k.waiting + copies x (settle (record { sign = sign; message = m }) k).antis + copies x (of_sign Plus (record { sign = sign; message = m } ∷ []))

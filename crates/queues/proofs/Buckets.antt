@@ -1,4 +1,4 @@
--- Messages by their times, with one message more or less.
+-- Messages grouped by time, with one message added or removed.
 use Rattle.std.proofs.Common.{◌≡◌, ℕ, ◌+◌, ◌<◌, ◌≤◌, List, [], ◌∷◌, ◌++◌, Some, None, Less, Equal, Greater, true, false, refl, ap, sym, ◌∙◌, arith, length, nat_cmp, subst, inl, inr, ◌⊎◌}
 use Rattle.std.proofs.lemmas.Bool.{cases_Bool, cond_both, lt-ltb, le-ltb, ltb-true, ltb-false}
 use Rattle.std.proofs.lemmas.Cmp.{ranked, by_ranked}
@@ -98,7 +98,7 @@ copies-insert x t b (e ∷ es) h = elim (key_cases t e.0) [
   | inr (inr c) ↦ let r = rw c.1 at h in rw c.1 (omega (arith, copies-append x e.1 (all_of (insert_entry nat_cmp es t b)), copies-append x e.1 (all_of es), copies-insert x t b es r))
 ]
 
--- 4. Another bucket of the same time, or none
+-- 4. A replaced or a removed bucket
 
 module _ (t : ℕ) where
   later-set : (k : ℕ) (w : List Message) (es : List (ℕ × List Message)) → IsLater k es → IsLater k (set_value (is_at (nat_cmp t)) es w)
@@ -172,7 +172,7 @@ module _ (t : ℕ) where
     | inr (inr c) ↦ rw c.1 (rw c.1 (ap (λ (fs : List (ℕ × List Message)). e ∷ fs) (insert_twice a b es)))
   ]
 
--- 5. How many there are, and the first
+-- 5. The number of messages, and the first
 
 pub length-add : (m : Message) (xs : List Message) → length (add m xs) ≡ length xs + 1
 length-add m [] = refl
@@ -197,17 +197,17 @@ pub first_of : (es : List (ℕ × List Message)) (k : ℕ) (b : List Message) (x
 first_of [] k b x e f = absurd (none-some (k, b) e)
 first_of (e ∷ es) k b x g f = let same = same_Some e (k, b) g in first_of-append e.1 (all_of es) x (ap (λ (p : ℕ × List Message). slice_get p.1 0) same ∙ f)
 
--- a bucket with one more message
+-- a lesser first message
 pub first_ascends : (m x : Message) (xs bag : List Message) → is_before m x ≡ true → bag ≡ x ∷ xs → IsAscending (x ∷ xs) → IsAscending (m ∷ bag)
 first_ascends m x xs bag b e up = let h = IsAscending-add m (x ∷ xs) up in subst (λ (ys : List Message). IsAscending (m ∷ ys)) (sym e) (rw b at h)
 
 pub later_ascends : (m x : Message) (xs bag : List Message) → is_before m x ≡ false → bag ≡ add m xs → IsAscending (x ∷ xs) → IsAscending (x ∷ bag)
 later_ascends m x xs bag b e up = let h = IsAscending-add m (x ∷ xs) up in subst (λ (ys : List Message). IsAscending (x ∷ ys)) (sym e) (rw b at h)
 
--- 6. One message more or less
+-- 6. One message added or removed
 
 module _ (m : Message) (es : List (ℕ × List Message)) (p : IsParted es) where
-  -- what ascends and has one copy of m more
+  -- an ascending list with one more copy of m
   added : (fs : List (ℕ × List Message)) → IsParted fs → ((x : Message) → copies x (all_of fs) ≡ copies x (m ∷ []) + copies x (all_of es)) → IsAdded m es fs
   added fs k h =
       let all = same_ascending (all_of fs) (add m (all_of es)) (ascends fs k) (IsAscending-add m (all_of es) (ascends es p)) (λ x. omega (arith, h x, copies-add x m (all_of es))) in
@@ -236,7 +236,7 @@ module _ (m : Message) (es : List (ℕ × List Message)) (p : IsParted es) where
     pub all : all_of fs ≡ remove_one m (all_of es)
     pub long : length (all_of fs) + 1 ≡ length (all_of es)
 
-  -- what ascends and has one copy of m less
+  -- an ascending list with one copy of m less
   removed : (fs : List (ℕ × List Message)) → IsParted fs → ((x : Message) → copies x (all_of fs) + copies x (m ∷ []) ≡ copies x (all_of es)) → IsRemoved fs
   removed fs k h =
       let there : 1 ≤ copies m (all_of es) = omega (arith, h m, one_if_same_itself m) in

@@ -1,4 +1,4 @@
--- What holds at an exit, by what was answered there.
+-- The facts at an exit, by the result returned there.
 use Rattle.std.proofs.Common.{◌≡◌, true, false}
 use Rattle.std.proofs.lemmas.Bool.{false≢true, true≢false}
 use Rattle.std.specs.Prelude.{Err, Ok, OnErr, OnOk, Result}

@@ -1,4 +1,4 @@
--- The least message of a bag, and the least time of two.
+-- The least message of a bag, and the least time of two bags.
 use Rattle.std.proofs.Common.{◌≡◌, ℕ, ◌+◌, ◌<◌, ◌≤◌, List, [], ◌∷◌, ◌++◌, Some, None, true, false, refl, ap, sym, ◌∙◌, arith, length, get_or, drop, min, subst, zero, suc, inl, inr}
 use Rattle.std.proofs.lemmas.Bool.{cases_Bool, cond_both, le-leb, lt-leb, lt-ltb, ltb-true, ltb-false}
 use Rattle.std.proofs.lemmas.List.{append-nil}
@@ -47,7 +47,7 @@ pub first_time-right : (xs ys : List Message) → None ≡ first_time xs → fir
 first_time-right [] ys e = refl
 first_time-right (x ∷ xs) ys e = absurd (none-some (least_time x.time xs) e)
 
--- 3. The least waiting message is taken
+-- 3. Handling the least waiting message
 
 pub first_before_is : (end : ℕ) (xs : List Message) (x : Message) → first_before end xs ≡ Some x → (rest : List Message) × (xs ≡ x ∷ rest)
 first_before_is end [] x e = absurd (none-some x e)
@@ -90,7 +90,7 @@ taken_in_order end q x e h =
     one_more [] a b = tt
     one_more (v ∷ ws) a b = (Every-append (λ (d : Message). IsAtMost d v) q.done (x ∷ []) a.0 (b.0, tt), one_more ws a.1 b.1)
 
--- 4. What is done before the floor goes
+-- 4. Dropping the done messages before the floor
 
 pub early_parted : (floor : ℕ) (xs : List Message) → IsAscending xs → (i j : ℕ) (d : Message) → i ≤ j → j < length xs → nat_lt (get_or xs j d).time floor ≡ true → nat_lt (get_or xs i d).time floor ≡ true
 early_parted floor xs up i j d l h e =
@@ -128,7 +128,7 @@ released_in_order floor q h =
       apart = λ y n. (let k = (h.apart y n).0 in omega (arith, copies-filter-le y floor q.done), (h.apart y n).1);
     }
 
--- 5. Messages that wait, and nothing else
+-- 5. A queue in which messages wait, and nothing else
 
 pub waiting_in_order : (q : Queue) → q.done ≡ [] → IsAscending q.waiting → q.antis ≡ [] → IsInOrder q
 waiting_in_order q d up a = record {

@@ -1,4 +1,4 @@
--- Going forward over records: each state is what the handling before it left.
+-- Coasting forward over records: each state is the one that the handling before it left.
 use Rattle.std.proofs.Common.{◌≡◌, ℕ, zero, suc, Bool, Some, ◌+◌, ◌-◌, ◌<◌, ◌≤◌, List, [], ◌∷◌, ◌++◌, sym, refl, ap, arith, ◌∙◌, length, take, drop, get_or, inl, inr, subst}
 use Rattle.std.specs.List.{slice_get}
 use Rattle.eventkey.specs.Message.{Message}
@@ -21,7 +21,7 @@ handlings_drop m zero hs h = h
 handlings_drop m (suc n) [] h = h
 handlings_drop m (suc n) (r ∷ rs) h = handlings_drop m n rs h.3
 
--- a step forward, from the record at n, whose message x is
+-- a step forward from the record at n, whose message is x
 pub record StepsTo (m : Meaning) (x : Message) (before after : List ℕ) : Type 0 where
   pub to : x.to < m.lps
   pub few : length before ≤ 16
@@ -42,7 +42,7 @@ step_before m hs at x h p l e =
     let again : suc (at - 1) ≡ at = omega arith in
     subst (λ (n : ℕ). StepsTo m x (state_before (drop (at - 1) hs) []) (state_before (drop n hs) [])) again (step_at m hs (at - 1) x h (omega arith) e)
 
--- a record that the code keeps at this place
+-- k is the record kept at this place
 pub record IsKeptAt (k : Record × Bool) (at : ℕ) (hs : List Record) : Type 0 where
   pub words : state_before (drop at hs) [] ≡ k.0.before
   pub message : slice_get (messages hs) at ≡ Some k.0.message
@@ -59,7 +59,7 @@ kept_at (h ∷ hs) zero k e l = record {
 }
 kept_at (h ∷ hs) (suc n) k e l = let rest = kept_at hs n k e (omega arith) in record { words = rest.words; message = rest.message; number = rest.number; sent = rest.sent }
 
--- whether it is saved
+-- the flag at a place is that of the record kept there
 saved_among : (ks : List (Record × Bool)) (n : ℕ) (k : Record × Bool) → k ≡ get_or ks n k → n < length (wholes ks) → slice_get (saved_in ks) n ≡ Some k.1
 saved_among [] n k e l = absurd (omega arith)
 saved_among (h ∷ hs) zero k e l = ap (λ (r : Record × Bool). Some r.1) (sym e)
@@ -70,7 +70,7 @@ saved_at [] at k ne e l = absurd (omega arith)
 saved_at (h ∷ hs) zero k ne e l = absurd (ne refl)
 saved_at (h ∷ hs) (suc n) k ne e l = ap (λ (i : ℕ). slice_get (saved_in hs) i) {x = suc n - 1} {y = n} (omega arith) ∙ saved_among hs n k e (omega arith)
 
--- before some records it is no matter what came after them
+-- for a list that is not empty, the state before it does not depend on the state after it
 pub state_of_some : (hs : List Record) (s t : List ℕ) → 0 < length hs → state_before hs s ≡ state_before hs t
 state_of_some [] s t l = absurd (omega arith)
 state_of_some (h ∷ hs) s t l = refl
@@ -85,11 +85,11 @@ record_at [] n x e = absurd (cc)
 record_at (h ∷ hs) zero x e = (h, refl, (let same : h.message ≡ x = cc in same))
 record_at (h ∷ hs) (suc n) x e = record_at hs n x e
 
--- the records from a place on, where the code cuts them
+-- cutting the kept records cuts the whole ones
 pub cut_at : (ks : List (Record × Bool)) (at : ℕ) → wholes (drop at ks) ≡ drop at (wholes ks)
 cut_at ks at = sym (drop-map (λ (r : Record × Bool). r.0) at ks)
 
--- and those before it
+-- the kept records before the cut
 pub kept_before : (ks : List (Record × Bool)) (at : ℕ) → ◌≡◌ {A = SparseRecords} (record { records = wholes (take at ks); saved = saved_in (drop 1 (take at ks)) })
     (record { records = take at (wholes ks); saved = take (at - 1) (saved_in (drop 1 ks)) })
 kept_before ks zero = refl
@@ -98,19 +98,19 @@ kept_before (k ∷ ks) (suc n) =
     let e : suc n - 1 ≡ n = omega arith in
     rw (e, take-map (λ (r : Record × Bool). r.0) n ks, take-map (λ (r : Record × Bool). r.1) n ks) refl
 
--- the words before the first stay those, whatever goes at the end
+-- the words before the first record do not change if the list is cut behind
 pub words_stay : (ks : List (Record × Bool)) (n : ℕ) (words : List ℕ) → state_before (wholes ks) words ≡ words → state_before (wholes (take n ks)) words ≡ words
 words_stay ks zero words e = refl
 words_stay [] (suc n) words e = refl
 words_stay (k ∷ ks) (suc n) words e = e
 
--- and so do those before the record at which they are cut
+-- and the words before the cut are those before the first record cut off
 pub words_at_cut : (ks : List (Record × Bool)) (n : ℕ) (words : List ℕ) → n < length (wholes ks) → words ≡ state_before (drop n (wholes ks)) [] → state_before (wholes (drop n ks)) words ≡ words
 words_at_cut ks n words l e =
     let some : 0 < length (drop n (wholes ks)) = omega (arith, length-drop n (wholes ks), l) in
     ap (λ (hs : List Record). state_before hs words) (cut_at ks n) ∙ (state_of_some (drop n (wholes ks)) words [] some ∙ sym e)
 
--- one more is gone
+-- one more record removed at the front
 pub one_more_gone : (s s' t : SparseRecords) (n : ℕ) → s' ≡ record { records = drop 1 s.records; saved = drop 1 s.saved } → s ≡ record { records = drop n t.records; saved = drop n t.saved } →
     s' ≡ record { records = drop (n + 1) t.records; saved = drop (n + 1) t.saved }
 one_more_gone s s' t n e f =
@@ -118,7 +118,7 @@ one_more_gone s s' t n e f =
     ∙ (ap (λ (hs : List Record). record { records = hs; saved = drop 1 (drop n t.saved) }) (drop-drop 1 n t.records)
     ∙ ap (λ (bs : List Bool). record { records = drop (n + 1) t.records; saved = bs }) (drop-drop 1 n t.saved)))
 
--- what leads to a state stays so
+-- Handlings that lead to a state still do after a cut
 
 lead_to_handlings : (m : Meaning) (hs : List Record) (state : List ℕ) → LeadTo m hs state → AreHandlings m hs
 lead_to_handlings m [] state h = tt

@@ -1,4 +1,4 @@
--- The lists as the code leaves them are the lists after an arrival.
+-- The lists that the code makes are those of the queue after an arrival.
 use Rattle.std.proofs.Common.{◌≡◌, ℕ, ◌+◌, ◌-◌, ◌<◌, List, [], ◌∷◌, ◌++◌, true, false, refl, ap, sym, ◌∙◌, arith, length, take, get_or}
 use Rattle.std.proofs.lemmas.Bool.{ltb-true}
 use Rattle.std.proofs.lemmas.List.{append_assoc, length-append, length-drop, take_at, take_more}
@@ -15,7 +15,7 @@ use Rattle.queues.proofs.Undone.{but_last-append, last_of-append, but_last-take,
 use Rattle.queues.specs.Queue.{IsInOrder, Queue, after, arrival, arrived, but_last, last_of}
 use Rattle.queues.specs.declared.Arrival.TheVariants.{Annihilated, Queued, Waits}
 
--- what is undone goes before all that waits
+-- if xs precedes ys, adding xs to ys puts it in front
 pub add_all-ascending : (xs ys : List Message) → IsAscending (xs ++ ys) → add_all xs ys ≡ xs ++ ys
 add_all-ascending xs ys up =
     same_ascending (add_all xs ys) (xs ++ ys) (IsAscending-add_all xs ys (IsAscending-right xs ys up)) up (λ x. omega (arith, copies-add_all x xs ys, copies-append x xs ys))
@@ -56,7 +56,7 @@ module _ (m : Message) (q new : Queue) (h : IsInOrder q) where
   pub minus_met_answer : is_among m q.waiting ≡ true → Annihilated 0 ≡ arrival (minus m) q
   minus_met_answer e = rw e refl
 
-  -- the last one that is not after m is m, and goes with those after it
+  -- the last message that is not after m is m, and is removed with those after it
   pub minus_undone : (n : ℕ) (kept : List Message) → is_among m q.waiting ≡ false → is_among m q.done ≡ true → n ≡ after m q.done → kept ≡ but_last n q.done → new.done ≡ take (length kept - 1) kept →
       new.waiting ≡ add_all (last_of n q.done) q.waiting → new.antis ≡ q.antis → new ≡ arrived (minus m) q
   minus_undone n kept e f k b d w a =

@@ -10,7 +10,7 @@ use Rattle.eventkey.specs.Bag.{IsAscending, copies}
 use Rattle.eventkey.specs.Message.{IsAtMost, Message, is_before}
 use Rattle.queues.specs.Queue.{after, but_last, last_of}
 
--- 2. The last n
+-- The last n elements
 
 module _ {X : Type 0} where
   pub but_last-last_of : (n : ℕ) (xs : List X) → but_last n xs ++ last_of n xs ≡ xs
@@ -90,11 +90,11 @@ those_after_at m n (x ∷ xs) h e =
       | inr f ↦ those_after_at m n xs h.1 (e ∙ f.1)
     ])
 
--- what is left when those after m are gone is at most m
+-- the messages that remain without those after m are at most m
 pub before_after : (m : Message) (xs : List Message) → IsAscending xs → Every (λ (x : Message). IsAtMost x m) (but_last (after m xs) xs)
 before_after m xs h = before_after_at m (after m xs) xs h refl
 
--- those are after m
+-- the last messages, as many as are after m, are after m
 pub those_after : (m : Message) (xs : List Message) → IsAscending xs → Every (λ (x : Message). is_before m x ≡ true) (last_of (after m xs) xs)
 those_after m xs h = those_after_at m (after m xs) xs h refl
 
@@ -131,11 +131,11 @@ those_from_at m n (x ∷ xs) h some e =
       ]
     ])
 
--- those and the last copy of m hold a copy of m, and all of them are at least m
+-- those and the one before them hold a copy of m, and all of them are at least m
 pub those_from : (m : Message) (xs : List Message) → IsAscending xs → 1 ≤ copies m xs → (1 ≤ copies m (last_of (after m xs + 1) xs)) × Every (IsAtMost m) (last_of (after m xs + 1) xs)
 those_from m xs h some = those_from_at m (after m xs + 1) xs h some refl
 
--- nothing is after what the last is not after
+-- if the last message is not after m, none is
 pub none_after : (m last : Message) (xs : List Message) (n : ℕ) → n ≡ length xs → IsAscending xs → 0 < n → last ≡ get_or xs (n - 1) last → is_before m last ≡ false → 0 ≡ after m xs
 none_after m last xs n long up some is later = go xs (n - 1) up (omega arith) is
   where

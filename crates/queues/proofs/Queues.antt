@@ -1,4 +1,4 @@
--- The five cases of an arrival, and that no antimessage stands with its message.
+-- The five cases of an arrival; no antimessage is ever in a queue beside its message.
 use Rattle.std.proofs.Common.{◌≡◌, List, refl, ap, arith, length, ℕ, ◌+◌, ◌≤◌, true, ◌∙◌, inl, inr}
 use Rattle.std.proofs.lemmas.Bool.{ltb-true, lt-ltb, cases_Bool, cond_both, ltb-false}
 use Rattle.eventkey.proofs.Bags.{copies-add, copies-add_all, copies-append, copies-remove_one-le, one_if_same_cases}
@@ -13,7 +13,7 @@ use Rattle.queues.proofs.Arrivals.{IsQueue, arrived_copies, arrived_kept}
 use Rattle.queues.proofs.Halves.{last_kept}
 use Rattle.queues.proofs.Places.{after-le, but_last-last_of, but_last_none, last_of_none, those_from}
 use Rattle.queues.specs.declared.Arrival.TheVariants.{Annihilated, Queued, Waits}
-use Rattle.queues.specs.Queue.{ArrivalsTellBack, IsApart, Queue, QueuesArriveByCases, QueuesCount, QueuesStayApart, QueuesStayInOrder, after, arrival, arrived, back, back_of, but_last, last_of, settle, wait_again}
+use Rattle.queues.specs.Queue.{ArrivalsCountUndone, IsApart, Queue, QueuesArriveByCases, QueuesCount, QueuesStayApart, QueuesStayInOrder, after, arrival, arrived, back, back_of, but_last, last_of, settle, wait_again}
 
 wait_again_none : (q : Queue) → wait_again 0 q ≡ q
 wait_again_none q = λ i. record { done = but_last_none q.done i; waiting = add_all (last_of_none q.done i) q.waiting; antis = q.antis }
@@ -34,7 +34,7 @@ queues_arrive_by_cases m q up = record {
       (b, ap (λ (n : ℕ). settle (minus m) (wait_again n q)) b ∙ (ap (settle (minus m)) (wait_again_none q) ∙ rw e refl));
 }
 
--- no antimessage stands with its message
+-- no antimessage is beside its message
 apart_by : (sign : Sign) (m : Message) (q : Queue) → IsAscending q.done → IsApart q → IsApart (arrived (record { sign = sign; message = m }) q)
 apart_by Plus m q up h x n =
     let c = queues_arrive_by_cases m q up in
@@ -127,10 +127,10 @@ queues_stay_in_order s q h =
     }) in
     record { done = k.done_up; waiting = k.waiting_up; antis = k.antis_up; behind = k.behind; apart = queues_stay_apart s q h.done h.apart }
 
--- what an arrival answers
-tells_back : (sign : Sign) (m : Message) (q : Queue) → back_of (arrival (record { sign = sign; message = m }) q) ≡ back (record { sign = sign; message = m }) q
-tells_back Plus m q = cond_both (is_among m q.antis) (Annihilated 0) (Queued (back (plus m) q)) (λ a. back_of a ≡ back (plus m) q) (λ e. rw e refl) (λ e. refl)
-tells_back Minus m q =
+-- the number in the answer of an arrival
+counts_undone : (sign : Sign) (m : Message) (q : Queue) → back_of (arrival (record { sign = sign; message = m }) q) ≡ back (record { sign = sign; message = m }) q
+counts_undone Plus m q = cond_both (is_among m q.antis) (Annihilated 0) (Queued (back (plus m) q)) (λ a. back_of a ≡ back (plus m) q) (λ e. rw e refl) (λ e. refl)
+counts_undone Minus m q =
     cond_both (is_among m q.waiting) (Annihilated 0) _ (λ a. back_of a ≡ back (minus m) q)
     (λ e. rw e refl)
     (λ e. cond_both (is_among m q.done) (Annihilated (back (minus m) q)) Waits (λ a. back_of a ≡ back (minus m) q) (λ _. refl) (λ f. rw (e, f) refl))
@@ -142,8 +142,8 @@ back_within Minus m q up =
     (λ _. omega arith)
     (λ _. cond_both (is_among m q.done) (after m q.done + 1) 0 (λ n. n ≤ length q.done) (λ e. let l = (last_kept m q.done m up (ltb-true 0 (copies m q.done) e)).0 in omega arith) (λ _. omega arith))
 
-pub arrivals_tell_back : ArrivalsTellBack
-arrivals_tell_back s q up = (tells_back s.sign s.message q, back_within s.sign s.message q up)
+pub arrivals_count_undone : ArrivalsCountUndone
+arrivals_count_undone s q up = (counts_undone s.sign s.message q, back_within s.sign s.message q up)
 
 pub queues_count : QueuesCount
 queues_count = arrived_copies

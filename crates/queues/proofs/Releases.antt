@@ -1,4 +1,4 @@
--- What was handled before a time, and the rest.
+-- The handlings before a time, and the rest.
 use Rattle.std.proofs.Common.{◌≡◌, ℕ, zero, suc, Option, None, Some, ◌+◌, ◌-◌, ◌<◌, List, [], ◌∷◌, sym, refl, ap, arith, nat_lt, ltb-false, ◌≤◌, inl, inr, ltb-true, ◌++◌, ◌∙◌, length, take, drop, get_or, rules, true, false}
 use Rattle.std.proofs.lemmas.Bool.{cases_Bool, cond_both, le-leb, le-ltb, lt-leb, lt-ltb}
 use Rattle.std.specs.List.{filter, slice_get}
@@ -16,7 +16,7 @@ use Rattle.queues.specs.declared.Record.{Record}
 
 -- 1. Records before a time, and those from it on
 
--- where they ascend, the messages before c are those of the first records
+-- if the records ascend, all messages before c are in the leading records
 pub copies-handled_before : (c : ℕ) (x : Message) (hs : List Record) → IsAscending (messages hs) → x.time < c → copies x (messages (handled_before c hs)) ≡ copies x (messages hs)
 copies-handled_before c x [] up h = refl
 copies-handled_before c x (r ∷ rs) up h =
@@ -26,7 +26,7 @@ copies-handled_before c x (r ∷ rs) up h =
     (λ e. let late = ltb-false r.message.time c e in
     sym (none_from_Every (IsAtMost r.message) (messages (r ∷ rs)) x (at_most_itself r.message, up.0) (λ k. let t = time_from_at_most r.message x k in absurd (omega arith))))
 
--- all the first records are before c
+-- all leading records are before c
 pub copies-handled_before-late : (c : ℕ) (x : Message) (hs : List Record) → c ≤ x.time → copies x (messages (handled_before c hs)) ≡ 0
 copies-handled_before-late c x [] h = refl
 copies-handled_before-late c x (r ∷ rs) h =
@@ -46,12 +46,12 @@ copies-handled_before-le c x (r ∷ rs) =
     (λ _. omega (arith, copies-handled_before-le c x rs))
     (λ _. omega arith)
 
--- 3. Records after records
+-- 2. Concatenated records
 
 pub copies-messages-append : (x : Message) (gs hs : List Record) → copies x (messages (gs ++ hs)) ≡ copies x (messages gs) + copies x (messages hs)
 copies-messages-append x gs hs = ap (copies x) (map-append (λ (h : Record). h.message) gs hs) ∙ copies-append x (messages gs) (messages hs)
 
--- 9. What stays as it was
+-- 3. What does not change
 
 pub Every-handled_from : (P : Message → Type 0) (c : ℕ) (hs ds : List Record) → Every P (messages (hs ++ ds)) → Every P (messages (handled_from c hs ++ ds))
 Every-handled_from P c [] ds h = h
@@ -60,7 +60,7 @@ Every-handled_from P c (r ∷ rs) ds h =
     (λ _. Every-handled_from P c rs ds h.1)
     (λ _. h)
 
--- 10. The first records, counted
+-- 4. Counting the leading records
 
 pub record IsCounted (c : ℕ) (hs : List Record) (n : ℕ) : Type 0 where
   pub before : take n hs ++ handled_before c (drop n hs) ≡ handled_before c hs
@@ -93,7 +93,7 @@ counted_end c hs n l h =
     let e : drop n hs ≡ [] = drop_all n hs l in
     all_counted c hs n h (ap (handled_before c) e) (ap (handled_from c) e ∙ sym e)
 
--- 11. The first of a list, taken off one by one
+-- 5. Removing the first elements one by one
 
 module _ {X : Type 0} where
   drop_suc : (xs ys : List X) (x : X) (n : ℕ) → x ∷ ys ≡ drop n xs → ys ≡ drop (suc n) xs
@@ -114,7 +114,7 @@ module _ {X : Type 0} where
   pub take_next : (xs ys : List X) (x : X) (n : ℕ) → x ∷ ys ≡ drop n xs → take (n + 1) xs ≡ take n xs ++ x ∷ []
   take_next xs ys x n e = ap (λ (k : ℕ). take k xs) {x = n + 1} {y = suc n} (omega arith) ∙ take_suc xs ys x n e
 
-  -- the last one taken off, where there was one
+  -- the last element removed, if there is one
   pub popped_is : (kept left : List X) (last : Option X) (long : ℕ) (None' : Type 0) (Some' : X → Type 0) → long ≡ length kept → kept ≡ left ++ option_to_list last → MatchOption last ((long ≡ 0) × None') Some' →
       left ≡ take (length kept - 1) kept
   popped_is [] left None long N S l e m = sym (append-nil left) ∙ sym e
@@ -122,7 +122,7 @@ module _ {X : Type 0} where
   popped_is kept left (Some x) long N S l e m =
       sym (ap (λ (ks : List X). take (length ks - 1) ks) e ∙ take_at left (x ∷ []) (length (left ++ x ∷ []) - 1) (omega (arith, length-append left (x ∷ []))))
 
--- 12. In an ascending list
+-- 6. Ascending lists
 
 none_early : (c : ℕ) (hs : List Record) → Every (λ (h : Record). c ≤ h.message.time) hs → filter (λ (h : Record). nat_lt h.message.time c) hs ≡ []
 none_early c [] l = refl
@@ -149,7 +149,7 @@ records_part c (h ∷ hs) up = elim (cases_Bool (nat_lt h.message.time c)) [
       rw (e, passes) (sym (none_early c hs all), ap (λ (rs : List Record). h ∷ rs) (sym (all_late c hs all)))
 ]
 
--- 13. The first of them alone
+-- 7. Removing the first record alone
 
 pub none_first : (c : ℕ) (hs : List Record) → first_handled hs ≡ None → IsFirstTaken c hs hs None
 none_first c [] e = (refl, refl)
@@ -170,7 +170,7 @@ pub some_first : {X : Type 0} (hs : List Record) (time : ℕ) → first_handled 
 some_first [] time e f = absurd (cc)
 some_first (h ∷ hs) time e f = absurd (cc)
 
--- 14. Counted by messages
+-- 8. Counting by messages
 
 pub one_message_counted : (c : ℕ) (hs : List Record) (n : ℕ) (x : Message) → n < length hs → slice_get (messages hs) n ≡ Some x → x.time < c → IsCounted c hs n → IsCounted c hs (n + 1)
 one_message_counted c hs n x l e early h =
@@ -182,7 +182,7 @@ message_counted_at c hs n x l e late h =
     let at = record_at hs n x e in
     counted_at c hs n at.0 l at.1 (let t = ap (λ (y : Message). y.time) at.2 in omega (arith, t, late)) h
 
--- 15. The first of those that are left
+-- 9. The first of the remaining records
 
 module _ {X : Type 0} where
   pub some_left : (xs : List X) (n : ℕ) → n < length xs → IsSome (slice_get (drop n xs) 0)

@@ -1,4 +1,4 @@
--- Which records keep their state words, and how many.
+-- Which records have their state words saved, and how many.
 use Rattle.std.proofs.Common.{◌≡◌, ℕ, zero, suc, Bool, false, ◌+◌, ◌-◌, ◌*◌, ◌/◌, ◌%◌, ◌<◌, ◌≤◌, List, [], ◌∷◌, ◌++◌, sym, refl, ap, arith, ◌∙◌, ◌==◌, length, take, drop, inl, inr, subst, Result, Ok, Err}
 use Rattle.std.proofs.Math.Nat.{add-mod_left, mod-add-mod, mod-eq_of_lt, mod-lt, mod_self}
 use Rattle.std.proofs.lemmas.Bool.{cases_lt, eq-eqb, ne_eqb}
@@ -9,7 +9,7 @@ use Rattle.queues.specs.declared.Record.{Record}
 
 -- 1. Places
 
--- places that k divides alike go on alike
+-- places with the same remainder by k have successors with the same remainder
 next_alike : (k p q : ℕ) → p % k ≡ q % k → (p + 1) % k ≡ (q + 1) % k
 next_alike k p q e = sym (mod-add-mod p k 1) ∙ (ap (λ (r : ℕ). (r + 1) % k) e ∙ mod-add-mod q k 1)
 
@@ -32,15 +32,15 @@ sparse_drop k p zero saved h = sparse_alike k p (p + 0) saved (ap (λ (r : ℕ).
 sparse_drop k p (suc n) [] h = tt
 sparse_drop k p (suc n) (s ∷ ss) h = sparse_alike k (p + 1 + n) (p + suc n) (drop n ss) (ap (λ (r : ℕ). r % k) {x = p + 1 + n} {y = p + suc n} (omega arith)) (sparse_drop k (p + 1) n ss h.1)
 
--- as from the first record that is left after n
+-- the flags after n records are removed, from the place of the first record that remains
 pub sparse_left : (k p n : ℕ) (saved : List Bool) → IsSparse k (p + 1) saved → IsSparse k ((p + n) % k + 1) (drop n saved)
 sparse_left k p n saved h = sparse_alike k (p + 1 + n) ((p + n) % k + 1) (drop n saved)
     (ap (λ (r : ℕ). r % k) {x = p + 1 + n} {y = p + n + 1} (omega arith) ∙ sym (mod-add-mod (p + n) k 1))
     (sparse_drop k (p + 1) n saved h)
 
--- 2. How many are saved
+-- 2. The number of saved records
 
--- s is the place from which they go on, counted from 1 to k
+-- s in 1 .. k has the same remainder by k as the place p of the first flag
 pub few_saved : (k p s : ℕ) (saved : List Bool) → 1 ≤ s → s ≤ k → p % k ≡ s % k → IsSparse k p saved → count_saved saved * k + 1 ≤ length saved + s
 few_saved k p s [] l u e h = omega arith
 few_saved k p s (x ∷ xs) l u e h = elim (cases_lt s k) [
@@ -56,7 +56,7 @@ few_saved k p s (x ∷ xs) l u e h = elim (cases_lt s k) [
       rw (h.0 ∙ eq-eqb (p % k) 0 none) (omega (arith, rest))
 ]
 
--- of records, of which the first is saved, and those after it are saved so
+-- an upper bound for records of which the first is saved, and the others by these flags
 pub saved_bound : (k place many count : ℕ) (saved : List Bool) → 1 ≤ k → place < k → IsSparse k (place + 1) saved → length saved ≡ many - 1 → 0 < many → count ≤ 1 + count_saved saved →
     count ≤ 2 + many / k
 saved_bound k place many count saved some within h long there c =
@@ -93,7 +93,7 @@ spaced_left k place n saved h = record { some = h.some; few = h.few; within = mo
 pub spaced_taken : (k place n : ℕ) (saved : List Bool) → IsSpaced k place saved → IsSpaced k place (take n saved)
 spaced_taken k place n saved h = record { some = h.some; few = h.few; within = h.within; sparse = sparse_take k (place + 1) n saved h.sparse }
 
--- they are many enough too
+-- a lower bound
 many_saved : (k p s : ℕ) (saved : List Bool) → 1 ≤ s → s ≤ k → p % k ≡ s % k → IsSparse k p saved → length saved + s ≤ count_saved saved * k + k
 many_saved k p s [] l u e h = omega arith
 many_saved k p s (x ∷ xs) l u e h = elim (cases_lt s k) [

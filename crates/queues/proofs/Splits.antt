@@ -1,4 +1,4 @@
--- What waits, in two parts, with one message more or less.
+-- The waiting messages in two parts, with one message added or removed.
 use Rattle.std.proofs.Common.{◌≡◌, ℕ, ◌<◌, ◌≤◌, List, [], ◌∷◌, ◌++◌, true, false, Some, None, refl, ap, sym, ◌∙◌, arith, length, drop, get_or, reverse, subst}
 use Rattle.std.proofs.lemmas.Bool.{cond_both, lt-ltb, ltb-false, ltb-true}
 use Rattle.std.proofs.lemmas.List.{append_assoc, length-reverse, reverse-append}
@@ -12,7 +12,7 @@ use Rattle.eventkey.specs.Message.{IsAtMost, Message, is_before, is_same}
 use Rattle.queues.proofs.Buckets.{length-add}
 use Rattle.queues.specs.Split.{IsSplit, both}
 
--- 1. Two lists that ascend together, with one message more in one of them
+-- 1. Two lists that ascend together, with one message added to one of them
 
 module _ (m : Message) (xs ys : List Message) (up : IsAscending (xs ++ ys)) where
   pub ascends-left : Every (IsAtMost m) ys → IsAscending (add m xs ++ ys)
@@ -79,7 +79,7 @@ module _ (near far : List Message) (g : Message) (some : 0 < length near) (is : 
       (λ y h. (Every-right (λ (x : Message). IsAtMost x y) (reverse (drop 1 near)) (g ∷ []) h).0)
       far (IsAscending-across (reverse (drop 1 near) ++ g ∷ []) far up_last)
 
-  -- the greatest goes to the others
+  -- the greatest message at hand goes to the others
   pub spilt : both (drop 1 near) (add g far) ≡ both near far
   spilt =
       let rest = reverse (drop 1 near) in
@@ -87,7 +87,7 @@ module _ (near far : List Message) (g : Message) (some : 0 < length near) (is : 
       let least : add g far ≡ g ∷ far = same_ascending (add g far) (g ∷ far) (IsAscending-add g far (IsAscending-right (rest ++ g ∷ []) far up_last)) (IsAscending-right rest (g ∷ far) whole) (λ x. copies-add x g far) in
       ap (λ (ys : List Message). rest ++ ys) least ∙ (sym (append_assoc rest (g ∷ []) far) ∙ ap (λ (xs : List Message). xs ++ far) (sym greatest_last))
 
-  -- what comes after it
+  -- a message after it goes to the others
   pub goes_far : (m : Message) → is_before g m ≡ true → length near ≤ 32 → IsSplit near (add m far) × (both near (add m far) ≡ add m (both near far))
   goes_far m e few =
       let least = Every-weaker (λ (x : Message). IsAtMost x g) (λ (x : Message). IsAtMost x m) (λ x h. at_most_trans x g m h (at_most_from_before g m e)) (reverse near) at_most_greatest in
@@ -111,7 +111,7 @@ pub nothing_far : (m : Message) (far : List Message) → length far ≤ 0 → Ev
 nothing_far m [] l = tt
 nothing_far m (x ∷ xs) l = absurd (omega arith)
 
--- 3. One message less
+-- 3. One message removed
 
 pub taken_near : (m : Message) (near far less : List Message) → IsAscending (both near far) → is_among m (reverse near) ≡ true → reverse less ≡ remove_one m (reverse near) →
     (is_among m (both near far) ≡ true) × (both less far ≡ remove_one m (both near far)) × IsAscending (both less far)
@@ -141,7 +141,7 @@ pub nothing_first : (far : List Message) → slice_get far 0 ≡ None → length
 nothing_first [] e = omega arith
 nothing_first (x ∷ xs) e = absurd (none-some x (sym e))
 
--- the least of the others comes to hand where nothing is there
+-- the least of the others comes to hand if no message is at hand
 pub refilled : (near far : List Message) (least : Message) → near ≡ [] → slice_get far 0 ≡ Some least → both (least ∷ []) (remove_one least far) ≡ both near far
 refilled near [] least none e = absurd (none-some least e)
 refilled near (x ∷ xs) least none e =

@@ -1,4 +1,4 @@
--- The last records or messages of a list, and messages put into a bag and taken out again.
+-- The last records or messages of a list, and messages added to a bag and removed again.
 use Rattle.std.proofs.Common.{false, ◌≡◌, ℕ, ◌+◌, ◌-◌, ◌<◌, ◌≤◌, List, [], ◌∷◌, ◌++◌, suc, refl, ap, sym, ◌∙◌, arith, length, take, drop, get_or, inl, inr}
 use Rattle.std.proofs.lemmas.Bool.{cases_Bool, ltb-true, ltb-false, lt-ltb, le-ltb}
 use Rattle.std.proofs.lemmas.List.{get_or-drop, length-append, length-drop, drop_all, take_all, take_more}
@@ -53,7 +53,7 @@ pub remove_all-last : (xs bag : List Message) (m : Message) → remove_all (xs +
 remove_all-last [] bag m = refl
 remove_all-last (x ∷ xs) bag m = remove_all-last xs (remove_one x bag) m
 
--- what was put in is taken out again
+-- added messages are removed again
 pub taken_out : (xs bag : List Message) → IsAscending bag → remove_all xs (add_all xs bag) ≡ bag
 taken_out xs bag up =
     same_ascending (remove_all xs (add_all xs bag)) bag (IsAscending-remove_all xs (add_all xs bag) (IsAscending-add_all xs bag up)) up

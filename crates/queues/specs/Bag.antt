@@ -1,4 +1,4 @@
--- How the code keeps a bag: by buckets, and how many messages they have.
+-- The inside of a bag: its messages grouped by time, and their number.
 use Rattle.std.specs.Prelude.{List, length, ◌≡◌}
 use Rattle.eventkey.specs.Message.{Message}
 use Rattle.queues.specs.Buckets.{IsParted, all_of}

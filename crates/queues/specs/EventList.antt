@@ -1,4 +1,4 @@
--- How the code keeps what waits, and how much waits.
+-- The inside of the list of waiting messages: two parts, and the number of messages.
 use Rattle.std.specs.Prelude.{List, length, ◌≡◌}
 use Rattle.eventkey.specs.Message.{Message}
 use Rattle.queues.specs.Split.{IsSplit, both}

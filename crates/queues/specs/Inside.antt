@@ -1,4 +1,4 @@
--- What a contract sees of an input queue.
+-- The queue that contracts see of an `InputQueue`.
 use Rattle.queues.specs.Queue.{Queue}
 use Rattle.queues.specs.declared.input.InputQueue.TheInside.{Inside}
 

@@ -1,8 +1,8 @@
--- For callers: the input queue and its five cases, and records of what was handled
+-- For callers: the input queue and the five cases of an arrival; records of what was handled
 pub mod Queue
 pub mod Record
--- Inside: how the code keeps a queue, which records of a history keep their state words, where a
--- message stands in a list, what leaves a bucket, what is at hand of what waits
+-- Inside: the parts of a queue, which records of a history have their state words, the place of a
+-- message in a list, what leaves a bucket, the messages at hand
 pub mod Inside
 pub mod Sparse
 pub mod Kept

@@ -1,5 +1,5 @@
--- The input queue of a process (Jefferson 1985): what an arrival undoes, meets or leaves, and its
--- five cases.
+-- The input queue of a process (Jefferson 1985): what an arrival undoes, annihilates or adds, and
+-- its five cases.
 use Rattle.std.specs.List.{AllByRecursion as Every, filter}
 use Rattle.std.specs.Prelude.{ℕ, List, [], ◌∷◌, ◌++◌, length, if◌then◌else◌, nat_le, nat_lt, ◌+◌}
 use Rattle.std.specs.Prelude.{◌≡◌, ◌≤◌, true, false, Option, Some, None}
@@ -11,28 +11,28 @@ use Rattle.eventkey.specs.declared.Signed.{Signed}
 use Rattle.queues.specs.declared.Arrival.{Arrival}
 use Rattle.queues.specs.declared.Arrival.TheVariants.{Annihilated, Queued, Waits}
 
--- all but the last n
+-- all but the last n elements
 abbrev pub but_last : {X : Type 0} → ℕ → List X → List X
 but_last n [] = []
 but_last n (x ∷ xs) = if nat_lt (length xs) n then [] else x ∷ but_last n xs
 
--- the last n
+-- the last n elements
 abbrev pub last_of : {X : Type 0} → ℕ → List X → List X
 last_of n [] = []
 last_of n (x ∷ xs) = if nat_lt (length xs) n then x ∷ xs else last_of n xs
 
--- how many of them are after m
+-- the number of messages in the list that are after m
 abbrev pub after : Message → List Message → ℕ
 after m [] = 0
 after m (x ∷ xs) = if is_before m x then after m xs + 1 else after m xs
 
--- The messages of a process: done, and two bags
+-- The messages of a process: the done ones, the waiting ones, and the waiting antimessages
 pub record Queue : Type 0 where
   pub done : List Message
   pub waiting : List Message
   pub antis : List Message
 
--- How many done messages an arrival undoes
+-- The number of done messages that an arrival undoes
 abbrev pub back : Signed → Queue → ℕ
 back s q = elim s.sign [
   | Plus ↦ if is_among s.message q.antis then 0 else after s.message q.done
@@ -40,7 +40,7 @@ back s q = elim s.sign [
       s.message q.done + 1 else 0
 ]
 
--- the last n done messages undone: they wait again
+-- the last n done messages are undone: they wait again
 abbrev pub wait_again : ℕ → Queue → Queue
 wait_again n q = record {
   done = but_last n q.done;
@@ -48,7 +48,7 @@ wait_again n q = record {
   antis = q.antis;
 }
 
--- then the message meets its antimessage, or stays for it
+-- the arriving message annihilates with its opposite, or waits
 abbrev pub settle : Signed → Queue → Queue
 settle s q = elim s.sign [
   | Plus ↦ if is_among s.message q.antis then record q { antis = remove_one s.message q.antis }
@@ -70,7 +70,7 @@ arrival s q = elim s.sign [
       then Annihilated (back s q) else Waits
 ]
 
--- how many done messages an arrival undid
+-- the number of done messages that an arrival undid
 abbrev pub back_of : Arrival → ℕ
 back_of (Queued n) = n
 back_of (Annihilated n) = n
@@ -81,14 +81,14 @@ abbrev pub first_before : ℕ → List Message → Option Message
 first_before end [] = None
 first_before end (x ∷ xs) = if nat_lt x.time end then Some x else None
 
--- that message is handled
+-- the queue after the least waiting message is handled, if its time is below end
 abbrev pub taken : ℕ → Queue → Queue
 taken end q = elim (first_before end q.waiting) [
   | None ↦ q
   | Some x ↦ record { done = q.done ++ x ∷ []; waiting = remove_one x q.waiting; antis = q.antis }
 ]
 
--- what was handled before the floor is let go
+-- the queue without the done messages below the floor
 abbrev pub released : ℕ → Queue → Queue
 released floor q = record q { done = filter (λ (x : Message). nat_le floor x.time) q.done }
 
@@ -97,20 +97,20 @@ abbrev pub first_time : List Message → Option ℕ
 first_time [] = None
 first_time (x ∷ xs) = Some (least_time x.time xs)
 
--- no antimessage stands with its message
+-- no antimessage is in the queue beside its message
 abbrev pub IsApart : Queue → Type 0
 IsApart q = (x : Message) → 1 ≤ copies x q.antis → (copies x q.done ≡ 0) × (copies x q.waiting ≡ 0)
 
--- what holds of every input queue
+-- the invariant of every input queue
 pub record IsInOrder (q : Queue) : Type 0 where
   pub done : IsAscending q.done
   pub waiting : IsAscending q.waiting
   pub antis : IsAscending q.antis
-  -- no waiting message is less than the last one done
+  -- no waiting message is less than the last done one
   pub behind : Every (λ (w : Message). Every (λ (d : Message). IsAtMost d w) q.done) q.waiting
   pub apart : IsApart q
 
--- the five cases
+-- the five cases of an arrival
 pub record ArrivesByCases (m : Message) (q : Queue) : Type 0 where
   pub plus_meets : is_among m q.antis ≡ true → (back (plus m) q ≡ 0)
       × (arrived (plus m) q ≡ record q { antis = remove_one m q.antis })
@@ -144,7 +144,8 @@ QueuesStayApart = (s : Signed) (q : Queue) → IsAscending q.done → IsApart q 
 abbrev pub QueuesStayInOrder : Type 0
 QueuesStayInOrder = (s : Signed) (q : Queue) → IsInOrder q → IsInOrder (arrived s q)
 
--- Of every message: what is done or waits and its antimessages, against what arrived
+-- For every message: the number of its copies done and waiting, less its antimessages, changes by
+-- exactly what arrived.
 abbrev pub QueuesCount : Type 0
 QueuesCount = (x : Message) (s : Signed) (q : Queue) →
     copies x (arrived s q).done + copies x (arrived s q).waiting + copies x q.antis
@@ -152,7 +153,8 @@ QueuesCount = (x : Message) (s : Signed) (q : Queue) →
     ≡ copies x q.done + copies x q.waiting + copies x (arrived s q).antis
     + copies x (of_sign Plus (s ∷ []))
 
--- What an arrival answers tells how many done messages it undid, no more than there were.
-abbrev pub ArrivalsTellBack : Type 0
-ArrivalsTellBack = (s : Signed) (q : Queue) → IsAscending q.done →
+-- The answer of an arrival gives the number of done messages that it undid, at most as many as
+-- there were.
+abbrev pub ArrivalsCountUndone : Type 0
+ArrivalsCountUndone = (s : Signed) (q : Queue) → IsAscending q.done →
     (back_of (arrival s q) ≡ back s q) × (back s q ≤ length q.done)

@@ -1,5 +1,5 @@
--- A message handled, and lists of such (the state queue and the output queue of a process, in one:
--- Jefferson 1985).
+-- Records of handled messages, and lists of them: the state queue and the output queue of a process
+-- in one (Jefferson 1985).
 use Rattle.queues.specs.declared.Record.{Record}
 use Rattle.queues.specs.declared.Released.{Released}
 use Rattle.std.specs.List.{filter}
@@ -10,17 +10,17 @@ use Rattle.eventkey.specs.Message.{Message}
 use Rattle.model.specs.Meaning.{Meaning}
 use Rattle.queues.specs.Queue.{but_last, last_of}
 
--- the first of them, as long as they are before the time
+-- the leading records before the time
 abbrev pub handled_before : ℕ → List Record → List Record
 handled_before c [] = []
 handled_before c (h ∷ hs) = if nat_lt h.message.time c then h ∷ handled_before c hs else []
 
--- the others
+-- the records after these
 abbrev pub handled_from : ℕ → List Record → List Record
 handled_from c [] = []
 handled_from c (h ∷ hs) = if nat_lt h.message.time c then handled_from c hs else h ∷ hs
 
--- the state before these handlings, or this one where there are none
+-- the state before the first of these handlings, or the given state if there are none
 abbrev pub state_before : List Record → List ℕ → List ℕ
 state_before [] state = state
 state_before (h ∷ hs) state = h.before
@@ -44,46 +44,47 @@ sent_in hs = flat_map (λ (h : Record). h.sent) hs
 abbrev pub messages : List Record → List Message
 messages hs = map (λ (h : Record). h.message) hs
 
--- what each of them sent
+-- the messages that each of these handlings sent
 abbrev pub sends : List Record → List (List Message)
 sends hs = map (λ (h : Record). h.sent) hs
 
--- the state words that a handling by this model leaves
+-- the state words after a handling, by this model
 abbrev pub left_by : Meaning → Record → List ℕ
 left_by m h = m.next_state h.message.to h.before h.message
 
--- Handlings by this model, one after another: of messages to its processes, in states of at most 16
--- words, and each in the state that the one before it left. So the state words before any of them
--- can be rebuilt by coasting forward from an earlier one.
+-- These records are consecutive handlings by this model: of messages to its processes, in states of
+-- at most 16 words, each in the state that the one before it left. So the state words before any of
+-- them can be rebuilt by coasting forward from an earlier one.
 abbrev pub AreHandlings : Meaning → List Record → Type 0
 AreHandlings m [] = ⊤
 AreHandlings m (h ∷ hs) =
     (h.message.to < m.lps) × (length h.before ≤ 16)
     × (state_before hs (left_by m h) ≡ left_by m h) × AreHandlings m hs
 
--- such handlings that lead to this state, of at most 16 words
+-- these are consecutive handlings that lead to this state, of at most 16 words
 abbrev pub LeadTo : Meaning → List Record → List ℕ → Type 0
 LeadTo m [] state = length state ≤ 16
 LeadTo m (h ∷ hs) state =
     (h.message.to < m.lps) × (length h.before ≤ 16)
     × (state_before hs state ≡ left_by m h) × LeadTo m hs state
 
--- the first of these handlings is taken out, if it is before the time
+-- the first of these handlings is removed if it is before the time, and nothing else changes
 abbrev pub IsFirstTaken : ℕ → List Record → List Record → Option Released → Type 0
 IsFirstTaken c old new None = (handled_before c old ≡ []) × (new ≡ old)
 IsFirstTaken c old new (Some r) =
     (h : Record) × (old ≡ h ∷ new) × (h.message.time < c)
     × (r ≡ record { message = h.message; sent = h.sent })
 
--- Where the messages ascend, those first records are all records before the time, and the others
--- all records from it on.
+-- If the messages ascend, the leading records before a time are all records before it, and the
+-- others are all records from it on.
 abbrev pub RecordsPart : Type 0
 RecordsPart = (c : ℕ) (hs : List Record) → IsAscending (messages hs) →
     (handled_before c hs ≡ filter (λ (h : Record). nat_lt h.message.time c) hs)
     × (handled_from c hs ≡ filter (λ (h : Record). nat_le c h.message.time) hs)
 
--- Handlings by a model stay so, whatever happens to a history: one more in the state to which they
--- lead, the last n taken back with their states, the first released.
+-- Consecutive handlings by a model stay so whatever happens to a history: one more is appended in
+-- the state to which they lead, the last n are rolled back with their states, or the first are
+-- released.
 abbrev pub HandlingsAreKept : Type 0
 HandlingsAreKept = (m : Meaning) (hs : List Record) (state : List ℕ) → LeadTo m hs state →
     AreHandlings m hs

@@ -1,5 +1,5 @@
--- An ascending list in two parts: the least messages at hand, greatest first, and the bag of the
--- others.
+-- An ascending list in two parts: the least messages, at hand and kept greatest first, and a bag of
+-- the others.
 use Rattle.std.specs.Prelude.{List, ◌++◌, ◌<◌, ◌≤◌, length, reverse}
 use Rattle.eventkey.specs.Bag.{IsAscending}
 use Rattle.eventkey.specs.Message.{Message}
@@ -7,8 +7,8 @@ use Rattle.eventkey.specs.Message.{Message}
 abbrev pub both : List Message → List Message → List Message
 both near far = reverse near ++ far
 
--- none at hand is greater than one of the others, where there are others, something is at hand, and
--- at most 32 are at hand
+-- no message at hand is greater than one of the others; if there are others, some message is at
+-- hand; at most 32 are at hand
 pub record IsSplit (near far : List Message) : Type 0 where
   pub ascending : IsAscending (both near far)
   pub some : 0 < length far → 0 < length near

@@ -1,4 +1,4 @@
-// The done messages: an ascending list, searched by halves.
+// The done messages: an ascending list with binary search.
 
 ghost use Rattle.std.specs.Prelude.{◌≡◌, ◌≤◌, ◌+◌, not, take, drop, OnOk, OnErr};
 ghost use Rattle.std.specs.VecDeque.{deque_len};
@@ -11,12 +11,12 @@ use eventkey::Message;
 use std::alloc::AllocError;
 use std::collections::VecDeque;
 
-/// How many messages of an ascending list are after this one.
+/// Returns the number of messages in an ascending list that are after this one.
 pub(crate) fn count_after(ascending: &VecDeque<Message>, message: &Message) -> usize
     requires { IsAscending ascending.now.items }
     ensures { result ≡ after message.now ascending.now.items }
 {
-    // Most messages come after all of them.
+    // Most messages are after all done ones.
     let Some(last) = ascending.back() else {
         return 0;
     };
@@ -31,7 +31,7 @@ pub(crate) fn count_after(ascending: &VecDeque<Message>, message: &Message) -> u
     ascending.len() - kept
 }
 
-/// Whether a message is in an ascending list.
+/// Returns whether a message is in an ascending list.
 pub(crate) fn holds(ascending: &VecDeque<Message>, message: &Message) -> bool
     requires { IsAscending ascending.now.items }
     ensures { result ≡ is_among message.now ascending.now.items }
@@ -40,8 +40,8 @@ pub(crate) fn holds(ascending: &VecDeque<Message>, message: &Message) -> bool
     kept > 0 && ascending[kept - 1].is_same(message)
 }
 
-/// The last `count` done messages wait again. It is refused only for want of memory, and then what
-/// was put in is taken out again.
+/// Adds the last `count` done messages to the waiting ones. Returns `AllocError` only if an
+/// allocation fails; what was added is then removed again.
 pub(crate) fn wait_again(
     done: &VecDeque<Message>,
     waiting: &mut EventList,
@@ -53,7 +53,7 @@ pub(crate) fn wait_again(
     ensures unchanged { OnErr result (waiting.new ≡ waiting.old) }
 {
     let all = done.len();
-    // The last one first: each then comes before those that wait already, and moves none of them.
+    // Last one first: each then precedes all that wait already, and moves none of them.
     for again in 0..count {
         if waiting.add(done[all - again - 1]).is_err() {
             take_out(done, waiting, all - again, again);
@@ -63,7 +63,7 @@ pub(crate) fn wait_again(
     Ok(())
 }
 
-/// So many done messages, from this place on, wait no more. It takes no memory.
+/// Removes `count` done messages, from index `first` on, from the waiting ones. Allocates nothing.
 fn take_out(done: &VecDeque<Message>, waiting: &mut EventList, first: usize, count: usize)
     requires { first + count ≤ deque_len done.now }
     ensures { waiting.new ≡ remove_all (take count (drop first done.now.items)) waiting.old }
@@ -73,7 +73,7 @@ fn take_out(done: &VecDeque<Message>, waiting: &mut EventList, first: usize, cou
     }
 }
 
-/// The last `count` messages are done no more. It takes no memory.
+/// Drops the last `count` done messages. Allocates nothing.
 pub(crate) fn undo(done: &mut VecDeque<Message>, count: usize)
     requires { count ≤ deque_len done.old }
     ensures { done.new.items ≡ but_last count done.old.items }
@@ -82,7 +82,7 @@ pub(crate) fn undo(done: &mut VecDeque<Message>, count: usize)
     done.truncate(kept);
 }
 
-/// The first `count` done messages are let go. It takes no memory.
+/// Drops the first `count` done messages. Allocates nothing.
 pub(crate) fn let_go(done: &mut VecDeque<Message>, count: usize)
     requires { count ≤ deque_len done.old }
     ensures { done.new.items ≡ drop count done.old.items }

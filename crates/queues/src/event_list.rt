@@ -1,4 +1,4 @@
-// What waits at a process.
+// The waiting messages of a process.
 
 ghost use Rattle.std.specs.Prelude.{◌≡◌, ◌<◌, ◌≤◌, ◌^◌, [], length, drop, vec_len, vec_capacity};
 ghost use Rattle.std.specs.Prelude.{slice_get};
@@ -12,15 +12,15 @@ use crate::bucket::{find, put};
 use eventkey::Message;
 use std::alloc::{AllocError, Global};
 
-/// How many messages are at hand at the most, so that one more moves few of them.
+/// The maximum number of messages at hand. It is small, so that an insertion moves few of them.
 const AT_HAND: usize = 32;
 
-/// The messages that wait, seen as the ascending list of them. The least ones are at hand in one
-/// piece of memory, since they are handled next; where more than `AT_HAND` wait, the others are in
-/// a bag, and what one more costs is the logarithm of their times.
+/// The waiting messages, seen as their ascending list. The least ones are at hand in one piece of
+/// memory, since they are handled next. If more than `AT_HAND` wait, the others are in a bag, where
+/// an insertion costs the logarithm of the number of their times.
 #[derive(Drop)]
 pub(crate) struct EventList {
-    // Greatest first, so that the least is taken at the end.
+    // Greatest first, so that the least is popped from the end.
     near: Vec<Message>,
     far: Bag,
     len: usize,
@@ -39,7 +39,7 @@ impl std::marker::Model for EventList {
 }
 
 impl EventList {
-    /// Nothing waits.
+    /// Returns an empty list.
     pub fn new(alloc: Global) -> EventList
         ensures { result ≡ [] }
     {
@@ -50,14 +50,14 @@ impl EventList {
         }
     }
 
-    /// How many messages wait.
+    /// Returns the number of waiting messages.
     pub fn len(&self) -> usize
         ensures { result ≡ length self.now }
     {
         self.len
     }
 
-    /// The least message, if one waits.
+    /// Returns the least message, if one waits.
     pub fn first(&self) -> Option<Message>
         ensures least { result ≡ slice_get self.now 0 }
         ensures ascending { IsAscending self.now }
@@ -68,7 +68,7 @@ impl EventList {
         }
     }
 
-    /// The least time, in ticks, if a message waits.
+    /// Returns the least time, in ticks, if a message waits.
     pub fn least_time(&self) -> Option<u64>
         ensures least { result ≡ first_time self.now }
         ensures range { IfSome result (λ time. time < 2 ^ 41) }
@@ -82,7 +82,7 @@ impl EventList {
         }
     }
 
-    /// Takes the least message out, if one waits. It takes no memory.
+    /// Removes the least message and returns it, if one waits. Allocates nothing.
     pub fn take_first(&mut self) -> Option<Message>
         ensures least { result ≡ slice_get self.old 0 }
         ensures left { self.new ≡ drop 1 self.old }
@@ -93,7 +93,7 @@ impl EventList {
         Some(least)
     }
 
-    /// One more message waits. It is refused only for want of memory, and then nothing is changed.
+    /// Adds a message. Returns `AllocError` only if an allocation fails; nothing is then changed.
     pub fn add(&mut self, message: Message) -> Result<(), AllocError>
         ensures added { OnOk result (self.new ≡ add message self.old) }
         ensures unchanged { OnErr result (self.new ≡ self.old) }
@@ -106,7 +106,7 @@ impl EventList {
         Ok(())
     }
 
-    /// One copy of a message waits no more; whether it was there. It takes no memory.
+    /// Removes one copy of a message, and returns whether there was one. Allocates nothing.
     pub fn remove(&mut self, message: &Message) -> bool
         ensures answer { result ≡ is_among message.now self.old }
         ensures removed { self.new ≡ remove_one message.now self.old }
@@ -119,7 +119,7 @@ impl EventList {
     }
 }
 
-/// One more message. It is refused only for want of memory, and then none is there.
+/// Adds a message. Returns `AllocError` only if an allocation fails; the message is then not added.
 fn put_in(near: &mut Vec<Message>, far: &mut Bag, message: Message) -> Result<(), AllocError>
     requires { IsSplit near.old.items far.old }
     ensures split { IsSplit near.new.items far.new }
@@ -137,8 +137,8 @@ fn put_in(near: &mut Vec<Message>, far: &mut Bag, message: Message) -> Result<()
     Ok(())
 }
 
-/// Where enough messages are at hand, the greatest of them goes to the others. It is refused only
-/// for want of memory, and then it stays.
+/// Moves the greatest message at hand to the others if `AT_HAND` messages are at hand. Returns
+/// `AllocError` only if an allocation fails; the message then stays.
 fn make_room(near: &mut Vec<Message>, far: &mut Bag) -> Result<(), AllocError>
     requires { IsSplit near.old.items far.old }
     ensures split { IsSplit near.new.items far.new }
@@ -153,7 +153,7 @@ fn make_room(near: &mut Vec<Message>, far: &mut Bag) -> Result<(), AllocError>
     Ok(())
 }
 
-/// Takes one copy of a message out; whether it was there. It takes no memory.
+/// Removes one copy of a message, and returns whether there was one. Allocates nothing.
 fn take_out(near: &mut Vec<Message>, far: &mut Bag, message: &Message) -> bool
     requires { IsSplit near.old.items far.old }
     ensures split { IsSplit near.new.items far.new }
@@ -171,7 +171,7 @@ fn take_out(near: &mut Vec<Message>, far: &mut Bag, message: &Message) -> bool
     }
 }
 
-/// Where nothing is at hand, the least of the others comes there. It takes no memory.
+/// Moves the least of the others to those at hand if none is at hand. Allocates nothing.
 fn refill(near: &mut Vec<Message>, far: &mut Bag)
     requires ascending { IsAscending (both near.old.items far.old) }
     requires few { length near.old.items ≤ 32 }

@@ -16,20 +16,22 @@ use eventkey::Message;
 use model::{Model as Simulated, Sent, State, Words};
 use std::alloc::{AllocError, Global};
 
-/// What a logical process handled, in the order of handling: its state queue and its output queue
-/// in one (Jefferson 1985), seen as the list of records.
+/// The handled messages of a logical process in the order of handling, seen as a list of records:
+/// its state queue and its output queue in one (Jefferson 1985).
 ///
-/// State words are kept for the first record and for one in any `K` in a row, `K` from 1 to 64. The
-/// others are rebuilt by coasting forward with the model (infrequent state saving: Fujimoto 1990).
+/// The state words are saved for the first record and for one in any `K` consecutive records, `K`
+/// from 1 to 64. The others are rebuilt by coasting forward with the model (infrequent state
+/// saving: Fujimoto 1990).
 pub struct History<const K: usize> {
     alloc: Global,
-    /// The place of the first record, below `K`. Record i > 0 keeps its words where (place + i) mod
-    /// K = 0.
+    /// The place of the first record, below `K`. Record i > 0 has its words saved if (place + i)
+    /// mod `K` = 0.
     place: usize,
     records: SparseRecords,
 }
 
-// Not derived: each caller that drops one would prove again how its parts are dropped.
+// Handwritten: with a derived drop, each caller that drops a history proves again how its parts are
+// dropped.
 impl<const K: usize> Drop for History<K> {
     fn drop(self) {
         let History {
@@ -53,7 +55,7 @@ impl<const K: usize> std::marker::Model for History<K> {
 }
 
 impl<const K: usize> History<K> {
-    /// The empty history.
+    /// Returns the empty history.
     pub fn new(alloc: Global) -> History<K>
         requires some { 1 ≤ K }
         requires few { K ≤ 64 }
@@ -66,15 +68,15 @@ impl<const K: usize> History<K> {
         }
     }
 
-    /// How many records there are.
+    /// Returns the number of records.
     pub fn len(&self) -> usize
         ensures { result ≡ length self.now }
     {
         self.records.len()
     }
 
-    /// For how many records the state words are kept. It takes no memory, and costs the number of
-    /// records.
+    /// Returns the number of records whose state words are saved. Allocates nothing; takes time in
+    /// proportion to the number of records.
     pub fn saved(&self) -> usize
         ensures bound { result ≤ 2 + length self.now / K }
         ensures enough { length self.now ≤ result * K }
@@ -82,21 +84,24 @@ impl<const K: usize> History<K> {
         self.records.saved()
     }
 
-    /// The time of the first record's message, in ticks, if there is one. It takes no memory.
+    /// Returns the time of the first record's message, in ticks, if there is one. Allocates
+    /// nothing.
     pub fn first_time(&self) -> Option<u64>
         ensures { result ≡ first_handled self.now }
     {
         self.records.first_time()
     }
 
-    /// The state words before the first record; these where there is none. It takes no memory.
+    /// Returns the state words before the first record, or `words` if there are no records.
+    /// Allocates nothing.
     pub fn words_before<'h>(&'h self, words: &'h Words) -> &'h Words
         ensures { result.now.items ≡ state_before self.now words.now.items }
     {
         self.records.first_words().unwrap_or(words)
     }
 
-    /// The send number before the first record; this one where there is none. It takes no memory.
+    /// Returns the send number before the first record, or `number` if there are no records.
+    /// Allocates nothing.
     pub fn number_before(&self, number: u64) -> u64
         ensures { result ≡ number_before self.now number }
     {
@@ -106,7 +111,8 @@ impl<const K: usize> History<K> {
         self.records.number_before(0)
     }
 
-    /// The messages that the record at this place sent; the place is below the number of records.
+    /// Returns the messages that the record at index `at` sent; `at` is below the number of
+    /// records.
     pub fn sent(&self, at: usize) -> &[Message]
         requires { at < length self.now }
         ensures { slice_get (sends self.now) at ≡ Some result.now }
@@ -114,7 +120,7 @@ impl<const K: usize> History<K> {
         self.records.sent(at)
     }
 
-    /// One more record, at the end. It is refused only for want of memory, and then the history is
+    /// Appends a record. Returns `AllocError` only if an allocation fails; the history is then
     /// unchanged.
     pub fn push(&mut self, last: Record) -> Result<(), AllocError>
         ensures pushed { OnOk result (self.new ≡ self.old ++ last ∷ []) }
@@ -129,8 +135,9 @@ impl<const K: usize> History<K> {
         self.push_handling(message, &before, number_before, sent)
     }
 
-    /// The same for the record of these parts. Its state words are lent, and copied only where they
-    /// are kept.
+    /// Appends the record with these parts. The state words are borrowed, and copied only if this
+    /// record is one that saves them. Returns `AllocError` only if an allocation fails; the history
+    /// is then unchanged.
     pub fn push_handling(
         &mut self,
         message: Message,
@@ -151,10 +158,10 @@ impl<const K: usize> History<K> {
             .push(message, before, number_before, sent, place == 0)
     }
 
-    /// Takes the last `count` records, no more than there are, out and answers them in their order.
-    /// It is refused only for want of memory, and then the history is unchanged. It takes at most
-    /// `count` + `K` handlings; none, and no memory, where `count` is 0.
-    pub fn take_back<M: Simulated>(
+    /// Removes the last `count` records, at most as many as there are, and returns them in order.
+    /// Runs at most `count` + `K` handlings; if `count` is 0, none, and it allocates nothing.
+    /// Returns `AllocError` only if an allocation fails; the history is then unchanged.
+    pub fn undo_last<M: Simulated>(
         &mut self,
         model: &M,
         count: usize,
@@ -170,16 +177,17 @@ impl<const K: usize> History<K> {
             return Ok(Vec::new(self.alloc));
         }
         let kept = self.records.len() - count;
-        // What can fail comes first.
+        // The calls that can fail come first.
         let mut undone = Vec::with_capacity(self.alloc, count)?;
         let mut last = self.records.split_off(model, kept)?;
         take_first(model, &mut last, count, &mut undone);
         Ok(undone)
     }
 
-    /// Lets go of the last `count` records, and puts state words and send number back to those
-    /// before them: a rollback (Jefferson 1985). It is refused only for want of memory, and then
-    /// nothing is changed. It takes at most `K` handlings; none, and no memory, where `count` is 0.
+    /// Rolls back (Jefferson 1985): drops the last `count` records, and sets `state` and `number`
+    /// to the state words and the send number before them. Runs at most `K` handlings; if `count`
+    /// is 0, none, and it allocates nothing. Returns `AllocError` only if an allocation fails;
+    /// nothing is then changed.
     pub fn roll_back<M: Simulated>(
         &mut self,
         model: &M,
@@ -201,7 +209,7 @@ impl<const K: usize> History<K> {
             return Ok(());
         }
         let kept = self.records.len() - count;
-        // What can fail comes first.
+        // The calls that can fail come first.
         let before = self.records.words_before(model, kept)?;
         *state = State::from_words(before);
         *number = self.records.number_before(kept);
@@ -209,10 +217,10 @@ impl<const K: usize> History<K> {
         Ok(())
     }
 
-    /// Takes out the first records, as long as their messages are below the floor, in ticks, and
-    /// answers them in their order: where the records ascend, all that are below it. It is refused
-    /// only for want of memory, and then the history is unchanged. It costs what it takes out, and
-    /// takes at most as many handlings.
+    /// Removes the leading records whose messages are below `floor`, in ticks, and returns them in
+    /// order. If the records ascend, these are all records below `floor`. Takes time in proportion
+    /// to the records removed, and runs at most one handling for each. Returns `AllocError` only if
+    /// an allocation fails; the history is then unchanged.
     pub fn release<M: Simulated>(
         &mut self,
         model: &M,
@@ -228,16 +236,16 @@ impl<const K: usize> History<K> {
         ensures unchanged { OnErr result (self.new ≡ self.old) }
     {
         let count = count_before(&self.records, floor);
-        // What can fail comes first.
+        // The calls that can fail come first.
         let mut released = Vec::with_capacity(self.alloc, count)?;
         take_first(model, &mut self.records, count, &mut released);
         self.place = (self.place + count) % K;
         Ok(released)
     }
 
-    /// Takes the first record out, if its message is below the floor, in ticks, and answers what it
-    /// handled and sent: its state words are those of `words_before` until then. It takes no memory,
-    /// and at most one handling.
+    /// Removes the first record if its message is below `floor`, in ticks, and returns the message
+    /// and what its handling sent. Until then `words_before` returns its state words. Allocates
+    /// nothing, and runs at most one handling.
     pub fn release_first<M: Simulated>(&mut self, model: &M, floor: u64) -> Option<Released>
         requires { AreHandlings (M.meaning model.now) self.old }
         ensures { IsFirstTaken floor self.old self.new result }
@@ -251,8 +259,8 @@ impl<const K: usize> History<K> {
         Some(first.into_released())
     }
 
-    /// The same, where these are the state words after that record, so before the next one, if there
-    /// is one. It takes no memory, and no handling.
+    /// Does the same for a caller that has the state words after that record, which are those
+    /// before the next one if there is one. Allocates nothing, and runs no handling.
     pub fn release_first_to(&mut self, floor: u64, next: &[u64]) -> Option<Released>
         requires few { length next.now ≤ 16 }
         requires next { AreNextWords next.now self.old }
@@ -268,7 +276,7 @@ impl<const K: usize> History<K> {
     }
 }
 
-/// How many of the first records have messages below the floor.
+/// Returns the number of leading records whose messages are below `floor`.
 fn count_before(records: &SparseRecords, floor: u64) -> usize
     ensures within { result ≤ length records.now.records }
     ensures before { take result records.now.records ≡ handled_before floor records.now.records }
@@ -282,7 +290,7 @@ fn count_before(records: &SparseRecords, floor: u64) -> usize
     records.len()
 }
 
-/// Moves the first `count` records to the end of `taken`, which has room for them.
+/// Moves the first `count` records to the end of `taken`, which has capacity for them.
 fn take_first<M: Simulated>(
     model: &M,
     records: &mut SparseRecords,

@@ -14,17 +14,18 @@ use eventkey::{Message, Sign, Signed};
 use std::alloc::{AllocError, Global};
 use std::collections::VecDeque;
 
-/// The input queue of a logical process (Jefferson 1985), seen as three ascending lists: the
-/// messages done, those that wait to be handled, none less than the last one done, and the
-/// antimessages that wait for their message. No antimessage stands with its message.
+/// The input queue of a logical process (Jefferson 1985), seen as three ascending lists: the done
+/// messages, the waiting messages, none of them less than the last done one, and the antimessages
+/// that wait for their message. An antimessage and its message are never both in the queue.
 pub struct InputQueue {
-    // Let go of at the beginning, put back at the end.
+    // Messages leave at the front (fossil collection) and at the back (rollback).
     done: VecDeque<Message>,
     waiting: EventList,
     antis: Bag,
 }
 
-// Not derived: each caller that drops one would prove again how its parts are dropped.
+// Handwritten: with a derived drop, each caller that drops a queue proves again how its parts are
+// dropped.
 impl Drop for InputQueue {
     fn drop(self) {
         let InputQueue {
@@ -47,7 +48,7 @@ impl std::marker::Model for InputQueue {
 }
 
 impl InputQueue {
-    /// The empty queue.
+    /// Returns the empty queue.
     pub fn new(alloc: Global) -> InputQueue
         ensures { result ≡ record { done = []; waiting = []; antis = [] } }
     {
@@ -58,8 +59,8 @@ impl InputQueue {
         }
     }
 
-    /// The queue in which these messages wait, in whatever order they are handed in. It is refused
-    /// only for want of memory.
+    /// Returns a queue in which `messages` wait; they may be in any order. Returns `AllocError`
+    /// only if an allocation fails.
     pub fn of_waiting(alloc: Global, messages: Vec<Message>) -> Result<InputQueue, AllocError>
         ensures { IfOk result (λ q. q
             ≡ record { done = []; waiting = add_all messages.items []; antis = [] }) }
@@ -75,37 +76,37 @@ impl InputQueue {
         })
     }
 
-    /// The lists are in order, and no antimessage stands with its message.
+    /// States that the lists are in order and no antimessage is beside its message.
     pub fn in_order(&self)
         ensures { IsInOrder self.now }
     {
         let _ = &self.done;
     }
 
-    /// How many messages are done.
+    /// Returns the number of done messages.
     pub fn done_len(&self) -> usize
         ensures { result ≡ length self.now.done }
     {
         self.done.len()
     }
 
-    /// How many messages wait.
+    /// Returns the number of waiting messages.
     pub fn waiting_len(&self) -> usize
         ensures { result ≡ length self.now.waiting }
     {
         self.waiting.len()
     }
 
-    /// How many antimessages wait.
+    /// Returns the number of waiting antimessages.
     pub fn antis_len(&self) -> usize
         ensures { result ≡ length self.now.antis }
     {
         self.antis.len()
     }
 
-    /// A message or an antimessage arrives: done messages that come after it wait again, and it
-    /// meets its opposite or stays for it. It is refused only for want of memory, and then the
-    /// queue is unchanged.
+    /// Puts in a message or an antimessage. The done messages that it undoes wait again; then it
+    /// annihilates with its opposite or waits. Returns `AllocError` only if an allocation fails;
+    /// the queue is then unchanged.
     pub fn arrive(&mut self, signed: Signed) -> Result<Arrival, AllocError>
         ensures answer { IfOk result (λ a. a ≡ arrival signed self.old) }
         ensures arrived { OnOk result (self.new ≡ arrived signed self.old) }
@@ -117,7 +118,7 @@ impl InputQueue {
         }
     }
 
-    // A message meets its antimessage, or undoes what comes after it and waits.
+    // A message annihilates with its antimessage, or undoes the done messages after it and waits.
     fn arrive_plus(&mut self, message: Message) -> Result<Arrival, AllocError>
         ensures answer { IfOk result (λ a. a ≡ arrival (plus message) self.old) }
         ensures arrived { OnOk result (self.new ≡ arrived (plus message) self.old) }
@@ -127,7 +128,7 @@ impl InputQueue {
             return Ok(Arrival::Annihilated { back: 0 });
         }
         let back = done::count_after(&self.done, &message);
-        // What can fail comes first.
+        // The calls that can fail come first.
         self.waiting.add(message)?;
         if done::wait_again(&self.done, &mut self.waiting, back).is_err() {
             self.waiting.remove(&message);
@@ -137,7 +138,7 @@ impl InputQueue {
         Ok(Arrival::Queued { back })
     }
 
-    // An antimessage meets its message, waiting or done, or waits for it.
+    // An antimessage annihilates with its message, waiting or done, or waits for it.
     fn arrive_minus(&mut self, message: Message) -> Result<Arrival, AllocError>
         ensures answer { IfOk result (λ a. a ≡ arrival (minus message) self.old) }
         ensures arrived { OnOk result (self.new ≡ arrived (minus message) self.old) }
@@ -150,7 +151,7 @@ impl InputQueue {
             let later = done::count_after(&self.done, &message);
             done::wait_again(&self.done, &mut self.waiting, later)?;
             done::undo(&mut self.done, later);
-            // The last one done is now the message itself.
+            // The last done message is now the annihilated one.
             self.done.pop_back();
             return Ok(Arrival::Annihilated { back: later + 1 });
         }
@@ -158,7 +159,7 @@ impl InputQueue {
         Ok(Arrival::Waits)
     }
 
-    /// The least waiting message, if its time is below `end`, in ticks. It takes no memory.
+    /// Returns the least waiting message if its time is below `end`, in ticks. Allocates nothing.
     pub fn next(&self, end: u64) -> Option<Message>
         ensures { result ≡ first_before end self.now.waiting }
     {
@@ -168,8 +169,8 @@ impl InputQueue {
         }
     }
 
-    /// The least waiting message, if its time is below `end`, in ticks: it is done now. It is
-    /// refused only for want of memory, and then the queue is unchanged.
+    /// Moves the least waiting message to the done ones and returns it, if its time is below `end`,
+    /// in ticks. Returns `AllocError` only if an allocation fails; the queue is then unchanged.
     pub fn take_next(&mut self, end: u64) -> Result<Option<Message>, AllocError>
         ensures answer { IfOk result (λ next. next ≡ first_before end self.old.waiting) }
         ensures taken { OnOk result (self.new ≡ taken end self.old) }
@@ -184,7 +185,7 @@ impl InputQueue {
         Ok(Some(message))
     }
 
-    /// Lets go of the done messages below the floor, in ticks. It takes no memory.
+    /// Drops the done messages below `floor`, in ticks. Allocates nothing.
     pub fn release(&mut self, floor: u64)
         ensures { self.new ≡ released floor self.old }
     {
@@ -196,8 +197,8 @@ impl InputQueue {
         done::let_go(&mut self.done, count);
     }
 
-    /// The least time, in ticks, of what waits, antimessages too; none where nothing does. It takes
-    /// no memory.
+    /// Returns the least time, in ticks, of the waiting messages and antimessages, or `None` if
+    /// none waits. Allocates nothing.
     pub fn low(&self) -> Option<u64>
         ensures low { result ≡ first_time (self.now.waiting ++ self.now.antis) }
         ensures range { IfSome result (λ time. time < 2 ^ 41) }

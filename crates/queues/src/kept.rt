@@ -1,4 +1,4 @@
-// A record after the first of a history.
+// One record of a history, with or without its state words.
 
 ghost use Rattle.std.specs.Prelude.{◌≡◌, ◌<◌, ◌≤◌, length, is_some, IfOk, IfSome};
 ghost use Rattle.queues.specs.Record.{left_by};
@@ -17,7 +17,7 @@ pub(crate) struct Kept {
     number_before: u64,
     sent: Sent,
     words: Option<SavedState>,
-    // The state words before it, for clauses alone.
+    // The state words before the record; only contracts see them.
     before: Snapshot<State>,
 }
 
@@ -41,7 +41,7 @@ impl std::marker::Model for Kept {
 }
 
 impl Kept {
-    /// The record of these parts, with its state words or without.
+    /// Returns the record with these parts; it saves the state words if `saved`.
     pub fn of(
         alloc: Global,
         message: Message,
@@ -75,28 +75,28 @@ impl Kept {
         })
     }
 
-    /// The message that was handled.
+    /// Returns the handled message.
     pub fn message(&self) -> Message
         ensures { result ≡ self.now.0.message }
     {
         self.message
     }
 
-    /// The messages that it sent.
+    /// Returns the messages that the handling sent.
     pub fn sent(&self) -> &[Message]
         ensures { result.now ≡ self.now.0.sent }
     {
         self.sent.as_slice()
     }
 
-    /// The send number before it.
+    /// Returns the send number before the record.
     pub fn number_before(&self) -> u64
         ensures { result ≡ self.now.0.number_before }
     {
         self.number_before
     }
 
-    /// The state words before it, if it has them.
+    /// Returns the state words before the record, if it saves them.
     pub fn words(&self) -> Option<&[u64]>
         ensures saved { is_some result ≡ self.now.1 }
         ensures words { IfSome result (λ words. words.now ≡ self.now.0.before) }
@@ -107,8 +107,8 @@ impl Kept {
         }
     }
 
-    /// The state words before it, where `previous` is the record before it and these are the words
-    /// before that one. It takes no memory, and at most one handling.
+    /// Returns the state words before the record; `previous` is the record before it, and `before`
+    /// are the words before that one. Allocates nothing, and runs at most one handling.
     pub fn words_before<M: Simulated>(
         &self,
         alloc: Global,
@@ -123,7 +123,7 @@ impl Kept {
         ensures { result.items ≡ self.now.0.before }
     {
         if let Some(words) = &self.words {
-            // A list of words has room for the 16 that a state has at the most, so this is `Ok`.
+            // `Words` has room inline for the 16 words that a state has at most, so this is `Ok`.
             if let Ok(kept) = Words::from_slice(alloc, words.as_slice()) {
                 return kept;
             }
@@ -131,7 +131,7 @@ impl Kept {
         words_after(alloc, model, before, &previous.message)
     }
 
-    /// The message that was handled, and what the handling sent.
+    /// Returns the handled message and what the handling sent.
     pub fn into_released(self) -> Released
         ensures { result ≡ record { message = self.0.message; sent = self.0.sent } }
     {
@@ -139,7 +139,7 @@ impl Kept {
         Released { message, sent }
     }
 
-    /// The whole record, with these state words before it. It takes no memory.
+    /// Returns the whole record; `before` are the state words before it. Allocates nothing.
     pub fn with_words(self, before: State) -> Record
         requires { before ≡ self.0.before }
         ensures { result ≡ self.0 }
@@ -159,7 +159,7 @@ impl Kept {
     }
 }
 
-/// The state words that a handling of this message leaves. It takes no memory.
+/// Returns the state words after a handling of `message`. Allocates nothing.
 pub(crate) fn words_after<M: Simulated>(
     alloc: Global,
     model: &M,

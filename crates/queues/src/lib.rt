@@ -3,7 +3,7 @@
 #![tactic(auto)]
 
 ghost use Rattle.queues.specs.Queue.{QueuesArriveByCases, QueuesStayApart, QueuesStayInOrder};
-ghost use Rattle.queues.specs.Queue.{QueuesCount, ArrivalsTellBack, back_of};
+ghost use Rattle.queues.specs.Queue.{QueuesCount, ArrivalsCountUndone, back_of};
 ghost use Rattle.queues.specs.Record.{HandlingsAreKept, RecordsPart};
 ghost use Rattle.std.specs.Prelude.{◌≡◌};
 
@@ -21,7 +21,7 @@ pub use handled::History;
 pub use input::InputQueue;
 use model::{Sent, State};
 
-/// One message handled: what the process was before it, and the messages that it sent.
+/// One handled message: what the process was before it, and the messages that the handling sent.
 #[derive(Drop)]
 pub struct Record {
     /// The message that was handled.
@@ -34,7 +34,7 @@ pub struct Record {
     pub sent: Sent,
 }
 
-/// One message handled and let go: no rollback reaches it any more.
+/// One handled message that has left the history: no rollback reaches it any more.
 #[derive(Drop)]
 pub struct Released {
     /// The message that was handled.
@@ -43,19 +43,20 @@ pub struct Released {
     pub sent: Sent,
 }
 
-/// What became of a message or an antimessage that arrived.
+/// The outcome of the arrival of a message or an antimessage.
 #[derive(Clone, Copy, Debug, PartialEq, Eq)]
 pub enum Arrival {
-    /// It waits to be handled, and so many handled messages wait again.
+    /// It waits to be handled; `back` handled messages wait again.
     Queued { back: usize },
-    /// It met its opposite, and so many handled messages wait again or are gone.
+    /// It met its opposite, and both are gone; `back` handled messages were undone: they wait
+    /// again, except the annihilated message itself.
     Annihilated { back: usize },
     /// The antimessage waits for its message.
     Waits,
 }
 
 impl Arrival {
-    /// How many handled messages wait again or are gone.
+    /// Returns the number of handled messages that the arrival undid.
     pub fn back(&self) -> usize
         ensures { result ≡ back_of self.now }
     {
@@ -66,20 +67,20 @@ impl Arrival {
     }
 }
 
-/// The laws of arrivals at an input queue: the five cases, that no antimessage comes to stand with
-/// its message, that the lists stay in order, and the count of each message before and after; and
-/// what a time parts.
+/// States the laws of an input queue: the five cases of an arrival, no antimessage in a queue
+/// beside its message, the lists in order, the count of each message before and after an arrival,
+/// and how a time splits an ascending list of records.
 pub fn law_of_queues()
     ensures cases { QueuesArriveByCases }
     ensures apart { QueuesStayApart }
     ensures in_order { QueuesStayInOrder }
     ensures count { QueuesCount }
-    ensures back { ArrivalsTellBack }
+    ensures back { ArrivalsCountUndone }
     ensures parts { RecordsPart }
 {}
 
-/// The law of histories: what a model handled stays so, whatever happens to a history, so that its
-/// state words can be rebuilt.
+/// States the law of histories: records that a model made stay records of that model whatever
+/// happens to a history, so their state words can be rebuilt.
 pub fn law_of_records()
     ensures kept { HandlingsAreKept }
 {}

@@ -1,4 +1,4 @@
-// Records of which only some keep their state words.
+// Records of which only some have their state words saved.
 
 ghost use Rattle.std.specs.Prelude.{◌≡◌, ◌<◌, ◌≤◌, ◌-◌, ◌+◌, ◌++◌, ◌∷◌, [], length, IfOk, IfSome};
 ghost use Rattle.std.specs.Prelude.{OnOk, OnErr, MatchOption, take, drop, is_some, ◌^◌, Some, None};
@@ -17,14 +17,14 @@ use std::alloc::{AllocError, Global};
 use std::collections::VecDeque;
 use std::mem;
 
-/// Records in the order of handling, of which the first has its state words, and a later one where
-/// it was pushed so.
+/// Records in the order of handling. The first has its state words, and each later one has them if
+/// it was pushed with `save`.
 #[derive(Drop)]
 pub(crate) struct SparseRecords {
     alloc: Global,
     records: VecDeque<Kept>,
-    // The state words before the first record, where there is one. They stay in their place while
-    // records come and go.
+    // The state words before the first record, if there is one. They stay here while records come
+    // and go.
     before_first: Words,
 }
 
@@ -40,7 +40,7 @@ impl std::marker::Model for SparseRecords {
 }
 
 impl SparseRecords {
-    /// No records.
+    /// Returns an empty list of records.
     pub fn new(alloc: Global) -> SparseRecords
         ensures { result ≡ record { records = []; saved = [] } }
     {
@@ -51,7 +51,7 @@ impl SparseRecords {
         }
     }
 
-    /// How many records there are.
+    /// Returns the number of records.
     pub fn len(&self) -> usize
         ensures length { result ≡ length self.now.records }
         ensures saved { length self.now.saved ≡ result - 1 }
@@ -60,7 +60,7 @@ impl SparseRecords {
         self.records.len()
     }
 
-    /// How many of them have their state words.
+    /// Returns the number of records that have their state words.
     pub fn saved(&self) -> usize
         ensures none { self.now.records ≡ [] → result ≡ 0 }
         ensures some { 0 < length self.now.records → result ≡ 1 + count_saved self.now.saved }
@@ -72,7 +72,7 @@ impl SparseRecords {
         count_words(&self.records) + 1
     }
 
-    /// The time of the first record's message, in ticks, if there is one.
+    /// Returns the time of the first record's message, in ticks, if there is one.
     pub fn first_time(&self) -> Option<u64>
         ensures { result ≡ first_handled self.now.records }
     {
@@ -82,7 +82,7 @@ impl SparseRecords {
         }
     }
 
-    /// The state words before the first record, if there is one.
+    /// Returns the state words before the first record, if there is one.
     pub fn first_words(&self) -> Option<&Words>
         ensures { MatchOption result (self.now.records ≡ [])
             (λ words. (0 < length self.now.records)
@@ -94,7 +94,7 @@ impl SparseRecords {
         Some(&self.before_first)
     }
 
-    /// The message of a record.
+    /// Returns the message of a record.
     pub fn message(&self, at: usize) -> Message
         requires { at < length self.now.records }
         ensures { slice_get (messages self.now.records) at ≡ Some result }
@@ -102,7 +102,7 @@ impl SparseRecords {
         self.records[at].message()
     }
 
-    /// The messages that a record sent.
+    /// Returns the messages that a record sent.
     pub fn sent(&self, at: usize) -> &[Message]
         requires { at < length self.now.records }
         ensures { slice_get (sends self.now.records) at ≡ Some result.now }
@@ -110,7 +110,7 @@ impl SparseRecords {
         self.records[at].sent()
     }
 
-    /// The send number before a record.
+    /// Returns the send number before a record.
     pub fn number_before(&self, at: usize) -> u64
         requires { at < length self.now.records }
         ensures { result ≡ number_before (drop at self.now.records) 0 }
@@ -118,7 +118,7 @@ impl SparseRecords {
         self.records[at].number_before()
     }
 
-    /// Lets go of all but the first `kept` records. It takes no memory.
+    /// Drops all records but the first `kept`. Allocates nothing.
     pub fn truncate(&mut self, kept: usize)
         requires { kept < length self.old.records }
         ensures { self.new ≡ record {
@@ -129,8 +129,8 @@ impl SparseRecords {
         self.records.truncate(kept);
     }
 
-    /// One more record, at the end, with its state words where it is to be saved or is the first.
-    /// It is refused only for want of memory, and then nothing is changed.
+    /// Appends a record. Its state words are saved if `save` or if it is the first. Returns
+    /// `AllocError` only if an allocation fails; nothing is then changed.
     pub fn push(
         &mut self,
         message: Message,
@@ -163,8 +163,8 @@ impl SparseRecords {
         Ok(())
     }
 
-    /// Takes the first record out, if there is one: what is kept of it. It takes no memory, and at
-    /// most one handling.
+    /// Removes the first record and returns its kept form, if there is one. Allocates nothing, and
+    /// runs at most one handling.
     pub fn pop_first<M: Simulated>(&mut self, model: &M) -> Option<Kept>
         requires { AreHandlings (M.meaning model.now) self.old.records }
         ensures answer { IsPopped result self.old.records }
@@ -181,8 +181,8 @@ impl SparseRecords {
         Some(first)
     }
 
-    /// The same, where these are the state words before the next record, if there is one. It takes no
-    /// memory, and no handling.
+    /// Does the same, given in `next` the state words before the next record, if there is one.
+    /// Allocates nothing, and runs no handling.
     pub fn pop_first_to(&mut self, next: &[u64]) -> Option<Kept>
         requires few { length next.now ≤ 16 }
         requires next { AreNextWords next.now self.old.records }
@@ -193,12 +193,13 @@ impl SparseRecords {
         } }
     {
         let first = self.records.pop_front()?;
-        // It takes no memory, since there are at most 16.
+        // At most 16 words fit inline, so this allocates nothing.
         self.before_first = Words::from_slice(self.alloc, next).unwrap();
         Some(first)
     }
 
-    /// Takes the first record out, if there is one. It takes no memory, and at most one handling.
+    /// Removes the first record and returns it, if there is one. Allocates nothing, and runs at
+    /// most one handling.
     pub fn take_first<M: Simulated>(&mut self, model: &M) -> Option<Record>
         requires { AreHandlings (M.meaning model.now) self.old.records }
         ensures answer { result ≡ slice_get self.old.records 0 }
@@ -210,15 +211,15 @@ impl SparseRecords {
         if self.records.is_empty() {
             return None;
         }
-        // It takes no memory, since there are at most 16.
+        // At most 16 words fit inline, so this allocates nothing.
         let before = Words::from_slice(self.alloc, self.before_first.as_slice()).unwrap();
         let first = self.pop_first(model)?;
         Some(first.with_words(State::from_words(before)))
     }
 
-    /// Takes out all but the first `kept` records. It is refused only for want of memory, and then
-    /// nothing is changed. It takes as many handlings as records up to the cut are without state
-    /// words in a row.
+    /// Splits off all records but the first `kept`. Runs one handling for each consecutive record
+    /// without state words up to the cut. Returns `AllocError` only if an allocation fails; nothing
+    /// is then changed.
     pub fn split_off<M: Simulated>(
         &mut self,
         model: &M,
@@ -242,7 +243,7 @@ impl SparseRecords {
         })
     }
 
-    /// The state words before a record, by going forward from the nearest state that is kept.
+    /// Returns the state words before a record, by coasting forward from the nearest saved state.
     pub fn words_before<M: Simulated>(&self, model: &M, at: usize) -> Result<Words, AllocError>
         requires there { at < length self.now.records }
         requires handlings { AreHandlings (M.meaning model.now) self.now.records }
@@ -266,7 +267,8 @@ impl SparseRecords {
         Ok(words)
     }
 
-    /// The nearest record up to this one whose state words are kept, and those before it.
+    /// Returns the index of the nearest record at or before this one whose state words are saved,
+    /// and these words.
     fn nearest_words(&self, at: usize) -> (usize, &[u64])
         requires { at < length self.now.records }
         ensures place { result.0 ≤ at }
@@ -278,7 +280,7 @@ impl SparseRecords {
         }
     }
 
-    /// The state words before a record, if they are kept.
+    /// Returns the state words before a record, if they are saved.
     fn kept_words(&self, at: usize) -> Option<&[u64]>
         requires { at < length self.now.records }
         ensures words { IfSome result (λ words.
@@ -293,7 +295,7 @@ impl SparseRecords {
     }
 }
 
-/// How many of these records, after the first, have their state words.
+/// Returns the number of records after the first that have their state words.
 fn count_words(records: &VecDeque<Kept>) -> usize
     ensures count { result ≡ count_saved (saved_in (drop 1 records.now.items)) }
     ensures range { result < 2 ^ 63 }

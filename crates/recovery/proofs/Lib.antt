@@ -6,13 +6,13 @@ pub mod Snapshots
 pub mod Contents
 pub mod Replays
 pub mod Prefixes
-pub mod Standing
+pub mod Representation
 pub mod Images
 pub mod Causes
 pub mod Filled
 pub mod Replaying
 pub mod Logs
-pub mod Told
+pub mod EndsInForce
 pub mod Loadable
 pub mod Disks
 pub mod Fronts

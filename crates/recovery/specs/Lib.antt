@@ -1,14 +1,14 @@
--- For callers: the header of a disk, the bytes of a record and what it holds, replay, and the
--- worlds for which records and disks stand
+-- For callers: the header of a disk, the encoding and the content of a record, replay, and the
+-- worlds that records and disks represent
 pub mod Header
 pub mod Bodies
 pub mod Checkpoints
 pub mod Ends
 pub mod Contents
 pub mod Replay
-pub mod Stands
+pub mod Represents
 pub mod Front
 pub mod Recovered
--- For callers: laws of these, and why recovery refuses
+-- For callers: the laws of these, and the causes of refusals
 pub mod Laws
 pub mod Causes

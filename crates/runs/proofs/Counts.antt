@@ -1,19 +1,22 @@
 -- What a run counts, over steps one after another.
-use Rattle.std.proofs.Common.{◌≡◌, ◌+◌, ◌-◌, ◌≤◌, ◌||◌, Bool, ℕ, List, [], ◌∷◌, ◌++◌, ap, ap₂, arith, inl, inr, nat_le, refl, subst, sym, ◌∙◌}
-use Rattle.std.proofs.lemmas.Bool.{cases_Bool, le-leb, leb-true}
-use Rattle.std.proofs.lemmas.List.{map-append}
+use Rattle.std.proofs.Common.{◌≡◌, ◌≢◌, ◌+◌, ◌-◌, ◌<◌, ◌≤◌, ◌^◌, ◌==◌, ◌||◌, Bool, cond, get_or, length, min, set, ℕ, List, [], ◌∷◌, ◌++◌, ap, ap₂, arith, inl, inr, nat_le, refl, subst, sym, ◌∙◌}
+use Rattle.std.proofs.lemmas.Bool.{cases_Bool, cases_lt, eq-eqb, eqb-true, le-leb, leb-true}
+use Rattle.std.proofs.lemmas.List.{get_or-replicate, get_or-set_other, get_or-set_same, get_or_past, length-replicate, map-append}
+use Rattle.std.specs.Prelude.{replicate}
 use Rattle.coordinator.specs.Steps.{move_of}
 use Rattle.runs.proofs.Shapes.{one_round_more}
-use Rattle.runs.specs.Driver.{AreAsked, AreRounds, IsRound, Made, closing_of, commits_in, is_due, kept_after, least_by, least_posted, moves_of, told_by, told_since}
-use Rattle.runs.specs.Tallies.{CountsNothing, IsTallied, IsTallyOf, Tallied}
+use Rattle.runs.specs.Driver.{AreAsked, AreCounts, AreRounds, IsRound, Made, closing_of, commits_in, handled_by, handled_in, handled_of, is_due, kept_after, least_by, least_posted, moves_of, reported_after, reported_since}
+use Rattle.runs.specs.Tallies.{AreCounted, CountsNothing, IsTallied, IsTallyOf, Tallied, handled_after}
 use Rattle.runs.specs.declared.rounds.Plan.{Plan}
 use Rattle.runs.specs.declared.tally.Tally.{Tally}
 use Rattle.protocol.specs.Moves.{Move}
-use Rattle.protocol.specs.Moves.Move.{Commit}
+use Rattle.protocol.specs.Moves.Move.{Commit, Take}
+use Rattle.protocol.specs.declared.Answer.{Answer}
+use Rattle.protocol.specs.declared.Answer.TheVariants.{AlreadyAt, Checkpointed, Committed, Posted, Taken}
 
-pub told_more : (told : ℕ) (ks ls : List Made) → told_since told (ks ++ ls) ≡ told_since (told_since told ks) ls
-told_more told [] ls = refl
-told_more told (k ∷ ks) ls = told_more (told_by told (move_of k.step) k.answer) ks ls
+pub reported_more : (reported : ℕ) (ks ls : List Made) → reported_since reported (ks ++ ls) ≡ reported_since (reported_since reported ks) ls
+reported_more reported [] ls = refl
+reported_more reported (k ∷ ks) ls = reported_more (reported_after reported (move_of k.step) k.answer) ks ls
 
 pub least_more : (time : ℕ) (ks ls : List Made) → least_posted time (ks ++ ls) ≡ least_posted (least_posted time ks) ls
 least_more time [] ls = refl
@@ -26,61 +29,127 @@ commits_more (k ∷ ks) ls = (let more = commits_more ks ls in omega (arith, mor
 pub moves_more : (ks ls : List Made) → moves_of (ks ++ ls) ≡ moves_of ks ++ moves_of ls
 moves_more ks ls = map-append (λ (k : Made). move_of k.step) ks ls
 
+pub handled_more : (node : ℕ) (ks ls : List Made) → handled_of node (ks ++ ls) ≡ handled_of node ks + handled_of node ls
+handled_more node [] ls = omega arith
+handled_more node (k ∷ ks) ls = (let more = handled_more node ks ls in omega (arith, more))
+
+capped : (a b : ℕ) → a ≡ b → min a (2 ^ 64 - 1) ≡ min b (2 ^ 64 - 1)
+capped a b is = ap (λ (n : ℕ). min n (2 ^ 64 - 1)) is
+
+counted_more : (old mid new : List ℕ) (ks ls : List Made) → AreCounted old mid ks → AreCounted mid new ls → AreCounted old new (ks ++ ls)
+counted_more old mid new ks ls first second node before is =
+    let more = handled_more node ks ls in
+    let sum : before + handled_of node ks + handled_of node ls ≡ before + handled_of node (ks ++ ls) = omega (arith, more) in
+    second node (before + handled_of node ks) (first node before is) ∙ capped (before + handled_of node ks + handled_of node ls) (before + handled_of node (ks ++ ls)) sum
+
+-- steps in which no node handles a message
+pub none_counted : (old new : List ℕ) (made : List Made) → new ≡ old → ((node : ℕ) → handled_of node made ≡ 0) → AreCounted old new made
+none_counted old new made same none node before is =
+    let nothing = none node in
+    let sum : before ≡ before + handled_of node made = omega (arith, nothing) in
+    ap (λ (counts : List ℕ). get_or counts node 0) same ∙ (is ∙ capped before (before + handled_of node made) sum)
+
+handled_after_is : (count before : ℕ) (answer : Answer) → count ≡ min before (2 ^ 64 - 1) → handled_after count answer ≡ min (before + handled_in answer) (2 ^ 64 - 1)
+handled_after_is count before (Taken ran out fossils) is = omega (arith, is)
+handled_after_is count before (Posted floor) is = is ∙ capped before (before + 0) (omega arith)
+handled_after_is count before (Committed time events) is = is ∙ capped before (before + 0) (omega arith)
+handled_after_is count before (AlreadyAt time) is = is ∙ capped before (before + 0) (omega arith)
+handled_after_is count before (Checkpointed time) is = is ∙ capped before (before + 0) (omega arith)
+
+-- a step that is not the take of a node
+pub not_counted : (old new : List ℕ) → new ≡ old → (node before : ℕ) → get_or old node 0 ≡ min before (2 ^ 64 - 1) → get_or new node 0 ≡ min (before + (0 + 0)) (2 ^ 64 - 1)
+not_counted old new same node before is = ap (λ (counts : List ℕ). get_or counts node 0) same ∙ (is ∙ capped before (before + (0 + 0)) (omega arith))
+
+-- the take of a node
+pub take_counted : (n : ℕ) (old new : List ℕ) (answer : Answer) → n < length old → new ≡ set old n (handled_after (get_or old n 0) answer) → (node before : ℕ) → get_or old node 0 ≡ min before (2 ^ 64 - 1)
+    → get_or new node 0 ≡ min (before + (handled_by node (Take n) answer + 0)) (2 ^ 64 - 1)
+take_counted n old new answer l is node before e = elim (cases_Bool (n == node)) [
+  | inl hit ↦
+      let same : n ≡ node = eqb-true n node hit in
+      let own : handled_by node (Take n) answer ≡ handled_in answer = ap (λ (b : Bool). cond b (handled_in answer) 0) hit in
+      let sum : before + handled_in answer ≡ before + (handled_by node (Take n) answer + 0) = omega (arith, own) in
+      let begun : get_or old n 0 ≡ min before (2 ^ 64 - 1) = ap (λ (i : ℕ). get_or old i 0) same ∙ e in
+      ap (λ (i : ℕ). get_or new i 0) (sym same) ∙ (ap (λ (counts : List ℕ). get_or counts n 0) is ∙ (get_or-set_same old n (handled_after (get_or old n 0) answer) 0 l
+      ∙ (handled_after_is (get_or old n 0) before answer begun ∙ capped (before + handled_in answer) (before + (handled_by node (Take n) answer + 0)) sum)))
+  | inr miss ↦
+      let own : handled_by node (Take n) answer ≡ 0 = ap (λ (b : Bool). cond b (handled_in answer) 0) miss in
+      let sum : before ≡ before + (handled_by node (Take n) answer + 0) = omega (arith, own) in
+      let apart : node ≢ n = λ same. (let hit = eq-eqb n node (sym same) in absurd (cc)) in
+      ap (λ (counts : List ℕ). get_or counts node 0) is ∙ (get_or-set_other old n node (handled_after (get_or old n 0) answer) 0 apart ∙ (e ∙ capped before (before + (handled_by node (Take n) answer + 0)) sum))
+]
+
+-- before the first step
+pub none_handled : (nodes : ℕ) (counts : List ℕ) → counts ≡ replicate nodes 0 → AreCounts counts []
+none_handled nodes counts is node =
+    let first : get_or (replicate nodes 0) node 0 ≡ 0 = elim (cases_lt node nodes) [
+      | inl l ↦ get_or-replicate nodes node 0 0 l
+      | inr l ↦ get_or_past (replicate nodes 0) node 0 (let long = length-replicate {A = ℕ} nodes 0 in omega (arith, long, l))
+    ] in
+    ap (λ (c : List ℕ). get_or c node 0) is ∙ (first ∙ omega arith)
+
 module _ (every : ℕ) where
   pub tallied_more : (old mid new : Tally) (ks ls : List Made) → IsTallied every old mid ks → IsTallied every mid new ls → IsTallied every old new (ks ++ ls)
   tallied_more old mid new ks ls first second = record {
-    wanted = λ told is. second.wanted (told_since told ks) (first.wanted told is) ∙ ap (λ (n : ℕ). every - n) (sym (told_more told ks ls));
+    handled = counted_more old.handled_per_node.items mid.handled_per_node.items new.handled_per_node.items ks ls first.handled second.handled;
+    events_until_commit = λ reported is. second.events_until_commit (reported_since reported ks) (first.events_until_commit reported is) ∙ ap (λ (n : ℕ). every - n) (sym (reported_more reported ks ls));
     commits = (let more = commits_more ks ls in omega (arith, more, first.commits, second.commits));
   }
 
   pub none_tallied : (t : Tally) → IsTallied every t t []
-  none_tallied t = record { wanted = λ told is. is; commits = omega arith }
+  none_tallied t = record { events_until_commit = λ reported is. is; commits = omega arith; handled = none_counted t.handled_per_node.items t.handled_per_node.items [] refl (λ node. refl) }
 
-  pub no_move : (S : List Move → Type 0) (t : Tally) → S [] → Tallied every S t t []
+  pub no_move : (S : List Made → Type 0) (t : Tally) → S [] → Tallied every S t t []
   no_move S t none = record { shape = none; tally = none_tallied t; floor = refl }
 
-  pub both_tallied : (S T U : List Move → Type 0) (old mid new : Tally) → ((ks ls : List Move) → S ks → T ls → U (ks ++ ls)) → (ks ls : List Made) → Tallied every S old mid ks → Tallied every T mid new ls
+  pub both_tallied : (S T U : List Made → Type 0) (old mid new : Tally) → ((ks ls : List Made) → S ks → T ls → U (ks ++ ls)) → (ks ls : List Made) → Tallied every S old mid ks → Tallied every T mid new ls
       → Tallied every U old new (ks ++ ls)
   both_tallied S T U old mid new both ks ls first second = record {
-    shape = subst U (sym (moves_more ks ls)) (both (moves_of ks) (moves_of ls) first.shape second.shape);
+    shape = both ks ls first.shape second.shape;
     tally = tallied_more old mid new ks ls first.tally second.tally;
     floor = second.floor ∙ ap (λ (n : ℕ). least_posted n ls) first.floor ∙ sym (least_more old.floor ks ls);
   }
 
-  -- a commit, and a checkpoint where its turn has come
+  -- a commit, and a checkpoint if one is due
   pub commit_kept : (kept number : ℕ) (old new : Tally) (ks ls : List Made) → number ≡ old.commits + 1 → (moves_of ks ≡ Commit ∷ []) × IsTallied every old new ks → (moves_of ls ≡ kept_after kept number) × CountsNothing ls
       → (moves_of (ks ++ ls) ≡ Commit ∷ kept_after kept (old.commits + 1)) × IsTallied every old new (ks ++ ls)
   commit_kept kept number old new ks ls is first second =
       let same : moves_of ls ≡ kept_after kept (old.commits + 1) = second.0 ∙ ap (kept_after kept) is in
       let rest : IsTallied every new new ls = record {
-        wanted = λ told e. e ∙ ap (λ (n : ℕ). every - n) (sym (second.1.told told));
+        events_until_commit = λ reported e. e ∙ ap (λ (n : ℕ). every - n) (sym (second.1.reported reported));
         commits = (let none = second.1.commits in omega (arith, none));
+        handled = none_counted new.handled_per_node.items new.handled_per_node.items ls refl second.1.handled;
       } in
       (moves_more ks ls ∙ ap₂ (λ (a b : List Move). a ++ b) first.0 same, tallied_more old new new ks ls first.1 rest)
 
 module _ (plan : Plan) where
-  -- all nodes are asked, and then the round is ended
-  pub round_made : (end told : ℕ) (old begun asked closed : Tally) (ks ls : List Made) → begun.floor ≡ end → begun.wanted ≡ old.wanted → begun.commits ≡ old.commits → asked.commits ≡ begun.commits
-      → Tallied plan.commit_every (AreAsked plan.together plan.batch plan.nodes) begun asked ks → (moves_of ls ≡ closing_of plan end (told_since told ks) asked.floor asked.commits) × IsTallied plan.commit_every asked closed ls
-      → IsRound plan end told old.commits (ks ++ ls) × IsTallied plan.commit_every old closed (ks ++ ls)
-  round_made end told old begun asked closed ks ls floor wanted commits same first second =
+  pub round_shape : (end reported : ℕ) (old begun asked : Tally) (ks ls : List Made) → begun.floor ≡ end → begun.commits ≡ old.commits → asked.commits ≡ begun.commits → Tallied plan.commit_every (AreAsked plan.together plan) begun asked ks
+      → moves_of ls ≡ closing_of plan end (reported_since reported ks) asked.floor asked.commits → IsRound plan end reported old.commits (ks ++ ls)
+  round_shape end reported old begun asked ks ls floor commits same first second =
       let least : asked.floor ≡ least_posted end ks = first.floor ∙ ap (λ (n : ℕ). least_posted n ks) floor in
-      let closing : moves_of ls ≡ closing_of plan end (told_since told ks) (least_posted end ks) old.commits =
-      second.0 ∙ ap₂ (λ (f n : ℕ). closing_of plan end (told_since told ks) f n) least (same ∙ commits) in
-      let start : IsTallied plan.commit_every old begun [] = record { wanted = λ t is. wanted ∙ is; commits = omega (arith, commits) } in
-      ((ks, ls, first.shape, closing, refl), tallied_more plan.commit_every old begun closed [] (ks ++ ls) start (tallied_more plan.commit_every begun asked closed ks ls first.tally second.1))
+      let closing : moves_of ls ≡ closing_of plan end (reported_since reported ks) (least_posted end ks) old.commits =
+      second ∙ ap₂ (λ (f n : ℕ). closing_of plan end (reported_since reported ks) f n) least (same ∙ commits) in
+      (ks, ls, first.shape, closing, refl)
 
-  -- one round more
-  pub round_more : (end rounds : ℕ) (old new : Tally) (ks ls : List Made) → AreRounds plan end rounds ks × IsTallyOf plan.commit_every old ks → IsRound plan end (told_since 0 ks) old.commits ls × IsTallied plan.commit_every old new ls
+  -- all nodes are asked, and then the round ends
+  pub round_made : (end reported : ℕ) (old begun asked closed : Tally) (ks ls : List Made) → begun.floor ≡ end → begun.events_until_commit ≡ old.events_until_commit → begun.commits ≡ old.commits → begun.handled_per_node.items ≡ old.handled_per_node.items → asked.commits ≡ begun.commits
+      → Tallied plan.commit_every (AreAsked plan.together plan) begun asked ks → (moves_of ls ≡ closing_of plan end (reported_since reported ks) asked.floor asked.commits) × IsTallied plan.commit_every asked closed ls
+      → IsRound plan end reported old.commits (ks ++ ls) × IsTallied plan.commit_every old closed (ks ++ ls)
+  round_made end reported old begun asked closed ks ls floor events_until_commit commits handled same first second =
+      let start : IsTallied plan.commit_every old begun [] = record { events_until_commit = λ t is. events_until_commit ∙ is; commits = omega (arith, commits); handled = none_counted old.handled_per_node.items begun.handled_per_node.items [] handled (λ node. refl) } in
+      (round_shape end reported old begun asked ks ls floor commits same first second.0, tallied_more plan.commit_every old begun closed [] (ks ++ ls) start (tallied_more plan.commit_every begun asked closed ks ls first.tally second.1))
+
+  -- one more round
+  pub round_more : (end rounds : ℕ) (old new : Tally) (ks ls : List Made) → AreRounds plan end rounds ks × IsTallyOf plan.commit_every old ks → IsRound plan end (reported_since 0 ks) old.commits ls × IsTallied plan.commit_every old new ls
       → AreRounds plan end (rounds + 1) (ks ++ ls) × IsTallyOf plan.commit_every new (ks ++ ls)
   round_more end rounds old new ks ls before round =
       let counted = before.1.commits in
       let more = round.1.commits in
       let all = commits_more ks ls in (
-        one_round_more plan end rounds ks ls before.0 (subst (λ (n : ℕ). IsRound plan end (told_since 0 ks) n ls) counted round.0),
+        one_round_more plan end rounds ks ls before.0 (subst (λ (n : ℕ). IsRound plan end (reported_since 0 ks) n ls) counted round.0),
         record {
-          wanted = round.1.wanted (told_since 0 ks) before.1.wanted ∙ ap (λ (n : ℕ). plan.commit_every - n) (sym (told_more 0 ks ls));
+          events_until_commit = round.1.events_until_commit (reported_since 0 ks) before.1.events_until_commit ∙ ap (λ (n : ℕ). plan.commit_every - n) (sym (reported_more 0 ks ls));
           commits = omega (arith, more, all, counted);
+          handled = λ node. round.1.handled node (handled_of node ks) (before.1.handled node) ∙ capped (handled_of node ks + handled_of node ls) (handled_of node (ks ++ ls)) (sym (handled_more node ks ls));
         },
       )
 
@@ -93,7 +162,7 @@ same_test a b c d to from = elim (cases_Bool (nat_le a b)) [
   ]
 ]
 
--- a commit is due by what is counted exactly where it is by what was told
-pub due_so : (plan : Plan) (end told floor wanted : ℕ) → wanted ≡ plan.commit_every - told → (nat_le wanted 0 || nat_le end floor) ≡ is_due plan end told floor
-due_so plan end told floor wanted is =
-    ap (λ (b : Bool). b || nat_le end floor) (same_test wanted 0 plan.commit_every told (λ h. omega (arith, h, is)) (λ h. omega (arith, h, is)))
+-- a commit is due by the tally exactly if it is due by what was reported
+pub due_so : (plan : Plan) (end reported floor events_until_commit : ℕ) → events_until_commit ≡ plan.commit_every - reported → (nat_le events_until_commit 0 || nat_le end floor) ≡ is_due plan end reported floor
+due_so plan end reported floor events_until_commit is =
+    ap (λ (b : Bool). b || nat_le end floor) (same_test events_until_commit 0 plan.commit_every reported (λ h. omega (arith, h, is)) (λ h. omega (arith, h, is)))

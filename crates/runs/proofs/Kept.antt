@@ -6,20 +6,20 @@ use Rattle.coordinator.specs.Opening.{LeavesExactly}
 use Rattle.disk.specs.Disk.{DiskState}
 use Rattle.model.specs.Meaning.{Meaning}
 use Rattle.model.specs.World.{World}
-use Rattle.recovery.proofs.Images.{stands_at_least_earlier}
+use Rattle.recovery.proofs.Images.{represents_at_least_earlier}
 
--- a session is opened, whose front is the first, and is driven, to the last
+-- a session is opened at the first front and driven to the last
 module _ (m : Meaning) (end : ℕ) (first last : World) (disk mid new : DiskState) (driven : Recovers m end first.time mid → KeepsRecovery m end first.time last.time mid new) where
   pub keeps : (a : ℕ) → KeepsRecovery m end a first.time disk mid → KeepsRecovery m end a a disk new
   keeps a opened =
       let whole = followed_by m end a first.time last.time disk mid new opened (driven opened.now_on) in
       record {
         any_moment = whole.any_moment;
-        now_on = λ image left. stands_at_least_earlier m end a last.time image whole.later (whole.now_on image left);
+        now_on = λ image left. represents_at_least_earlier m end a last.time image whole.later (whole.now_on image left);
         later = omega arith;
       }
 
   pub comes_to : (e : ℕ) → e ≤ last.time → LeavesExactly m end first mid → Recovers m end e new
   comes_to e late exactly = λ image left.
-      let begun : Recovers m end first.time mid = λ before may. record { world = first; stands = exactly before may; time = omega arith } in
-      stands_at_least_earlier m end e last.time image late ((driven begun).now_on image left)
+      let begun : Recovers m end first.time mid = λ before may. record { world = first; represents = exactly before may; time = omega arith } in
+      represents_at_least_earlier m end e last.time image late ((driven begun).now_on image left)

@@ -13,76 +13,76 @@ use Rattle.coordinator.proofs.Begun.{looked-keeps, recovers-genuine}
 use Rattle.coordinator.proofs.Driving.{followed_by}
 use Rattle.coordinator.specs.Crashes.{KeepsRecovery, Recovers}
 use Rattle.coordinator.specs.Opening.{IsAtFault, LeavesExactly}
-use Rattle.disk.specs.Disk.{DiskState, IsDisk, IsFirm, LeavesOnly, MayLeave, OnlyLooks}
+use Rattle.disk.specs.Disk.{DiskState, IsDisk, IsSynced, LeavesOnly, MayLeave, OnlyLooks}
 use Rattle.disk.specs.Laws.{followed, reads_left, weaker}
 use Rattle.model.specs.Meaning.{IsLawful, Meaning}
 use Rattle.model.specs.World.{IsUpto, World, opening}
-use Rattle.recovery.proofs.Images.{empty_log_stands, image_stands_for_one}
+use Rattle.recovery.proofs.Images.{empty_log_represents, image_represents_one}
 use Rattle.recovery.specs.Causes.{IsFirstAtFault}
 use Rattle.recovery.specs.Ends.{IsEnd, IsOurs}
 use Rattle.recovery.specs.Header.{header_bytes, header_of}
 use Rattle.recovery.specs.Recovered.{RecoveryIsRefused}
-use Rattle.recovery.specs.Stands.{IsGenuine, Stands, StandsAtLeast}
+use Rattle.recovery.specs.Represents.{IsGenuine, Represents, RepresentsAtLeast}
 use Rattle.recovery.specs.declared.RecoveryFault.{RecoveryFault}
 use Rattle.recovery.specs.declared.RecoveryFault.TheVariants.{BadCheckpoint, BadEnd, BadRecord, GoesBack, Log as LogOfRecovery, NoMemory, NotTheLeast, NumberLimit, OtherModel}
 use Rattle.coordinator.proofs.Extensions.{are-readable, at-fault, log-on, ours-of}
-use Rattle.runs.specs.Simulation.{IsBlankOrStands, IsBlankOrStandsSo, IsNotRecovered, PreparingIsRefused}
+use Rattle.runs.specs.Simulation.{IsBlankOrRepresents, IsBlankOrRepresentsSo, IsNotRecovered, PreparingIsRefused}
 use Rattle.runs.specs.declared.fault.SimulationFault.{SimulationFault}
 use Rattle.runs.specs.declared.fault.SimulationFault.TheVariants.{Log}
 
 module _ (m : Meaning) (end : ℕ) (header : List ℕ) (is : header ≡ header_bytes (header_of m end)) (possible : IsEnd end) where
-  -- an empty log stands for the opening world, whatever a crash leaves
-  pub empty_stands : (disk : DiskState) → IsDurable header [] disk → LeavesExactly m end (opening m) disk
-  empty_stands disk durable = λ image left. empty_log_stands m end image possible ((subst (λ (bytes : List ℕ). IsDurable bytes [] disk) is durable).crash image left)
+  -- an empty log represents the opening world, whatever a crash leaves
+  pub empty_represents : (disk : DiskState) → IsDurable header [] disk → LeavesExactly m end (opening m) disk
+  empty_represents disk durable = λ image left. empty_log_represents m end image possible ((subst (λ (bytes : List ℕ). IsDurable bytes [] disk) is durable).crash image left)
 
-  -- and so at each moment of its making
-  pub making_stands : (old new : DiskState) → (IsFirm old.loose → IsBlank old.reads → LeavesOnly old new (IsBlankOrEmptyLog header))
-      → IsFirm old.loose → IsBlank old.reads → LeavesOnly old new (IsBlankOrStands m end (opening m))
-  making_stands old new made firm blank = weaker old new (IsBlankOrEmptyLog header) (IsBlankOrStands m end (opening m)) (made firm blank)
+  -- and does so at each moment while it is made
+  pub making_represents : (old new : DiskState) → (IsSynced old.dirty → IsBlank old.reads → LeavesOnly old new (IsBlankOrEmptyLog header))
+      → IsSynced old.dirty → IsBlank old.reads → LeavesOnly old new (IsBlankOrRepresents m end (opening m))
+  making_represents old new made in_sync blank = weaker old new (IsBlankOrEmptyLog header) (IsBlankOrRepresents m end (opening m)) (made in_sync blank)
       (λ image left. elim left [
         | inl none ↦ inl none
-        | inr empty ↦ inr (empty_log_stands m end image possible (subst (λ (bytes : List ℕ). Holds bytes [] image) is empty))
+        | inr empty ↦ inr (empty_log_represents m end image possible (subst (λ (bytes : List ℕ). Holds bytes [] image) is empty))
       ])
 
 module _ (m : Meaning) (end a : ℕ) where
-  pub log_stays : (old new : DiskState) → IsDisk old.reads old.loose → (IsFormatted old.reads → OnlyLooks old new) → Recovers m end a old → KeepsRecovery m end a a old new
-  log_stays old new disk look recovers = looked-keeps m end a old new (look (recovers old.reads (reads_left old.reads old.loose disk)).stands.holds.formatted) recovers
+  pub log_stays : (old new : DiskState) → IsDisk old.reads old.dirty → (IsFormatted old.reads → OnlyLooks old new) → Recovers m end a old → KeepsRecovery m end a a old new
+  log_stays old new disk look recovers = looked-keeps m end a old new (look (recovers old.reads (reads_left old.reads old.dirty disk)).represents.holds.formatted) recovers
 
   pub one_by_one : (old mid new : DiskState) → KeepsRecovery m end a a old mid → (Recovers m end a mid → KeepsRecovery m end a a mid new) → KeepsRecovery m end a a old new
   one_by_one old mid new first second = followed_by m end a a a old mid new first (second first.now_on)
 
 module _ (m : Meaning) (end : ℕ) where
   pub exactly_recovers : (disk : DiskState) → LeavesExactly m end (opening m) disk → Recovers m end 0 disk
-  exactly_recovers disk exactly = λ image left. record { world = opening m; stands = exactly image left; time = omega arith }
+  exactly_recovers disk exactly = λ image left. record { world = opening m; represents = exactly image left; time = omega arith }
 
-  -- a log that is made
-  pub made_so : (old new : DiskState) → LeavesOnly old new (IsBlankOrStands m end (opening m)) → LeavesOnly old new (IsBlankOrStandsSo m end)
-  made_so old new made = weaker old new (IsBlankOrStands m end (opening m)) (IsBlankOrStandsSo m end) made
+  -- a log that represents the opening world represents some world
+  pub made_so : (old new : DiskState) → LeavesOnly old new (IsBlankOrRepresents m end (opening m)) → LeavesOnly old new (IsBlankOrRepresentsSo m end)
+  made_so old new made = weaker old new (IsBlankOrRepresents m end (opening m)) (IsBlankOrRepresentsSo m end) made
       (λ image left. elim left [
         | inl none ↦ inl none
-        | inr stands ↦ inr (record { world = opening m; stands = stands; time = omega arith })
+        | inr represents ↦ inr (record { world = opening m; represents = represents; time = omega arith })
       ])
 
-  -- and goes on
-  pub then_so : (old mid new : DiskState) → LeavesOnly old mid (IsBlankOrStandsSo m end) → KeepsRecovery m end 0 0 mid new → LeavesOnly old new (IsBlankOrStandsSo m end)
-  then_so old mid new first second = followed old mid new (IsBlankOrStandsSo m end) first
-      (weaker mid new (StandsAtLeast m end 0) (IsBlankOrStandsSo m end) second.any_moment (λ image stands. inr stands))
+  -- and after the calls that follow
+  pub then_so : (old mid new : DiskState) → LeavesOnly old mid (IsBlankOrRepresentsSo m end) → KeepsRecovery m end 0 0 mid new → LeavesOnly old new (IsBlankOrRepresentsSo m end)
+  then_so old mid new first second = followed old mid new (IsBlankOrRepresentsSo m end) first
+      (weaker mid new (RepresentsAtLeast m end 0) (IsBlankOrRepresentsSo m end) second.any_moment (λ image represents. inr represents))
 
--- a log that is made is genuine, and one that was there stays so
-pub prepared_genuine : (m : Meaning) (end : ℕ) (old mid : DiskState) → IsLawful m → end ≤ 2 ^ 40 → IsDisk mid.reads mid.loose → (IsBlank old.reads → LeavesExactly m end (opening m) mid) → (IsFormatted old.reads → OnlyLooks old mid)
+-- a log that was made is genuine, and one that was there before still is
+pub prepared_genuine : (m : Meaning) (end : ℕ) (old mid : DiskState) → IsLawful m → end ≤ 2 ^ 40 → IsDisk mid.reads mid.dirty → (IsBlank old.reads → LeavesExactly m end (opening m) mid) → (IsFormatted old.reads → OnlyLooks old mid)
     → IsGenuine m end old.reads → IsGenuine m end mid.reads
 prepared_genuine m end old mid law short sound made looks genuine = elim (cases_Bool (is_open (slice_index_or old.reads 0 []))) [
   | inl formatted ↦ subst (IsGenuine m end) (sym (looks formatted).same) genuine
   | inr blank ↦ recovers-genuine m end law short mid sound 0 (exactly_recovers m end mid (made blank))
 ]
 
--- what a disk recovers at least, what a read of it stands for has
-pub no_earlier : (m : Meaning) (end a : ℕ) (disk : DiskState) (w : World) → IsLawful m → end ≤ 2 ^ 40 → IsDisk disk.reads disk.loose → Recovers m end a disk → Stands m end disk.reads w → a ≤ w.time
-no_earlier m end a disk w law short sound recovers stands =
-    let least = recovers disk.reads (reads_left disk.reads disk.loose sound) in
-    subst (λ (v : World). a ≤ v.time) (image_stands_for_one m end end disk.reads least.world w law least.stands stands).1 least.time
+-- the world that a read represents is no earlier than what the disk recovers to
+pub no_earlier : (m : Meaning) (end a : ℕ) (disk : DiskState) (w : World) → IsLawful m → end ≤ 2 ^ 40 → IsDisk disk.reads disk.dirty → Recovers m end a disk → Represents m end disk.reads w → a ≤ w.time
+no_earlier m end a disk w law short sound recovers represents =
+    let least = recovers disk.reads (reads_left disk.reads disk.dirty sound) in
+    subst (λ (v : World). a ≤ v.time) (image_represents_one m end end disk.reads least.world w law least.represents represents).1 least.time
 
--- no log is made: one is there, or why
+-- why no log is made, if none is there
 no_log : (fault : LogFault) (image : List (List ℕ)) (failed : Type 0) → fault ≢ NotBlank → FormatIsRefused fault image failed → PreparingIsRefused (Log fault) image failed
 no_log NotFormatted image failed other h = h
 no_log Corrupt image failed other h = h
@@ -103,7 +103,7 @@ module _ (fault : LogFault) (image : List (List ℕ)) (failed : Type 0) (refused
   was_there P (Ok x) h = λ blank. (let formatted : IsFormatted image = subst (λ (f : LogFault). FormatIsRefused f image failed) h refused in absurd (false≢true (sym blank ∙ formatted)))
   was_there P (Err e) h = tt
 
--- and what is committed in the end is that of the end
+-- the world committed at the end is that of the end
 pub at_end : (m : Meaning) (end g : ℕ) (w : World) → IsUpto m end g w → g ≤ end → end ≤ g → IsUpto m end end w
 at_end m end g w upto soon late = (let same : g ≡ end = omega arith in subst (λ (t : ℕ). IsUpto m end t w) same upto)
 

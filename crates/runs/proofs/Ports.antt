@@ -1,8 +1,8 @@
--- Ports that are all alike, before anything is loaded through them.
+-- Ports that are all alike, before anything was loaded through them.
 use Rattle.std.proofs.Common.{true, ◌≡◌, ◌<◌, ℕ, List, ap, arith, length, ◌∙◌}
 use Rattle.std.specs.Prelude.{replicate}
 use Rattle.std.proofs.lemmas.List.{get_or-replicate, length-replicate}
-use Rattle.coordinator.specs.Opening.{AllFresh, AllTell}
+use Rattle.coordinator.specs.Opening.{AllFresh, AllFaithful}
 use Rattle.coordinator.specs.Session.{no_port, port_at}
 use Rattle.model.specs.Meaning.{Meaning}
 use Rattle.wire.specs.Port.{PortState}
@@ -18,5 +18,5 @@ module _ (nodes : ℕ) (port : PortState) (ports : List PortState) (is : ports �
   pub all_fresh : port.stage ≡ Fresh → AllFresh ports
   all_fresh fresh k l = ap (λ (p : PortState). p.stage) (each_is k l) ∙ fresh
 
-  pub all_tell : (m : Meaning) → port.tells ≡ true → port.meaning ≡ m → AllTell m ports
-  all_tell m tells meaning k l = (ap (λ (p : PortState). p.tells) (each_is k l) ∙ tells, ap (λ (p : PortState). p.meaning) (each_is k l) ∙ meaning)
+  pub all_faithful : (m : Meaning) → port.faithful ≡ true → port.meaning ≡ m → AllFaithful m ports
+  all_faithful m faithful meaning k l = (ap (λ (p : PortState). p.faithful) (each_is k l) ∙ faithful, ap (λ (p : PortState). p.meaning) (each_is k l) ∙ meaning)

@@ -1,10 +1,12 @@
--- What a driver does to a session (this project's profile): it makes steps of it, and nothing else.
+-- What a driver does to a session: it makes steps of it, and nothing else.
 use Rattle.std.specs.Prelude.{Bool, true, false, ℕ, zero, suc, List, [], ◌∷◌, ◌++◌, ◌+◌, ◌%◌, ◌==◌}
-use Rattle.std.specs.Prelude.{◌&&◌, ◌||◌, nat_le, nat_lt, max, min, ◌<◌, ◌≤◌, if◌then◌else◌, ◌≡◌, length}
-use Rattle.std.specs.Prelude.{map, Ok, Option, Some, unwrap_or}
+use Rattle.std.specs.Prelude.{◌-◌, ◌^◌, get_or, ◌&&◌, ◌||◌, nat_le, nat_lt, max, min, ◌<◌, ◌≤◌, if◌then◌else◌, ◌≡◌, length}
+use Rattle.std.specs.Prelude.{Err, map, Ok, Option, Some, unwrap_or, ◌⊎◌}
 use Rattle.coordinator.specs.Drives.{Goes, IsStep}
 use Rattle.coordinator.specs.Headline.{IsDriven as IsDrivenFrom}
-use Rattle.coordinator.specs.Session.{IsToldSession, Session, running}
+use Rattle.coordinator.specs.Opening.{OpeningIsRefused}
+use Rattle.coordinator.specs.declared.SessionFault.{SessionFault}
+use Rattle.coordinator.specs.Session.{IsConsistentSession, Session, running}
 use Rattle.coordinator.specs.Steps.{move_of}
 use Rattle.coordinator.specs.declared.Step.{Step}
 use Rattle.disk.specs.Disk.{DiskState}
@@ -17,13 +19,13 @@ use Rattle.model.specs.World.{IsUpto, World}
 use Rattle.node.specs.Node.{sits_on}
 use Rattle.protocol.specs.Moves.{Move, answer_of, move}
 use Rattle.protocol.specs.Moves.Move.{Checkpoint, Commit, Post, Take}
-use Rattle.protocol.specs.Picture.{Picture, opened}
+use Rattle.protocol.specs.System.{System, opened}
 use Rattle.protocol.specs.declared.Answer.{Answer}
 use Rattle.protocol.specs.declared.Answer.TheVariants.{Posted, Taken}
 use Rattle.recovery.specs.Replay.{IsReplayedTo}
 use Rattle.wire.specs.Port.{PortState}
 
--- the places, from place i on, of what is for the processes of a node
+-- the places of the messages for the processes of a node; the first place is i
 abbrev pub places_for : ℕ → ℕ → ℕ → List Signed → List ℕ
 places_for nodes node i [] = []
 places_for nodes node i (s ∷ ss) =
@@ -32,30 +34,31 @@ places_for nodes node i (s ∷ ss) =
 
 -- 1. Steps and their answers
 
--- a step that was made, and what it was answered
+-- a step that was made, what was in transit when it was made, and its answer
 pub record Made : Type 0 where
   pub step : Step
+  pub transit : List Signed
   pub answer : Answer
 
 abbrev pub moves_of : List Made → List Move
 moves_of made = map (λ (k : Made). move_of k.step) made
 
--- how many events an answer tells: those that no rollback of their node reaches any more
-abbrev pub told_of : Answer → ℕ
-told_of (Taken ran out fossils) = fossils
-told_of answer = 0
+-- the number of events that an answer reports, which no rollback of their node can reach any more
+abbrev pub reported_in : Answer → ℕ
+reported_in (Taken ran out fossils) = fossils
+reported_in answer = 0
 
--- how many events are told since the last commit, where it were so many before these steps
-abbrev pub told_by : ℕ → Move → Answer → ℕ
-told_by told (Take node) answer = told + told_of answer
-told_by told Commit answer = 0
-told_by told move answer = told
+-- the number of events reported since the last commit, given that number before these steps
+abbrev pub reported_after : ℕ → Move → Answer → ℕ
+reported_after reported (Take node) answer = reported + reported_in answer
+reported_after reported Commit answer = 0
+reported_after reported move answer = reported
 
-abbrev pub told_since : ℕ → List Made → ℕ
-told_since told [] = told
-told_since told (k ∷ ks) = told_since (told_by told (move_of k.step) k.answer) ks
+abbrev pub reported_since : ℕ → List Made → ℕ
+reported_since reported [] = reported
+reported_since reported (k ∷ ks) = reported_since (reported_after reported (move_of k.step) k.answer) ks
 
--- the least of this time and of the floors with which parcels were posted
+-- the least of this time and of the floors of the parcels posted
 abbrev pub least_of : ℕ → Answer → ℕ
 least_of time (Posted floor) = min time floor
 least_of time answer = time
@@ -68,7 +71,7 @@ abbrev pub least_posted : ℕ → List Made → ℕ
 least_posted time [] = time
 least_posted time (k ∷ ks) = least_posted (least_by time (move_of k.step) k.answer) ks
 
--- how many commits were made
+-- the number of commits made
 abbrev pub commits_by : Move → ℕ
 commits_by Commit = 1
 commits_by move = 0
@@ -77,85 +80,112 @@ abbrev pub commits_in : List Made → ℕ
 commits_in [] = 0
 commits_in (k ∷ ks) = commits_by (move_of k.step) + commits_in ks
 
+-- the number of messages that a node handled, by its answer
+abbrev pub handled_in : Answer → ℕ
+handled_in (Taken ran out fossils) = ran
+handled_in answer = 0
+
+-- by the answers to the takes of this node
+abbrev pub handled_by : ℕ → Move → Answer → ℕ
+handled_by node (Take other) answer = if other == node then handled_in answer else 0
+handled_by node move answer = 0
+
+abbrev pub handled_of : ℕ → List Made → ℕ
+handled_of node [] = 0
+handled_of node (k ∷ ks) = handled_by node (move_of k.step) k.answer + handled_of node ks
+
+-- the count of each node is the number of messages that it handled in these steps; a count stops at
+-- the largest number of 64 bits
+abbrev pub AreCounts : List ℕ → List Made → Type 0
+AreCounts counts made =
+    (node : ℕ) → get_or counts node 0 ≡ min (handled_of node made) (2 ^ 64 - 1)
+
 -- 2. Rounds
 
--- how many messages a parcel lets its node handle: the fixed batch; or some, and no more than the
--- most, where each node has a budget that follows what it tells
+-- how many messages a parcel lets its node handle: the fixed batch, or at least one and at most the
+-- largest budget if each node has a budget that follows its reports
 abbrev pub IsBudget : Batch → ℕ → Type 0
 IsBudget (Fixed messages) budget = budget ≡ messages
 IsBudget (Adjusting most rounds_are_cheap) budget = (1 ≤ budget) × (budget ≤ 65536) × (budget ≤ max most 1)
 
--- a node is posted a parcel with such a budget
-abbrev pub IsPost : Batch → ℕ → List Move → Type 0
-IsPost batch node moves = (picks : List ℕ) × (budget : ℕ) × IsBudget batch budget
-    × (moves ≡ Post node picks budget ∷ [])
+-- Everything in transit for a node is posted to it, in ascending order of its places, with such a
+-- budget. A place has 32 bits.
+pub record IsPost (plan : Plan) (node : ℕ) (made : List Made) : Type 0 where
+  pub post : Made
+  pub picks : List ℕ
+  pub budget : ℕ
+  pub only : made ≡ post ∷ []
+  pub move_is : move_of post.step ≡ Post node picks budget
+  pub all : length post.transit < 2 ^ 32 → picks ≡ places_for plan.nodes node 0 post.transit
+  pub allowed : IsBudget plan.batch budget
 
--- a turn: a node is posted a parcel with such a budget, and its reply is taken
-abbrev pub IsTurn : Batch → ℕ → List Move → Type 0
-IsTurn batch node moves = (picks : List ℕ) × (budget : ℕ) × IsBudget batch budget
-    × (moves ≡ Post node picks budget ∷ Take node ∷ [])
+-- a turn: everything in transit for a node is posted to it, and its reply is taken
+abbrev pub IsTurn : Plan → ℕ → List Made → Type 0
+IsTurn plan node made = (post : List Made) × (taken : List Made)
+    × IsPost plan node post × (moves_of taken ≡ Take node ∷ []) × (made ≡ post ++ taken)
 
--- the turns of so many nodes, from node 0 up
-abbrev pub AreTurns : Batch → ℕ → List Move → Type 0
-AreTurns batch zero moves = moves ≡ []
-AreTurns batch (suc node) moves = (before : List Move) × (turn : List Move)
-    × AreTurns batch node before × IsTurn batch node turn × (moves ≡ before ++ turn)
+-- the turns of this many nodes, from node 0 up
+abbrev pub AreTurns : Plan → ℕ → List Made → Type 0
+AreTurns plan zero made = made ≡ []
+AreTurns plan (suc node) made = (before : List Made) × (turn : List Made)
+    × AreTurns plan node before × IsTurn plan node turn × (made ≡ before ++ turn)
 
--- each of so many nodes is posted a parcel, from node 0 up
-abbrev pub ArePosts : Batch → ℕ → List Move → Type 0
-ArePosts batch zero moves = moves ≡ []
-ArePosts batch (suc node) moves = (before : List Move) × (post : List Move)
-    × ArePosts batch node before × IsPost batch node post × (moves ≡ before ++ post)
+-- a parcel is posted to each of this many nodes, from node 0 up
+abbrev pub ArePosts : Plan → ℕ → List Made → Type 0
+ArePosts plan zero made = made ≡ []
+ArePosts plan (suc node) made = (before : List Made) × (post : List Made)
+    × ArePosts plan node before × IsPost plan node post × (made ≡ before ++ post)
 
 -- the reply of each is taken, from node 0 up
 abbrev pub takes_of : ℕ → List Move
 takes_of zero = []
 takes_of (suc node) = takes_of node ++ Take node ∷ []
 
--- What the nodes are asked in a round: each has its turn after the one before it; or, where they
--- work together, all are posted a parcel before the reply of any is taken.
-abbrev pub AreAsked : Bool → Batch → ℕ → List Move → Type 0
-AreAsked false batch nodes moves = AreTurns batch nodes moves
-AreAsked true batch nodes moves =
-    (posts : List Move) × ArePosts batch nodes posts × (moves ≡ posts ++ takes_of nodes)
+-- What the nodes are asked in a round: one turn after another or, if they work together, all posts
+-- before the first take.
+abbrev pub AreAsked : Bool → Plan → List Made → Type 0
+AreAsked false plan made = AreTurns plan plan.nodes made
+AreAsked true plan made = (posts : List Made) × (taken : List Made)
+    × ArePosts plan plan.nodes posts × (moves_of taken ≡ takes_of plan.nodes)
+    × (made ≡ posts ++ taken)
 
--- A round ends with a commit where so many events as the plan wants, or more, are told since the
--- last one; or where no floor that was posted in it is below the end, so that the commit comes to
--- the end. A plan that wants none has one in each round.
+-- A round ends with a commit if at least as many events as the plan asks for were reported since
+-- the last one, or if no floor posted in it is below the end, so that the commit reaches the end. A
+-- plan that asks for none commits in each round.
 abbrev pub is_due : Plan → ℕ → ℕ → ℕ → Bool
-is_due plan end told floor = nat_le plan.commit_every told || nat_le end floor
+is_due plan end reported floor = nat_le plan.commit_every reported || nat_le end floor
 
--- a checkpoint comes behind the commit of each number that this one divides; 0 is for none
+-- a checkpoint follows each commit whose number is a multiple of `every`; 0 is for none
 abbrev pub is_kept : ℕ → ℕ → Bool
 is_kept every number = nat_lt 0 every && number % every == 0
 
 abbrev pub kept_after : ℕ → ℕ → List Move
 kept_after every number = if is_kept every number then Checkpoint ∷ [] else []
 
--- the end of a round, after which so many events are told since the last of so many commits
+-- the end of a round, with `reported` events reported since the last of `commits` commits
 abbrev pub closing_of : Plan → ℕ → ℕ → ℕ → ℕ → List Move
-closing_of plan end told floor commits =
-    if is_due plan end told floor then Commit ∷ kept_after plan.checkpoint_every (commits + 1)
+closing_of plan end reported floor commits =
+    if is_due plan end reported floor then Commit ∷ kept_after plan.checkpoint_every (commits + 1)
     else []
 
--- A round, before which so many events are told since the last of so many commits: all nodes are
--- asked, then a commit is made where one is due, and a checkpoint where its turn has come.
+-- A round, with `reported` events reported since the last of `commits` commits before it: all nodes are
+-- asked, then a commit is made if one is due, and a checkpoint if one is due after that.
 abbrev pub IsRound : Plan → ℕ → ℕ → ℕ → List Made → Type 0
-IsRound plan end told commits made = (asked : List Made) × (closing : List Made)
-    × AreAsked plan.together plan.batch plan.nodes (moves_of asked)
+IsRound plan end reported commits made = (asked : List Made) × (closing : List Made)
+    × AreAsked plan.together plan asked
     × (moves_of closing
-    ≡ closing_of plan end (told_since told asked) (least_posted end asked) commits)
+    ≡ closing_of plan end (reported_since reported asked) (least_posted end asked) commits)
     × (made ≡ asked ++ closing)
 
--- so many rounds
+-- this many rounds
 abbrev pub AreRounds : Plan → ℕ → ℕ → List Made → Type 0
 AreRounds plan end zero made = made ≡ []
 AreRounds plan end (suc rounds) made = (before : List Made) × (round : List Made)
     × AreRounds plan end rounds before
-    × IsRound plan end (told_since 0 before) (commits_in before) round
+    × IsRound plan end (reported_since 0 before) (commits_in before) round
     × (made ≡ before ++ round)
 
--- 3. What is done to a session
+-- 3. The session after the steps
 
 module _ {M P D : Type 0} (meaning : M → Meaning) (state : P → PortState) where
   -- some steps lead from one to the other: each is its move, and the disk goes on recovering
@@ -163,37 +193,56 @@ module _ {M P D : Type 0} (meaning : M → Meaning) (state : P → PortState) wh
     pub moves : List Move
     pub made : Goes meaning state disk moves old new
 
-  -- each of these steps was made, and was answered so, over whatever ports
+  -- each of these steps was made with this in transit and had this answer, over any ports
   abbrev pub AreMade : (D → DiskState) → List Made → Session M P D → Session M P D → Type 0
   AreMade disk [] old new = new ≡ old
-  AreMade disk (k ∷ ks) old new = (mid : Session M P D)
+  AreMade disk (k ∷ ks) old new = (mid : Session M P D) × (k.transit ≡ old.ledger.transit)
       × IsStep meaning state disk k.step old mid (Ok k.answer) × AreMade disk ks mid new
 
-  -- steps of which this holds are made one after another, over whatever ports
+  -- steps of this shape were made one after another, over any ports
   pub record IsDrivenBy (disk : D → DiskState) (Shape : List Made → Type 0)
       (old new : Session M P D) : Type 0 where
     pub steps : List Made
     pub shape : Shape steps
     pub made : AreMade disk steps old new
 
-  -- over ports that tell, the front is the sequential simulation up to the end
+  -- Steps were made, and the next step was refused with this fault, over any ports. They begin
+  -- steps of this shape: it holds of them, the refused step with some answer, and some steps more.
+  pub record IsRefusedIn (disk : D → DiskState) (Shape : List Made → Type 0)
+      (old new : Session M P D) (fault : SessionFault) : Type 0 where
+    pub steps : List Made
+    pub mid : Session M P D
+    pub made : AreMade disk steps old mid
+    pub next : Step
+    pub refused : IsStep meaning state disk next mid new (Err fault)
+    pub answer : Answer
+    pub more : List Made
+    pub shape : Shape (steps
+        ++ record { step = next; transit = mid.ledger.transit; answer = answer } ∷ more)
+
+  -- over faithful ports, the front is the sequential simulation up to the end
   abbrev pub IsFinished : ℕ → Session M P D → Session M P D → Type 0
   IsFinished end old new =
-      IsToldSession (running meaning state old) → IsUpto (meaning old.model) end end new.front
+      IsConsistentSession (running meaning state old) → IsUpto (meaning old.model) end end new.front
 
-  -- Over whatever ports: a session was opened on a disk, at the front to which its records are
-  -- replayed; so many rounds of it were made, and have come to this front; and a disk was left.
-  pub record HasRun (disk : D → DiskState) (model : M) (end : ℕ) (plan : Plan) (rounds : ℕ)
+  -- Over any ports: a session was opened on a disk, at the front to which its records are replayed;
+  -- steps of this shape were made and led to this front; and this disk is left.
+  pub record HasMade (disk : D → DiskState) (model : M) (end : ℕ) (Shape : List Made → Type 0)
       (old new : D) (front : World) : Type 0 where
     pub first : Session M P D
     pub last : Session M P D
     pub same : (first.model ≡ model) × (first.end ≡ end)
     pub replayed : IsReplayedTo (meaning model) end (disk old).reads first.front
-    pub driven : IsDrivenBy disk (AreRounds plan end rounds) first last
+    pub driven : IsDrivenBy disk Shape first last
     pub front_is : front ≡ last.front
     pub left : new ≡ last.log.disk
 
-  -- what is told of a run that came to its end, over whatever ports
+  -- the steps are this many rounds
+  abbrev pub HasRun : (D → DiskState) → M → ℕ → Plan → ℕ → D → D → World → Type 0
+  HasRun disk model end plan rounds old new front =
+      HasMade disk model end (AreRounds plan end rounds) old new front
+
+  -- the result of a run that reached its end, over any ports
   pub record IsRunOver (disk : D → DiskState) (model : M) (end : ℕ) (plan : Plan) (old new : D)
       (time events : ℕ) : Type 0 where
     pub rounds : ℕ
@@ -204,31 +253,67 @@ module _ {M P D : Type 0} (meaning : M → Meaning) (state : P → PortState) wh
     pub time_is : time ≡ front.time
     pub events_are : events ≡ length front.log
 
-  -- all rounds of a run are made, and its front has not come to the end, over whatever ports
+  -- the counts of a run: of all rounds that it made, over any ports
+  pub record HasCounted (disk : D → DiskState) (model : M) (end : ℕ) (plan : Plan) (old new : D)
+      (counts : List ℕ) : Type 0 where
+    pub rounds : ℕ
+    pub front : World
+    pub some : rounds ≤ plan.rounds
+    pub run : HasMade disk model end
+        (λ made. AreRounds plan end rounds made × AreCounts counts made) old new front
+
+  -- all rounds of a run were made, and its front has not reached the end, over any ports
   pub record IsShortOver (disk : D → DiskState) (model : M) (end : ℕ) (plan : Plan)
       (old new : D) : Type 0 where
     pub front : World
     pub run : HasRun disk model end plan plan.rounds old new front
     pub early : front.time < end
 
--- 4. Over ports that tell their nodes
+  -- A session was opened on a disk, the plan's rounds were made, and a step of them was refused
+  -- with this fault, over any ports.
+  pub record HasStopped (disk : D → DiskState) (model : M) (end : ℕ) (plan : Plan) (old new : D)
+      (fault : SessionFault) : Type 0 where
+    pub first : Session M P D
+    pub last : Session M P D
+    pub same : (first.model ≡ model) × (first.end ≡ end)
+    pub replayed : IsReplayedTo (meaning model) end (disk old).reads first.front
+    pub rounds : ℕ
+    pub some : rounds ≤ plan.rounds
+    pub refused : IsRefusedIn disk (AreRounds plan end rounds) first last fault
+    pub left : new ≡ last.log.disk
 
--- what is told of a run: it came to the end, and so many events are in the log of the sequential
--- simulation up to there
+  -- why a run over ports in these states failed with this fault of a session: the session was not
+  -- opened, or it refused a step
+  abbrev pub SessionRefused : (D → DiskState) → M → ℕ → Plan → List PortState → D → D →
+      SessionFault → Type 0
+  SessionRefused disk model end plan ports old new fault =
+      OpeningIsRefused (meaning model) end (disk old).reads ports
+      ((disk old).failures < (disk new).failures) fault
+      ⊎ HasStopped disk model end plan old new fault
+
+-- 4. Over faithful ports
+
+-- the result of a run: it reached the end, and this is the number of events in the log of the
+-- sequential simulation up to there
 pub record IsRunOf (m : Meaning) (end time events : ℕ) : Type 0 where
   pub world : World
   pub upto : IsUpto m end end world
   pub time_is : time ≡ end
   pub events_are : events ≡ length world.log
 
--- what moves answer, one after another
-abbrev pub answers_of : Meaning → ℕ → List Move → Picture → List (Option Answer)
+-- the answers of moves made one after another
+abbrev pub answers_of : Meaning → ℕ → List Move → System → List (Option Answer)
 answers_of m end [] p = []
 answers_of m end (k ∷ ks) p =
     answer_of m end k p ∷ answers_of m end ks (unwrap_or (move m end k p) p)
 
--- all rounds of a run from this image are made, with the answers of its moves, and its front has
--- not come to the end
+-- and what was in transit when each was made
+abbrev pub transits_of : Meaning → ℕ → List Move → System → List (List Signed)
+transits_of m end [] p = []
+transits_of m end (k ∷ ks) p = p.transit ∷ transits_of m end ks (unwrap_or (move m end k p) p)
+
+-- all rounds of a run from this image were made, with the answers of its moves and with what was in
+-- transit, and its front has not reached the end
 pub record IsUnfinished (m : Meaning) (end : ℕ) (plan : Plan) (image : List (List ℕ)) : Type 0 where
   pub made : List Made
   pub rounds_are : AreRounds plan end plan.rounds made
@@ -236,4 +321,6 @@ pub record IsUnfinished (m : Meaning) (end : ℕ) (plan : Plan) (image : List (L
   pub driven : IsDrivenFrom m end plan.nodes image (moves_of made) front
   pub answers_are : map (λ (k : Made). Some k.answer) made
       ≡ answers_of m end (moves_of made) (opened m.lps plan.nodes driven.first)
+  pub transits_are : map (λ (k : Made). k.transit) made
+      ≡ transits_of m end (moves_of made) (opened m.lps plan.nodes driven.first)
   pub early : front.time < end

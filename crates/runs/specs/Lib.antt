@@ -1,5 +1,5 @@
--- For callers: what a run does to its session, by which budgets, and what it counts
+-- For callers: what a run does to its session, with which budgets, and what it counts
 pub mod Budgets
 pub mod Driver
 pub mod Tallies
-pub mod Simulation  -- what a simulation leaves and tells, and why a call is refused
+pub mod Simulation  -- what a simulation leaves and returns, and why a call fails

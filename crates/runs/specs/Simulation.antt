@@ -1,4 +1,4 @@
--- What a simulation on a disk leaves and tells, and why a call is refused (this project's profile).
+-- What a simulation on a disk leaves and returns, and why a call fails.
 use Rattle.std.specs.Prelude.{ℕ, List, None, ◌≡◌, ◌⊎◌}
 use Rattle.commitlog.specs.Faults.{FormatIsRefused, OpenIsRefused}
 use Rattle.commitlog.specs.Records.{IsBlank, IsFormatted, records_of}
@@ -13,34 +13,34 @@ use Rattle.runs.specs.declared.rounds.RunFault.TheVariants as run
 use Rattle.model.specs.Meaning.{Meaning}
 use Rattle.model.specs.World.{World}
 use Rattle.recovery.specs.Ends.{HoldsLog}
-use Rattle.recovery.specs.Stands.{Stands, StandsAtLeast}
+use Rattle.recovery.specs.Represents.{Represents, RepresentsAtLeast}
 use Rattle.recovery.specs.declared.RecoveryFault.{RecoveryFault}
 use Rattle.recovery.specs.declared.RecoveryFault.TheVariants as recovery
 use Rattle.runs.specs.declared.fault.SimulationFault.{SimulationFault}
 use Rattle.runs.specs.declared.fault.SimulationFault.TheVariants.{File, Log, NoMemory}
 use Rattle.runs.specs.declared.fault.SimulationFault.TheVariants.{Recovery, Rounds, Session}
 
--- 1. What is left
+-- 1. What remains on the disk
 
--- an image without a log, or one that stands for this world
-abbrev pub IsBlankOrStands : Meaning → ℕ → World → List (List ℕ) → Type 0
-IsBlankOrStands m end w image = IsBlank image ⊎ Stands m end image w
+-- an image without a log, or one that represents this world
+abbrev pub IsBlankOrRepresents : Meaning → ℕ → World → List (List ℕ) → Type 0
+IsBlankOrRepresents m end w image = IsBlank image ⊎ Represents m end image w
 
--- an image without a log, or one that stands for some world
-abbrev pub IsBlankOrStandsSo : Meaning → ℕ → List (List ℕ) → Type 0
-IsBlankOrStandsSo m end image = IsBlank image ⊎ StandsAtLeast m end 0 image
+-- an image without a log, or one that represents some world
+abbrev pub IsBlankOrRepresentsSo : Meaning → ℕ → List (List ℕ) → Type 0
+IsBlankOrRepresentsSo m end image = IsBlank image ⊎ RepresentsAtLeast m end 0 image
 
--- 2. Faults; `failed` says that the device has failed in the call
+-- 2. Faults; `failed` says that the device failed during the call
 
--- why no log is made on a disk that has none
+-- why no log could be made on a disk without one
 abbrev pub PreparingIsRefused : SimulationFault → List (List ℕ) → Type 0 → Type 0
 PreparingIsRefused (Log log.NotBlank) image failed = ⊥
 PreparingIsRefused (Log fault) image failed = FormatIsRefused fault image failed
 PreparingIsRefused fault image failed = ⊥
 
--- Why no world is recovered from the log of an image: want of memory, a device that failed, that it
--- is no log of this model with this end in force, though its records can be read, or the first
--- record that is at fault.
+-- Why no world is recovered from the log of an image: an allocation or the device failed, the log
+-- is not one of this model with this end in force although its records can be read, or a record is
+-- at fault, of which the first is the cause.
 abbrev pub IsNotRecovered : Meaning → ℕ → List (List ℕ) → RecoveryFault → Type 0 → Type 0
 IsNotRecovered m end image recovery.NoMemory failed = Unit {0}
 IsNotRecovered m end image (recovery.Log log.NoMemory) failed = Unit {0}
@@ -51,19 +51,19 @@ IsNotRecovered m end image recovery.OtherModel failed =
     × (records_of image ≡ None → ⊥)
 IsNotRecovered m end image fault failed = IsAtFault m end image fault
 
--- why what is committed is not read
+-- why what is committed could not be read
 abbrev pub ReadingIsRefused : Meaning → ℕ → SimulationFault → List (List ℕ) → Type 0 → Type 0
 ReadingIsRefused m end (Log fault) image failed = OpenIsRefused fault image failed
 ReadingIsRefused m end (Recovery fault) image failed = IsNotRecovered m end image fault failed
 ReadingIsRefused m end fault image failed = ⊥
 
--- this library's own name for why a run stopped
+-- the fault of a run as a `SimulationFault`
 abbrev pub of_run : RunFault → SimulationFault
 of_run (run.Session fault) = Session fault
 of_run run.Rounds = Rounds
 of_run run.NoMemory = NoMemory
 
--- and for why a file is not opened as a disk
+-- and that of a file that could not be opened as a disk
 abbrev pub of_file : FileFault → SimulationFault
 of_file opening.File = File
 of_file opening.NoMemory = NoMemory

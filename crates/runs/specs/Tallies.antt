@@ -1,38 +1,52 @@
--- What a run counts, and what that is of the steps that it made.
-use Rattle.std.specs.Prelude.{List, ℕ, ◌+◌, ◌-◌, ◌≡◌}
-use Rattle.runs.specs.Driver.{Made, commits_in, least_posted, moves_of, told_since}
+-- What a run counts, and how that follows from the steps that it made.
+use Rattle.std.specs.Prelude.{List, get_or, min, ℕ, ◌+◌, ◌-◌, ◌^◌, ◌≡◌}
+use Rattle.runs.specs.Driver.{AreCounts, Made, commits_in, handled_of, least_posted}
+use Rattle.runs.specs.Driver.{reported_since}
 use Rattle.runs.specs.declared.tally.Tally.{Tally}
 use Rattle.runs.specs.declared.tally.Turn.{Turn}
 use Rattle.protocol.specs.declared.Answer.{Answer}
 use Rattle.protocol.specs.declared.Answer.TheVariants.{Taken}
-use Rattle.protocol.specs.Moves.{Move}
 
--- Of these steps: how many events have still to be told before a commit is due, where so many were
--- told since the last one, and how many commits were made.
+-- the count of a node after the answer to its take
+abbrev pub handled_after : ℕ → Answer → ℕ
+handled_after count (Taken ran out fossils) = min (count + ran) (2 ^ 64 - 1)
+handled_after count answer = count
+
+-- the count of each node goes on from the number that it handled before these steps
+abbrev pub AreCounted : List ℕ → List ℕ → List Made → Type 0
+AreCounted old new made = (node before : ℕ) → get_or old node 0 ≡ min before (2 ^ 64 - 1) →
+    get_or new node 0 ≡ min (before + handled_of node made) (2 ^ 64 - 1)
+
+-- The count over these steps: the number of events still to be reported before a commit is due,
+-- given how many were reported since the last one, the number of commits made, and the number of
+-- messages that each node handled.
 pub record IsTallied (every : ℕ) (old new : Tally) (made : List Made) : Type 0 where
-  pub wanted : (told : ℕ) → old.wanted ≡ every - told →
-      new.wanted ≡ every - told_since told made
+  pub events_until_commit : (reported : ℕ) → old.events_until_commit ≡ every - reported →
+      new.events_until_commit ≡ every - reported_since reported made
   pub commits : new.commits ≡ old.commits + commits_in made
+  pub handled : AreCounted old.handled_per_node.items new.handled_per_node.items made
 
--- these steps tell no events, and none of them is a commit
+-- these steps report no events, and none of them is a commit or the take of a node
 pub record CountsNothing (made : List Made) : Type 0 where
-  pub told : (told : ℕ) → told_since told made ≡ told
+  pub reported : (reported : ℕ) → reported_since reported made ≡ reported
   pub commits : commits_in made ≡ 0
+  pub handled : (node : ℕ) → handled_of node made ≡ 0
 
--- what is counted after these steps, which are all
+-- the count after these steps, if they are all that were made
 pub record IsTallyOf (every : ℕ) (tally : Tally) (made : List Made) : Type 0 where
-  pub wanted : tally.wanted ≡ every - told_since 0 made
+  pub events_until_commit : tally.events_until_commit ≡ every - reported_since 0 made
   pub commits : tally.commits ≡ commits_in made
+  pub handled : AreCounts tally.handled_per_node.items made
 
--- steps of this shape, within a round: and the least floor that was posted in it
-pub record Tallied (every : ℕ) (Shape : List Move → Type 0) (old new : Tally)
+-- steps of this shape within a round, their count, and the least floor posted in it
+pub record Tallied (every : ℕ) (Shape : List Made → Type 0) (old new : Tally)
     (made : List Made) : Type 0 where
-  pub shape : Shape (moves_of made)
+  pub shape : Shape made
   pub tally : IsTallied every old new made
   pub floor : new.floor ≡ least_posted old.floor made
 
--- a turn, with what the take of its reply was answered
+-- a turn with the answer to its take
 abbrev pub turn_answered : Turn → Answer → Turn
 turn_answered turn (Taken ran out fossils) =
-    record turn { handled = ran; sent = out; told = fossils }
+    record turn { handled = ran; sent = out; reported = fossils }
 turn_answered turn answer = turn

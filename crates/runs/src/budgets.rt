@@ -1,34 +1,39 @@
-// The budget of a node, which follows what it tells.
+// The budget of a node, which follows what the node reports.
 
 ghost use Rattle.std.specs.Prelude.{◌≡◌, ◌≤◌};
-ghost use Rattle.runs.specs.Budgets.{all_but_few_told, budget_after, careful_messages};
-ghost use Rattle.runs.specs.Budgets.{eager_messages, first_budget, messages_of, nearly_all_told};
+ghost use Rattle.runs.specs.Budgets.{all_but_few_reported, budget_after, careful_messages};
+ghost use Rattle.runs.specs.Budgets.{eager_messages, first_budget, messages_of, nearly_all_reported};
 ghost use Rattle.runs.specs.Budgets.{sum_after};
 
-/// What a node told and handled at its latest takes, by which its next budget is set.
+/// How much a node reported and handled in its latest takes, which sets its next budget.
 ///
-/// Each is a sum of which every take forgets an eighth before it adds its own.
+/// Each field is a decaying sum: a take subtracts an eighth before it adds its own number.
 #[derive(Clone, Copy, Debug, PartialEq, Eq)]
 pub(crate) struct NodeBudget {
-    /// How many handlings it told, which no rollback reaches any more.
-    told: u64,
-    /// How many messages it handled.
+    /// The number of handlings that it reported, which no rollback can reach any more.
+    reported: u64,
+    /// The number of messages that it handled.
     ran: u64,
 }
 
-/// The most messages that a budget allows.
+/// The largest budget, in messages.
 const MOST: u64 = 65_536;
 
 impl NodeBudget {
-    /// That of a node of which no reply was taken: 18 messages, or 11 where rounds are cheap.
+    /// Returns the budget of a node of which no reply was taken: 18 messages, or 11 if rounds are
+    /// cheap.
     pub(crate) fn new() -> NodeBudget
         ensures { result ≡ first_budget }
     {
-        NodeBudget { told: 64, ran: 64 }
+        NodeBudget {
+            reported: 64,
+            ran: 64,
+        }
     }
 
-    /// How many messages the node may handle at its next turn, 1 to 65,536: where a round is dear,
-    /// so many that few are made; where it is cheap, so few that next to none is undone.
+    /// Returns how many messages the node may handle in its next turn, 1 to 65,536: enough that few
+    /// rounds are made if a round is expensive, or so few that almost none is rolled back if it is
+    /// cheap.
     pub(crate) fn messages(self, rounds_are_cheap: bool) -> u32
         ensures exact { result ≡ messages_of rounds_are_cheap self }
         ensures some { 1 ≤ result }
@@ -42,14 +47,14 @@ impl NodeBudget {
         messages.min(MOST) as u32
     }
 
-    /// Twice as many as the node told at a take where nearly all was told that it handled, else an
-    /// eighth more; and two.
+    /// Returns the mean number of handlings that the latest takes reported, doubled if nearly all
+    /// that the node handled was reported, otherwise with an eighth added; plus two.
     fn eager(self) -> u64
         ensures exact { result ≡ eager_messages self }
         ensures some { 1 ≤ result }
     {
-        let mean = self.told / 8;
-        let more = if self.nearly_all_told() {
+        let mean = self.reported / 8;
+        let more = if self.nearly_all_reported() {
             2 * mean
         } else {
             mean + mean / 8
@@ -57,14 +62,14 @@ impl NodeBudget {
         more + 2
     }
 
-    /// A quarter more than the node told at a take where all but few was told that it handled, else
-    /// an eighth less; and one.
+    /// Returns the mean number of handlings that the latest takes reported, with a quarter added if
+    /// all but few of those handled were reported, otherwise less an eighth; plus one.
     fn careful(self) -> u64
         ensures exact { result ≡ careful_messages self }
         ensures some { 1 ≤ result }
     {
-        let mean = self.told / 8;
-        let near = if self.all_but_few_told() {
+        let mean = self.reported / 8;
+        let near = if self.all_but_few_reported() {
             mean + mean / 4
         } else {
             mean - mean / 8
@@ -72,32 +77,32 @@ impl NodeBudget {
         near + 1
     }
 
-    /// Whether nearly all that the node handled was told, fifteen of sixteen at least.
-    fn nearly_all_told(self) -> bool
-        ensures { result ≡ nearly_all_told self }
+    /// Returns whether at least fifteen sixteenths of what the node handled was reported.
+    fn nearly_all_reported(self) -> bool
+        ensures { result ≡ nearly_all_reported self }
     {
-        15 * u128::from(self.ran) <= 16 * u128::from(self.told)
+        15 * u128::from(self.ran) <= 16 * u128::from(self.reported)
     }
 
-    /// Whether all but few of what the node handled was told, 63 of 64 at least.
-    fn all_but_few_told(self) -> bool
-        ensures { result ≡ all_but_few_told self }
+    /// Returns whether at least 63 of 64 handlings were reported.
+    fn all_but_few_reported(self) -> bool
+        ensures { result ≡ all_but_few_reported self }
     {
-        63 * u128::from(self.ran) <= 64 * u128::from(self.told)
+        63 * u128::from(self.ran) <= 64 * u128::from(self.reported)
     }
 
-    /// After a take that handled so many messages, and told so many.
-    pub(crate) fn after_take(self, ran: u32, told: usize) -> NodeBudget
-        ensures { result ≡ budget_after self ran told }
+    /// Returns the budget after a take that handled `ran` messages and reported `reported` handlings.
+    pub(crate) fn after_take(self, ran: u32, reported: usize) -> NodeBudget
+        ensures { result ≡ budget_after self ran reported }
     {
         NodeBudget {
-            told: sum_after(self.told, told as u64),
+            reported: sum_after(self.reported, reported as u64),
             ran: sum_after(self.ran, u64::from(ran)),
         }
     }
 }
 
-/// A sum after a take that adds so many: it forgets an eighth of itself before.
+/// Returns a sum after a take: less an eighth, plus what the take adds.
 fn sum_after(sum: u64, more: u64) -> u64
     ensures { result ≡ sum_after sum more }
 {

@@ -1,4 +1,4 @@
-// Why a call was refused.
+// The faults of simulations.
 
 ghost use Rattle.std.specs.Prelude.{◌≡◌};
 ghost use Rattle.runs.specs.Simulation.{of_file, of_run};
@@ -17,29 +17,30 @@ use std::alloc::{AllocError, AllocFailed};
 use std::io::Error as IoError;
 use thiserror::Error;
 
-/// Why a call was refused: one type for all that a program with a simulation in it meets, so that
-/// `?` takes each. Its text is its name, and after a blank that of the fault that it carries.
+/// Why a call failed: one type for all faults that a program with a simulation in it meets, so that
+/// `?` converts each. Its text is the name of the fault, then a space and the fault that it
+/// carries, if any.
 #[derive(Clone, Copy, Debug, PartialEq, Eq, Error)]
 pub enum SimulationFault {
-    /// A file is not opened as a disk (`FileDisk::open`).
+    /// A file could not be opened as a disk (`FileDisk::open`).
     #[error("File")]
     File,
-    /// The log of the disk is not made, or not opened.
+    /// The log of the disk could not be made or opened.
     #[error("Log {0}")]
     Log(LogFault),
-    /// No world is recovered of the log.
+    /// No world could be recovered from the log.
     #[error("Recovery {0}")]
     Recovery(RecoveryFault),
     /// The session of a run refused its opening or a step.
     #[error("Session {0}")]
     Session(SessionFault),
-    /// All rounds of a run are made, and not all is committed.
+    /// All rounds of a run were made before everything was committed.
     #[error("Rounds")]
     Rounds,
     /// The plain runner refused.
     #[error("World {0}")]
     World(WorldFault),
-    /// Memory ran out, but in no call that has a name of its own for it.
+    /// An allocation failed in a call that has no other name for it.
     #[error("NoMemory")]
     NoMemory,
     /// A writer refused what the program writes of its results.

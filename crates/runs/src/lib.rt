@@ -1,5 +1,5 @@
-//! Runs: rounds of steps of a session, until all is committed up to the end; and whole simulations on
-//! a disk, a call for each, for programs without a command line.
+//! Runs: rounds of steps of a session until everything up to the end is committed, and whole
+//! simulations on a disk in one call, for programs without a command line.
 #![tactic(auto)]
 
 mod budgets;

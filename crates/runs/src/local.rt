@@ -2,10 +2,11 @@
 
 ghost use Rattle.std.specs.Prelude.{◌≡◌, ◌<◌, ◌≤◌, ◌^◌, ℕ, IfErr, IfOk, IsErrOf, OnOk, length};
 ghost use Rattle.std.specs.Prelude.{map, replicate};
+ghost use Rattle.coordinator.specs.declared.SessionFault.{SessionFault};
 ghost use Rattle.coordinator.specs.Crashes.{KeepsRecovery, Recovers};
-ghost use Rattle.recovery.specs.Stands.{IsGenuine};
-ghost use Rattle.runs.specs.Driver.{IsRunOf, IsUnfinished};
-ghost use Rattle.wire.specs.Local.{state_of};
+ghost use Rattle.recovery.specs.Represents.{IsGenuine};
+ghost use Rattle.runs.specs.Driver.{HasCounted, IsRunOf, IsUnfinished, SessionRefused};
+ghost use Rattle.wire.specs.Local.{state_by, state_of};
 ghost use Rattle.wire.specs.declared.local.Held.TheVariants.{Fresh};
 
 use crate::over::{Ran, run_over};
@@ -15,12 +16,12 @@ use model::Model as Simulated;
 use std::alloc::Global;
 use wire::LocalPort;
 
-/// Runs a simulation on its disk over 1 to 64 nodes in this program, from where the disk stands to
-/// `end`, the tick at which it ends, 1 to 2^40, and hands the disk back.
+/// Runs a simulation on its disk over 1 to 64 nodes in this program, from the front on the disk to
+/// `end`, the tick at which it ends, 1 to 2^40, and returns the disk.
 ///
-/// The faults are those of the session's opening and steps (`Session`), of the rounds (`Rounds`),
-/// and `NoMemory` where memory is refused. What was committed stands on the disk, whatever is
-/// answered.
+/// Fails with the faults of the session's opening and steps (`Session`), if all rounds were made
+/// (`Rounds`), or if an allocation fails (`NoMemory`). What was committed stays on the disk in
+/// every case.
 pub fn run_local<M: Simulated, D: SectorDisk + Drop, W: Watch>(
     alloc: Global,
     model: &M,
@@ -33,36 +34,43 @@ pub fn run_local<M: Simulated, D: SectorDisk + Drop, W: Watch>(
     requires few { plan.nodes ≤ 64 }
     requires begun { 1 ≤ end }
     requires short { end ≤ 2 ^ 40 }
-    // On a disk whose records are genuine all that is told is of the sequential simulation up to
+    // On a disk whose records are genuine, the result is that of the sequential simulation up to
     // the end.
     ensures finished { IsGenuine (M.meaning model.now) end (D.state disk).reads →
-        IfOk result.told (λ told. IsRunOf (M.meaning model.now) end told.time told.events) }
-    ensures reached { IfOk result.told (λ told. end ≤ told.time) }
-    ensures count { IfOk result.told (λ told. length told.ran.items ≡ plan.nodes) }
-    // The rounds are the cause only where all of them are made, and the end is not reached.
+        IfOk result.outcome (λ outcome. IsRunOf (M.meaning model.now) end outcome.time outcome.events) }
+    ensures reached { IfOk result.outcome (λ outcome. end ≤ outcome.time) }
+    // The counts are what the replies of the nodes said in the rounds that were made.
+    ensures counts { IfOk result.outcome (λ outcome. HasCounted M.meaning (state_by M.meaning)
+        D.state model.now end plan disk result.disk outcome.ran.items) }
+    // A fault of the session is that of its opening, or of a step which the plan makes next.
+    ensures refused { (fault : SessionFault) → IsErrOf result.outcome (RunFault.Session fault) →
+        SessionRefused M.meaning (state_by M.meaning) D.state model.now end plan
+        (replicate plan.nodes (state_of (M.meaning model.now) Fresh)) disk result.disk fault }
+    ensures count { IfOk result.outcome (λ outcome. length outcome.ran.items ≡ plan.nodes) }
+    // The fault is `Rounds` only if all rounds were made and the end was not reached.
     ensures rounds { IsGenuine (M.meaning model.now) end (D.state disk).reads →
-        IsErrOf result.told RunFault.Rounds →
+        IsErrOf result.outcome RunFault.Rounds →
         IsUnfinished (M.meaning model.now) end plan (D.state disk).reads }
-    // Whatever time the disk stands for at least, it does so at each moment of the run and after
-    // it, at every exit; and after a run that came to its end, for the end.
+    // Crash safety: what recovered to at least time `a` before still does, during and after the
+    // run, at every exit. After a run that reached its end, it recovers to at least the end.
     ensures crashes { (a : ℕ) → Recovers (M.meaning model.now) end a (D.state disk) →
         KeepsRecovery (M.meaning model.now) end a a (D.state disk) (D.state result.disk) }
     ensures committed { IsGenuine (M.meaning model.now) end (D.state disk).reads →
-        OnOk result.told (Recovers (M.meaning model.now) end end (D.state result.disk)) }
+        OnOk result.outcome (Recovers (M.meaning model.now) end end (D.state result.disk)) }
 {
     let ports = match local_ports(alloc, model, plan.nodes) {
         Ok(ports) => ports,
         Err(fault) => {
             return Ran {
                 disk,
-                told: Err(fault),
+                outcome: Err(fault),
             };
         }
     };
     run_over(alloc, model, ports, disk, end, plan, watch)
 }
 
-/// So many ports to nodes in this program, which all run this model and are not loaded yet.
+/// Returns ports to `nodes` nodes in this program, which all run this model and are not loaded yet.
 pub fn local_ports<'m, M: Simulated>(
     alloc: Global,
     model: &'m M,
@@ -70,7 +78,7 @@ pub fn local_ports<'m, M: Simulated>(
 ) -> Result<Vec<LocalPort<'m, M>>, RunFault>
     ensures ports { IfOk result (λ ports. map (λ p. state_of (M.meaning p.model) p.held) ports.items
         ≡ replicate nodes (state_of (M.meaning model.now) Fresh)) }
-    ensures want { IfErr result (λ fault. fault ≡ RunFault.NoMemory) }
+    ensures resources { IfErr result (λ fault. fault ≡ RunFault.NoMemory) }
 {
     let mut ports = Vec::new(alloc);
     'ports: for _ in 0..nodes {

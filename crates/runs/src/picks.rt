@@ -1,4 +1,4 @@
-// What a node is posted.
+// The picks of a node's next parcel.
 
 ghost use Rattle.std.specs.Prelude.{◌≡◌, ◌<◌, ◌^◌, IfOk, length};
 ghost use Rattle.runs.specs.Driver.{places_for};
@@ -6,8 +6,8 @@ ghost use Rattle.runs.specs.Driver.{places_for};
 use eventkey::Signed;
 use std::alloc::{AllocError, Global};
 
-/// The places in transit of what is for the processes of a node, ascending: all of them that 32
-/// bits can number. It costs one pass over transit.
+/// Returns the places in transit of the messages for a node, ascending: all that 32 bits can
+/// number. Costs one pass over transit.
 pub(crate) fn places(
     alloc: Global,
     transit: &[Signed],
@@ -18,7 +18,7 @@ pub(crate) fn places(
     ensures { length transit.now < 2 ^ 32 →
         IfOk result (λ places. places.items ≡ places_for nodes node 0 transit.now) }
 {
-    // With one node all that travels is for it, with more about its part.
+    // With one node everything in transit is for it; with more, about its share.
     let mut places = Vec::with_capacity(alloc, transit.len() / nodes as usize)?;
     'transit: for (place, signed) in transit.iter().enumerate() {
         if signed.message.to() % nodes == node {

@@ -2,16 +2,17 @@
 
 ghost use Rattle.std.specs.Prelude.{◌≡◌, ◌<◌, ◌≤◌, ◌+◌, ◌-◌, ◌^◌, [], ◌∷◌, ℕ, IfOk, OnOk};
 ghost use Rattle.std.specs.Prelude.{IsErrOf, length};
-ghost use Rattle.runs.specs.Driver.{AreAsked, ArePosts, AreRounds, AreTurns, IsDriven};
-ghost use Rattle.runs.specs.Driver.{IsDrivenBy, IsFinished, IsPost, IsRound, IsTurn, is_kept};
+ghost use Rattle.runs.specs.Driver.{AreAsked, AreCounts, ArePosts, AreRounds, AreTurns, IsDriven};
+ghost use Rattle.runs.specs.Driver.{IsDrivenBy, IsFinished, IsPost, IsRefusedIn, IsRound, IsTurn, is_kept};
 ghost use Rattle.runs.specs.Driver.{closing_of, kept_after, moves_of, takes_of};
 ghost use Rattle.runs.specs.Tallies.{CountsNothing, IsTallied, Tallied};
 ghost use Rattle.protocol.specs.Moves.Move.{Commit as CommitMove, Take as TakeMove};
-ghost use Rattle.coordinator.specs.Crashes.{KeepsStanding};
+ghost use Rattle.coordinator.specs.Crashes.{KeepsRepresentation};
+ghost use Rattle.coordinator.specs.declared.SessionFault.{SessionFault};
 
 use crate::picks::places;
 use crate::tally::{Tally, Turn, antimessages};
-use coordinator::{Answer, Session, SessionFault, Step};
+use coordinator::{Session, SessionFault, Step};
 use disk::SectorDisk;
 use eventkey::Listed;
 use model::Model as Simulated;
@@ -19,19 +20,20 @@ use std::alloc::{AllocError, AllocFailed, Global};
 use thiserror::Error;
 use wire::Port;
 
-/// How many messages a node may handle at a turn.
+/// How many messages a node may handle in one turn.
 #[derive(Clone, Copy, Debug, PartialEq, Eq)]
 pub enum Batch {
-    /// So many, whatever the node is.
+    /// The same number for every node.
     Fixed(u32),
-    /// Each node has a budget of its own, which is set after each of its takes by how much it
-    /// handled and how much of that it told. It follows what the model lets a node handle before
-    /// most of it is undone again.
+    /// Each node has its own budget. After each of its takes it is set from how many messages the
+    /// node handled and how many handlings it reported, so it follows how far the model lets a node
+    /// work ahead before most of its work is rolled back.
     Adjusting {
-        /// The most messages that a budget allows; 0 counts as 1, and more than 65,536 as that.
+        /// The largest budget, in messages; 0 counts as 1, and anything above 65,536 as 65,536.
         most: u32,
-        /// Whether a round costs less than what a node handles and undoes again. Then budgets are
-        /// so small that next to nothing is undone; else so large that few rounds are made.
+        /// Whether a round costs less than the work that is rolled back. If so, budgets are so
+        /// small that almost nothing is rolled back; otherwise they are so large that few rounds
+        /// are needed.
         rounds_are_cheap: bool,
     },
 }
@@ -39,62 +41,63 @@ pub enum Batch {
 /// How a session is driven.
 #[derive(Clone, Copy, Debug, PartialEq, Eq)]
 pub struct Plan {
-    /// How many nodes the session has, 1 to 64: the number of its ports.
+    /// The number of nodes of the session, which is that of its ports: 1 to 64.
     pub nodes: u32,
-    /// How many messages a node may handle at a turn.
+    /// How many messages a node may handle in one turn.
     pub batch: Batch,
-    /// How many rounds are made at most.
+    /// The most rounds that are made.
     pub rounds: u32,
-    /// Whether all nodes are posted to before a reply is taken, so that nodes that are programs of
-    /// their own work at the same time.
+    /// Whether all nodes are posted to before the first reply is taken, so that nodes that are
+    /// programs of their own work at the same time.
     pub together: bool,
-    /// After how many commits a checkpoint follows each time; 0 for none at all.
+    /// The number of commits after which a checkpoint follows; 0 for no checkpoints.
     pub checkpoint_every: u32,
-    /// How many events have to be told since the last commit before a round ends with one; 0 for a
-    /// commit in each round. A round that comes to the end has one in any case. A record has room
-    /// for 299,593 events, those of the round that ends with the commit among them.
+    /// The number of events that have to be reported since the last commit before a round ends with
+    /// the next one; 0 for a commit in each round. A round that reaches the end commits in any
+    /// case. A record holds at most 299,592 events, including those of the round that ends with the
+    /// commit.
     pub commit_every: u32,
 }
 
 /// Why a run stopped before its end.
 #[derive(Clone, Copy, Debug, PartialEq, Eq, Error)]
 pub enum RunFault {
-    /// The session refused a step.
+    /// The session refused its opening or a step.
     #[error("Session {0}")]
     Session(SessionFault),
-    /// All rounds are made, and not all is committed.
+    /// All rounds were made before everything was committed.
     #[error("Rounds")]
     Rounds,
-    /// Memory is refused.
+    /// An allocation failed.
     #[error("NoMemory")]
     NoMemory,
 }
 
-/// Is told how far a run has come.
+/// Observes the progress of a run.
 pub trait Watch {
-    /// All before this virtual time, in ticks, is committed: so many events in all. It is told
-    /// after each commit, before the checkpoint that may follow it.
+    /// Called after each commit, before the checkpoint that may follow it: everything before this
+    /// virtual time, in ticks, is committed, `events` events in all.
     fn committed(&mut self, time: u64, events: usize);
 
-    /// So many sectors of the disk hold the log, of so many that it has: one more is its closed
-    /// gate, and the rest is free. It is told at the beginning of a run, and after each commit and
-    /// the checkpoint that may follow it.
+    /// Called at the beginning of a run, and after each commit and the checkpoint that may follow
+    /// it, with the number of sectors that hold the log and the number that the disk has. One more
+    /// sector is the closed gate; the rest are free.
     fn stored(&mut self, _used: u32, _sectors: u32) {}
 
-    /// A node had its turn. It is told of each, as its reply is taken.
+    /// Called for each turn of a node, when its reply has been taken.
     fn turned(&mut self, _turn: &Turn) {}
 }
 
-/// Drives a session until all is committed up to `end` ticks, the end of its simulation, and
-/// answers how many messages each node handled, as its replies told.
+/// Drives a session until everything before `end` is committed, the tick at which its simulation
+/// ends. Returns how many messages each node handled, by its replies.
 ///
-/// A round gives each node its turn, from node 0 up: all that is in transit for it is posted, it
-/// handles so many messages, and its reply is taken. Where the nodes work together, all of them are
-/// posted to before the first reply is taken. Then a commit is made where it is due: enough events
-/// are told since the last one, or the commit comes to the end. Behind it comes a checkpoint where
-/// the plan has one after so many commits. What is refused first ends the run: a step (`Session`),
-/// the rounds (`Rounds`), or memory (`NoMemory`). What was committed stands. A turn costs one pass
-/// over transit and its two steps.
+/// A round gives each node its turn, from node 0 up: everything in transit for it is posted, it
+/// handles at most its budget of messages, and its reply is taken. If the nodes work together, all
+/// are posted to before the first reply is taken. Then a commit follows if it is due: enough events
+/// were reported since the last one, or the commit reaches the end. A checkpoint follows the commit
+/// if the plan has one after that many. The first refusal ends the run: a step (`Session`), no
+/// rounds left (`Rounds`), or a failed allocation (`NoMemory`). What was committed stays committed.
+/// A turn costs one pass over transit and its two steps.
 pub fn run_session<M: Simulated, P: Port, D: SectorDisk, W: Watch>(
     alloc: Global,
     session: &mut Session<'_, M, P, D>,
@@ -103,24 +106,29 @@ pub fn run_session<M: Simulated, P: Port, D: SectorDisk, W: Watch>(
     watch: &mut W,
 ) -> Result<Vec<u64>, RunFault>
     requires { 0 < plan.nodes }
-    // All is committed, by steps of the session alone.
+    // Everything is committed, by steps of the session alone.
     ensures ended { OnOk result (end ≤ session.new.front.time) }
     ensures driven { OnOk result (IsDriven M.meaning P.state D.state session.old session.new) }
-    ensures in_rounds { OnOk result ((rounds : ℕ) × (rounds ≤ plan.rounds)
-        × IsDrivenBy M.meaning P.state D.state (AreRounds plan end rounds)
+    // The steps are rounds, and each count is what the replies of its node said in them.
+    ensures in_rounds { IfOk result (λ handled_per_node. (rounds : ℕ) × (rounds ≤ plan.rounds)
+        × IsDrivenBy M.meaning P.state D.state
+        (λ made. AreRounds plan end rounds made × AreCounts handled_per_node.items made)
         session.old session.new) }
     ensures finished { session.old.end ≡ end →
         OnOk result (IsFinished M.meaning P.state end session.old session.new) }
-    // At every exit the records stand for what was committed, whatever crashes.
-    ensures keeps { KeepsStanding M.meaning P.state D.state session.old session.new }
+    // At every exit the records represent what was committed, whatever crashes.
+    ensures keeps { KeepsRepresentation M.meaning P.state D.state session.old session.new }
     ensures rounds { IsErrOf result RunFault.Rounds → session.new.front.time < end }
     ensures all_rounds { IsErrOf result RunFault.Rounds →
         IsDrivenBy M.meaning P.state D.state (AreRounds plan end plan.rounds)
         session.old session.new }
+    // A fault of the session is that of a step which the plan makes next.
+    ensures refused { (fault : SessionFault) → IsErrOf result (RunFault.Session fault) →
+        (rounds : ℕ) × (rounds ≤ plan.rounds)
+        × IsRefusedIn M.meaning P.state D.state (AreRounds plan end rounds)
+        session.old session.new fault }
     ensures count { IfOk result (λ handled_per_node. length handled_per_node.items ≡ plan.nodes) }
 {
-    let mut handled_per_node = Vec::new(alloc);
-    handled_per_node.resize(plan.nodes as usize, 0)?;
     let mut tally = Tally::new(alloc, plan)?;
     watch.stored(session.used(), session.sectors());
     let mut made = 0;
@@ -129,49 +137,45 @@ pub fn run_session<M: Simulated, P: Port, D: SectorDisk, W: Watch>(
             return Err(RunFault::Rounds);
         }
         made += 1;
-        round(
-            alloc,
-            session,
-            end,
-            plan,
-            &mut tally,
-            handled_per_node.as_mut_slice(),
-            watch,
-        )?;
+        round(alloc, session, end, plan, &mut tally, watch)?;
     }
-    Ok(handled_per_node)
+    Ok(tally.into_handled_per_node())
 }
 
-/// Makes a round: asks all nodes, and ends with a commit where one is due. There is a count for
-/// each node, to which what it handled is added.
+/// Makes a round: asks all nodes, and ends with a commit if one is due.
 fn round<M: Simulated, P: Port, D: SectorDisk, W: Watch>(
     alloc: Global,
     session: &mut Session<'_, M, P, D>,
     end: u64,
     plan: Plan,
     tally: &mut Tally,
-    handled_per_node: &mut [u64],
     watch: &mut W,
 ) -> Result<(), RunFault>
-    requires counts { length handled_per_node.old ≡ plan.nodes }
+    requires counts { length tally.old.handled_per_node.items ≡ plan.nodes }
     requires budgets { length tally.old.budgets.items ≡ plan.nodes }
     requires commits { tally.old.commits < 2 ^ 32 - 1 }
-    ensures driven { (told : ℕ) → tally.old.wanted ≡ plan.commit_every - told →
+    ensures driven { (reported : ℕ) → tally.old.events_until_commit ≡ plan.commit_every - reported →
         OnOk result (IsDrivenBy M.meaning P.state D.state
-        (λ made. IsRound plan end told tally.old.commits made
+        (λ made. IsRound plan end reported tally.old.commits made
         × IsTallied plan.commit_every tally.old tally.new made) session.old session.new) }
     ensures commits { OnOk result (tally.new.commits ≤ tally.old.commits + 1) }
     ensures budgets { length tally.new.budgets.items ≡ length tally.old.budgets.items }
-    ensures keeps { KeepsStanding M.meaning P.state D.state session.old session.new }
+    ensures counts { length tally.new.handled_per_node.items
+        ≡ length tally.old.handled_per_node.items }
+    ensures keeps { KeepsRepresentation M.meaning P.state D.state session.old session.new }
+    ensures refused { (reported : ℕ) → tally.old.events_until_commit ≡ plan.commit_every - reported →
+        (fault : SessionFault) → IsErrOf result (RunFault.Session fault) →
+        IsRefusedIn M.meaning P.state D.state (λ made. IsRound plan end reported tally.old.commits made)
+        session.old session.new fault }
     ensures rounds { IsErrOf result RunFault.Rounds → ⊥ }
 {
     tally.begin_round(end);
-    ask(alloc, session, plan, tally, handled_per_node, watch)?;
+    ask(alloc, session, plan, tally, watch)?;
     close(session, end, plan, tally, watch)
 }
 
-/// Ends a round: with a commit where one is due, of which the watch is told, and a checkpoint
-/// behind it where its turn has come.
+/// Ends a round: if a commit is due, commits, makes a checkpoint if it is due, and reports the
+/// sectors in use.
 fn close<M: Simulated, P: Port, D: SectorDisk, W: Watch>(
     session: &mut Session<'_, M, P, D>,
     end: u64,
@@ -180,13 +184,18 @@ fn close<M: Simulated, P: Port, D: SectorDisk, W: Watch>(
     watch: &mut W,
 ) -> Result<(), RunFault>
     requires { tally.old.commits < 2 ^ 32 - 1 }
-    ensures driven { (told : ℕ) → tally.old.wanted ≡ plan.commit_every - told →
+    ensures driven { (reported : ℕ) → tally.old.events_until_commit ≡ plan.commit_every - reported →
         OnOk result (IsDrivenBy M.meaning P.state D.state
-        (λ made. (moves_of made ≡ closing_of plan end told tally.old.floor tally.old.commits)
+        (λ made. (moves_of made ≡ closing_of plan end reported tally.old.floor tally.old.commits)
         × IsTallied plan.commit_every tally.old tally.new made) session.old session.new) }
     ensures commits { OnOk result (tally.new.commits ≤ tally.old.commits + 1) }
     ensures budgets { tally.new.budgets ≡ tally.old.budgets }
-    ensures keeps { KeepsStanding M.meaning P.state D.state session.old session.new }
+    ensures counts { tally.new.handled_per_node.items ≡ tally.old.handled_per_node.items }
+    ensures keeps { KeepsRepresentation M.meaning P.state D.state session.old session.new }
+    ensures refused { (reported : ℕ) → tally.old.events_until_commit ≡ plan.commit_every - reported →
+        (fault : SessionFault) → IsErrOf result (RunFault.Session fault) →
+        IsRefusedIn M.meaning P.state D.state (λ made. moves_of made ≡ closing_of plan end reported tally.old.floor tally.old.commits)
+        session.old session.new fault }
     ensures rounds { IsErrOf result RunFault.Rounds → ⊥ }
 {
     if tally.is_due(end) {
@@ -196,7 +205,7 @@ fn close<M: Simulated, P: Port, D: SectorDisk, W: Watch>(
     Ok(())
 }
 
-/// Commits, tells of it, and makes a checkpoint where its turn has come.
+/// Commits, reports the commit, and makes a checkpoint if one is due.
 fn commit<M: Simulated, P: Port, D: SectorDisk, W: Watch>(
     session: &mut Session<'_, M, P, D>,
     plan: Plan,
@@ -210,7 +219,12 @@ fn commit<M: Simulated, P: Port, D: SectorDisk, W: Watch>(
         × IsTallied plan.commit_every tally.old tally.new made) session.old session.new) }
     ensures commits { OnOk result (tally.new.commits ≤ tally.old.commits + 1) }
     ensures budgets { tally.new.budgets ≡ tally.old.budgets }
-    ensures keeps { KeepsStanding M.meaning P.state D.state session.old session.new }
+    ensures counts { tally.new.handled_per_node.items ≡ tally.old.handled_per_node.items }
+    ensures keeps { KeepsRepresentation M.meaning P.state D.state session.old session.new }
+    ensures refused { (fault : SessionFault) → IsErrOf result (RunFault.Session fault) →
+        IsRefusedIn M.meaning P.state D.state (λ made. moves_of made
+        ≡ CommitMove ∷ kept_after plan.checkpoint_every (tally.old.commits + 1))
+        session.old session.new fault }
     ensures rounds { IsErrOf result RunFault.Rounds → ⊥ }
 {
     session.step(&Step::Commit)?;
@@ -220,7 +234,7 @@ fn commit<M: Simulated, P: Port, D: SectorDisk, W: Watch>(
     keep(session, plan.checkpoint_every, tally.commits())
 }
 
-/// Makes a checkpoint where its turn has come after the commit of this number.
+/// Makes a checkpoint if one is due after the commit of this number.
 fn keep<M: Simulated, P: Port, D: SectorDisk>(
     session: &mut Session<'_, M, P, D>,
     every: u32,
@@ -229,7 +243,10 @@ fn keep<M: Simulated, P: Port, D: SectorDisk>(
     ensures driven { OnOk result (IsDrivenBy M.meaning P.state D.state
         (λ made. (moves_of made ≡ kept_after every number) × CountsNothing made)
         session.old session.new) }
-    ensures keeps { KeepsStanding M.meaning P.state D.state session.old session.new }
+    ensures keeps { KeepsRepresentation M.meaning P.state D.state session.old session.new }
+    ensures refused { (fault : SessionFault) → IsErrOf result (RunFault.Session fault) →
+        IsRefusedIn M.meaning P.state D.state (λ made. moves_of made ≡ kept_after every number)
+        session.old session.new fault }
     ensures rounds { IsErrOf result RunFault.Rounds → ⊥ }
 {
     if is_kept(every, number) {
@@ -238,7 +255,7 @@ fn keep<M: Simulated, P: Port, D: SectorDisk>(
     Ok(())
 }
 
-/// Whether a checkpoint comes behind the commit of this number.
+/// Returns whether a checkpoint follows the commit of this number.
 fn is_kept(every: u32, number: u32) -> bool
     ensures { result ≡ is_kept every number }
 {
@@ -251,25 +268,29 @@ fn ask<M: Simulated, P: Port, D: SectorDisk, W: Watch>(
     session: &mut Session<'_, M, P, D>,
     plan: Plan,
     tally: &mut Tally,
-    handled_per_node: &mut [u64],
     watch: &mut W,
 ) -> Result<(), RunFault>
-    requires counts { length handled_per_node.old ≡ plan.nodes }
+    requires counts { length tally.old.handled_per_node.items ≡ plan.nodes }
     requires budgets { length tally.old.budgets.items ≡ plan.nodes }
     ensures driven { OnOk result (IsDrivenBy M.meaning P.state D.state
-        (Tallied plan.commit_every (AreAsked plan.together plan.batch plan.nodes) tally.old
+        (Tallied plan.commit_every (AreAsked plan.together plan) tally.old
         tally.new)
         session.old session.new) }
     ensures commits { tally.new.commits ≡ tally.old.commits }
     ensures budgets { length tally.new.budgets.items ≡ length tally.old.budgets.items }
-    ensures keeps { KeepsStanding M.meaning P.state D.state session.old session.new }
+    ensures counts { length tally.new.handled_per_node.items
+        ≡ length tally.old.handled_per_node.items }
+    ensures keeps { KeepsRepresentation M.meaning P.state D.state session.old session.new }
+    ensures refused { (fault : SessionFault) → IsErrOf result (RunFault.Session fault) →
+        IsRefusedIn M.meaning P.state D.state (AreAsked plan.together plan)
+        session.old session.new fault }
     ensures rounds { IsErrOf result RunFault.Rounds → ⊥ }
 {
     if plan.together {
         post_all(alloc, session, plan, tally)?;
-        take_all(session, plan, tally, handled_per_node, watch)
+        take_all(session, plan, tally, watch)
     } else {
-        turns(alloc, session, plan, tally, handled_per_node, watch)
+        turns(alloc, session, plan, tally, watch)
     }
 }
 
@@ -279,26 +300,30 @@ fn turns<M: Simulated, P: Port, D: SectorDisk, W: Watch>(
     session: &mut Session<'_, M, P, D>,
     plan: Plan,
     tally: &mut Tally,
-    handled_per_node: &mut [u64],
     watch: &mut W,
 ) -> Result<(), RunFault>
-    requires counts { length handled_per_node.old ≡ plan.nodes }
+    requires counts { length tally.old.handled_per_node.items ≡ plan.nodes }
     requires budgets { length tally.old.budgets.items ≡ plan.nodes }
     ensures driven { OnOk result (IsDrivenBy M.meaning P.state D.state
-        (Tallied plan.commit_every (AreTurns plan.batch plan.nodes) tally.old tally.new)
+        (Tallied plan.commit_every (AreTurns plan plan.nodes) tally.old tally.new)
         session.old session.new) }
     ensures commits { tally.new.commits ≡ tally.old.commits }
     ensures budgets { length tally.new.budgets.items ≡ length tally.old.budgets.items }
-    ensures keeps { KeepsStanding M.meaning P.state D.state session.old session.new }
+    ensures counts { length tally.new.handled_per_node.items
+        ≡ length tally.old.handled_per_node.items }
+    ensures keeps { KeepsRepresentation M.meaning P.state D.state session.old session.new }
+    ensures refused { (fault : SessionFault) → IsErrOf result (RunFault.Session fault) →
+        IsRefusedIn M.meaning P.state D.state (AreTurns plan plan.nodes)
+        session.old session.new fault }
     ensures rounds { IsErrOf result RunFault.Rounds → ⊥ }
 {
     'nodes: for node in 0..plan.nodes {
-        turn(alloc, session, node, plan, tally, handled_per_node, watch)?;
+        turn(alloc, session, node, plan, tally, watch)?;
     }
     Ok(())
 }
 
-/// Posts to each node all that is in transit for it.
+/// Posts to each node everything in transit for it.
 fn post_all<M: Simulated, P: Port, D: SectorDisk>(
     alloc: Global,
     session: &mut Session<'_, M, P, D>,
@@ -307,11 +332,15 @@ fn post_all<M: Simulated, P: Port, D: SectorDisk>(
 ) -> Result<(), RunFault>
     requires { length tally.old.budgets.items ≡ plan.nodes }
     ensures driven { OnOk result (IsDrivenBy M.meaning P.state D.state
-        (Tallied plan.commit_every (ArePosts plan.batch plan.nodes) tally.old tally.new)
+        (Tallied plan.commit_every (ArePosts plan plan.nodes) tally.old tally.new)
         session.old session.new) }
     ensures commits { tally.new.commits ≡ tally.old.commits }
     ensures budgets { tally.new.budgets ≡ tally.old.budgets }
-    ensures keeps { KeepsStanding M.meaning P.state D.state session.old session.new }
+    ensures counts { tally.new.handled_per_node.items ≡ tally.old.handled_per_node.items }
+    ensures keeps { KeepsRepresentation M.meaning P.state D.state session.old session.new }
+    ensures refused { (fault : SessionFault) → IsErrOf result (RunFault.Session fault) →
+        IsRefusedIn M.meaning P.state D.state (ArePosts plan plan.nodes)
+        session.old session.new fault }
     ensures rounds { IsErrOf result RunFault.Rounds → ⊥ }
 {
     'nodes: for node in 0..plan.nodes {
@@ -320,56 +349,63 @@ fn post_all<M: Simulated, P: Port, D: SectorDisk>(
     Ok(())
 }
 
-/// Takes the reply of each node.
 fn take_all<M: Simulated, P: Port, D: SectorDisk, W: Watch>(
     session: &mut Session<'_, M, P, D>,
     plan: Plan,
     tally: &mut Tally,
-    handled_per_node: &mut [u64],
     watch: &mut W,
 ) -> Result<(), RunFault>
-    requires counts { length handled_per_node.old ≡ plan.nodes }
+    requires counts { length tally.old.handled_per_node.items ≡ plan.nodes }
     requires budgets { length tally.old.budgets.items ≡ plan.nodes }
     ensures driven { OnOk result (IsDrivenBy M.meaning P.state D.state
-        (Tallied plan.commit_every (λ moves. moves ≡ takes_of plan.nodes) tally.old tally.new)
+        (Tallied plan.commit_every (λ taken. moves_of taken ≡ takes_of plan.nodes) tally.old tally.new)
         session.old session.new) }
     ensures commits { tally.new.commits ≡ tally.old.commits }
     ensures budgets { length tally.new.budgets.items ≡ length tally.old.budgets.items }
-    ensures keeps { KeepsStanding M.meaning P.state D.state session.old session.new }
+    ensures counts { length tally.new.handled_per_node.items
+        ≡ length tally.old.handled_per_node.items }
+    ensures keeps { KeepsRepresentation M.meaning P.state D.state session.old session.new }
+    ensures refused { (fault : SessionFault) → IsErrOf result (RunFault.Session fault) →
+        IsRefusedIn M.meaning P.state D.state (λ taken. moves_of taken ≡ takes_of plan.nodes)
+        session.old session.new fault }
     ensures rounds { IsErrOf result RunFault.Rounds → ⊥ }
 {
     'nodes: for node in 0..plan.nodes {
-        take(session, node, tally, handled_per_node, watch)?;
+        take(session, node, tally, watch)?;
     }
     Ok(())
 }
 
-/// Posts a node all that is in transit for it, and takes its reply.
+/// Posts to a node everything in transit for it, and takes its reply.
 fn turn<M: Simulated, P: Port, D: SectorDisk, W: Watch>(
     alloc: Global,
     session: &mut Session<'_, M, P, D>,
     node: u32,
     plan: Plan,
     tally: &mut Tally,
-    handled_per_node: &mut [u64],
     watch: &mut W,
 ) -> Result<(), RunFault>
     requires node { node < plan.nodes }
-    requires counts { node < length handled_per_node.old }
+    requires counts { node < length tally.old.handled_per_node.items }
     requires budgets { node < length tally.old.budgets.items }
     ensures driven { OnOk result (IsDrivenBy M.meaning P.state D.state
-        (Tallied plan.commit_every (IsTurn plan.batch node) tally.old tally.new) session.old
+        (Tallied plan.commit_every (IsTurn plan node) tally.old tally.new) session.old
         session.new) }
     ensures commits { tally.new.commits ≡ tally.old.commits }
     ensures budgets { length tally.new.budgets.items ≡ length tally.old.budgets.items }
-    ensures keeps { KeepsStanding M.meaning P.state D.state session.old session.new }
+    ensures counts { length tally.new.handled_per_node.items
+        ≡ length tally.old.handled_per_node.items }
+    ensures keeps { KeepsRepresentation M.meaning P.state D.state session.old session.new }
+    ensures refused { (fault : SessionFault) → IsErrOf result (RunFault.Session fault) →
+        IsRefusedIn M.meaning P.state D.state (IsTurn plan node)
+        session.old session.new fault }
     ensures rounds { IsErrOf result RunFault.Rounds → ⊥ }
 {
     post(alloc, session, node, plan, tally)?;
-    take(session, node, tally, handled_per_node, watch)
+    take(session, node, tally, watch)
 }
 
-/// Posts a node all that is in transit for it.
+/// Posts to a node everything in transit for it.
 fn post<M: Simulated, P: Port, D: SectorDisk>(
     alloc: Global,
     session: &mut Session<'_, M, P, D>,
@@ -380,11 +416,15 @@ fn post<M: Simulated, P: Port, D: SectorDisk>(
     requires node { node < plan.nodes }
     requires budgets { node < length tally.old.budgets.items }
     ensures driven { OnOk result (IsDrivenBy M.meaning P.state D.state
-        (Tallied plan.commit_every (IsPost plan.batch node) tally.old tally.new) session.old
+        (Tallied plan.commit_every (IsPost plan node) tally.old tally.new) session.old
         session.new) }
     ensures commits { tally.new.commits ≡ tally.old.commits }
     ensures budgets { tally.new.budgets ≡ tally.old.budgets }
-    ensures keeps { KeepsStanding M.meaning P.state D.state session.old session.new }
+    ensures counts { tally.new.handled_per_node.items ≡ tally.old.handled_per_node.items }
+    ensures keeps { KeepsRepresentation M.meaning P.state D.state session.old session.new }
+    ensures refused { (fault : SessionFault) → IsErrOf result (RunFault.Session fault) →
+        IsRefusedIn M.meaning P.state D.state (IsPost plan node)
+        session.old session.new fault }
     ensures rounds { IsErrOf result RunFault.Rounds → ⊥ }
 {
     let picks = places(alloc, session.transit(), node, plan.nodes)?;
@@ -401,31 +441,31 @@ fn post<M: Simulated, P: Port, D: SectorDisk>(
     Ok(())
 }
 
-/// Takes a node's reply, and adds to its count how many messages it handled.
+/// Takes a node's reply.
 fn take<M: Simulated, P: Port, D: SectorDisk, W: Watch>(
     session: &mut Session<'_, M, P, D>,
     node: u32,
     tally: &mut Tally,
-    handled_per_node: &mut [u64],
     watch: &mut W,
 ) -> Result<(), RunFault>
-    requires counts { node < length handled_per_node.old }
+    requires counts { node < length tally.old.handled_per_node.items }
     requires budgets { node < length tally.old.budgets.items }
     ensures driven { (every : ℕ) → OnOk result (IsDrivenBy M.meaning P.state D.state
-        (Tallied every (λ moves. moves ≡ TakeMove node ∷ []) tally.old tally.new)
+        (Tallied every (λ taken. moves_of taken ≡ TakeMove node ∷ []) tally.old tally.new)
         session.old session.new) }
     ensures commits { tally.new.commits ≡ tally.old.commits }
     ensures budgets { length tally.new.budgets.items ≡ length tally.old.budgets.items }
-    ensures keeps { KeepsStanding M.meaning P.state D.state session.old session.new }
+    ensures counts { length tally.new.handled_per_node.items
+        ≡ length tally.old.handled_per_node.items }
+    ensures keeps { KeepsRepresentation M.meaning P.state D.state session.old session.new }
+    ensures refused { (fault : SessionFault) → IsErrOf result (RunFault.Session fault) →
+        IsRefusedIn M.meaning P.state D.state (λ taken. moves_of taken ≡ TakeMove node ∷ [])
+        session.old session.new fault }
     ensures rounds { IsErrOf result RunFault.Rounds → ⊥ }
 {
     let answer = session.step(&Step::Take { node })?;
     tally.taken(node, &answer);
     watch.turned(&tally.turn(node, &answer));
-    if let Answer::Taken { ran: handled, .. } = answer {
-        let place = node as usize;
-        handled_per_node[place] = handled_per_node[place].saturating_add(u64::from(handled));
-    }
     Ok(())
 }
 

@@ -1,10 +1,10 @@
-// What a run counts of its steps.
+// Counts the steps of a run.
 
 ghost use Rattle.std.specs.Prelude.{◌≡◌, ◌<◌, ◌≤◌, ◌+◌, ◌-◌, ◌^◌, ◌||◌, IfOk, get_or, length};
-ghost use Rattle.std.specs.Prelude.{nat_le, set};
+ghost use Rattle.std.specs.Prelude.{nat_le, replicate, set};
 ghost use Rattle.runs.specs.Budgets.{budget_answered, first_budget};
-ghost use Rattle.runs.specs.Driver.{IsBudget, least_of, told_of};
-ghost use Rattle.runs.specs.Tallies.{turn_answered};
+ghost use Rattle.runs.specs.Driver.{IsBudget, least_of, reported_in};
+ghost use Rattle.runs.specs.Tallies.{handled_after, turn_answered};
 
 use crate::budgets::NodeBudget;
 use crate::rounds::{Batch, Plan};
@@ -12,68 +12,74 @@ use coordinator::Answer;
 use eventkey::{Sign, Signed};
 use std::alloc::{AllocError, Global};
 
-/// What a node was asked at one of its turns, and what it replied.
+/// What a node was asked in one of its turns, and what it replied.
 #[derive(Clone, Copy, Debug, PartialEq, Eq)]
 pub struct Turn {
-    /// The round, the first of a run being 1.
+    /// The round; the first of a run is 1.
     pub round: u32,
     /// The node.
     pub node: u32,
-    /// How many messages it might handle.
+    /// How many messages the node was allowed to handle.
     pub budget: u32,
-    /// The floor of its parcel, in ticks: global virtual time, where the ports tell their nodes.
+    /// The floor of its parcel, in ticks; over faithful ports this is global virtual time.
     pub floor: u64,
-    /// How many messages its parcel delivered, antimessages among them.
+    /// The number of messages that its parcel delivered, including antimessages.
     pub delivered: usize,
-    /// How many of those were antimessages.
+    /// The number of antimessages among them.
     pub antimessages: usize,
-    /// How many messages it handled, those too that are undone again.
+    /// The number of messages that it handled, including those rolled back later.
     pub handled: u32,
-    /// How many messages it sent, antimessages among them.
+    /// The number of messages that it sent, including antimessages.
     pub sent: usize,
-    /// How many handlings it told, which no rollback reaches any more.
-    pub told: usize,
+    /// The number of handlings that it reported, which no rollback can reach any more.
+    pub reported: usize,
 }
 
-/// What a run counts on its way.
+/// What a run counts as it goes on.
 #[derive(Drop)]
 pub(crate) struct Tally {
-    /// What each node told and handled of late.
+    /// What each node reported and handled recently.
     budgets: Vec<NodeBudget>,
-    /// How many events have still to be told before a commit is due.
-    wanted: usize,
-    /// The least floor, in ticks, that was posted in this round, or the end.
+    /// The number of events still to be reported before a commit is due.
+    events_until_commit: usize,
+    /// The least floor posted in this round, or the end, in ticks.
     floor: u64,
-    /// How many commits were made.
+    /// The number of commits made.
     commits: u32,
-    /// Which round it is, the first being 1.
+    /// The number of the round; the first is 1.
     round: u32,
-    /// What each node was last asked.
+    /// What each node was asked last.
     turns: Vec<Turn>,
+    /// The number of messages that each node handled, by its replies.
+    handled_per_node: Vec<u64>,
 }
 
 impl Tally {
-    /// Before the first round.
+    /// Returns the tally before the first round.
     pub(crate) fn new(alloc: Global, plan: Plan) -> Result<Tally, AllocError>
         ensures budgets { IfOk result (λ tally. length tally.budgets.items ≡ plan.nodes) }
-        ensures wanted { IfOk result (λ tally. tally.wanted ≡ plan.commit_every) }
+        ensures events_until_commit { IfOk result (λ tally. tally.events_until_commit ≡ plan.commit_every) }
         ensures commits { IfOk result (λ tally. tally.commits ≡ 0) }
+        ensures handled { IfOk result (λ tally. tally.handled_per_node.items ≡ replicate plan.nodes 0) }
     {
+        let mut handled_per_node = Vec::new(alloc);
+        handled_per_node.resize(plan.nodes as usize, 0)?;
         let mut budgets = Vec::new(alloc);
         budgets.resize(plan.nodes as usize, NodeBudget::new())?;
         let mut turns = Vec::new(alloc);
         turns.resize(plan.nodes as usize, Turn::none())?;
         Ok(Tally {
             budgets,
-            wanted: plan.commit_every as usize,
+            events_until_commit: plan.commit_every as usize,
             floor: 0,
             commits: 0,
             round: 0,
             turns,
+            handled_per_node,
         })
     }
 
-    /// How many messages a node may handle at its next turn.
+    /// Returns how many messages a node may handle in its next turn.
     pub(crate) fn budget(&self, batch: Batch, node: u32) -> u32
         requires { node < length self.now.budgets.items }
         ensures { IsBudget batch result }
@@ -94,21 +100,23 @@ impl Tally {
     /// Begins a round of a run to this end, in ticks.
     pub(crate) fn begin_round(&mut self, end: u64)
         ensures floor { self.new.floor ≡ end }
-        ensures wanted { self.new.wanted ≡ self.old.wanted }
+        ensures events_until_commit { self.new.events_until_commit ≡ self.old.events_until_commit }
         ensures commits { self.new.commits ≡ self.old.commits }
         ensures budgets { self.new.budgets ≡ self.old.budgets }
+        ensures handled { self.new.handled_per_node.items ≡ self.old.handled_per_node.items }
     {
         self.floor = end;
         self.round = self.round.saturating_add(1);
     }
 
-    /// Keeps what a node is about to be asked: how many messages it may handle, and which it is
-    /// delivered, with how many antimessages among them.
+    /// Records what a node is about to be asked: its budget in messages, and how many messages and
+    /// how many antimessages among them its parcel delivers.
     pub(crate) fn asked(&mut self, node: u32, budget: u32, delivered: usize, antimessages: usize)
         ensures floor { self.new.floor ≡ self.old.floor }
-        ensures wanted { self.new.wanted ≡ self.old.wanted }
+        ensures events_until_commit { self.new.events_until_commit ≡ self.old.events_until_commit }
         ensures commits { self.new.commits ≡ self.old.commits }
         ensures budgets { self.new.budgets ≡ self.old.budgets }
+        ensures handled { self.new.handled_per_node.items ≡ self.old.handled_per_node.items }
     {
         let round = self.round;
         if let Some(turn) = self.turns.get_mut(node as usize) {
@@ -123,7 +131,7 @@ impl Tally {
         }
     }
 
-    /// The turn of a node, by what its post was answered and this answer to its take.
+    /// Returns the turn of a node: what its post returned, and this answer to its take.
     pub(crate) fn turn(&self, node: u32, answer: &Answer) -> Turn {
         match self.turns.get(node as usize) {
             Some(turn) => turn.answered(answer),
@@ -131,12 +139,13 @@ impl Tally {
         }
     }
 
-    /// Counts what a post was answered.
+    /// Counts the answer to a post.
     pub(crate) fn posted(&mut self, node: u32, answer: &Answer)
         ensures floor { self.new.floor ≡ least_of self.old.floor answer.now }
-        ensures wanted { self.new.wanted ≡ self.old.wanted }
+        ensures events_until_commit { self.new.events_until_commit ≡ self.old.events_until_commit }
         ensures commits { self.new.commits ≡ self.old.commits }
         ensures budgets { self.new.budgets ≡ self.old.budgets }
+        ensures handled { self.new.handled_per_node.items ≡ self.old.handled_per_node.items }
     {
         if let Answer::Posted { floor } = *answer {
             self.floor = self.floor.min(floor);
@@ -146,43 +155,60 @@ impl Tally {
         }
     }
 
-    /// Counts what the take of a node was answered.
+    /// Counts the answer to the take of a node.
     pub(crate) fn taken(&mut self, node: u32, answer: &Answer)
-        requires { node < length self.old.budgets.items }
-        ensures wanted { self.new.wanted ≡ self.old.wanted - told_of answer.now }
+        requires budgets { node < length self.old.budgets.items }
+        requires counts { node < length self.old.handled_per_node.items }
+        ensures events_until_commit { self.new.events_until_commit ≡ self.old.events_until_commit - reported_in answer.now }
         ensures budgets { self.new.budgets.items ≡ set self.old.budgets.items node
             (budget_answered (get_or self.old.budgets.items node first_budget) answer.now) }
+        ensures handled { self.new.handled_per_node.items ≡ set self.old.handled_per_node.items node
+            (handled_after (get_or self.old.handled_per_node.items node 0) answer.now) }
         ensures floor { self.new.floor ≡ self.old.floor }
         ensures commits { self.new.commits ≡ self.old.commits }
     {
         if let Answer::Taken { ran, fossils, .. } = *answer {
             let place = node as usize;
-            self.wanted = self.wanted.saturating_sub(fossils);
+            self.events_until_commit = self.events_until_commit.saturating_sub(fossils);
             self.budgets[place] = self.budgets[place].after_take(ran, fossils);
+            let handled = self.handled_per_node[place].saturating_add(u64::from(ran));
+            self.handled_per_node[place] = handled;
         }
     }
 
-    /// Counts a commit: so many events have to be told before the next is due.
-    pub(crate) fn committed(&mut self, wanted: u32)
+    /// Counts a commit; `events_until_commit` events have to be reported before the next is due.
+    pub(crate) fn committed(&mut self, events_until_commit: u32)
         requires { self.old.commits < 2 ^ 32 - 1 }
-        ensures wanted { self.new.wanted ≡ wanted }
+        ensures events_until_commit { self.new.events_until_commit ≡ events_until_commit }
         ensures commits { self.new.commits ≡ self.old.commits + 1 }
         ensures floor { self.new.floor ≡ self.old.floor }
         ensures budgets { self.new.budgets ≡ self.old.budgets }
+        ensures handled { self.new.handled_per_node.items ≡ self.old.handled_per_node.items }
     {
-        self.wanted = wanted as usize;
+        self.events_until_commit = events_until_commit as usize;
         self.commits += 1;
     }
 
-    /// Whether the round, of a run to this end, in ticks, ends with a commit: so many events are
-    /// told as are wanted, or no floor that was posted is below the end.
+    /// Returns whether a round of a run to this end, in ticks, ends with a commit: enough events
+    /// were reported, or no floor that was posted is below the end.
     pub(crate) fn is_due(&self, end: u64) -> bool
-        ensures { result ≡ (nat_le self.now.wanted 0 || nat_le end self.now.floor) }
+        ensures { result ≡ (nat_le self.now.events_until_commit 0 || nat_le end self.now.floor) }
     {
-        self.wanted == 0 || self.floor >= end
+        self.events_until_commit == 0 || self.floor >= end
     }
 
-    /// How many commits were made.
+    /// Returns the number of messages that each node handled.
+    pub(crate) fn into_handled_per_node(self) -> Vec<u64>
+        ensures { result.items ≡ self.handled_per_node.items }
+    {
+        let Tally {
+            handled_per_node,
+            ..
+        } = self;
+        handled_per_node
+    }
+
+    /// The number of commits made.
     pub(crate) fn commits(&self) -> u32
         ensures { result ≡ self.now.commits }
     {
@@ -191,7 +217,7 @@ impl Tally {
 }
 
 impl Turn {
-    /// Before a node is asked anything.
+    /// A turn of which nothing is known yet.
     fn none() -> Turn {
         Turn {
             round: 0,
@@ -202,11 +228,11 @@ impl Turn {
             antimessages: 0,
             handled: 0,
             sent: 0,
-            told: 0,
+            reported: 0,
         }
     }
 
-    /// What was asked, with what a take was answered.
+    /// Returns this turn with the numbers of the answer to a take.
     fn answered(self, answer: &Answer) -> Turn
         ensures { result ≡ turn_answered self answer.now }
     {
@@ -214,7 +240,7 @@ impl Turn {
             Answer::Taken { ran, out, fossils } => Turn {
                 handled: ran,
                 sent: out,
-                told: fossils,
+                reported: fossils,
                 ..self
             },
             _ => self,
@@ -222,7 +248,7 @@ impl Turn {
     }
 }
 
-/// How many of what is at these places in transit are antimessages.
+/// The number of antimessages at these places in transit.
 pub(crate) fn antimessages(transit: &[Signed], places: &[u32]) -> usize {
     let mut count = 0usize;
     for place in places {

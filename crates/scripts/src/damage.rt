@@ -1,5 +1,5 @@
-// Disks of format 1 of which one byte is another: each is refused, or what is migrated is a
-// beginning of what the plain run handles.
+// Migrates disks of format 1 with one bit flipped. Each must be refused, or yield a log that is a
+// prefix of the sequential simulation's.
 
 ghost use Rattle.std.specs.Prelude.{◌≤◌, ◌^◌};
 
@@ -12,13 +12,14 @@ use std::fs::{self, File};
 use std::io::{self, Error, ErrorKind, Print};
 use std::rt::Files;
 
-/// How many bytes a disk has at the most.
+/// The largest disk that is migrated, in bytes.
 const MOST: usize = 1 << 24;
 
-/// How many sectors the new disk has.
+/// The size of the new disk, in sectors.
 const SECTORS: u32 = 64;
 
-/// How many damaged disks are refused, change nothing, or have less on them.
+/// How many of the damaged disks are refused (`refused`), yield the same log (`whole`), or yield a
+/// shorter prefix of it (`begun`).
 #[derive(Clone, Copy)]
 struct Counts {
     refused: u32,
@@ -26,8 +27,8 @@ struct Counts {
     begun: u32,
 }
 
-/// `MODEL OLD LOG`: migrates the disk with the lowest bit of each of its bytes turned, in memory,
-/// and prints how that comes out.
+/// `MODEL OLD LOG`: migrates the disk in memory once per byte, with the lowest bit of that byte
+/// flipped, and prints the counts of the outcomes. `LOG` is the text that the intact disk yields.
 pub fn report<R>(rt: &R, words: &[String]) -> io::Result<u8>
 where
     R: Files<File = File> + Print + AllocGlobal,
@@ -70,7 +71,8 @@ where
     Ok(0)
 }
 
-/// What `log` prints of the disk that is made of one with this image, and whether it is made.
+/// Migrates this image, and appends to `text` what `log` prints of the new disk. Returns whether
+/// the migration succeeded.
 fn migrated(
     alloc: Global,
     of: &Simulated<AnyModel>,
@@ -88,9 +90,9 @@ fn migrated(
         return Ok(false);
     };
     let new = MemDisk::blank(alloc, SECTORS)?;
-    let mut told = Vec::new(alloc);
-    let Ended { disk, told } = migrate(alloc, of, &mut old, new, &mut told);
-    if told.is_err() {
+    let mut outcome = Vec::new(alloc);
+    let Ended { disk, outcome } = migrate(alloc, of, &mut old, new, &mut outcome);
+    if outcome.is_err() {
         return Ok(false);
     }
     if log(alloc, of, disk, text).is_err() {

@@ -1,8 +1,9 @@
-//! `timewarp` by its name or where it is given words. With none it plays the scripts of its folder:
-//! what a user types, and what has to come of it.
+//! Runs as `timewarp` under that name, or when it has arguments. Without arguments it plays the
+//! scripts of the current folder: what a user types, and what must be printed.
 //!
-//! It has other names for what no shell tool does: `peer` speaks bytes to a node program or a run,
-//! `named` starts the program under another name, and `damage` migrates damaged disks in memory.
+//! Under other names it does what no shell tool does: `peer` exchanges bytes with a node program or
+//! a run, `named` starts the program under another name, and `damage` migrates damaged disks in
+//! memory.
 #![tactic(auto)]
 
 mod damage;
@@ -48,7 +49,7 @@ fn main(rt: HostRuntime) -> ExitCode {
     }
 }
 
-/// Starts this program under another name, which is the first word. Answers its status.
+/// Starts this program under another name, the first argument. Returns its exit status.
 fn named(rt: &HostRuntime, words: &[String]) -> io::Result<u8> {
     let Some((name, rest)) = words.split_first() else {
         return Ok(2);

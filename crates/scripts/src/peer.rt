@@ -1,4 +1,4 @@
-// The other end of a socket, told bytes by hand: that of a node program, or of a run.
+// The other end of the socket of a node program or of a run, which sends handwritten bytes.
 
 use std::alloc::Global;
 use std::fs::File;
@@ -9,8 +9,8 @@ use std::rt::Files;
 use std::thread;
 use std::time::{Clock, Duration};
 
-/// `listen SOCKET HEX..` waits for a node program, tells it these bytes and prints its answer;
-/// `leave SOCKET` connects to a run, waits until it takes nobody else there, and leaves.
+/// `listen SOCKET HEX..` waits for a node program, sends it these bytes and prints its answer.
+/// `leave SOCKET` connects to a run, waits until its socket refuses connections, and disconnects.
 pub fn speak<R>(rt: &R, words: &[String]) -> io::Result<u8>
 where
     R: Files<File = File> + Net + Clock + Print + AllocGlobal,
@@ -28,7 +28,7 @@ where
     }
 }
 
-/// Tells a node program bytes, and prints how many they are and all of its answer.
+/// Sends these bytes to a node program. Prints their number and the whole answer.
 fn listen<R>(rt: &R, path: &str, frames: &[String]) -> io::Result<()>
 where
     R: Files<File = File> + Net + Clock + Print + AllocGlobal,
@@ -37,7 +37,7 @@ where
     listener.set_nonblocking(true)?;
     let mut bytes = Vec::new(rt.alloc());
     for frame in frames {
-        spell(frame.as_str(), &mut bytes)?;
+        append_hex(frame.as_str(), &mut bytes)?;
     }
     let stream = accepted(rt, &listener)?;
     drop(listener);
@@ -48,11 +48,11 @@ where
     }
     let text = str::from_utf8(text.as_slice()).unwrap_or("");
     let count = bytes.len();
-    println!(rt; "told {count} bytes, answered '{text}'")
+    println!(rt; "sent {count} bytes, answered '{text}'")
 }
 
-/// The bytes of a text of hexadecimal digits.
-fn spell(text: &str, bytes: &mut Vec<u8>) -> io::Result<()> {
+/// Appends the bytes of a text of hexadecimal digits.
+fn append_hex(text: &str, bytes: &mut Vec<u8>) -> io::Result<()> {
     for pair in text.as_bytes().as_chunks::<2>().0 {
         let [high, low] = pair;
         bytes.push(digit(*high).wrapping_mul(16).wrapping_add(digit(*low)))?;
@@ -68,7 +68,7 @@ fn digit(byte: u8) -> u8 {
     }
 }
 
-/// The connection of a program; an error where none comes within a minute.
+/// Accepts a connection. Fails if none comes within a minute.
 fn accepted<R: Clock>(rt: &R, listener: &UnixListener) -> io::Result<UnixStream> {
     for _ in 0..60_000 {
         match listener.accept() {
@@ -84,11 +84,11 @@ fn accepted<R: Clock>(rt: &R, listener: &UnixListener) -> io::Result<UnixStream>
     Err(Error::from(ErrorKind::TimedOut))
 }
 
-/// Writes these bytes, and answers what comes until the other end is closed.
+/// Writes these bytes, and returns what it reads until the other end closes.
 fn answer(alloc: Global, stream: &UnixStream, bytes: &[u8]) -> io::Result<Vec<u8>> {
     let mut writer = stream;
     let mut reader = stream;
-    // a node that has ended reads no more
+    // ignores errors: a node that has ended closes its end
     let _ = writer.write_all(bytes);
     let _ = stream.shutdown(Shutdown::Write);
     let mut answer = Vec::new(alloc);
@@ -102,7 +102,7 @@ fn answer(alloc: Global, stream: &UnixStream, bytes: &[u8]) -> io::Result<Vec<u8
     Ok(answer)
 }
 
-/// Connects, waits until the socket takes no other connection, and leaves.
+/// Connects, waits until the socket refuses another connection, and disconnects.
 fn leave<R: Net + Clock>(rt: &R, path: &str) -> io::Result<()> {
     let stream = UnixStream::connect(rt, path)?;
     for _ in 0..10_000 {

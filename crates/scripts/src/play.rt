@@ -1,6 +1,6 @@
 // Plays scripts, each in a new folder.
 
-use crate::script::{Step, are_wanted, read};
+use crate::script::{Step, are_expected, read};
 use std::alloc::Global;
 use std::env;
 use std::fs::{self, File};
@@ -9,22 +9,22 @@ use std::os::unix::fs::symlink;
 use std::process::{Command, Processes, Stdio};
 use std::rt::{Env, Files};
 
-/// What this program is called in scripts.
+/// The names of this program in scripts.
 const NAMES: [&str; 4] = ["timewarp", "peer", "named", "damage"];
 
-/// The script of which each command must be found to differ.
+/// The script whose commands must all be found to differ.
 const WRONG: &str = "wrong.failing";
 
-/// The paths that each command is given.
+/// The paths that each command gets in its environment.
 #[derive(Drop)]
 struct Places {
-    /// Where programs are found: this one by its names, those of the scripts, and the system's.
+    /// Where commands are found: this program's names, the tools of the scripts, and the system's.
     path: String,
     /// The folder of the scripts.
     data: String,
 }
 
-/// Plays the scripts of the current folder in the order of their names. Answers the status.
+/// Plays the scripts of the current folder, sorted by name. Returns the exit status.
 pub fn play_all<R>(rt: &R, program: &str) -> io::Result<u8>
 where
     R: Files<File = File> + Env + Processes + Print + AllocGlobal + Clone + Drop,
@@ -42,7 +42,7 @@ where
     Ok(u8::from(!all_well || count == 0 || differing != count))
 }
 
-/// Makes the names of this program, and answers the paths.
+/// Links this program under each of its names, and returns the paths.
 fn begin<R>(rt: &R, program: &str) -> io::Result<Places>
 where
     R: Files<File = File> + Env + AllocGlobal,
@@ -63,7 +63,7 @@ where
     })
 }
 
-/// The names of the scripts in the current folder, in order.
+/// The names of the scripts in the current folder, sorted.
 fn scripts<R>(rt: &R) -> io::Result<Vec<String>>
 where
     R: Files<File = File> + AllocGlobal + Clone + Drop,
@@ -81,8 +81,8 @@ where
     Ok(names)
 }
 
-/// Plays a script in a new folder. Answers how many commands it has, and how many differ from what
-/// is wanted, each of which is shown, if that is asked for.
+/// Plays a script in a new folder. Returns the number of its commands, and how many of them differ
+/// from what the script says. Prints each difference if `shows` is set.
 fn play<R>(rt: &R, places: &Places, name: &str, shows: bool) -> io::Result<(u32, u32)>
 where
     R: Files<File = File> + Processes + Print + AllocGlobal + Clone + Drop,
@@ -102,7 +102,7 @@ where
     Ok((count, differing))
 }
 
-/// Runs a command in the folder of its script, and looks at what comes of it.
+/// Runs a command in the folder of its script. Returns whether its output and its status match.
 fn is_played<R>(
     rt: &R,
     places: &Places,
@@ -119,14 +119,14 @@ where
         return Err(Error::from(ErrorKind::InvalidData));
     };
     let lines = lines_of(rt.alloc(), printed)?;
-    let is_well = status == step.status && are_wanted(lines.as_slice(), step.wanted.as_slice());
+    let is_well = status == step.status && are_expected(lines.as_slice(), step.expected.as_slice());
     if !is_well && shows {
         show(rt, name, step, lines.as_slice(), status)?;
     }
     Ok(is_well)
 }
 
-/// Runs a command by the shell in this folder. Answers what it prints, and its status.
+/// Runs a command in this folder by the shell. Returns what it prints, and its exit status.
 fn run<R>(rt: &R, places: &Places, folder: &str, command: &str) -> io::Result<(Vec<u8>, u8)>
 where
     R: Processes + AllocGlobal,
@@ -146,12 +146,12 @@ where
     Ok((printed, status_of(output.status.code())))
 }
 
-/// A status, also of what was ended by a signal.
+/// An exit status; 255 for a program that a signal ended.
 pub fn status_of(code: Option<i32>) -> u8 {
     code.and_then(|code| u8::try_from(code).ok()).unwrap_or(255)
 }
 
-/// The lines of what is printed. A last one without its end has another behind it that says so.
+/// The lines of a text. If the last one has no line end, a line that says so follows.
 fn lines_of(alloc: Global, printed: &str) -> io::Result<Vec<&str>> {
     let mut lines = Vec::new(alloc);
     for line in printed.lines() {
@@ -163,7 +163,7 @@ fn lines_of(alloc: Global, printed: &str) -> io::Result<Vec<&str>> {
     Ok(lines)
 }
 
-/// Shows what is wanted of a command and what came of it.
+/// Prints the expected lines and the printed ones.
 fn show<R>(rt: &R, name: &str, step: &Step<'_>, lines: &[&str], status: u8) -> io::Result<()>
 where
     R: Print + AllocGlobal,
@@ -171,11 +171,11 @@ where
     let line = step.line;
     let command = step.command.as_str();
     println!(rt; "{name}: line {line} differs: {command}")?;
-    for line in step.wanted.as_slice() {
+    for line in step.expected.as_slice() {
         println!(rt; "- {line}")?;
     }
-    let wanted = step.status;
-    println!(rt; "- [{wanted}]")?;
+    let expected = step.status;
+    println!(rt; "- [{expected}]")?;
     for line in lines {
         println!(rt; "+ {line}")?;
     }

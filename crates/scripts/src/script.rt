@@ -1,21 +1,21 @@
-// A script's commands, each with what has to come of it.
+// The commands of a script, each with its expected output.
 
 use std::alloc::{AllocError, Global};
 
-/// A command, and what has to come of it.
+/// A command and its expected output.
 #[derive(Drop)]
 pub struct Step<'a> {
-    /// The number of its line, from 1.
+    /// The line number of the command, from 1.
     pub line: usize,
     pub command: String,
-    /// The lines that are printed: of standard output, and then of standard error.
-    pub wanted: Vec<&'a str>,
+    /// The expected lines, those of standard output before those of standard error.
+    pub expected: Vec<&'a str>,
     pub status: u8,
 }
 
-/// Reads a script. A line `$ COMMAND` begins a command, and lines `> MORE` go on with it. Behind it
-/// come the lines that are printed, and `[STATUS]` where that is not 0. Blank lines and lines that
-/// begin with `#` say nothing before a command and at the end.
+/// Reads a script. A line `$ COMMAND` starts a command, and lines `> MORE` continue it. Then come
+/// the expected lines, and `[STATUS]` unless the exit status is 0. Blank lines and lines that start
+/// with `#` are ignored before a command and at the end.
 pub fn read(alloc: Global, text: &str) -> Result<Vec<Step<'_>>, AllocError> {
     let mut steps: Vec<Step<'_>> = Vec::new(alloc);
     let mut number: usize = 0;
@@ -25,7 +25,7 @@ pub fn read(alloc: Global, text: &str) -> Result<Vec<Step<'_>>, AllocError> {
             steps.push(Step {
                 line: number,
                 command: String::from_str(alloc, command)?,
-                wanted: Vec::new(alloc),
+                expected: Vec::new(alloc),
                 status: 0,
             })?;
         } else if let Some(step) = steps.last_mut() {
@@ -38,52 +38,53 @@ pub fn read(alloc: Global, text: &str) -> Result<Vec<Step<'_>>, AllocError> {
     Ok(steps)
 }
 
-/// Takes a line behind a command.
+/// Adds a line that follows a command.
 fn take<'a>(step: &mut Step<'a>, line: &'a str) -> Result<(), AllocError> {
     match line.strip_prefix("> ") {
-        Some(more) if step.wanted.is_empty() => {
+        Some(more) if step.expected.is_empty() => {
             step.command.push_str("\n")?;
             step.command.push_str(more)
         }
-        _ => Ok(step.wanted.push(line)?),
+        _ => Ok(step.expected.push(line)?),
     }
 }
 
-/// Leaves what says nothing, and takes the status.
+/// Removes blank lines and comments at the end, and takes the status.
 fn finish(step: &mut Step<'_>) {
-    for _ in 0..step.wanted.len() {
-        match step.wanted.last() {
+    for _ in 0..step.expected.len() {
+        match step.expected.last() {
             Some(line) if line.is_empty() || line.starts_with("#") => {
-                let _ = step.wanted.pop();
+                let _ = step.expected.pop();
             }
             _ => break,
         }
     }
-    if let Some(status) = step.wanted.last().and_then(|line| status_in(line)) {
+    if let Some(status) = step.expected.last().and_then(|line| status_in(line)) {
         step.status = status;
-        let _ = step.wanted.pop();
+        let _ = step.expected.pop();
     }
 }
 
-/// The status that a line says.
+/// The status that a line `[STATUS]` gives.
 fn status_in(line: &str) -> Option<u8> {
     let number = line.strip_prefix("[")?.strip_suffix("]")?;
     number.parse().ok()
 }
 
-/// Whether these lines are wanted.
-pub fn are_wanted(lines: &[&str], wanted: &[&str]) -> bool {
-    lines.len() == wanted.len()
+/// Whether the printed lines match the expected ones.
+pub fn are_expected(lines: &[&str], expected: &[&str]) -> bool {
+    lines.len() == expected.len()
         && lines
             .iter()
-            .zip(wanted)
-            .all(|(line, wanted)| is_wanted(line, wanted))
+            .zip(expected)
+            .all(|(line, expected)| is_expected(line, expected))
 }
 
-/// Whether a line is wanted. `(..)` at the end of a wanted line stands for whatever follows there.
-fn is_wanted(line: &str, wanted: &str) -> bool {
-    match wanted.strip_suffix("(..)") {
+/// Whether a printed line matches. `(..)` at the end of an expected line matches any rest of the
+/// line.
+fn is_expected(line: &str, expected: &str) -> bool {
+    match expected.strip_suffix("(..)") {
         Some(beginning) => line.starts_with(beginning),
-        None => line == wanted,
+        None => line == expected,
     }
 }

@@ -1,4 +1,4 @@
-// A stream that is read through a buffer.
+// A stream with a read buffer.
 
 ghost use Rattle.std.specs.Io.Buffered.{reader_buffer, reader_capacity, reader_inner};
 ghost use Rattle.std.specs.IoError.{error_kind};
@@ -7,17 +7,17 @@ ghost use Rattle.std.specs.Prelude.{◌≡◌, [], IfErr, IfOk};
 use std::alloc::Global;
 use std::io::{self, BufReader, ErrorKind, Read, Write};
 
-/// A stream that is read through a buffer of 8,192 bytes, so that a frame that has come whole takes
-/// one call of the system and not three, and is written with none: what `write` takes has gone to
-/// the stream when it answers. Whoever reads the stream by other means misses what the buffer has.
+/// A stream with a read buffer of 8,192 bytes: a frame that has arrived whole takes one system call
+/// to read, not three. Writes are not buffered: what `write` takes has gone to the stream when it
+/// returns. Code that reads the stream by other means misses the bytes in the buffer.
 #[derive(Drop)]
 pub struct ReadAhead<S> {
     reader: BufReader<S>,
 }
 
 impl<S: Read + Write + Drop> ReadAhead<S> {
-    /// This stream, of which nothing is read yet. It is refused only for want of memory, with
-    /// `OutOfMemory`, and then the stream is dropped.
+    /// Wraps a stream, with an empty buffer. The only error is `OutOfMemory`, if an allocation
+    /// failed; the stream is then dropped.
     pub fn new(alloc: Global, stream: S) -> io::Result<ReadAhead<S>>
         ensures stream { IfOk result (λ ahead. reader_inner ahead.reader ≡ stream) }
         ensures unread { IfOk result (λ ahead. reader_buffer ahead.reader ≡ []) }

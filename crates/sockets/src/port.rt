@@ -8,7 +8,7 @@ ghost use Rattle.frames.specs.declared.Frame.TheVariants as frame;
 ghost use Rattle.node.specs.declared.Parcel.{Parcel};
 ghost use Rattle.sockets.specs.Socket.{IsSendCause, IsTakenFrom, state_of};
 ghost use Rattle.sockets.specs.declared.port.Held.TheVariants.{Fresh};
-ghost use Rattle.wire.specs.Port.{IsForWant, IsLoadFault, IsLoadInRange, IsLoaded, IsSamePort};
+ghost use Rattle.wire.specs.Port.{IsResourceFault, IsLoadFault, IsLoadInRange, IsLoaded, IsSamePort};
 ghost use Rattle.wire.specs.Port.{IsTakeFault, IsTaken};
 ghost use Rattle.wire.specs.Port.Stage.{Ended as AtEnd, Fresh as AtFirst};
 ghost use Rattle.wire.specs.Port.Stage.{Idle as AtRest, Posted as AtWork};
@@ -21,7 +21,7 @@ use std::marker::Model;
 use std::snapshot::Snapshot;
 use wire::{Port, PortFault, WireFault};
 
-/// Where a port stands. Of the parcel that was posted only clauses know.
+/// The stage of a port. Only contracts see the parcel that was posted.
 #[derive(Drop)]
 enum Held {
     Fresh,
@@ -30,19 +30,19 @@ enum Held {
     Ended,
 }
 
-/// A node behind a stream to another program, such as a `UnixStream` (this project's profile of
-/// ports). Nothing is known of that program: it may answer anything that a frame can say, so the
-/// port tells nothing of its node, and a session over it promises safety alone.
+/// A port to a node behind a stream to another program, such as a `UnixStream` (this project's
+/// profile of ports). Nothing is known of that program, and it may send any frame, so the port is
+/// not faithful, and a session over it promises safety alone.
 ///
-/// `load` and `post` have written their whole frame when they answer `Ok`, by writes of the stream
-/// alone, and do not flush it. A stream that buffers what is written has to be flushed by its own
-/// means, or both ends wait for ever. A call may wait as long as the stream's reads and writes do.
+/// `load` and `post` write their whole frame before they return `Ok`, and do not flush the stream.
+/// A stream that buffers writes must flush by its own means, or both ends wait forever. A call
+/// blocks for as long as the stream's reads and writes do.
 ///
-/// A call is refused with `Wire(TooLong)` where the frame's body has more than 2^24 bytes, with
-/// `Wire(NoMemory)`, and with `Wire(Io)` where the stream fails. `take` also with `Peer`, which
-/// carries the node's own refusal, with `Wire(BadKind)`, `Wire(BadBody)` and `Wire(Truncated)`
-/// where no reply stands first in the stream, and with `Closed` where the stream ends between two
-/// frames. After any refusal the port has ended.
+/// Each call fails with `Wire(TooLong)` if the frame's body has more than 2^24 bytes, with
+/// `Wire(NoMemory)` if an allocation failed, and with `Wire(Io)` if the stream failed. `take` also
+/// fails with `Peer`, which carries the node's own fault; with `Wire(BadKind)`, `Wire(BadBody)` or
+/// `Wire(Truncated)` if the stream does not continue with a reply; and with `Closed` if it ends
+/// between two frames. After any failure the port has ended.
 pub struct SocketPort<S: Read + Write> {
     alloc: Global,
     stream: S,
@@ -68,8 +68,8 @@ impl<S: Read + Write> Model for SocketPort<S> {
 }
 
 impl<S: Read + Write> SocketPort<S> {
-    /// A port to the program at the other end of this stream, through which nothing is loaded yet.
-    /// It takes no memory.
+    /// A port to the program at the other end of this stream. Nothing is loaded yet. It allocates
+    /// nothing.
     pub fn new(alloc: Global, stream: S) -> SocketPort<S>
         ensures { result ≡ record { stream = stream; held = Fresh } }
     {
@@ -90,9 +90,9 @@ impl<S: Read + Write> Port for SocketPort<S> {
         ensures idle { OnOk result ((state_of self.new.held).stage ≡ AtRest) }
         ensures ended { OnErr result ((state_of self.new.held).stage ≡ AtEnd) }
         ensures same { IsSamePort (state_of self.old.held) (state_of self.new.held) }
-        ensures ok { (state_of self.old.held).tells ≡ true →
+        ensures ok { (state_of self.old.held).faithful ≡ true →
             OnOk result (IsLoaded load (state_of self.old.held) (state_of self.new.held)) }
-        ensures err { (state_of self.old.held).tells ≡ true →
+        ensures err { (state_of self.old.held).faithful ≡ true →
             IfErr result (λ fault. IsLoadFault load (state_of self.old.held) fault) }
         ensures written { OnOk result (Appends (S.contents self.old.stream)
             (S.contents self.new.stream) (frame_bytes (frame.Load load))) }
@@ -118,10 +118,10 @@ impl<S: Read + Write> Port for SocketPort<S> {
         ensures posted { OnOk result ((state_of self.new.held).stage ≡ AtWork parcel) }
         ensures ended { OnErr result ((state_of self.new.held).stage ≡ AtEnd) }
         ensures same { IsSamePort (state_of self.old.held) (state_of self.new.held) }
-        ensures ok { (state_of self.old.held).tells ≡ true →
+        ensures ok { (state_of self.old.held).faithful ≡ true →
             OnOk result ((state_of self.new.held).node ≡ (state_of self.old.held).node) }
-        ensures err { (state_of self.old.held).tells ≡ true →
-            IfErr result (λ fault. IsForWant fault) }
+        ensures err { (state_of self.old.held).faithful ≡ true →
+            IfErr result (λ fault. IsResourceFault fault) }
         ensures written { OnOk result (Appends (S.contents self.old.stream)
             (S.contents self.new.stream) (frame_bytes (frame.Parcel parcel))) }
         ensures fits { OnOk result (length (parcel_bytes parcel) ≤ 2 ^ 24) }
@@ -147,13 +147,13 @@ impl<S: Read + Write> Port for SocketPort<S> {
         ensures same { IsSamePort (state_of self.old.held) (state_of self.new.held) }
         ensures ok { (parcel : Parcel) →
             (state_of self.old.held).stage ≡ AtWork parcel →
-            (state_of self.old.held).tells ≡ true → IfOk result (λ reply.
+            (state_of self.old.held).faithful ≡ true → IfOk result (λ reply.
             IsTaken parcel (state_of self.old.held) (state_of self.new.held) reply) }
         ensures err { (parcel : Parcel) →
             (state_of self.old.held).stage ≡ AtWork parcel →
-            (state_of self.old.held).tells ≡ true →
+            (state_of self.old.held).faithful ≡ true →
             IfErr result (λ fault. IsTakeFault parcel (state_of self.old.held) fault) }
-        ensures told { OnBytes (S.remaining self.old.stream) (S.remaining self.new.stream)
+        ensures known { OnBytes (S.remaining self.old.stream) (S.remaining self.new.stream)
             (IsTakenFrom result) }
     {
         self.held = Held::Ended;

@@ -1,8 +1,8 @@
--- The trace of a run (this project's profile): what its row tells of what was committed before a turn.
+-- The trace of a run (this project's profile): how a row gets what was committed before its turn.
 use Rattle.std.specs.Prelude.{ℕ}
 use Rattle.pictures.specs.declared.turns.Row.{Row}
 
--- the row of a turn, before which so many events were committed up to this time
+-- the row of a turn, before which `events` events were committed up to `time`
 abbrev pub row_behind : Row → ℕ → ℕ → Row
 row_behind turn time events = record {
   round = turn.round;
@@ -13,7 +13,7 @@ row_behind turn time events = record {
   antimessages = turn.antimessages;
   handled = turn.handled;
   sent = turn.sent;
-  told = turn.told;
+  reported = turn.reported;
   committed = time;
   events = events;
 }

@@ -1,8 +1,8 @@
-// Which file or folder is the cause of the fault `File`. What is looked at is as it is once the
-// command has failed, so the answer is advice alone; what fails in the looking is no cause.
+// Which file or folder caused the fault `File`. The checks see the files as they are after the
+// command has failed, so the answer is only advice, and a check that itself fails gives no cause.
 
 use crate::paths::are_one_file;
-use cli::{Line, most_sectors};
+use cli::{Command, DiskArgs, DrawArgs, MigrateArgs, NewArgs, RunArgs, SourceArgs, most_sectors};
 use disk::{MOST_SECTORS, MOST_SECTORS_OF_LARGE};
 use std::fs::{self, File, Metadata, OpenOptions, TryLockError};
 use std::io::{Error as IoError, ErrorKind};
@@ -10,7 +10,7 @@ use std::path::Path;
 use std::rt::Files;
 use thiserror::Error;
 
-/// A file or a folder of a command's line, and what is wrong with it.
+/// A file or a folder of a command, and what is wrong with it.
 #[derive(Clone, Copy, Debug, PartialEq, Eq, Error)]
 #[error("{path}: {reason}")]
 pub struct Cause<'a> {
@@ -66,121 +66,46 @@ enum Reason {
 /// What a command does with a path.
 #[derive(Clone, Copy)]
 enum Step<'a> {
-    /// It reads the file.
+    /// Reads the file.
     Reads(&'a str),
-    /// It takes it for another file than the second one.
-    TellsApart(&'a str, &'a str),
-    /// It reads a disk of at most so many sectors.
+    /// Requires the first path to lead to another file than the second.
+    AreTwoFiles(&'a str, &'a str),
+    /// Reads a disk of at most this many sectors.
     LooksAt(&'a str, u32),
-    /// It opens a disk of at most so many sectors to write it.
+    /// Opens a disk of at most this many sectors for writing.
     Writes(&'a str, u32),
-    /// It makes a disk of so many sectors, or takes one that is there.
+    /// Makes a disk of this many sectors, or takes an existing one.
     Makes(&'a str, u32),
-    /// It makes the file of a trace, or empties one that is there.
+    /// Makes the file of a trace, or empties an existing one.
     Traces(&'a str),
-    /// It connects to the socket.
+    /// Connects to the socket.
     Connects(&'a str),
 }
 
-/// The cause of the fault `File` with which the command of this line has ended, if one is seen: the
-/// first one in the order in which the command takes its paths.
-pub fn cause_of<'a, R>(rt: &R, line: Line<'a>) -> Option<Cause<'a>>
+/// The cause of the fault `File` with which this command ended, if one is found: the first in the
+/// order in which the command takes its paths.
+pub fn cause_of<'a, R>(rt: &R, command: Command<'a>) -> Option<Cause<'a>>
 where
     R: Files<File = File> + AllocGlobal,
 {
-    match line {
-        Line::New {
-            model,
-            disk,
-            sectors,
-            large: _,
-        } => first(
-            rt,
-            &[
-                Step::Reads(model),
-                Step::TellsApart(disk, model),
-                Step::Makes(disk, sectors),
-            ],
-        ),
-        Line::Run {
-            model,
-            disk,
-            nodes,
-            sockets,
-            attach,
-            trace,
-            large,
-            ..
-        } => {
-            let early = first_of_trace(rt, model, disk, trace);
-            if early.is_some() {
-                return early;
-            }
-            let cause = first_of_writer(rt, model, disk, large);
-            if cause.is_some() {
-                return cause;
-            }
-            last_of_run(rt, sockets, nodes, attach, trace)
-        }
-        Line::Extend { model, disk, large } => first_of_writer(rt, model, disk, large),
-        Line::Grow {
-            model,
-            disk,
-            large,
-            ..
-        } => first_of_writer(rt, model, disk, large),
-        Line::Migrate {
-            model,
-            old,
-            new,
-            sectors,
-            large,
-        } => first(
-            rt,
-            &[
-                Step::Reads(model),
-                Step::LooksAt(old, most_sectors(large)),
-                Step::TellsApart(new, model),
-                Step::TellsApart(new, old),
-                Step::Makes(new, sectors),
-            ],
-        ),
-        Line::Status { model, disk, large } => first_of_looker(rt, model, Some(disk), large),
-        Line::Log {
-            model,
-            disk,
-            large,
-            ..
-        } => first_of_looker(rt, model, Some(disk), large),
-        Line::Show { model, disk, large } => first_of_looker(rt, model, Some(disk), large),
-        Line::Stats {
-            model,
-            disk,
-            large,
-            ..
-        } => first_of_looker(rt, model, disk, large),
-        Line::Draw {
-            model,
-            disk,
-            trace: None,
-            large,
-            ..
-        } => first_of_looker(rt, model, disk, large),
-        Line::Draw {
-            trace: Some(trace),
-            ..
-        } => first(rt, &[Step::Reads(trace)]),
-        Line::Seq { model } => first(rt, &[Step::Reads(model)]),
-        Line::Check { model } => first(rt, &[Step::Reads(model)]),
-        Line::Node {
-            model,
-            socket,
-            parcels: _,
-        } => first(rt, &[Step::Reads(model), Step::Connects(socket)]),
+    match command {
+        Command::New(args) => first_of_new(rt, args),
+        Command::Run(args) => first_of_run(rt, args),
+        Command::Extend(args) => first_of_writer(rt, args),
+        Command::Grow(args) => first_of_writer(rt, args.on),
+        Command::Migrate(args) => first_of_migration(rt, args),
+        Command::Status(args) => first_of_reader(rt, args),
+        Command::Log(args) => first_of_reader(rt, args.on),
+        Command::Show(args) => first_of_reader(rt, args),
+        Command::Stats(args) => first_of_source(rt, args.of),
+        Command::Draw(args) => first_of_drawing(rt, args),
+        Command::Seq(args) => first(rt, &[Step::Reads(args.model)]),
+        Command::Check(args) => first(rt, &[Step::Reads(args.model)]),
+        Command::Node(args) => first(rt, &[Step::Reads(args.model), Step::Connects(args.socket)]),
     }
 }
 
-/// The first cause that one of these steps has.
+/// The first cause among these steps.
 fn first<'a, R: Files<File = File>>(rt: &R, steps: &[Step<'a>]) -> Option<Cause<'a>> {
     for step in steps {
         let cause = cause_at(rt, *step);
@@ -191,72 +116,115 @@ fn first<'a, R: Files<File = File>>(rt: &R, steps: &[Step<'a>]) -> Option<Cause<
     None
 }
 
-/// The first cause of a command that writes to a disk.
-fn first_of_writer<'a, R: Files<File = File>>(
-    rt: &R,
-    model: &'a str,
-    disk: &'a str,
-    large: bool,
-) -> Option<Cause<'a>> {
-    let most = most_sectors(large);
-    first(rt, &[Step::Reads(model), Step::Writes(disk, most)])
-}
-
-/// The first cause of a command that looks at a disk, where it takes one.
-fn first_of_looker<'a, R: Files<File = File>>(
-    rt: &R,
-    model: &'a str,
-    disk: Option<&'a str>,
-    large: bool,
-) -> Option<Cause<'a>> {
-    match disk {
-        None => first(rt, &[Step::Reads(model)]),
-        Some(disk) => {
-            let most = most_sectors(large);
-            first(rt, &[Step::Reads(model), Step::LooksAt(disk, most)])
-        }
-    }
-}
-
-/// The first cause of what a run does with its trace before all else.
-fn first_of_trace<'a, R: Files<File = File>>(
-    rt: &R,
-    model: &'a str,
-    disk: &'a str,
-    trace: Option<&'a str>,
-) -> Option<Cause<'a>> {
-    let trace = trace?;
+/// The first cause of `new`.
+fn first_of_new<'a, R: Files<File = File>>(rt: &R, args: NewArgs<'a>) -> Option<Cause<'a>> {
+    let DiskArgs { model, disk, .. } = args.on;
     first(
         rt,
         &[
-            Step::TellsApart(trace, model),
-            Step::TellsApart(trace, disk),
+            Step::Reads(model),
+            Step::AreTwoFiles(disk, model),
+            Step::Makes(disk, args.sectors),
+        ],
+    )
+}
+
+/// The first cause of `migrate`.
+fn first_of_migration<'a, R>(rt: &R, args: MigrateArgs<'a>) -> Option<Cause<'a>>
+where
+    R: Files<File = File>,
+{
+    first(
+        rt,
+        &[
+            Step::Reads(args.model),
+            Step::LooksAt(args.old, most_sectors(args.large)),
+            Step::AreTwoFiles(args.new, args.model),
+            Step::AreTwoFiles(args.new, args.old),
+            Step::Makes(args.new, args.sectors),
+        ],
+    )
+}
+
+/// The first cause of a command that writes to a disk.
+fn first_of_writer<'a, R: Files<File = File>>(rt: &R, args: DiskArgs<'a>) -> Option<Cause<'a>> {
+    let most = most_sectors(args.large);
+    first(
+        rt,
+        &[Step::Reads(args.model), Step::Writes(args.disk, most)],
+    )
+}
+
+/// The first cause of a command that reads a disk.
+fn first_of_reader<'a, R: Files<File = File>>(rt: &R, args: DiskArgs<'a>) -> Option<Cause<'a>> {
+    let most = most_sectors(args.large);
+    first(
+        rt,
+        &[Step::Reads(args.model), Step::LooksAt(args.disk, most)],
+    )
+}
+
+/// The first cause of a command that reads a disk, if it takes one.
+fn first_of_source<'a, R: Files<File = File>>(rt: &R, args: SourceArgs<'a>) -> Option<Cause<'a>> {
+    let SourceArgs { model, disk, large } = args;
+    match disk {
+        None => first(rt, &[Step::Reads(model)]),
+        Some(disk) => first_of_reader(rt, DiskArgs { model, disk, large }),
+    }
+}
+
+/// The first cause of `draw`. With a trace it reads no other file.
+fn first_of_drawing<'a, R: Files<File = File>>(rt: &R, args: DrawArgs<'a>) -> Option<Cause<'a>> {
+    match args.trace {
+        None => first_of_source(rt, args.of),
+        Some(trace) => first(rt, &[Step::Reads(trace)]),
+    }
+}
+
+/// The first cause of `run`.
+fn first_of_run<'a, R>(rt: &R, args: RunArgs<'a>) -> Option<Cause<'a>>
+where
+    R: Files<File = File> + AllocGlobal,
+{
+    let early = first_of_trace(rt, args);
+    if early.is_some() {
+        return early;
+    }
+    let cause = first_of_writer(rt, args.on);
+    if cause.is_some() {
+        return cause;
+    }
+    last_of_run(rt, args)
+}
+
+/// The first cause among a run's steps for its trace, which come before all others.
+fn first_of_trace<'a, R: Files<File = File>>(rt: &R, args: RunArgs<'a>) -> Option<Cause<'a>> {
+    let trace = args.trace?;
+    first(
+        rt,
+        &[
+            Step::AreTwoFiles(trace, args.on.model),
+            Step::AreTwoFiles(trace, args.on.disk),
             Step::Traces(trace),
         ],
     )
 }
 
-/// The cause of what a run does once its disk is open: its nodes are met, and at its end the whole
-/// trace has been written. Where one of the two alone may have failed, it is the cause.
-fn last_of_run<'a, R>(
-    rt: &R,
-    sockets: Option<&'a str>,
-    nodes: u32,
-    attach: bool,
-    trace: Option<&'a str>,
-) -> Option<Cause<'a>>
+/// The cause in what a run does after its disk is open: it connects to its nodes, and at its end
+/// the whole trace must have been written. If only one of the two can have failed, it is the cause.
+fn last_of_run<'a, R>(rt: &R, args: RunArgs<'a>) -> Option<Cause<'a>>
 where
     R: Files<File = File> + AllocGlobal,
 {
-    match (sockets, trace) {
+    match (args.sockets, args.trace) {
         (None, None) => None,
         (None, Some(trace)) => caused(trace, Some(Reason::NotWhole)),
         (Some(folder), _) => {
-            let seen = reason_of_sockets(rt, folder, nodes);
+            let seen = reason_of_sockets(rt, folder, args.nodes);
             if seen.is_some() {
                 return caused(folder, seen);
             }
-            if attach || trace.is_some() {
+            if args.attach || args.trace.is_some() {
                 return None;
             }
             caused(folder, Some(Reason::NotMet))
@@ -264,7 +232,7 @@ where
     }
 }
 
-/// The cause where something is wrong with this path.
+/// The cause, if something is wrong with this path.
 fn caused<'a>(path: &'a str, reason: Option<Reason>) -> Option<Cause<'a>> {
     Some(Cause {
         path,
@@ -272,11 +240,11 @@ fn caused<'a>(path: &'a str, reason: Option<Reason>) -> Option<Cause<'a>> {
     })
 }
 
-/// The cause for which a step fails, if one is seen.
+/// The cause for which a step fails, if one is found.
 fn cause_at<'a, R: Files<File = File>>(rt: &R, step: Step<'a>) -> Option<Cause<'a>> {
     match step {
         Step::Reads(path) => caused(path, reason_of_file(rt, path)),
-        Step::TellsApart(path, other) => caused(path, reason_of_two(rt, path, other)),
+        Step::AreTwoFiles(path, other) => caused(path, reason_of_two(rt, path, other)),
         Step::LooksAt(path, most) => caused(path, reason_of_disk(rt, path, most)),
         Step::Writes(path, most) => caused(path, reason_of_writer(rt, path, most)),
         Step::Makes(path, sectors) => cause_of_new(rt, path, sectors),
@@ -285,7 +253,8 @@ fn cause_at<'a, R: Files<File = File>>(rt: &R, step: Step<'a>) -> Option<Cause<'
     }
 }
 
-/// What is wrong with what the system does not show: it is not there, or may not be seen.
+/// What is wrong with a path for which the system returns this error: nothing is there, or it may
+/// not be read.
 fn reason_of_error(error: IoError, missing: Reason) -> Option<Reason> {
     match error.kind() {
         ErrorKind::NotFound | ErrorKind::NotADirectory => Some(missing),
@@ -294,7 +263,7 @@ fn reason_of_error(error: IoError, missing: Reason) -> Option<Reason> {
     }
 }
 
-/// What is wrong with a file that is read. What is no plain file is not opened again.
+/// What is wrong with a file that a command reads. Only plain files are opened again.
 fn reason_of_file<R: Files<File = File>>(rt: &R, path: &str) -> Option<Reason> {
     match fs::metadata(rt, path) {
         Err(error) => reason_of_error(error, Reason::NoFile),
@@ -304,7 +273,7 @@ fn reason_of_file<R: Files<File = File>>(rt: &R, path: &str) -> Option<Reason> {
     }
 }
 
-/// What is wrong with a plain file that is opened to read it.
+/// What is wrong with a plain file that is opened for reading.
 fn reason_of_reader<R: Files<File = File>>(rt: &R, path: &str) -> Option<Reason> {
     match File::open(rt, path) {
         Ok(_) => None,
@@ -312,7 +281,7 @@ fn reason_of_reader<R: Files<File = File>>(rt: &R, path: &str) -> Option<Reason>
     }
 }
 
-/// What is wrong where two paths are to lead to two files.
+/// What is wrong with two paths that must lead to two files.
 fn reason_of_two<R: Files<File = File>>(rt: &R, path: &str, other: &str) -> Option<Reason> {
     if are_one_file(rt, path, other) {
         Some(Reason::OneFile)
@@ -321,7 +290,7 @@ fn reason_of_two<R: Files<File = File>>(rt: &R, path: &str, other: &str) -> Opti
     }
 }
 
-/// What is wrong with the file of a disk that is looked at.
+/// What is wrong with the file of a disk that is only read.
 fn reason_of_disk<R: Files<File = File>>(rt: &R, path: &str, most: u32) -> Option<Reason> {
     let reason = reason_of_file(rt, path);
     if reason.is_some() {
@@ -339,7 +308,7 @@ fn reason_of_writer<R: Files<File = File>>(rt: &R, path: &str, most: u32) -> Opt
     reason_of_size(&fs::metadata(rt, path).ok()?, most)
 }
 
-/// What is wrong with the size of a disk that has at most so many sectors.
+/// What is wrong with the size of a disk that has at most `most` sectors.
 fn reason_of_size(metadata: &Metadata, most: u32) -> Option<Reason> {
     let bytes = metadata.len();
     let sectors = bytes / 512;
@@ -355,12 +324,12 @@ fn reason_of_size(metadata: &Metadata, most: u32) -> Option<Reason> {
     Some(Reason::NoDisk { bytes, most })
 }
 
-/// Whether a disk of so many sectors is a large one.
+/// Whether a disk of this many sectors is a large one.
 fn is_large(sectors: u64) -> bool {
     u64::from(MOST_SECTORS) < sectors && sectors <= u64::from(MOST_SECTORS_OF_LARGE)
 }
 
-/// What is wrong with a disk's file apart from its size, where it is opened to write it.
+/// What is wrong with a disk's file, apart from its size, if it is opened for writing.
 fn reason_of_lock<R: Files<File = File>>(rt: &R, path: &str) -> Option<Reason> {
     let reason = reason_of_file(rt, path);
     if reason.is_some() {
@@ -380,7 +349,7 @@ fn reason_of_lock<R: Files<File = File>>(rt: &R, path: &str) -> Option<Reason> {
     None
 }
 
-/// What is wrong with a disk's file that was opened to write it, or was not. Its lock is let go.
+/// What is wrong with a disk's file, by the result of opening it for writing. Its lock is released.
 fn reason_of_open(opened: Result<File, IoError>) -> Option<Reason> {
     match opened {
         Err(error) => reason_of_refusal(error),
@@ -392,7 +361,7 @@ fn reason_of_open(opened: Result<File, IoError>) -> Option<Reason> {
     }
 }
 
-/// What is wrong with a file that is there, and is not opened to write it.
+/// What is wrong with an existing file that cannot be opened for writing.
 fn reason_of_refusal(error: IoError) -> Option<Reason> {
     match error.kind() {
         ErrorKind::PermissionDenied | ErrorKind::ReadOnlyFilesystem => Some(Reason::NotWritten),
@@ -400,7 +369,7 @@ fn reason_of_refusal(error: IoError) -> Option<Reason> {
     }
 }
 
-/// The cause for which a disk of so many sectors is not made, nor one taken that is there.
+/// The cause for which a disk of `sectors` sectors cannot be made, or an existing one taken.
 fn cause_of_new<'a, R: Files<File = File>>(
     rt: &R,
     path: &'a str,
@@ -422,7 +391,7 @@ fn cause_of_new<'a, R: Files<File = File>>(
     }
 }
 
-/// The cause for which a trace's file is not made or emptied.
+/// The cause for which the file of a trace cannot be made or emptied.
 fn cause_of_trace<'a, R: Files<File = File>>(rt: &R, path: &'a str) -> Option<Cause<'a>> {
     match fs::metadata(rt, path) {
         Err(error) => cause_of_folder(rt, path, error),
@@ -437,7 +406,8 @@ fn cause_of_trace<'a, R: Files<File = File>>(rt: &R, path: &'a str) -> Option<Ca
     }
 }
 
-/// The cause for which a file is not made that is not shown for this error: it is with its folder.
+/// The cause for which a file cannot be made whose metadata call returned this error. It lies with
+/// the file's folder.
 fn cause_of_folder<'a, R: Files<File = File>>(
     rt: &R,
     path: &'a str,
@@ -459,7 +429,7 @@ fn folder_of<'a>(path: &'a str) -> &'a str {
     }
 }
 
-/// What is wrong where a folder is to be.
+/// What is wrong with a path that must be a folder.
 fn reason_of_folder<R: Files<File = File>>(rt: &R, folder: &str) -> Option<Reason> {
     match fs::metadata(rt, folder) {
         Err(error) => reason_of_error(error, Reason::NoFolder),
@@ -468,7 +438,7 @@ fn reason_of_folder<R: Files<File = File>>(rt: &R, folder: &str) -> Option<Reaso
     }
 }
 
-/// What is wrong with the folder of the sockets of so many nodes, as the run has left it.
+/// What is wrong with the folder of the sockets of `nodes` nodes, as the run left it.
 fn reason_of_sockets<R>(rt: &R, folder: &str, nodes: u32) -> Option<Reason>
 where
     R: Files<File = File> + AllocGlobal,
@@ -489,10 +459,10 @@ where
     None
 }
 
-/// How many bytes the path of a socket has at most, by the system.
+/// The maximum length of a socket's path in bytes, set by the system.
 const LONGEST: usize = 107;
 
-/// What is wrong with a socket to which no connection is made.
+/// What is wrong with a socket to which no connection was made.
 fn reason_of_socket<R: Files<File = File>>(rt: &R, path: &str) -> Option<Reason> {
     match fs::metadata(rt, path) {
         Err(error) => reason_of_error(error, Reason::NoSocket),

@@ -1,5 +1,5 @@
-//! What a terminal shows of a run and of a fault, and the trace of a run: all of it without a
-//! session, so that it is proved beside the crates that `program` waits for.
+//! What a terminal shows of a run and of a fault, and the trace of a run. Nothing here needs a
+//! session, so this crate is proved in parallel with the crates that `program` waits for.
 #![tactic(auto)]
 
 mod cause;

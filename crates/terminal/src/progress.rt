@@ -1,66 +1,66 @@
-// How far a run has come, as a terminal shows it.
+// The progress of a run, as a terminal shows it.
 
 use crate::cause::Cause;
 use pictures::Row;
 use std::io::Write;
 use std::time::{Clock, Duration};
 
-/// Is told of a run: first at which tick it ends, then how far it has come, and what went wrong.
+/// Receives the course of a run: the tick at which it ends, its progress, and what went wrong.
 pub trait Progress {
-    /// A run begins that ends at this tick.
+    /// A run begins. It ends at this tick.
     fn begin(&mut self, end: u64);
 
-    /// A run waits until the programs of these nodes have connected; of none, where all have.
+    /// A run waits for the programs of these nodes to connect; the list is empty once all have.
     fn waiting(&mut self, nodes: &[usize]);
 
-    /// All before this virtual time, in ticks, is committed: so many events in all. It is told
-    /// after each commit, before the checkpoint that may follow it.
+    /// All events before this virtual time, in ticks, are committed; the log has `events` of them.
+    /// Called after each commit, before the checkpoint that may follow it.
     fn committed(&mut self, time: u64, events: usize);
 
-    /// So many sectors of the disk hold the log, of so many that it has: one more is its closed
-    /// gate, and the rest is free. It is told at the beginning of a run, and after each commit and
-    /// the checkpoint that may follow it.
+    /// The log takes `used` of the disk's `sectors` sectors. One more is its closed gate, and the
+    /// rest is free. Called at the beginning of a run, and after each commit and the checkpoint
+    /// that may follow it.
     fn stored(&mut self, used: u32, sectors: u32);
 
-    /// A node had its turn, which this row tells but for what was committed before it: 0 stands
-    /// there. It is told of each, as its reply is taken.
+    /// A node had its turn, which this row describes; its fields for earlier commits are 0. Called
+    /// for each turn, when its reply is taken.
     fn turned(&mut self, turn: &Row);
 
-    /// Something else is about to be printed: what is shown of the run is taken away.
+    /// Something else is about to be printed: removes what is shown of the run.
     fn clear(&mut self);
 
-    /// A run has come to its end, and what it prints is printed.
+    /// A run has reached its end, and its output is printed.
     fn finished(&mut self);
 
-    /// Whether somebody sees what is shown.
+    /// Whether a user sees what is shown.
     fn is_seen(&self) -> bool;
 
-    /// A command has failed, and its fault is told. There may be advice for it, and of `File` the
-    /// cause may be known.
+    /// A command has failed, and its fault is printed. There may be advice for it, and for `File`
+    /// the cause may be known.
     fn failed(&mut self, advice: Option<&'static str>, cause: Option<Cause<'_>>);
 }
 
-/// Shows on one line of a terminal which nodes a run waits for, and how far it has come, at most
-/// twice a second; then how the run went, and after a fault what to do about it. It shows nothing
-/// where there is no terminal.
+/// Shows on one line of a terminal which nodes a run waits for, and its progress, at most twice a
+/// second; then a summary of the run, and after a fault what to do about it. Shows nothing if there
+/// is no terminal.
 #[derive(Drop)]
 pub struct TerminalProgress<'c, C, T> {
     clock: &'c C,
     terminal: Option<T>,
     end: u64,
-    // The first commit of the run, and the one that was last shown.
+    // The first commit of the run, and the commit since which the next rates are measured.
     first: Option<Mark>,
     last: Option<Mark>,
-    // How many sectors of the disk are in use, of how many; 0 of 0 where that is not known.
+    // The sectors of the disk in use, and all of them; both are 0 if unknown.
     used: u64,
     sectors: u64,
-    // What all turns and commits of the run come to.
+    // The totals over all turns and commits of the run.
     totals: Totals,
     is_written: bool,
 }
 
-/// A commit: when it was made, up to which tick, with how many events in the log, and how many
-/// antimessages were delivered until then.
+/// A commit: when it was made, its virtual time in ticks, the events in the log, and the
+/// antimessages delivered until then.
 #[derive(Clone, Copy)]
 struct Mark {
     at: Duration,
@@ -69,41 +69,41 @@ struct Mark {
     antimessages: u64,
 }
 
-/// What the turns and commits of a run come to.
+/// Totals over the turns and commits of a run.
 #[derive(Clone, Copy)]
 struct Totals {
-    /// How many messages were handled, those too that were undone again.
+    /// Messages handled, including those rolled back.
     handled: u64,
-    /// How many handlings were told, which no rollback reaches any more.
-    told: u64,
-    /// How many antimessages were delivered.
+    /// Records reported, which no rollback can reach any more.
+    reported: u64,
+    /// Antimessages delivered.
     antimessages: u64,
-    /// How many commits were made.
+    /// Commits made.
     commits: u64,
-    /// How many events the log has.
+    /// Events in the log.
     events: usize,
 }
 
 const NOTHING: Totals = Totals {
     handled: 0,
-    told: 0,
+    reported: 0,
     antimessages: 0,
     commits: 0,
     events: 0,
 };
 
 impl Totals {
-    /// How many of a hundred handlings were not undone, where there are any.
+    /// Reported records as a percentage of handled messages; `None` if none were handled.
     fn efficiency(self) -> Option<u128> {
         if self.handled == 0 {
             return None;
         }
-        Some(u128::from(self.told) * 100 / u128::from(self.handled))
+        Some(u128::from(self.reported) * 100 / u128::from(self.handled))
     }
 }
 
 impl<'c, C: Clock, T: Write> TerminalProgress<'c, C, T> {
-    /// What is shown on this terminal, if there is one.
+    /// Shows progress on this terminal, if there is one.
     pub fn on(clock: &'c C, terminal: Option<T>) -> TerminalProgress<'c, C, T> {
         TerminalProgress {
             clock,
@@ -118,8 +118,8 @@ impl<'c, C: Clock, T: Write> TerminalProgress<'c, C, T> {
         }
     }
 
-    /// Writes how far the run has come at a commit, after an earlier commit that was shown, or the
-    /// first. It is one line of at most 79 columns: what has no room is left out.
+    /// Writes the progress at the commit `now`, with rates since `last` and the time left by the
+    /// pace since `first`. It is one line of at most 79 columns; what does not fit is left out.
     fn show(&mut self, first: Mark, last: Mark, now: Mark) {
         let Some(terminal) = &mut self.terminal else {
             return;
@@ -166,15 +166,15 @@ impl<'c, C: Clock, T: Write> TerminalProgress<'c, C, T> {
     }
 }
 
-/// How many columns a line of progress has at most, so that it does not wrap on most terminals.
+/// The maximum number of columns in a line of progress, so that it does not wrap on most terminals.
 const COLUMNS: usize = 79;
 
-/// How many there are a second, where so many came in so many milliseconds.
+/// The rate per second of `count` items in this many milliseconds.
 fn per_second(count: u128, milliseconds: u128) -> u128 {
     count.saturating_mul(1000) / milliseconds.max(1)
 }
 
-/// How many decimal digits a number has.
+/// The number of decimal digits of a number.
 fn digits(number: u128) -> usize {
     let mut count = 1usize;
     let mut rest = number;
@@ -188,7 +188,7 @@ fn digits(number: u128) -> usize {
     count
 }
 
-/// How many seconds are left to this end at the pace since the first commit, where there is one.
+/// The seconds left until `end` by the pace since the first commit; `None` without progress since.
 fn seconds_left(first: Mark, now: Mark, end: u64) -> Option<u128> {
     let done = now.time.saturating_sub(first.time);
     if done == 0 {
@@ -199,8 +199,7 @@ fn seconds_left(first: Mark, now: Mark, end: u64) -> Option<u128> {
     Some(past.saturating_mul(u128::from(left)) / u128::from(done) / 1000)
 }
 
-/// How many of the nodes that are waited for are named, so that the line is not longer than most
-/// terminals are wide.
+/// The maximum number of awaited nodes that are named, so that the line fits most terminals.
 const NAMED: usize = 4;
 
 impl<C: Clock, T: Write> Progress for TerminalProgress<'_, C, T> {
@@ -249,7 +248,7 @@ impl<C: Clock, T: Write> Progress for TerminalProgress<'_, C, T> {
         let last = self.last.unwrap_or(now);
         self.first = Some(first);
         if time >= self.end {
-            // the run is over, and what it prints comes next
+            // the run is over, and its output comes next
             self.clear();
             self.last = Some(now);
             return;
@@ -271,7 +270,7 @@ impl<C: Clock, T: Write> Progress for TerminalProgress<'_, C, T> {
     fn turned(&mut self, turn: &Row) {
         let totals = &mut self.totals;
         totals.handled = totals.handled.saturating_add(turn.handled);
-        totals.told = totals.told.saturating_add(turn.told);
+        totals.reported = totals.reported.saturating_add(turn.reported);
         totals.antimessages = totals.antimessages.saturating_add(turn.antimessages);
     }
 
@@ -292,7 +291,7 @@ impl<C: Clock, T: Write> Progress for TerminalProgress<'_, C, T> {
         };
         let Totals {
             handled,
-            told: _,
+            reported: _,
             antimessages,
             commits,
             events,

@@ -1,4 +1,4 @@
-// The trace of a run: a row for each turn of a node, in a file.
+// The trace of a run: a file with a row for each turn of a node.
 
 ghost use Rattle.std.specs.Prelude.{◌≡◌};
 ghost use Rattle.terminal.specs.Trace.{row_behind};
@@ -8,20 +8,21 @@ use crate::progress::Progress;
 use pictures::{Row, write_names, write_turn};
 use std::io::Write;
 
-/// Tells another of a run, and writes a row for each turn of a node besides.
+/// Passes all calls on to another `Progress`, and writes a row for each turn of a node.
 #[derive(Drop)]
 pub struct Traced<'p, P, W> {
     progress: &'p mut P,
     rows: W,
-    // Whether a row was not written: none is tried after it.
+    // Whether a row could not be written. No other is tried after it.
     is_lost: bool,
-    // The last commit's time in ticks, and how many events the log had.
+    // The last commit's time in ticks, and the number of events in the log.
     time: u64,
     events: usize,
 }
 
 impl<'p, P: Progress, W: Write> Traced<'p, P, W> {
-    /// Tells this one, and writes the names of the fields and then the rows to `rows`.
+    /// Passes all calls on to `progress`, and writes the names of the fields and then the rows to
+    /// `rows`.
     pub fn to(progress: &'p mut P, rows: W) -> Traced<'p, P, W> {
         let mut rows = rows;
         let is_lost = write_names(&mut rows).is_err();
@@ -34,13 +35,14 @@ impl<'p, P: Progress, W: Write> Traced<'p, P, W> {
         }
     }
 
-    /// Whether all rows are written.
+    /// Flushes the rows. Returns whether all of them are written.
     pub fn is_whole(&mut self) -> bool {
         !self.is_lost && self.rows.flush().is_ok()
     }
 }
 
-/// The row of a turn, before which so many events were committed up to this time, in ticks.
+/// The row of a turn, with the time of the last commit before it, in ticks, and the number of
+/// events committed by then.
 fn row_behind(turn: &Row, time: u64, events: usize) -> Row
     ensures { result ≡ row_behind turn.now time events }
 {

@@ -1,11 +1,12 @@
-// The wave of three inverters in a ring, worked out by hand.
+// The wave of three inverters in a ring, calculated by hand.
 
 use circuit::{Circuit, wave};
 use runs::sequential;
 use std::test::Fail;
 use texts::{Mistake, ModelFault, find_mistakes, read_model};
 
-/// The delays are 2, 3 and 4 ticks. One name is no simple identifier, and one gate has none.
+/// The delays are 2, 3 and 4 ticks. One name is not a simple identifier, and one logic gate has no
+/// name.
 const RING: &str = r#"
 end = 12
 gates = [
@@ -16,8 +17,8 @@ gates = [
 wires = [{ to = 1, pin = 0 }, { to = 2, pin = 0 }, { to = 0, pin = 0 }]
 "#;
 
-/// Each inverter begins with a 1, which reaches the next one after its delay. At tick 9 all three
-/// are reached, in the order of the senders.
+/// Each inverter starts with a 1, which reaches the next one after its delay. At tick 9 values
+/// reach all three, in the order of their senders.
 const WAVE: &str = r"$timescale 1 ns $end
 $scope module circuit $end
 $scope module first $end
@@ -87,7 +88,9 @@ $end
 ";
 
 #[test]
-fn the_wave_of_a_ring_of_inverters(rt: HostRuntime) -> Result<(), Fail> {
+fn the_wave_of_inverters_in_a_ring_matches_a_manual_calculation(
+    rt: HostRuntime,
+) -> Result<(), Fail> {
     let Ok((circuit, end)) = read_model::<Circuit>(rt.alloc(), RING) else {
         return Err("a circuit".into());
     };
@@ -98,7 +101,7 @@ fn the_wave_of_a_ring_of_inverters(rt: HostRuntime) -> Result<(), Fail> {
 }
 
 #[test]
-fn names_have_no_blanks(rt: HostRuntime) {
+fn names_with_spaces_are_refused(rt: HostRuntime) {
     let texts = [
         "end = 1\nwires = []\ngates = [{ name = 'a b', table = 0, delay = 1, first = 0, count = 0 }]\n",
         "end = 1\nwires = []\ngates = [{ name = '', table = 0, delay = 1, first = 0, count = 0 }]\n",
@@ -116,8 +119,8 @@ fn names_have_no_blanks(rt: HostRuntime) {
     }
 }
 
-/// Model files, and all that is wrong with each; of a first number out of its range the mistake
-/// that is told first says all.
+/// Model files, and the text of their mistakes. It leaves out a first mistake whose own text says
+/// everything, such as a number out of range.
 const WRONG: [(&str, &str); 4] = [
     (
         "\
@@ -127,13 +130,13 @@ wires = [{ to = 0, pin = 0 }, { to = 1 }]
 names = []
 ",
         "  \
-gates[1]: a table; wanted is a table with table, delay, first and count, and perhaps a name without blanks
-  gates[2]: 7; wanted is a table with table, delay, first and count, and perhaps a name without blanks
-  wires[1]: a table; wanted is a table with to and pin
+gates[1]: a table; expected a table with table, delay, first and count, and perhaps a name without blanks
+  gates[2]: 7; expected a table with table, delay, first and count, and perhaps a name without blanks
+  wires[1]: a table; expected a table with to and pin
   \"names\": the model has no such key
 ",
     ),
-    // Gates and wires that are read, and do not fit each other.
+    // Gates and wires that are valid but do not fit each other.
     (
         "\
 end = 10
@@ -141,30 +144,30 @@ gates = [{ table = 1, delay = 0, first = 0, count = 0 }, { table = 1, delay = 1,
 wires = [{ to = 2, pin = 0 }, { to = 1, pin = 0 }]
 ",
         "  \
-gates[0]: a table; wanted is a delay, and at most 8 of the listed wires
-  gates[1]: a table; wanted is a delay, and at most 8 of the listed wires
-  wires[0]: a table; wanted is a wire to one of the listed gates
+gates[0]: a table; expected a delay, and at most 8 of the listed wires
+  gates[1]: a table; expected a delay, and at most 8 of the listed wires
+  wires[0]: a table; expected a wire to one of the listed gates
 ",
     ),
     (
         "end = 10\ngates = []\nwires = []\n",
-        "  gates: a list; wanted is 1 to 1024 gates\n",
+        "  gates: a list; expected 1 to 1024 gates\n",
     ),
     (
         "end = 10\nwires = 'none'\n",
         "  \
-gates: missing; wanted is a list of tables with table, delay, first and count
-  wires: a string; wanted is a list of tables with to and pin
+gates: missing; expected a list of tables with table, delay, first and count
+  wires: a string; expected a list of tables with to and pin
 ",
     ),
 ];
 
 #[test]
-fn each_mistake_has_its_place(rt: HostRuntime) -> Result<(), Fail> {
-    for (text, want) in WRONG {
+fn each_mistake_names_its_place(rt: HostRuntime) -> Result<(), Fail> {
+    for (text, expected) in WRONG {
         let found = find_mistakes::<Circuit>(rt.alloc(), text.as_bytes())?;
-        let told = format!(in rt.alloc(); "{found}")?;
-        assert_eq!(rt; told.as_str(), want);
+        let reported = format!(in rt.alloc(); "{found}")?;
+        assert_eq!(rt; reported.as_str(), expected);
     }
     Ok(())
 }

@@ -1,5 +1,5 @@
-//! Tests of the command line: which command a line names, and which mistakes a line has. They stand
-//! in a crate of their own, so that they do not wait for the program.
+//! Tests of the command line: the commands that words give, and the mistakes in them. They have a
+//! crate of their own, so that they do not wait for the program.
 #![tactic(auto)]
 
 #[cfg(test)]

@@ -1,7 +1,10 @@
-// Command lines.
+// Command lines and what they are read as.
 
 use clap::error::ErrorKind;
-use cli::{BatchOption, Line, Texts, read_line};
+use cli::{
+    BatchOption, Command, DiskArgs, DrawArgs, GrowArgs, LogArgs, MigrateArgs, ModelArgs, NewArgs,
+    NodeArgs, RunArgs, SourceArgs, StatsArgs, Texts, read_command,
+};
 use std::alloc::Global;
 
 const TEXTS: Texts<'static> = Texts {
@@ -11,37 +14,93 @@ const TEXTS: Texts<'static> = Texts {
     seq_help: "",
 };
 
-fn is_read_as(alloc: Global, words: &[&str], want: Line<'_>) -> bool {
-    read_line(alloc, TEXTS, words).is_ok_and(|line| line == want)
+fn is_read_as(alloc: Global, words: &[&str], expected: Command<'_>) -> bool {
+    read_command(alloc, TEXTS, words).is_ok_and(|command| command == expected)
 }
 
-fn is_refused_as(alloc: Global, words: &[&str], want: ErrorKind) -> bool {
-    read_line(alloc, TEXTS, words).is_err_and(|error| error.kind() == want)
+fn is_refused_as(alloc: Global, words: &[&str], expected: ErrorKind) -> bool {
+    read_command(alloc, TEXTS, words).is_err_and(|error| error.kind() == expected)
 }
 
-/// The words of a line, and what it asks for.
-const READ: [(&[&str], Line<'static>); 37] = [
+/// The model file and the disk of most rows.
+const ON: DiskArgs<'static> = DiskArgs {
+    model: "a",
+    disk: "b",
+    large: false,
+};
+
+/// The same where the disk may be a large one.
+const LARGE: DiskArgs<'static> = DiskArgs {
+    model: "a",
+    disk: "b",
+    large: true,
+};
+
+/// The model file of most rows, without a disk and with one, which may be a large one.
+const OF: SourceArgs<'static> = SourceArgs {
+    model: "a",
+    disk: None,
+    large: false,
+};
+
+const OF_DISK: SourceArgs<'static> = SourceArgs {
+    model: "a",
+    disk: Some("b"),
+    large: false,
+};
+
+const OF_LARGE: SourceArgs<'static> = SourceArgs {
+    model: "a",
+    disk: Some("b"),
+    large: true,
+};
+
+/// `run` without options.
+const RUN: RunArgs<'static> = RunArgs {
+    on: ON,
+    nodes: 1,
+    batch: BatchOption::Fixed(16),
+    rounds: 1_000_000,
+    checkpoint: None,
+    commit_every: None,
+    sockets: None,
+    cut: None,
+    together: false,
+    attach: false,
+    trace: None,
+};
+
+/// `log` without options.
+const LOG: LogArgs<'static> = LogArgs {
+    on: ON,
+    from: None,
+    to: None,
+    process: None,
+};
+
+/// `draw` without a disk and options.
+const DRAW: DrawArgs<'static> = DrawArgs {
+    of: OF,
+    from: None,
+    to: None,
+    processes: None,
+    load: false,
+    trace: None,
+};
+
+/// Words, and the command that they give.
+const READ: [(&[&str], Command<'static>); 37] = [
     (
         &["timewarp", "seq", "examples/ring.toml"],
-        Line::Seq {
+        Command::Seq(ModelArgs {
             model: "examples/ring.toml",
-        },
+        }),
     ),
     (
         &["timewarp", "seq", "--", "--help"],
-        Line::Seq { model: "--help" },
+        Command::Seq(ModelArgs { model: "--help" }),
     ),
-    (
-        &["timewarp", "log", "a", "b"],
-        Line::Log {
-            model: "a",
-            disk: "b",
-            from: None,
-            to: None,
-            process: None,
-            large: false,
-        },
-    ),
+    (&["timewarp", "log", "a", "b"], Command::Log(LOG)),
     (
         &[
             "timewarp",
@@ -54,54 +113,26 @@ const READ: [(&[&str], Line<'static>); 37] = [
             "--from",
             "0",
         ],
-        Line::Log {
-            model: "a",
-            disk: "b",
+        Command::Log(LogArgs {
             from: Some(0),
             to: Some(1_099_511_627_776),
             process: Some(4_294_967_295),
-            large: false,
-        },
+            ..LOG
+        }),
     ),
-    (
-        &["timewarp", "status", "a", "b"],
-        Line::Status {
-            model: "a",
-            disk: "b",
-            large: false,
-        },
-    ),
+    (&["timewarp", "status", "a", "b"], Command::Status(ON)),
     (
         &["timewarp", "stats", "a"],
-        Line::Stats {
-            model: "a",
-            disk: None,
-            csv: false,
-            large: false,
-        },
+        Command::Stats(StatsArgs { of: OF, csv: false }),
     ),
     (
         &["timewarp", "stats", "a", "b", "--format=csv"],
-        Line::Stats {
-            model: "a",
-            disk: Some("b"),
+        Command::Stats(StatsArgs {
+            of: OF_DISK,
             csv: true,
-            large: false,
-        },
+        }),
     ),
-    (
-        &["timewarp", "draw", "a"],
-        Line::Draw {
-            model: "a",
-            disk: None,
-            from: None,
-            to: None,
-            processes: None,
-            load: false,
-            trace: None,
-            large: false,
-        },
-    ),
+    (&["timewarp", "draw", "a"], Command::Draw(DRAW)),
     (
         &[
             "timewarp",
@@ -116,63 +147,36 @@ const READ: [(&[&str], Line<'static>); 37] = [
             "--to",
             "9",
         ],
-        Line::Draw {
-            model: "a",
-            disk: Some("b"),
+        Command::Draw(DrawArgs {
+            of: OF_DISK,
             from: Some(5),
             to: Some(9),
             processes: Some((3, 3)),
             load: true,
             trace: Some("t"),
-            large: false,
-        },
+        }),
     ),
+    (&["timewarp", "show", "a", "b"], Command::Show(ON)),
     (
-        &["timewarp", "show", "a", "b"],
-        Line::Show {
-            model: "a",
-            disk: "b",
-            large: false,
-        },
+        &["timewarp", "check", "a"],
+        Command::Check(ModelArgs { model: "a" }),
     ),
-    (&["timewarp", "check", "a"], Line::Check { model: "a" }),
-    // A disk has 4096 sectors where no number is given.
+    // The default is 4096 sectors.
     (
         &["timewarp", "new", "a", "b"],
-        Line::New {
-            model: "a",
-            disk: "b",
+        Command::New(NewArgs {
+            on: ON,
             sectors: 4096,
-            large: false,
-        },
+        }),
     ),
     (
         &["timewarp", "new", "a", "b", "--sectors", "131072"],
-        Line::New {
-            model: "a",
-            disk: "b",
+        Command::New(NewArgs {
+            on: ON,
             sectors: 131_072,
-            large: false,
-        },
+        }),
     ),
-    (
-        &["timewarp", "run", "a", "b"],
-        Line::Run {
-            model: "a",
-            disk: "b",
-            nodes: 1,
-            batch: BatchOption::Fixed(16),
-            rounds: 1_000_000,
-            checkpoint: None,
-            commit_every: None,
-            sockets: None,
-            cut: None,
-            together: false,
-            attach: false,
-            trace: None,
-            large: false,
-        },
-    ),
+    (&["timewarp", "run", "a", "b"], Command::Run(RUN)),
     (
         &[
             "timewarp",
@@ -185,21 +189,12 @@ const READ: [(&[&str], Line<'static>); 37] = [
             "--batch",
             "9",
         ],
-        Line::Run {
-            model: "a",
-            disk: "b",
+        Command::Run(RunArgs {
             nodes: 64,
             batch: BatchOption::Fixed(9),
             rounds: 7,
-            checkpoint: None,
-            commit_every: None,
-            sockets: None,
-            cut: None,
-            together: false,
-            attach: false,
-            trace: None,
-            large: false,
-        },
+            ..RUN
+        }),
     ),
     (
         &[
@@ -214,39 +209,21 @@ const READ: [(&[&str], Line<'static>); 37] = [
             "--checkpoint",
             "3",
         ],
-        Line::Run {
-            model: "a",
-            disk: "b",
-            nodes: 1,
-            batch: BatchOption::Fixed(16),
-            rounds: 1_000_000,
+        Command::Run(RunArgs {
             checkpoint: Some(3),
-            commit_every: None,
             sockets: Some("c"),
             cut: Some(0),
             together: true,
-            attach: false,
-            trace: None,
-            large: false,
-        },
+            ..RUN
+        }),
     ),
     (
         &["timewarp", "run", "--attach", "a", "b", "--sockets=c"],
-        Line::Run {
-            model: "a",
-            disk: "b",
-            nodes: 1,
-            batch: BatchOption::Fixed(16),
-            rounds: 1_000_000,
-            checkpoint: None,
-            commit_every: None,
+        Command::Run(RunArgs {
             sockets: Some("c"),
-            cut: None,
-            together: false,
             attach: true,
-            trace: None,
-            large: false,
-        },
+            ..RUN
+        }),
     ),
     (
         &[
@@ -260,88 +237,54 @@ const READ: [(&[&str], Line<'static>); 37] = [
             "--trace",
             "c",
         ],
-        Line::Run {
-            model: "a",
-            disk: "b",
-            nodes: 1,
+        Command::Run(RunArgs {
             batch: BatchOption::Auto,
-            rounds: 1_000_000,
-            checkpoint: None,
             commit_every: Some(400_000),
-            sockets: None,
-            cut: None,
-            together: false,
-            attach: false,
             trace: Some("c"),
-            large: false,
-        },
+            ..RUN
+        }),
     ),
     (
         &["timewarp", "run", "--batch=auto", "a", "b"],
-        Line::Run {
-            model: "a",
-            disk: "b",
-            nodes: 1,
+        Command::Run(RunArgs {
             batch: BatchOption::Auto,
-            rounds: 1_000_000,
-            checkpoint: None,
-            commit_every: None,
-            sockets: None,
-            cut: None,
-            together: false,
-            attach: false,
-            trace: None,
-            large: false,
-        },
+            ..RUN
+        }),
     ),
-    // Behind `--` no word is an option.
+    // After `--` no word is an option.
     (
         &["timewarp", "run", "--", "--batch", "auto"],
-        Line::Run {
-            model: "--batch",
-            disk: "auto",
-            nodes: 1,
-            batch: BatchOption::Fixed(16),
-            rounds: 1_000_000,
-            checkpoint: None,
-            commit_every: None,
-            sockets: None,
-            cut: None,
-            together: false,
-            attach: false,
-            trace: None,
-            large: false,
-        },
+        Command::Run(RunArgs {
+            on: DiskArgs {
+                model: "--batch",
+                disk: "auto",
+                large: false,
+            },
+            ..RUN
+        }),
     ),
-    (
-        &["timewarp", "extend", "a", "b"],
-        Line::Extend {
-            model: "a",
-            disk: "b",
-            large: false,
-        },
-    ),
+    (&["timewarp", "extend", "a", "b"], Command::Extend(ON)),
     (
         &["timewarp", "migrate", "a", "b", "c"],
-        Line::Migrate {
+        Command::Migrate(MigrateArgs {
             model: "a",
             old: "b",
             new: "c",
             sectors: 4096,
             large: false,
-        },
+        }),
     ),
     (
         &["timewarp", "migrate", "--sectors=8", "a", "b", "c"],
-        Line::Migrate {
+        Command::Migrate(MigrateArgs {
             model: "a",
             old: "b",
             new: "c",
             sectors: 8,
             large: false,
-        },
+        }),
     ),
-    // With `--large` more sectors may be asked for, and the most are what `grow` makes.
+    // `--large` allows more sectors, and `grow` then defaults to the most.
     (
         &[
             "timewarp",
@@ -352,48 +295,32 @@ const READ: [(&[&str], Line<'static>); 37] = [
             "--sectors",
             "16777216",
         ],
-        Line::New {
-            model: "a",
-            disk: "b",
+        Command::New(NewArgs {
+            on: LARGE,
             sectors: 16_777_216,
-            large: true,
-        },
+        }),
     ),
     (
         &["timewarp", "new", "a", "b", "--large"],
-        Line::New {
-            model: "a",
-            disk: "b",
+        Command::New(NewArgs {
+            on: LARGE,
             sectors: 4096,
-            large: true,
-        },
+        }),
     ),
     (
         &["timewarp", "run", "a", "b", "--trace", "c", "--large"],
-        Line::Run {
-            model: "a",
-            disk: "b",
-            nodes: 1,
-            batch: BatchOption::Fixed(16),
-            rounds: 1_000_000,
-            checkpoint: None,
-            commit_every: None,
-            sockets: None,
-            cut: None,
-            together: false,
-            attach: false,
+        Command::Run(RunArgs {
+            on: LARGE,
             trace: Some("c"),
-            large: true,
-        },
+            ..RUN
+        }),
     ),
     (
         &["timewarp", "grow", "a", "b", "--large"],
-        Line::Grow {
-            model: "a",
-            disk: "b",
+        Command::Grow(GrowArgs {
+            on: LARGE,
             sectors: 16_777_216,
-            large: true,
-        },
+        }),
     ),
     (
         &[
@@ -405,106 +332,79 @@ const READ: [(&[&str], Line<'static>); 37] = [
             "--sectors=131073",
             "--large",
         ],
-        Line::Migrate {
+        Command::Migrate(MigrateArgs {
             model: "a",
             old: "b",
             new: "c",
             sectors: 131_073,
             large: true,
-        },
+        }),
     ),
     (
         &["timewarp", "extend", "a", "--large", "b"],
-        Line::Extend {
-            model: "a",
-            disk: "b",
-            large: true,
-        },
+        Command::Extend(LARGE),
     ),
     (
         &["timewarp", "status", "--large", "a", "b"],
-        Line::Status {
-            model: "a",
-            disk: "b",
-            large: true,
-        },
+        Command::Status(LARGE),
     ),
     (
         &["timewarp", "log", "a", "b", "--large"],
-        Line::Log {
-            model: "a",
-            disk: "b",
-            from: None,
-            to: None,
-            process: None,
-            large: true,
-        },
+        Command::Log(LogArgs { on: LARGE, ..LOG }),
     ),
     (
         &["timewarp", "show", "a", "b", "--large"],
-        Line::Show {
-            model: "a",
-            disk: "b",
-            large: true,
-        },
+        Command::Show(LARGE),
     ),
-    // Behind `--` it is no option.
+    // After `--` it is not an option.
     (
         &["timewarp", "show", "a", "--", "--large"],
-        Line::Show {
+        Command::Show(DiskArgs {
             model: "a",
             disk: "--large",
             large: false,
-        },
+        }),
     ),
     (
         &["timewarp", "stats", "a", "b", "--large"],
-        Line::Stats {
-            model: "a",
-            disk: Some("b"),
+        Command::Stats(StatsArgs {
+            of: OF_LARGE,
             csv: false,
-            large: true,
-        },
+        }),
     ),
     (
         &["timewarp", "draw", "a", "b", "--large"],
-        Line::Draw {
-            model: "a",
-            disk: Some("b"),
-            from: None,
-            to: None,
-            processes: None,
-            load: false,
-            trace: None,
-            large: true,
-        },
+        Command::Draw(DrawArgs {
+            of: OF_LARGE,
+            ..DRAW
+        }),
     ),
     (
         &["timewarp", "node", "a", "b"],
-        Line::Node {
+        Command::Node(NodeArgs {
             model: "a",
             socket: "b",
             parcels: 4_294_967_295,
-        },
+        }),
     ),
     (
         &["timewarp", "node", "--parcels", "1", "a", "b"],
-        Line::Node {
+        Command::Node(NodeArgs {
             model: "a",
             socket: "b",
             parcels: 1,
-        },
+        }),
     ),
 ];
 
 #[test]
-fn a_line_names_a_command_and_its_values(rt: HostRuntime) {
-    for (words, want) in READ {
-        assert!(rt; is_read_as(rt.alloc(), words, want), "{words:?}");
+fn words_give_a_command_and_its_values(rt: HostRuntime) {
+    for (words, expected) in READ {
+        assert!(rt; is_read_as(rt.alloc(), words, expected), "{words:?}");
     }
 }
 
-/// The words of a line that is refused, and the kind.
+/// Words that are refused, and the kind of the error.
 const REFUSED: [(&[&str], ErrorKind); 51] = [
     (&["timewarp", "seq"], ErrorKind::MissingRequiredArgument),
     (&["timewarp", "seq", "a", "b"], ErrorKind::UnknownArgument),
@@ -556,7 +456,7 @@ const REFUSED: [(&[&str], ErrorKind); 51] = [
         &["timewarp", "migrate", "a", "b", "c", "d"],
         ErrorKind::UnknownArgument,
     ),
-    // Numbers out of their ranges.
+    // Numbers out of range.
     (
         &["timewarp", "new", "a", "b", "--sectors", "131073"],
         ErrorKind::ValueValidation,
@@ -569,7 +469,8 @@ const REFUSED: [(&[&str], ErrorKind); 51] = [
         &["timewarp", "migrate", "a", "b", "c", "--sectors=131073"],
         ErrorKind::ValueValidation,
     ),
-    // So many only with `--large`, of which no word behind `--` is one, and no value of an option.
+    // Too many sectors, with `--large` or without it: it is not an option after `--` or in place of
+    // a value.
     (
         &[
             "timewarp",
@@ -662,7 +563,7 @@ const REFUSED: [(&[&str], ErrorKind); 51] = [
         &["timewarp", "run", "a", "b", "--commit-every=0"],
         ErrorKind::ValueValidation,
     ),
-    // The one word for a batch is `auto`, once.
+    // The only word for a batch is `auto`, once.
     (
         &["timewarp", "run", "a", "b", "--batch", "automatic"],
         ErrorKind::ValueValidation,
@@ -712,7 +613,7 @@ const REFUSED: [(&[&str], ErrorKind); 51] = [
         ErrorKind::InvalidValue,
     ),
     (&["timewarp", "--version"], ErrorKind::DisplayVersion),
-    // Help is no command.
+    // `help` is not a command.
     (&["timewarp", "help"], ErrorKind::InvalidSubcommand),
     (&["timewarp", "--help"], ErrorKind::DisplayHelp),
     (&["timewarp", "seq", "-h"], ErrorKind::DisplayHelp),
@@ -723,23 +624,23 @@ const REFUSED: [(&[&str], ErrorKind); 51] = [
 ];
 
 #[test]
-fn other_words_are_refused_by_their_kind(rt: HostRuntime) {
+fn wrong_words_are_refused_with_the_kind_of_mistake(rt: HostRuntime) {
     for (words, kind) in REFUSED {
         assert!(rt; is_refused_as(rt.alloc(), words, kind), "{words:?}");
     }
 }
 
-/// Whether the line runs `ring.toml`, or its error's kind.
+/// Whether the words run `ring.toml`, or the kind of their error.
 fn runs_ring(alloc: Global, words: &[&str]) -> Result<bool, ErrorKind> {
-    match read_line(alloc, TEXTS, words) {
-        Ok(line) => Ok(line == Line::Seq { model: "ring.toml" }),
+    match read_command(alloc, TEXTS, words) {
+        Ok(command) => Ok(command == Command::Seq(ModelArgs { model: "ring.toml" })),
         Err(error) => Err(error.kind()),
     }
 }
 
-// Want of memory is told by its name, and a second try then answers as if there had been none.
+// An allocation failure is reported as such, and a second call succeeds.
 #[test]
-fn a_line_is_read_at_a_second_try(rt: HostRuntime) {
+fn a_command_is_read_after_an_allocation_failure(rt: HostRuntime) {
     let words = ["timewarp", "seq", "ring.toml"].as_slice();
     let mut read = runs_ring(rt.alloc(), words);
     if read == Err(ErrorKind::OutOfMemory) {

@@ -1,11 +1,11 @@
-// What stands for a file: one that notes its calls, and one that takes a part of them.
+// Doubles of files: one that records its calls, and one that writes only a part of what it gets.
 use std::cell::Cell;
 use std::fs::{File, Metadata, OpenFile};
 use std::io;
 use std::io::ErrorKind;
 use std::os::unix::fs::FileExt;
 
-/// What was asked of a file.
+/// A call of a file.
 #[derive(Clone, Copy, Debug, PartialEq, Eq)]
 pub(crate) enum Call {
     Nothing,
@@ -15,7 +15,7 @@ pub(crate) enum Call {
     SyncData,
 }
 
-/// A file that notes its calls, and whose call of one number fails.
+/// A file that records its calls. The call number `fail` fails.
 #[derive(Drop)]
 pub(crate) struct Calls {
     count: Cell<usize>,
@@ -32,7 +32,7 @@ impl Calls {
         }
     }
 
-    /// How many calls there were, and the first ones of those that did not fail.
+    /// The number of calls, and those of the first six that did not fail.
     pub(crate) fn noted(&self) -> (usize, [Call; 6]) {
         (self.count.get(), self.calls.get())
     }
@@ -81,8 +81,8 @@ impl OpenFile for Calls {
     }
 }
 
-/// A file that takes at most so many bytes at a call, and whose program ends after so many writes
-/// and syncs.
+/// A file that writes at most `most` bytes per call. After `calls` writes and syncs each call
+/// fails, as if the program had ended.
 #[derive(Drop)]
 pub(crate) struct Partial {
     file: File,

@@ -1,4 +1,4 @@
-// Disks over files of the system: which files are disks, what they keep, and how they grow.
+// Disks over real files: which files are disks, what they keep, and how they grow.
 use crate::shared::{
     NO_SECTOR, are_filled, fill, found, free_path, is_seen, make_file, open_to_read, opened,
     refusal, remove, size_of, store, unfinished_path,
@@ -14,8 +14,7 @@ use std::path::PathBuf;
 use std::test::Fail;
 use std::{fs, io};
 
-/// Writes some sectors of a new disk and syncs it. It says whether the new disk was blank and ended
-/// at its size.
+/// Stores some sectors of a new disk. Returns whether the new disk was blank and has no sector 300.
 fn fill_new(rt: &HostRuntime, path: &PathBuf) -> Result<bool, Fail> {
     let mut disk = opened(rt, path, Some(300))?;
     let was_blank = are_filled(&mut disk, &[(0, 0), (299, 0)])?;
@@ -26,7 +25,7 @@ fn fill_new(rt: &HostRuntime, path: &PathBuf) -> Result<bool, Fail> {
 const KEPT: [(u32, u8); 7] = [(0, 1), (1, 2), (2, 3), (3, 0), (150, 4), (298, 0), (299, 5)];
 
 #[test]
-fn a_file_keeps_what_was_synced(rt: HostRuntime) -> Result<(), Fail> {
+fn a_file_keeps_synced_sectors(rt: HostRuntime) -> Result<(), Fail> {
     let path = free_path(&rt, "kept")?;
     let refused = refusal(&rt, &path, None);
     let filled = fill_new(&rt, &path)?;
@@ -39,7 +38,7 @@ fn a_file_keeps_what_was_synced(rt: HostRuntime) -> Result<(), Fail> {
     Ok(())
 }
 
-/// Why a file of so many bytes is not opened as a disk, of any size and of so many sectors.
+/// Why a file of this size is not opened as a disk, for any number of sectors and for this number.
 fn refused_of(
     rt: &HostRuntime,
     path: &PathBuf,
@@ -61,16 +60,17 @@ const SIZES: [(u64, u32, [Option<FileFault>; 2]); 5] = [
 ];
 
 #[test]
-fn a_file_of_another_size_is_no_disk(rt: HostRuntime) -> Result<(), Fail> {
+fn a_file_of_the_wrong_size_is_refused(rt: HostRuntime) -> Result<(), Fail> {
     let path = free_path(&rt, "size")?;
-    for (bytes, sectors, want) in SIZES {
-        assert_eq!(rt; refused_of(&rt, &path, bytes, sectors)?, want);
+    for (bytes, sectors, expected) in SIZES {
+        assert_eq!(rt; refused_of(&rt, &path, bytes, sectors)?, expected);
     }
     remove(&rt, &path)?;
     Ok(())
 }
 
-/// Stores the last sector of a disk. Answers its sectors, and what a write behind them answers.
+/// Stores the last sector of a disk. Returns the number of sectors, and the result of a write after
+/// the last one.
 fn store_last(
     rt: &HostRuntime,
     path: &PathBuf,
@@ -85,14 +85,15 @@ fn store_last(
     ))
 }
 
-/// Whether a disk has zeros and a last sector of ones.
+/// Whether the last sector is filled with ones, and the first one and the one before the last with
+/// zeros.
 fn has_last(rt: &HostRuntime, path: &PathBuf, last: u32, most: u32) -> Result<bool, Fail> {
     let mut disk = FileDisk::open_up_to(rt, rt.alloc(), path.as_str(), None, most)?;
     Ok(are_filled(&mut disk, &[(0, 0), (last.saturating_sub(1), 0), (last, 1)])?)
 }
 
 #[test]
-fn a_file_of_the_most_sectors_is_a_disk(rt: HostRuntime) -> Result<(), Fail> {
+fn a_file_of_the_largest_size_is_a_disk(rt: HostRuntime) -> Result<(), Fail> {
     let path = free_path(&rt, "most")?;
     make_file(&rt, &path, 131_072 * 512)?;
     assert_eq!(rt; fill_most(&rt, &path)?, (131_072, NO_SECTOR));
@@ -102,8 +103,8 @@ fn a_file_of_the_most_sectors_is_a_disk(rt: HostRuntime) -> Result<(), Fail> {
     Ok(())
 }
 
-/// Stores the last of the most sectors. Answers how many there are, and what a write behind them
-/// answers.
+/// Stores the last sector of a disk of the largest size. Returns the number of sectors, and the
+/// result of a write after the last one.
 fn fill_most(rt: &HostRuntime, path: &PathBuf) -> Result<(u32, Result<(), DiskFault>), Fail> {
     let mut disk = opened(rt, path, None)?;
     store(&mut disk, &[(131_071, 1)])?;
@@ -114,7 +115,7 @@ fn allow(rt: &HostRuntime, path: &PathBuf, mode: u32) -> io::Result<()> {
     fs::set_permissions(rt, path.as_path(), Permissions::from_mode(mode))
 }
 
-/// Why a file is not opened that may only be read.
+/// Why a read-only file is not opened.
 fn refused_readonly(rt: &HostRuntime, path: &PathBuf) -> io::Result<Option<FileFault>> {
     allow(rt, path, 0o444)?;
     let refused = refusal(rt, path, None);
@@ -123,7 +124,7 @@ fn refused_readonly(rt: &HostRuntime, path: &PathBuf) -> io::Result<Option<FileF
 }
 
 #[test]
-fn a_file_that_may_not_be_written_is_no_disk(rt: HostRuntime) -> Result<(), Fail> {
+fn a_read_only_file_is_not_opened_for_writing(rt: HostRuntime) -> Result<(), Fail> {
     let path = free_path(&rt, "readonly")?;
     make_file(&rt, &path, 8 * 512)?;
     assert_eq!(rt; refused_readonly(&rt, &path)?, Some(FileFault::File));
@@ -133,13 +134,13 @@ fn a_file_that_may_not_be_written_is_no_disk(rt: HostRuntime) -> Result<(), Fail
     Ok(())
 }
 
-/// Why a folder is no disk.
+/// Why a folder is not opened as a disk.
 fn refused_folder(rt: &HostRuntime) -> io::Result<Option<FileFault>> {
     Ok(refusal(rt, &std::env::temp_dir(rt)?, Some(8)))
 }
 
-/// Leaves an unfinished file of so many bytes, makes the disk, and answers whether it is blank and
-/// the unfinished file gone.
+/// Leaves an unfinished file of this size, and makes the disk. Returns whether the disk is blank,
+/// and whether the unfinished file still exists.
 fn made_after(rt: &HostRuntime, path: &PathBuf, left: u64) -> Result<(bool, bool), Fail> {
     let unfinished = unfinished_path(rt, path)?;
     leave(rt, &unfinished, left)?;
@@ -147,7 +148,7 @@ fn made_after(rt: &HostRuntime, path: &PathBuf, left: u64) -> Result<(bool, bool
     Ok((blank, fs::exists(rt, unfinished.as_path())?))
 }
 
-/// Makes a file of sevens and zeros of so many bytes.
+/// Makes a file of this size that starts with 100 sevens; the rest is zeros.
 fn leave(rt: &HostRuntime, path: &PathBuf, bytes: u64) -> io::Result<()> {
     let mut file = File::create(rt, path.as_path())?;
     file.write_all(&[7; 100])?;
@@ -155,7 +156,7 @@ fn leave(rt: &HostRuntime, path: &PathBuf, bytes: u64) -> io::Result<()> {
 }
 
 #[test]
-fn what_a_killed_program_left_of_a_new_disk_is_taken(rt: HostRuntime) -> Result<(), Fail> {
+fn an_unfinished_disk_of_a_killed_program_is_replaced(rt: HostRuntime) -> Result<(), Fail> {
     let path = free_path(&rt, "unfinished")?;
     for left in [0, 100, 9 * 512] {
         assert_eq!(rt; made_after(&rt, &path, left)?, (true, false));
@@ -164,8 +165,8 @@ fn what_a_killed_program_left_of_a_new_disk_is_taken(rt: HostRuntime) -> Result<
     Ok(())
 }
 
-/// What a second program meets while one has the disk: why it is refused, whether who only looks
-/// sees nothing of what is loose, and whether all of what is synced.
+/// What other programs get while one has the disk: why writers are refused, whether a reader sees
+/// none of the dirty sectors, and whether it sees all synced ones.
 fn met_beside(
     rt: &HostRuntime,
     path: &PathBuf,
@@ -178,8 +179,8 @@ fn met_beside(
     Ok((refused, [before, is_seen(rt, path, &[(3, 3)])?]))
 }
 
-/// What a sync of who only looks answers, before a write and after it, while a program has the
-/// disk.
+/// What a sync returns to a reader while a writer has the disk, before the reader's own write and
+/// after it.
 fn looked(rt: &HostRuntime, path: &PathBuf) -> Result<[Result<(), DiskFault>; 2], Fail> {
     let _writer = opened(rt, path, Some(8))?;
     let mut seen = open_to_read(rt, path)?;
@@ -199,7 +200,7 @@ fn a_disk_has_one_writer(rt: HostRuntime) -> Result<(), Fail> {
     Ok(())
 }
 
-/// The sectors of a disk of which the file may only be read.
+/// The number of sectors of a disk whose file is read-only.
 fn seen_readonly(rt: &HostRuntime, path: &PathBuf) -> Result<u32, Fail> {
     drop(opened(rt, path, Some(8))?);
     allow(rt, path, 0o444)?;
@@ -209,7 +210,7 @@ fn seen_readonly(rt: &HostRuntime, path: &PathBuf) -> Result<u32, Fail> {
 }
 
 #[test]
-fn a_file_that_may_only_be_read_is_looked_at(rt: HostRuntime) -> Result<(), Fail> {
+fn a_read_only_file_is_opened_for_reading(rt: HostRuntime) -> Result<(), Fail> {
     let path = free_path(&rt, "looked-at")?;
     assert_eq!(rt; seen_readonly(&rt, &path)?, 8);
     make_file(&rt, &path, 8 * 512 + 1)?;
@@ -218,8 +219,8 @@ fn a_file_that_may_only_be_read_is_looked_at(rt: HostRuntime) -> Result<(), Fail
     Ok(())
 }
 
-/// What opens a file of 131,073 sectors: to read it up to the most, to write it up to one less, and
-/// up to as many.
+/// Opens a file of 131,073 sectors: for reading with the largest limit, for writing with a limit of
+/// one less, and with a limit of exactly its size.
 fn opened_large(rt: &HostRuntime, path: &PathBuf) -> Result<(u32, Option<FileFault>, bool), Fail> {
     let path = path.as_str();
     let most = MOST_SECTORS_OF_LARGE;
@@ -234,7 +235,7 @@ fn opened_large(rt: &HostRuntime, path: &PathBuf) -> Result<(u32, Option<FileFau
 }
 
 #[test]
-fn a_large_file_is_a_disk_where_it_may_be(rt: HostRuntime) -> Result<(), Fail> {
+fn a_large_file_is_a_disk_only_if_allowed(rt: HostRuntime) -> Result<(), Fail> {
     let path = free_path(&rt, "large")?;
     make_file(&rt, &path, 131_073 * 512)?;
     let refused = (refusal(&rt, &path, None), open_to_read(&rt, &path).err());
@@ -258,7 +259,7 @@ fn a_sparse_file_keeps_its_last_sector(rt: HostRuntime) -> Result<(), Fail> {
     Ok(())
 }
 
-/// Writes two sectors after the last sync.
+/// Writes two sectors without a sync after them.
 fn write_and_end(rt: &HostRuntime, path: &PathBuf) -> Result<(), Fail> {
     let mut disk = opened(rt, path, Some(8))?;
     store(&mut disk, &[(1, 1)])?;
@@ -267,7 +268,7 @@ fn write_and_end(rt: &HostRuntime, path: &PathBuf) -> Result<(), Fail> {
 }
 
 #[test]
-fn a_program_that_ends_before_a_sync_leaves_the_file(rt: HostRuntime) -> Result<(), Fail> {
+fn a_program_that_ends_before_a_sync_does_not_change_the_file(rt: HostRuntime) -> Result<(), Fail> {
     let path = free_path(&rt, "unsynced")?;
     write_and_end(&rt, &path)?;
     let kept = found(&rt, &path, None, &[(0, 0), (1, 1), (2, 0), (3, 0)])?;
@@ -276,9 +277,8 @@ fn a_program_that_ends_before_a_sync_leaves_the_file(rt: HostRuntime) -> Result<
     Ok(())
 }
 
-// With ample memory each call here answers at once. `rt try --test --fail-alloc 1..` refuses each
-// allocation in turn: the call that meets it leaves all as it was, and the same call made again
-// answers as it would have.
+// With enough memory each first call succeeds. `rt try --test --fail-alloc 1..` refuses each
+// allocation in turn: the call that meets it changes nothing, and a second call succeeds.
 fn opened_too(
     rt: &HostRuntime,
     path: &PathBuf,
@@ -290,13 +290,13 @@ fn opened_too(
     }
 }
 
-/// Makes the file, and writes a sector.
+/// Makes the disk, and stores one sector.
 fn make(rt: &HostRuntime, path: &PathBuf) -> Result<(), Fail> {
     store(&mut opened_too(rt, path, Some(8))?, &[(6, 6)])?;
     Ok(())
 }
 
-/// The sectors of the disk, and whether only that sector is written.
+/// The number of sectors, and whether only that one is filled.
 fn made(rt: &HostRuntime, path: &PathBuf) -> Result<(u32, bool), Fail> {
     let mut disk = opened_too(rt, path, None)?;
     let filled = are_filled(&mut disk, &[(0, 0), (5, 0), (6, 6), (7, 0)])?;
@@ -304,7 +304,7 @@ fn made(rt: &HostRuntime, path: &PathBuf) -> Result<(u32, bool), Fail> {
 }
 
 #[test]
-fn a_file_is_opened_where_memory_was_refused_once(rt: HostRuntime) -> Result<(), Fail> {
+fn a_file_opens_after_an_allocation_failure(rt: HostRuntime) -> Result<(), Fail> {
     let path = free_path(&rt, "memory")?;
     make(&rt, &path)?;
     assert_eq!(rt; made(&rt, &path)?, (8, true));
@@ -312,7 +312,7 @@ fn a_file_is_opened_where_memory_was_refused_once(rt: HostRuntime) -> Result<(),
     Ok(())
 }
 
-/// Grows a disk by this call. Answers what it says, and the sectors and the bytes of the file then.
+/// Grows a disk. Returns the result, the number of sectors of the disk, and the bytes of the file.
 fn grown(
     rt: &HostRuntime,
     path: &PathBuf,
@@ -320,21 +320,21 @@ fn grown(
     sectors: u32,
     most: u32,
 ) -> io::Result<(Result<(), GrowthFault>, u32, u64)> {
-    let told = disk.grow(rt.alloc(), sectors, most);
-    Ok((told, disk.sectors(), size_of(rt, path)?))
+    let outcome = disk.grow(rt.alloc(), sectors, most);
+    Ok((outcome, disk.sectors(), size_of(rt, path)?))
 }
 
 type Growth = (u32, u32, (Result<(), GrowthFault>, u32, u64));
 
-/// Whether each of these calls answers so.
+/// Whether each of these calls has the result beside it.
 fn grow_so(
     rt: &HostRuntime,
     path: &PathBuf,
     disk: &mut FileDisk,
     rows: &[Growth],
 ) -> io::Result<bool> {
-    for (sectors, most, want) in rows {
-        if grown(rt, path, disk, *sectors, *most)? != *want {
+    for (sectors, most, expected) in rows {
+        if grown(rt, path, disk, *sectors, *most)? != *expected {
             return Ok(false);
         }
     }
@@ -354,16 +354,21 @@ const GROWTHS: [Growth; 4] = [
 
 const GROWN: [(u32, u8); 5] = [(0, 0), (6, 0), (7, 7), (8, 0), (19, 0)];
 
-/// Whether a disk grows as it should with a loose sector, what it has then, and whether that
-/// reached the file before it grew.
+/// Grows a disk with a dirty sector. Returns whether the calls have the expected results, whether
+/// the sectors are as expected, and whether the dirty one reached the file.
 fn grow_new(rt: &HostRuntime, path: &PathBuf) -> Result<[bool; 4], Fail> {
     let mut disk = opened(rt, path, Some(8))?;
     fill(&mut disk, &[(7, 7)])?;
-    let told = grow_so(rt, path, &mut disk, &GROWTHS)?;
+    let outcome = grow_so(rt, path, &mut disk, &GROWTHS)?;
     let filled = are_filled(&mut disk, &GROWN)?;
     let seen = is_seen(rt, path, &GROWN)?;
     store(&mut disk, &[(19, 9)])?;
-    Ok([told, filled, seen, disk.write(20, &[9; 512]) == NO_SECTOR])
+    Ok([
+        outcome,
+        filled,
+        seen,
+        disk.write(20, &[9; 512]) == NO_SECTOR,
+    ])
 }
 
 #[test]
@@ -376,24 +381,28 @@ fn a_disk_over_a_file_grows(rt: HostRuntime) -> Result<(), Fail> {
     Ok(())
 }
 
-/// What a growth answers of a disk that may only be read, whether it is as it was, and what a sync
-/// answers then, which can't give the file its size again.
+/// Grows a read-only disk. Returns whether the growth fails, whether the disk is unchanged, and the
+/// result of a sync, which can't restore the size of the file.
 fn grow_seen(
     rt: &HostRuntime,
     path: &PathBuf,
 ) -> Result<(bool, bool, Result<(), DiskFault>), Fail> {
     drop(opened(rt, path, Some(8))?);
     let mut seen = open_to_read(rt, path)?;
-    let want = (Err(GrowthFault::Device), 8, 8 * 512);
-    let told = grow_so(rt, path, &mut seen, &[(20, MOST_SECTORS, want)])?;
-    Ok((told, are_filled(&mut seen, &[(0, 0), (7, 0)])?, seen.sync()))
+    let expected = (Err(GrowthFault::Device), 8, 8 * 512);
+    let outcome = grow_so(rt, path, &mut seen, &[(20, MOST_SECTORS, expected)])?;
+    Ok((
+        outcome,
+        are_filled(&mut seen, &[(0, 0), (7, 0)])?,
+        seen.sync(),
+    ))
 }
 
 #[test]
-fn a_disk_that_may_only_be_read_does_not_grow(rt: HostRuntime) -> Result<(), Fail> {
+fn a_read_only_disk_does_not_grow(rt: HostRuntime) -> Result<(), Fail> {
     let path = free_path(&rt, "growing-read")?;
-    let want = (true, true, Err(DiskFault::Device));
-    assert_eq!(rt; grow_seen(&rt, &path)?, want);
+    let expected = (true, true, Err(DiskFault::Device));
+    assert_eq!(rt; grow_seen(&rt, &path)?, expected);
     remove(&rt, &path)?;
     Ok(())
 }
@@ -409,17 +418,18 @@ const FAR: [Growth; 4] = [
     (131_073, 131_073, (Ok(()), 131_073, 131_073 * 512)),
 ];
 
-/// Whether a disk grows as far as it may, and what it has then.
+/// Grows a disk up to its limit. Returns whether the calls have the expected results, and whether
+/// the sectors are as expected.
 fn grow_far(rt: &HostRuntime, path: &PathBuf) -> Result<(bool, bool), Fail> {
     let mut disk = opened(rt, path, Some(8))?;
-    let told = grow_so(rt, path, &mut disk, &FAR)?;
+    let outcome = grow_so(rt, path, &mut disk, &FAR)?;
     store(&mut disk, &[(131_072, 3)])?;
     let filled = are_filled(&mut disk, &[(7, 0), (131_071, 0), (131_072, 3)])?;
-    Ok((told, filled))
+    Ok((outcome, filled))
 }
 
 #[test]
-fn a_disk_grows_as_far_as_it_may(rt: HostRuntime) -> Result<(), Fail> {
+fn a_disk_grows_up_to_its_limit(rt: HostRuntime) -> Result<(), Fail> {
     let path = free_path(&rt, "growing-large")?;
     assert_eq!(rt; grow_far(&rt, &path)?, (true, true));
     remove(&rt, &path)?;

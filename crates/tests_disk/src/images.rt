@@ -1,4 +1,4 @@
-// What is stored of an image, piece by piece, and what is loaded.
+// Storing an image piece by piece, and loading one.
 use crate::doubles::{Call, Calls, Partial};
 use crate::shared::{are_filled, free_path, opened, read, remove};
 use disk::FileFault;
@@ -10,25 +10,25 @@ use std::io::{ErrorKind, Read};
 use std::path::PathBuf;
 use std::test::Fail;
 
-/// Eight sectors, some of which are loose.
-fn loose_image(alloc: Global, loose: &[u32]) -> Result<Image, AllocError> {
+/// An image of eight sectors, with these dirty.
+fn dirty_image(alloc: Global, dirty: &[u32]) -> Result<Image, AllocError> {
     let mut image = Image::blank(alloc, 8)?;
-    for n in loose {
+    for n in dirty {
         if *n < image.count() {
-            image.loosen(*n);
+            image.mark_dirty(*n);
         }
     }
     Ok(image)
 }
 
-/// What is asked of the file by a store of loose sectors, whose call of this number fails, and
-/// whether it is done.
+/// Stores an image with these sectors dirty to a file whose call number `fail` fails. Returns
+/// whether it succeeds, and the calls.
 fn stored(
     alloc: Global,
-    loose: &[u32],
+    dirty: &[u32],
     fail: usize,
 ) -> Result<(bool, usize, [Call; 6]), AllocError> {
-    let image = loose_image(alloc, loose)?;
+    let image = dirty_image(alloc, dirty)?;
     let file = Calls::new(fail);
     let done = store(&file, &image).is_ok();
     let (count, calls) = file.noted();
@@ -44,7 +44,7 @@ const RUNS: [Call; 6] = [
     Call::Nothing,
 ];
 
-/// The first of these calls, and nothing behind them.
+/// The first `count` of these calls, and `Nothing` in place of the others.
 fn first(calls: [Call; 6], count: usize) -> [Call; 6] {
     let mut first = [Call::Nothing; 6];
     for n in 0..6 {
@@ -55,9 +55,9 @@ fn first(calls: [Call; 6], count: usize) -> [Call; 6] {
     first
 }
 
-/// What is asked of the file by a store after a store.
+/// The calls of a store that follows a successful one.
 fn stored_again(alloc: Global) -> Result<(usize, [Call; 6]), Fail> {
-    let mut image = loose_image(alloc, &[0, 3, 4, 5, 7])?;
+    let mut image = dirty_image(alloc, &[0, 3, 4, 5, 7])?;
     let stored = store(&Calls::new(9), &image)?;
     image.settle(stored);
     let file = Calls::new(9);
@@ -66,13 +66,13 @@ fn stored_again(alloc: Global) -> Result<(usize, [Call; 6]), Fail> {
 }
 
 #[test]
-fn neighbours_reach_the_file_by_one_call(rt: HostRuntime) -> Result<(), Fail> {
-    let loose = [0, 3, 4, 5, 7];
-    assert_eq!(rt; stored(rt.alloc(), &loose, 9)?, (true, 4, RUNS));
-    // a call that fails is told, and nothing comes after it
+fn neighbouring_sectors_are_written_by_one_call(rt: HostRuntime) -> Result<(), Fail> {
+    let dirty = [0, 3, 4, 5, 7];
+    assert_eq!(rt; stored(rt.alloc(), &dirty, 9)?, (true, 4, RUNS));
+    // an error is returned, and no call follows it
     for fail in 0..4 {
-        let want = (false, fail + 1, first(RUNS, fail));
-        assert_eq!(rt; stored(rt.alloc(), &loose, fail)?, want);
+        let expected = (false, fail + 1, first(RUNS, fail));
+        assert_eq!(rt; stored(rt.alloc(), &dirty, fail)?, expected);
     }
     let mut sync = [Call::Nothing; 6];
     sync[0] = Call::SyncData;
@@ -80,23 +80,23 @@ fn neighbours_reach_the_file_by_one_call(rt: HostRuntime) -> Result<(), Fail> {
     Ok(())
 }
 
-/// How a file gets a size.
+/// How the size of a file changes.
 #[derive(Clone, Copy)]
 enum Change {
-    /// It gets 20 sectors.
+    /// The file gets 20 sectors.
     Lengthened,
-    /// It may be longer than the image, or it may not.
+    /// The file gets the size of the image; the flag says that it may be longer.
     Shortened(bool),
 }
 
-/// What is asked of the file where two sectors are loose and the call of this number fails, and
-/// whether it is done.
+/// Changes the size of a file while two sectors are dirty and the call number `fail` fails. Returns
+/// whether it succeeds, and the calls.
 fn resized(
     alloc: Global,
     how: Change,
     fail: usize,
 ) -> Result<(bool, usize, [Call; 6]), AllocError> {
-    let image = loose_image(alloc, &[2, 5])?;
+    let image = dirty_image(alloc, &[2, 5])?;
     let file = Calls::new(fail);
     let done = match how {
         Change::Lengthened => lengthen(&file, &image, 20).is_ok(),
@@ -121,10 +121,10 @@ fn a_file_that_grows_is_synced_before_and_after(rt: HostRuntime) -> Result<(), F
         resized(rt.alloc(), Change::Lengthened, 9)?,
         (true, 5, LENGTHENED)
     );
-    // a call that fails is told, and nothing comes after it
+    // an error is returned, and no call follows it
     for fail in 0..5 {
-        let want = (false, fail + 1, first(LENGTHENED, fail));
-        assert_eq!(rt; resized(rt.alloc(), Change::Lengthened, fail)?, want);
+        let expected = (false, fail + 1, first(LENGTHENED, fail));
+        assert_eq!(rt; resized(rt.alloc(), Change::Lengthened, fail)?, expected);
     }
     Ok(())
 }
@@ -139,21 +139,21 @@ const SHORTENED: [Call; 6] = [
 ];
 
 #[test]
-fn a_file_that_may_be_longer_gets_its_size_first(rt: HostRuntime) -> Result<(), Fail> {
+fn a_possibly_longer_file_is_truncated_first(rt: HostRuntime) -> Result<(), Fail> {
     let longer = Change::Shortened(true);
     assert_eq!(rt; resized(rt.alloc(), longer, 9)?, (true, 5, SHORTENED));
     for fail in 0..5 {
-        let want = (false, fail + 1, first(SHORTENED, fail));
-        assert_eq!(rt; resized(rt.alloc(), longer, fail)?, want);
+        let expected = (false, fail + 1, first(SHORTENED, fail));
+        assert_eq!(rt; resized(rt.alloc(), longer, fail)?, expected);
     }
-    let want = (true, 3, first(LENGTHENED, 3));
-    assert_eq!(rt; resized(rt.alloc(), Change::Shortened(false), 9)?, want);
+    let expected = (true, 3, first(LENGTHENED, 3));
+    assert_eq!(rt; resized(rt.alloc(), Change::Shortened(false), 9)?, expected);
     Ok(())
 }
 
-// A read of the file may fail in its midst, and the file may have become shorter.
+// A read may fail after some bytes, and the file may have become shorter.
 
-/// Gives so many bytes, all 7, at most 1,000 at a call, and then fails or is at its end.
+/// Returns `left` bytes, all 7, at most 1,000 per call. Then it fails or is at its end.
 #[derive(Drop)]
 struct Sevens {
     left: usize,
@@ -174,8 +174,8 @@ impl Read for Sevens {
     }
 }
 
-/// Why an image of 200 sectors is not loaded from a reader, and the first byte of its last sector,
-/// where there is one.
+/// Loads an image of 200 sectors from such a reader. Returns the fault, and the first byte of the
+/// last sector.
 fn load_sevens(
     alloc: Global,
     left: usize,
@@ -192,23 +192,23 @@ fn load_sevens(
 const TOO_FEW: [usize; 5] = [0, 511, 512, 70_000, 102_399];
 
 #[test]
-fn a_load_whose_read_fails_is_refused(rt: HostRuntime) -> Result<(), Fail> {
-    let want = (Some(FileFault::File), Some(0));
+fn a_load_fails_if_a_read_fails(rt: HostRuntime) -> Result<(), Fail> {
+    let expected = (Some(FileFault::File), Some(0));
     for left in TOO_FEW {
         for fails in [true, false] {
-            assert_eq!(rt; load_sevens(rt.alloc(), left, fails)?, want, "{left}");
+            assert_eq!(rt; load_sevens(rt.alloc(), left, fails)?, expected, "{left}");
         }
     }
     assert_eq!(rt; load_sevens(rt.alloc(), 102_400, true)?, (None, Some(7)));
     Ok(())
 }
 
-/// Eight sectors of which 1, 3, 4 and 7 are loose, numbered, or each filled with its number.
-fn loose_four(alloc: Global, is_filled: bool) -> Result<Image, AllocError> {
+/// Eight sectors, with 1, 3, 4 and 7 dirty, each filled with its number or as by `numbered`.
+fn dirty_four(alloc: Global, is_filled: bool) -> Result<Image, AllocError> {
     let mut image = Image::blank(alloc, 8)?;
     for n in [1u8, 3, 4, 7] {
         if u32::from(n) < image.count() {
-            image.loosen(u32::from(n));
+            image.mark_dirty(u32::from(n));
             image.put(
                 u32::from(n),
                 &if is_filled { [n; 512] } else { numbered(n) },
@@ -218,8 +218,8 @@ fn loose_four(alloc: Global, is_filled: bool) -> Result<Image, AllocError> {
     Ok(image)
 }
 
-/// Stores an image in a new file of eight sectors that takes at most so many bytes at a call, by a
-/// program that ends after so many calls. Answers whether it is done.
+/// Stores an image in a new file of eight sectors that writes at most `most` bytes per call and
+/// fails after `calls` calls. Returns whether it succeeds.
 fn store_in_part(
     rt: &HostRuntime,
     path: &PathBuf,
@@ -232,7 +232,7 @@ fn store_in_part(
     Ok(store(&Partial::new(file, most, calls), image).is_ok())
 }
 
-/// A sector whose bytes differ from one another, and from those of the sectors beside it.
+/// A sector whose content differs from that of each other number, and changes from byte to byte.
 fn numbered(n: u8) -> [u8; 512] {
     let mut sector = [0; 512];
     for place in 0..512 {
@@ -241,7 +241,7 @@ fn numbered(n: u8) -> [u8; 512] {
     sector
 }
 
-/// Whether the disk has the four numbered sectors, and zeros elsewhere.
+/// Whether the disk has the four sectors of `numbered`, and zeros elsewhere.
 fn has_numbered(rt: &HostRuntime, path: &PathBuf) -> Result<bool, Fail> {
     let mut disk = opened(rt, path, Some(8))?;
     for n in [1u8, 3, 4, 7] {
@@ -253,20 +253,20 @@ fn has_numbered(rt: &HostRuntime, path: &PathBuf) -> Result<bool, Fail> {
 }
 
 #[test]
-fn a_write_of_a_part_is_followed_by_the_rest(rt: HostRuntime) -> Result<(), Fail> {
+fn a_partial_write_is_continued(rt: HostRuntime) -> Result<(), Fail> {
     let path = free_path(&rt, "sparing")?;
-    let image = loose_four(rt.alloc(), false)?;
+    let image = dirty_four(rt.alloc(), false)?;
     for most in [1, 100, 512, 1000] {
         let done = store_in_part(&rt, &path, &image, most, u64::MAX)?;
         assert!(rt; done && has_numbered(&rt, &path)?, "{most}");
     }
-    // a file that takes nothing is not asked for ever
+    // a file that writes nothing does not make the store loop for ever
     assert!(rt; !store_in_part(&rt, &path, &image, 0, u64::MAX)?);
     remove(&rt, &path)?;
     Ok(())
 }
 
-/// How many writes there were, and the bytes that fill the dirty sectors then.
+/// Numbers of writes, and what fills the dirty sectors after them.
 const ENDED: [(u64, [(u32, u8); 4]); 4] = [
     (0, [(1, 0), (3, 0), (4, 0), (7, 0)]),
     (1, [(1, 1), (3, 0), (4, 0), (7, 0)]),
@@ -274,21 +274,21 @@ const ENDED: [(u64, [(u32, u8); 4]); 4] = [
     (3, [(1, 1), (3, 3), (4, 4), (7, 7)]),
 ];
 
-/// Whether a disk of eight sectors has these filled so, and zeros in the others.
+/// Whether these four sectors are filled so, and the others with zeros.
 fn has_four(rt: &HostRuntime, path: &PathBuf, four: &[(u32, u8)]) -> Result<bool, Fail> {
     let mut disk = opened(rt, path, Some(8))?;
     Ok(are_filled(&mut disk, four)? && are_filled(&mut disk, &[(0, 0), (2, 0), (5, 0), (6, 0)])?)
 }
 
-// A program may end at any moment, also between two writes of a sync. What it wrote to the file
-// until then is in the file.
+// A program may end at any moment, also between two writes of a sync. The file keeps what was
+// written before.
 #[test]
-fn a_program_that_ends_in_a_sync_leaves_what_it_wrote(rt: HostRuntime) -> Result<(), Fail> {
+fn a_program_that_ends_during_a_sync_leaves_what_it_wrote(rt: HostRuntime) -> Result<(), Fail> {
     let path = free_path(&rt, "ended")?;
-    let image = loose_four(rt.alloc(), true)?;
-    for (writes, want) in ENDED {
+    let image = dirty_four(rt.alloc(), true)?;
+    for (writes, expected) in ENDED {
         let done = store_in_part(&rt, &path, &image, 4096, writes)?;
-        assert!(rt; !done && has_four(&rt, &path, &want)?, "{writes}");
+        assert!(rt; !done && has_four(&rt, &path, &expected)?, "{writes}");
     }
     remove(&rt, &path)?;
     Ok(())

@@ -1,7 +1,9 @@
-//! Tests of disks, through their public functions and over what stands for a file. They stand in a
-//! crate of their own, so that the disk's own crate is not proved again with each of them.
+//! Tests of disks through their public functions, over real files and doubles. They have a crate of
+//! their own, so that a change of a test does not prove `disk` again.
 #![tactic(auto)]
 
+#[cfg(test)]
+mod closed;
 #[cfg(test)]
 mod doubles;
 #[cfg(test)]

@@ -1,4 +1,4 @@
-// Disks in memory: what a read gives, what a crash leaves, and how they grow.
+// Disks in memory: reads, what a crash leaves, and growth.
 
 ghost use Rattle.std.specs.Prelude.{◌≡◌, length, IfOk};
 
@@ -7,7 +7,7 @@ use disk::{DiskFault, GrowingDisk, GrowthFault, MOST_SECTORS, MemDisk, Plan, Sec
 use std::alloc::{AllocError, Global};
 use std::test::Fail;
 
-/// Whether what was written is read, before a sync and after it.
+/// Whether reads return what was written, before a sync and after it.
 fn is_read(alloc: Global) -> Result<(u32, bool, bool), Fail> {
     let mut disk = MemDisk::blank(alloc, 8)?;
     fill(&mut disk, &[(3, 1), (7, 2)])?;
@@ -17,13 +17,13 @@ fn is_read(alloc: Global) -> Result<(u32, bool, bool), Fail> {
 }
 
 #[test]
-fn a_read_gives_what_was_written(rt: HostRuntime) -> Result<(), Fail> {
+fn a_read_returns_what_was_written(rt: HostRuntime) -> Result<(), Fail> {
     assert_eq!(rt; is_read(rt.alloc())?, (8, true, true));
     Ok(())
 }
 
-/// A disk of eight sectors, of which two are synced, and then two are loose.
-fn loose_disk(alloc: Global) -> Result<MemDisk, Fail> {
+/// A disk of eight sectors: two are synced, and then two are dirty.
+fn dirty_disk(alloc: Global) -> Result<MemDisk, Fail> {
     let mut disk = MemDisk::blank(alloc, 8)?;
     store(&mut disk, &[(1, 1), (2, 2)])?;
     fill(&mut disk, &[(2, 3), (5, 5)])?;
@@ -68,16 +68,19 @@ const CRASHES: [(Torn, [Option<u8>; 6]); 6] = [
 ];
 
 #[test]
-fn a_crash_tears_the_loose_sectors(rt: HostRuntime) -> Result<(), Fail> {
-    let disk = loose_disk(rt.alloc())?;
-    for (torn, want) in CRASHES {
-        assert_eq!(rt; crashed_bytes(rt.alloc(), &disk, torn)?, (want, 8 * 512));
+fn a_crash_tears_dirty_sectors(rt: HostRuntime) -> Result<(), Fail> {
+    let disk = dirty_disk(rt.alloc())?;
+    for (torn, expected) in CRASHES {
+        assert_eq!(rt;
+            crashed_bytes(rt.alloc(), &disk, torn)?,
+            (expected, 8 * 512)
+        );
     }
     Ok(())
 }
 
-/// What a crash leaves of two sectors of fours, each cut after 100 bytes, by a write that failed as
-/// well; `None` where it did not fail.
+/// What a crash leaves of two dirty sectors, each cut after 100 bytes. The second write fails;
+/// `None` if it did not.
 fn cut(alloc: Global) -> Result<Option<Vec<u8>>, Fail> {
     let plan = Plan {
         fail: None,
@@ -103,7 +106,7 @@ const CUTS: [(usize, u8); 8] = [
 ];
 
 #[test]
-fn a_crash_cuts_the_loose_sectors(rt: HostRuntime) -> Result<(), Fail> {
+fn a_crash_cuts_dirty_sectors(rt: HostRuntime) -> Result<(), Fail> {
     let Some(image) = cut(rt.alloc())? else {
         return Err(Fail::new("the write did not fail"));
     };
@@ -113,9 +116,8 @@ fn a_crash_cuts_the_loose_sectors(rt: HostRuntime) -> Result<(), Fail> {
     Ok(())
 }
 
-// With ample memory each call here answers at once. `rt try --test --fail-alloc 1..` refuses each
-// allocation in turn: the call that meets it leaves all as it was, and the same call made again
-// answers as it would have.
+// With enough memory each first call succeeds. `rt try --test --fail-alloc 1..` refuses each
+// allocation in turn: the call that meets it changes nothing, and a second call succeeds.
 
 fn blank(alloc: Global) -> Result<MemDisk, AllocError> {
     match MemDisk::blank(alloc, 8) {
@@ -140,7 +142,7 @@ fn of_bytes(alloc: Global) -> Result<MemDisk, AllocError> {
     }
 }
 
-/// The image that a crash leaves. Where memory was refused, a crash still leaves the same.
+/// The image that a crash leaves; a second call if memory was refused.
 fn crashed(alloc: Global, disk: &MemDisk, torn: Torn) -> Result<Vec<u8>, AllocError> {
     match disk.crash(alloc, torn) {
         Ok(image) => Ok(image),
@@ -148,20 +150,20 @@ fn crashed(alloc: Global, disk: &MemDisk, torn: Torn) -> Result<Vec<u8>, AllocEr
     }
 }
 
-/// The sectors of a disk, and whether these are filled so.
+/// The number of sectors, and whether these are filled so.
 fn looked_at(mut disk: MemDisk, filled: &[(u32, u8)]) -> Result<(u32, bool), DiskFault> {
     Ok((disk.sectors(), are_filled(&mut disk, filled)?))
 }
 
 #[test]
-fn a_disk_in_memory_is_made_where_memory_was_refused_once(rt: HostRuntime) -> Result<(), Fail> {
+fn a_memory_disk_is_made_after_an_allocation_failure(rt: HostRuntime) -> Result<(), Fail> {
     let zeros = looked_at(blank(rt.alloc())?, &[(0, 0), (7, 0)])?;
     let fives = looked_at(of_bytes(rt.alloc())?, &[(0, 5), (7, 5)])?;
     assert_eq!(rt; (zeros, fives), ((8, true), (8, true)));
     Ok(())
 }
 
-/// A disk with a synced sector that is loose again.
+/// A disk with a synced sector that is dirty again.
 fn written_again(alloc: Global) -> Result<MemDisk, Fail> {
     let mut disk = blank(alloc)?;
     store(&mut disk, &[(1, 1)])?;
@@ -169,8 +171,7 @@ fn written_again(alloc: Global) -> Result<MemDisk, Fail> {
     Ok(disk)
 }
 
-/// The bytes that fill the first two sectors of what a crash leaves, and whether the disk is still
-/// the same.
+/// What fills the first two sectors after a crash, and whether the disk itself is unchanged.
 fn crashed_once(
     alloc: Global,
     disk: &mut MemDisk,
@@ -182,16 +183,16 @@ fn crashed_once(
 }
 
 #[test]
-fn a_crash_that_was_refused_memory_changes_nothing(rt: HostRuntime) -> Result<(), Fail> {
+fn a_crash_with_an_allocation_failure_changes_nothing(rt: HostRuntime) -> Result<(), Fail> {
     let mut disk = written_again(rt.alloc())?;
-    for (torn, want) in [(Torn::Old, 1), (Torn::New, 2), (Torn::Fill(3), 3)] {
+    for (torn, expected) in [(Torn::Old, 1), (Torn::New, 2), (Torn::Fill(3), 3)] {
         let left = crashed_once(rt.alloc(), &mut disk, torn)?;
-        assert_eq!(rt; left, (Some(0), Some(want), true));
+        assert_eq!(rt; left, (Some(0), Some(expected), true));
     }
     Ok(())
 }
 
-/// Grows a disk, a second time where memory was refused.
+/// Grows a disk; a second call if memory was refused.
 fn grow(alloc: Global, disk: &mut MemDisk, sectors: u32) -> Result<(), GrowthFault> {
     match disk.grow(alloc, sectors, MOST_SECTORS) {
         Err(GrowthFault::NoMemory) => disk.grow(alloc, sectors, MOST_SECTORS),
@@ -200,7 +201,7 @@ fn grow(alloc: Global, disk: &mut MemDisk, sectors: u32) -> Result<(), GrowthFau
 }
 
 #[test]
-fn a_disk_that_was_refused_memory_grows_when_asked_again(rt: HostRuntime) -> Result<(), Fail> {
+fn a_disk_grows_after_an_allocation_failure(rt: HostRuntime) -> Result<(), Fail> {
     let mut disk = of_bytes(rt.alloc())?;
     let grown = grow(rt.alloc(), &mut disk, 9);
     let left = looked_at(disk, &[(0, 5), (7, 5), (8, 0)])?;
@@ -208,7 +209,7 @@ fn a_disk_that_was_refused_memory_grows_when_asked_again(rt: HostRuntime) -> Res
     Ok(())
 }
 
-/// A disk of four sectors of fours, one of which is loose, and whose next operation fails.
+/// A disk of four sectors of fours, with one dirty sector; its next operation fails.
 fn planned(alloc: Global) -> Result<MemDisk, Fail> {
     let plan = Plan {
         fail: Some(1),
@@ -222,16 +223,16 @@ fn planned(alloc: Global) -> Result<MemDisk, Fail> {
 const GROWN: [Option<u8>; 6] = [Some(4), Some(1), Some(4), Some(4), Some(0), Some(0)];
 
 #[test]
-fn a_disk_in_memory_grows_by_its_plan(rt: HostRuntime) -> Result<(), Fail> {
+fn a_memory_disk_grows_according_to_its_plan(rt: HostRuntime) -> Result<(), Fail> {
     let mut disk = planned(rt.alloc())?;
-    for (sectors, want) in [
+    for (sectors, expected) in [
         (3, Err(GrowthFault::Fewer)),
         (u32::MAX, Err(GrowthFault::TooMany)),
         (6, Err(GrowthFault::Device)),
     ] {
         assert_eq!(rt;
             (grow(rt.alloc(), &mut disk, sectors), disk.sectors()),
-            (want, 4)
+            (expected, 4)
         );
     }
     let (left, length) = crashed_bytes(rt.alloc(), &disk, Torn::Fill(9))?;
@@ -244,9 +245,9 @@ fn a_disk_in_memory_grows_by_its_plan(rt: HostRuntime) -> Result<(), Fail> {
         assert_eq!(rt; crashed_bytes(rt.alloc(), &disk, torn)?, (GROWN, 6 * 512));
     }
     disk.write(5, &[5; 512])?;
-    for (torn, want) in [(Torn::Old, 0), (Torn::New, 5)] {
+    for (torn, expected) in [(Torn::Old, 0), (Torn::New, 5)] {
         let (left, length) = crashed_bytes(rt.alloc(), &disk, torn)?;
-        assert_eq!(rt; (left[5], length), (Some(want), 6 * 512));
+        assert_eq!(rt; (left[5], length), (Some(expected), 6 * 512));
     }
     Ok(())
 }

@@ -1,4 +1,4 @@
-// What the tests share: sectors that are filled with one byte, and the files of tests.
+// Shared by the tests: sectors filled with one byte, and the files of the tests.
 use disk::{DiskFault, FileDisk, FileFault, SectorDisk};
 use std::fs::File;
 use std::path::{Path, PathBuf};
@@ -13,7 +13,7 @@ pub(crate) fn read<D: SectorDisk>(disk: &mut D, n: u32) -> Result<[u8; 512], Dis
     Ok(sector)
 }
 
-/// Whether a read of each of these sectors gives this byte 512 times.
+/// Whether each of these sectors is filled with the byte beside it.
 pub(crate) fn are_filled<D: SectorDisk>(
     disk: &mut D,
     sectors: &[(u32, u8)],
@@ -26,7 +26,7 @@ pub(crate) fn are_filled<D: SectorDisk>(
     Ok(true)
 }
 
-/// Fills each of these sectors with this byte.
+/// Fills each of these sectors with the byte beside it.
 pub(crate) fn fill<D: SectorDisk>(disk: &mut D, sectors: &[(u32, u8)]) -> Result<(), DiskFault> {
     for (n, byte) in sectors {
         disk.write(*n, &[*byte; 512])?;
@@ -34,13 +34,13 @@ pub(crate) fn fill<D: SectorDisk>(disk: &mut D, sectors: &[(u32, u8)]) -> Result
     Ok(())
 }
 
-/// The same, and then a sync.
+/// Fills these sectors, and syncs.
 pub(crate) fn store<D: SectorDisk>(disk: &mut D, sectors: &[(u32, u8)]) -> Result<(), DiskFault> {
     fill(disk, sectors)?;
     disk.sync()
 }
 
-/// The byte that fills a sector of an image.
+/// The byte that fills a sector of an image, if one does.
 pub(crate) fn byte_of(image: &[u8], n: usize) -> Option<u8> {
     let sector = image.as_chunks::<512>().0.get(n)?;
     let byte = sector[0];
@@ -51,7 +51,7 @@ pub(crate) fn byte_of(image: &[u8], n: usize) -> Option<u8> {
     }
 }
 
-/// The bytes that fill the first sectors of an image.
+/// The bytes that fill the first six sectors of an image.
 pub(crate) fn bytes_of(image: &[u8]) -> [Option<u8>; 6] {
     let mut bytes = [None; 6];
     for n in 0..6 {
@@ -60,7 +60,7 @@ pub(crate) fn bytes_of(image: &[u8]) -> [Option<u8>; 6] {
     bytes
 }
 
-/// A path for a test's file, where none is.
+/// A path for a file of a test. Removes what an earlier run left there.
 pub(crate) fn free_path(rt: &HostRuntime, name: &str) -> io::Result<PathBuf> {
     let path = path_of(rt, name)?;
     if fs::exists(rt, path.as_path())? {
@@ -78,19 +78,19 @@ pub(crate) fn remove(rt: &HostRuntime, path: &PathBuf) -> io::Result<()> {
     fs::remove_file(rt, path.as_path())
 }
 
-/// The path under which a new disk is made.
+/// The path under which a new disk is made before it is renamed.
 pub(crate) fn unfinished_path(rt: &HostRuntime, path: &PathBuf) -> io::Result<PathBuf> {
     let path = path.as_str();
     let name = format!(in rt.alloc(); "{path}.unfinished-disk")?;
     Ok(Path::new(name.as_str()).to_path_buf(rt.alloc())?)
 }
 
-/// Makes a file of so many bytes, all zero.
+/// Makes a file of zeros of this size.
 pub(crate) fn make_file(rt: &HostRuntime, path: &PathBuf, bytes: u64) -> io::Result<()> {
     File::create(rt, path.as_path())?.set_len(bytes)
 }
 
-/// The bytes of a file.
+/// The size of a file in bytes.
 pub(crate) fn size_of(rt: &HostRuntime, path: &PathBuf) -> io::Result<u64> {
     Ok(fs::metadata(rt, path.as_path())?.len())
 }
@@ -111,7 +111,7 @@ pub(crate) fn open_to_read(rt: &HostRuntime, path: &PathBuf) -> Result<FileDisk,
     FileDisk::open_to_read(rt, rt.alloc(), path.as_str())
 }
 
-/// Opens a disk, and answers its sectors, and whether these are filled so.
+/// Opens a disk. Returns its number of sectors, and whether these are filled so.
 pub(crate) fn found(
     rt: &HostRuntime,
     path: &PathBuf,
@@ -122,7 +122,7 @@ pub(crate) fn found(
     Ok((disk.sectors(), are_filled(&mut disk, filled)?))
 }
 
-/// Whether who only looks at a disk sees these sectors filled so.
+/// Whether a reader of the disk sees these sectors filled so.
 pub(crate) fn is_seen(
     rt: &HostRuntime,
     path: &PathBuf,

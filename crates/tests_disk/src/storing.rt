@@ -1,11 +1,11 @@
-// What is stored through a disk over a file, and what the file refuses.
+// What a store puts into a real file, and the fault when the file refuses.
 
 use crate::shared::free_path;
 use disk::{DiskFault, FileDisk, SectorDisk};
 use std::fs;
 use std::test::Fail;
 
-/// A sector that begins with its number.
+/// A sector that starts with its number.
 fn sector_of(n: u32) -> [u8; 512] {
     let mut sector = [(n % 251) as u8; 512];
     for (byte, digit) in sector.iter_mut().zip(n.to_be_bytes()) {
@@ -27,19 +27,19 @@ fn three_hundred_neighbours_are_stored(rt: HostRuntime) -> Result<(), Fail> {
     let (sectors, rest) = bytes.as_slice().as_chunks::<512>();
     assert_eq!(rt; (sectors.len(), rest.len()), (400, 0));
     for (n, sector) in sectors.iter().enumerate() {
-        let wanted = if n >= 50 && n < 350 {
+        let expected = if n >= 50 && n < 350 {
             sector_of(n as u32)
         } else {
             [0; 512]
         };
-        assert!(rt; *sector == wanted, "{n}");
+        assert!(rt; *sector == expected, "{n}");
     }
     fs::remove_file(&rt, path.as_path())?;
     Ok(())
 }
 
 #[test]
-fn a_sync_tells_what_the_file_refuses(rt: HostRuntime) -> Result<(), Fail> {
+fn a_sync_fails_if_the_file_refuses_it(rt: HostRuntime) -> Result<(), Fail> {
     let path = free_path(&rt, "read-only")?;
     let mut disk = FileDisk::open(&rt, rt.alloc(), path.as_str(), Some(8))?;
     disk.write(3, &sector_of(3))?;

@@ -1,5 +1,5 @@
 //! Tests of frames, of the models, and of texts and model files, through their public functions.
-//! They stand in a crate of their own, since a crate with tests is proved twice.
+//! They have a crate of their own, since a crate with tests is proved twice.
 #![tactic(auto)]
 
 #[cfg(test)]

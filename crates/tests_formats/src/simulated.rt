@@ -1,4 +1,4 @@
-// The models, one handling at a time and run whole.
+// The models: single calls of their handlers, and whole runs.
 
 mod plain;
 mod rings;

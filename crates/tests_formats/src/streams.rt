@@ -1,4 +1,4 @@
-// Worked frames, byte for byte, and streams that are none.
+// Worked frames, byte for byte, and bytes that are no frames.
 
 use eventkey::{Listed, Message, Sign, Signed};
 use frames::{
@@ -16,25 +16,25 @@ use wire::WireFault;
 
 mod hostile;
 
-/// The load of node 1 of three, of a ring of three processes.
+/// The load of node 1 of three, for a ring of three processes.
 const LOAD: [u8; 58] = [
     0, 0, 0, 53, 1, 0, 0, 0, 1, 0, 0, 0, 3, 0, 0, 0, 0, 0, 0, 0, 10, 0, 0, 0, 0, 0, 0, 0, 0, 0, 0,
     0, 1, 0, 0, 0, 1, 0, 0, 0, 0, 0, 0, 0, 0, 1, 0, 0, 0, 0, 0, 0, 0, 0, 0, 0, 0, 0,
 ];
 
-/// A parcel of no deliveries: budget 16, floor 1.
+/// A parcel without deliveries: budget 16, floor 1.
 const PARCEL: [u8; 21] = [
     0, 0, 0, 16, 2, 0, 0, 0, 0, 0, 0, 0, 16, 0, 0, 0, 0, 0, 0, 0, 1,
 ];
 
-/// The reply of one message.
+/// A reply that sends one message.
 const REPLY: [u8; 75] = [
     0, 0, 0, 70, 3, 0, 0, 0, 1, 0, 0, 0, 0, 0, 0, 0, 0, 3, 0, 0, 0, 0, 0, 0, 0, 0, 0, 0, 0, 1, 0,
     0, 0, 1, 0, 0, 0, 0, 0, 0, 0, 0, 0, 0, 0, 0, 0, 0, 0, 1, 0, 0, 0, 0, 0, 0, 0, 0, 0, 0, 0, 0, 0,
     0, 0, 0, 0, 0, 0, 0, 0, 0, 0, 0, 1,
 ];
 
-/// A reply of one antimessage, the low 9, one handling that sent a message, and 3 that ran.
+/// A reply with one antimessage, the low 9, one fossil that sent a message, and 3 handled messages.
 const LADEN: [u8; 213] = [
     0, 0, 0, 208, 3, 0, 0, 0, 1, 1, 0, 0, 0, 0, 0, 0, 0, 3, 0, 0, 0, 0, 0, 0, 0, 0, 0, 0, 0, 1, 0,
     0, 0, 1, 0, 0, 0, 0, 0, 0, 0, 0, 0, 0, 0, 0, 0, 0, 0, 1, 0, 0, 0, 0, 0, 0, 0, 0, 0, 0, 0, 0, 0,
@@ -45,10 +45,10 @@ const LADEN: [u8; 213] = [
     0, 1, 0, 0, 0, 0, 0, 0, 0, 1, 0, 0, 0, 0, 0, 0, 0, 2, 0, 0, 0, 3,
 ];
 
-/// BelowFloor.
+/// The fault BelowFloor.
 const FAULT: [u8; 6] = [0, 0, 0, 1, 4, 2];
 
-/// A reader of bytes that gives at most `size` of them a call, and refuses the call number `fail`.
+/// A reader that returns at most `size` bytes per call, and refuses the call number `fail`.
 #[derive(Drop)]
 struct Pieces<'a> {
     rest: &'a [u8],
@@ -138,7 +138,7 @@ fn laden(alloc: Global) -> Result<Reply, Fail> {
 }
 
 #[test]
-fn frames_are_spelled(rt: HostRuntime) -> Result<(), Fail> {
+fn frames_are_encoded(rt: HostRuntime) -> Result<(), Fail> {
     let alloc = rt.alloc();
     assert_eq!(rt;
         encode_load(alloc, &load(alloc)?)?.as_slice(),
@@ -171,11 +171,11 @@ fn frames_are_spelled(rt: HostRuntime) -> Result<(), Fail> {
     Ok(())
 }
 
-/// No words, and then two.
+/// An empty state, and then one of two words.
 const WORDS: [u8; 18] = [0, 2, 0, 0, 0, 0, 0, 0, 1, 2, 128, 0, 0, 0, 0, 0, 0, 0];
 
 #[test]
-fn state_words_are_spelled(rt: HostRuntime) -> Result<(), Fail> {
+fn state_words_are_encoded(rt: HostRuntime) -> Result<(), Fail> {
     let alloc = rt.alloc();
     let mut bytes = Vec::new(alloc);
     append_words(&mut bytes, &[])?;
@@ -204,7 +204,7 @@ fn bytes_that_are_no_state_words_are_refused(rt: HostRuntime) -> Result<(), Fail
     Ok(())
 }
 
-/// Each fault of a node, and the number by which its frame tells it.
+/// Each fault of a node, and its number in a frame.
 const FAULTS: [(NodeFault, u8); 6] = [
     (NodeFault::NotMine, 1),
     (NodeFault::BelowFloor, 2),
@@ -218,15 +218,15 @@ const FAULTS: [(NodeFault, u8); 6] = [
 fn each_fault_of_a_node_has_its_number(rt: HostRuntime) -> Result<(), Fail> {
     for (fault, number) in FAULTS {
         let frame = [0, 0, 0, 1, 4, number];
-        let spelled = encode_fault(rt.alloc(), fault)?;
-        assert_eq!(rt; spelled.as_slice(), frame.as_slice());
+        let encoded = encode_fault(rt.alloc(), fault)?;
+        assert_eq!(rt; encoded.as_slice(), frame.as_slice());
         read_twice(&rt, rt.alloc(), &frame, 4)?;
     }
     Ok(())
 }
 
 /// The bytes of a frame.
-fn spelled(alloc: Global, frame: &Frame) -> Result<Vec<u8>, WireFault> {
+fn encoded(alloc: Global, frame: &Frame) -> Result<Vec<u8>, WireFault> {
     match frame {
         Frame::Load(load) => encode_load(alloc, load),
         Frame::Parcel(parcel) => encode_parcel(alloc, parcel),
@@ -235,8 +235,8 @@ fn spelled(alloc: Global, frame: &Frame) -> Result<Vec<u8>, WireFault> {
     }
 }
 
-/// Two frames of these bytes one behind the other are read, each to its last byte, in pieces of so
-/// many bytes.
+/// Reads a frame twice from two copies of its bytes, each to its last byte, in pieces of at most
+/// `size` bytes.
 fn read_twice(rt: &impl Abort, alloc: Global, frame: &[u8], size: usize) -> Result<(), Fail> {
     let mut bytes = Vec::new(alloc);
     bytes.extend_from_slice(frame)?;
@@ -244,9 +244,9 @@ fn read_twice(rt: &impl Abort, alloc: Global, frame: &[u8], size: usize) -> Resu
     let mut reader = Pieces::of(bytes.as_slice(), size);
     for left in [frame.len(), 0] {
         let Some(read) = read_frame(alloc, &mut reader)? else {
-            return Err(Fail::new("a frame stands there"));
+            return Err(Fail::new("a frame was read"));
         };
-        assert_eq!(rt; spelled(alloc, &read)?.as_slice(), frame);
+        assert_eq!(rt; encoded(alloc, &read)?.as_slice(), frame);
         assert_eq!(rt; reader.rest.len(), left);
     }
     assert!(rt; read_frame(alloc, &mut reader)?.is_none());
@@ -264,8 +264,8 @@ fn frames_are_read_to_their_last_byte(rt: HostRuntime) -> Result<(), Fail> {
     Ok(())
 }
 
-/// These bytes are read as one whole frame of this kind, and are none with their last byte missing
-/// or with a byte more.
+/// Reads these bytes as one whole frame of this kind. They are no frame without their last byte, or
+/// with one more.
 fn read_whole(rt: &impl Abort, alloc: Global, frame: &[u8], kind: Kind) -> Result<(), Fail> {
     let Some(raw) = read_whole_raw(alloc, frame)? else {
         return Err(Fail::new("the bytes are a frame"));
@@ -273,9 +273,9 @@ fn read_whole(rt: &impl Abort, alloc: Global, frame: &[u8], kind: Kind) -> Resul
     assert_eq!(rt; raw.kind, kind);
     assert_eq!(rt; Some(raw.body.as_slice()), frame.get(5..));
     let Some(read) = read_whole_frame(alloc, frame)? else {
-        return Err(Fail::new("the bytes spell a frame"));
+        return Err(Fail::new("the bytes are a frame"));
     };
-    assert_eq!(rt; spelled(alloc, &read)?.as_slice(), frame);
+    assert_eq!(rt; encoded(alloc, &read)?.as_slice(), frame);
     let mut longer = Vec::new(alloc);
     longer.extend_from_slice(frame)?;
     longer.push(0)?;
@@ -288,7 +288,7 @@ fn read_whole(rt: &impl Abort, alloc: Global, frame: &[u8], kind: Kind) -> Resul
 }
 
 #[test]
-fn a_whole_frame_has_no_byte_less_or_more(rt: HostRuntime) -> Result<(), Fail> {
+fn a_whole_frame_has_exactly_its_bytes(rt: HostRuntime) -> Result<(), Fail> {
     let frames: [(&[u8], Kind); 5] = [
         (&LOAD, Kind::Load),
         (&PARCEL, Kind::Parcel),
@@ -302,7 +302,7 @@ fn a_whole_frame_has_no_byte_less_or_more(rt: HostRuntime) -> Result<(), Fail> {
     Ok(())
 }
 
-/// The fault that stands first in these bytes, and how many bytes are left unread.
+/// The fault of reading a frame from these bytes, and the number of unread bytes.
 fn refused(alloc: Global, bytes: &[u8]) -> (Option<WireFault>, usize) {
     let mut reader = Pieces::of(bytes, 7);
     let read = read_frame(alloc, &mut reader);
@@ -310,7 +310,7 @@ fn refused(alloc: Global, bytes: &[u8]) -> (Option<WireFault>, usize) {
 }
 
 #[test]
-fn what_is_no_frame_is_refused(rt: HostRuntime) {
+fn bytes_that_are_no_frame_are_refused(rt: HostRuntime) {
     let cases: [(&[u8], Option<WireFault>, usize); 8] = [
         (&[0, 0, 0, 16, 2], Some(WireFault::Truncated), 0),
         (&[1, 0, 0, 1], Some(WireFault::TooLong), 0),
@@ -326,11 +326,11 @@ fn what_is_no_frame_is_refused(rt: HostRuntime) {
     }
 }
 
-// `tools/largest-blocks` looks at what this test asks for.
+// `tools/largest-blocks` checks how much memory this test allocates.
 #[test]
 fn a_claimed_length_takes_no_memory(rt: HostRuntime) {
     for kind in 1..5u8 {
-        // A body of 2^24 bytes, of which two come.
+        // A body of 2^24 bytes is claimed, and two come.
         let bytes = [1, 0, 0, 0, kind, 9, 9];
         assert_eq!(rt;
             refused(rt.alloc(), &bytes),
@@ -342,7 +342,7 @@ fn a_claimed_length_takes_no_memory(rt: HostRuntime) {
 }
 
 #[test]
-fn a_failing_reader_is_told(rt: HostRuntime) -> Result<(), Fail> {
+fn an_error_of_the_reader_is_returned(rt: HostRuntime) -> Result<(), Fail> {
     let alloc = rt.alloc();
     for fail in 0..8 {
         let mut reader = Pieces::of(&PARCEL, 3);

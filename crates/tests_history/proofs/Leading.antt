@@ -1,4 +1,4 @@
--- Handlings that lead to a state of a ring.
+-- Records of handled messages that lead to a state of a ring.
 use Rattle.std.proofs.Common.{◌≡◌, ℕ, List, [], ◌∷◌, ◌++◌, ◌<◌, ◌≤◌, ◌∙◌, arith, ap, length, lit≤, subst, sym, Option, Some, None}
 use Rattle.std.specs.List.{slice_get}
 use Rattle.models.specs.Ring.{Ring, counted, ring_meaning}

@@ -1,4 +1,4 @@
-// A ring that counts how often it handles a message.
+// A ring that counts the messages that it handles.
 
 ghost use Rattle.std.specs.Prelude.{◌≡◌, ◌≤◌, ◌<◌, ◌*◌};
 ghost use Rattle.models.specs.Ring.{GoodRing, ring_meaning};
@@ -11,7 +11,7 @@ use smallvec::SmallVec;
 use std::alloc::Global;
 use std::cell::Cell;
 
-/// A ring of two processes, seen as the ring alone.
+/// A ring of two processes and a count. Its view is the ring alone.
 #[derive(Drop)]
 pub struct Counted {
     ring: TokenRing,
@@ -34,7 +34,7 @@ impl Counted {
         }
     }
 
-    /// How many messages were handled so far.
+    /// The number of messages handled so far.
     pub fn handled(&self) -> u64 {
         self.handled.get()
     }

@@ -1,6 +1,6 @@
 // Histories that keep the state words of one record in `K`, driven by a process that counts its
-// messages: the state before its first message is 0, before the second 1, and so on. A call that is
-// refused for want of memory is made again, and must then answer as if it had never been refused.
+// messages: the state before its first message is 0, before the second 1, and so on. A call that
+// meets an allocation failure is repeated, and must then answer as if it had never failed.
 
 ghost use Rattle.std.specs.Prelude.{◌≡◌, ◌<◌, ◌≤◌, IfOk};
 
@@ -12,7 +12,7 @@ use std::alloc::{AllocError, Global};
 use std::process::Abort;
 use std::test::Fail;
 
-/// Process 1 of a ring: its history, and its state now.
+/// Process 1 of a ring: its history and its current state.
 #[derive(Drop)]
 struct Counting<const K: usize> {
     alloc: Global,
@@ -35,8 +35,8 @@ impl<const K: usize> std::marker::Model for Counting<K> {
         × (1 < c.ring.ring.lps) × (1 ≤ K) };
 }
 
-/// What can be told of a history: how many records it has, for how many it keeps the state words,
-/// and the time of the first.
+/// The visible state of a history: the number of records, the number of kept states, and the time
+/// of the first record.
 type Look = (usize, usize, Option<u64>);
 
 impl<const K: usize> Counting<K> {
@@ -54,7 +54,7 @@ impl<const K: usize> Counting<K> {
         }
     }
 
-    /// How many messages were handled and not taken back.
+    /// The number of messages that were handled and not rolled back.
     fn count(&self) -> u64 {
         self.state.words().as_slice().first().copied().unwrap_or(0)
     }
@@ -67,16 +67,16 @@ impl<const K: usize> Counting<K> {
         )
     }
 
-    /// The bound on the states that are kept.
+    /// Whether the number of kept states is within its bounds.
     fn is_sparse(&self) -> bool {
         let _ = &self.history;
         let (len, saved, _) = self.look();
         saved <= (len / K).saturating_add(2) && len <= saved.saturating_mul(K)
     }
 
-    /// How many handlings it takes at the most to rebuild the states before so many records in a
-    /// row: before the first those since the last state that is kept, then one a record, but none
-    /// for one in `K`.
+    /// The greatest number of handlings that it takes to rebuild the states before `count`
+    /// consecutive records: for the first one, those since the last kept state; then one for each
+    /// record, except for one in `K`.
     fn most_made(&self, count: usize) -> usize {
         let _ = &self.history;
         let others = count.saturating_sub(1);
@@ -84,7 +84,7 @@ impl<const K: usize> Counting<K> {
             .saturating_add(others.saturating_sub(others / K))
     }
 
-    /// The message of the time after the last.
+    /// The message of the time after the last one.
     fn next(&self) -> Result<Message, KeyFault>
         ensures { IfOk result (λ message. message.to ≡ 1) }
     {
@@ -99,7 +99,7 @@ impl<const K: usize> Counting<K> {
             .ring
             .handle(self.alloc, 1, self.state.words(), &message);
         let before = Words::from_slice(self.alloc, self.state.words().as_slice())?;
-        // None, one and two in turn.
+        // No sends, one and two in turn.
         let sent = match number_before % 3 {
             0 => Sent::from_slice(self.alloc, &[])?,
             1 => Sent::from_slice(self.alloc, &[message])?,
@@ -115,10 +115,10 @@ impl<const K: usize> Counting<K> {
         Ok(())
     }
 
-    /// Takes the last handlings back, and the state with them.
-    fn take_back(&mut self, count: usize) -> Result<Vec<Record>, AllocError> {
+    /// Takes the last records out of the history, and restores the state before them.
+    fn undo_last(&mut self, count: usize) -> Result<Vec<Record>, AllocError> {
         let count = count.min(self.history.len());
-        let undone = self.history.take_back(&self.ring, count)?;
+        let undone = self.history.undo_last(&self.ring, count)?;
         if let Some(first) = undone.first() {
             let words = first.before.words().as_slice();
             self.state = State::from_words(Words::from_slice(self.alloc, words).unwrap());
@@ -126,7 +126,7 @@ impl<const K: usize> Counting<K> {
         Ok(undone)
     }
 
-    /// Rolls the last handlings back, and answers the send number before them.
+    /// Rolls back the last handlings. Returns the send number before them.
     fn roll_back(&mut self, count: usize) -> Result<u64, AllocError> {
         let count = count.min(self.history.len());
         let mut number = self.count();
@@ -144,15 +144,15 @@ impl<const K: usize> Counting<K> {
         self.history.release_first(&self.ring, floor)
     }
 
-    /// Whether the first record, if there is one, came after so many, by the state words and the
-    /// send number before it; where there is none, whether the process did.
+    /// Whether `count` messages came before the first record, by the state words and the send
+    /// number before it. Without a record: whether the process has handled that many.
     fn is_first_after(&self, count: u64) -> bool {
         let words = self.history.words_before(self.state.words());
         words.as_slice() == [count].as_slice() && self.history.number_before(self.count()) == count
     }
 }
 
-/// Whether these are the handlings after so many.
+/// Whether these records follow `count` earlier ones.
 fn are_after(records: &[Record], count: u64) -> bool {
     let mut next = count;
     for record in records {
@@ -162,8 +162,8 @@ fn are_after(records: &[Record], count: u64) -> bool {
             number_before,
             sent,
         } = record;
-        let told = (message.time(), *number_before, sent.as_slice().len());
-        if told != (next.saturating_add(1), next, (next % 3) as usize)
+        let reported = (message.time(), *number_before, sent.as_slice().len());
+        if reported != (next.saturating_add(1), next, (next % 3) as usize)
             || before.words().as_slice() != [next].as_slice()
         {
             return false;
@@ -174,8 +174,8 @@ fn are_after(records: &[Record], count: u64) -> bool {
 }
 
 impl<const K: usize> Counting<K> {
-    /// Handles messages until there are so many records, each again where memory was refused, which
-    /// changed nothing.
+    /// Handles messages until there are `len` records. Repeats a call after an allocation failure,
+    /// which must change nothing.
     fn fill(&mut self, rt: &impl Abort, len: usize) -> Result<(), Fail> {
         for _ in self.history.len()..len {
             let message = self.next()?;
@@ -189,7 +189,7 @@ impl<const K: usize> Counting<K> {
         Ok(())
     }
 
-    /// Handles messages until there are so many records.
+    /// Handles messages until there are `len` records.
     fn lengthen(&mut self, len: usize) -> Result<(), Fail> {
         for _ in self.history.len()..len {
             let message = self.next()?;
@@ -198,17 +198,17 @@ impl<const K: usize> Counting<K> {
         Ok(())
     }
 
-    /// So many are taken back, again where memory was refused, which changed nothing; to take none
-    /// back wants no memory.
-    fn go_back(&mut self, rt: &impl Abort, count: usize) -> Result<(), Fail> {
+    /// Takes out the last `count` records. Repeats the call after an allocation failure, which must
+    /// change nothing; taking out none needs no memory.
+    fn take_out_checked(&mut self, rt: &impl Abort, count: usize) -> Result<(), Fail> {
         let before = self.look();
         let mut made = self.ring.handled();
-        let undone = match self.take_back(count) {
+        let undone = match self.undo_last(count) {
             Ok(undone) => undone,
             Err(_) => {
                 assert!(rt; count > 0 && self.look() == before);
                 made = self.ring.handled();
-                self.take_back(count)?
+                self.undo_last(count)?
             }
         };
         let made = self.ring.handled().saturating_sub(made);
@@ -218,10 +218,10 @@ impl<const K: usize> Counting<K> {
         Ok(())
     }
 
-    /// So many are rolled back in place, again where memory was refused, which changed nothing; to
-    /// roll none back wants no memory. To rebuild a state takes no more handlings than there are
-    /// records from one state to the next.
-    fn undo(&mut self, rt: &impl Abort, count: usize) -> Result<(), Fail> {
+    /// Rolls back the last `count` handlings in place. Repeats the call after an allocation
+    /// failure, which must change nothing; rolling back none needs no memory. Rebuilding the state
+    /// must take at most `K` handlings.
+    fn roll_back_checked(&mut self, rt: &impl Abort, count: usize) -> Result<(), Fail> {
         let (before, handled) = (self.look(), self.count());
         let mut made = self.ring.handled();
         let number = match self.roll_back(count) {
@@ -238,8 +238,9 @@ impl<const K: usize> Counting<K> {
         Ok(())
     }
 
-    /// Those below the floor are released, again where memory was refused, which changed nothing.
-    fn let_go(&mut self, rt: &impl Abort, floor: u64, count: usize) -> Result<(), Fail> {
+    /// Releases the records below the floor. Repeats the call after an allocation failure, which
+    /// must change nothing.
+    fn release_checked(&mut self, rt: &impl Abort, floor: u64, count: usize) -> Result<(), Fail> {
         let before = self.look();
         let released = match self.release(floor) {
             Ok(released) => released,
@@ -255,7 +256,7 @@ impl<const K: usize> Counting<K> {
     }
 }
 
-/// Through 200 records, of which some are taken back, and some of the first let go.
+/// Runs through 200 records, rolls some of them back, and releases some of the first ones.
 fn drive<const K: usize>(rt: &impl Abort, alloc: Global) -> Result<(), Fail>
     requires some { 1 ≤ K }
     requires few { K ≤ 64 }
@@ -263,12 +264,12 @@ fn drive<const K: usize>(rt: &impl Abort, alloc: Global) -> Result<(), Fail>
     let mut counting: Counting<K> = Counting::new(alloc);
     for count in [0, 1, 7, 63, 129] {
         counting.fill(rt, 200)?;
-        counting.undo(rt, count)?;
+        counting.roll_back_checked(rt, count)?;
         counting.fill(rt, 200)?;
-        counting.go_back(rt, count)?;
+        counting.take_out_checked(rt, count)?;
     }
-    counting.let_go(rt, 1, 0)?;
-    counting.let_go(rt, 31, 30)?;
+    counting.release_checked(rt, 1, 0)?;
+    counting.release_checked(rt, 31, 30)?;
     assert!(rt; counting.release_first(31).is_none());
     assert!(rt; counting.is_first_after(30));
     let first = counting.release_first(32);
@@ -278,45 +279,45 @@ fn drive<const K: usize>(rt: &impl Abort, alloc: Global) -> Result<(), Fail>
     assert!(rt; counting.is_first_after(31));
     for count in [1, 7, 63, 129] {
         counting.fill(rt, 169)?;
-        counting.go_back(rt, count)?;
+        counting.take_out_checked(rt, count)?;
     }
-    counting.go_back(rt, 40)?;
+    counting.take_out_checked(rt, 40)?;
     assert!(rt; counting.look() == (0, 0, None));
     counting.fill(rt, 3)?;
-    counting.let_go(rt, 1000, 3)?;
+    counting.release_checked(rt, 1000, 3)?;
     assert!(rt; counting.look() == (0, 0, None) && counting.is_first_after(counting.count()));
     Ok(())
 }
 
-/// Back by one, and by none, from the end of a long history: what it costs does not grow with it.
+/// The cost of going back by one, or by none, does not grow with the length of the history.
 #[test]
-fn a_long_history_goes_back_by_one(rt: HostRuntime) -> Result<(), Fail> {
+fn a_long_history_rolls_back_by_one(rt: HostRuntime) -> Result<(), Fail> {
     let mut counting: Counting<8> = Counting::new(rt.alloc());
     counting.lengthen(100_000)?;
     for count in [1, 0, 1, 1, 0] {
-        counting.undo(&rt, count)?;
-        counting.go_back(&rt, count)?;
+        counting.roll_back_checked(&rt, count)?;
+        counting.take_out_checked(&rt, count)?;
     }
     assert!(rt; counting.history.len() == 99_994);
     Ok(())
 }
 
 #[test]
-fn a_history_of_every_state(rt: HostRuntime) -> Result<(), Fail> {
+fn a_history_keeps_every_state(rt: HostRuntime) -> Result<(), Fail> {
     drive::<1>(&rt, rt.alloc())
 }
 
 #[test]
-fn a_history_of_one_state_in_2(rt: HostRuntime) -> Result<(), Fail> {
+fn a_history_keeps_one_state_in_2(rt: HostRuntime) -> Result<(), Fail> {
     drive::<2>(&rt, rt.alloc())
 }
 
 #[test]
-fn a_history_of_one_state_in_8(rt: HostRuntime) -> Result<(), Fail> {
+fn a_history_keeps_one_state_in_8(rt: HostRuntime) -> Result<(), Fail> {
     drive::<8>(&rt, rt.alloc())
 }
 
 #[test]
-fn a_history_of_one_state_in_64(rt: HostRuntime) -> Result<(), Fail> {
+fn a_history_keeps_one_state_in_64(rt: HostRuntime) -> Result<(), Fail> {
     drive::<64>(&rt, rt.alloc())
 }

@@ -1,5 +1,5 @@
-//! Tests of histories, through their public functions. They stand in a crate of their own, since a
-//! crate with tests is proved twice.
+//! Tests of histories through their public functions. They have a crate of their own, since a crate
+//! with tests is proved twice.
 #![tactic(auto)]
 
 #[cfg(test)]

@@ -1,6 +1,6 @@
-// What a rollback of a process costs, and what it costs to tell of its handlings: a node whose model
-// counts tells how many it makes again. State words are kept for one handling in eight, and to be
-// told for those before which there were fewer than 64.
+// The cost of a rollback of a process, and of a report, in messages that the model of a node
+// handles again. A process keeps the state words of one handling in eight, and, for reports, of
+// those with fewer than 64 handlings before them.
 
 ghost use Rattle.std.specs.Prelude.{◌≡◌, ◌<◌, ◌≤◌, ◌^◌, IfOk};
 ghost use Rattle.std.specs.List.{AllByRecursion as Every};
@@ -13,7 +13,7 @@ use node::{Load, Node, NodeFault, Parcel, Part};
 use std::alloc::{AllocError, Global};
 use std::test::Fail;
 
-/// A node of a ring that counts its handlings, with process 0 of two.
+/// A node with process 0 of a ring of two, which counts the handled messages.
 #[derive(Drop)]
 struct CountingNode {
     ring: Counted,
@@ -50,7 +50,7 @@ impl CountingNode {
         Ok(CountingNode { ring, node })
     }
 
-    /// Hands the node a parcel, and answers how many handlings its model made.
+    /// Posts a parcel to the node. Returns how many messages its model handled.
     fn handle(&mut self, deliver: Vec<Signed>, budget: u32, floor: u64) -> Result<u64, NodeFault> {
         let before = self.ring.handled();
         let parcel = Parcel {
@@ -63,7 +63,7 @@ impl CountingNode {
     }
 }
 
-/// Process 0, for which these messages wait.
+/// Process 0 with these waiting messages.
 fn part(alloc: Global, pending: Vec<Message>) -> Part
     ensures { IsInRange result }
 {
@@ -85,12 +85,12 @@ fn parts(alloc: Global, pending: Vec<Message>) -> Result<Vec<Part>, AllocError>
     Ok(parts)
 }
 
-/// A message to process 0 at this time, in ticks.
+/// A message for process 0 at this time, in ticks.
 fn at(time: u64) -> Result<Message, KeyFault> {
     Message::new(time, 1, time, 0, 0, 0, 0, 0)
 }
 
-/// The messages of the even times from 2 on, so many.
+/// `count` messages, at the even times from 2 on.
 fn even(alloc: Global, count: u64) -> Result<Vec<Message>, Fail>
     requires { count ≤ 1000 }
 {
@@ -101,7 +101,7 @@ fn even(alloc: Global, count: u64) -> Result<Vec<Message>, Fail>
     Ok(messages)
 }
 
-/// A straggler at this time, alone.
+/// A list of one straggler at this time.
 fn straggler(alloc: Global, time: u64) -> Result<Vec<Signed>, Fail> {
     let mut deliver = Vec::new(alloc);
     deliver.push(Signed {
@@ -111,10 +111,10 @@ fn straggler(alloc: Global, time: u64) -> Result<Vec<Signed>, Fail> {
     Ok(deliver)
 }
 
-/// Stragglers undo the last handling, the one before it, and so on to the first. To come before the
-/// handling of a place takes those from the last place on that is a multiple of eight.
+/// Stragglers undo one handling after the other, from the last to the first. To restore the state
+/// before a place, the node handles again from the last place that is a multiple of eight.
 #[test]
-fn a_rollback_begins_at_the_last_of_eight(rt: HostRuntime) -> Result<(), Fail> {
+fn a_rollback_starts_at_the_last_kept_state(rt: HostRuntime) -> Result<(), Fail> {
     let parts = parts(rt.alloc(), even(rt.alloc(), 64)?)?;
     let mut node = CountingNode::load(rt.alloc(), parts)?;
     assert_eq!(rt; node.handle(Vec::new(rt.alloc()), 64, 0)?, 64);
@@ -126,10 +126,10 @@ fn a_rollback_begins_at_the_last_of_eight(rt: HostRuntime) -> Result<(), Fail> {
     Ok(())
 }
 
-/// Of 64 handlings in a row none is made again to be told. Of more only those are whose next one
-/// came where 64 or more were there, but for one next in eight.
+/// Of 64 handlings in a row none is repeated to be reported. Of more, a handling is repeated only
+/// if 64 or more were there when its next one came, and not for one next in eight.
 #[test]
-fn what_is_told_is_seldom_handled_again(rt: HostRuntime) -> Result<(), Fail> {
+fn reported_messages_are_seldom_handled_again(rt: HostRuntime) -> Result<(), Fail> {
     let parts = parts(rt.alloc(), even(rt.alloc(), 194)?)?;
     let mut node = CountingNode::load(rt.alloc(), parts)?;
     assert_eq!(rt; node.handle(Vec::new(rt.alloc()), 64, 0)?, 64);

@@ -1,4 +1,4 @@
-// Disks of which one byte is another: which record is at fault.
+// Disks with one changed byte, and which record is at fault.
 
 use crate::disks::{disk_of, left_by, ring};
 use commitlog::LogFault;
@@ -7,8 +7,8 @@ use recovery::RecoveryFault;
 use std::alloc::Global;
 use std::test::Fail;
 
-/// Why the disk of an image tells nothing, where the bits of `turned` are turned of the byte at a
-/// place.
+/// The fault of inspecting a disk with this image, with the bits of `turned` flipped in the byte at
+/// a place.
 fn fault_of(
     alloc: Global,
     image: &[u8],
@@ -23,23 +23,23 @@ fn fault_of(
     Ok(inspect(alloc, &ring(), disk_of(alloc, bytes)?, 10).err())
 }
 
-/// Whether the record behind so many is told.
-fn is_at(fault: Option<InspectionFault>, wanted: u64) -> bool {
+/// Whether a fault names the record with this number.
+fn is_at(fault: Option<InspectionFault>, expected: u64) -> bool {
     match fault {
-        Some(InspectionFault::Record { number, fault: _ }) => number == wanted,
+        Some(InspectionFault::Record { number, fault: _ }) => number == expected,
         _ => false,
     }
 }
 
-/// The body of the second record stands in sector 5, behind a kind and a length, and has three
-/// events of 56 bytes behind its time and their count.
+/// The body of the second record is in sector 5, after its kind and its length: the time, a count,
+/// and three events of 56 bytes.
 #[test]
-fn each_byte_of_a_record_counts(rt: HostRuntime) -> Result<(), Fail> {
+fn a_damaged_byte_of_a_record_is_found(rt: HostRuntime) -> Result<(), Fail> {
     let image = left_by(rt.alloc(), 64, 0)?;
     for place in 0..180 {
         let fault = fault_of(rt.alloc(), image.as_slice(), 5 * 512 + 5 + place, 1)?;
         if place == 7 {
-            // Its time is 6 then: the same events come before it, and the rest stands.
+            // Its time is then 6: the same events are before it, and the later records follow.
             assert!(rt; fault.is_none());
         } else {
             assert!(rt; is_at(fault, 1), "byte {place}");
@@ -48,10 +48,10 @@ fn each_byte_of_a_record_counts(rt: HostRuntime) -> Result<(), Fail> {
     Ok(())
 }
 
-/// A kind, the length of a body, a time and what follows, of each of the records before the
-/// checkpoint in sector 9 and of itself.
+/// Damages the kind or the time of each record before the checkpoint in sector 9, and the time and
+/// the pending message of the checkpoint itself.
 #[test]
-fn records_before_a_checkpoint_count(rt: HostRuntime) -> Result<(), Fail> {
+fn damage_before_a_checkpoint_is_found(rt: HostRuntime) -> Result<(), Fail> {
     let image = left_by(rt.alloc(), 11, 3)?;
     for (place, number, fault) in [
         (3 * 512, 0, RecoveryFault::BadRecord),
@@ -60,9 +60,9 @@ fn records_before_a_checkpoint_count(rt: HostRuntime) -> Result<(), Fail> {
         (9 * 512 + 12, 3, RecoveryFault::BadCheckpoint),
         (9 * 512 + 75, 3, RecoveryFault::BadCheckpoint),
     ] {
-        let wanted = Some(InspectionFault::Record { number, fault });
+        let expected = Some(InspectionFault::Record { number, fault });
         assert!(rt;
-            fault_of(rt.alloc(), image.as_slice(), place, 8)? == wanted,
+            fault_of(rt.alloc(), image.as_slice(), place, 8)? == expected,
             "byte {place}"
         );
     }
@@ -70,7 +70,7 @@ fn records_before_a_checkpoint_count(rt: HostRuntime) -> Result<(), Fail> {
 }
 
 #[test]
-fn other_faults_are_of_no_record(rt: HostRuntime) -> Result<(), Fail> {
+fn other_faults_name_no_record(rt: HostRuntime) -> Result<(), Fail> {
     let image = left_by(rt.alloc(), 64, 0)?;
     for (place, fault) in [
         (0, InspectionFault::Log(LogFault::NotFormatted)),

@@ -1,5 +1,5 @@
-// What disks tell of runs of a ring: one token round three processes, two ticks at each, up to time
-// 10. Its records are of the times 1, 7 and 10, and have 0, 3 and 2 events.
+// Inspections of the disks of a ring: one token that goes round three processes, two ticks at each,
+// up to time 10. The records of a run have the times 1, 7 and 10, and 0, 3 and 2 events.
 
 ghost use Rattle.std.specs.Prelude.{◌<◌};
 
@@ -15,7 +15,7 @@ use std::test::Fail;
 
 const END: u64 = 10;
 
-/// Is told of no commit.
+/// A watcher that ignores commits.
 #[derive(Clone, Copy)]
 struct Nobody;
 
@@ -27,14 +27,14 @@ pub(crate) fn ring() -> TokenRing {
     TokenRing::new(3, 2, 1)
 }
 
-/// A disk of so many sectors with no record.
+/// A disk of this size without records.
 fn new_disk(alloc: Global, sectors: u32) -> Result<MemDisk, Fail> {
     let mut disk = MemDisk::blank(alloc, sectors)?;
     format(&mut disk, &header(alloc, &ring(), END))?;
     Ok(disk)
 }
 
-/// The disk that a run leaves, with a checkpoint each so many rounds.
+/// The disk after a run with a checkpoint after each `every` rounds.
 fn run_on(alloc: Global, disk: MemDisk, every: u32) -> MemDisk {
     let plan = Plan {
         nodes: 3,
@@ -47,13 +47,13 @@ fn run_on(alloc: Global, disk: MemDisk, every: u32) -> MemDisk {
     run_local(alloc, &ring(), disk, END, plan, &mut Nobody).disk
 }
 
-/// The image of a disk of so many sectors that a run leaves.
+/// The image that a run leaves on a disk of this size.
 pub(crate) fn left_by(alloc: Global, sectors: u32, every: u32) -> Result<Vec<u8>, Fail> {
     let disk = run_on(alloc, new_disk(alloc, sectors)?, every);
     Ok(disk.crash(alloc, Torn::Old)?)
 }
 
-/// A disk with this image, of at most 16 MiB.
+/// A disk with this image; an empty one if the image has more than 16 MiB.
 pub(crate) fn disk_of(alloc: Global, image: Vec<u8>) -> Result<MemDisk, Fail> {
     if image.len() > 1 << 24 {
         return Ok(MemDisk::blank(alloc, 0)?);
@@ -65,75 +65,75 @@ pub(crate) fn disk_of(alloc: Global, image: Vec<u8>) -> Result<MemDisk, Fail> {
     Ok(MemDisk::of(alloc, image, plan)?)
 }
 
-/// What a disk tells, where it tells something.
-fn told(alloc: Global, disk: MemDisk, end: u64) -> Result<Inspection, Fail> {
+/// The inspection of a disk, which must succeed.
+fn shown(alloc: Global, disk: MemDisk, end: u64) -> Result<Inspection, Fail> {
     match inspect(alloc, &ring(), disk, end) {
-        Ok(told) => Ok(told),
-        Err(_fault) => Err(Fail::from("the disk tells nothing")),
+        Ok(shown) => Ok(shown),
+        Err(_fault) => Err(Fail::from("the disk shows nothing")),
     }
 }
 
-/// The text of that.
-fn text_of(alloc: Global, told: &Inspection) -> Result<Vec<u8>, Fail> {
+/// The text of an inspection.
+fn text_of(alloc: Global, shown: &Inspection) -> Result<Vec<u8>, Fail> {
     let mut text = Vec::new(alloc);
-    write_inspection(told, &mut text)?;
+    write_inspection(shown, &mut text)?;
     Ok(text)
 }
 
-/// Whether a disk tells just this.
-fn tells(alloc: Global, disk: MemDisk, end: u64, text: &str) -> Result<bool, Fail> {
-    let told = told(alloc, disk, end)?;
-    Ok(text_of(alloc, &told)?.as_slice() == text.as_bytes())
+/// Whether the inspection of a disk has exactly this text.
+fn is_shown_as(alloc: Global, disk: MemDisk, end: u64, text: &str) -> Result<bool, Fail> {
+    let shown = shown(alloc, disk, end)?;
+    Ok(text_of(alloc, &shown)?.as_slice() == text.as_bytes())
 }
 
 #[test]
-fn a_new_disk_tells_of_no_record(rt: HostRuntime) -> Result<(), Fail> {
+fn the_inspection_of_a_new_disk_has_no_records(rt: HostRuntime) -> Result<(), Fail> {
     let text = "virtual time 0 of 10 ticks, 0 percent\n\
         events 0, - bytes of disk an event\n\
         records 0, of them 0 checkpoints and 0 ends\n\
         sectors 3 used of 64, 61 free\n";
     let disk = new_disk(rt.alloc(), 64)?;
-    assert!(rt; tells(rt.alloc(), disk, END, text)?);
+    assert!(rt; is_shown_as(rt.alloc(), disk, END, text)?);
     Ok(())
 }
 
 #[test]
-fn a_run_is_told(rt: HostRuntime) -> Result<(), Fail> {
+fn a_run_is_inspected(rt: HostRuntime) -> Result<(), Fail> {
     let text = "virtual time 10 of 10 ticks, 100 percent\n\
         events 5, 922 bytes of disk an event\n\
         records 3, of them 0 checkpoints and 0 ends\n\
         sectors 9 used of 64, 55 free\n\
         room to the end at the pace of the last 3 commits\n";
     let disk = run_on(rt.alloc(), new_disk(rt.alloc(), 64)?, 0);
-    assert!(rt; tells(rt.alloc(), disk, END, text)?);
+    assert!(rt; is_shown_as(rt.alloc(), disk, END, text)?);
     Ok(())
 }
 
 #[test]
-fn a_run_with_a_checkpoint_is_told(rt: HostRuntime) -> Result<(), Fail> {
+fn a_run_with_a_checkpoint_is_inspected(rt: HostRuntime) -> Result<(), Fail> {
     let text = "virtual time 10 of 10 ticks, 100 percent\n\
         events 5, 1127 bytes of disk an event\n\
         records 4, of them 1 checkpoints (the last at 10 ticks) and 0 ends\n\
         sectors 11 used of 11, 0 free\n\
         room to the end at the pace of the last 3 commits\n";
     let disk = run_on(rt.alloc(), new_disk(rt.alloc(), 11)?, 3);
-    assert!(rt; tells(rt.alloc(), disk, END, text)?);
+    assert!(rt; is_shown_as(rt.alloc(), disk, END, text)?);
     Ok(())
 }
 
 #[test]
-fn a_full_disk_is_told(rt: HostRuntime) -> Result<(), Fail> {
+fn a_full_disk_is_inspected(rt: HostRuntime) -> Result<(), Fail> {
     let text = "virtual time 7 of 10 ticks, 70 percent\n\
         events 3, 1195 bytes of disk an event\n\
         records 2, of them 0 checkpoints and 0 ends\n\
         sectors 7 used of 7, 0 free\n\
         full at about 7 ticks at the pace of the last 2 commits\n";
     let disk = run_on(rt.alloc(), new_disk(rt.alloc(), 7)?, 0);
-    assert!(rt; tells(rt.alloc(), disk, END, text)?);
+    assert!(rt; is_shown_as(rt.alloc(), disk, END, text)?);
     Ok(())
 }
 
-/// The disk of a run up to time 400 by one node, one event a step.
+/// The disk of a run up to time 400 on one node, one event per step.
 fn long_run(alloc: Global) -> Result<MemDisk, Fail> {
     let plan = Plan {
         nodes: 1,
@@ -149,17 +149,17 @@ fn long_run(alloc: Global) -> Result<MemDisk, Fail> {
 }
 
 #[test]
-fn the_pace_is_of_the_last_64_commits(rt: HostRuntime) -> Result<(), Fail> {
-    let told = told(rt.alloc(), long_run(rt.alloc())?, 400)?;
-    assert!(rt; told.time == 400 && told.events == 200);
-    let used = told.records.saturating_mul(2).saturating_add(3);
-    assert!(rt; told.records > 64 && told.used == used);
-    assert!(rt; told.pace.commits == 64 && told.pace.sectors == 128);
-    assert!(rt; 400 - 4 * 64 <= told.pace.from && told.pace.from < 400);
+fn the_pace_covers_the_last_64_commits(rt: HostRuntime) -> Result<(), Fail> {
+    let shown = shown(rt.alloc(), long_run(rt.alloc())?, 400)?;
+    assert!(rt; shown.time == 400 && shown.events == 200);
+    let used = shown.records.saturating_mul(2).saturating_add(3);
+    assert!(rt; shown.records > 64 && shown.used == used);
+    assert!(rt; shown.pace.commits == 64 && shown.pace.sectors == 128);
+    assert!(rt; 400 - 4 * 64 <= shown.pace.from && shown.pace.from < 400);
     Ok(())
 }
 
-/// The disk of a run, on which a later end was put in force.
+/// The disk of a run with a later end put in force.
 fn carried_on(alloc: Global) -> Result<MemDisk, Fail> {
     let disk = run_on(alloc, new_disk(alloc, 64)?, 0);
     match extend(alloc, &ring(), disk, 20) {
@@ -169,13 +169,13 @@ fn carried_on(alloc: Global) -> Result<MemDisk, Fail> {
 }
 
 #[test]
-fn a_later_end_is_told(rt: HostRuntime) -> Result<(), Fail> {
+fn a_later_end_is_inspected(rt: HostRuntime) -> Result<(), Fail> {
     let text = "virtual time 10 of 20 ticks, 50 percent\n\
         events 5, 1127 bytes of disk an event\n\
         records 4, of them 0 checkpoints and 1 ends\n\
         sectors 11 used of 64, 53 free\n\
         room to the end at the pace of the last 3 commits\n";
-    assert!(rt; tells(rt.alloc(), carried_on(rt.alloc())?, 20, text)?);
+    assert!(rt; is_shown_as(rt.alloc(), carried_on(rt.alloc())?, 20, text)?);
     Ok(())
 }
 

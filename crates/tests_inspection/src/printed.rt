@@ -1,10 +1,10 @@
-// The text of numbers that no small disk tells.
+// Texts with numbers that no small disk has.
 
 use inspection::{Inspection, Pace, write_inspection};
 use std::alloc::Global;
 use std::test::Fail;
 
-fn told() -> Inspection {
+fn shown() -> Inspection {
     Inspection {
         time: 100,
         end: 1000,
@@ -23,51 +23,51 @@ fn told() -> Inspection {
     }
 }
 
-/// Whether this is written of it.
-fn is_written(alloc: Global, told: &Inspection, text: &str) -> Result<bool, Fail> {
+/// Whether an inspection has exactly this text.
+fn is_written(alloc: Global, shown: &Inspection, text: &str) -> Result<bool, Fail> {
     let mut written = Vec::new(alloc);
-    write_inspection(told, &mut written)?;
+    write_inspection(shown, &mut written)?;
     Ok(written.as_slice() == text.as_bytes())
 }
 
 #[test]
-fn a_disk_that_does_not_last(rt: HostRuntime) -> Result<(), Fail> {
+fn an_inspection_estimates_when_a_disk_is_full(rt: HostRuntime) -> Result<(), Fail> {
     let text = "virtual time 100 of 1000 ticks, 10 percent\n\
         events 7, 4462 bytes of disk an event\n\
         records 31, of them 2 checkpoints (the last at 90 ticks) and 1 ends\n\
         sectors 61 used of 100, 39 free\n\
         full at about 178 ticks at the pace of the last 10 commits\n";
-    assert!(rt; is_written(rt.alloc(), &told(), text)?);
+    assert!(rt; is_written(rt.alloc(), &shown(), text)?);
     Ok(())
 }
 
 #[test]
-fn percents_are_rounded_down(rt: HostRuntime) -> Result<(), Fail> {
-    let mut told = told();
-    told.time = 999;
-    told.used = 200;
-    told.pace.commits = 0;
+fn percentages_are_rounded_down(rt: HostRuntime) -> Result<(), Fail> {
+    let mut shown = shown();
+    shown.time = 999;
+    shown.used = 200;
+    shown.pace.commits = 0;
     let text = "virtual time 999 of 1000 ticks, 99 percent\n\
         events 7, 14629 bytes of disk an event\n\
         records 31, of them 2 checkpoints (the last at 90 ticks) and 1 ends\n\
         sectors 200 used of 100, 0 free\n";
-    assert!(rt; is_written(rt.alloc(), &told, text)?);
+    assert!(rt; is_written(rt.alloc(), &shown, text)?);
     Ok(())
 }
 
 #[test]
-fn great_numbers_are_written(rt: HostRuntime) -> Result<(), Fail> {
-    let mut told = told();
-    told.time = u64::MAX;
-    told.end = 1;
-    told.events = 1;
-    told.sectors = u64::MAX;
-    told.used = u64::MAX;
+fn large_numbers_are_written(rt: HostRuntime) -> Result<(), Fail> {
+    let mut shown = shown();
+    shown.time = u64::MAX;
+    shown.end = 1;
+    shown.events = 1;
+    shown.sectors = u64::MAX;
+    shown.used = u64::MAX;
     let text = "virtual time 18446744073709551615 of 1 ticks, 18446744073709551615 percent\n\
         events 1, 18446744073709551615 bytes of disk an event\n\
         records 31, of them 2 checkpoints (the last at 90 ticks) and 1 ends\n\
         sectors 18446744073709551615 used of 18446744073709551615, 0 free\n\
         room to the end at the pace of the last 10 commits\n";
-    assert!(rt; is_written(rt.alloc(), &told, text)?);
+    assert!(rt; is_written(rt.alloc(), &shown, text)?);
     Ok(())
 }

@@ -1,5 +1,5 @@
-// Worked values of the input queue. A call that is refused for want of memory is made again, and
-// must then answer as if it had never been refused.
+// Worked examples of the input queue. A call that meets an allocation failure is repeated, and must
+// then answer as if it had never failed.
 
 ghost use Rattle.std.specs.Prelude.{◌≤◌, ◌<◌};
 
@@ -10,28 +10,28 @@ use std::alloc::AllocError;
 use std::process::Abort;
 use std::test::Fail;
 
-/// What is done with a queue: a message or an antimessage arrives, or the least message below an
-/// end, in ticks, is taken.
+/// A call of a queue: a message or an antimessage arrives, or the least message below an end, in
+/// ticks, is taken.
 #[derive(Clone, Copy)]
 enum Call {
     Arrives(Signed),
     Taken(u64),
 }
 
-/// What a call answers: the arrival, or the time of what was taken.
+/// The answer of a call: the arrival, or the time of the taken message.
 type Answer = (Option<Arrival>, Option<u64>);
 
-/// How many messages are done, wait, and wait against.
+/// The numbers of done messages, waiting messages and waiting antimessages.
 type Lens = (usize, usize, usize);
 
-/// A call, what it answers and how long the lists are then.
+/// A call, its answer, and the lengths of the lists after it.
 type Step = (Call, Answer, Lens);
 
 const A: Row = (5, 0, 1, 1, 0, 1, 0, 0);
-/// Another message of the same sender and number.
+/// Another message of the same time, sender and number.
 const OTHER: Row = (5, 0, 1, 1, 9, 1, 0, 0);
 
-/// What differs in the third or in the last word of its content alone.
+/// Messages that differ from `A` only in the third or the last word of their content.
 const OTHER_C: Row = (5, 0, 1, 1, 0, 1, 1, 0);
 
 const OTHER_D: Row = (5, 0, 1, 1, 0, 1, 0, 1);
@@ -56,7 +56,7 @@ fn lens(queue: &InputQueue) -> Lens {
     (queue.done_len(), queue.waiting_len(), queue.antis_len())
 }
 
-/// All that a queue shows: the lists' lengths, the least message that waits, and the least time.
+/// The visible state of a queue: the lengths, the least waiting message, and the least time.
 fn shown(queue: &InputQueue) -> (Lens, Option<Message>, Option<u64>) {
     (lens(queue), queue.next(u64::MAX), queue.low())
 }
@@ -74,7 +74,7 @@ fn make(queue: &mut InputQueue, call: &Call) -> Result<Answer, AllocError> {
     }
 }
 
-/// Makes a call, and makes it again where memory was refused, which changed nothing.
+/// Makes a call, and repeats it after an allocation failure, which must change nothing.
 fn make_at_last(
     rt: &impl Abort,
     queue: &mut InputQueue,
@@ -90,8 +90,8 @@ fn make_at_last(
 
 fn play(rt: &impl Abort, queue: &mut InputQueue, steps: &[Step], name: &str) -> Result<(), Fail> {
     for (call, answer, left) in steps {
-        let told = make_at_last(rt, queue, call)?;
-        assert!(rt; told == *answer, "{name}");
+        let reported = make_at_last(rt, queue, call)?;
+        assert!(rt; reported == *answer, "{name}");
         assert!(rt; lens(queue) == *left, "{name}");
     }
     Ok(())
@@ -102,7 +102,7 @@ fn of_time(time: u64) -> Row {
     (time, 1, time, 1, 0, 0, 0, 0)
 }
 
-/// Takes what waits, one after another, and answers how many messages that were.
+/// Takes all waiting messages in order. Returns their number.
 fn take_all(rt: &impl Abort, queue: &mut InputQueue) -> Result<u64, Fail> {
     let mut count: u64 = 0;
     let mut last = 0;
@@ -118,16 +118,16 @@ fn take_all(rt: &impl Abort, queue: &mut InputQueue) -> Result<u64, Fail> {
 #[test]
 fn many_messages_wait_in_order(rt: HostRuntime) -> Result<(), Fail> {
     let mut queue = InputQueue::new(rt.alloc());
-    // 200 times from 1 to 211 in no order, of which every fourth is taken back
+    // 200 times from 1 to 211 in mixed order; then an antimessage for every fourth message
     for place in 0..200 {
         let plus = signed(Sign::Plus, of_time(1 + place * 97 % 211))?;
-        let told = make_at_last(&rt, &mut queue, &Call::Arrives(plus))?;
-        assert!(&rt; told == queued(0));
+        let reported = make_at_last(&rt, &mut queue, &Call::Arrives(plus))?;
+        assert!(&rt; reported == queued(0));
     }
     for place in 0..50 {
         let minus = signed(Sign::Minus, of_time(1 + place * 4 * 97 % 211))?;
-        let told = make_at_last(&rt, &mut queue, &Call::Arrives(minus))?;
-        assert!(&rt; told == annihilated(0));
+        let reported = make_at_last(&rt, &mut queue, &Call::Arrives(minus))?;
+        assert!(&rt; reported == annihilated(0));
     }
     assert!(&rt; lens(&queue) == (0, 150, 0));
     assert!(&rt; take_all(&rt, &mut queue)? == 150);
@@ -139,8 +139,8 @@ fn many_messages_wait_in_order(rt: HostRuntime) -> Result<(), Fail> {
     Ok(())
 }
 
-/// The message of this place among 100,000: each at a time of its own, in no order, or all at one
-/// time, the last number first.
+/// The message at this place among 100,000: `apart`, each at a time of its own, in mixed order;
+/// otherwise all at one time, the last number first.
 fn one_of_many(place: u64, apart: bool) -> Row
     requires { place < 100000 }
 {
@@ -151,7 +151,8 @@ fn one_of_many(place: u64, apart: bool) -> Row
     }
 }
 
-/// So many arrive, and then all are taken: how many that were, and whether they came in order.
+/// Lets `count` messages arrive and takes all. Returns the number of taken messages, and whether
+/// they came in order.
 fn pass_many(queue: &mut InputQueue, count: u64, apart: bool) -> Result<(u64, bool), Fail>
     requires { count ≤ 100000 }
 {
@@ -180,7 +181,7 @@ fn a_hundred_thousand_messages_wait(rt: HostRuntime) -> Result<(), Fail> {
 }
 
 #[test]
-fn what_arrives_meets_its_like(rt: HostRuntime) -> Result<(), Fail> {
+fn messages_and_antimessages_annihilate(rt: HostRuntime) -> Result<(), Fail> {
     let plus = Call::Arrives(signed(Sign::Plus, A)?);
     let minus = Call::Arrives(signed(Sign::Minus, A)?);
     let other = Call::Arrives(signed(Sign::Plus, OTHER)?);
@@ -246,7 +247,7 @@ fn what_arrives_meets_its_like(rt: HostRuntime) -> Result<(), Fail> {
 }
 
 #[test]
-fn what_differs_in_its_last_words_alone_is_another_message(rt: HostRuntime) -> Result<(), Fail> {
+fn messages_that_differ_only_in_the_last_words_are_distinct(rt: HostRuntime) -> Result<(), Fail> {
     let plus = Call::Arrives(signed(Sign::Plus, A)?);
     let minus = Call::Arrives(signed(Sign::Minus, A)?);
     let take = Call::Taken(10);
@@ -254,14 +255,14 @@ fn what_differs_in_its_last_words_alone_is_another_message(rt: HostRuntime) -> R
         let plus_other = Call::Arrives(signed(Sign::Plus, other)?);
         let minus_other = Call::Arrives(signed(Sign::Minus, other)?);
         let steps = [
-            // it takes back neither a message that waits nor one that was handled
+            // the other antimessage annihilates neither a waiting message nor a handled one
             (plus, queued(0), (0, 1, 0)),
             (minus_other, WAITS, (0, 1, 1)),
             (take, taken(5), (1, 0, 1)),
             (minus_other, WAITS, (1, 0, 2)),
             (plus_other, annihilated(0), (1, 0, 1)),
             (plus_other, annihilated(0), (1, 0, 0)),
-            // it comes behind
+            // the other message is later
             (plus_other, queued(0), (1, 1, 0)),
             (take, taken(5), (2, 0, 0)),
             (minus, annihilated(2), (0, 1, 0)),
@@ -282,7 +283,7 @@ fn what_differs_in_its_last_words_alone_is_another_message(rt: HostRuntime) -> R
 }
 
 #[test]
-fn a_straggler_undoes_what_comes_after(rt: HostRuntime) -> Result<(), Fail> {
+fn a_straggler_rolls_back_later_messages(rt: HostRuntime) -> Result<(), Fail> {
     let waiting = [
         (9, 0, 0, 1, 0, 0, 0, 0),
         (3, 0, 0, 1, 0, 0, 0, 0),

@@ -1,4 +1,4 @@
-// The ledger of a run of two nodes, and its posts beside a plain list.
+// The ledger of a run of two nodes, and its posts compared with a plain list.
 
 use eventkey::{KeyFault, Listed, Message, Sign, Signed};
 use gvt::{Ledger, LedgerFault};
@@ -10,7 +10,7 @@ use std::test::Fail;
 mod memory;
 mod rounds;
 
-// The number tells messages of one time apart.
+// The number distinguishes messages of one time.
 fn signed(sign: Sign, time: u64, number: u64, to: u32) -> Result<Signed, KeyFault> {
     let message = Message::new(time, 0, number, to, 0, 0, 0, 0)?;
     Ok(Signed { sign, message })
@@ -29,7 +29,7 @@ fn reply(alloc: Global, out: &[Signed], low: Option<u64>) -> Result<Reply, Alloc
     })
 }
 
-// The calls by functions with no contract, which keeps the proofs of the tests short.
+// These calls are in functions without contracts, which keeps the proofs of the tests short.
 fn two_nodes(alloc: Global, floor: u64, lows: [Option<u64>; 2]) -> Result<Ledger, LedgerFault> {
     Ledger::new(alloc, 2, 10, floor, &lows)
 }
@@ -48,7 +48,7 @@ fn take(
     ledger.take(node, &reply(alloc, out, low)?)
 }
 
-// The node is posted nothing, and answers that it sent this.
+// Posts an empty parcel to the node, whose reply sends these messages.
 fn sends(
     alloc: Global,
     ledger: &mut Ledger,
@@ -61,7 +61,7 @@ fn sends(
 }
 
 #[test]
-fn a_parcel_that_is_not_taken_holds_the_floor(rt: HostRuntime) -> Result<(), Fail> {
+fn an_unanswered_parcel_holds_the_floor(rt: HostRuntime) -> Result<(), Fail> {
     let mut ledger = two_nodes(rt.alloc(), 0, [Some(6), Some(8)])?;
     let sent = [plus(4, 0, 1)?];
     sends(rt.alloc(), &mut ledger, 0, &sent, Some(6))?;
@@ -76,7 +76,7 @@ fn a_parcel_that_is_not_taken_holds_the_floor(rt: HostRuntime) -> Result<(), Fai
 }
 
 #[test]
-fn a_floor_is_answered_when_its_parcel_is(rt: HostRuntime) -> Result<(), Fail> {
+fn a_floor_is_answered_with_its_parcel(rt: HostRuntime) -> Result<(), Fail> {
     let mut ledger = two_nodes(rt.alloc(), 1, [Some(4), Some(6)])?;
     assert_eq!(rt; ledger.least_answered(), 1);
     let first = post(&mut ledger, 0, &[])?;

@@ -1,6 +1,6 @@
-//! Tests of the simulation kernel: messages, input queues, the plain runner, nodes with their
-//! processes, and the ledger, through their public functions. They stand in a crate of their own,
-//! since a crate with tests is proved twice.
+//! Tests of the simulation kernel through its public functions: messages, input queues, the plain
+//! runner, nodes with their processes, and the ledger. They have a crate of their own, since a
+//! crate with tests is proved twice.
 #![tactic(auto)]
 
 #[cfg(test)]

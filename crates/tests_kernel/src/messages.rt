@@ -1,4 +1,4 @@
-// Worked values of messages and their bytes.
+// Worked examples of messages and their bytes.
 
 use crate::rows::{Row, message, messages, row};
 use eventkey::*;
@@ -6,30 +6,30 @@ use std::alloc::Global;
 use std::cmp::Ordering;
 use std::test::Fail;
 
-/// A message as it travels.
+/// A message as a row of numbers.
 const ROW: Row = (3, 0, 1, 1, 0, 1, 0, 0);
 
-/// Its bytes.
-const SPELLED: [u8; 56] = [
+/// The bytes of `ROW`.
+const ENCODED: [u8; 56] = [
     0, 0, 0, 0, 0, 0, 0, 3, 0, 0, 0, 0, 0, 0, 0, 0, 0, 0, 0, 1, 0, 0, 0, 1, 0, 0, 0, 0, 0, 0, 0, 0,
     0, 0, 0, 0, 0, 0, 0, 1, 0, 0, 0, 0, 0, 0, 0, 0, 0, 0, 0, 0, 0, 0, 0, 0,
 ];
 
-/// A message of eight numbers, and its bytes.
+/// A message whose eight numbers differ, and its bytes.
 const EIGHT: Row = (1, 2, 3, 4, 5, 6, 7, u64::MAX);
 
-const SPELLED_EIGHT: [u8; 56] = [
+const ENCODED_EIGHT: [u8; 56] = [
     0, 0, 0, 0, 0, 0, 0, 1, 0, 0, 0, 2, 0, 0, 0, 0, 0, 0, 0, 3, 0, 0, 0, 4, 0, 0, 0, 0, 0, 0, 0, 5,
     0, 0, 0, 0, 0, 0, 0, 6, 0, 0, 0, 0, 0, 0, 0, 7, 255, 255, 255, 255, 255, 255, 255, 255,
 ];
 
 #[test]
-fn a_message_and_an_antimessage_are_spelled(rt: HostRuntime) -> Result<(), Fail> {
+fn a_message_and_an_antimessage_are_encoded(rt: HostRuntime) -> Result<(), Fail> {
     assert_eq!(rt; (MESSAGE_BYTES, SIGNED_BYTES), (56, 57));
     let message = message(ROW)?;
     let mut bytes = [7; 56];
     put_message(&message, &mut bytes);
-    assert_eq!(rt; bytes, SPELLED);
+    assert_eq!(rt; bytes, ENCODED);
     assert_eq!(rt; get_message(&bytes)?, message);
     let signed = Signed {
         sign: Sign::Minus,
@@ -38,27 +38,27 @@ fn a_message_and_an_antimessage_are_spelled(rt: HostRuntime) -> Result<(), Fail>
     let mut bytes = [7; 57];
     put_signed(&signed, &mut bytes);
     assert_eq!(rt; bytes[0], 1);
-    assert_eq!(rt; bytes[1..], SPELLED[..]);
+    assert_eq!(rt; bytes[1..], ENCODED[..]);
     assert_eq!(rt; get_signed(&bytes)?, signed);
     Ok(())
 }
 
 #[test]
-fn each_number_of_a_message_has_its_bytes(rt: HostRuntime) -> Result<(), Fail> {
+fn each_field_of_a_message_has_its_bytes(rt: HostRuntime) -> Result<(), Fail> {
     let message = message(EIGHT)?;
     let mut bytes = [9; 56];
     put_message(&message, &mut bytes);
-    assert_eq!(rt; bytes, SPELLED_EIGHT);
-    let read = get_message(&SPELLED_EIGHT)?;
+    assert_eq!(rt; bytes, ENCODED_EIGHT);
+    let read = get_message(&ENCODED_EIGHT)?;
     assert!(rt; row(&read) == EIGHT);
     Ok(())
 }
 
 #[test]
-fn bytes_that_are_no_message_are_refused(rt: HostRuntime) -> Result<(), Fail> {
+fn bytes_that_encode_no_message_are_refused(rt: HostRuntime) -> Result<(), Fail> {
     let short = Err(KeyFault::Short);
     for count in [0, 40, 55] {
-        assert_eq!(rt; get_message(SPELLED.split_at(count).0), short, "{count}");
+        assert_eq!(rt; get_message(ENCODED.split_at(count).0), short, "{count}");
     }
     assert_eq!(rt; get_message(&[255; 56]), Err(KeyFault::TimeTooLarge));
     let short = Err(KeyFault::Short);
@@ -79,7 +79,7 @@ fn is_later(later: &Message, earlier: &Message) -> bool {
 }
 
 #[test]
-fn messages_go_by_each_field_in_turn(rt: HostRuntime) -> Result<(), Fail> {
+fn messages_are_ordered_by_each_field_in_turn(rt: HostRuntime) -> Result<(), Fail> {
     let rows = [
         (1, 1, 1, 1, 1, 1, 1, 1),
         (1, 1, 1, 1, 1, 1, 1, 2),
@@ -98,7 +98,7 @@ fn messages_go_by_each_field_in_turn(rt: HostRuntime) -> Result<(), Fail> {
     Ok(())
 }
 
-/// Whether these bytes begin with these messages, and with no more.
+/// Whether these bytes are exactly the bytes of these messages.
 fn begins_with(alloc: Global, bytes: &[u8], messages: &[Message]) -> Result<bool, Fail> {
     let count = u32::try_from(messages.len())?;
     let Some((read, rest)) = read_messages(alloc, count, bytes)? else {
@@ -122,7 +122,7 @@ fn lists_are_appended_and_read(rt: HostRuntime) -> Result<(), Fail> {
     let messages = messages(rt.alloc(), &[EIGHT, ROW])?;
     let mut bytes = Vec::new(rt.alloc());
     append_messages(&mut bytes, messages.as_slice())?;
-    assert!(rt; bytes.starts_with(&SPELLED_EIGHT) && bytes.ends_with(&SPELLED));
+    assert!(rt; bytes.starts_with(&ENCODED_EIGHT) && bytes.ends_with(&ENCODED));
     assert_eq!(rt; bytes.len(), 112);
     assert!(rt; begins_with(rt.alloc(), bytes.as_slice(), messages.as_slice())?);
     let message = message(ROW)?;
@@ -148,21 +148,21 @@ fn a_refused_append_changes_nothing(rt: HostRuntime) -> Result<(), Fail> {
         assert_eq!(rt; bytes.len(), 56);
         append_signed(&mut bytes, &Signed { sign, message })?;
     }
-    assert!(rt; bytes.starts_with(&SPELLED));
-    assert!(rt; bytes.ends_with(&SPELLED));
+    assert!(rt; bytes.starts_with(&ENCODED));
+    assert!(rt; bytes.ends_with(&ENCODED));
     assert_eq!(rt; bytes.len(), 113);
     assert!(rt; bytes.get(56) == Some(&1));
     Ok(())
 }
 
 #[test]
-fn a_list_is_read_again_after_want_of_memory(rt: HostRuntime) -> Result<(), Fail> {
-    let read = match read_messages(rt.alloc(), 1, &SPELLED) {
-        Err(_) => read_messages(rt.alloc(), 1, &SPELLED)?,
+fn a_list_is_read_after_an_allocation_failure(rt: HostRuntime) -> Result<(), Fail> {
+    let read = match read_messages(rt.alloc(), 1, &ENCODED) {
+        Err(_) => read_messages(rt.alloc(), 1, &ENCODED)?,
         Ok(read) => read,
     };
     let Some((messages, rest)) = read else {
-        return Err(Fail::new("a message stands there"));
+        return Err(Fail::new("a message was read"));
     };
     assert_eq!(rt; messages.as_slice(), [message(ROW)?].as_slice());
     assert_eq!(rt; rest.len(), 0);
@@ -171,20 +171,20 @@ fn a_list_is_read_again_after_want_of_memory(rt: HostRuntime) -> Result<(), Fail
 
 #[test]
 fn a_claimed_count_takes_no_memory(rt: HostRuntime) -> Result<(), Fail> {
-    assert!(rt; read_messages(rt.alloc(), u32::MAX, &SPELLED)?.is_none());
-    assert!(rt; read_signed_list(rt.alloc(), u32::MAX, &SPELLED)?.is_none());
+    assert!(rt; read_messages(rt.alloc(), u32::MAX, &ENCODED)?.is_none());
+    assert!(rt; read_signed_list(rt.alloc(), u32::MAX, &ENCODED)?.is_none());
     Ok(())
 }
 
 #[test]
-fn faults_are_told(rt: HostRuntime) -> Result<(), Fail> {
+fn faults_are_printed_by_name(rt: HostRuntime) -> Result<(), Fail> {
     for (fault, name) in [
         (KeyFault::Short, "Short"),
         (KeyFault::TimeTooLarge, "TimeTooLarge"),
         (KeyFault::BadSign, "BadSign"),
     ] {
-        let told = format!(in rt.alloc(); "{fault}")?;
-        assert_eq!(rt; told.as_str(), name);
+        let reported = format!(in rt.alloc(); "{fault}")?;
+        assert_eq!(rt; reported.as_str(), name);
     }
     Ok(())
 }

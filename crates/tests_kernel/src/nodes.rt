@@ -1,5 +1,4 @@
-// Nodes at work on a ring of three processes, which hands a token on after two ticks, up to time
-// 10.
+// Nodes of a ring of three processes that hold a token for two ticks, up to time 10.
 
 ghost use Rattle.std.specs.Prelude.{◌≡◌, ◌<◌, ◌≤◌, ◌^◌, IfOk};
 ghost use Rattle.std.specs.List.{AllByRecursion as Every};
@@ -18,7 +17,7 @@ use std::alloc::Global;
 use std::process::Abort;
 use std::test::Fail;
 
-/// A node with its model, which may be handed any parcel.
+/// A node with its model, which accepts any parcel.
 #[derive(Drop)]
 struct Tried<M: Simulated + Drop> {
     model: M,
@@ -54,7 +53,7 @@ impl<M: Simulated + Drop> Tried<M> {
     }
 }
 
-/// A process in state 0, whose next send has this number, and for which these messages wait.
+/// A process in state 0, with the number of its next send and its waiting messages.
 fn part(lp: u32, number: u64, alloc: Global, pending: Vec<Message>) -> Part
     ensures { IsInRange result }
 {
@@ -68,7 +67,7 @@ fn part(lp: u32, number: u64, alloc: Global, pending: Vec<Message>) -> Part
     }
 }
 
-/// A process as a test names it: its number, the number of its next send, and what waits for it.
+/// A row for a process: its index, the number of its next send, and its waiting messages.
 type Seat<'a> = (u32, u64, &'a [Row]);
 
 fn parts(alloc: Global, seats: &[Seat]) -> Result<Vec<Part>, Fail>
@@ -81,7 +80,7 @@ fn parts(alloc: Global, seats: &[Seat]) -> Result<Vec<Part>, Fail>
     Ok(parts)
 }
 
-/// Node `node` of so many.
+/// Loads node `node` of `nodes`.
 fn load(alloc: Global, node: u32, nodes: u32, seats: &[Seat]) -> Result<Tried<TokenRing>, Fail>
     requires node { node < nodes }
     requires nodes { nodes ≤ 64 }
@@ -96,27 +95,27 @@ fn load(alloc: Global, node: u32, nodes: u32, seats: &[Seat]) -> Result<Tried<To
     Ok(Tried::load(alloc, TokenRing::new(3, 2, 1), load)?)
 }
 
-/// A parcel as a test names it: what is delivered, the budget, and the floor in ticks.
+/// A row for a parcel: its deliveries, the budget, and the floor in ticks.
 type Posted<'a> = (&'a [(Sign, Row)], u32, u64);
 
-/// A fossil as a test wants it: the message, the one message that it made the process send, the
-/// process's count of messages and the number of its next send.
+/// A row for a fossil: the message, the one message that its handling sent, the count in the state
+/// after it, and the number of the next send.
 type Fossil = (Row, Row, u64, u64);
 
-/// A reply as a test wants it: what goes out, the low, how many messages were handled, and the
-/// fossils.
-type Wanted<'a> = (&'a [(Sign, Row)], Option<u64>, u32, &'a [Fossil]);
+/// A row for a reply: the messages it sends, the low in ticks, the number of handled messages, and
+/// the fossils.
+type Expected<'a> = (&'a [(Sign, Row)], Option<u64>, u32, &'a [Fossil]);
 
-fn is_fossil(fossil: &Done, wanted: &Fossil) -> bool {
-    let (handled, sent, count, number) = *wanted;
+fn is_fossil(fossil: &Done, expected: &Fossil) -> bool {
+    let (handled, sent, count, number) = *expected;
     row(&fossil.message) == handled
         && are(fossil.sent.as_slice(), &[sent])
         && fossil.after.as_slice() == [count].as_slice()
         && fossil.number_after == number
 }
 
-fn is_told(reply: &Reply, wanted: &Wanted) -> bool {
-    let (out, low, ran, fossils) = *wanted;
+fn is_expected(reply: &Reply, expected: &Expected) -> bool {
+    let (out, low, ran, fossils) = *expected;
     are_signed(reply.out.as_slice(), out)
         && reply.low == low
         && reply.ran == ran
@@ -126,7 +125,7 @@ fn is_told(reply: &Reply, wanted: &Wanted) -> bool {
             .as_slice()
             .iter()
             .zip(fossils)
-            .all(|(fossil, wanted)| is_fossil(fossil, wanted))
+            .all(|(fossil, expected)| is_fossil(fossil, expected))
 }
 
 fn parcel(alloc: Global, posted: &Posted) -> Result<Parcel, Fail> {
@@ -138,16 +137,17 @@ fn parcel(alloc: Global, posted: &Posted) -> Result<Parcel, Fail> {
     })
 }
 
-/// Hands a node parcels, until one is refused memory, which leaves the node spent.
+/// Posts parcels to a node and checks its replies. An allocation failure leaves the node spent and
+/// ends the check.
 fn play(
     rt: &impl Abort,
     alloc: Global,
     node: &mut Tried<TokenRing>,
-    steps: &[(Posted, Wanted)],
+    steps: &[(Posted, Expected)],
 ) -> Result<(), Fail> {
-    for (place, (posted, wanted)) in steps.iter().enumerate() {
+    for (place, (posted, expected)) in steps.iter().enumerate() {
         match node.handle(parcel(alloc, posted)?) {
-            Ok(reply) => assert!(rt; is_told(&reply, wanted), "at {place}"),
+            Ok(reply) => assert!(rt; is_expected(&reply, expected), "at {place}"),
             Err(fault) => {
                 assert_eq!(rt; fault, NodeFault::NoMemory);
                 let again = node.handle(parcel(alloc, posted)?);
@@ -168,11 +168,11 @@ const fn minus(row: Row) -> (Sign, Row) {
 }
 
 #[test]
-fn a_token_passes_node_zero_of_three(rt: HostRuntime) -> Result<(), Fail> {
+fn a_token_passes_through_node_zero_of_three(rt: HostRuntime) -> Result<(), Fail> {
     let (first, to_one) = ((1, 0, 0, 0, 0, 0, 0, 0), (3, 0, 1, 1, 0, 1, 0, 0));
     let (to_zero, again) = ((7, 2, 0, 0, 0, 3, 0, 0), (9, 0, 2, 1, 0, 4, 0, 0));
     let mut node = load(rt.alloc(), 0, 3, &[(0, 1, &[first])])?;
-    let steps: [(Posted, Wanted); 3] = [
+    let steps: [(Posted, Expected); 3] = [
         ((&[], 16, 1), (&[plus(to_one)], None, 1, &[])),
         (
             (&[plus(to_zero)], 16, 7),
@@ -183,9 +183,9 @@ fn a_token_passes_node_zero_of_three(rt: HostRuntime) -> Result<(), Fail> {
     play(&rt, rt.alloc(), &mut node, &steps)
 }
 
-// Room for what a parcel's handlings tell is asked for by what is there, and not by the budget.
+// Memory for handlings is allocated for the messages that exist, not for the budget.
 #[test]
-fn a_great_budget_takes_no_room(rt: HostRuntime) -> Result<(), Fail> {
+fn a_large_budget_takes_no_memory(rt: HostRuntime) -> Result<(), Fail> {
     let mut node = load(rt.alloc(), 0, 3, &[(0, 1, &[(1, 0, 0, 0, 0, 0, 0, 0)])])?;
     let reply = node.handle(parcel(rt.alloc(), &(&[], u32::MAX, 1))?)?;
     assert_eq!(rt; (reply.ran, reply.fossils.as_slice().len()), (1, 0));
@@ -194,7 +194,7 @@ fn a_great_budget_takes_no_room(rt: HostRuntime) -> Result<(), Fail> {
     Ok(())
 }
 
-/// So many messages for process 0 at time 1, the last of their order first.
+/// Messages of time 1 for process 0, in descending order.
 fn many(alloc: Global, count: u64) -> Result<Vec<Signed>, Fail> {
     let mut list = Vec::new(alloc);
     for number in (0..count).rev() {
@@ -203,7 +203,7 @@ fn many(alloc: Global, count: u64) -> Result<Vec<Signed>, Fail> {
     Ok(list)
 }
 
-/// How many messages a parcel of these has handled and let go, and how many went out.
+/// Posts these messages to a node. Returns how many messages it handled, sent and reported.
 fn handle_many(
     node: &mut Tried<TokenRing>,
     deliver: Vec<Signed>,
@@ -222,28 +222,28 @@ fn handle_many(
     ))
 }
 
-// All at one process, which has handled them when a straggler comes before them: it takes them all
-// back, and handles them again.
+// All messages go to one process, which has handled them when a straggler arrives before them. It
+// rolls all of them back, and handles them again.
 #[test]
 fn a_hundred_thousand_messages_are_handled_twice(rt: HostRuntime) -> Result<(), Fail> {
     let mut node = load(rt.alloc(), 0, 3, &[(0, 1, &[])])?;
     let deliver = many(rt.alloc(), 100_000)?;
-    let told = handle_many(&mut node, deliver, 100_000, 0)?;
-    assert_eq!(rt; told, (100_000, 100_000, 0));
+    let reported = handle_many(&mut node, deliver, 100_000, 0)?;
+    assert_eq!(rt; reported, (100_000, 100_000, 0));
     let straggler = signed_list(rt.alloc(), &[plus((0, 2, 0, 0, 0, 0, 0, 0))])?;
-    let told = handle_many(&mut node, straggler, 200_000, 2)?;
-    assert_eq!(rt; told, (100_001, 200_001, 100_001));
+    let reported = handle_many(&mut node, straggler, 200_000, 2)?;
+    assert_eq!(rt; reported, (100_001, 200_001, 100_001));
     Ok(())
 }
 
 #[test]
-fn fossils_come_by_process(rt: HostRuntime) -> Result<(), Fail> {
+fn fossils_are_grouped_by_process(rt: HostRuntime) -> Result<(), Fail> {
     let (zero, from_zero) = ((4, 0, 0, 0, 0, 0, 0, 0), (6, 0, 5, 1, 0, 1, 0, 0));
     let (one, from_one) = ((1, 1, 0, 1, 0, 0, 0, 0), (3, 1, 5, 2, 0, 1, 0, 0));
     let (two, from_two) = ((2, 2, 0, 2, 0, 0, 0, 0), (4, 2, 5, 0, 0, 1, 0, 0));
     let seats: [Seat; 3] = [(0, 5, &[zero]), (1, 5, &[one]), (2, 5, &[two])];
     let mut node = load(rt.alloc(), 0, 1, &seats)?;
-    let steps: [(Posted, Wanted); 1] = [(
+    let steps: [(Posted, Expected); 1] = [(
         (&[], 16, 5),
         (
             &[plus(from_one), plus(from_two), plus(from_zero)],
@@ -260,20 +260,20 @@ fn fossils_come_by_process(rt: HostRuntime) -> Result<(), Fail> {
 }
 
 #[test]
-fn an_antimessage_that_waits_counts_as_low(rt: HostRuntime) -> Result<(), Fail> {
+fn a_waiting_antimessage_counts_for_the_low(rt: HostRuntime) -> Result<(), Fail> {
     let (early, late) = ((3, 0, 0, 1, 0, 0, 0, 0), (8, 1, 0, 2, 0, 0, 0, 0));
     let mut node = load(rt.alloc(), 0, 1, &[(0, 0, &[]), (1, 0, &[]), (2, 0, &[])])?;
-    let steps: [(Posted, Wanted); 2] = [
+    let steps: [(Posted, Expected); 2] = [
         ((&[minus(early), plus(late)], 0, 0), (&[], Some(3), 0, &[])),
         ((&[plus(early)], 0, 0), (&[], Some(8), 0, &[])),
     ];
     play(&rt, rt.alloc(), &mut node, &steps)
 }
 
-// Three processes with four messages. Then a straggler comes for process 0, the antimessage of what
-// process 1 handled, and two of the messages that went out.
+// Three processes with four messages. Then process 0 gets a straggler, process 1 an antimessage of
+// what it handled, and two of the sent messages arrive.
 #[test]
-fn what_is_undone_and_done_again_goes_out_in_order(rt: HostRuntime) -> Result<(), Fail> {
+fn antimessages_and_new_messages_are_sent_in_order(rt: HostRuntime) -> Result<(), Fail> {
     let (zero, again) = ((1, 0, 0, 0, 0, 0, 0, 0), (4, 0, 1, 0, 0, 0, 0, 0));
     let (one, two) = ((2, 1, 0, 1, 0, 0, 0, 0), (3, 2, 0, 2, 0, 0, 0, 0));
     let (from_zero, from_again) = ((3, 0, 5, 1, 0, 1, 0, 0), (6, 0, 6, 1, 0, 1, 0, 0));
@@ -296,7 +296,7 @@ fn what_is_undone_and_done_again_goes_out_in_order(rt: HostRuntime) -> Result<()
         plus((6, 0, 7, 1, 0, 1, 0, 0)),
         plus((7, 0, 8, 1, 0, 2, 0, 0)),
     ];
-    let steps: [(Posted, Wanted); 2] = [
+    let steps: [(Posted, Expected); 2] = [
         ((&[], 4, 0), (&out, None, 4, &[])),
         (
             (&deliver, 4, 2),

@@ -34,7 +34,11 @@ pub fn messages(alloc: Global, rows: &[Row]) -> Result<Vec<Message>, Fail> {
 }
 
 pub fn are(messages: &[Message], rows: &[Row]) -> bool {
-    messages.len() == rows.len() && messages.iter().zip(rows).all(|(x, want)| row(x) == *want)
+    messages.len() == rows.len()
+        && messages
+            .iter()
+            .zip(rows)
+            .all(|(x, expected)| row(x) == *expected)
 }
 
 pub fn signed(sign: Sign, row: Row) -> Result<Signed, KeyFault> {
@@ -52,6 +56,6 @@ pub fn signed_list(alloc: Global, rows: &[(Sign, Row)]) -> Result<Vec<Signed>, F
 
 pub fn are_signed(list: &[Signed], rows: &[(Sign, Row)]) -> bool {
     list.len() == rows.len()
-        && list.iter().zip(rows).all(|(x, (sign, want))| x.sign == *sign
-            && row(&x.message) == *want)
+        && list.iter().zip(rows).all(|(x, (sign, expected))| x.sign == *sign
+            && row(&x.message) == *expected)
 }

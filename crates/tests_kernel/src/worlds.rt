@@ -1,4 +1,4 @@
-// A ring of three processes that hold one token two ticks, run by the plain runner up to time 10.
+// A ring of three processes that hold one token for two ticks, run by the plain runner to time 10.
 
 use crate::rows::{Row, are, message, row};
 use eventkey::Message;
@@ -26,11 +26,11 @@ impl std::marker::Model for Turning {
     ghost invariant = { λ t. length t.world.world.states ≡ t.ring.ring.lps };
 }
 
-/// What is told of a ring: the time, how many messages were handled, the send numbers, the counts,
-/// and the time and the receiver of the token.
-type Told = [u64; 10];
+/// The visible state of a ring: the time, the number of handled messages, three send numbers, three
+/// counts, and the time and the receiver of the token.
+type Reported = [u64; 10];
 
-/// The token's messages, as they are handled.
+/// The messages of the token, in the order of their handling.
 const LOGGED: [Row; 5] = [
     (1, 0, 0, 0, 0, 0, 0, 0),
     (3, 0, 1, 1, 0, 1, 0, 0),
@@ -39,11 +39,11 @@ const LOGGED: [Row; 5] = [
     (9, 0, 2, 1, 0, 4, 0, 0),
 ];
 
-/// The message that is left at the end.
+/// The pending message at the end.
 const LEFT: Row = (11, 1, 1, 2, 0, 5, 0, 0);
 
-/// What is told at the opening and after each step, as long as the time is 0.
-const TOLD: [Told; 6] = [
+/// The visible state at the opening and after each step; the time stays 0.
+const REPORTED: [Reported; 6] = [
     [0, 0, 1, 0, 0, 0, 0, 0, 1, 0],
     [0, 1, 2, 0, 0, 1, 0, 0, 3, 1],
     [0, 2, 2, 1, 0, 1, 1, 0, 5, 2],
@@ -67,18 +67,18 @@ impl Turning {
         self.world.run_to(&self.ring, time)
     }
 
-    /// The message that one step handles, asked for again where memory is refused, which changes
-    /// nothing.
+    /// Takes one step, and repeats it after an allocation failure, which must change nothing.
+    /// Returns the handled message.
     fn step_at_last(&mut self) -> Result<Option<Row>, WorldFault> {
-        let before = self.told();
+        let before = self.reported();
         let handled = match self.step() {
-            Err(WorldFault::NoMemory) if self.told() == before => self.step()?,
+            Err(WorldFault::NoMemory) if self.reported() == before => self.step()?,
             other => other?,
         };
         Ok(handled.map(|x| row(&x)))
     }
 
-    fn told(&self) -> Told {
+    fn reported(&self) -> Reported {
         let (time, receiver) = match self.world.least() {
             Some(x) => (x.time(), u64::from(x.to())),
             None => (0, 99),
@@ -109,7 +109,7 @@ impl Turning {
     }
 }
 
-/// The opening world, asked for again where memory is refused.
+/// The opening world; a second call after an allocation failure.
 fn opened(alloc: Global) -> Result<Turning, WorldFault> {
     match Turning::open(alloc) {
         Err(WorldFault::NoMemory) => Turning::open(alloc),
@@ -118,13 +118,13 @@ fn opened(alloc: Global) -> Result<Turning, WorldFault> {
 }
 
 #[test]
-fn a_token_goes_round(rt: HostRuntime) -> Result<(), Fail> {
+fn a_token_goes_round_the_ring(rt: HostRuntime) -> Result<(), Fail> {
     let mut turning = Turning::open(rt.alloc())?;
     assert_eq!(rt; turning.world.end(), 10);
     turning.run_to(1)?;
-    assert_eq!(rt; turning.told(), [1, 0, 1, 0, 0, 0, 0, 0, 1, 0]);
+    assert_eq!(rt; turning.reported(), [1, 0, 1, 0, 0, 0, 0, 0, 1, 0]);
     turning.run_to(100)?;
-    assert_eq!(rt; turning.told(), [10, 5, 3, 2, 1, 2, 2, 1, 11, 2]);
+    assert_eq!(rt; turning.reported(), [10, 5, 3, 2, 1, 2, 2, 1, 11, 2]);
     assert_eq!(rt; turning.step()?, None);
     let Turning { mut world, .. } = turning;
     assert!(rt; are(world.log(), &LOGGED));
@@ -135,10 +135,10 @@ fn a_token_goes_round(rt: HostRuntime) -> Result<(), Fail> {
 #[test]
 fn a_refused_step_changes_nothing(rt: HostRuntime) -> Result<(), Fail> {
     let mut turning = opened(rt.alloc())?;
-    assert!(rt; turning.told() == TOLD[0]);
-    for (logged, told) in LOGGED.iter().zip(TOLD.iter().skip(1)) {
+    assert!(rt; turning.reported() == REPORTED[0]);
+    for (logged, reported) in LOGGED.iter().zip(REPORTED.iter().skip(1)) {
         assert!(rt; turning.step_at_last()? == Some(*logged));
-        assert!(rt; turning.told() == *told);
+        assert!(rt; turning.reported() == *reported);
     }
     Ok(())
 }
@@ -148,11 +148,11 @@ fn a_refused_run_keeps_whole_steps(rt: HostRuntime) -> Result<(), Fail> {
     let mut turning = opened(rt.alloc())?;
     if let Err(fault) = turning.run_to(10) {
         assert_eq!(rt; fault, WorldFault::NoMemory);
-        let told = turning.told();
-        assert!(rt; TOLD.contains(&told));
+        let reported = turning.reported();
+        assert!(rt; REPORTED.contains(&reported));
         turning.run_to(10)?;
     }
-    assert_eq!(rt; turning.told(), [10, 5, 3, 2, 1, 2, 2, 1, 11, 2]);
+    assert_eq!(rt; turning.reported(), [10, 5, 3, 2, 1, 2, 2, 1, 11, 2]);
     Ok(())
 }
 
@@ -185,7 +185,7 @@ fn a_state_holds_sixteen_words(rt: HostRuntime) -> Result<(), Fail> {
 }
 
 #[test]
-fn what_is_saved_is_a_copy(rt: HostRuntime) -> Result<(), Fail> {
+fn a_saved_state_is_a_copy(rt: HostRuntime) -> Result<(), Fail> {
     let few = SavedState::from_slice(rt.alloc(), &[7, 8])?;
     let many = SavedState::from_slice(rt.alloc(), &[1, 2, 3, 4, 5])?;
     assert_eq!(rt; few.as_slice(), [7, 8].as_slice());
@@ -196,13 +196,13 @@ fn what_is_saved_is_a_copy(rt: HostRuntime) -> Result<(), Fail> {
 }
 
 #[test]
-fn faults_are_told(rt: HostRuntime) -> Result<(), Fail> {
+fn faults_are_printed_by_name(rt: HostRuntime) -> Result<(), Fail> {
     for (fault, name) in [
         (WorldFault::NoMemory, "NoMemory"),
         (WorldFault::NumberLimit, "NumberLimit"),
     ] {
-        let told = format!(in rt.alloc(); "{fault}")?;
-        assert_eq!(rt; told.as_str(), name);
+        let reported = format!(in rt.alloc(); "{fault}")?;
+        assert_eq!(rt; reported.as_str(), name);
     }
     Ok(())
 }

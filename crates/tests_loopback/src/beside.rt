@@ -1,4 +1,4 @@
-// A session over nodes behind bytes beside one over nodes in this program.
+// Compares a session over nodes behind bytes with one over local nodes.
 
 use crate::steps::{MADE, MIXED, Row, step_of, steps_of};
 use commitlog::format;
@@ -36,7 +36,7 @@ fn behind_bytes<M: Simulated>(
     }
 }
 
-/// A session over three nodes in this program.
+/// A session over three local nodes.
 fn in_program<M: Simulated>(
     alloc: Global,
     model: &M,
@@ -58,8 +58,8 @@ fn are_same(one: &FrontView<'_>, other: &FrontView<'_>) -> bool {
         && one.states == other.states
 }
 
-/// Whether two sessions stand alike: what is committed, what travels, and the floor.
-fn stand_alike<M: Simulated, P: Port, Q: Port, D: SectorDisk>(
+/// Whether two sessions have equal fronts, messages in transit, and floors.
+fn are_alike<M: Simulated, P: Port, Q: Port, D: SectorDisk>(
     one: &Session<'_, M, P, D>,
     other: &Session<'_, M, Q, D>,
 ) -> bool {
@@ -68,13 +68,14 @@ fn stand_alike<M: Simulated, P: Port, Q: Port, D: SectorDisk>(
         && one.floor() == other.floor()
 }
 
-/// Makes a step of both, and answers whether they answer the same and stand alike then.
+/// Makes a step in both sessions. Returns whether they give the same answer and have the same state
+/// after it.
 fn step_alike<M: Simulated, P: Port, Q: Port, D: SectorDisk>(
     one: &mut Session<'_, M, P, D>,
     other: &mut Session<'_, M, Q, D>,
     step: &Step,
 ) -> bool {
-    one.step(step) == other.step(step) && stand_alike(one, other)
+    one.step(step) == other.step(step) && are_alike(one, other)
 }
 
 fn driven<M: Simulated, P: Port, D: SectorDisk>(
@@ -84,7 +85,7 @@ fn driven<M: Simulated, P: Port, D: SectorDisk>(
     session.drive(steps)
 }
 
-/// Makes these steps of two sessions, one at a time.
+/// Makes these steps in two sessions, one at a time, and compares them after each.
 fn look_at_steps(rt: &impl Abort, alloc: Global, rows: &[Row]) -> Result<(), Fail> {
     let ring = TokenRing::new(3, 2, 2);
     let mut far = behind_bytes(alloc, &ring)?;
@@ -96,7 +97,7 @@ fn look_at_steps(rt: &impl Abort, alloc: Global, rows: &[Row]) -> Result<(), Fai
     Ok(())
 }
 
-/// Drives two sessions through these steps.
+/// Drives two sessions through these steps, and compares them.
 fn look_at_drives(rt: &impl Abort, alloc: Global, rows: &[Row]) -> Result<(), Fail> {
     let ring = TokenRing::new(3, 2, 2);
     let mut far = behind_bytes(alloc, &ring)?;
@@ -104,18 +105,18 @@ fn look_at_drives(rt: &impl Abort, alloc: Global, rows: &[Row]) -> Result<(), Fa
     let steps = steps_of(alloc, rows)?;
     let made = driven(&mut far, steps.as_slice());
     assert_eq!(rt; driven(&mut near, steps.as_slice()), made);
-    assert!(rt; stand_alike(&far, &near));
+    assert!(rt; are_alike(&far, &near));
     Ok(())
 }
 
 #[test]
-fn steps_are_answered_alike(rt: HostRuntime) -> Result<(), Fail> {
+fn steps_get_the_same_answers_behind_bytes(rt: HostRuntime) -> Result<(), Fail> {
     look_at_steps(&rt, rt.alloc(), &MADE)?;
     look_at_steps(&rt, rt.alloc(), &MIXED)
 }
 
 #[test]
-fn drives_are_answered_alike(rt: HostRuntime) -> Result<(), Fail> {
+fn drives_get_the_same_results_behind_bytes(rt: HostRuntime) -> Result<(), Fail> {
     for count in 0..MADE.len() {
         look_at_drives(&rt, rt.alloc(), MADE.split_at(count).0)?;
     }
@@ -125,9 +126,9 @@ fn drives_are_answered_alike(rt: HostRuntime) -> Result<(), Fail> {
     Ok(())
 }
 
-/// The front to which all the steps lead, whichever way they are made.
+/// The front after all the steps.
 #[test]
-fn the_steps_commit_to_time_three(rt: HostRuntime) -> Result<(), Fail> {
+fn the_steps_commit_up_to_time_three(rt: HostRuntime) -> Result<(), Fail> {
     let alloc = rt.alloc();
     let ring = TokenRing::new(3, 2, 2);
     let mut session = behind_bytes(alloc, &ring)?;

@@ -13,12 +13,12 @@ use std::alloc::Global;
 use std::test::Fail;
 use wire::{Port, PortFault};
 
-/// One token round three processes, two ticks at each.
+/// One token that goes round three processes, two ticks at each.
 fn ring() -> TokenRing {
     TokenRing::new(3, 2, 1)
 }
 
-/// Node 0 of three, with the token of the ring, told to be process `lp`.
+/// A load for node 0 of three, with the token of the ring at process `lp`.
 fn load(alloc: Global, lp: u32) -> Result<Load, Fail>
     ensures { IfOk result (λ load. IsLoadInRange load) }
 {
@@ -42,7 +42,7 @@ fn load(alloc: Global, lp: u32) -> Result<Load, Fail>
     })
 }
 
-/// Posts a parcel that delivers nothing, and takes the reply.
+/// Posts a parcel without deliveries, and takes the reply.
 fn round<P: Port>(port: &mut P, alloc: Global, floor: u64) -> Result<Reply, PortFault>
     requires idle { (P.state port.old).stage ≡ Idle }
     requires floor { floor ≤ 2 ^ 40 }
@@ -57,7 +57,7 @@ fn round<P: Port>(port: &mut P, alloc: Global, floor: u64) -> Result<Reply, Port
 }
 
 #[test]
-fn a_round_of_a_run(rt: HostRuntime) -> Result<(), Fail> {
+fn a_node_behind_bytes_answers_a_round(rt: HostRuntime) -> Result<(), Fail> {
     let ring = ring();
     let mut port = LoopPort::new(rt.alloc(), &ring);
     port.load(load(rt.alloc(), 0)?)?;
@@ -72,7 +72,7 @@ fn a_round_of_a_run(rt: HostRuntime) -> Result<(), Fail> {
 }
 
 #[test]
-fn refusals_of_the_node_come_back(rt: HostRuntime) -> Result<(), Fail> {
+fn refusals_of_the_node_are_returned(rt: HostRuntime) -> Result<(), Fail> {
     let ring = ring();
     let mut port = LoopPort::new(rt.alloc(), &ring);
     let refused = port.load(load(rt.alloc(), 1)?);

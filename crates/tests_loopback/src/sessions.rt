@@ -12,7 +12,7 @@ use std::test::Fail;
 
 const END: u64 = 10;
 
-/// To this node, of these picks, with this budget; and its reply is taken.
+/// A post to this node, with these picks and this budget, whose reply is taken next.
 const TURNS: [(u32, &[u32], u32); 6] = [
     (0, &[], 1),
     (1, &[], 1),
@@ -22,7 +22,7 @@ const TURNS: [(u32, &[u32], u32); 6] = [
     (0, &[1, 0], 0),
 ];
 
-/// The turns, and a commit.
+/// The steps of the turns, and a commit.
 fn steps(alloc: Global) -> Result<Vec<Step>, AllocError> {
     let mut steps = Vec::new(alloc);
     for (node, picks, budget) in TURNS {
@@ -40,7 +40,7 @@ fn steps(alloc: Global) -> Result<Vec<Step>, AllocError> {
 #[test]
 fn three_nodes_behind_bytes_commit(rt: HostRuntime) -> Result<(), Fail> {
     let alloc = rt.alloc();
-    // Three processes, two ticks at each, two tokens.
+    // Three processes that hold each of two tokens for two ticks.
     let ring = TokenRing::new(3, 2, 2);
     let mut disk = MemDisk::blank(alloc, 64)?;
     format(&mut disk, &header(alloc, &ring, END))?;

@@ -5,16 +5,16 @@ use coordinator::Step;
 use eventkey::Listed;
 use std::alloc::{AllocError, Global};
 
-/// A step.
+/// A step in the table.
 #[derive(Clone, Copy)]
 pub enum Row {
-    /// To this node, of these picks, with this budget.
+    /// A post to this node, with these picks and this budget.
     Post(u32, &'static [u32], u32),
     Take(u32),
     Commit,
 }
 
-/// Steps that are all made.
+/// Steps that all succeed.
 pub const MADE: [Row; 13] = [
     Row::Post(0, &[], 1),
     Row::Take(0),
@@ -31,8 +31,8 @@ pub const MADE: [Row; 13] = [
     Row::Commit,
 ];
 
-/// Steps of which some are refused: there is no such node, nothing to take, no such place, a place
-/// of another node, a place twice, a busy node.
+/// Steps, some of which are refused: no such node, nothing to take, no such pick, a pick for
+/// another node, the same pick twice, a busy node.
 pub const MIXED: [Row; 16] = [
     Row::Post(3, &[], 1),
     Row::Take(3),

@@ -1,4 +1,4 @@
-// Traces, and the course that they tell.
+// Traces, and drawings of their course.
 
 use crate::shapes::is_well_formed;
 use pictures::{NotRead, Row, read_rows, write_course};
@@ -6,16 +6,16 @@ use std::alloc::Global;
 use std::test::Fail;
 
 const HEAD: &str =
-    "round,node,budget,gvt,delivered,antimessages,handled,sent,told,committed,events\n";
+    "round,node,budget,gvt,delivered,antimessages,handled,sent,reported,committed,events\n";
 
-/// Two turns of a first round, and one of a second.
+/// Two turns of the first round, and one of the second.
 const ROWS: &str = "\
 1,0,16,0,3,0,16,16,0,0,0
 1,1,16,2,0,0,4,4,3,0,0
 2,0,16,9,4,2,16,16,12,5,15
 ";
 
-/// What is no trace behind the line of names.
+/// Texts that are no rows of a trace, after the line of names.
 const NO_ROWS: [&str; 9] = [
     "\n",
     "1,0,16,0,3,0,16,16,0,0,0",
@@ -53,7 +53,7 @@ fn a_trace_is_read(rt: HostRuntime) -> Result<(), Fail> {
         antimessages: 2,
         handled: 16,
         sent: 16,
-        told: 12,
+        reported: 12,
         committed: 5,
         events: 15,
     };
@@ -63,7 +63,7 @@ fn a_trace_is_read(rt: HostRuntime) -> Result<(), Fail> {
 }
 
 #[test]
-fn what_is_no_trace_is_refused(rt: HostRuntime) -> Result<(), Fail> {
+fn texts_that_are_no_trace_are_refused(rt: HostRuntime) -> Result<(), Fail> {
     for rows in NO_ROWS {
         let text = format!(in rt.alloc(); "{HEAD}{rows}")?;
         let refused = read_rows(rt.alloc(), text.as_bytes()).err();
@@ -76,7 +76,7 @@ fn what_is_no_trace_is_refused(rt: HostRuntime) -> Result<(), Fail> {
     Ok(())
 }
 
-/// What the course of these rows has: two columns, and the words under them.
+/// Parts of the drawing of these rows: two columns, and the text under them.
 const PARTS: [&str; 6] = [
     "<title>rounds 1 to 1: GVT 2, 20 handled, 0 events committed, efficiency 0 %, 0 antimessages, 0 commits</title>",
     "<rect class=\"gvt\" x=\"60\" y=\"138\" width=\"450\" height=\"22\"/>",
@@ -87,7 +87,7 @@ const PARTS: [&str; 6] = [
 ];
 
 #[test]
-fn a_trace_has_the_course_that_was_computed_by_hand(rt: HostRuntime) -> Result<(), Fail> {
+fn the_course_of_a_trace_matches_a_manual_calculation(rt: HostRuntime) -> Result<(), Fail> {
     let text = course(rt.alloc(), ROWS)?;
     assert!(rt; is_well_formed(rt.alloc(), text.as_str())?);
     for part in PARTS {
@@ -96,7 +96,7 @@ fn a_trace_has_the_course_that_was_computed_by_hand(rt: HostRuntime) -> Result<(
     Ok(())
 }
 
-/// A row of the greatest numbers.
+/// A row of the largest numbers.
 const GREATEST: &str = "\
 18446744073709551615,18446744073709551615,18446744073709551615,18446744073709551615,\
 18446744073709551615,18446744073709551615,18446744073709551615,18446744073709551615,\

@@ -1,4 +1,4 @@
-// Figures, and parts of a log.
+// Figures, and parts of logs.
 
 use models::{Phold, TokenRing};
 use pictures::{Choice, figures_of, trace_of, write_chosen, write_stats, write_stats_csv};
@@ -32,7 +32,7 @@ process,handled,sent
 ";
 
 #[test]
-fn a_ring_has_the_figures_that_were_computed_by_hand(rt: HostRuntime) -> Result<(), Fail> {
+fn the_figures_of_a_ring_match_a_manual_calculation(rt: HostRuntime) -> Result<(), Fail> {
     let trace = trace_of(rt.alloc(), &TokenRing::new(3, 2, 1), 10, 10)?;
     let figures = figures_of(rt.alloc(), &trace)?;
     let mut table = Vec::new(rt.alloc());
@@ -45,7 +45,7 @@ fn a_ring_has_the_figures_that_were_computed_by_hand(rt: HostRuntime) -> Result<
 }
 
 #[test]
-fn the_figures_of_nothing_are_zero(rt: HostRuntime) -> Result<(), Fail> {
+fn the_figures_at_time_zero_have_no_events(rt: HostRuntime) -> Result<(), Fail> {
     let trace = trace_of(rt.alloc(), &TokenRing::new(3, 2, 1), 10, 0)?;
     let figures = figures_of(rt.alloc(), &trace)?;
     assert!(rt; figures.events == 0 && figures.pending == 1 && figures.time == 0);
@@ -55,7 +55,7 @@ fn the_figures_of_nothing_are_zero(rt: HostRuntime) -> Result<(), Fail> {
 }
 
 #[test]
-fn phold_has_as_many_events_as_its_log(rt: HostRuntime) -> Result<(), Fail> {
+fn the_figures_of_phold_match_its_log(rt: HostRuntime) -> Result<(), Fail> {
     let trace = trace_of(rt.alloc(), &Phold::new(16, 4, 10, 7), 1000, 600)?;
     let figures = figures_of(rt.alloc(), &trace)?;
     assert!(rt; figures.events == trace.events().len() as u64 && figures.pending == 64);

@@ -5,7 +5,8 @@ use pictures::{Trace, View, trace_of, write_drawing, write_load};
 use std::alloc::{AllocError, Global};
 use std::test::Fail;
 
-/// Whether the tags of a text balance, its attributes are quoted, and it has no stray `<` or `&`.
+/// Whether the tags of a text balance, its attributes are quoted, and it has no stray `<`, `>` or
+/// `&`.
 pub fn is_well_formed(alloc: Global, text: &str) -> Result<bool, AllocError> {
     let mut open: Vec<&str> = Vec::new(alloc);
     if text.contains('&') || !text.starts_with('<') {
@@ -63,21 +64,28 @@ fn the_parser_refuses_what_is_not_well_formed(rt: HostRuntime) -> Result<(), Fai
     Ok(())
 }
 
-/// What the picture of a ring has: its rows, its dots, its lines, what is pending, and its time.
-const SHAPES: [&str; 9] = [
+/// Parts of the picture of a ring: its rows, dots and lines, the pending message, and the time.
+const SHAPES: [&str; 10] = [
     "viewBox=\"0 0 1000 160\"",
-    "<circle class=\"event\" cx=\"135\" cy=\"60\" r=\"3\"><title>sent 0, received 1,",
-    "<line class=\"message\" x1=\"135\" y1=\"60\" x2=\"285\" y2=\"80\">",
-    "<circle class=\"event\" cx=\"285\" cy=\"80\" r=\"3\"><title>sent 1, received 3,",
-    "<line class=\"message\" x1=\"435\" y1=\"100\" x2=\"585\" y2=\"60\">",
-    "<line class=\"pending\" x1=\"735\" y1=\"80\" x2=\"885\" y2=\"100\">",
-    "<line class=\"time\" x1=\"810\" y1=\"40\" x2=\"810\" y2=\"120\">",
+    "<circle class=\"event\" cx=\"135\" cy=\"60\" r=\"3\">\
+     <title>sent 0, received 1, from 0, number 0, to 0: 0 0 0 0</title></circle>\n",
+    "<line class=\"message\" x1=\"135\" y1=\"60\" x2=\"285\" y2=\"80\">\
+     <title>sent 1, received 3, from 0, number 1, to 1: 0 1 0 0</title></line>\n",
+    "<circle class=\"event\" cx=\"285\" cy=\"80\" r=\"3\">\
+     <title>sent 1, received 3, from 0, number 1, to 1: 0 1 0 0</title></circle>\n",
+    "<line class=\"message\" x1=\"435\" y1=\"100\" x2=\"585\" y2=\"60\">\
+     <title>sent 5, received 7, from 2, number 0, to 0: 0 3 0 0</title></line>\n",
+    "<line class=\"pending\" x1=\"735\" y1=\"80\" x2=\"885\" y2=\"100\">\
+     <title>pending: sent 9, received 11, from 1, number 1, to 2: 0 5 0 0</title></line>\n",
+    "<line class=\"time\" x1=\"810\" y1=\"40\" x2=\"810\" y2=\"120\">\
+     <title>virtual time 10</title></line>\n",
+    "<title>Space-time diagram, virtual time 0 to 12</title>\n",
     "shown: events 1 to 5 of 5, processes 0 to 2 of 3",
     "text-anchor=\"middle\">10</text>",
 ];
 
 #[test]
-fn a_ring_has_the_picture_that_was_computed_by_hand(rt: HostRuntime) -> Result<(), Fail> {
+fn the_picture_of_a_ring_matches_a_manual_calculation(rt: HostRuntime) -> Result<(), Fail> {
     let trace = trace_of(rt.alloc(), &TokenRing::new(3, 2, 1), 10, 10)?;
     let view = View {
         from: 0,
@@ -94,7 +102,7 @@ fn a_ring_has_the_picture_that_was_computed_by_hand(rt: HostRuntime) -> Result<(
     Ok(())
 }
 
-/// Views from and to ticks, from and to processes.
+/// Views: the first and last tick, and the first and last process.
 const VIEWS: [(u64, u64, u32, u32); 7] = [
     (0, 100, 0, 99),
     (0, 10_000, 0, 1000),
@@ -147,8 +155,8 @@ fn a_picture_shows_the_first_events_and_processes(rt: HostRuntime) -> Result<(),
     Ok(())
 }
 
-/// What the heat map of a ring has up to a time: how many rectangles and one more, the deepest
-/// count, and cells with an event, with two, and without.
+/// Heat maps of a ring up to a time: the number of rectangles plus one, and a part: the deepest
+/// count, or a cell with one event, with two, or without.
 const LOADS: [(u64, usize, &str); 7] = [
     (
         12,
@@ -188,8 +196,8 @@ const LOADS: [(u64, usize, &str); 7] = [
 ];
 
 #[test]
-fn a_ring_has_the_load_that_was_computed_by_hand(rt: HostRuntime) -> Result<(), Fail> {
-    for (to, shapes, wanted) in LOADS {
+fn the_load_of_a_ring_matches_a_manual_calculation(rt: HostRuntime) -> Result<(), Fail> {
+    for (to, shapes, expected) in LOADS {
         let trace = trace_of(rt.alloc(), &TokenRing::new(3, 2, 1), to, to)?;
         let view = View {
             from: 0,
@@ -198,7 +206,7 @@ fn a_ring_has_the_load_that_was_computed_by_hand(rt: HostRuntime) -> Result<(), 
             last: 2,
         };
         let text = load(rt.alloc(), &trace, &view)?;
-        assert!(rt; text.as_str().contains(wanted), "{wanted}");
+        assert!(rt; text.as_str().contains(expected), "{expected}");
         assert!(rt; text.as_str().split("<rect").count() == shapes);
     }
     Ok(())

@@ -1,4 +1,4 @@
-// What a terminal shows of the cause of a `File`: which file or folder it is, and what is wrong.
+// The cause of a `File` that a terminal shows: which file or folder, and what is wrong with it.
 
 use crate::running::{ABOUT, RING, path_of, run};
 use disk::FileDisk;
@@ -12,9 +12,9 @@ use std::process::{Abort, Processes};
 use std::rt::{Clock, Files};
 use std::test::Fail;
 
-/// Commands that end with `File`, and the last line that a terminal shows then. `@` at the
-/// beginning of a word or of a line is the folder of the test's files, and LONG a folder there.
-const CASES: [(&str, &str); 35] = [
+/// Commands that end with `File`, and the end of what the terminal shows then. `@` at the start of
+/// a word or of a cause is the folder of the test's files; LONG is a folder in it.
+const CASES: [(&str, &str); 36] = [
     ("seq @/gone", "@/gone: there is no such file\n"),
     (
         "seq @/model.toml/gone",
@@ -25,7 +25,7 @@ const CASES: [(&str, &str); 35] = [
         "draw @/model.toml --trace @/gone",
         "@/gone: there is no such file\n",
     ),
-    // The model file comes before the disk.
+    // The model file is read before the disk.
     ("run @/gone @/short", "@/gone: there is no such file\n"),
     (
         "show @/model.toml @/gone",
@@ -102,6 +102,8 @@ const CASES: [(&str, &str); 35] = [
         "@/model.toml: two paths of the command lead to this file\n",
     ),
     ("run @/model.toml @/disk --trace @", "@: this is a folder\n"),
+    // Two files of two file systems, both with the inode number 1.
+    ("run /proc @/disk --trace /sys", "/sys: this is a folder\n"),
     (
         "run @/model.toml @/disk --trace @/nowhere/trace",
         "@/nowhere: there is no such folder\n",
@@ -126,7 +128,7 @@ const CASES: [(&str, &str); 35] = [
         "run @/model.toml @/disk --sockets LONG",
         ": a socket's path has at most 107 bytes, and here it has more\n",
     ),
-    // The program of the first word is not there.
+    // The program of the first word does not exist.
     (
         "run @/model.toml @/disk --sockets @/sockets",
         "@/sockets: no socket is made in this folder, or no node program starts or connects\n",
@@ -145,7 +147,7 @@ const CASES: [(&str, &str); 35] = [
 const LONG: &str = "@/0123456789012345678901234567890123456789012345678901234567890123456789\
                     012345678901234567890123456789";
 
-/// A text with the folder in it.
+/// The text, with the folder in place of a leading `@`.
 fn filled(alloc: Global, text: &str, folder: &str) -> Result<String, AllocError> {
     match text.strip_prefix("@") {
         Some(rest) => format!(in alloc; "{folder}{rest}"),
@@ -153,7 +155,7 @@ fn filled(alloc: Global, text: &str, folder: &str) -> Result<String, AllocError>
     }
 }
 
-/// The words of a command.
+/// The words of a command line, after the name of a program that does not exist.
 fn words_of(alloc: Global, line: &str, folder: &str) -> Result<Vec<String>, AllocError> {
     let mut words = Vec::new(alloc);
     words.push(filled(alloc, "@/no-program", folder)?)?;
@@ -164,7 +166,8 @@ fn words_of(alloc: Global, line: &str, folder: &str) -> Result<Vec<String>, Allo
     Ok(words)
 }
 
-/// Runs a command before a terminal. Answers its status, what it tells, and what is shown there.
+/// Runs a command with a terminal. Returns its exit status, its standard error, and what the
+/// terminal shows.
 fn shown<R>(rt: &R, words: &[String]) -> (u8, Vec<u8>, Vec<u8>)
 where
     R: Files<File = File> + Net + Processes + Clock + AllocGlobal,
@@ -184,7 +187,7 @@ where
     (status, err, terminal)
 }
 
-/// Looks at a command that ends with `File`, and at the cause that is shown.
+/// Checks that a command ends with `File`, and that the terminal shows this cause.
 fn look_at_cause<R>(rt: &R, line: &str, cause: &str, folder: &str) -> Result<(), Fail>
 where
     R: Files<File = File> + Net + Processes + Clock + Abort + AllocGlobal,
@@ -202,7 +205,7 @@ where
     Ok(())
 }
 
-/// Makes the folder of the test's files.
+/// Makes the folder of the test's files, with its folders and the model file.
 fn begin(rt: &HostRuntime) -> Result<String, Fail> {
     let folder = path_of(rt, "timewarp-causes")?;
     if fs::exists(rt, folder.as_str())? {
@@ -218,7 +221,7 @@ fn begin(rt: &HostRuntime) -> Result<String, Fail> {
     Ok(folder)
 }
 
-/// Makes the files in the place of disks, and a disk of the ring.
+/// Makes files that are no disks of the ring, and a disk of the ring.
 fn make_disks<R>(rt: &R, folder: &str) -> Result<(), Fail>
 where
     R: Files<File = File> + Net + Processes + Clock + Abort + AllocGlobal,
@@ -249,7 +252,7 @@ where
 }
 
 #[test]
-fn a_terminal_shows_which_file_is_the_cause(rt: HostRuntime) -> Result<(), Fail> {
+fn a_terminal_shows_which_file_caused_the_fault(rt: HostRuntime) -> Result<(), Fail> {
     let folder = begin(&rt)?;
     let folder = folder.as_str();
     make_disks(&rt, folder)?;
@@ -263,9 +266,9 @@ fn a_terminal_shows_which_file_is_the_cause(rt: HostRuntime) -> Result<(), Fail>
     Ok(())
 }
 
-// A user who may read any file sees no fault.
+// A user who may read any file gets no fault.
 #[test]
-fn a_model_file_that_may_not_be_read_is_the_cause(rt: HostRuntime) -> Result<(), Fail> {
+fn an_unreadable_model_file_is_shown_as_the_cause(rt: HostRuntime) -> Result<(), Fail> {
     let path = path_of(&rt, "timewarp-unread-model.toml")?;
     fs::write(&rt, path.as_str(), RING)?;
     fs::set_permissions(&rt, path.as_str(), Permissions::from_mode(0))?;

@@ -1,4 +1,4 @@
-// What is written to the two streams and shown on a terminal, and in which order.
+// The output of a command on its two streams and the terminal, and the order of writes.
 
 use crate::running::{ABOUT, RING, path_of, run_to};
 use models::AnyModel;
@@ -16,15 +16,15 @@ use terminal::Cause;
 
 const LATER_RING: &str = "model = \"ring\"\nlps = 3\nend = 20\nhold = 2\ntokens = 1\n";
 
-/// A writer that takes all, counts what it was not asked to flush yet, and may refuse that.
+/// A writer that accepts all, counts the bytes since the last flush, and may refuse flushes.
 #[derive(Drop)]
-struct Held {
+struct CountingWriter {
     taken: Vec<u8>,
     waiting: usize,
     refuses: bool,
 }
 
-impl Write for Held {
+impl Write for CountingWriter {
     fn write(&mut self, buf: &[u8]) -> io::Result<usize> {
         self.taken.extend_from_slice(buf)?;
         self.waiting = self.waiting.saturating_add(buf.len());
@@ -40,7 +40,7 @@ impl Write for Held {
     }
 }
 
-/// The commands that print, one after another.
+/// Commands that print, run in this order.
 const LINES: [&str; 12] = [
     "new MODEL DISK --sectors 64",
     "run MODEL DISK --nodes 3",
@@ -97,13 +97,13 @@ fn words_of<'a>(
     Ok(words)
 }
 
-/// Looks at a command whose last flush is refused, or not. Answers what the writer has taken.
+/// Runs a command whose last flush may be refused, and checks its result. Returns what it wrote.
 fn taken_of<R>(rt: &R, stage: &Stage, line: &str, refuses: bool) -> Result<Vec<u8>, Fail>
 where
     R: Files<File = File> + Net + Processes + Clock + Abort + AllocGlobal,
 {
     let words = words_of(rt.alloc(), line, stage)?;
-    let mut out = Held {
+    let mut out = CountingWriter {
         taken: Vec::new(rt.alloc()),
         waiting: 0,
         refuses,
@@ -123,7 +123,7 @@ where
     Ok(out.taken)
 }
 
-/// Looks at all commands. Answers what they write.
+/// Runs all commands. Returns what they wrote.
 fn all_taken<R>(rt: &R, refuses: bool) -> Result<Vec<u8>, Fail>
 where
     R: Files<File = File> + Net + Processes + Clock + Env + Abort + AllocGlobal,
@@ -139,17 +139,17 @@ where
     Ok(all)
 }
 
-// Where a flush is refused, all was written before.
+// If a flush is refused, everything was written before it.
 #[test]
-fn each_command_flushes_all_that_it_writes(rt: HostRuntime) -> Result<(), Fail> {
+fn each_command_flushes_its_output(rt: HostRuntime) -> Result<(), Fail> {
     let flushed = all_taken(&rt, false)?;
     let refused = all_taken(&rt, true)?;
     assert!(rt; flushed.as_slice() == refused.as_slice());
     Ok(())
 }
 
-/// What a user sees, in its order: 'c' where what is shown of a run is taken away, 'e' where a
-/// fault is told, in however many pieces, and 'f' where a terminal is told of it.
+/// What a user sees, in this order: 'c' when the progress is cleared, 'e' for the fault on standard
+/// error, in any number of writes, and 'f' when the terminal gets the fault.
 #[derive(Drop)]
 struct Seen {
     kinds: Cell<[u8; 4]>,
@@ -214,7 +214,7 @@ impl Write for Terminal<'_> {
 }
 
 #[test]
-fn a_fault_is_told_between_what_is_shown_and_what_to_do(rt: HostRuntime) -> Result<(), Fail> {
+fn a_fault_is_printed_between_progress_and_advice(rt: HostRuntime) -> Result<(), Fail> {
     let seen = Seen {
         kinds: Cell::new([0; 4]),
         count: Cell::new(0),
@@ -235,32 +235,36 @@ fn a_fault_is_told_between_what_is_shown_and_what_to_do(rt: HostRuntime) -> Resu
     Ok(())
 }
 
-/// The numbers that a run tells on its way: the end, the time and the events of each commit, and
-/// then `u64::MAX`.
+/// What a run reports to its progress, a line for each call.
 #[derive(Drop)]
-struct Numbers {
-    told: Vec<u64>,
+struct Course {
+    lines: Vec<u8>,
 }
 
-impl Progress for Numbers {
+impl Progress for Course {
     fn begin(&mut self, end: u64) {
-        let _ = self.told.push(end);
+        let _ = writeln!(self.lines, "a run to {end}");
     }
 
     fn waiting(&mut self, _nodes: &[usize]) {}
 
     fn committed(&mut self, time: u64, events: usize) {
-        let _ = self.told.extend_from_slice(&[time, events as u64]);
+        let _ = writeln!(self.lines, "committed {time} events {events}");
     }
 
-    fn stored(&mut self, _used: u32, _sectors: u32) {}
+    fn stored(&mut self, used: u32, sectors: u32) {
+        let _ = writeln!(self.lines, "{used} of {sectors} sectors");
+    }
 
-    fn turned(&mut self, _turn: &Row) {}
+    fn turned(&mut self, turn: &Row) {
+        let (round, node, handled) = (turn.round, turn.node, turn.handled);
+        let _ = writeln!(self.lines, "round {round} node {node} handled {handled}");
+    }
 
     fn clear(&mut self) {}
 
     fn finished(&mut self) {
-        let _ = self.told.push(u64::MAX);
+        let _ = writeln!(self.lines, "finished");
     }
 
     fn is_seen(&self) -> bool {
@@ -270,20 +274,42 @@ impl Progress for Numbers {
     fn failed(&mut self, _advice: Option<&'static str>, _cause: Option<Cause<'_>>) {}
 }
 
-/// Runs without a trace, and with one.
+/// Runs without and with a trace.
 const RUNS: [&str; 2] = [
     "run MODEL DISK --nodes 3",
     "run MODEL DISK --nodes 3 --trace LATER",
 ];
 
-/// Runs on a new disk, and answers the numbers that are told.
-fn numbers_of<R>(rt: &R, stage: &Stage, line: &str) -> Result<Vec<u64>, Fail>
+/// What each of them reports.
+const COURSE: &str = "\
+a run to 10
+2 of 64 sectors
+round 1 node 0 handled 1
+round 1 node 1 handled 1
+round 1 node 2 handled 1
+committed 1 events 0
+4 of 64 sectors
+round 2 node 0 handled 1
+round 2 node 1 handled 1
+round 2 node 2 handled 0
+committed 7 events 3
+6 of 64 sectors
+round 3 node 0 handled 0
+round 3 node 1 handled 0
+round 3 node 2 handled 0
+committed 10 events 5
+8 of 64 sectors
+finished
+";
+
+/// Runs on a new disk. Returns what it reports.
+fn course_of<R>(rt: &R, stage: &Stage, line: &str) -> Result<Vec<u8>, Fail>
 where
     R: Files<File = File> + Net + Processes + Clock + Abort + AllocGlobal,
 {
     let _ = taken_of(rt, stage, LINES[0], false)?;
-    let mut numbers = Numbers {
-        told: Vec::new(rt.alloc()),
+    let mut course = Course {
+        lines: Vec::new(rt.alloc()),
     };
     let words = words_of(rt.alloc(), line, stage)?;
     let mut out = Vec::new(rt.alloc());
@@ -292,26 +318,23 @@ where
         rt,
         ABOUT,
         words.as_slice(),
-        &mut numbers,
+        &mut course,
         &mut out,
         &mut err,
     );
     if status != 0 || !err.is_empty() {
         return Err(Fail::new("the run is refused"));
     }
-    let Numbers { told } = numbers;
-    Ok(told)
+    let Course { lines } = course;
+    Ok(lines)
 }
 
 #[test]
-fn a_run_tells_its_end_and_each_commit(rt: HostRuntime) -> Result<(), Fail> {
+fn a_run_reports_its_turns_its_commits_and_its_room(rt: HostRuntime) -> Result<(), Fail> {
     let stage = begin(&rt)?;
     for line in RUNS {
-        let told = numbers_of(&rt, &stage, line)?;
-        assert_eq!(rt;
-            told.as_slice(),
-            [10, 1, 0, 7, 3, 10, 5, u64::MAX].as_slice()
-        );
+        let lines = course_of(&rt, &stage, line)?;
+        assert!(rt; lines.as_slice() == COURSE.as_bytes(), "{line}");
         fs::remove_file(&rt, stage.disk.as_str())?;
     }
     Ok(())

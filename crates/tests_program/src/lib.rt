@@ -1,9 +1,11 @@
-//! Tests of what the program does with a command line, through its public functions.
-//! They stand in a crate of their own, since a crate with tests is proved twice.
+//! Tests of what the program does with a command line, through its public functions. They have a
+//! crate of their own, since a crate with tests is proved twice.
 #![tactic(auto)]
 
 #[cfg(test)]
 mod blamed;
+#[cfg(test)]
+mod buffered;
 #[cfg(test)]
 mod flushing;
 #[cfg(test)]

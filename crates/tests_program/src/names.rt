@@ -1,5 +1,5 @@
-// The printed name of each fault. A fault that carries another is told with that one's name after a
-// blank; what is told of a model file is told in plain words, with the key.
+// The printed name of each fault. A fault that carries another is printed with that one's name
+// after a space; a mistake in a model file is printed in plain words, with the key.
 
 use commands::CommandFault;
 use commitlog::LogFault;
@@ -13,7 +13,7 @@ use migration::MigrateFault;
 use model::WorldFault;
 use node::NodeFault;
 use process::ProcessFault;
-use program::{Fault, tell};
+use program::{Fault, print_fault};
 use recovery::RecoveryFault;
 use runs::{RunFault, SimulationFault};
 use std::fmt::Display;
@@ -22,7 +22,7 @@ use std::test::Fail;
 use texts::{Mistake, ModelFault};
 use wire::{PortFault, WireFault};
 
-/// Looks whether each fault is told by the text beside it.
+/// Checks that each fault is printed as the text beside it.
 fn look_at_names<F, R>(rt: &R, names: &[(F, &str)]) -> Result<(), Fail>
 where
     F: Display,
@@ -35,8 +35,8 @@ where
     Ok(())
 }
 
-/// Looks at the name of a fault of each variant. The match has no other arm, so that a variant
-/// without a row does not compile.
+/// Checks the names of the faults of one enum. The match has no wildcard arm, so that it does not
+/// compile if a variant has no row.
 macro_rules! check_names {
     ($rt:expr; $kind:ident {
         $($name:ident $(($($carried:tt)*))? $({ $($field:tt)* })? => $text:literal,)*
@@ -54,7 +54,7 @@ macro_rules! check_names {
 }
 
 #[test]
-fn messages_and_worlds_name_their_faults(rt: HostRuntime) -> Result<(), Fail> {
+fn message_and_world_faults_have_names(rt: HostRuntime) -> Result<(), Fail> {
     check_names!(rt; KeyFault {
         Short => "Short",
         TimeTooLarge => "TimeTooLarge",
@@ -68,7 +68,7 @@ fn messages_and_worlds_name_their_faults(rt: HostRuntime) -> Result<(), Fail> {
 }
 
 #[test]
-fn nodes_name_their_faults(rt: HostRuntime) -> Result<(), Fail> {
+fn node_faults_have_names(rt: HostRuntime) -> Result<(), Fail> {
     check_names!(rt; ProcessFault {
         NotMine => "NotMine",
         BelowFloor => "BelowFloor",
@@ -95,7 +95,7 @@ fn nodes_name_their_faults(rt: HostRuntime) -> Result<(), Fail> {
 }
 
 #[test]
-fn ports_name_their_faults(rt: HostRuntime) -> Result<(), Fail> {
+fn port_faults_have_names(rt: HostRuntime) -> Result<(), Fail> {
     check_names!(rt; WireFault {
         Truncated => "Truncated",
         TooLong => "TooLong",
@@ -114,7 +114,7 @@ fn ports_name_their_faults(rt: HostRuntime) -> Result<(), Fail> {
 }
 
 #[test]
-fn disks_and_logs_name_their_faults(rt: HostRuntime) -> Result<(), Fail> {
+fn disk_and_log_faults_have_names(rt: HostRuntime) -> Result<(), Fail> {
     check_names!(rt; DiskFault {
         Device => "Device",
         NoSuchSector => "NoSuchSector",
@@ -168,7 +168,7 @@ fn disks_and_logs_name_their_faults(rt: HostRuntime) -> Result<(), Fail> {
 }
 
 #[test]
-fn sessions_and_runs_name_their_faults(rt: HostRuntime) -> Result<(), Fail> {
+fn session_and_run_faults_have_names(rt: HostRuntime) -> Result<(), Fail> {
     check_names!(rt; SessionFault {
         Busy => "Busy",
         Idle => "Idle",
@@ -193,14 +193,14 @@ fn sessions_and_runs_name_their_faults(rt: HostRuntime) -> Result<(), Fail> {
 }
 
 #[test]
-fn model_files_name_their_faults(rt: HostRuntime) -> Result<(), Fail> {
+fn model_file_faults_have_names(rt: HostRuntime) -> Result<(), Fail> {
     check_names!(rt; ModelFault {
         BadModel(Mistake::Toml) => "BadModel",
         NoMemory => "NoMemory",
     });
     check_names!(rt; Mistake {
         Toml => "not TOML",
-        Not { key: "model", wanted: "ring" } => "model: not ring",
+        Not { key: "model", expected: "ring" } => "model: not ring",
         Missing("hold") => "hold: missing",
         NoNumber("lps") => "lps: not a whole number",
         Outside { key: "lps", found: -1, least: 1, most: 1024 } =>
@@ -211,7 +211,7 @@ fn model_files_name_their_faults(rt: HostRuntime) -> Result<(), Fail> {
 }
 
 #[test]
-fn commands_and_programs_name_their_faults(rt: HostRuntime) -> Result<(), Fail> {
+fn command_and_program_faults_have_names(rt: HostRuntime) -> Result<(), Fail> {
     check_names!(rt; CommandFault {
         NoMemory => "NoMemory",
         Log(LogFault::Full) => "Log Full",
@@ -251,7 +251,7 @@ fn commands_and_programs_name_their_faults(rt: HostRuntime) -> Result<(), Fail> 
     Ok(())
 }
 
-/// Faults as the program tells them, of which some lie several layers deep.
+/// Faults as the program prints them. Some carry others, several layers deep.
 const FAULTS: [(Fault, &str); 24] = [
     (Fault::BadModel, "timewarp: BadModel\n"),
     (Fault::File, "timewarp: File\n"),
@@ -336,10 +336,10 @@ const FAULTS: [(Fault, &str); 24] = [
 ];
 
 #[test]
-fn the_program_tells_faults_with_all_that_they_carry(rt: HostRuntime) {
+fn the_program_prints_nested_faults_in_full(rt: HostRuntime) {
     for (fault, text) in FAULTS {
         let mut err = Vec::new(rt.alloc());
-        assert_eq!(rt; tell("timewarp", fault, &mut err), 1);
+        assert_eq!(rt; print_fault("timewarp", fault, &mut err), 1);
         assert!(rt; err.as_slice() == text.as_bytes(), "{text}");
     }
 }

@@ -1,5 +1,5 @@
-// Commands with writers in memory, and files for them. None of these calls has a contract, so that
-// the tests are proved without those of the program.
+// Runs commands with writers in memory. None of these functions has a contract, so that the tests
+// are proved without the contracts of the program.
 
 use models::AnyModel;
 use program::{About, TerminalProgress, command};
@@ -34,15 +34,15 @@ lp 2 sent 1 state 1
 pending 11 1 1 2 0 5 0 0
 ";
 
-/// What a command answers: its status, and what it writes to each stream.
+/// The result of a command: its exit status, and what it wrote to each stream.
 #[derive(Drop)]
-pub struct Told {
+pub struct Printed {
     pub status: u8,
     pub out: Vec<u8>,
     pub err: Vec<u8>,
 }
 
-/// Runs a command with these writers, as where there is no terminal. Answers the status.
+/// Runs a command with these writers and without a terminal. Returns the exit status.
 pub fn run_to<R, O, E>(rt: &R, words: &[&str], out: &mut O, err: &mut E) -> u8
 where
     R: Files<File = File> + Net + Processes + Clock + AllocGlobal,
@@ -53,15 +53,15 @@ where
     command::<AnyModel, _, _, _, _, _>(rt, ABOUT, words, &mut unseen, out, err)
 }
 
-/// Runs a command with two writers that need no more memory.
-pub fn run<R>(rt: &R, words: &[&str]) -> Result<Told, Fail>
+/// Runs a command with two writers that need no further memory.
+pub fn run<R>(rt: &R, words: &[&str]) -> Result<Printed, Fail>
 where
     R: Files<File = File> + Net + Processes + Clock + AllocGlobal,
 {
     let mut out = Vec::with_capacity(rt.alloc(), 8192)?;
     let mut err = Vec::with_capacity(rt.alloc(), 8192)?;
     let status = run_to(rt, words, &mut out, &mut err);
-    Ok(Told { status, out, err })
+    Ok(Printed { status, out, err })
 }
 
 /// The path of a temporary file of this name.
@@ -71,7 +71,7 @@ pub fn temporary<R: Env + AllocGlobal>(rt: &R, name: &str) -> Result<PathBuf, Fa
     Ok(path)
 }
 
-/// The same as text.
+/// The path of a temporary file of this name, as text.
 pub fn path_of<R: Env + AllocGlobal>(rt: &R, name: &str) -> Result<String, Fail> {
     let path = temporary(rt, name)?;
     let path = path.as_path().to_str().ok_or("a path of text")?;

@@ -14,7 +14,8 @@ use std::time::{Clock, Duration};
 use texts::Mistake;
 use wire::{PortFault, WireFault};
 
-/// A clock that goes on by 200 milliseconds at each look.
+/// A clock that advances by 200 milliseconds at each reading. The system's time, which may be set at
+/// any moment, goes back by a second.
 #[derive(Drop)]
 struct Ticking {
     looks: std::cell::Cell<u32>,
@@ -28,12 +29,14 @@ impl Clock for Ticking {
     }
 
     fn since_1970(&self) -> IoResult<Duration> {
-        self.monotonic()
+        let looks = self.looks.get();
+        self.looks.set(looks.saturating_add(1));
+        Ok(Duration::from_secs(1_000_000_u64.saturating_sub(u64::from(looks))))
     }
 }
 
 #[test]
-fn a_run_is_shown_twice_a_second_and_then_cleared(rt: HostRuntime) -> Result<(), Fail> {
+fn progress_is_shown_twice_a_second_and_then_cleared(rt: HostRuntime) -> Result<(), Fail> {
     let clock = Ticking {
         looks: std::cell::Cell::new(0),
     };
@@ -59,7 +62,7 @@ fn a_run_is_shown_twice_a_second_and_then_cleared(rt: HostRuntime) -> Result<(),
 }
 
 #[test]
-fn what_is_shown_of_a_run_is_gone_at_its_end(rt: HostRuntime) -> Result<(), Fail> {
+fn progress_is_cleared_at_the_end_of_a_run(rt: HostRuntime) -> Result<(), Fail> {
     let clock = Ticking {
         looks: std::cell::Cell::new(0),
     };
@@ -77,8 +80,8 @@ fn what_is_shown_of_a_run_is_gone_at_its_end(rt: HostRuntime) -> Result<(), Fail
     Ok(())
 }
 
-/// A turn that handled so many messages, of which it told so many, after so many antimessages.
-fn turn(handled: u64, told: u64, antimessages: u64) -> Row {
+/// A turn with these numbers of handled messages, of reported records, and of antimessages.
+fn turn(handled: u64, reported: u64, antimessages: u64) -> Row {
     Row {
         round: 1,
         node: 0,
@@ -88,14 +91,14 @@ fn turn(handled: u64, told: u64, antimessages: u64) -> Row {
         antimessages,
         handled,
         sent: 0,
-        told,
+        reported,
         committed: 0,
         events: 0,
     }
 }
 
-/// Tells of a run with five commits, from its beginning to its end.
-fn tell_run<P: Progress>(progress: &mut P) {
+/// Shows a run with five commits, from its start to its end.
+fn print_run<P: Progress>(progress: &mut P) {
     progress.begin(400);
     progress.stored(2, 64);
     for commit in 0..5 {
@@ -106,7 +109,7 @@ fn tell_run<P: Progress>(progress: &mut P) {
     progress.finished();
 }
 
-/// What is shown of it.
+/// The end of what the terminal shows of it.
 const SUMMED_UP: &[u8] = b"\r75%, 90 events (150/s), 0 s to go, efficiency 75%, disk 14% full\x1b[K\
     \r\x1b[K120 events, 5 commits in 0.8 seconds\n\
     200 messages handled, efficiency 75%, 15 antimessages\n\
@@ -119,13 +122,13 @@ fn a_run_is_summed_up_at_its_end(rt: HostRuntime) -> Result<(), Fail> {
     };
     let mut terminal = Vec::with_capacity(rt.alloc(), 512)?;
     let mut shown = TerminalProgress::on(&clock, Some(&mut terminal));
-    tell_run(&mut shown);
+    print_run(&mut shown);
     assert_eq!(rt; terminal.as_slice(), SUMMED_UP);
     Ok(())
 }
 
 #[test]
-fn antimessages_are_shown_where_there_is_room(rt: HostRuntime) -> Result<(), Fail> {
+fn antimessages_are_shown_if_there_is_room(rt: HostRuntime) -> Result<(), Fail> {
     let clock = Ticking {
         looks: std::cell::Cell::new(0),
     };
@@ -143,8 +146,8 @@ fn antimessages_are_shown_where_there_is_room(rt: HostRuntime) -> Result<(), Fai
     Ok(())
 }
 
-/// Counts of events, and the lines in which they are shown: one that fills the width, and one that
-/// would have a column more.
+/// Event counts and the lines that show them: one of full width, and one that leaves out a part
+/// that would make it a column wider.
 const WIDEST: [(usize, &[u8]); 2] = [
     (
         10_000_000_000_000,
@@ -175,7 +178,7 @@ fn a_line_has_at_most_79_columns(rt: HostRuntime) -> Result<(), Fail> {
     Ok(())
 }
 
-/// The line that a terminal shows after a fault, if there is one.
+/// The line that a terminal shows after a fault; empty if there is none.
 fn advice(rt: &HostRuntime, fault: Fault) -> Vec<u8> {
     let clock = Ticking {
         looks: std::cell::Cell::new(0),
@@ -192,7 +195,7 @@ const DEVICE: &str = "see that its device has room and works; what is committed 
 
 const DAMAGED: &str = "the disk is damaged: `status` says at which record\n";
 
-/// Faults, and what the line after each ends with.
+/// Faults, and the end of the line after each.
 const ADVICE: [(Fault, &str); 22] = [
     (Fault::BadModel, "what is wrong with the model file\n"),
     (
@@ -253,7 +256,7 @@ const ADVICE: [(Fault, &str); 22] = [
 ];
 
 #[test]
-fn a_terminal_shows_what_to_do_about_a_fault(rt: HostRuntime) -> Result<(), Fail> {
+fn a_terminal_shows_advice_after_a_fault(rt: HostRuntime) -> Result<(), Fail> {
     for (fault, end) in ADVICE {
         let shown = advice(&rt, fault);
         assert!(rt;
@@ -266,9 +269,7 @@ fn a_terminal_shows_what_to_do_about_a_fault(rt: HostRuntime) -> Result<(), Fail
 }
 
 #[test]
-fn the_nodes_that_are_waited_for_are_shown_until_all_are_there(
-    rt: HostRuntime,
-) -> Result<(), Fail> {
+fn awaited_nodes_are_shown_until_all_are_connected(rt: HostRuntime) -> Result<(), Fail> {
     let clock = Ticking {
         looks: std::cell::Cell::new(0),
     };

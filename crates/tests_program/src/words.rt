@@ -37,13 +37,13 @@ impl Env for OneWord {
     }
 }
 
-/// The program's name and this word.
+/// The words that the program gets: its name and this one.
 fn words_of(alloc: Global, word: &'static [u8]) -> io::Result<Vec<String>> {
     words(&(OneWord { word }, alloc))
 }
 
 #[test]
-fn words_are_texts(rt: HostRuntime) -> Result<(), Fail> {
+fn words_are_read_as_utf8(rt: HostRuntime) -> Result<(), Fail> {
     let words = words_of(rt.alloc(), b"\xc3\xa9")?;
     assert_eq!(rt; words.len(), 2);
     for text in ["timewarp", "\u{e9}"] {
@@ -55,30 +55,30 @@ fn words_are_texts(rt: HostRuntime) -> Result<(), Fail> {
     Ok(())
 }
 
-/// Whether words that could not be read are told by this text and with this status.
-fn is_told_as(alloc: Global, error: Error, status: u8, text: &str) -> Result<bool, Fail> {
+/// Whether unreadable words are reported by this text and this exit status.
+fn is_printed_as(alloc: Global, error: Error, status: u8, text: &str) -> Result<bool, Fail> {
     let mut err = Vec::with_capacity(alloc, 512)?;
     Ok(refuse_words("timewarp", error, &mut err) == status && err.as_slice() == text.as_bytes())
 }
 
 #[test]
-fn words_that_could_not_be_read_are_told(rt: HostRuntime) -> Result<(), Fail> {
-    // A word that is no UTF-8 is a mistake in the line.
+fn unreadable_words_are_reported(rt: HostRuntime) -> Result<(), Fail> {
+    // A word that is not UTF-8 is a mistake in the command line.
     let mistake = words_of(rt.alloc(), b"a\xff").err().ok_or("a refusal")?;
     let text =
         "error: a word of the command line is not UTF-8\n\nFor more information, try '--help'.\n";
-    assert!(rt; is_told_as(rt.alloc(), mistake, 2, text)?);
+    assert!(rt; is_printed_as(rt.alloc(), mistake, 2, text)?);
     let memory = Error::from(ErrorKind::OutOfMemory);
-    assert!(rt; is_told_as(rt.alloc(), memory, 1, "timewarp: NoMemory\n")?);
+    assert!(rt; is_printed_as(rt.alloc(), memory, 1, "timewarp: NoMemory\n")?);
     Ok(())
 }
 
 #[test]
-fn a_line_without_words_is_a_mistake(rt: HostRuntime) -> Result<(), Fail> {
-    let told = run(&rt, &[])?;
+fn an_empty_command_line_is_a_mistake(rt: HostRuntime) -> Result<(), Fail> {
+    let outcome = run(&rt, &[])?;
     let usage = b"Usage: timewarp <COMMAND>".as_slice();
-    let mut windows = told.err.as_slice().windows(usage.len());
+    let mut windows = outcome.err.as_slice().windows(usage.len());
     assert!(rt; windows.any(|window| window == usage));
-    assert_eq!(rt; (told.status, told.out.len()), (2, 0));
+    assert_eq!(rt; (outcome.status, outcome.out.len()), (2, 0));
     Ok(())
 }

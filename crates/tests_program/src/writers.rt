@@ -1,8 +1,8 @@
-// Writers that refuse.
+// Writers that refuse calls.
 
-use crate::running::{RING, RING_TEXT, Told, run, run_to, temporary};
+use crate::running::{Printed, RING, RING_TEXT, run, run_to, temporary};
 use models::AnyModel;
-use program::{Fault, seq, tell};
+use program::{Fault, print_fault, seq};
 use std::alloc::{AllocError, Global};
 use std::fs::{self, File};
 use std::io::{self, Error, ErrorKind, Write};
@@ -11,7 +11,7 @@ use std::process::Processes;
 use std::rt::{Clock, Files};
 use std::test::Fail;
 
-/// A writer that refuses the call number `fail`, a flush also.
+/// A writer that refuses the call number `fail`; flushes count too.
 #[derive(Drop)]
 struct Refusing {
     taken: Vec<u8>,
@@ -50,7 +50,7 @@ impl Write for Refusing {
     }
 }
 
-/// A writer that takes all, and refuses to flush.
+/// A writer that accepts all writes, and refuses to flush.
 #[derive(Drop)]
 struct NeverFlushed {
     taken: Vec<u8>,
@@ -67,16 +67,16 @@ impl Write for NeverFlushed {
     }
 }
 
-/// Where a model is found.
+/// The source of a model.
 #[derive(Clone, Copy)]
 enum Source<'a> {
-    /// In this text, which the function `seq` runs.
+    /// A text, which the function `seq` runs.
     Text(&'a str),
-    /// In the file of this path, on which the command `seq` runs.
+    /// The path of a file, which the command `seq` runs.
     Path(&'a str),
 }
 
-/// Runs a model by the plain runner with these writers. Answers the status.
+/// Runs a model sequentially with these writers. Returns the exit status.
 fn seq_to<R, O>(rt: &R, source: Source<'_>, out: &mut O, err: &mut Vec<u8>) -> u8
 where
     R: Files<File = File> + Net + Processes + Clock + AllocGlobal,
@@ -85,45 +85,45 @@ where
     match source {
         Source::Text(text) => match seq::<AnyModel, _>(rt.alloc(), text, out) {
             Ok(()) => 0,
-            Err(fault) => tell("timewarp", Fault::from(fault), err),
+            Err(fault) => print_fault("timewarp", Fault::from(fault), err),
         },
         Source::Path(path) => run_to(rt, &["timewarp", "seq", path], out, err),
     }
 }
 
-/// Runs a model with a writer that refuses the call number `fail`. Answers whether it refused, and
-/// what was told.
-fn seq_refused<R>(rt: &R, source: Source<'_>, fail: usize) -> Result<(bool, Told), Fail>
+/// Runs a model with a writer that refuses the call number `fail`. Returns whether that call came,
+/// and the result.
+fn seq_refused<R>(rt: &R, source: Source<'_>, fail: usize) -> Result<(bool, Printed), Fail>
 where
     R: Files<File = File> + Net + Processes + Clock + AllocGlobal,
 {
     let mut out = Refusing::at(rt.alloc(), fail)?;
     let mut err = Vec::with_capacity(rt.alloc(), 512)?;
     let status = seq_to(rt, source, &mut out, &mut err);
-    let told = Told {
+    let outcome = Printed {
         status,
         out: out.taken,
         err,
     };
-    Ok((out.calls > fail, told))
+    Ok((out.calls > fail, outcome))
 }
 
 #[test]
-fn each_write_that_is_refused_is_told(rt: HostRuntime) -> Result<(), Fail> {
+fn each_refused_write_is_reported(rt: HostRuntime) -> Result<(), Fail> {
     let path = temporary(&rt, "timewarp-refused.toml")?;
     let path = path.as_path().to_str().ok_or("a path of text")?;
     fs::write(&rt, path, RING)?;
     for source in [Source::Text(RING), Source::Path(path)] {
         let mut done = false;
         for fail in 0..300 {
-            let (refused, told) = seq_refused(&rt, source, fail)?;
-            assert!(rt; RING_TEXT.as_bytes().starts_with(told.out.as_slice()));
+            let (refused, outcome) = seq_refused(&rt, source, fail)?;
+            assert!(rt; RING_TEXT.as_bytes().starts_with(outcome.out.as_slice()));
             if refused {
-                assert_eq!(rt; told.err.as_slice(), b"timewarp: Output\n".as_slice());
-                assert_eq!(rt; told.status, 1);
+                assert_eq!(rt; outcome.err.as_slice(), b"timewarp: Output\n".as_slice());
+                assert_eq!(rt; outcome.status, 1);
             } else {
-                assert_eq!(rt; (told.status, told.err.len()), (0, 0));
-                assert_eq!(rt; told.out.len(), RING_TEXT.len());
+                assert_eq!(rt; (outcome.status, outcome.err.len()), (0, 0));
+                assert_eq!(rt; outcome.out.len(), RING_TEXT.len());
                 done = true;
             }
         }
@@ -134,7 +134,7 @@ fn each_write_that_is_refused_is_told(rt: HostRuntime) -> Result<(), Fail> {
 }
 
 #[test]
-fn the_last_flush_is_made_and_told(rt: HostRuntime) -> Result<(), Fail> {
+fn a_failure_of_the_last_flush_is_reported(rt: HostRuntime) -> Result<(), Fail> {
     let path = temporary(&rt, "timewarp flushed.toml ")?;
     let path = path.as_path().to_str().ok_or("a path of text")?;
     fs::write(&rt, path, RING)?;
@@ -154,12 +154,12 @@ fn the_last_flush_is_made_and_told(rt: HostRuntime) -> Result<(), Fail> {
 
 /// A trace of one turn.
 const TRACE: &str = "\
-round,node,budget,gvt,delivered,antimessages,handled,sent,told,committed,events
+round,node,budget,gvt,delivered,antimessages,handled,sent,reported,committed,events
 1,0,16,0,1,0,2,2,2,0,0
 ";
 
 #[test]
-fn the_last_flush_is_made_of_a_course(rt: HostRuntime) -> Result<(), Fail> {
+fn the_drawing_of_a_trace_is_flushed(rt: HostRuntime) -> Result<(), Fail> {
     let path = temporary(&rt, "timewarp-course.csv")?;
     let path = path.as_path().to_str().ok_or("a path of text")?;
     fs::write(&rt, path, TRACE)?;
@@ -179,21 +179,21 @@ fn the_last_flush_is_made_of_a_course(rt: HostRuntime) -> Result<(), Fail> {
 }
 
 #[test]
-fn faults_of_the_file_come_before_those_of_the_writer(rt: HostRuntime) -> Result<(), Fail> {
+fn file_faults_come_before_writer_faults(rt: HostRuntime) -> Result<(), Fail> {
     let sources = [
         (Source::Path("timewarp-missing.toml"), "timewarp: File\n"),
         (Source::Text("lps = 3\n"), "timewarp: BadModel\n"),
     ];
     for (source, text) in sources {
-        let (refused, told) = seq_refused(&rt, source, 0)?;
-        assert_eq!(rt; told.err.as_slice(), text.as_bytes());
-        assert_eq!(rt; (refused, told.status), (false, 1));
+        let (refused, outcome) = seq_refused(&rt, source, 0)?;
+        assert_eq!(rt; outcome.err.as_slice(), text.as_bytes());
+        assert_eq!(rt; (refused, outcome.status), (false, 1));
     }
     Ok(())
 }
 
 #[test]
-fn a_refused_message_changes_no_status(rt: HostRuntime) -> Result<(), Fail> {
+fn a_refused_error_message_keeps_the_exit_status(rt: HostRuntime) -> Result<(), Fail> {
     let lines = [
         (["timewarp", "seq", "timewarp-missing.toml"].as_slice(), 1),
         (["timewarp", "run"].as_slice(), 2),

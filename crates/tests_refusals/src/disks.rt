@@ -1,4 +1,4 @@
-// Disks in memory. What prepares a test is made once more where memory was refused to it.
+// Disks in memory. A setup that meets an allocation failure is repeated.
 
 use crate::plain::END;
 use commitlog::{LogFault, format};
@@ -8,7 +8,7 @@ use recovery::header;
 use std::alloc::{AllocError, Global};
 use std::test::Fail;
 
-/// How the loose sectors of a disk may be left.
+/// What a crash leaves in the dirty sectors of a disk.
 pub const TEARINGS: [Torn; 3] = [Torn::Old, Torn::New, Torn::Fill(1)];
 
 fn made<M: Simulated>(alloc: Global, model: &M, sectors: u32) -> Result<MemDisk, LogFault> {
@@ -17,7 +17,7 @@ fn made<M: Simulated>(alloc: Global, model: &M, sectors: u32) -> Result<MemDisk,
     Ok(disk)
 }
 
-/// A disk of so many sectors with an empty log of a model.
+/// A disk of this size with an empty log of a model.
 pub fn formatted<M: Simulated>(
     alloc: Global,
     model: &M,

@@ -1,4 +1,4 @@
-// A later end on a disk, to which an allocation is refused.
+// A later end on a disk, with one allocation refused.
 
 use crate::disks::{TEARINGS, crashed};
 use crate::openings::{is_of_memory, look_at_crashes};
@@ -13,8 +13,8 @@ use std::test::Fail;
 
 const LATER: u64 = 20;
 
-/// Puts the later end in force. Where memory is refused, the disk that is handed back is as it was:
-/// each crash of it opens under the end before, and the next call puts the later one in force.
+/// Puts the later end in force. After an allocation failure the returned disk must be unchanged:
+/// each crash of it opens under the end before, and a second call puts the later one in force.
 fn carried_on<M: Simulated>(
     rt: &impl Abort,
     alloc: Global,
@@ -34,7 +34,7 @@ fn carried_on<M: Simulated>(
 }
 
 #[test]
-fn a_disk_is_carried_on_after_a_refusal(rt: HostRuntime) -> Result<(), Fail> {
+fn a_disk_is_extended_after_a_refusal(rt: HostRuntime) -> Result<(), Fail> {
     for (sectors, every) in [(64, 0), (32, 3)] {
         let disk = ran(&rt, rt.alloc(), sectors, every)?;
         let model = one_token().model;
@@ -45,7 +45,7 @@ fn a_disk_is_carried_on_after_a_refusal(rt: HostRuntime) -> Result<(), Fail> {
         } = carried_on(&rt, rt.alloc(), &model, disk)?;
         assert!(rt; front.g == END && before == END);
         for torn in TEARINGS {
-            // the later end is in force on what each crash leaves, so that it is not above itself
+            // each crash leaves the later end in force, so that it is refused a second time
             let left = crashed(rt.alloc(), &disk, torn)?;
             let refused = match extend(rt.alloc(), &model, left, LATER) {
                 Ok(_) => return Err(Fail::from("the end in force is taken as a later one")),

@@ -1,9 +1,9 @@
-//! Tests of sessions and of commands to which one allocation is refused, through their public
-//! functions. They stand in a crate of their own, since a crate with tests is proved twice.
+//! Tests of sessions and of commands with one allocation refused, through their public functions.
+//! They have a crate of their own, since a crate with tests is proved twice.
 //!
-//! With ample memory each call here succeeds at once. `rt try --test --fail-alloc N` refuses the
-//! allocation of this number, and `tools/refuse-allocations` each in turn: the call that meets it
-//! tells of the want of memory by its own name, and each test then passes all the same.
+//! With enough memory each call succeeds at once. `rt try --test --fail-alloc N` refuses allocation
+//! `N`, and `tools/refuse-allocations` each in turn. The call that meets the refusal reports it as
+//! out of memory, and each test still passes.
 #![tactic(auto)]
 
 #[cfg(test)]

@@ -1,4 +1,4 @@
-// Openings to which an allocation is refused. The disk that they hand back opens.
+// Openings with one allocation refused. The disk that they return must open.
 
 use crate::disks::{TEARINGS, crashed, formatted};
 use crate::plain::{END, is_plain};
@@ -16,12 +16,12 @@ use std::process::Abort;
 use std::test::Fail;
 use wire::{LocalPort, Port, PortFault, WireFault};
 
-/// A session over nodes in this program, and one over nodes behind bytes.
+/// A session over local nodes, and one over nodes behind bytes.
 pub type Near<'m, M> = Session<'m, M, LocalPort<'m, M>, MemDisk>;
 
 pub type Far<'m, M> = Session<'m, M, LoopPort<'m, M>, MemDisk>;
 
-/// Whether a fault carries the want of memory, where it was met.
+/// Whether a fault is an allocation failure, of any layer.
 pub fn is_of_memory(fault: &SessionFault) -> bool {
     matches!(
         fault,
@@ -32,7 +32,7 @@ pub fn is_of_memory(fault: &SessionFault) -> bool {
     )
 }
 
-/// Opens a disk over three nodes in this program.
+/// Opens a disk over three local nodes.
 fn near<M: Simulated>(
     alloc: Global,
     model: &M,
@@ -62,7 +62,7 @@ fn far<M: Simulated>(
     }
 }
 
-/// Opens a disk, and the one that is handed back where memory was refused.
+/// Opens a disk over local nodes; after an allocation failure, opens the returned one.
 fn near_again<'m, M: Simulated>(
     rt: &impl Abort,
     alloc: Global,
@@ -80,61 +80,62 @@ fn near_again<'m, M: Simulated>(
     }
 }
 
-/// Each crash of a disk leaves the world of the plain runner at a time not below this one.
+/// Checks that each crash of a disk leaves the world of the plain runner at some time not below
+/// `outcome`.
 pub fn look_at_crashes<M: Simulated>(
     rt: &impl Abort,
     alloc: Global,
     model: &M,
     disk: &MemDisk,
-    told: u64,
+    outcome: u64,
 ) -> Result<(), Fail> {
     for torn in TEARINGS {
         let left = crashed(alloc, disk, torn)?;
         let session = near_again(rt, alloc, model, left)?;
-        assert!(rt; session.front().time >= told, "{torn:?}");
+        assert!(rt; session.front().time >= outcome, "{torn:?}");
         assert!(rt; is_plain(alloc, model, session.front())?, "{torn:?}");
     }
     Ok(())
 }
 
-/// Opens a disk over nodes in this program. Where memory is refused, the disk is still good.
+/// Opens a disk over local nodes. After an allocation failure the disk must still be good.
 pub fn opened_near<'m, M: Simulated>(
     rt: &impl Abort,
     alloc: Global,
     model: &'m M,
     disk: MemDisk,
-    told: u64,
+    outcome: u64,
 ) -> Result<Near<'m, M>, Fail> {
     let NotOpened { fault, disk } = match near(alloc, model, disk) {
         Ok(session) => return Ok(session),
         Err(refused) => refused,
     };
     assert!(rt; is_of_memory(&fault), "{fault}");
-    look_at_crashes(rt, alloc, model, &disk, told)?;
+    look_at_crashes(rt, alloc, model, &disk, outcome)?;
     near_again(rt, alloc, model, disk)
 }
 
-/// The same over nodes behind bytes.
+/// Opens a disk over nodes behind bytes, in the same way.
 pub fn opened_far<'m, M: Simulated>(
     rt: &impl Abort,
     alloc: Global,
     model: &'m M,
     disk: MemDisk,
-    told: u64,
+    outcome: u64,
 ) -> Result<Far<'m, M>, Fail> {
     let NotOpened { fault, disk } = match far(alloc, model, disk) {
         Ok(session) => return Ok(session),
         Err(refused) => refused,
     };
     assert!(rt; is_of_memory(&fault), "{fault}");
-    look_at_crashes(rt, alloc, model, &disk, told)?;
+    look_at_crashes(rt, alloc, model, &disk, outcome)?;
     match far(alloc, model, disk) {
         Ok(session) => Ok(session),
         Err(_again) => Err(Fail::from("the disk that was handed back is not opened")),
     }
 }
 
-/// A session has opened at this time, and its disk stands for what it shows.
+/// Checks that a session opened at this time, and that its disk represents its front.
 fn look_at_opening<M: Simulated, P: Port + Drop>(
     rt: &impl Abort,
     alloc: Global,
@@ -147,7 +148,7 @@ fn look_at_opening<M: Simulated, P: Port + Drop>(
     look_at_crashes(rt, alloc, model, &session.into_disk(), time)
 }
 
-/// Opens a disk over both kinds of nodes, which then stands for the world of this time.
+/// Opens a disk over both kinds of nodes, and checks that it represents the world of this time.
 fn look_at_disk<M: Simulated>(
     rt: &impl Abort,
     alloc: Global,

@@ -1,10 +1,10 @@
-// The front of a session beside the plain runner.
+// Compares the front of a session with the plain runner.
 
 use coordinator::FrontView;
 use model::{Model as Simulated, SavedState, Words, World, WorldFault, WorldParts};
 use std::alloc::Global;
 
-/// The tick at which all that is simulated here ends.
+/// The end of all simulations here, in ticks.
 pub const END: u64 = 10;
 
 /// The world of the plain runner at this time.
@@ -14,7 +14,7 @@ fn world_at<M: Simulated>(alloc: Global, model: &M, time: u64) -> Result<WorldPa
     Ok(world.into_parts())
 }
 
-/// Whether the states are the same words of the same processes.
+/// Whether these are the same states, process by process.
 fn same_states(states: &[SavedState], words: &[Words]) -> bool {
     states.len() == words.len()
         && states
@@ -23,8 +23,8 @@ fn same_states(states: &[SavedState], words: &[Words]) -> bool {
             .all(|(state, words)| state.as_slice() == words.as_slice())
 }
 
-/// Whether a front is the world of the plain runner at the front's time. The plain run is made once
-/// more where memory was refused to it.
+/// Whether a front is the world of the plain runner at its time. The plain run is repeated after an
+/// allocation failure.
 pub fn is_plain<M: Simulated>(
     alloc: Global,
     model: &M,

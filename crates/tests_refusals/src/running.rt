@@ -1,5 +1,4 @@
-// Commands to which an allocation is refused: a run, and what is printed of the disk that it
-// leaves.
+// Commands with one allocation refused: a run, and what is printed of the disk that it leaves.
 
 ghost use Rattle.std.specs.Prelude.{◌≡◌};
 
@@ -15,7 +14,7 @@ use std::alloc::Global;
 use std::process::Abort;
 use std::test::Fail;
 
-/// What `log` and then `show` print of a whole run.
+/// What `log` and then `show` print after a whole run.
 const LOG: &str =
     "1 0 0 0 0 0 0 0\n3 0 1 1 0 1 0 0\n5 1 0 2 0 2 0 0\n7 2 0 0 0 3 0 0\n9 0 2 1 0 4 0 0\n";
 
@@ -29,10 +28,10 @@ pending 11 1 1 2 0 5 0 0
 
 const RAN: &str = "node 0 ran 2\nnode 1 ran 2\nnode 2 ran 1\ncommitted 10 events 5\n";
 
-/// The last line of a run that goes on behind one that was refused memory.
+/// The last line of a run that goes on after one that ran out of memory.
 const COMMITTED: &str = "committed 10 events 5\n";
 
-/// One token round three processes, two ticks at each, up to time 10.
+/// One token that goes round three processes, two ticks at each, up to time 10.
 pub fn one_token() -> Simulated<TokenRing>
     ensures { result.end ≡ 10 }
 {
@@ -42,7 +41,7 @@ pub fn one_token() -> Simulated<TokenRing>
     }
 }
 
-/// The last time that a run told.
+/// The time of the last commit that a run reported.
 #[derive(Drop)]
 struct Last {
     time: u64,
@@ -54,8 +53,8 @@ impl Watch for Last {
     }
 }
 
-/// Whether a fault carries the want of memory, where it was met.
-fn is_want(fault: &CommandFault) -> bool {
+/// Whether a fault is an allocation failure, of any layer.
+fn is_allocation_failure(fault: &CommandFault) -> bool {
     match fault {
         CommandFault::NoMemory
         | CommandFault::Log(LogFault::NoMemory)
@@ -66,7 +65,7 @@ fn is_want(fault: &CommandFault) -> bool {
     }
 }
 
-/// A text that takes no more memory as it grows here.
+/// A text with room for everything that is printed here.
 fn room(alloc: Global) -> Result<Vec<u8>, Fail> {
     match Vec::with_capacity(alloc, 512) {
         Ok(text) => Ok(text),
@@ -74,7 +73,7 @@ fn room(alloc: Global) -> Result<Vec<u8>, Fail> {
     }
 }
 
-/// Runs over three nodes, with a checkpoint each so many rounds.
+/// Runs over three nodes, with a checkpoint after each `every` rounds.
 fn run_once(
     alloc: Global,
     disk: MemDisk,
@@ -93,26 +92,26 @@ fn run_once(
     run(alloc, &one_token(), disk, plan, last, out)
 }
 
-/// What a whole run leaves on a disk of so many sectors. Where memory is refused to it, it has
-/// printed nothing, its disk has what it told, and it is run on to the end.
+/// The disk that a whole run leaves. After an allocation failure the run must have printed nothing,
+/// and its disk must have what it reported; a second run goes on to the end.
 pub fn ran(rt: &impl Abort, alloc: Global, sectors: u32, every: u32) -> Result<MemDisk, Fail> {
     let disk = formatted(alloc, &one_token().model, sectors)?;
     let mut out = room(alloc)?;
     let mut last = Last { time: 0 };
-    let Ended { disk, told } = run_once(alloc, disk, every, &mut last, &mut out);
-    let Err(fault) = told else {
+    let Ended { disk, outcome } = run_once(alloc, disk, every, &mut last, &mut out);
+    let Err(fault) = outcome else {
         assert!(rt; last.time == 10 && out.as_slice() == RAN.as_bytes());
         return Ok(disk);
     };
-    assert!(rt; is_want(&fault), "{fault}");
+    assert!(rt; is_allocation_failure(&fault), "{fault}");
     assert!(rt; out.is_empty());
     look_at_crashes(rt, alloc, &one_token().model, &disk, last.time)?;
-    let Ended { disk, told } = run_once(alloc, disk, every, &mut last, &mut out);
-    assert!(rt; told.is_ok() && out.as_slice().ends_with(COMMITTED.as_bytes()));
+    let Ended { disk, outcome } = run_once(alloc, disk, every, &mut last, &mut out);
+    assert!(rt; outcome.is_ok() && out.as_slice().ends_with(COMMITTED.as_bytes()));
     Ok(disk)
 }
 
-/// What is printed of a disk.
+/// A command that prints a disk.
 #[derive(Clone, Copy)]
 enum Printed {
     Log,
@@ -131,7 +130,8 @@ fn print(
     }
 }
 
-/// Prints of a disk. Where memory is refused, nothing is printed, and the next call prints it all.
+/// Prints a disk. After an allocation failure nothing must be printed, and a second call prints it
+/// all.
 fn look_at_text(
     rt: &impl Abort,
     alloc: Global,
@@ -141,7 +141,7 @@ fn look_at_text(
 ) -> Result<(), Fail> {
     let mut out = room(alloc)?;
     if let Err(fault) = print(alloc, printed, crashed(alloc, disk, TEARINGS[0])?, &mut out) {
-        assert!(rt; is_want(&fault), "{fault}");
+        assert!(rt; is_allocation_failure(&fault), "{fault}");
         assert!(rt; out.is_empty());
         print(alloc, printed, crashed(alloc, disk, TEARINGS[0])?, &mut out)?;
     }
@@ -150,7 +150,7 @@ fn look_at_text(
 }
 
 #[test]
-fn a_run_prints_all_after_a_refusal(rt: HostRuntime) -> Result<(), Fail> {
+fn a_run_prints_everything_after_a_refusal(rt: HostRuntime) -> Result<(), Fail> {
     for (sectors, every) in [(64, 0), (11, 3)] {
         let disk = ran(&rt, rt.alloc(), sectors, every)?;
         look_at_text(&rt, rt.alloc(), &disk, Printed::Log, LOG)?;

@@ -1,5 +1,5 @@
-// The steps of a session of three nodes, to which an allocation is refused: a straggler, its
-// rollback, an antimessage, a commit, and a checkpoint.
+// The steps of a session of three nodes, with one allocation refused: a straggler, its rollback, an
+// antimessage, a commit, and a checkpoint.
 
 use crate::disks::formatted;
 use crate::openings::{Far, Near, is_of_memory, look_at_crashes, opened_far, opened_near};
@@ -14,17 +14,17 @@ use std::process::Abort;
 use std::test::Fail;
 use wire::Port;
 
-/// A step.
+/// A step in the table.
 #[derive(Clone, Copy)]
 enum Row {
-    /// To this node, of these picks, with this budget.
+    /// A post to this node, with these picks and this budget.
     Post(u32, &'static [u32], u32),
     Take(u32),
     Commit,
     Checkpoint,
 }
 
-/// The commit, at place 12, is of time 3.
+/// The first commit, at place 12, is of time 3.
 const ROWS: [Row; 15] = [
     Row::Post(0, &[], 1),
     Row::Take(0),
@@ -64,7 +64,7 @@ fn all_steps(alloc: Global) -> Result<Vec<Step>, AllocError> {
     Ok(steps)
 }
 
-/// The steps, which are made once more where memory was refused.
+/// All steps; built a second time after an allocation failure.
 fn steps(alloc: Global) -> Result<Vec<Step>, AllocError> {
     match all_steps(alloc) {
         Err(AllocError) => all_steps(alloc),
@@ -72,7 +72,7 @@ fn steps(alloc: Global) -> Result<Vec<Step>, AllocError> {
     }
 }
 
-/// How a session is led through its steps.
+/// The call that makes the steps of a session.
 #[derive(Clone, Copy)]
 enum By {
     Step,
@@ -87,7 +87,7 @@ fn stepped<M: Simulated, P: Port, D: SectorDisk>(
     Ok(())
 }
 
-/// Makes these steps, one at a time, as `drive` does.
+/// Makes these steps one at a time, with the result of `drive`.
 fn each_stepped<M: Simulated, P: Port, D: SectorDisk>(
     session: &mut Session<'_, M, P, D>,
     steps: &[Step],
@@ -114,8 +114,7 @@ fn led<M: Simulated, P: Port, D: SectorDisk>(
     }
 }
 
-/// Looks at a session to which memory was refused: it answers Spent to each step, and its front is
-/// the one of this time.
+/// Checks a session that met an allocation failure: it answers Spent to each step.
 fn look_at_spent<M: Simulated, P: Port, D: SectorDisk>(
     rt: &impl Abort,
     session: &mut Session<'_, M, P, D>,
@@ -136,8 +135,7 @@ fn look_at_spent<M: Simulated, P: Port, D: SectorDisk>(
     Ok(())
 }
 
-/// Leads a session through all steps, and looks at what there is then, and at what each crash
-/// leaves.
+/// Makes all steps of a session. Checks its front then, and what each crash leaves.
 fn look_at_steps<M: Simulated, P: Port + Drop>(
     rt: &impl Abort,
     alloc: Global,
@@ -154,13 +152,13 @@ fn look_at_steps<M: Simulated, P: Port + Drop>(
             done
         }
     };
-    let told = if made > 12 { 3 } else { 0 };
-    assert!(rt; session.front().time == told, "after {made} steps");
+    let outcome = if made > 12 { 3 } else { 0 };
+    assert!(rt; session.front().time == outcome, "after {made} steps");
     assert!(rt;
         is_plain(alloc, model, session.front())?,
         "after {made} steps"
     );
-    look_at_crashes(rt, alloc, model, &session.into_disk(), told)
+    look_at_crashes(rt, alloc, model, &session.into_disk(), outcome)
 }
 
 /// A ring of two tokens.

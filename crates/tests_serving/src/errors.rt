@@ -1,5 +1,5 @@
-// Calls of a reader and of a writer that fail: an interrupted one is made again, after any other
-// nothing is read or written. What was asked before is answered.
+// Reads and writes that fail. An interrupted call is repeated; after any other failure there is no
+// further call. Earlier parcels are answered.
 
 use crate::frames_of_ring::RUN_0;
 use crate::streams::{MANY, NEVER, Pieces, Refusal, Taking, serve_ring};
@@ -9,7 +9,7 @@ use std::process::Abort;
 use std::test::Fail;
 use wire::WireFault;
 
-/// Errors that end a call at once.
+/// Errors that end the loop at once.
 const KINDS: [ErrorKind; 16] = [
     ErrorKind::WouldBlock,
     ErrorKind::TimedOut,
@@ -29,7 +29,7 @@ const KINDS: [ErrorKind; 16] = [
     ErrorKind::Other,
 ];
 
-/// How a run of node 0 went: what was answered, and what reader and writer then know.
+/// A run of node 0: the result, and the state of the reader and the writer after it.
 #[derive(Drop)]
 struct Talk {
     answer: Result<u64, WireFault>,
@@ -39,7 +39,7 @@ struct Talk {
     text: Vec<u8>,
 }
 
-/// Serves node 0 by reads of 7 bytes and writes of 10, of which these are refused.
+/// Serves node 0 by reads of at most 7 bytes and writes of at most 10, with these refusals.
 fn serve_refused(alloc: Global, read: Refusal, write: Refusal) -> Result<Talk, AllocError> {
     let stream = RUN_0.frames.as_slice().concat(alloc)?;
     let mut reader = Pieces::of(stream.as_slice(), 7, read);
@@ -54,7 +54,8 @@ fn serve_refused(alloc: Global, read: Refusal, write: Refusal) -> Result<Talk, A
     })
 }
 
-/// How many of these frames end within so many bytes, and whether one ends there.
+/// How many of these frames are complete within the first `bytes` bytes, and whether the last of
+/// them ends exactly there.
 fn ended(frames: &[&[u8]], bytes: usize) -> (usize, bool) {
     let mut rest = bytes;
     for (count, frame) in frames.iter().enumerate() {
@@ -66,7 +67,7 @@ fn ended(frames: &[&[u8]], bytes: usize) -> (usize, bool) {
     (frames.len(), true)
 }
 
-/// How many bytes these frames have from this one on.
+/// The number of bytes in these frames from number `first` on.
 fn length_from(frames: &[&[u8]], first: usize) -> usize {
     frames
         .iter()
@@ -74,7 +75,8 @@ fn length_from(frames: &[&[u8]], first: usize) -> usize {
         .fold(0usize, |sum, frame| sum.saturating_add(frame.len()))
 }
 
-/// Looks at a run whose read of this number fails, or has nothing. False where there is none.
+/// Checks a run whose read number `call` fails, or returns nothing. Returns false if there is no
+/// such read.
 fn ends_at_read(
     rt: &impl Abort,
     alloc: Global,
@@ -104,7 +106,8 @@ fn ends_at_read(
     Ok(true)
 }
 
-/// Looks at a run whose write of this number fails, or takes nothing. False where there is none.
+/// Checks a run whose write number `call` fails, or writes nothing. Returns false if there is no
+/// such write.
 fn ends_at_write(
     rt: &impl Abort,
     alloc: Global,
@@ -124,7 +127,7 @@ fn ends_at_write(
     assert_eq!(rt; talk.answer, Err(WireFault::Io));
     let replies = RUN_0.replies.as_slice().concat(alloc)?;
     assert!(rt; replies.as_slice().starts_with(talk.text.as_slice()));
-    // The load was read, the parcels before this reply, and its own.
+    // The node has read the load, the parcels of the complete replies, and that of this reply.
     let (before, _) = ended(&RUN_0.replies, talk.text.len());
     let unread = length_from(&RUN_0.frames, before.saturating_add(2));
     assert_eq!(rt; talk.unread, unread);
@@ -132,7 +135,7 @@ fn ends_at_write(
 }
 
 #[test]
-fn a_read_that_fails_is_the_last(rt: HostRuntime) -> Result<(), Fail> {
+fn a_failed_read_is_the_last(rt: HostRuntime) -> Result<(), Fail> {
     for kind in KINDS.iter().copied().map(Some).chain([None]) {
         let mut calls = 0usize;
         for call in 0..100 {
@@ -146,7 +149,7 @@ fn a_read_that_fails_is_the_last(rt: HostRuntime) -> Result<(), Fail> {
 }
 
 #[test]
-fn a_write_that_fails_is_the_last(rt: HostRuntime) -> Result<(), Fail> {
+fn a_failed_write_is_the_last(rt: HostRuntime) -> Result<(), Fail> {
     for kind in KINDS.iter().copied().map(Some).chain([None]) {
         let mut calls = 0usize;
         for call in 0..100 {
@@ -160,7 +163,7 @@ fn a_write_that_fails_is_the_last(rt: HostRuntime) -> Result<(), Fail> {
 }
 
 #[test]
-fn an_interrupted_call_is_made_again(rt: HostRuntime) -> Result<(), Fail> {
+fn an_interrupted_call_is_repeated(rt: HostRuntime) -> Result<(), Fail> {
     let replies = RUN_0.replies.as_slice().concat(rt.alloc())?;
     for call in 0..50 {
         let refusal = Refusal {

@@ -1,7 +1,7 @@
-// The frames of a whole run: a ring of three processes, each on a node of its own, through which
-// one token goes that each holds for two ticks, up to time 10. And frames that are refused.
+// The frames of a whole run of a ring of three processes, each on its own node, with one token that
+// each holds for two ticks, up to time 10. And frames for refusals.
 
-/// What one node is sent, the load and then parcels of three rounds, and its replies.
+/// The frames that one node gets, a load and the parcels of three rounds, and its replies.
 #[derive(Clone, Copy)]
 pub struct Run {
     pub frames: [&'static [u8]; 4],
@@ -136,12 +136,12 @@ pub const LOAD: &[u8] = &[
     0, 0, 0, 0, 0, 0, 0, 0, 0, 0, 0, 0, 0, 0, 0, 0, 0, 0, 0,
 ];
 
-/// A parcel of no deliveries: budget 16, floor 1.
+/// A parcel without deliveries: budget 16, floor 1.
 pub const PARCEL: &[u8] = &[
     0, 0, 0, 16, 2, 0, 0, 0, 0, 0, 0, 0, 16, 0, 0, 0, 0, 0, 0, 0, 1,
 ];
 
-/// The reply to it.
+/// The reply to `PARCEL`.
 pub const REPLY: &[u8] = &[
     0, 0, 0, 70, 3, 0, 0, 0, 1, 0, 0, 0, 0, 0, 0, 0, 0, 3, 0, 0, 0, 0, 0, 0, 0, 0, 0, 0, 0, 1, 0,
     0, 0, 1, 0, 0, 0, 0, 0, 0, 0, 0, 0, 0, 0, 0, 0, 0, 0, 1, 0, 0, 0, 0, 0, 0, 0, 0, 0, 0, 0, 0, 0,
@@ -168,5 +168,5 @@ pub const LATE: &[u8] = &[
     0, 0, 0, 0, 0, 0, 0, 0, 0, 0, 0, 0, 0, 0, 1,
 ];
 
-/// The refusal of it: BelowFloor.
+/// The refusal of `LATE`: BelowFloor.
 pub const BELOW_FLOOR: &[u8] = &[0, 0, 0, 1, 4, 2];

@@ -1,7 +1,9 @@
-//! Tests of the loop of a node behind a stream, and of ports to such nodes, through public functions.
-//! They stand in a crate of their own, since a crate with tests is proved twice.
+//! Tests of the loop that serves a node behind a stream, and of ports to such nodes, through their
+//! public functions. They have a crate of their own, since a crate with tests is proved twice.
 #![tactic(auto)]
 
+#[cfg(test)]
+mod encoding;
 #[cfg(test)]
 mod errors;
 #[cfg(test)]
@@ -12,8 +14,6 @@ mod rounds;
 mod rows;
 #[cfg(test)]
 mod socket_ports;
-#[cfg(test)]
-mod spelling;
 #[cfg(test)]
 mod streams;
 #[cfg(test)]

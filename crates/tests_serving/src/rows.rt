@@ -1,4 +1,4 @@
-// Streams, whole and in pieces: what is written, what is answered, and which bytes are left.
+// Streams, whole and in pieces: the written text, the result, and the unread rest.
 
 use crate::frames_of_ring::{BELOW_FLOOR, LATE, LOAD, NEXT_DOOR, PARCEL, REPLY};
 use crate::streams::{MANY, NEVER, Pieces, Taking, serve_ring};
@@ -7,7 +7,7 @@ use std::process::Abort;
 use std::test::Fail;
 use wire::WireFault;
 
-/// A stream handed in, a limit, the text, the answer, and the rest.
+/// A stream, a limit of replies, and the text, the result and the unread rest.
 struct Row {
     stream: &'static [&'static [u8]],
     limit: u64,
@@ -19,20 +19,20 @@ struct Row {
 /// A length above 2^24.
 const TOO_LONG: &[u8] = &[255, 255, 255, 255];
 
-/// The parcel with a byte more, which its length tells.
+/// The parcel with a trailing byte, which its length includes.
 const LONGER: &[u8] = &[
     0, 0, 0, 17, 2, 0, 0, 0, 0, 0, 0, 0, 16, 0, 0, 0, 0, 0, 0, 0, 1, 0,
 ];
 
-/// Frames of a fault and of a reply, which a node is not sent.
+/// Frames of a fault and of a reply; a node accepts neither.
 const FAULT: &[u8] = &[0, 0, 0, 1, 4, 7];
 
 const OTHER_REPLY: &[u8] = &[0, 0, 0, 1, 3, 7];
 
-/// The refusal of what is another node's.
+/// The refusal of what is for another node.
 const NOT_MINE: &[u8] = &[0, 0, 0, 1, 4, 1];
 
-/// The load of node 0 that says node 1.
+/// The load of node 0 with the number of node 1.
 const FOREIGN: &[u8] = &[
     0, 0, 0, 109, 1, 0, 0, 0, 1, 0, 0, 0, 3, 0, 0, 0, 0, 0, 0, 0, 10, 0, 0, 0, 0, 0, 0, 0, 0, 0, 0,
     0, 1, 0, 0, 0, 0, 0, 0, 0, 0, 0, 0, 0, 1, 1, 0, 0, 0, 0, 0, 0, 0, 0, 0, 0, 0, 1, 0, 0, 0, 0, 0,
@@ -40,8 +40,8 @@ const FOREIGN: &[u8] = &[
     0, 0, 0, 0, 0, 0, 0, 0, 0, 0, 0, 0, 0, 0, 0, 0, 0, 0, 0,
 ];
 
-/// A frame that claims a body of 2^24 bytes, of which one comes. `tools/largest-blocks` looks at
-/// what is asked for.
+/// A frame that claims a body of 2^24 bytes, with only one there. `tools/largest-blocks` checks how
+/// much memory is allocated for it.
 const CLAIMED: &[u8] = &[1, 0, 0, 0, 2, 9];
 
 const ROWS: [Row; 15] = [
@@ -152,7 +152,7 @@ const ROWS: [Row; 15] = [
     },
 ];
 
-/// Serves a stream in pieces of this size, and looks at all that comes of it.
+/// Serves a stream in pieces of this size, and checks all results.
 fn serves_row(rt: &impl Abort, alloc: Global, row: &Row, size: usize) -> Result<(), Fail> {
     let stream = row.stream.concat(alloc)?;
     let text = row.text.concat(alloc)?;
@@ -168,7 +168,7 @@ fn serves_row(rt: &impl Abort, alloc: Global, row: &Row, size: usize) -> Result<
 }
 
 #[test]
-fn streams_are_served_to_their_rests(rt: HostRuntime) -> Result<(), Fail> {
+fn streams_are_served_up_to_their_unread_rest(rt: HostRuntime) -> Result<(), Fail> {
     for row in &ROWS {
         for size in [1, 7, usize::MAX] {
             serves_row(&rt, rt.alloc(), row, size)?;
@@ -178,7 +178,7 @@ fn streams_are_served_to_their_rests(rt: HostRuntime) -> Result<(), Fail> {
 }
 
 #[test]
-fn a_parcel_cut_short_is_truncated(rt: HostRuntime) -> Result<(), Fail> {
+fn a_parcel_that_is_cut_short_is_truncated(rt: HostRuntime) -> Result<(), Fail> {
     for count in 1..PARCEL.len() {
         for size in [1, 7, usize::MAX] {
             let mut stream = LOAD.to_vec(rt.alloc())?;

@@ -1,4 +1,4 @@
-// A port at one end of a pair of sockets, whose other end is read and written by hand.
+// A port at one end of a pair of sockets; the tests read and write the other end.
 
 ghost use Rattle.std.specs.Prelude.{◌≡◌, ◌≤◌, ◌^◌, IfOk};
 ghost use Rattle.wire.specs.Port.{IsLoadInRange};
@@ -47,7 +47,7 @@ const REPLY: [u8; 75] = [
     0, 0, 0, 0, 0, 0, 0, 0, 0, 0, 0, 1,
 ];
 
-/// The frame of the load: its length, its kind, node 0 of 3, the end, the floor, and one part.
+/// The frame of the load: length, kind, node 0 of 3, end, floor, and one part.
 const LOAD: [u8; 114] = [
     0, 0, 0, 109, 1, 0, 0, 0, 0, 0, 0, 0, 3, 0, 0, 0, 0, 0, 0, 0, 10, 0, 0, 0, 0, 0, 0, 0, 0, 0, 0,
     0, 1, 0, 0, 0, 0, 0, 0, 0, 0, 0, 0, 0, 1, 1, 0, 0, 0, 0, 0, 0, 0, 0, 0, 0, 0, 1, 0, 0, 0, 0, 0,
@@ -55,10 +55,10 @@ const LOAD: [u8; 114] = [
     0, 0, 0, 0, 0, 0, 0, 0, 0, 0, 0, 0, 0, 0, 0, 0, 0, 0, 0,
 ];
 
-/// The frame by which a node refuses what lies below its floor.
+/// The frame by which a node refuses a message below its floor.
 const BELOW_FLOOR: [u8; 6] = [0, 0, 0, 1, 4, 2];
 
-/// A frame of no kind.
+/// A frame of an unknown kind.
 const NO_KIND: [u8; 5] = [0, 0, 0, 0, 9];
 
 /// The parcel of `PARCEL`.
@@ -72,21 +72,22 @@ fn parcel(alloc: Global) -> Parcel
     }
 }
 
-/// What `take` answers where this stands behind the load and the parcel, and then nothing.
+/// What `take` returns after the load and the parcel if the other end writes these bytes and
+/// closes.
 fn answered(rt: HostRuntime, bytes: &[u8]) -> Result<Result<u32, PortFault>, Fail> {
     let (near, mut far) = UnixStream::pair(&rt)?;
     far.write_all(bytes)?;
     let mut port = SocketPort::new(rt.alloc(), near);
     port.load(load(rt.alloc())?)?;
     port.post(parcel(rt.alloc()))?;
-    // what is left unread where an end is closed makes the other end's reads fail
+    // closing an end with unread bytes makes reads at the other end fail
     far.read_exact(&mut [0; 135])?;
     drop(far);
     Ok(port.take().map(|reply| reply.ran))
 }
 
 #[test]
-fn frames_are_at_the_other_end_before_a_reply_is_taken(rt: HostRuntime) -> Result<(), Fail> {
+fn frames_are_sent_before_a_reply_is_taken(rt: HostRuntime) -> Result<(), Fail> {
     let (near, mut far) = UnixStream::pair(&rt)?;
     far.set_read_timeout(Some(Duration::from_secs(5)))?;
     let mut port = SocketPort::new(rt.alloc(), near);
@@ -127,14 +128,14 @@ fn a_reply_is_taken(rt: HostRuntime) -> Result<(), Fail> {
 }
 
 #[test]
-fn a_refusal_of_the_node_is_told_as_its_own(rt: HostRuntime) -> Result<(), Fail> {
+fn a_refusal_of_the_node_is_returned_as_its_own(rt: HostRuntime) -> Result<(), Fail> {
     let answer = answered(rt, &BELOW_FLOOR)?;
     assert_eq!(rt; answer, Err(PortFault::Peer(NodeFault::BelowFloor)));
     Ok(())
 }
 
 #[test]
-fn what_is_no_reply_is_refused(rt: HostRuntime) -> Result<(), Fail> {
+fn frames_that_are_no_reply_are_refused(rt: HostRuntime) -> Result<(), Fail> {
     for bytes in [LOAD.as_slice(), PARCEL.as_slice(), NO_KIND.as_slice()] {
         let answer = answered(rt, bytes)?;
         assert_eq!(rt; answer, Err(PortFault::Wire(WireFault::BadKind)));
@@ -160,7 +161,7 @@ fn a_stream_that_ends_between_frames_is_closed(rt: HostRuntime) -> Result<(), Fa
 }
 
 #[test]
-fn a_stream_that_nobody_reads_fails(rt: HostRuntime) -> Result<(), Fail> {
+fn a_load_over_a_closed_stream_fails(rt: HostRuntime) -> Result<(), Fail> {
     let (near, far) = UnixStream::pair(&rt)?;
     let mut port = SocketPort::new(rt.alloc(), near);
     drop(far);
@@ -169,8 +170,8 @@ fn a_stream_that_nobody_reads_fails(rt: HostRuntime) -> Result<(), Fail> {
     Ok(())
 }
 
-/// A stream whose bytes are at hand, of which a read takes as many as a reply has, and that counts
-/// its calls.
+/// A stream with its bytes in memory, which returns at most the size of a reply per read, and
+/// counts its calls.
 #[derive(Drop)]
 struct Counted<'a> {
     rest: &'a [u8],
@@ -201,7 +202,7 @@ impl<'a> Write for Counted<'a> {
 }
 
 #[test]
-fn a_frame_that_has_come_takes_one_read_ahead(rt: HostRuntime) -> Result<(), Fail> {
+fn a_complete_frame_takes_one_read(rt: HostRuntime) -> Result<(), Fail> {
     let replies = [REPLY, REPLY];
     let mut stream = Counted {
         rest: replies.as_flattened(),
@@ -224,9 +225,7 @@ fn a_frame_that_has_come_takes_one_read_ahead(rt: HostRuntime) -> Result<(), Fai
 }
 
 #[test]
-fn what_is_written_through_a_stream_read_ahead_is_at_the_other_end(
-    rt: HostRuntime,
-) -> Result<(), Fail> {
+fn writes_through_a_read_ahead_stream_are_sent_at_once(rt: HostRuntime) -> Result<(), Fail> {
     let (near, mut far) = UnixStream::pair(&rt)?;
     far.set_read_timeout(Some(Duration::from_secs(5)))?;
     let mut port = SocketPort::new(rt.alloc(), ReadAhead::new(rt.alloc(), near)?);

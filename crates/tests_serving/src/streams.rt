@@ -1,4 +1,4 @@
-// Readers and writers in memory, and what is served through them.
+// Readers and writers in memory, and a node of a ring served through them.
 
 ghost use Rattle.std.specs.Prelude.{◌≡◌, IfOk};
 
@@ -8,11 +8,11 @@ use std::alloc::Global;
 use std::io::{self, Error, ErrorKind, Read, Write};
 use wire::WireFault;
 
-/// More replies than any of these streams asks for.
+/// More replies than any of these streams needs.
 pub const MANY: u64 = 4_294_967_295;
 
-/// Calls that are refused: from which one on, how many, and with which error; with none where
-/// nothing is given or taken.
+/// Refused calls: the first one, how many, and the error; without an error they read or write
+/// nothing.
 #[derive(Clone, Copy)]
 pub struct Refusal {
     pub call: usize,
@@ -33,7 +33,7 @@ impl Refusal {
         call >= self.call && call - self.call < self.times
     }
 
-    /// What a refused call answers.
+    /// The result of a refused call.
     fn answer(&self) -> io::Result<usize>
         ensures { IfOk result (λ count. count ≡ 0) }
     {
@@ -44,7 +44,7 @@ impl Refusal {
     }
 }
 
-/// A reader of bytes that gives at most `size` of them a call, and counts its calls.
+/// A reader that returns at most `size` bytes per call, and counts its calls.
 #[derive(Drop)]
 pub struct Pieces<'a> {
     pub rest: &'a [u8],
@@ -79,7 +79,7 @@ impl<'a> Read for Pieces<'a> {
     }
 }
 
-/// A writer that takes at most `size` bytes a call, and counts its calls and its flushes.
+/// A writer that accepts at most `size` bytes per call, and counts its calls and flushes.
 #[derive(Drop)]
 pub struct Taking {
     pub taken: Vec<u8>,
@@ -119,7 +119,7 @@ impl Write for Taking {
     }
 }
 
-/// Serves a node of the ring of three processes, with one token that each holds for two ticks.
+/// Serves a node of a ring of three processes, with one token that each holds for two ticks.
 pub fn serve_ring<R: Read, W: Write>(
     alloc: Global,
     reader: &mut R,

@@ -1,5 +1,5 @@
-// A peer that gives the next parcel only when it has taken the reply to the one before, as a
-// session does: a loop that kept its replies, or read ahead, would wait for it for ever.
+// A peer that sends the next parcel only after the reply to the one before, as a session does. A
+// loop that kept its replies back, or read ahead, would wait for ever.
 
 ghost use Rattle.std.specs.Prelude.{◌≤◌, IfOk, length};
 
@@ -10,14 +10,14 @@ use std::cell::Cell;
 use std::io::{self, Error, ErrorKind, Read, Write};
 use wire::WireFault;
 
-/// Who gives the bytes of a piece of the talk.
+/// The side that writes a piece of the talk.
 #[derive(Clone, Copy, PartialEq)]
 enum Side {
     Session,
     Node,
 }
 
-/// A run of a node, as it goes over its stream.
+/// The pieces of a node's run in the order in which they go over its stream.
 fn talk_of(run: &Run) -> [(Side, &'static [u8]); 7] {
     let [load, first, second, third] = run.frames;
     let [to_first, to_second, to_third] = run.replies;
@@ -32,7 +32,8 @@ fn talk_of(run: &Run) -> [(Side, &'static [u8]); 7] {
     ]
 }
 
-/// One peer behind a reader and a writer. It gives and takes the pieces of its talk in their order.
+/// The peer behind both the reader and the writer. It sends and expects the pieces of its talk in
+/// order.
 #[derive(Drop)]
 struct Peer<'a> {
     talk: &'a [(Side, &'static [u8])],
@@ -41,7 +42,7 @@ struct Peer<'a> {
 }
 
 impl<'a> Peer<'a> {
-    /// At most so many of the bytes that come next, where it is this side's turn; none at the end.
+    /// At most `most` of the next bytes, if it is this side's turn; none at the end.
     fn next(&self, side: Side, most: usize) -> io::Result<&'static [u8]>
         ensures { IfOk result (λ bytes. length bytes.now ≤ most) }
     {
@@ -63,7 +64,7 @@ impl<'a> Peer<'a> {
     }
 }
 
-/// What the node reads.
+/// The reader of the node.
 #[derive(Drop)]
 struct Incoming<'p, 'a>(&'p Peer<'a>);
 
@@ -75,7 +76,7 @@ impl<'p, 'a> Read for Incoming<'p, 'a> {
     }
 }
 
-/// What the node writes.
+/// The writer of the node.
 #[derive(Drop)]
 struct Outgoing<'p, 'a>(&'p Peer<'a>);
 
@@ -93,7 +94,7 @@ impl<'p, 'a> Write for Outgoing<'p, 'a> {
     }
 }
 
-/// Serves a node to its peer. Answers what was answered, and whether the talk came to its end.
+/// Serves a node to its peer. Returns the result, and whether the talk reached its end.
 fn serve_peer(alloc: Global, talk: &[(Side, &'static [u8])]) -> (Result<u64, WireFault>, bool) {
     let peer = Peer {
         talk,

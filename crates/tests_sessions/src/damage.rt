@@ -1,4 +1,4 @@
-// Openings of a disk that a whole run of the ring left, of which one byte was changed.
+// Openings of a disk that a whole run of the ring left, with one changed byte.
 
 use crate::kept::{disk_of, left_by, plan, refusal, ring, with_byte};
 use commitlog::LogFault;
@@ -8,8 +8,8 @@ use runs::local_ports;
 use std::alloc::Global;
 use std::test::Fail;
 
-/// The disk of a run over three nodes, of which this byte becomes another. Its records stand in the
-/// sectors 3, 5 and 7, each behind its gate; they are of the times 1, 7 and 10.
+/// The disk of a run over three nodes, with this byte changed. Its records are in the sectors 3, 5
+/// and 7, each after its gate; their times are 1, 7 and 10.
 fn damaged(alloc: Global, place: usize, byte: u8) -> Result<Vec<u8>, Fail> {
     let (image, fault) = left_by(alloc, &ring(), 64, 10, plan(3, 16, 0))?;
     match fault {
@@ -19,10 +19,10 @@ fn damaged(alloc: Global, place: usize, byte: u8) -> Result<Vec<u8>, Fail> {
 }
 
 #[test]
-fn a_damaged_disk_is_refused_by_its_fault(rt: HostRuntime) -> Result<(), Fail> {
+fn each_damaged_disk_is_refused_with_its_fault(rt: HostRuntime) -> Result<(), Fail> {
     let corrupt = RecoveryFault::Log(LogFault::Corrupt);
     let rows = [
-        // the header, and in it the format before this one
+        // the header, and in it the number of the earlier format
         (512, 0, RecoveryFault::OtherModel),
         (512 + 11, 1, RecoveryFault::OtherModel),
         // the kind of a record, its time, the last three words of its first event
@@ -32,7 +32,7 @@ fn a_damaged_disk_is_refused_by_its_fault(rt: HostRuntime) -> Result<(), Fail> {
         (5 * 512 + 64, 7, RecoveryFault::NotTheLeast),
         (5 * 512 + 72, 7, RecoveryFault::NotTheLeast),
         (7 * 512 + 12, 6, RecoveryFault::GoesBack),
-        // a length past the greatest, and what follows a record
+        // a length above the limit, and a nonzero byte in the padding of a record
         (3 * 512 + 1, 1, corrupt),
         (3 * 512 + 511, 1, corrupt),
         // the gate of the header
@@ -40,14 +40,14 @@ fn a_damaged_disk_is_refused_by_its_fault(rt: HostRuntime) -> Result<(), Fail> {
     ];
     for (place, byte, fault) in rows {
         let image = damaged(rt.alloc(), place, byte)?;
-        let want = Some(SessionFault::Recovery(fault));
-        assert!(rt; refusal(rt.alloc(), image)? == want, "byte {place}");
+        let expected = Some(SessionFault::Recovery(fault));
+        assert!(rt; refusal(rt.alloc(), image)? == expected, "byte {place}");
     }
     Ok(())
 }
 
 #[test]
-fn a_gate_that_is_not_open_ends_the_log(rt: HostRuntime) -> Result<(), Fail> {
+fn a_closed_gate_ends_the_log(rt: HostRuntime) -> Result<(), Fail> {
     let alloc = rt.alloc();
     let ring = ring();
     let ports = local_ports(alloc, &ring, 3)?;

@@ -1,4 +1,4 @@
-// Disks that are carried on past the end for which they were made.
+// Disks that go on past the end for which they were made.
 
 use crate::kept::{Nobody, disk_of, front_of, left_by, plan, ring};
 use commitlog::format;
@@ -12,11 +12,11 @@ use std::alloc::Global;
 use std::process::Abort;
 use std::test::Fail;
 
-/// What is done with a disk, each time after an opening of its own.
+/// A call on a disk; each opens it.
 #[derive(Clone, Copy)]
 enum Call {
-    /// Runs over so many nodes with this batch, a checkpoint each so many rounds, and so many
-    /// rounds at most.
+    /// Runs with a number of nodes, a batch, a number of rounds between checkpoints (0 for none),
+    /// and a limit of rounds.
     Run(u32, u32, u32, u32),
     /// Puts this end in force.
     Extend(u64),
@@ -55,7 +55,7 @@ const HISTORIES: [&[Call]; 5] = [
     &[Call::Extend(200), Call::Run(2, 7, 1, ALL)],
 ];
 
-/// The bytes that a call leaves of a disk, and the end that is in force on it then.
+/// Makes a call on a disk of this image. Returns the image it leaves, and the end in force then.
 fn called<M: Model>(
     rt: &impl Abort,
     alloc: Global,
@@ -71,7 +71,7 @@ fn called<M: Model>(
             let mut plan = plan(nodes.clamp(1, 64), batch, every);
             plan.rounds = rounds;
             let ran = run_local(alloc, model, disk, end, plan, &mut Nobody);
-            assert!(rt; matches!(ran.told, Ok(_) | Err(RunFault::Rounds)));
+            assert!(rt; matches!(ran.outcome, Ok(_) | Err(RunFault::Rounds)));
             Ok((ran.disk.crash(alloc, Torn::Old)?, end))
         }
         Call::Extend(later) => match extend(alloc, model, disk, later) {
@@ -84,7 +84,7 @@ fn called<M: Model>(
     }
 }
 
-/// The front after these calls on a disk that was made for the end 60.
+/// The front after these calls on a disk made for the end 60.
 fn after<M: Model>(
     rt: &impl Abort,
     alloc: Global,
@@ -104,7 +104,7 @@ fn after<M: Model>(
 }
 
 #[test]
-fn each_history_comes_to_the_last_end(rt: HostRuntime) -> Result<(), Fail> {
+fn each_history_reaches_the_last_end(rt: HostRuntime) -> Result<(), Fail> {
     let alloc = rt.alloc();
     let model = Phold::new(16, 2, 20, 7);
     let (image, fault) = left_by(alloc, &model, 16_384, 200, plan(1, 7, 0))?;
@@ -122,7 +122,7 @@ fn each_history_comes_to_the_last_end(rt: HostRuntime) -> Result<(), Fail> {
 const RECORD: [u8; 13] = [3, 0, 0, 0, 8, 0, 0, 0, 0, 0, 0, 0, 20];
 
 #[test]
-fn the_record_of_an_end_stands_behind_the_others(rt: HostRuntime) -> Result<(), Fail> {
+fn the_record_of_an_end_follows_the_others(rt: HostRuntime) -> Result<(), Fail> {
     let alloc = rt.alloc();
     let (image, _fault) = left_by(alloc, &ring(), 14, 10, plan(3, 16, 0))?;
     let Ok(

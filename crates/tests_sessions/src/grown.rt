@@ -1,4 +1,4 @@
-// Disks that are full, and grow.
+// Full disks that grow.
 
 ghost use Rattle.std.specs.Prelude.{◌≡◌};
 
@@ -21,7 +21,7 @@ const NOTHING: DiskPlan = DiskPlan {
     stop: None,
 };
 
-/// A disk with this image, of at most 16 MiB, and this plan.
+/// A disk with this image and this plan; an empty one if the image has more than 16 MiB.
 fn planned(alloc: Global, image: &[u8], plan: DiskPlan) -> Result<MemDisk, Fail> {
     if image.len() > 1 << 24 {
         return Ok(MemDisk::blank(alloc, 0)?);
@@ -29,7 +29,7 @@ fn planned(alloc: Global, image: &[u8], plan: DiskPlan) -> Result<MemDisk, Fail>
     Ok(MemDisk::of(alloc, image.to_vec(alloc)?, plan)?)
 }
 
-/// Grows a disk of this ring.
+/// Grows a disk of this ring; a second call after an allocation failure.
 fn grown(
     alloc: Global,
     ring: &TokenRing,
@@ -37,7 +37,7 @@ fn grown(
     sectors: u32,
 ) -> Result<Grown<MemDisk>, NotGrown<MemDisk>> {
     match grow(alloc, ring, disk, sectors, MOST_SECTORS) {
-        // once more where memory was refused
+        // once more after an allocation failure
         Err(
             NotGrown {
                 fault: GrowingFault::Growth(GrowthFault::NoMemory)
@@ -50,7 +50,7 @@ fn grown(
     }
 }
 
-/// What is left of a run to time 10 by a disk of eight sectors, which is full at time 7.
+/// The image that a run to time 10 leaves on a disk of eight sectors, which is full at time 7.
 fn full(alloc: Global) -> Result<Vec<u8>, Fail> {
     let (image, fault) = left_by(alloc, &ring(), 8, 10, plan(3, 16, 0))?;
     if fault == Some(RunFault::Session(SessionFault::Full)) {
@@ -60,8 +60,7 @@ fn full(alloc: Global) -> Result<Vec<u8>, Fail> {
     }
 }
 
-/// Whether each crash of a disk, with no sector of zeros behind it or with one or two, leaves this
-/// front.
+/// Whether each crash of a disk, followed by no, one or two sectors of zeros, leaves this front.
 fn leaves(alloc: Global, disk: &MemDisk, front: &Front) -> Result<bool, Fail> {
     for torn in TORN {
         let mut image = disk.crash(alloc, torn)?;
@@ -77,7 +76,7 @@ fn leaves(alloc: Global, disk: &MemDisk, front: &Front) -> Result<bool, Fail> {
 }
 
 #[test]
-fn a_run_goes_on_where_a_full_disk_has_grown(rt: HostRuntime) -> Result<(), Fail> {
+fn a_run_goes_on_after_a_full_disk_grows(rt: HostRuntime) -> Result<(), Fail> {
     let alloc = rt.alloc();
     let image = full(alloc)?;
     let before = front_of(alloc, &ring(), image.to_vec(alloc)?, 10)?;
@@ -94,12 +93,12 @@ fn a_run_goes_on_where_a_full_disk_has_grown(rt: HostRuntime) -> Result<(), Fail
         assert!(rt; done.disk.sectors() == sectors);
         assert!(rt; leaves(alloc, &done.disk, &before)?);
         let ran = run_local(alloc, &ring(), done.disk, 10, plan(2, 16, 0), &mut Nobody);
-        // one record more, with its gate, takes the last two of nine
+        // the next record and its gate take the last two of nine sectors
         if sectors == 8 {
-            assert!(rt; ran.told.err() == Some(RunFault::Session(SessionFault::Full)));
+            assert!(rt; ran.outcome.err() == Some(RunFault::Session(SessionFault::Full)));
             continue;
         }
-        assert!(rt; ran.told.is_ok(), "{sectors}");
+        assert!(rt; ran.outcome.is_ok(), "{sectors}");
         let after = front_of(alloc, &ring(), ran.disk.crash(alloc, Torn::Old)?, 10)?;
         assert!(rt; after.is_same(&whole));
     }
@@ -107,7 +106,7 @@ fn a_run_goes_on_where_a_full_disk_has_grown(rt: HostRuntime) -> Result<(), Fail
 }
 
 #[test]
-fn each_failure_of_a_growth_leaves_the_same_world(rt: HostRuntime) -> Result<(), Fail> {
+fn each_failed_growth_keeps_the_world(rt: HostRuntime) -> Result<(), Fail> {
     let alloc = rt.alloc();
     let image = full(alloc)?;
     let front = front_of(alloc, &ring(), image.to_vec(alloc)?, 10)?;
@@ -131,16 +130,16 @@ fn each_failure_of_a_growth_leaves_the_same_world(rt: HostRuntime) -> Result<(),
             }
         }
     }
-    // the sync and the reads of the opening, and the growth
+    // one failure for the sync and for each read of the opening, and one for the growth
     assert!(rt; 5 < failures && failures < 20, "{failures} failures");
     Ok(())
 }
 
 #[test]
-fn what_a_full_disk_holds_loosely_is_kept(rt: HostRuntime) -> Result<(), Fail> {
+fn a_growth_with_dirty_sectors_keeps_what_was_committed(rt: HostRuntime) -> Result<(), Fail> {
     let alloc = rt.alloc();
     let (image, _full) = left_by(alloc, &ring(), 6, 10, plan(3, 16, 0))?;
-    // a run whose operation of one number fails leaves sectors that are loose
+    // a run whose operation number `number` fails leaves dirty sectors
     for number in 0..24 {
         let plan_of_disk = DiskPlan {
             fail: Some(number),
@@ -150,22 +149,22 @@ fn what_a_full_disk_holds_loosely_is_kept(rt: HostRuntime) -> Result<(), Fail> {
             continue;
         };
         let ran = run_local(alloc, &ring(), done.disk, 10, plan(3, 16, 0), &mut Nobody);
-        let told = front_of(alloc, &ring(), ran.disk.crash(alloc, Torn::Old)?, 10)?;
+        let outcome = front_of(alloc, &ring(), ran.disk.crash(alloc, Torn::Old)?, 10)?;
         let Ok(again) = grown(alloc, &ring(), ran.disk, 32) else {
             return Err(Fail::from("the disk has not grown again"));
         };
         let kept = front_of(alloc, &ring(), again.disk.crash(alloc, Torn::Fill(1))?, 10)?;
         assert!(rt;
-            told.g <= kept.g && again.disk.sectors() == 32,
+            outcome.g <= kept.g && again.disk.sectors() == 32,
             "failure {number}"
         );
         let ran = run_local(alloc, &ring(), again.disk, 10, plan(3, 16, 0), &mut Nobody);
-        assert!(rt; ran.told.is_ok(), "failure {number}");
+        assert!(rt; ran.outcome.is_ok(), "failure {number}");
     }
     Ok(())
 }
 
-/// Why a disk of an image does not grow to so many sectors, and whether it is as it was.
+/// Why a disk of this image does not grow to this size. Fails if the disk changes.
 fn refusal(
     alloc: Global,
     ring: &TokenRing,
@@ -184,7 +183,7 @@ fn refusal(
 }
 
 #[test]
-fn what_is_no_disk_of_the_model_does_not_grow(rt: HostRuntime) -> Result<(), Fail> {
+fn only_a_disk_of_the_model_grows(rt: HostRuntime) -> Result<(), Fail> {
     let alloc = rt.alloc();
     let image = full(alloc)?;
     let other = TokenRing::new(3, 3, 1);

@@ -1,4 +1,4 @@
-// Runs that keep their front in checkpoints, on disks in memory.
+// Runs with checkpoints, on disks in memory.
 
 ghost use Rattle.std.specs.Prelude.{◌≡◌, ◌<◌, ◌≤◌};
 
@@ -12,7 +12,7 @@ use runs::{Batch, Plan, RunFault, Watch, local_ports, run_local};
 use std::alloc::Global;
 use std::test::Fail;
 
-/// Is told of no commit.
+/// A watcher that ignores commits.
 #[derive(Clone, Copy)]
 pub(crate) struct Nobody;
 
@@ -20,7 +20,7 @@ impl Watch for Nobody {
     fn committed(&mut self, _time: u64, _events: usize) {}
 }
 
-/// A plan over so many nodes with this batch, and a checkpoint each so many rounds.
+/// A plan with this number of nodes, this batch, and a checkpoint after each `every` rounds.
 pub(crate) fn plan(nodes: u32, batch: u32, every: u32) -> Plan
     ensures { result.nodes ≡ nodes }
 {
@@ -34,7 +34,8 @@ pub(crate) fn plan(nodes: u32, batch: u32, every: u32) -> Plan
     }
 }
 
-/// What a run up to this end leaves on a disk of so many sectors, and why it stopped, if it did.
+/// The image that a run to this end leaves on a disk of this size, and the fault that stopped it,
+/// if any.
 pub(crate) fn left_by<M: Model>(
     alloc: Global,
     model: &M,
@@ -51,10 +52,10 @@ pub(crate) fn left_by<M: Model>(
     format(&mut disk, &header(alloc, model, end))?;
     let ran = run_local(alloc, model, disk, end, plan, &mut Nobody);
     let image = ran.disk.crash(alloc, Torn::Old)?;
-    Ok((image, ran.told.err()))
+    Ok((image, ran.outcome.err()))
 }
 
-/// A disk with this image, of at most 16 MiB.
+/// A disk with this image; an empty one if the image has more than 16 MiB.
 pub(crate) fn disk_of(alloc: Global, image: Vec<u8>) -> Result<MemDisk, Fail> {
     if image.len() > 1 << 24 {
         return Ok(MemDisk::blank(alloc, 0)?);
@@ -66,7 +67,7 @@ pub(crate) fn disk_of(alloc: Global, image: Vec<u8>) -> Result<MemDisk, Fail> {
     Ok(MemDisk::of(alloc, image, plan)?)
 }
 
-/// The front of an image, up to this end.
+/// The front that an image represents, for this end.
 pub(crate) fn front_of<M: Model>(
     alloc: Global,
     model: &M,
@@ -86,12 +87,12 @@ pub(crate) fn front_of<M: Model>(
     }
 }
 
-/// One token round three processes, two ticks at each.
+/// One token that goes round three processes, two ticks at each.
 pub(crate) fn ring() -> TokenRing {
     TokenRing::new(3, 2, 1)
 }
 
-/// The record of a checkpoint of the ring at time 10: its kind, the length of its body, and the
+/// The record of a checkpoint of the ring at time 10: the kind, the length of the body, and the
 /// body.
 const RECORD: [u8; 124] = [
     2, 0, 0, 0, 119, 0, 0, 0, 0, 0, 0, 0, 10, //
@@ -105,7 +106,7 @@ const RECORD: [u8; 124] = [
 ];
 
 #[test]
-fn a_run_keeps_its_front(rt: HostRuntime) -> Result<(), Fail> {
+fn a_run_writes_its_front_to_a_checkpoint(rt: HostRuntime) -> Result<(), Fail> {
     let alloc = rt.alloc();
     let (image, fault) = left_by(alloc, &ring(), 11, 10, plan(3, 16, 3))?;
     assert!(rt; fault.is_none());
@@ -127,7 +128,7 @@ fn a_run_keeps_its_front(rt: HostRuntime) -> Result<(), Fail> {
 }
 
 #[test]
-fn a_checkpoint_without_room_leaves_what_was_committed(rt: HostRuntime) -> Result<(), Fail> {
+fn a_checkpoint_that_has_no_room_keeps_what_was_committed(rt: HostRuntime) -> Result<(), Fail> {
     let alloc = rt.alloc();
     let (image, fault) = left_by(alloc, &ring(), 10, 10, plan(3, 16, 3))?;
     assert!(rt; fault == Some(RunFault::Session(SessionFault::Full)));
@@ -136,7 +137,7 @@ fn a_checkpoint_without_room_leaves_what_was_committed(rt: HostRuntime) -> Resul
     Ok(())
 }
 
-/// Why a session is not opened on an image of the ring.
+/// Why a session is not opened on this image of the ring.
 pub(crate) fn refusal(alloc: Global, image: Vec<u8>) -> Result<Option<SessionFault>, Fail> {
     let ring = ring();
     let ports = local_ports(alloc, &ring, 3)?;
@@ -148,7 +149,7 @@ pub(crate) fn refusal(alloc: Global, image: Vec<u8>) -> Result<Option<SessionFau
     )
 }
 
-/// The image with another byte at a place.
+/// The image with one byte changed.
 pub(crate) fn with_byte(image: Vec<u8>, place: usize, byte: u8) -> Vec<u8> {
     let mut image = image;
     if let Some(there) = image.get_mut(place) {
@@ -158,11 +159,11 @@ pub(crate) fn with_byte(image: Vec<u8>, place: usize, byte: u8) -> Vec<u8> {
 }
 
 #[test]
-fn a_checkpoint_that_does_not_fit_is_refused(rt: HostRuntime) -> Result<(), Fail> {
+fn an_inconsistent_checkpoint_is_refused(rt: HostRuntime) -> Result<(), Fail> {
     let alloc = rt.alloc();
     let bad = SessionFault::Recovery(RecoveryFault::BadCheckpoint);
-    // Its time is not the one before; a message is pending before its time; a process too many
-    // words; a message for no process; bytes of another form.
+    // The time is not that of the record before; a pending message is before it; a process has too
+    // many words; a message is for no process; the count of messages does not match the bytes.
     for (place, byte) in [(12, 9), (75, 9), (21, 17), (91, 3), (64, 2)] {
         let (image, _fault) = left_by(alloc, &ring(), 11, 10, plan(3, 16, 3))?;
         let damaged = with_byte(image, 9 * 512 + place, byte);
@@ -174,7 +175,7 @@ fn a_checkpoint_that_does_not_fit_is_refused(rt: HostRuntime) -> Result<(), Fail
 }
 
 #[test]
-fn a_run_with_checkpoints_comes_to_the_same_front(rt: HostRuntime) -> Result<(), Fail> {
+fn a_run_with_checkpoints_reaches_the_same_front(rt: HostRuntime) -> Result<(), Fail> {
     let alloc = rt.alloc();
     let model = Phold::new(16, 2, 20, 7);
     for (nodes, batch) in [(1, 1), (1, 7), (2, 1), (2, 7), (5, 1), (5, 7)] {
@@ -190,7 +191,7 @@ fn a_run_with_checkpoints_comes_to_the_same_front(rt: HostRuntime) -> Result<(),
 }
 
 #[test]
-fn a_run_with_budgets_of_its_nodes_comes_to_the_same_front(rt: HostRuntime) -> Result<(), Fail> {
+fn a_run_with_adjusting_budgets_reaches_the_same_front(rt: HostRuntime) -> Result<(), Fail> {
     let alloc = rt.alloc();
     let model = Phold::new(16, 2, 20, 7);
     let (plain, none) = left_by(alloc, &model, 16_384, 200, plan(1, 16, 0))?;

@@ -1,5 +1,5 @@
-//! Tests of sessions and of whole runs, through their public functions. They stand in a crate of
-//! their own, since a crate with tests is proved twice.
+//! Tests of sessions and of whole runs through their public functions. They have a crate of their
+//! own, since a crate with tests is proved twice.
 #![tactic(auto)]
 
 #[cfg(test)]

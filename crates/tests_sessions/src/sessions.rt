@@ -1,5 +1,4 @@
-// Sessions over a token ring of three processes that hold each of two tokens two ticks, up to time
-// 10.
+// Sessions over a ring of three processes with two tokens, each held for two ticks, up to time 10.
 
 ghost use Rattle.std.specs.Prelude.{◌≡◌, length, map, IfOk};
 ghost use Rattle.coordinator.specs.Opening.{AllFresh};
@@ -79,7 +78,7 @@ const END: u64 = 10;
 
 type Local<'m> = Session<'m, Ring, LocalPort<'m, Ring>, MemDisk>;
 
-/// Fresh ports, one for each of three nodes.
+/// Fresh ports for three nodes.
 fn ports(alloc: Global, ring: &Ring) -> Result<Vec<LocalPort<'_, Ring>>, AllocError>
     ensures { IfOk result (λ ports. (length ports.items ≡ 3)
         × AllFresh (map (λ p. state_of ring_meaning p.held) ports.items)) }
@@ -105,16 +104,16 @@ fn opened(alloc: Global, ring: &Ring, disk: MemDisk) -> Result<Local<'_>, Sessio
     }
 }
 
-/// A step of the table.
+/// A step in the table.
 #[derive(Clone, Copy)]
 enum Row {
-    /// To this node, of these picks, with this budget.
+    /// A post to this node, with these picks and this budget.
     Post(u32, &'static [u32], u32),
     Take(u32),
     Commit,
 }
 
-/// Each step, and what it answers.
+/// The steps and their answers.
 const STEPS: [(Row, Answer); 13] = [
     (Row::Post(0, &[], 1), Answer::Posted { floor: 1 }),
     (
@@ -185,7 +184,7 @@ fn step_of(alloc: Global, row: Row) -> Result<Step, AllocError> {
     })
 }
 
-/// The first of the steps.
+/// The first `count` steps.
 fn steps(alloc: Global, count: usize) -> Result<Vec<Step>, AllocError> {
     let mut steps = Vec::new(alloc);
     for (row, _answer) in STEPS.iter().take(count) {
@@ -207,7 +206,7 @@ fn fields(message: &Message) -> [u64; 8] {
     ]
 }
 
-/// Whether the front is the one after the steps: at time 3, with the two events before it.
+/// Whether the front is that after the steps: at time 3, with the two events before it.
 fn is_at_three(session: &Local<'_>) -> bool {
     let front = session.front();
     front.time == 3

@@ -1,7 +1,7 @@
 //! Runs a model on a disk in memory that stops at each of its writes in turn, or fails at each
-//! operation, crashes the disk, opens it over another number of nodes and goes on to the end, where
-//! the world must be that of the plain runner, and so must be what `log` and `show` print of the
-//! disk. The disk is made for that end, or for an earlier one, to which it is run first.
+//! operation. Crashes the disk, opens it over another number of nodes and goes on to the end. There
+//! the world must be that of the plain runner, and so must what `log` and `show` print of the disk.
+//! The disk is made for that end, or for an earlier one to which it runs first.
 #![tactic(auto)]
 
 ghost use Rattle.std.specs.Prelude.{◌≡◌, ◌≤◌, ◌<◌, ◌^◌, IfOk};
@@ -26,10 +26,10 @@ use world::is_front;
 /// A session whose nodes are in this program, on a disk in memory.
 type Running<'m> = Session<'m, AnyModel, LocalPort<'m, AnyModel>, MemDisk>;
 
-/// What is lost.
+/// A violation of the headline.
 #[derive(Clone, Copy, Debug, PartialEq, Eq, Error)]
 enum Loss {
-    #[error("the front is not what was told")]
+    #[error("the front is not what was printed")]
     Front,
     #[error("a session goes on whose disk failed")]
     GoesOn,
@@ -39,19 +39,19 @@ enum Loss {
     Disk,
     #[error("what a crash left is opened under both ends, or under none")]
     Ends,
-    #[error("a later end that was told is not in force")]
+    #[error("a later end that was acknowledged is not in force")]
     End,
     #[error("a later end is not put in force, or not behind the one before")]
     Extending,
-    #[error("what was told is lost")]
-    Told,
+    #[error("what was acknowledged is lost")]
+    Acknowledged,
     #[error("the world at the end is not that of the plain run")]
     World,
     #[error("what is printed of the disk at the end is not what the plain run prints")]
     Text,
 }
 
-/// Why the stops were not all made, or what was lost at one of them.
+/// Why the program stopped: a violation, or a failure of its own.
 #[derive(Debug, Drop, Error)]
 enum Failure {
     #[error("usage: tests_stops [--all] MODEL SECTORS .., paths of model files and sizes of their disks")]
@@ -68,7 +68,7 @@ enum Failure {
     Printed(CommandFault),
     #[error("NoMemory")]
     NoMemory,
-    /// A disk or a session is not what the headline says.
+    /// A disk or a session contradicts the headline.
     #[error("{0}")]
     Lost(Loss),
     #[error("{0}")]
@@ -111,49 +111,49 @@ impl From<RunFault> for Failure {
     }
 }
 
-/// What is simulated, and what the plain runner makes of it.
+/// A model with its ends, and the result of the plain runner.
 #[derive(Drop)]
 struct ModelWithPlainRun {
     model: AnyModel,
-    /// The end for which the disk is made, in ticks, and to which it is run first.
+    /// The end for which the disk is made, in ticks; the first run goes to it.
     first: u64,
-    /// The end to which it is carried on, in ticks: the first one, or a later one.
+    /// The last end, in ticks: the first one, or a later one.
     end: u64,
     plain: WorldParts,
-    /// The log and the world of the plain run, as `seq` prints them.
+    /// The log and the world of the plain run as `seq` prints them.
     text: Vec<u8>,
     formatted: Vec<u8>,
 }
 
-/// How a run is made, stopped and resumed.
+/// How a run is made and resumed.
 #[derive(Clone, Copy)]
 struct Way {
     nodes: u32,
     resumed: u32,
     batch: u32,
-    /// After how many rounds a checkpoint is made each time, or 0 for none.
+    /// The number of rounds between checkpoints; 0 for no checkpoints.
     checkpoint_every: u32,
 }
 
-/// The time up to which a run told that all is committed, in ticks.
+/// The time up to which a run acknowledged its commits, in ticks.
 #[derive(Drop)]
-struct Told {
+struct Acknowledged {
     time: u64,
 }
 
-impl Watch for Told {
+impl Watch for Acknowledged {
     fn committed(&mut self, time: u64, _events: usize) {
         self.time = time;
     }
 }
 
-/// So many rounds are more than a run makes that gets anywhere.
+/// More rounds than a run that makes progress needs.
 const ROUNDS: u32 = 1 << 20;
 
-/// A disk may have so many bytes here.
+/// The largest disk, in bytes.
 const MOST: usize = 1 << 28;
 
-/// The world of the plain run.
+/// The world of the plain run at this end.
 fn plain_world(alloc: Global, model: &AnyModel, end: u64) -> Result<World, Failure>
     requires some { 1 ≤ end }
     requires short { end ≤ 2 ^ 40 }
@@ -163,7 +163,7 @@ fn plain_world(alloc: Global, model: &AnyModel, end: u64) -> Result<World, Failu
     Ok(world)
 }
 
-/// What `seq` prints of the world of the plain run.
+/// What `seq` prints of the plain run.
 fn text_of(alloc: Global, plain: &WorldParts) -> Result<Vec<u8>, Failure> {
     let (states, numbers) = (plain.states.as_slice(), plain.numbers.as_slice());
     if states.len() != numbers.len() {
@@ -182,7 +182,7 @@ fn text_of(alloc: Global, plain: &WorldParts) -> Result<Vec<u8>, Failure> {
     Ok(text)
 }
 
-/// The bytes of a disk of so many sectors that is formatted for a model.
+/// The image of a disk of this size, formatted for a model and an end.
 fn formatted(alloc: Global, model: &AnyModel, end: u64, sectors: u32) -> Result<Vec<u8>, Failure>
     requires some { 1 ≤ end }
     requires short { end ≤ 2 ^ 40 }
@@ -192,15 +192,15 @@ fn formatted(alloc: Global, model: &AnyModel, end: u64, sectors: u32) -> Result<
     Ok(disk.crash(alloc, Torn::Old)?)
 }
 
-/// What a run leaves on whose disk something failed.
+/// What a run leaves after a failure of its disk.
 #[derive(Drop)]
 struct Left {
-    /// The time up to which it told that all is committed, in ticks.
-    told: u64,
-    /// Whether it told that the later end is in force.
+    /// The time up to which it acknowledged its commits, in ticks.
+    acknowledged: u64,
+    /// Whether it acknowledged the later end.
     extended: bool,
     disk: MemDisk,
-    /// Whether it came to its end before anything failed.
+    /// Whether it reached its end before anything failed.
     ended: bool,
 }
 
@@ -213,38 +213,38 @@ fn left_by(alloc: Global, of: &ModelWithPlainRun, way: Way, plan: DiskPlan) -> R
     requires short { of.now.end ≤ 2 ^ 40 }
 {
     let disk = disk_of(alloc, of.formatted.clone()?, plan)?;
-    let mut told = Told { time: 0 };
-    let (ended, disk) = run_to(alloc, of, of.first, way, disk, &mut told)?;
+    let mut acknowledged = Acknowledged { time: 0 };
+    let (ended, disk) = run_to(alloc, of, of.first, way, disk, &mut acknowledged)?;
     if !ended || of.first == of.end {
         return Ok(Left {
-            told: told.time,
+            acknowledged: acknowledged.time,
             extended: false,
             disk,
             ended,
         });
     }
-    let (extended, disk) = carried_on(alloc, of, told.time, disk)?;
+    let (extended, disk) = carried_on(alloc, of, acknowledged.time, disk)?;
     let (ended, disk) = if extended {
-        run_to(alloc, of, of.end, way, disk, &mut told)?
+        run_to(alloc, of, of.end, way, disk, &mut acknowledged)?
     } else {
         (false, disk)
     };
     Ok(Left {
-        told: told.time,
+        acknowledged: acknowledged.time,
         extended,
         disk,
         ended,
     })
 }
 
-/// Runs to an end, and answers whether it got there before the disk failed.
+/// Runs to an end. Returns whether it got there before the disk failed.
 fn run_to(
     alloc: Global,
     of: &ModelWithPlainRun,
     end: u64,
     way: Way,
     disk: MemDisk,
-    told: &mut Told,
+    acknowledged: &mut Acknowledged,
 ) -> Result<(bool, MemDisk), Failure>
     requires some { 0 < way.nodes }
     requires few { way.nodes ≤ 64 }
@@ -254,7 +254,7 @@ fn run_to(
     let ports = local_ports(alloc, &of.model, way.nodes)?;
     match Session::open(alloc, &of.model, ports, disk, end) {
         Ok(mut session) => {
-            let ended = is_run(alloc, &mut session, end, way, told)?;
+            let ended = is_run(alloc, &mut session, end, way, acknowledged)?;
             Ok((ended, session.into_disk()))
         }
         Err(NotOpened { fault, disk }) if is_of_disk(fault) => Ok((false, disk)),
@@ -262,7 +262,7 @@ fn run_to(
     }
 }
 
-/// Whether the disk failed.
+/// Whether this fault comes from the disk.
 fn is_of_disk(fault: SessionFault) -> bool {
     matches!(
         fault,
@@ -270,12 +270,12 @@ fn is_of_disk(fault: SessionFault) -> bool {
     )
 }
 
-/// Puts the later end in force, behind the first one, and answers whether that was told before the
-/// disk failed.
+/// Puts the later end in force after the first one. Returns whether that was acknowledged before
+/// the disk failed.
 fn carried_on(
     alloc: Global,
     of: &ModelWithPlainRun,
-    told: u64,
+    acknowledged: u64,
     disk: MemDisk,
 ) -> Result<(bool, MemDisk), Failure> {
     match extend(alloc, &of.model, disk, of.end) {
@@ -285,26 +285,26 @@ fn carried_on(
                 before,
                 disk,
             },
-        ) if before == of.first && front.g >= told => Ok((true, disk)),
+        ) if before == of.first && front.g >= acknowledged => Ok((true, disk)),
         Err(NotOpened { fault, disk }) if is_of_disk(fault) => Ok((false, disk)),
         _ => Err(Failure::Lost(Loss::Extending)),
     }
 }
 
-/// Whether a session runs to its end. One whose disk fails is spent.
+/// Whether a session runs to its end. A session whose disk fails must be spent.
 fn is_run(
     alloc: Global,
     session: &mut Running<'_>,
     end: u64,
     way: Way,
-    told: &mut Told,
+    acknowledged: &mut Acknowledged,
 ) -> Result<bool, Failure>
     requires { 0 < way.nodes }
 {
-    match run_session(alloc, session, end, plan_of(way.nodes, way), told) {
+    match run_session(alloc, session, end, plan_of(way.nodes, way), acknowledged) {
         Ok(_ran) => Ok(true),
         Err(RunFault::Session(SessionFault::Disk)) => {
-            if session.front().time != told.time {
+            if session.front().time != acknowledged.time {
                 return Err(Failure::Lost(Loss::Front));
             }
             match session.step(&Step::Commit) {
@@ -316,7 +316,8 @@ fn is_run(
     }
 }
 
-/// Opens what a crash left over another number of nodes, and goes on to the end.
+/// Opens the image that a crash left over another number of nodes, runs to the end, and checks the
+/// result.
 fn resumed(
     alloc: Global,
     of: &ModelWithPlainRun,
@@ -336,10 +337,10 @@ fn resumed(
         Ok(session) => session,
         Err(_refused) => return Err(Failure::Lost(Loss::Disk)),
     };
-    if session.front().time < left.told {
-        return Err(Failure::Lost(Loss::Told));
+    if session.front().time < left.acknowledged {
+        return Err(Failure::Lost(Loss::Acknowledged));
     }
-    let mut last = Told { time: 0 };
+    let mut last = Acknowledged { time: 0 };
     run_session(
         alloc,
         &mut session,
@@ -353,8 +354,8 @@ fn resumed(
     look_at_texts(alloc, of, &session.into_disk())
 }
 
-/// A disk with this image, on which the later end is put in force if the first one still is. It is
-/// opened under one of them, and not under the other.
+/// A disk with this image, with the later end put in force if the first one still is. The image
+/// must open under exactly one of them.
 fn under_the_end(
     alloc: Global,
     of: &ModelWithPlainRun,
@@ -382,13 +383,14 @@ fn under_the_end(
     if left.extended {
         return Err(Failure::Lost(Loss::End));
     }
-    match carried_on(alloc, of, left.told, disk)? {
+    match carried_on(alloc, of, left.acknowledged, disk)? {
         (true, disk) => Ok(disk),
         _ => Err(Failure::Lost(Loss::Extending)),
     }
 }
 
-/// Whether a disk with this image is opened under an end. If not, it is since another is in force.
+/// Whether a disk with this image opens under an end. A refusal must be because another end is in
+/// force.
 fn is_opened(
     alloc: Global,
     of: &ModelWithPlainRun,
@@ -415,7 +417,7 @@ fn is_opened(
     }
 }
 
-/// What `log` and then `show` print of a disk, opened again, is what `seq` prints.
+/// Checks that `log` and then `show` print of a disk, opened again, what `seq` prints.
 fn look_at_texts(alloc: Global, of: &ModelWithPlainRun, disk: &MemDisk) -> Result<(), Failure>
     requires begun { 1 ≤ of.now.end }
     requires short { of.now.end ≤ 2 ^ 40 }
@@ -433,12 +435,12 @@ fn look_at_texts(alloc: Global, of: &ModelWithPlainRun, disk: &MemDisk) -> Resul
     Ok(())
 }
 
-/// A disk with what is firm on this one.
+/// A disk with the synced content of this one.
 fn reopened(alloc: Global, disk: &MemDisk) -> Result<MemDisk, Failure> {
     disk_of(alloc, disk.crash(alloc, Torn::Old)?, DiskPlan::default())
 }
 
-/// A disk in memory with this image, which is not too large.
+/// A disk in memory with this image, which must not be too large.
 fn disk_of(alloc: Global, image: Vec<u8>, plan: DiskPlan) -> Result<MemDisk, Failure> {
     if image.len() > MOST {
         return Err(Failure::Usage);
@@ -446,7 +448,7 @@ fn disk_of(alloc: Global, image: Vec<u8>, plan: DiskPlan) -> Result<MemDisk, Fai
     Ok(MemDisk::of(alloc, image, plan)?)
 }
 
-/// A plan of a run.
+/// The plan of a run.
 fn plan_of(nodes: u32, way: Way) -> Plan
     ensures { result.nodes ≡ nodes }
 {
@@ -463,14 +465,14 @@ fn plan_of(nodes: u32, way: Way) -> Plan
 /// Where a disk fails.
 #[derive(Clone, Copy)]
 enum At {
-    /// At a write and all that comes after it.
+    /// At a write and everything after it.
     Write,
     /// At one operation: a read, a write or a sync.
     Operation,
 }
 
-/// What a crash leaves in each loose sector: what is firm, what was written last, a fill, or a
-/// beginning of what was written.
+/// What a crash leaves in each dirty sector: the synced content, the last written one, a fill, or
+/// the first bytes of what was written.
 const TEARINGS: [Torn; 6] = [
     Torn::Old,
     Torn::New,
@@ -480,7 +482,7 @@ const TEARINGS: [Torn; 6] = [
     Torn::Cut(100),
 ];
 
-/// How often disks failed, and of how many different images runs were resumed.
+/// How often disks failed, and from how many different images runs were resumed.
 #[derive(Clone, Copy, Default)]
 struct Counts {
     stops: u64,
@@ -532,8 +534,8 @@ fn stops(alloc: Global, of: &ModelWithPlainRun, way: Way, at: At) -> Result<Coun
     Ok(counts)
 }
 
-/// Crashes what a run left in each way, resumes the run on each image that is another, and answers
-/// how many there are.
+/// Crashes what a run left in each way, and resumes the run on each different image. Returns their
+/// number.
 fn crashes(alloc: Global, of: &ModelWithPlainRun, way: Way, left: &Left) -> Result<u64, Failure>
     requires next { 0 < way.resumed }
     requires next_few { way.resumed ≤ 64 }
@@ -552,22 +554,22 @@ fn crashes(alloc: Global, of: &ModelWithPlainRun, way: Way, left: &Left) -> Resu
     Ok(images.len() as u64)
 }
 
-/// How runs are made whose disks fail: the batches, each with the rounds between checkpoints.
+/// Ways of runs: the batch, and the rounds between checkpoints.
 type Ways<'a> = &'a [(u32, u32)];
 
-/// Short turns and longer ones, without checkpoints and with them.
+/// Short and longer turns, without and with checkpoints.
 const WAYS: Ways<'static> = &[(1, 0), (7, 0), (1, 3), (7, 1)];
 
-/// Turns of the length that a run has unless it is told another.
+/// Turns of the default batch.
 const USUAL_WAYS: Ways<'static> = &[(16, 0), (16, 2)];
 
-/// Some of both, for disks that are carried on, whose runs are longer.
+/// Some of both for disks that get a later end, whose runs are longer.
 const SOME_WAYS: Ways<'static> = &[(7, 1)];
 
 const SOME_USUAL_WAYS: Ways<'static> = &[(16, 0)];
 
-/// Lets disks of runs fail over so many nodes, resumed over so many, in each of these ways, and
-/// prints how often.
+/// Lets disks of runs over this number of nodes fail, resumes the runs over the other number, in
+/// each of these ways, and prints the counts.
 fn all_ways(
     rt: &HostRuntime,
     alloc: Global,
@@ -594,14 +596,14 @@ fn all_ways(
         };
         let writes = stops(alloc, of, way, At::Write)?;
         let operations = stops(alloc, of, way, At::Operation)?;
-        tell(rt, of, way, writes, operations)?;
+        print_counts(rt, of, way, writes, operations)?;
         total = total.and(writes).and(operations);
     }
     Ok(total)
 }
 
-/// Prints how often disks failed in a way.
-fn tell(
+/// Prints the counts of one way.
+fn print_counts(
     rt: &HostRuntime,
     of: &ModelWithPlainRun,
     way: Way,
@@ -624,8 +626,7 @@ fn tell(
     .map_err(Failure::Output)
 }
 
-/// The simulation that a model file tells, with a disk of so many sectors that is made for its end,
-/// or for half of it.
+/// Reads a model file, and makes a disk of this size for its end or for half of it.
 fn read_simulation(
     rt: &HostRuntime,
     alloc: Global,
@@ -657,7 +658,7 @@ fn read_simulation(
     })
 }
 
-/// Lets the disks of a model's runs fail in these ways.
+/// Tries the runs of a model in these ways.
 fn try_model(
     rt: &HostRuntime,
     alloc: Global,
@@ -679,8 +680,8 @@ fn try_model(
     Ok(total)
 }
 
-/// Lets the disks of a model's runs fail: those that are made for its end in all ways, and those
-/// that are carried on in all or in some.
+/// Tries the runs of a model file: on disks made for its end in all ways, and on disks that get a
+/// later end in all ways or in some.
 fn try_both(
     rt: &HostRuntime,
     alloc: Global,
@@ -726,7 +727,7 @@ fn main(rt: HostRuntime) -> Result<(), Failure> {
         return Err(Failure::Usage);
     }
     println!(rt;
-        "{stops} stops, {images} images: nothing told was lost, and each run ended as the plain one"
+        "{stops} stops, {images} images: nothing acknowledged was lost, and each run ended as the plain one"
     ).map_err(Failure::Output)?;
     Ok(())
 }

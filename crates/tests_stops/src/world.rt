@@ -1,10 +1,10 @@
-// Whether a session has come where the plain runner came.
+// Compares a front with the world of the plain runner.
 
 use coordinator::FrontView;
 use eventkey::Message;
 use model::{SavedState, Words, WorldParts};
 
-/// Whether the front is the world of the plain run.
+/// Whether the front equals the world of the plain run.
 pub fn is_front(plain: &WorldParts, front: FrontView<'_>) -> bool {
     front.time == plain.time
         && same_states(front.states, plain.states.as_slice())
@@ -13,7 +13,7 @@ pub fn is_front(plain: &WorldParts, front: FrontView<'_>) -> bool {
         && same_messages(front.log, plain.log.as_slice())
 }
 
-/// Whether these are the same words of the same processes.
+/// Whether these are the same states, process by process.
 fn same_states(states: &[SavedState], words: &[Words]) -> bool {
     if states.len() != words.len() {
         return false;
@@ -26,7 +26,6 @@ fn same_states(states: &[SavedState], words: &[Words]) -> bool {
     true
 }
 
-/// Whether these are the same messages.
 fn same_messages(some: &[Message], others: &[Message]) -> bool {
     some == others
 }

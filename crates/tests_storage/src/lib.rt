@@ -1,5 +1,5 @@
-//! Tests of the log and of recovery, through their public functions. They stand in a crate of their
-//! own, since a crate with tests is proved twice.
+//! Tests of the log, of recovery and of migration through their public functions. They have a crate
+//! of their own, since a crate with tests is proved twice.
 #![tactic(auto)]
 
 #[cfg(test)]

@@ -1,4 +1,4 @@
-// The recovery of a token ring of three processes that hold the token two ticks, up to time 10.
+// Recovery of a token ring of three processes that hold the token for two ticks, up to time 10.
 
 use commitlog::{Log, LogFault, format};
 use disk::{DiskFault, MemDisk, Plan, SectorDisk, Torn};
@@ -14,6 +14,7 @@ mod device;
 mod ends;
 mod faults;
 mod memory;
+mod old_disks;
 mod stops;
 
 fn ring() -> TokenRing {
@@ -28,7 +29,7 @@ const SECOND: [u64; 8] = [3, 0, 1, 1, 0, 1, 0, 0];
 
 const THIRD: [u64; 8] = [5, 1, 0, 2, 0, 2, 0, 0];
 
-/// The events of the sequential simulation, and the message that is left.
+/// The events of the sequential simulation, and the pending message at the end.
 const EVENTS: [[u64; 8]; 6] = [
     FIRST,
     SECOND,
@@ -70,7 +71,7 @@ fn open(alloc: Global, disk: MemDisk) -> Result<Log<MemDisk>, LogFault> {
     }
 }
 
-/// A formatted log with these records of events, and behind them one of this kind and body.
+/// A formatted log with these records of events, followed by one of this kind and body.
 fn log_with(
     alloc: Global,
     records: &[(u64, &[[u64; 8]])],
@@ -88,13 +89,13 @@ fn log_with(
     Ok(open(alloc, log.into_disk())?)
 }
 
-/// A log with three commits, of all events before the end.
+/// A log of three commits with all events before the end.
 fn log_of_all(alloc: Global) -> Result<Log<MemDisk>, Fail> {
     let records: [(u64, &[[u64; 8]]); 3] = [(1, &[]), (7, &EVENTS[..3]), (END, &EVENTS[3..5])];
     log_with(alloc, &records, None)
 }
 
-/// The world of the ring at the end.
+/// The front of the ring at the end.
 fn front_at_the_end(alloc: Global) -> Result<Front, Fail> {
     let mut states = Vec::new(alloc);
     for count in [2, 2, 1] {

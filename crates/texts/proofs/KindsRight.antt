@@ -1,4 +1,4 @@
--- Tables of this project's models with which nothing is wrong.
+-- Tables of this project's models without mistakes.
 use Rattle.std.proofs.Common.{◌≡◌, ℕ, ◌*◌, ◌-◌, ◌^◌, List, [], ◌++◌, Bool, true, false, cond, Option, Some, None, codes, ◌≤◌, nat_eq, refl, ap, subst, ◌∙◌, arith, inl, inr}
 use Rattle.std.proofs.lemmas.Bool.{cases_Bool}
 use Rattle.std.specs.Cmp.Lexicographic.{bytes_decides, pointwise}
@@ -13,7 +13,7 @@ use Rattle.texts.specs.ModelFile.{Wrong, number_at, numbers_wrong, unknown_wrong
 use Rattle.texts.proofs.Right.{before_numbers, none_before, none_behind, numbers_right, numbers_there, words_there}
 use Rattle.texts.proofs.Tables.{is_string}
 
--- 1. What describes a model has nothing wrong
+-- 1. A table that describes a model has no mistakes
 
 tokens_most : (table : Members) (lps : ℕ) → number_at (codes "lps") 1 1024 table ≡ Some lps → most_tokens table ≡ 8 * lps
 tokens_most table lps is = rw is refl
@@ -43,7 +43,7 @@ any_right table (TokenRing r) end h = kind_is table (codes "ring") h.model ∙ r
 any_right table (Phold p) end h = kind_is table (codes "phold") h.model ∙ hold_right table p.hold end h
 any_right table (JobShop s) end h = kind_is table (codes "jobshop") h.model ∙ shop_right table s.shop end h
 
--- 2. Where nothing is wrong, a model is described
+-- 2. A table without mistakes describes a model
 
 abbrev IsDescribed : Members → Type 0
 IsDescribed table = (model : AnyModel) × (end : ℕ) × IsTableOf table model end
@@ -98,14 +98,14 @@ shop_there table kind none =
       record { model = kind; lps = lps_is; last = end_is; jobs = j_is; service = s_is; seed = k_is; only = none_behind numbers others none },
     )
 
--- something is always wrong with a table that names no model
+-- a table that names no model always has a mistake
 kindless_there : (table : Members) → kindless_wrong table ≡ [] → IsDescribed table
 kindless_there table none =
     let text = codes "\"ring\", \"phold\" or \"jobshop\"" in
     let e = words_there false (codes "model") text table (before_numbers (words_wrong false (codes "model") text table) common_numbers table none) in cc
 
 module _ (table : Members) (name : List ℕ) (is : get_member (codes "model") table ≡ Some (string name)) where
-  -- the name is one that is known, or another one
+  -- the name is the known one, or another one
   named : (known : List ℕ) (a b : List Wrong) → ((get_member (codes "model") table ≡ Some (string known)) → a ≡ [] → IsDescribed table) → (b ≡ [] → IsDescribed table)
       → cond (pointwise nat_eq name known) a b ≡ [] → IsDescribed table
   named known a b here there none =

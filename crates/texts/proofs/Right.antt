@@ -1,4 +1,4 @@
--- Tables with which nothing is wrong.
+-- Tables without mistakes.
 use Rattle.std.proofs.Common.{◌≡◌, ℕ, ℤ, ◌≤◌, ◌&&◌, nat_le, pos, negsuc, List, [], ◌∷◌, ◌++◌, Bool, true, false, cond, Option, Some, None, is_some, option_and_then, Result, Ok, Err, IfOk, refl, subst, sym, ◌∙◌}
 use Rattle.std.proofs.lemmas.Bool.{and_parts, leb-true}
 use Rattle.toml.specs.Data.{Members, as_integer, get_member}
@@ -36,7 +36,7 @@ read_within : (least most n : ℕ) (o : Option ℤ) → option_and_then (in_rang
 read_within least most n None is = cc
 read_within least most n (Some z) is = in_range_within least most n z is
 
--- where nothing is wrong at a key of a number, the number is there and in its range
+-- if there is no mistake at a key of a number, the number is there and in its range
 pub number_there : (key : List ℕ) (least most : ℕ) (table : Members) → number_wrong key least most table ≡ []
     → (n : ℕ) × (number_at key least most table ≡ Some n) × (least ≤ n) × (n ≤ most)
 unfolding number_wrong
@@ -45,18 +45,18 @@ number_there key least most table none =
     let (low, high) = read_within least most n (option_and_then as_integer (get_member key table)) is in
     (n, is, low, high)
 
--- where it is there, nothing is wrong
+-- if the number is there, there is no mistake
 pub number_right : (key : List ℕ) (least most : ℕ) (table : Members) (n : ℕ) → number_at key least most table ≡ Some n → number_wrong key least most table ≡ []
 unfolding number_wrong
 number_right key least most table n is = rw is refl
 
 -- 3. Numbers at several keys
 
--- the number of a key
+-- the table has the number of a key, in its range
 abbrev pub IsThere : Members → NumberKey → Type 0
 IsThere table k = (n : ℕ) × (number_at k.key k.least k.most table ≡ Some n) × (k.least ≤ n) × (n ≤ k.most)
 
--- at each of some keys
+-- the table has the number of each of these keys, in its range
 abbrev pub AreThere : Members → List NumberKey → Type 0
 AreThere table [] = Unit {0}
 AreThere table (k ∷ ks) = IsThere table k × AreThere table ks
@@ -69,14 +69,15 @@ numbers_behind before (k ∷ ks) table none =
       (number_there k.key k.least k.most table (none_behind before (number_wrong k.key k.least k.most table) first), others),
     )
 
--- where nothing is wrong at some keys, nothing was before, and each number is there and in its range
+-- if there are no mistakes after these keys, there were none before, and each number is there and
+-- in its range
 pub before_numbers : (before : List Wrong) (keys : List NumberKey) (table : Members) → numbers_from before keys table ≡ [] → before ≡ []
 before_numbers before keys table none = (numbers_behind before keys table none).0
 
 pub numbers_there : (keys : List NumberKey) (table : Members) → numbers_wrong keys table ≡ [] → AreThere table keys
 numbers_there keys table none = (numbers_behind [] keys table none).1
 
--- the number of a key, and at each of some keys
+-- the table has the number of a key, and of each of these keys
 abbrev pub IsNumber : Members → NumberKey → Type 0
 IsNumber table k = (n : ℕ) × (number_at k.key k.least k.most table ≡ Some n)
 
@@ -84,7 +85,7 @@ abbrev pub AreNumbers : Members → List NumberKey → Type 0
 AreNumbers table [] = Unit {0}
 AreNumbers table (k ∷ ks) = IsNumber table k × AreNumbers table ks
 
--- where each is there, nothing is wrong
+-- if each number is there, there is no mistake
 pub numbers_right : (keys : List NumberKey) (table : Members) → AreNumbers table keys → numbers_wrong keys table ≡ []
 numbers_right [] table there = refl
 numbers_right (k ∷ ks) table there = rw (number_right k.key k.least k.most table there.0.0 there.0.1) (numbers_right ks table there.1)
@@ -109,13 +110,13 @@ unfolding item_wrong
 item_there true key place what text none = refl
 item_there false key place what text none = cc
 
--- 5. What `mistakes` tells, where it tells what is wrong
+-- 5. The clauses of `mistakes`, if it returns `wrong`
 
-pub none_told : {E : Type 0} (r : Result (List Wrong) E) (wrong : List Wrong) (P : Type 0) → IfOk r (λ found. found ≡ wrong) → (wrong ≡ [] → P) → IfOk r (λ found. found ≡ [] → P)
-none_told (Ok found) wrong P is there = λ none. there (sym is ∙ none)
-none_told (Err e) wrong P is there = tt
+pub none_reported : {E : Type 0} (r : Result (List Wrong) E) (wrong : List Wrong) (P : Type 0) → IfOk r (λ found. found ≡ wrong) → (wrong ≡ [] → P) → IfOk r (λ found. found ≡ [] → P)
+none_reported (Ok found) wrong P is there = λ none. there (sym is ∙ none)
+none_reported (Err e) wrong P is there = tt
 
-pub some_told : {E : Type 0} (r : Result (List Wrong) E) (wrong : List Wrong) (M : Type 0) (says : M → ℕ → Type 0) → IfOk r (λ found. found ≡ wrong)
+pub some_found : {E : Type 0} (r : Result (List Wrong) E) (wrong : List Wrong) (M : Type 0) (says : M → ℕ → Type 0) → IfOk r (λ found. found ≡ wrong)
     → ((model : M) (end : ℕ) → says model end → wrong ≡ []) → IfOk r (λ found. (model : M) (end : ℕ) → says model end → found ≡ [])
-some_told (Ok found) wrong M says is right = λ model end h. is ∙ right model end h
-some_told (Err e) wrong M says is right = tt
+some_found (Ok found) wrong M says is right = λ model end h. is ∙ right model end h
+some_found (Err e) wrong M says is right = tt

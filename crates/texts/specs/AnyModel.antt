@@ -1,5 +1,5 @@
--- What the table of a model file says of this project's models (its profile): exactly the keys of
--- its model; what is wrong with one that says nothing; and what `check` prints of one.
+-- Model files of this project's models (this project's profile): which table describes a model, with
+-- exactly its keys; the mistakes in other tables; and what `check` prints of a model.
 use Rattle.std.specs.Prelude.{◌≡◌, ℕ, ◌*◌, ◌-◌, ◌^◌, List, [], ◌∷◌, ◌++◌, Option, Some, None, codes}
 use Rattle.std.specs.Prelude.{decimal}
 use Rattle.std.specs.Prelude.{false, if◌then◌else◌, nat_eq, option_and_then, unwrap_or}
@@ -28,7 +28,7 @@ abbrev pub shop_keys : List (List ℕ)
 shop_keys =
     codes "model" ∷ codes "lps" ∷ codes "end" ∷ codes "jobs" ∷ codes "service" ∷ codes "seed" ∷ []
 
--- the table of a token ring that is run to this end: these five keys and no other
+-- the table describes this token ring and a run to this end: these five keys and no others
 pub record IsRingTable (table : Members) (r : Ring) (end : ℕ) : Type 0 where
   pub model : get_member (codes "model") table ≡ Some (string (codes "ring"))
   pub lps : number_at (codes "lps") 1 1024 table ≡ Some r.lps
@@ -37,7 +37,7 @@ pub record IsRingTable (table : Members) (r : Ring) (end : ℕ) : Type 0 where
   pub tokens : number_at (codes "tokens") 1 (8 * r.lps) table ≡ Some r.tokens
   pub only : unknown_wrong ring_keys table ≡ []
 
--- that of PHOLD: these six keys and no other
+-- the table describes this PHOLD and a run to this end: these six keys and no others
 pub record IsHoldTable (table : Members) (h : Hold) (end : ℕ) : Type 0 where
   pub model : get_member (codes "model") table ≡ Some (string (codes "phold"))
   pub lps : number_at (codes "lps") 1 1024 table ≡ Some h.lps
@@ -47,7 +47,7 @@ pub record IsHoldTable (table : Members) (h : Hold) (end : ℕ) : Type 0 where
   pub seed : number_at (codes "seed") 0 (2 ^ 63 - 1) table ≡ Some h.seed
   pub only : unknown_wrong hold_keys table ≡ []
 
--- that of a job shop: these six keys and no other
+-- the table describes this job shop and a run to this end: these six keys and no others
 pub record IsShopTable (table : Members) (s : Shop) (end : ℕ) : Type 0 where
   pub model : get_member (codes "model") table ≡ Some (string (codes "jobshop"))
   pub lps : number_at (codes "lps") 1 1024 table ≡ Some s.lps
@@ -62,13 +62,12 @@ IsTableOf table (TokenRing r) end = IsRingTable table r.ring end
 IsTableOf table (Phold h) end = IsHoldTable table h.hold end
 IsTableOf table (JobShop s) end = IsShopTable table s.shop end
 
--- the numbers of each model, beginning with those that all have
+-- the keys with numbers of each model, beginning with those that all models have
 
 abbrev pub common_numbers : List NumberKey
 common_numbers = number_key (codes "lps") 1 1024 ∷ number_key (codes "end") 1 (2 ^ 40) ∷ []
 
--- the most tokens that there may be: where it is not said how many processes there are, those of
--- the greatest ring
+-- the most tokens that are allowed; without a valid number of processes, those of the largest ring
 abbrev pub most_tokens : Members → ℕ
 most_tokens table = 8 * unwrap_or (number_at (codes "lps") 1 1024 table) 1024
 
@@ -89,7 +88,7 @@ shop_numbers = common_numbers
     ∷ number_key (codes "service") 1 (2 ^ 32 - 1)
     ∷ number_key (codes "seed") 0 (2 ^ 63 - 1) ∷ []
 
--- what is wrong with the table of each model
+-- the mistakes in the table of each model
 
 abbrev pub ring_wrong : Members → List Wrong
 ring_wrong table = numbers_wrong (ring_numbers table) table ++ unknown_wrong ring_keys table
@@ -100,7 +99,7 @@ hold_wrong table = numbers_wrong hold_numbers table ++ unknown_wrong hold_keys t
 abbrev pub shop_wrong : Members → List Wrong
 shop_wrong table = numbers_wrong shop_numbers table ++ unknown_wrong shop_keys table
 
--- with one that names none of them: which keys it should have, nobody knows but for those of all
+-- the mistakes in a table that names no model: only the keys that all models have are known
 abbrev pub kindless_wrong : Members → List Wrong
 kindless_wrong table = numbers_from
     (words_wrong false (codes "model") (codes "\"ring\", \"phold\" or \"jobshop\"") table)
@@ -118,19 +117,19 @@ kind_wrong (Some name) table =
     else (if pointwise nat_eq name (codes "jobshop") then shop_wrong table
     else kindless_wrong table))
 
--- what is wrong with the table of a model file
+-- the mistakes in the table of a model file
 abbrev pub any_wrong : Members → List Wrong
 any_wrong table = kind_wrong (kind_of table) table
 
--- a line `key: value`, and what follows it
+-- a line `key: value` before the rest
 abbrev pub line_then : List ℕ → ℕ → List ℕ → List ℕ
 line_then key value rest = key ++ (codes ": " ++ (decimal value ++ (codes "\n" ++ rest)))
 
--- the values that each model file has after the name of its model, and those of this model
+-- the lines of the values that all models have, before the rest
 abbrev pub values_then : ℕ → ℕ → List ℕ → List ℕ
 values_then lps end rest = line_then (codes "lps") lps (line_then (codes "end") end rest)
 
--- the values of a model file
+-- the lines that `check` prints of a model and its end
 abbrev pub model_text : AnyModel → ℕ → List ℕ
 model_text (TokenRing r) end =
     codes "model: ring\n" ++ values_then r.ring.lps end

@@ -1,4 +1,4 @@
-// The models of this project, as a table describes them.
+// The models of this project, as a TOML table describes them.
 
 ghost use Rattle.std.specs.Prelude.{◌≡◌, ◌≤◌, ◌*◌, ◌-◌, ◌^◌, ℕ, Some, None, codes, IfOk, IsErr};
 ghost use Rattle.std.specs.Prelude.{◌++◌, IfSome, OnOk, string_bytes, unwrap_or};
@@ -20,7 +20,7 @@ use models::{AnyModel, JobShop, Phold, TokenRing};
 use std::alloc::{AllocError, Global};
 use toml::Table;
 
-/// What the help of a program says of the keys of this project's model files.
+/// The part of a program's help about the keys of this project's model files.
 pub const ANY_MODEL_KEYS: &str = "\
 Each model has these keys:
   model       \"ring\", \"phold\" or \"jobshop\"
@@ -73,10 +73,10 @@ impl Described for AnyModel {
     }
 }
 
-/// What has to be at the key `model`.
+/// The allowed values of the key `model`, as a mistake lists them.
 const KINDS: &str = "\"ring\", \"phold\" or \"jobshop\"";
 
-/// The model and the end of a table.
+/// Returns the model that a table describes, and the tick at which its run ends.
 fn model_of(table: &Table) -> Result<(AnyModel, u64), Mistake>
     ensures ok { IfOk result (λ file. IsTableOf (table_view table.now) file.0 file.1) }
     ensures bad { IsErr result →
@@ -99,12 +99,12 @@ fn model_of(table: &Table) -> Result<(AnyModel, u64), Mistake>
         },
         _ => Err(Mistake::Not {
             key: "model",
-            wanted: KINDS,
+            expected: KINDS,
         }),
     }
 }
 
-/// The ticks at which a run ends.
+/// Returns the tick at which the run of a table ends.
 fn end_of(table: &Table) -> Result<u64, Mistake>
     ensures ok { IfOk result (λ n. number_at (codes "end") 1 (2 ^ 40) (table_view table.now)
         ≡ Some n) }
@@ -115,7 +115,7 @@ fn end_of(table: &Table) -> Result<u64, Mistake>
     number_at(table, "end", 1, 1 << 40)
 }
 
-/// A token ring and its end.
+/// Returns the token ring that a table describes, and the tick at which its run ends.
 fn ring_of(table: &Table) -> Result<(TokenRing, u64), Mistake>
     requires { get_member (codes "model") (table_view table.now) ≡ Some (string (codes "ring")) }
     ensures ok { IfOk result (λ file. IsRingTable (table_view table.now) file.0.ring file.1) }
@@ -132,7 +132,7 @@ fn ring_of(table: &Table) -> Result<(TokenRing, u64), Mistake>
     Ok((TokenRing::new(lps as u32, hold as u32, tokens as u32), end))
 }
 
-/// PHOLD and its end.
+/// Returns the PHOLD that a table describes, and the tick at which its run ends.
 fn hold_of(table: &Table) -> Result<(Phold, u64), Mistake>
     requires { get_member (codes "model") (table_view table.now) ≡ Some (string (codes "phold")) }
     ensures ok { IfOk result (λ file. IsHoldTable (table_view table.now) file.0.hold file.1) }
@@ -156,7 +156,7 @@ fn hold_of(table: &Table) -> Result<(Phold, u64), Mistake>
     ))
 }
 
-/// A job shop and its end.
+/// Returns the job shop that a table describes, and the tick at which its run ends.
 fn shop_of(table: &Table) -> Result<(JobShop, u64), Mistake>
     requires { get_member (codes "model") (table_view table.now) ≡ Some (string (codes "jobshop")) }
     ensures ok { IfOk result (λ file. IsShopTable (table_view table.now) file.0.shop file.1) }
@@ -177,7 +177,7 @@ fn shop_of(table: &Table) -> Result<(JobShop, u64), Mistake>
     ))
 }
 
-/// What is wrong with a table.
+/// Finds all that is wrong with a table.
 fn mistakes_of(alloc: Global, table: &Table) -> Result<Findings, AllocError>
     ensures { IfOk result (λ found. found ≡ any_wrong (table_view table.now)) }
 {
@@ -189,14 +189,14 @@ fn mistakes_of(alloc: Global, table: &Table) -> Result<Findings, AllocError>
     }
 }
 
-/// Looks at the keys that each model has, and answers how many processes there are.
+/// Checks the keys that each model has, and returns the number of processes, if it is valid.
 fn look_at_common(
     alloc: Global,
     table: &Table,
     found: &mut Findings,
 ) -> Result<Option<u64>, AllocError>
     ensures lps { IfOk result (λ n. n ≡ number_at (codes "lps") 1 1024 (table_view table.now)) }
-    ensures told { OnOk result
+    ensures reported { OnOk result
         (found.new ≡ numbers_from found.old common_numbers (table_view table.now)) }
     ensures within { IfOk result (λ n. IfSome n (λ k. (1 ≤ k) × (k ≤ 1024))) }
 {
@@ -205,8 +205,8 @@ fn look_at_common(
     Ok(lps)
 }
 
-/// What is wrong with the table of a token ring. Where it is not said how many processes there are,
-/// no more tokens are too many than those of the greatest ring.
+/// Finds all that is wrong with the table of a token ring. Without a valid number of processes, the
+/// most tokens are those of the largest ring.
 fn ring_mistakes(alloc: Global, table: &Table) -> Result<Findings, AllocError>
     ensures { IfOk result (λ found. found ≡ ring_wrong (table_view table.now)) }
 {
@@ -218,7 +218,7 @@ fn ring_mistakes(alloc: Global, table: &Table) -> Result<Findings, AllocError>
     Ok(found)
 }
 
-/// The most tokens that a ring of so many processes, or of the most, may have.
+/// Returns the most tokens that a ring of `lps` processes may have, or a ring of 1,024 if `None`.
 fn most_tokens(lps: Option<u64>) -> u64
     requires { IfSome lps (λ n. (1 ≤ n) × (n ≤ 1024)) }
     ensures { result ≡ 8 * unwrap_or lps 1024 }
@@ -226,7 +226,7 @@ fn most_tokens(lps: Option<u64>) -> u64
     8 * lps.unwrap_or(1024)
 }
 
-/// What is wrong with the table of PHOLD.
+/// Finds all that is wrong with the table of PHOLD.
 fn hold_mistakes(alloc: Global, table: &Table) -> Result<Findings, AllocError>
     ensures { IfOk result (λ found. found ≡ hold_wrong (table_view table.now)) }
 {
@@ -243,7 +243,7 @@ fn hold_mistakes(alloc: Global, table: &Table) -> Result<Findings, AllocError>
     Ok(found)
 }
 
-/// What is wrong with the table of a job shop.
+/// Finds all that is wrong with the table of a job shop.
 fn shop_mistakes(alloc: Global, table: &Table) -> Result<Findings, AllocError>
     ensures { IfOk result (λ found. found ≡ shop_wrong (table_view table.now)) }
 {
@@ -260,7 +260,7 @@ fn shop_mistakes(alloc: Global, table: &Table) -> Result<Findings, AllocError>
     Ok(found)
 }
 
-/// What is wrong with a table that names none of the models.
+/// Finds what is wrong with a table that names none of the models: the name, and the keys of all.
 fn kindless_mistakes(alloc: Global, table: &Table) -> Result<Findings, AllocError>
     ensures { IfOk result (λ found. found ≡ kindless_wrong (table_view table.now)) }
 {
@@ -270,7 +270,7 @@ fn kindless_mistakes(alloc: Global, table: &Table) -> Result<Findings, AllocErro
     Ok(found)
 }
 
-/// The values of a token ring.
+/// Returns the lines of the values of a token ring.
 fn ring_values(alloc: Global, ring: &TokenRing, end: u64) -> Result<String, AllocError>
     ensures { IfOk result (λ text.
         string_bytes text ≡ model_text (AnyModel.TokenRing ring.now) end) }
@@ -279,7 +279,7 @@ fn ring_values(alloc: Global, ring: &TokenRing, end: u64) -> Result<String, Allo
     format!(in alloc; "model: ring\nlps: {lps}\nend: {end}\nhold: {hold}\ntokens: {tokens}\n")
 }
 
-/// The values of PHOLD.
+/// Returns the lines of the values of PHOLD.
 fn hold_values(alloc: Global, hold: &Phold, end: u64) -> Result<String, AllocError>
     ensures { IfOk result (λ text.
         string_bytes text ≡ model_text (AnyModel.Phold hold.now) end) }
@@ -291,7 +291,7 @@ fn hold_values(alloc: Global, hold: &Phold, end: u64) -> Result<String, AllocErr
     )
 }
 
-/// The values of a job shop.
+/// Returns the lines of the values of a job shop.
 fn shop_values(alloc: Global, shop: &JobShop, end: u64) -> Result<String, AllocError>
     ensures { IfOk result (λ text.
         string_bytes text ≡ model_text (AnyModel.JobShop shop.now) end) }

@@ -1,11 +1,11 @@
-// What is wrong with the table of a model file, key by key.
+// The mistakes in the table of a model file, key by key.
 
 ghost use Rattle.std.specs.Prelude.{◌≡◌, ◌++◌, [], ◌∷◌, map, IfOk, IfSome, OnOk, codes};
 ghost use Rattle.std.specs.Prelude.{string_bytes};
 ghost use Rattle.std.specs.Prelude.{◌≤◌, Some};
 ghost use Rattle.texts.specs.ModelFile.{found_of, is_among, item_wrong, nothing, number_at};
 ghost use Rattle.texts.specs.ModelFile.{number_wrong};
-ghost use Rattle.texts.specs.ModelFile.{told, unknown_wrong, unless, want_of, words_wrong};
+ghost use Rattle.texts.specs.ModelFile.{reported, unknown_wrong, unless, expectation_of, words_wrong};
 ghost use Rattle.toml.specs.Data.{get_member};
 ghost use Rattle.toml.specs.View.{table_view, view};
 
@@ -15,10 +15,10 @@ use std::fmt;
 use std::marker::Model;
 use toml::{Table, Value};
 
-/// What there is at a key.
+/// The kind of value at a key.
 #[derive(Clone, Copy, Debug, PartialEq, Eq)]
 pub enum Found {
-    /// Nothing: the key is missing.
+    /// The key is missing.
     Nothing,
     /// A whole number.
     Number(i64),
@@ -36,35 +36,35 @@ pub enum Found {
     Table,
 }
 
-/// What has to be at a key.
+/// The value that a key must have.
 #[derive(Clone, Copy, Debug, PartialEq, Eq)]
-pub enum Wanted {
+pub enum Expected {
     /// A whole number.
     Number {
-        /// The least that is allowed.
+        /// The least number that is allowed.
         least: u64,
-        /// The greatest.
+        /// The greatest number that is allowed.
         most: u64,
     },
-    /// Something else, which words tell.
+    /// Something else, described in words.
     Words(&'static str),
-    /// Nothing: the model has no such key.
+    /// No value: the model has no such key.
     Nothing,
 }
 
-/// One thing that is wrong with a table. Its text says so in plain words.
+/// One mistake in a table. Its text describes it in plain words.
 #[derive(Debug, PartialEq, Eq, Drop)]
 pub struct Finding {
     /// The key.
     pub key: String,
-    /// What is there.
+    /// The value that the key has.
     pub found: Found,
-    /// What has to be there.
-    pub wanted: Wanted,
+    /// The value that the key must have.
+    pub expected: Expected,
 }
 
-/// All that is wrong with a table, in the order of the model's keys; then come the keys that the
-/// model does not have, in the order of their bytes.
+/// All mistakes in a table, in the order of the model's keys. The keys that the model does not have
+/// come last, in the order of their bytes.
 #[derive(Debug, Drop)]
 pub struct Findings {
     items: Vec<Finding>,
@@ -72,15 +72,15 @@ pub struct Findings {
 
 impl Model for Findings {
     ghost use Rattle.std.specs.Prelude.{List, map};
-    ghost use Rattle.texts.specs.ModelFile.{Wrong, told};
+    ghost use Rattle.texts.specs.ModelFile.{Wrong, reported};
 
     ghost Value = { List Wrong };
 
-    ghost view = { λ f. map told f.items.items };
+    ghost view = { λ f. map reported f.items.items };
 }
 
 impl Findings {
-    /// Nothing is wrong yet. It takes no memory.
+    /// Makes an empty list of findings, without an allocation.
     pub fn new(alloc: Global) -> Findings
         ensures { result ≡ [] }
     {
@@ -89,16 +89,16 @@ impl Findings {
         }
     }
 
-    /// The findings.
+    /// Returns the findings.
     pub fn as_slice(&self) -> &[Finding]
-        ensures { map told result.now ≡ self.now }
+        ensures { map reported result.now ≡ self.now }
     {
         self.items.as_slice()
     }
 
     #[tactic(auto, unfolding(crate::specs::ModelFile::number_wrong))]
-    /// Looks for the whole number from `least` to `most` at a key, and answers it. Where there is
-    /// none, that is one finding more.
+    /// Returns the whole number from `least` to `most` at a key, or adds a finding if there is
+    /// none.
     pub fn number_at(
         &mut self,
         alloc: Global,
@@ -108,7 +108,7 @@ impl Findings {
         most: u64,
     ) -> Result<Option<u64>, AllocError>
         ensures number { IfOk result (λ n. n ≡ number_at key.now least most (table_view table.now)) }
-        ensures told { OnOk result (self.new
+        ensures reported { OnOk result (self.new
             ≡ self.old ++ number_wrong key.now least most (table_view table.now)) }
         ensures within { IfOk result (λ n. IfSome n (λ k. (least ≤ k) × (k ≤ most))) }
     {
@@ -119,7 +119,7 @@ impl Findings {
                     alloc,
                     key,
                     found_at(table, key),
-                    Wanted::Number { least, most },
+                    Expected::Number { least, most },
                 )?;
                 Ok(None)
             }
@@ -127,48 +127,47 @@ impl Findings {
     }
 
     #[tactic(auto, unfolding(crate::specs::ModelFile::words_wrong))]
-    /// Where `right` does not hold of what is at a key, that is one finding more, whose words tell
-    /// what has to be there.
+    /// Adds a finding for a key unless `right`. The words in `expected` describe what must be there.
     pub fn words_at(
         &mut self,
         alloc: Global,
         table: &Table,
         key: &str,
-        wanted: &'static str,
+        expected: &'static str,
         right: bool,
     ) -> Result<(), AllocError>
         ensures { OnOk result (self.new
-            ≡ self.old ++ words_wrong right key.now wanted.now (table_view table.now)) }
+            ≡ self.old ++ words_wrong right key.now expected.now (table_view table.now)) }
     {
         if !right {
-            self.push(alloc, key, found_at(table, key), Wanted::Words(wanted))?;
+            self.push(alloc, key, found_at(table, key), Expected::Words(expected))?;
         }
         Ok(())
     }
 
     #[tactic(auto, unfolding(crate::specs::ModelFile::item_wrong))]
-    /// Where `right` does not hold of the item at a place of a list, that is one finding more,
-    /// whose key has the place too: `gates[3]`.
+    /// Adds a finding for the item at an index of a list unless `right`. Its key contains the
+    /// index: `gates[3]`.
     pub fn item_at(
         &mut self,
         alloc: Global,
         key: &str,
         place: usize,
         found: Found,
-        wanted: &'static str,
+        expected: &'static str,
         right: bool,
     ) -> Result<(), AllocError>
         ensures { OnOk result (self.new
-            ≡ self.old ++ item_wrong right key.now place found wanted.now) }
+            ≡ self.old ++ item_wrong right key.now place found expected.now) }
     {
         if !right {
             let place = format!(in alloc; "{key}[{place}]")?;
-            self.push(alloc, place.as_str(), found, Wanted::Words(wanted))?;
+            self.push(alloc, place.as_str(), found, Expected::Words(expected))?;
         }
         Ok(())
     }
 
-    /// Each key of the table that is none of these is one finding more.
+    /// Adds a finding for each key of the table that is none of these.
     pub fn others(&mut self, alloc: Global, table: &Table, keys: &[&str]) -> Result<(), AllocError>
         ensures { OnOk result (self.new
             ≡ self.old ++ unknown_wrong (map (λ k. k.now) keys.now) (table_view table.now)) }
@@ -179,7 +178,7 @@ impl Findings {
         Ok(())
     }
 
-    /// A key that is none of these is one finding more.
+    /// Adds a finding for a key if it is none of these.
     fn other(
         &mut self,
         alloc: Global,
@@ -191,33 +190,37 @@ impl Findings {
             ++ unless (is_among key.now (map (λ k. k.now) keys.now)) (record {
               key = key.now;
               found = found_of (Some (view value.now));
-              wanted = nothing;
+              expected = nothing;
             })) }
     {
         if !is_among(key, keys) {
-            self.push(alloc, key, found_in(value), Wanted::Nothing)?;
+            self.push(alloc, key, found_in(value), Expected::Nothing)?;
         }
         Ok(())
     }
 
-    /// One finding more.
+    /// Adds a finding.
     fn push(
         &mut self,
         alloc: Global,
         key: &str,
         found: Found,
-        wanted: Wanted,
+        expected: Expected,
     ) -> Result<(), AllocError>
         ensures { OnOk result (self.new ≡ self.old
-            ++ record { key = key.now; found = found; wanted = want_of wanted } ∷ []) }
+            ++ record { key = key.now; found = found; expected = expectation_of expected } ∷ []) }
     {
         let key = String::from_str(alloc, key)?;
-        self.items.push(Finding { key, found, wanted })?;
+        self.items.push(Finding {
+            key,
+            found,
+            expected,
+        })?;
         Ok(())
     }
 }
 
-/// What there is at a key.
+/// Returns the kind of value that a table has at a key.
 fn found_at(table: &Table, key: &str) -> Found
     ensures { result ≡ found_of (get_member key.now (table_view table.now)) }
 {
@@ -227,7 +230,7 @@ fn found_at(table: &Table, key: &str) -> Found
     }
 }
 
-/// What a value is.
+/// Returns the kind of a value.
 pub fn found_in(value: &Value) -> Found
     ensures { result ≡ found_of (Some (view value.now)) }
 {
@@ -242,7 +245,7 @@ pub fn found_in(value: &Value) -> Found
     }
 }
 
-/// Whether a key is one of these.
+/// Returns whether a key is one of these.
 pub(crate) fn is_among(key: &str, keys: &[&str]) -> bool
     ensures { result ≡ is_among key.now (map (λ k. k.now) keys.now) }
 {
@@ -258,13 +261,13 @@ impl fmt::Display for Finding {
     fn fmt<W: fmt::Write>(&self, f: &mut fmt::Formatter<W>) -> fmt::Result {
         let key = self.key.as_str();
         let found = self.found;
-        let wanted = self.wanted;
-        match (found, wanted) {
-            (_, Wanted::Nothing) => write!(f, "{key:?}: the model has no such key"),
-            (Found::Number(_), Wanted::Number { least, most }) => {
+        let expected = self.expected;
+        match (found, expected) {
+            (_, Expected::Nothing) => write!(f, "{key:?}: the model has no such key"),
+            (Found::Number(_), Expected::Number { least, most }) => {
                 write!(f, "{key}: {found} is not within {least} to {most}")
             }
-            _ => write!(f, "{key}: {found}; wanted is {wanted}"),
+            _ => write!(f, "{key}: {found}; expected {expected}"),
         }
     }
 }
@@ -284,12 +287,12 @@ impl fmt::Display for Found {
     }
 }
 
-impl fmt::Display for Wanted {
+impl fmt::Display for Expected {
     fn fmt<W: fmt::Write>(&self, f: &mut fmt::Formatter<W>) -> fmt::Result {
         match self {
-            Wanted::Number { least, most } => write!(f, "a whole number from {least} to {most}"),
-            Wanted::Words(words) => f.write_str(words),
-            Wanted::Nothing => f.write_str("nothing"),
+            Expected::Number { least, most } => write!(f, "a whole number from {least} to {most}"),
+            Expected::Words(words) => f.write_str(words),
+            Expected::Nothing => f.write_str("nothing"),
         }
     }
 }

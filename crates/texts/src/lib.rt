@@ -8,7 +8,7 @@ mod model_file;
 mod text;
 
 pub use any_model::ANY_MODEL_KEYS;
-pub use findings::{Finding, Findings, Found, Wanted, found_in};
+pub use findings::{Expected, Finding, Findings, Found, found_in};
 pub use mistakes::{Mistakes, find_mistakes};
 pub use model_file::{Described, Mistake, ModelFault, number_at, only, read_model, string_at};
 pub use text::{write_log, write_message, write_number, write_text, write_world};

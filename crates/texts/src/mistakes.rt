@@ -1,35 +1,36 @@
-// All that is wrong with a text that is no model file.
+// All mistakes of a text that is not a model file.
 
 ghost use Rattle.std.specs.Prelude.{◌≡◌, ◌≤◌, ◌==◌, ℕ, List, [], IfOk, IsUtf8, count_by, length};
 ghost use Rattle.texts.specs.Mistakes.{line_at, AreMistakes, IsLineOf};
 ghost use Rattle.texts.specs.ModelFile.{IsModelFile};
 ghost use Rattle.toml.specs.Errors.{IsWithin};
 
-use crate::findings::{Findings, Found, Wanted};
+use crate::findings::{Expected, Findings, Found};
 use crate::model_file::Described;
 use std::alloc::{AllocError, Global};
 use std::fmt;
 use toml::de::Error;
 
-/// All that is wrong with a text as a model file. Its text has a line for each mistake, which
-/// begins with two blanks; but none for a first number that is out of its range, of which the text
-/// of the `Mistake` that `read_model` tells says the same.
+/// All mistakes of a text as a model file.
+///
+/// Its text has a line for each mistake, indented by two blanks. If the first mistake is a number
+/// outside its range, that one has no line: the text of the `Mistake` from `read_model` has it.
 #[derive(Debug, Drop)]
 pub enum Mistakes {
-    /// The text is no TOML.
+    /// The text is not TOML.
     Toml {
-        /// The line on which that is seen, from 1.
+        /// The line of the error, counted from 1.
         line: usize,
-        /// Why, in words.
+        /// The reason, in words.
         why: String,
     },
-    /// What is wrong with its table: nothing where the text is a model file.
+    /// The mistakes in its table. There are none if the text is a model file.
     Keys(Findings),
 }
 
-/// Looks for all that is wrong with a text as a model file.
+/// Finds all mistakes of a text as a model file. `AllocError` comes if an allocation failed.
 pub fn find_mistakes<M: Described>(alloc: Global, text: &[u8]) -> Result<Mistakes, AllocError>
-    ensures told { IfOk result (AreMistakes M.wrong text.now) }
+    ensures reported { IfOk result (AreMistakes M.wrong text.now) }
     ensures none { IfOk result (λ found. found ≡ Mistakes.Keys [] →
         (model : M) × (end : ℕ) × IsModelFile M.says text.now model end) }
     ensures some { IfOk result (λ found. (model : M) (end : ℕ) → IsUtf8 text.now →
@@ -46,7 +47,7 @@ pub fn find_mistakes<M: Described>(alloc: Global, text: &[u8]) -> Result<Mistake
     }
 }
 
-/// The line, from 1, on which an error begins.
+/// Returns the line, counted from 1, on which an error begins.
 fn line_of(text: &[u8], error: &Error) -> usize
     requires { IsWithin text.now error.now }
     ensures { IsLineOf text.now result }
@@ -57,7 +58,7 @@ fn line_of(text: &[u8], error: &Error) -> usize
     }
 }
 
-/// The line of a place, from 1.
+/// Returns the line, counted from 1, of a place in bytes.
 fn line_at(text: &[u8], place: usize) -> usize
     requires { place ≤ length text.now }
     ensures { result ≡ line_at text.now place }
@@ -65,7 +66,7 @@ fn line_at(text: &[u8], place: usize) -> usize
     line_feeds(text.split_at(place).0).saturating_add(1)
 }
 
-/// How many line feeds there are.
+/// Returns the number of line feeds.
 fn line_feeds(text: &[u8]) -> usize
     ensures { result ≡ count_by (λ byte. byte == 10) text.now }
 {
@@ -81,11 +82,11 @@ impl fmt::Display for Mistakes {
             }
             Mistakes::Keys(found) => {
                 for (place, finding) in found.as_slice().iter().enumerate() {
-                    let is_told = matches!(
-                        (finding.found, finding.wanted),
-                        (Found::Number(_), Wanted::Number { .. })
+                    let is_reported = matches!(
+                        (finding.found, finding.expected),
+                        (Found::Number(_), Expected::Number { .. })
                     );
-                    if place > 0 || !is_told {
+                    if place > 0 || !is_reported {
                         writeln!(f, "  {finding}")?;
                     }
                 }

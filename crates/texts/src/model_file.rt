@@ -13,35 +13,36 @@ use std::alloc::{AllocError, Global};
 use thiserror::Error;
 use toml::Table;
 
-/// Why a text gives no model.
+/// The reason why a text gives no model.
 #[derive(Clone, Copy, Debug, PartialEq, Eq, Error)]
 pub enum ModelFault {
-    /// The text is no model file.
+    /// The text is not a model file.
     #[error("BadModel")]
     BadModel(Mistake),
-    /// Memory ran out.
+    /// An allocation failed.
     #[error("NoMemory")]
     NoMemory,
 }
 
-/// What is wrong with a text that is no model file. Its text says so in plain words, with the key.
+/// The mistake of a text that is not a model file. Its text describes it in plain words, with the
+/// key.
 #[derive(Clone, Copy, Debug, PartialEq, Eq, Error)]
 pub enum Mistake {
-    /// The text is no TOML.
+    /// The text is not TOML.
     #[error("not TOML")]
     Toml,
-    /// The value at a key is not what it has to be, or is missing.
-    #[error("{key}: not {wanted}")]
+    /// The value at a key is not what it must be, or is missing.
+    #[error("{key}: not {expected}")]
     Not {
         /// The key.
         key: &'static str,
-        /// What it has to be.
-        wanted: &'static str,
+        /// What it must be.
+        expected: &'static str,
     },
     /// A key of the model is missing.
     #[error("{0}: missing")]
     Missing(&'static str),
-    /// The value at a key is no whole number.
+    /// The value at a key is not a whole number.
     #[error("{0}: not a whole number")]
     NoNumber(&'static str),
     /// The number at a key is too small or too great.
@@ -53,29 +54,29 @@ pub enum Mistake {
         found: i64,
         /// The least number that is allowed.
         least: u64,
-        /// The greatest.
+        /// The greatest number that is allowed.
         most: u64,
     },
-    /// There are keys that are none of the model's.
+    /// The table has a key that the model does not have.
     #[error("a key that the model does not have")]
     Unknown,
 }
 
-/// A model that a table of TOML can describe, so that a program reads it from a file.
+/// A model that a TOML table can describe, so that a program can read it from a file.
 pub trait Described: Simulated + Drop {
-    /// The table describes this model, and a run of it to this tick.
+    /// The table describes this model and a run of it to this tick.
     ghost says: { Members → Self → ℕ → Type 0 };
 
     /// What `check` prints of the model and the end, after its line `ok`.
     ghost shows: { Self → ℕ → List ℕ };
 
-    /// What is wrong with a table: nothing where it describes a model.
+    /// The mistakes in a table. There are none if it describes a model.
     ghost wrong: { Members → List Wrong };
 
-    /// The model that a table describes, and the tick at which its run ends, 1 to 2^40.
+    /// Returns the model that a table describes, and the tick at which its run ends, 1 to 2^40.
     ///
-    /// Refused are `BadModel`, with the first mistake that was met, where the table describes none,
-    /// and `NoMemory` where memory runs out.
+    /// `BadModel` comes if the table describes none, with the first mistake, and `NoMemory` if an
+    /// allocation failed.
     fn describe(alloc: Global, table: &Table) -> Result<(Self, u64), ModelFault>
         ensures ok { IfOk result (λ file. says (table_view table.now) file.0 file.1) }
         ensures bad { (mistake : Mistake) → result ≡ Err (ModelFault.BadModel mistake) →
@@ -83,25 +84,27 @@ pub trait Described: Simulated + Drop {
         ensures some { IfOk result (λ file. 1 ≤ file.1) }
         ensures end { IfOk result (λ file. file.1 ≤ 2 ^ 40) };
 
-    /// All that is wrong with a table, and not only the first mistake: in the order in which
-    /// `describe` looks for it, and last the keys that the model does not have. A table that
-    /// describes a model has no finding, each other has one.
+    /// Finds all mistakes in a table, in the order in which `describe` checks it; the keys that the
+    /// model does not have come last. A table has no finding exactly if it describes a model.
+    /// `AllocError` comes if an allocation failed.
     fn mistakes(alloc: Global, table: &Table) -> Result<Findings, AllocError>
-        ensures told { IfOk result (λ found. found ≡ wrong (table_view table.now)) }
+        ensures reported { IfOk result (λ found. found ≡ wrong (table_view table.now)) }
         ensures none { IfOk result (λ found. found ≡ [] →
             (model : Self) × (end : ℕ) × says (table_view table.now) model end) }
         ensures some { IfOk result (λ found. (model : Self) (end : ℕ) →
             says (table_view table.now) model end → found ≡ []) };
 
-    /// A line `key: value` for each value that tells this model from others, and for the end.
+    /// Returns a line `key: value` for each value that distinguishes this model from others, and
+    /// for the end.
     fn values(&self, alloc: Global, end: u64) -> Result<String, AllocError>
         ensures { IfOk result (λ text. string_bytes text ≡ shows self.now end) };
 }
 
-/// The model that a model file describes, and the virtual time, in ticks, at which its run ends.
+/// Returns the model that a model file describes, and the virtual time, in ticks, at which its run
+/// ends.
 ///
-/// A model file is TOML, and its table describes a model. Any other text is refused by `BadModel`,
-/// which tells the first mistake that was met, and `NoMemory` comes where memory runs out.
+/// A model file is TOML whose table describes a model. For any other text `BadModel` comes with the
+/// first mistake, and `NoMemory` comes if an allocation failed.
 pub fn read_model<M: Described>(alloc: Global, text: &str) -> Result<(M, u64), ModelFault>
     ensures ok { IfOk result (λ file. IsModelFile M.says text.now file.0 file.1) }
     ensures bad { (mistake : Mistake) → result ≡ Err (ModelFault.BadModel mistake) →
@@ -117,9 +120,7 @@ pub fn read_model<M: Described>(alloc: Global, text: &str) -> Result<(M, u64), M
     M::describe(alloc, &table)
 }
 
-/// The string at a key.
-///
-/// `None` where the key is missing, or has another value.
+/// Returns the string at a key. `None` if the key is missing or has another kind of value.
 pub fn string_at<'a>(table: &'a Table, key: &str) -> Option<&'a str>
     ensures { option_map (λ s. s.now) result
         ≡ option_and_then as_str (get_member key.now (table_view table.now)) }
@@ -130,7 +131,7 @@ pub fn string_at<'a>(table: &'a Table, key: &str) -> Option<&'a str>
     }
 }
 
-/// The whole number at a key.
+/// Returns the whole number at a key, if there is one.
 fn integer_at(table: &Table, key: &str) -> Option<i64>
     ensures { result ≡ option_and_then as_integer (get_member key.now (table_view table.now)) }
 {
@@ -140,9 +141,8 @@ fn integer_at(table: &Table, key: &str) -> Option<i64>
     }
 }
 
-/// The whole number at a key, from `least` to `most`.
-///
-/// Else the mistake tells whether the key is missing, or what is wrong with its value.
+/// Returns the whole number from `least` to `most` at a key. Otherwise the mistake says that the
+/// key is missing, or what is wrong with its value.
 pub fn number_at(table: &Table, key: &'static str, least: u64, most: u64) -> Result<u64, Mistake>
     ensures ok { IfOk result (λ n.
         number_at key.now least most (table_view table.now) ≡ Some n) }
@@ -164,7 +164,7 @@ pub fn number_at(table: &Table, key: &'static str, least: u64, most: u64) -> Res
     }
 }
 
-/// The whole number at a key, if there is one from `least` to `most`.
+/// Returns the whole number from `least` to `most` at a key, if there is one.
 pub(crate) fn number_within(table: &Table, key: &str, least: u64, most: u64) -> Option<u64>
     ensures value { result ≡ number_at key.now least most (table_view table.now) }
     ensures within { IfSome result (λ n. (least ≤ n) × (n ≤ most)) }
@@ -175,7 +175,7 @@ pub(crate) fn number_within(table: &Table, key: &str, least: u64, most: u64) -> 
     }
 }
 
-/// Why there is no number at a key.
+/// Returns the mistake for a key without a whole number.
 fn without_number(table: &Table, key: &'static str) -> Mistake {
     match table.get(key) {
         Some(_) => Mistake::NoNumber(key),
@@ -183,7 +183,7 @@ fn without_number(table: &Table, key: &'static str) -> Mistake {
     }
 }
 
-/// Answers nothing, where a table has no keys but these.
+/// Checks that a table has no keys but these. Otherwise the mistake is `Unknown`.
 pub fn only(table: &Table, keys: &[&str]) -> Result<(), Mistake>
     ensures ok { OnOk result
         (unknown_wrong (map (λ k. k.now) keys.now) (table_view table.now) ≡ []) }
@@ -198,7 +198,7 @@ pub fn only(table: &Table, keys: &[&str]) -> Result<(), Mistake>
     Ok(())
 }
 
-/// The number, if it is one from `least` to `most`.
+/// Returns the number if it is from `least` to `most`.
 fn in_range(number: i64, least: u64, most: u64) -> Option<u64>
     ensures value { result ≡ in_range least most number }
     ensures within { IfSome result (λ n. (least ≤ n) × (n ≤ most)) }

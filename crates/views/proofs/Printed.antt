@@ -1,4 +1,4 @@
--- What the commands print, in one form.
+-- What the commands print, in a common form.
 use Rattle.std.specs.Prelude.{◌≡◌, ◌⊎◌, ◌≢◌, ◌≤◌, ℕ, List, Option, Result, Ok, Err, OnOk, OnErr}
 use Rattle.std.proofs.Common.{refl, inl, inr, subst}
 use Rattle.commitlog.specs.Records.{Holds}
@@ -8,7 +8,7 @@ use Rattle.model.specs.World.{IsUpto, World}
 use Rattle.model.specs.Meaning.{Meaning}
 use Rattle.recovery.specs.Ends.{HoldsLog, IsOurs}
 use Rattle.recovery.specs.Replay.{IsReplayedTo}
-use Rattle.recovery.specs.Stands.{IsGenuine, Stands}
+use Rattle.recovery.specs.Represents.{IsGenuine, Represents}
 use Rattle.texts.specs.ModelFile.{IsModelFile}
 use Rattle.views.specs.Views.{Begins, Describes, IsCommitted, IsWholeSimulation, Prints, PrintsBeginning, PrintsRun, run_text}
 use Rattle.views.specs.declared.fault.ViewFault.{ViewFault}
@@ -19,7 +19,7 @@ on_err (Ok x) f h = tt
 on_err (Err e) f h = f h
 
 module _ {T A B : Type 0} where
-  -- a refusal is the writer's, or another
+  -- a fault is `Output`, or another one
   pub on_fault : (r : Result T ViewFault) → (r ≡ Err fault.Output → B) → ((f : ViewFault) → r ≡ Err f → f ≢ fault.Output → A) → OnErr r (A ⊎ B)
   on_fault (Ok x) h k = tt
   on_fault (Err fault.Output) h k = inr (h refl)
@@ -33,7 +33,7 @@ module _ {T A B : Type 0} where
   on_fault (Err (fault.Mistake f)) h k = inl (k (fault.Mistake f) refl (λ e. cc))
   on_fault (Err fault.NoMemory) h k = inl (k fault.NoMemory refl (λ e. cc))
 
--- what is written of a text of this kind
+-- what is written of a text with this property
 module _ (P : List ℕ → Type 0) (text : List ℕ) (is : P text) {T E : Type 0} {old new : Option (List ℕ)} where
   pub prints_written : (r : Result T E) → Writes old new r text → OnOk r (Prints P old new)
   prints_written (Ok x) h = (text, is, h.all)
@@ -45,7 +45,7 @@ module _ (P : List ℕ → Type 0) (text : List ℕ) (is : P text) {T E : Type 0
 
 -- what is written of a world to which an image is replayed
 module _ {M : Type 0} (meaning : M → Meaning) (says : Describes M) (source : List ℕ) (model : M) (end : ℕ) (file : IsModelFile says source model end) (image : List (List ℕ)) (shown : World → List ℕ) (w : World)
-    (replayed : IsReplayedTo (meaning model) end image w) (stands : IsGenuine (meaning model) end image → Stands (meaning model) end image w) (upto : IsGenuine (meaning model) end image → IsUpto (meaning model) end w.time w) (within : w.time ≤ end) where
+    (replayed : IsReplayedTo (meaning model) end image w) (represents : IsGenuine (meaning model) end image → Represents (meaning model) end image w) (upto : IsGenuine (meaning model) end image → IsUpto (meaning model) end w.time w) (within : w.time ≤ end) where
   pub committed_is : IsCommitted meaning says shown (shown w)
   committed_is = record {
     source = source;
@@ -55,7 +55,7 @@ module _ {M : Type 0} (meaning : M → Meaning) (says : Describes M) (source : L
     world = w;
     file = file;
     replayed = replayed;
-    stands = stands;
+    represents = represents;
     upto = upto;
     within = within;
     is = refl;
@@ -68,6 +68,6 @@ module _ {M : Type 0} (meaning : M → Meaning) (says : Describes M) {old new : 
   pub whole_begun : (source : List ℕ) → PrintsBeginning meaning says source old new → Begins (IsWholeSimulation meaning says) old new
   whole_begun source p = (run_text p.world, record { source = source; model = p.model; end = p.end; world = p.world; file = p.file; upto = p.upto; is = refl }, p.part)
 
--- what is in force in a log is so on an image that holds it
+-- an end in force in a log is in force on an image that holds the log
 abbrev pub log_on : (m : Meaning) (end : ℕ) (header : List ℕ) (records : List Entry) (image : List (List ℕ)) → IsOurs m end header records → Holds header records image → HoldsLog m end records image
 log_on m end header records image ours held = record { first = ours.first; possible = ours.possible; holds = subst (λ (h : List ℕ). Holds h records image) ours.is held; behind = ours.behind }

@@ -17,7 +17,7 @@ use Rattle.model.specs.World.{IsUpto, World, opening}
 pub opening_states : (m : Meaning) (end : ℕ) (s : Simulation) → IsLawful m → s ≡ record { end = end; world = opening m } → length s.world.states ≡ m.lps
 opening_states m end s law e = subst (λ s. length s.world.states ≡ m.lps) (sym e) (opening_IsWorld m law).states
 
--- what is run from the opening world to the end is the sequential simulation up to the end
+-- a run from the opening world to the end is the sequential simulation up to the end
 pub upto_end : (m : Meaning) (end : ℕ) (s : Simulation) (new : World) → s ≡ record { end = end; world = opening m }
     → (IsUpto m s.end s.world.time s.world → IsUpto m s.end (max s.world.time (min end s.end)) new) → IsUpto m end 0 s.world → IsUpto m end end new
 upto_end m end s new e run start =
@@ -35,7 +35,7 @@ pub on_ok : {T E A B : Type 0} (r : Result T E) → (A → B) → OnOk r A → O
 on_ok (Ok x) f h = f h
 on_ok (Err e) f h = tt
 
--- the crate's own name for a refusal tells which refusal it was
+-- this crate's fault determines the fault that it was made from
 pub bad_model : {T : Type 0} (r : Result T ViewFault) (f : ModelFault) → IsErrAnd r (λ e. e ≡ of_model f) → r ≡ Err fault.BadModel
     → (m : Mistake) × (f ≡ file.BadModel m)
 bad_model r (file.BadModel m) h k = (m, refl)

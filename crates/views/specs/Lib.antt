@@ -1,2 +1,2 @@
 -- For callers
-pub mod Views  -- what the commands that look print
+pub mod Views  -- what the read-only commands print

@@ -1,4 +1,4 @@
--- What the commands that look print (this project's profile).
+-- What the read-only commands print (this project's profile).
 use Rattle.std.specs.Io.KnownBytes.{Appends}
 use Rattle.std.specs.Prelude.{◌≡◌, ◌≤◌, ◌^◌, ◌+◌, ◌-◌, ◌&&◌, ℕ, Bool, true, false, List}
 use Rattle.std.specs.Prelude.{◌++◌, None, Option, Some, codes, filter, if◌then◌else◌}
@@ -28,7 +28,7 @@ use Rattle.pictures.specs.declared.turns.NotRead.{NotRead}
 use Rattle.pictures.specs.declared.turns.NotRead.TheVariants as reading
 use Rattle.pictures.specs.declared.turns.Row.{Row}
 use Rattle.recovery.specs.Replay.{IsReplayedTo}
-use Rattle.recovery.specs.Stands.{IsGenuine, Stands}
+use Rattle.recovery.specs.Represents.{IsGenuine, Represents}
 use Rattle.texts.specs.ModelFile.{IsModelFile}
 use Rattle.texts.specs.Text.{log_text, world_text}
 use Rattle.texts.specs.declared.model_file.ModelFault.{ModelFault}
@@ -38,7 +38,7 @@ use Rattle.views.specs.declared.fault.ViewFault.{ViewFault}
 use Rattle.views.specs.declared.fault.ViewFault.TheVariants.{BadModel, BadTrace, NoMemory}
 use Rattle.views.specs.declared.fault.ViewFault.TheVariants as fault
 
--- of which kind of model: how a table describes one, and what `check` prints of one
+-- For a kind of model: how a table describes a model, and what `check` prints of one.
 
 abbrev pub Describes : Type 0 → Type 1
 Describes M = Members → M → ℕ → Type 0
@@ -52,41 +52,41 @@ Shows M = M → ℕ → List ℕ
 abbrev pub Prints : (List ℕ → Type 0) → Option (List ℕ) → Option (List ℕ) → Type 0
 Prints is old new = (text : List ℕ) × is text × Appends old new text
 
--- it has taken a beginning of one
+-- the writer has taken a beginning of one of these texts
 abbrev pub Begins : (List ℕ → Type 0) → Option (List ℕ) → Option (List ℕ) → Type 0
 Begins is old new = (text : List ℕ) × is text × TakesBeginning old new text
 
 -- ---- faults
 
--- this crate's own name for a refusal of a model file
+-- this crate's fault for a fault of a model file
 abbrev pub of_model : ModelFault → ViewFault
 of_model (file.BadModel mistake) = BadModel
 of_model file.NoMemory = NoMemory
 
--- for a refusal of a trace
+-- for a fault of a trace
 abbrev pub of_trace : NotRead → ViewFault
 of_trace reading.BadTrace = BadTrace
 of_trace reading.NoMemory = NoMemory
 
--- for a refusal to tell of a disk's run
+-- for a fault of the inspection of a disk
 abbrev pub of_inspection : InspectionFault → ViewFault
 of_inspection (inspecting.Log f) = fault.Log f
 of_inspection (inspecting.Recovery f) = fault.Recovery f
 of_inspection (inspecting.Record number f) = fault.Record number f
 
--- for a refusal of a disk's file
+-- for a fault of a disk's file
 abbrev pub of_file : FileFault → ViewFault
 of_file opening.File = fault.File
 of_file opening.NoMemory = NoMemory
 
--- ---- what the commands print, each of some model file and some disk
+-- ---- what the commands print, for some model file and some disk
 
 -- the log, then the world
 abbrev pub run_text : World → List ℕ
 run_text w = log_text w.log ++ world_text w
 
--- the writer has taken the run of a model: its sequential simulation up to its end, and nothing
--- else
+-- The writer has taken the run of a model, its sequential simulation up to its end, and nothing
+-- else.
 pub record PrintsRun {M : Type 0} (meaning : M → Meaning) (says : Describes M)
     (text : List ℕ) (old new : Option (List ℕ)) : Type 0 where
   pub model : M
@@ -96,7 +96,7 @@ pub record PrintsRun {M : Type 0} (meaning : M → Meaning) (says : Describes M)
   pub upto : IsUpto (meaning model) end end world
   pub printed : Appends old new (run_text world)
 
--- the writer has taken a beginning of that
+-- the writer has taken a beginning of the run of a model
 pub record PrintsBeginning {M : Type 0} (meaning : M → Meaning) (says : Describes M)
     (text : List ℕ) (old new : Option (List ℕ)) : Type 0 where
   pub model : M
@@ -106,8 +106,8 @@ pub record PrintsBeginning {M : Type 0} (meaning : M → Meaning) (says : Descri
   pub upto : IsUpto (meaning model) end end world
   pub part : TakesBeginning old new (run_text world)
 
--- The text of the world to which the image of a disk is replayed. Where the image is genuine it
--- stands for that world, the sequential simulation up to its time.
+-- The text of the world to which the image of a disk is replayed. A genuine image represents that
+-- world, which is the sequential simulation up to its time.
 pub record IsCommitted {M : Type 0} (meaning : M → Meaning) (says : Describes M)
     (shown : World → List ℕ) (text : List ℕ) : Type 0 where
   pub source : List ℕ
@@ -117,17 +117,17 @@ pub record IsCommitted {M : Type 0} (meaning : M → Meaning) (says : Describes 
   pub world : World
   pub file : IsModelFile says source model end
   pub replayed : IsReplayedTo (meaning model) end image world
-  pub stands : IsGenuine (meaning model) end image → Stands (meaning model) end image world
+  pub represents : IsGenuine (meaning model) end image → Represents (meaning model) end image world
   pub upto : IsGenuine (meaning model) end image → IsUpto (meaning model) end world.time world
   pub within : world.time ≤ end
   pub is : text ≡ shown world
 
--- which events are asked for, from a time on, before a time, and of a process
+-- which events are asked for: from a time on, before a time, and of one process
 abbrev pub choice_of : Option ℕ → Option ℕ → Option ℕ → Choice
 choice_of from to process =
     record { from = unwrap_or from 0; to = unwrap_or to (2 ^ 64 - 1); process = process }
 
--- these events of a log; all of them where nothing is said
+-- those events of a log; all of them if no option is given
 abbrev pub log_part : Option ℕ → Option ℕ → Option ℕ → List Message → List Message
 log_part from to process log = if is_none from && (is_none to && is_none process) then log
     else filter (is_chosen (choice_of from to process)) log
@@ -137,20 +137,20 @@ abbrev pub IsLogged : {M : Type 0} → (M → Meaning) → Describes M → Optio
 IsLogged meaning says from to process =
     IsCommitted meaning says (λ w. log_text (log_part from to process w.log))
 
--- what a disk tells of the run on it
+-- the text of the inspection of a disk
 pub record IsStatus {M : Type 0} (meaning : M → Meaning) (says : Describes M)
     (text : List ℕ) : Type 0 where
   pub source : List ℕ
   pub model : M
   pub end : ℕ
   pub image : List (List ℕ)
-  pub told : Inspection
+  pub found_there : Inspection
   pub file : IsModelFile says source model end
-  pub inspected : IsInspected (meaning model) end image told
-  pub is : text ≡ inspection_text told
+  pub inspected : IsInspected (meaning model) end image found_there
+  pub is : text ≡ inspection_text found_there
 
--- up to which time a run is looked at: its end, or that of a world to which the image of a disk is
--- replayed
+-- The time up to which a run is considered: its end, or the time of a world to which the image of a
+-- disk is replayed.
 abbrev pub IsLookedTo : Meaning → ℕ → {S : Type 0} → Option S → ℕ → Type 0
 IsLookedTo m end None to = to ≡ end
 IsLookedTo m end (Some disk) to =
@@ -181,7 +181,8 @@ pub record IsStats {M S : Type 0} (meaning : M → Meaning) (says : Describes M)
   pub figures_are : AreFigures run figures
   pub is : text ≡ figures_text csv figures
 
--- what is asked for of a run; all of it where nothing is said, with the tick up to which it went
+-- The requested view. Without bounds it covers the whole run, including the tick up to which the
+-- run went.
 abbrev pub view_of : PastRun → Option ℕ → Option ℕ → Option (ℕ × ℕ) → View
 view_of run from to processes = record {
   from = unwrap_or from 0;
@@ -190,7 +191,7 @@ view_of run from to processes = record {
   last = (unwrap_or processes (0, 2 ^ 32 - 1)).1;
 }
 
--- its load by slices of time, or its space-time diagram
+-- the load by slices of time, or the space-time diagram
 abbrev pub picture_text : Bool → PastRun → View → List ℕ
 picture_text true run view = load_text run view
 picture_text false run view = drawing_text run view
@@ -202,7 +203,7 @@ pub record IsDrawn {M S : Type 0} (meaning : M → Meaning) (says : Describes M)
   pub traced : IsTraced meaning says disk run
   pub is : text ≡ picture_text load run (view_of run from to processes)
 
--- the picture of the course that some rows of a trace tell
+-- the picture of the course that some rows of a trace show
 abbrev pub IsCourse : List ℕ → Type 0
 IsCourse text = (rows : List Row) × (text ≡ course_text rows)
 
@@ -217,15 +218,15 @@ pub record IsWholeSimulation {M : Type 0} (meaning : M → Meaning) (says : Desc
   pub upto : IsUpto (meaning model) end end world
   pub is : text ≡ run_text world
 
--- that a file is a model file, and its values
+-- `ok`, then the values of a model file
 abbrev pub checked_text : List ℕ → List ℕ
 checked_text values = codes "ok\n" ++ values
 
--- the values of the model file that the source is
+-- the text for the model file that the source is
 abbrev pub IsChecked : {M : Type 0} → Describes M → Shows M → List ℕ → List ℕ → Type 0
 IsChecked {M} says shows source text = (model : M) × (end : ℕ) × IsModelFile says source model end
     × (text ≡ checked_text (shows model end))
 
--- of the text of some file
+-- the text for some file
 abbrev pub IsSomeChecked : {M : Type 0} → Describes M → Shows M → List ℕ → Type 0
 IsSomeChecked says shows text = (source : List ℕ) × IsChecked says shows source text

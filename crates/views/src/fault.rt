@@ -1,4 +1,4 @@
-// Why a command that looks failed.
+// Why a read-only command failed.
 
 ghost use Rattle.std.specs.IoError.{error_kind};
 ghost use Rattle.std.specs.Prelude.{◌≡◌, ◌≢◌};
@@ -18,40 +18,40 @@ use std::io::{Error as IoError, ErrorKind};
 use texts::{Mistake, ModelFault};
 use thiserror::Error;
 
-/// Why a command that looks failed. Its text is its name, and after a blank that of the fault that
-/// it carries.
+/// Why a read-only command failed. Printed as its name, followed by a space and the fault that it
+/// carries, if any.
 #[derive(Clone, Copy, Debug, PartialEq, Eq, Error)]
 pub enum ViewFault {
-    /// The text is no model file.
+    /// The text is not a model file.
     #[error("BadModel")]
     BadModel,
-    /// A file cannot be read, or is no disk of the size that is wanted.
+    /// A file cannot be read, or is not a disk of the requested size.
     #[error("File")]
     File,
     /// The plain runner refused.
     #[error("World {0}")]
     World(WorldFault),
-    /// The log of a disk is not opened.
+    /// The log of a disk was not opened.
     #[error("Log {0}")]
     Log(LogFault),
-    /// No world is recovered of the log.
+    /// No world was recovered from the log.
     #[error("Recovery {0}")]
     Recovery(RecoveryFault),
-    /// What `status` finds to be wrong with a record of a disk.
+    /// `status` found a fault in a record of a disk.
     #[error("Record {number} {fault}")]
     Record {
-        /// How many records stand before it.
+        /// The number of records before it.
         number: u64,
         /// What is wrong with it.
         fault: RecoveryFault,
     },
-    /// The text is no trace of a run.
+    /// The text is not a trace of a run.
     #[error("BadTrace")]
     BadTrace,
-    /// What `check` finds to be wrong with a file that is no model file.
+    /// `check` found a mistake in a file that is not a model file.
     #[error("{0}")]
     Mistake(Mistake),
-    /// Memory ran out, but in no call that has a name of its own for it.
+    /// An allocation failed in a call without its own fault for it.
     #[error("NoMemory")]
     NoMemory,
     /// The writer refused a write.
@@ -81,7 +81,7 @@ impl From<ModelFault> for ViewFault {
     }
 }
 
-/// A writer's error. That of a file which is read is told by `unreadable`.
+/// An error of a writer. `unreadable` converts the errors of files that are read.
 impl From<IoError> for ViewFault {
     ghost from_gives = { λ _ e. e ≡ Output };
 
@@ -129,7 +129,7 @@ impl From<FileFault> for ViewFault {
     }
 }
 
-/// Where memory is refused for a text that is written.
+/// An allocation failure for a text to write.
 impl From<AllocError> for ViewFault {
     ghost from_gives = { λ _ e. e ≡ NoMemory };
 
@@ -138,7 +138,7 @@ impl From<AllocError> for ViewFault {
     }
 }
 
-/// Where memory is refused for what is gathered.
+/// An allocation failure while values are collected.
 impl<T: Drop> From<AllocFailed<T>> for ViewFault {
     ghost from_gives = { λ _ e. e ≡ NoMemory };
 
@@ -147,7 +147,8 @@ impl<T: Drop> From<AllocFailed<T>> for ViewFault {
     }
 }
 
-/// Why a file could not be read, or made.
+/// Returns why a file could not be read or made: `NoMemory` if an allocation failed, otherwise
+/// `File`.
 pub fn unreadable(error: IoError) -> ViewFault
     ensures memory { error_kind error ≡ ErrorKind.OutOfMemory → result ≡ ViewFault.NoMemory }
     ensures file { error_kind error ≢ ErrorKind.OutOfMemory → result ≡ ViewFault.File }

@@ -1,4 +1,4 @@
-// The commands on a model file alone: its run by the plain runner, and its check.
+// The commands on a model file alone: `seq` by the plain runner, and `check`.
 
 ghost use Rattle.std.specs.Prelude.{◌≡◌, ◌≤◌, ◌^◌, ◌≢◌, ◌⊎◌, ℕ, List, Err, length};
 ghost use Rattle.std.specs.Prelude.{IfOk, IsOkUnless, IsSomeAnd, MatchResult, OnErr, OnOk};
@@ -21,7 +21,7 @@ use texts::{
     write_world,
 };
 
-/// Runs the model of a file by the plain runner.
+/// Runs the model of a file by the plain runner, and writes the log and then the world.
 pub fn seq_of<M, R, O>(rt: &R, model: &str, out: &mut O) -> Result<(), ViewFault>
 where
     M: Described,
@@ -37,7 +37,7 @@ where
     seq::<M, O>(rt.alloc(), text, out)
 }
 
-/// Says whether a file is a model file. At a `Mistake` all of them are found.
+/// Checks whether a file is a model file. At a `Mistake`, `found` gets all mistakes of the file.
 pub fn check_of<M, R, O>(
     rt: &R,
     model: &str,
@@ -63,12 +63,11 @@ where
     }
 }
 
-/// Runs the model of a model file to its end by the plain runner, and writes the log and then the
-/// world.
+/// Runs the model of a text to its end by the plain runner, and writes the log and then the world.
 ///
-/// The faults come in this order: `BadModel` where the text is no model file, or `NoMemory` where
-/// memory runs out in reading it; `World` of the runner; `Output` where the writer refuses. Before
-/// the last nothing is written.
+/// Returns, in this order, `BadModel` if the text is not a model file, or `NoMemory` if an
+/// allocation fails while it is read; `World` if the runner refuses; `Output` if the writer
+/// refuses. At every fault but `Output` nothing is written.
 pub fn seq<M: Described, O: Write>(alloc: Global, text: &str, out: &mut O) -> Result<(), ViewFault>
     ensures ok { OnOk result
         (PrintsRun M.meaning M.says text.now (O.contents out.old) (O.contents out.new)) }
@@ -106,11 +105,12 @@ fn write_run<O: Write>(world: World, out: &mut O) -> Result<(), ViewFault>
     Ok(())
 }
 
-/// Says whether a text is a model file: writes `ok`, and what the model shows of its values.
+/// Checks whether a text is a model file, and if it is, writes `ok` and what the model shows of its
+/// values.
 ///
-/// The faults come in this order: `Mistake` where the text is no model file, or `NoMemory` where
-/// memory runs out; `Output` where the writer refuses. Before the last nothing is written. A
-/// `Mistake` is the first one that was met, and then all of them are found.
+/// Returns, in this order, `Mistake` if the text is not a model file, or `NoMemory` if an
+/// allocation fails; `Output` if the writer refuses. At every fault but `Output` nothing is
+/// written. A `Mistake` is the first one met; `found` then gets all of them.
 pub fn check<M: Described, O: Write>(
     alloc: Global,
     text: &str,
@@ -139,7 +139,7 @@ pub fn check<M: Described, O: Write>(
     }
 }
 
-/// Writes that a file is a model file, and its values, and flushes the writer.
+/// Writes `ok` and the values of a model file, and flushes the writer.
 fn write_whole<O: Write>(values: &str, out: &mut O) -> Result<(), ViewFault>
     ensures written { Writes (O.contents out.old) (O.contents out.new) result
         (checked_text values.now) }
@@ -150,7 +150,7 @@ fn write_whole<O: Write>(values: &str, out: &mut O) -> Result<(), ViewFault>
     Ok(())
 }
 
-/// Writes that a file is a model file, and its values.
+/// Writes `ok` and the values of a model file.
 fn write_checked<O: Write>(values: &str, out: &mut O) -> IoResult<()>
     ensures { Writes (O.contents out.old) (O.contents out.new) result (checked_text values.now) }
 {
@@ -158,10 +158,9 @@ fn write_checked<O: Write>(values: &str, out: &mut O) -> IoResult<()>
     write_text(values, out)
 }
 
-/// The model that a file describes, and its end; a command of a program's own begins with it.
+/// Reads the model and its end from a model file. A program's own command starts with this call.
 ///
-/// Refused are `File` where the file can't be read, `BadModel` where it is no model file, and
-/// `NoMemory`.
+/// Returns `File` if the file cannot be read, `BadModel` if it is not a model file, and `NoMemory`.
 pub fn read_model_file<M, R>(rt: &R, path: &str) -> Result<(M, u64), ViewFault>
 where
     M: Described,
@@ -175,7 +174,7 @@ where
     Ok(read_model(rt.alloc(), text)?)
 }
 
-/// The text of a model file; bytes that are no UTF-8 are no TOML.
+/// Returns the text of a model file. Bytes that are not UTF-8 are not TOML.
 fn text_of(bytes: &[u8]) -> Result<&str, Mistake>
     ensures { MatchResult result (λ text. (text.now ≡ bytes.now) × IsUtf8 bytes.now)
         (λ mistake. ¬ (IsUtf8 bytes.now) × (mistake ≡ Mistake.Toml)) }

@@ -1,6 +1,6 @@
-//! The commands that only look, over any files and writers: at a model file, at what is committed on
-//! a disk, at the figures and the picture of a run, at its trace. None of it needs a session, so
-//! that it is proved beside the crates that `program` waits for.
+//! The read-only commands, over any files and writers: on a model file, on what is committed on a
+//! disk, for the figures and the picture of a run, and on its trace. None of them needs a session,
+//! so this crate is proved beside the crates that `program` waits for.
 #![tactic(auto)]
 
 mod fault;

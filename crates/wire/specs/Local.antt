@@ -14,7 +14,7 @@ use Rattle.wire.specs.declared.port.PortFault.{PortFault}
 use Rattle.wire.specs.declared.port.PortFault.TheVariants.{Peer}
 use Rattle.wire.specs.declared.local.Held.TheVariants.{Ended, Fresh, Idle, Posted}
 
--- the model of a port, and its node
+-- a port's model, and what the port holds
 pub record Local (M : Type 0) : Type 0 where
   pub model : M
   pub held : Held
@@ -33,25 +33,26 @@ local_node Ended = nobody
 
 abbrev pub state_of : Meaning → Held → PortState
 state_of m held =
-    record { stage = stage_of held; tells = true; meaning = m; node = local_node held }
+    record { stage = stage_of held; faithful = true; meaning = m; node = local_node held }
 
--- the same of a port
+-- the same, with the meaning of the port's model
 abbrev pub state_by : {M : Type 0} → (M → Meaning) → Local M → PortState
 state_by meaning port = state_of (meaning port.model) port.held
 
--- why a load is refused: as the node refuses it, or where it does not, for want of memory
+-- why a load is refused: the node refuses it, or accepts it and an allocation fails
 abbrev pub IsLoadCause : ℕ → Load → PortFault → Type 0
 IsLoadCause lps load (Peer n) =
     (load_refusal lps load ≡ Some n) ⊎ ((load_refusal lps load ≡ None) × (n ≡ node.NoMemory))
 IsLoadCause lps load fault = ⊥
 
--- the same of a parcel
+-- why `take` fails: the node refuses the parcel or meets a limit, or accepts it and an allocation
+-- fails
 abbrev pub IsTakeCause : Meaning → Node → Parcel → PortFault → Type 0
 IsTakeCause m n parcel (Peer f) =
     ((answer m n parcel).result ≡ Err f) ⊎ ((refusal n parcel ≡ None) × (f ≡ node.NoMemory))
 IsTakeCause m n parcel fault = ⊥
 
--- its node is one of this model, and has handled what it does
+-- the node is of this model, is not spent, and its histories are what the model does
 abbrev pub IsOfModel : Meaning → Held → Type 0
 IsOfModel m (Idle node) = (node.spent ≡ false) × (node.lps ≡ m.lps) × HasHistories m node
 IsOfModel m (Posted node parcel) =

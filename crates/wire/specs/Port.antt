@@ -1,4 +1,4 @@
--- A port: the way to one node, and what can be said of it.
+-- A port, the way to one node, and its state as contracts see it.
 use Rattle.std.specs.List.{AllByRecursion as Every}
 use Rattle.std.specs.Prelude.{Bool, None, Some, [], false, ◌<◌, ◌≡◌, ◌≤◌, ◌⊎◌, ◌^◌, Ok, Err}
 use Rattle.model.specs.Meaning.{Meaning}
@@ -12,28 +12,28 @@ use Rattle.wire.specs.declared.port.PortFault.{PortFault}
 use Rattle.wire.specs.declared.port.PortFault.TheVariants.{Peer, Wire}
 use Rattle.wire.specs.declared.port.WireFault.TheVariants as wire
 
--- Where a port stands: nothing is loaded yet, it waits for a parcel, it was posted one, or a call
--- of it was refused.
+-- The stage of a port: nothing is loaded, it waits for a parcel, it was posted one, or a call was
+-- refused.
 pub data Stage : Type 0 where
   Fresh : Stage
   Idle : Stage
   Posted : Parcel → Stage
   Ended : Stage
 
--- What can be said of a port: where it stands, whether what it answers is what its node does, by
--- which model, and that node.
+-- The state of a port: its stage, whether it is faithful (`faithful`), the model of its node, and the
+-- node.
 pub record PortState : Type 0 where
   pub stage : Stage
-  pub tells : Bool
+  pub faithful : Bool
   pub meaning : Meaning
   pub node : Node
 
--- a call leaves whether it tells, and of which model
+-- a call changes neither whether a port is faithful nor its model
 pub record IsSamePort (old new : PortState) : Type 0 where
-  pub tells : new.tells ≡ old.tells
+  pub faithful : new.faithful ≡ old.faithful
   pub meaning : new.meaning ≡ old.meaning
 
--- what a node can be loaded with
+-- the numbers of a load are in range
 pub record IsLoadInRange (load : Load) : Type 0 where
   pub node : load.node < load.nodes
   pub nodes : load.nodes ≤ 64
@@ -42,31 +42,31 @@ pub record IsLoadInRange (load : Load) : Type 0 where
   pub floor : load.floor ≤ load.end
   pub parts : Every IsInRange load.parts
 
--- no fault of what is handed in: there was no memory, or the bytes were too many
-abbrev pub IsForWant : PortFault → Type 0
-IsForWant (Wire wire.NoMemory) = Unit {0}
-IsForWant (Wire wire.TooLong) = Unit {0}
-IsForWant (Peer node.NoMemory) = Unit {0}
-IsForWant fault = ⊥
+-- faults that say nothing of what was passed in: an allocation failed, or a body is too long
+abbrev pub IsResourceFault : PortFault → Type 0
+IsResourceFault (Wire wire.NoMemory) = Unit {0}
+IsResourceFault (Wire wire.TooLong) = Unit {0}
+IsResourceFault (Peer node.NoMemory) = Unit {0}
+IsResourceFault fault = ⊥
 
--- a load through a port that tells: it is what a node makes of it
+-- a load through a faithful port: the node accepts it, and is the one that `Node::load` makes
 pub record IsLoaded (load : Load) (old new : PortState) : Type 0 where
   pub taken : load_refusal old.meaning.lps load ≡ None
   pub node_is : new.node ≡ loaded_node old.meaning.lps load
 
 abbrev pub IsLoadFault : Load → PortState → PortFault → Type 0
-IsLoadFault load old fault = IsForWant fault
+IsLoadFault load old fault = IsResourceFault fault
     ⊎ ((f : NodeFault) × (fault ≡ Peer f) × (load_refusal old.meaning.lps load ≡ Some f))
 
--- a port that tells and was posted this parcel answers what its node does
+-- a faithful port that was posted this parcel returns its node's answer
 pub record IsTaken (parcel : Parcel) (old new : PortState) (reply : Reply) : Type 0 where
   pub result_is : (answer old.meaning old.node parcel).result ≡ Ok reply
   pub node_is : new.node ≡ (answer old.meaning old.node parcel).node
 
 abbrev pub IsTakeFault : Parcel → PortState → PortFault → Type 0
-IsTakeFault parcel old fault = IsForWant fault
+IsTakeFault parcel old fault = IsResourceFault fault
     ⊎ ((f : NodeFault) × (fault ≡ Peer f) × ((answer old.meaning old.node parcel).result ≡ Err f))
 
--- what is told of a port with no node
+-- the node of a port that has none
 abbrev pub nobody : Node
 nobody = record { node = 0; nodes = 0; lps = 0; end = 0; floor = 0; spent = false; processes = [] }

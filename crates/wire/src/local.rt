@@ -3,7 +3,7 @@
 ghost use Rattle.node.specs.declared.Parcel.{Parcel};
 ghost use Rattle.std.specs.Prelude.{◌≡◌, ◌≤◌, ◌^◌, true, IfErr, IfOk, IsOk, OnErr, OnOk};
 ghost use Rattle.wire.specs.Local.{IsLoadCause, IsTakeCause, state_by, state_of};
-ghost use Rattle.wire.specs.Port.{IsForWant, IsLoadFault, IsLoadInRange, IsLoaded, IsSamePort};
+ghost use Rattle.wire.specs.Port.{IsResourceFault, IsLoadFault, IsLoadInRange, IsLoaded, IsSamePort};
 ghost use Rattle.wire.specs.Port.{IsTakeFault, IsTaken};
 ghost use Rattle.wire.specs.Port.Stage.{Ended as AtEnd, Fresh as AtFirst};
 ghost use Rattle.wire.specs.Port.Stage.{Idle as AtRest, Posted as AtWork};
@@ -15,7 +15,7 @@ use node::{Load, Node, Parcel, Reply};
 use std::alloc::Global;
 use std::marker::Model;
 
-/// The node of a port, as far as there is one, and the parcel that it is to handle.
+/// The node of a port, once one is loaded, and the parcel that it has yet to handle.
 #[derive(Drop)]
 enum Held {
     Fresh,
@@ -31,7 +31,8 @@ pub struct LocalPort<'m, M: Simulated> {
     held: Held,
 }
 
-// Not derived: each caller that drops one would prove again how its parts are dropped.
+// Not derived, since each caller that drops a port would then prove again how its parts are
+// dropped.
 impl<M: Simulated> Drop for LocalPort<'_, M> {
     fn drop(self) {
         let LocalPort {
@@ -76,12 +77,12 @@ impl<'m, M: Simulated> Port for LocalPort<'m, M> {
         ensures idle { OnOk result ((state_by M.meaning self.new).stage ≡ AtRest) }
         ensures ended { OnErr result ((state_by M.meaning self.new).stage ≡ AtEnd) }
         ensures same { IsSamePort (state_by M.meaning self.old) (state_by M.meaning self.new) }
-        ensures ok { (state_by M.meaning self.old).tells ≡ true →
+        ensures ok { (state_by M.meaning self.old).faithful ≡ true →
             OnOk result (IsLoaded load (state_by M.meaning self.old) (state_by M.meaning self.new)) }
-        ensures err { (state_by M.meaning self.old).tells ≡ true →
+        ensures err { (state_by M.meaning self.old).faithful ≡ true →
             IfErr result (λ fault. IsLoadFault load (state_by M.meaning self.old) fault) }
 
-        // As the node refuses, or there was no memory, and for nothing else.
+        // The only causes: the node refuses the load, or an allocation failed.
         ensures cause { IfErr result (IsLoadCause (M.meaning self.old.model).lps load) }
     {
         match Node::load(self.alloc, self.model, load) {
@@ -102,10 +103,10 @@ impl<'m, M: Simulated> Port for LocalPort<'m, M> {
         ensures posted { OnOk result ((state_by M.meaning self.new).stage ≡ AtWork parcel) }
         ensures ended { OnErr result ((state_by M.meaning self.new).stage ≡ AtEnd) }
         ensures same { IsSamePort (state_by M.meaning self.old) (state_by M.meaning self.new) }
-        ensures ok { (state_by M.meaning self.old).tells ≡ true →
+        ensures ok { (state_by M.meaning self.old).faithful ≡ true →
             OnOk result ((state_by M.meaning self.new).node ≡ (state_by M.meaning self.old).node) }
-        ensures err { (state_by M.meaning self.old).tells ≡ true →
-            IfErr result (λ fault. IsForWant fault) }
+        ensures err { (state_by M.meaning self.old).faithful ≡ true →
+            IfErr result (λ fault. IsResourceFault fault) }
 
         // A parcel is never refused.
         ensures always { IsOk result }
@@ -125,14 +126,14 @@ impl<'m, M: Simulated> Port for LocalPort<'m, M> {
         ensures same { IsSamePort (state_by M.meaning self.old) (state_by M.meaning self.new) }
         ensures ok { (parcel : Parcel) →
             (state_by M.meaning self.old).stage ≡ AtWork parcel →
-            (state_by M.meaning self.old).tells ≡ true → IfOk result (λ reply.
+            (state_by M.meaning self.old).faithful ≡ true → IfOk result (λ reply.
             IsTaken parcel (state_by M.meaning self.old) (state_by M.meaning self.new) reply) }
         ensures err { (parcel : Parcel) →
             (state_by M.meaning self.old).stage ≡ AtWork parcel →
-            (state_by M.meaning self.old).tells ≡ true →
+            (state_by M.meaning self.old).faithful ≡ true →
             IfErr result (λ fault. IsTakeFault parcel (state_by M.meaning self.old) fault) }
 
-        // As the node refuses, or there was no memory, and for nothing else.
+        // The only causes: the node refuses the parcel or meets a limit, or an allocation failed.
         ensures cause { (parcel : Parcel) →
             (state_by M.meaning self.old).stage ≡ AtWork parcel → IfErr result
             (IsTakeCause (M.meaning self.old.model) (state_by M.meaning self.old).node parcel) }

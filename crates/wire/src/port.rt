@@ -2,7 +2,7 @@
 
 ghost use Rattle.std.specs.Prelude.{◌≡◌, ◌≤◌, ◌^◌, true, IfErr, IfOk, OnErr, OnOk};
 ghost use Rattle.node.specs.declared.Parcel.{Parcel};
-ghost use Rattle.wire.specs.Port.{IsLoadFault, IsLoadInRange, IsLoaded, IsForWant, IsSamePort};
+ghost use Rattle.wire.specs.Port.{IsLoadFault, IsLoadInRange, IsLoaded, IsResourceFault, IsSamePort};
 ghost use Rattle.wire.specs.Port.{IsTakeFault, IsTaken, PortState};
 ghost use Rattle.wire.specs.Port.Stage.{Ended, Fresh, Idle, Posted};
 
@@ -10,7 +10,7 @@ use node::{Load, NodeFault, Parcel, Reply};
 use std::alloc::{AllocError, AllocFailed};
 use thiserror::Error;
 
-/// Why bytes are no frame, or are not sent.
+/// Why bytes are not a frame, or why a frame is not sent.
 #[derive(Clone, Copy, Debug, PartialEq, Eq, Error)]
 pub enum WireFault {
     /// The input ended within a frame.
@@ -19,16 +19,16 @@ pub enum WireFault {
     /// A body has more than 2^24 bytes.
     #[error("TooLong")]
     TooLong,
-    /// The kind of a frame is none of the four, or not allowed at its place.
+    /// The kind is none of the four, or not allowed at this point of the stream.
     #[error("BadKind")]
     BadKind,
-    /// The body is not of its kind.
+    /// The body is not an encoding of its kind.
     #[error("BadBody")]
     BadBody,
     /// The reader or the writer failed.
     #[error("Io")]
     Io,
-    /// Memory was refused.
+    /// An allocation failed.
     #[error("NoMemory")]
     NoMemory,
 }
@@ -66,60 +66,59 @@ impl From<std::io::Error> for WireFault {
 /// Why a port refuses a call.
 #[derive(Clone, Copy, Debug, PartialEq, Eq, Error)]
 pub enum PortFault {
-    /// The bytes were refused.
+    /// A frame could not be read or written.
     #[error("Wire {0}")]
     Wire(WireFault),
-    /// The node refused.
+    /// The node returned this fault.
     #[error("Peer {0}")]
     Peer(NodeFault),
-    /// The way to the node has ended.
+    /// The connection to the node has ended.
     #[error("Closed")]
     Closed,
-    /// The reply names a process that is not there, or tells of another node's process.
+    /// The reply names a process that does not exist, or reports a record of another node's
+    /// process.
     #[error("BadReply")]
     BadReply,
 }
 
-/// The way to one node. It is loaded once and first, and then posted a parcel and asked for the
-/// reply, in turn.
+/// The way to one node. `load` comes first and once; then `post` and `take` alternate.
 pub trait Port {
-    /// Where it stands, whether what it answers is what its node does, by which model, and that
-    /// node.
+    /// Its stage, whether it is faithful (`faithful`), the model of its node, and the node.
     ghost state: { Self → PortState };
 
-    /// Makes the node of a load.
+    /// Makes the node from a load.
     fn load(&mut self, load: Load) -> Result<(), PortFault>
         requires fresh { (state self.old).stage ≡ Fresh }
         requires range { IsLoadInRange load }
         ensures idle { OnOk result ((state self.new).stage ≡ Idle) }
         ensures ended { OnErr result ((state self.new).stage ≡ Ended) }
         ensures same { IsSamePort (state self.old) (state self.new) }
-        ensures ok { (state self.old).tells ≡ true →
+        ensures ok { (state self.old).faithful ≡ true →
             OnOk result (IsLoaded load (state self.old) (state self.new)) }
-        ensures err { (state self.old).tells ≡ true →
+        ensures err { (state self.old).faithful ≡ true →
             IfErr result (λ fault. IsLoadFault load (state self.old) fault) };
 
-    /// Hands the node a parcel.
+    /// Posts the node a parcel.
     fn post(&mut self, parcel: Parcel) -> Result<(), PortFault>
         requires idle { (state self.old).stage ≡ Idle }
         requires range { parcel.floor ≤ 2 ^ 40 }
         ensures posted { OnOk result ((state self.new).stage ≡ Posted parcel) }
         ensures ended { OnErr result ((state self.new).stage ≡ Ended) }
         ensures same { IsSamePort (state self.old) (state self.new) }
-        ensures ok { (state self.old).tells ≡ true →
+        ensures ok { (state self.old).faithful ≡ true →
             OnOk result ((state self.new).node ≡ (state self.old).node) }
-        ensures err { (state self.old).tells ≡ true → IfErr result (λ fault. IsForWant fault) };
+        ensures err { (state self.old).faithful ≡ true → IfErr result (λ fault. IsResourceFault fault) };
 
-    /// Asks for the reply to the parcel. A port that tells answers what its node does with it.
+    /// Returns the reply to the parcel. A faithful port returns what its node computes.
     fn take(&mut self) -> Result<Reply, PortFault>
         requires posted { (parcel : Parcel) × ((state self.old).stage ≡ Posted parcel) }
         ensures idle { OnOk result ((state self.new).stage ≡ Idle) }
         ensures ended { OnErr result ((state self.new).stage ≡ Ended) }
         ensures same { IsSamePort (state self.old) (state self.new) }
         ensures ok { (parcel : Parcel) → (state self.old).stage ≡ Posted parcel →
-            (state self.old).tells ≡ true →
+            (state self.old).faithful ≡ true →
             IfOk result (λ reply. IsTaken parcel (state self.old) (state self.new) reply) }
         ensures err { (parcel : Parcel) → (state self.old).stage ≡ Posted parcel →
-            (state self.old).tells ≡ true →
+            (state self.old).faithful ≡ true →
             IfErr result (λ fault. IsTakeFault parcel (state self.old) fault) };
 }

@@ -1,4 +1,4 @@
-use Rattle.process.proofs.Laws.{histories_are_kept, histories_begin, telling_is_true}
+use Rattle.process.proofs.Laws.{histories_are_kept, histories_begin, reports_follow_model}
 use Rattle.process.proofs.law_of_histories.Goals as goal
 
 pub returns-clause-begin : goal.returns-clause-begin
@@ -7,5 +7,5 @@ returns-clause-begin c = histories_begin
 pub returns-clause-kept : goal.returns-clause-kept
 returns-clause-kept c = histories_are_kept
 
-pub returns-clause-told : goal.returns-clause-told
-returns-clause-told c = telling_is_true
+pub returns-clause-reported : goal.returns-clause-reported
+returns-clause-reported c = reports_follow_model

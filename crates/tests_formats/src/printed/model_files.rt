@@ -3,7 +3,7 @@
 use models::{AnyModel, JobShop, Phold, TokenRing};
 use std::alloc::{AllocError, Global};
 use std::test::Fail;
-use texts::{Finding, Found, Mistake, Mistakes, ModelFault, Wanted, find_mistakes, read_model};
+use texts::{Expected, Finding, Found, Mistake, Mistakes, ModelFault, find_mistakes, read_model};
 
 const RING: &str = "model = \"ring\"\nlps = 3\nend = 10\nhold = 2\ntokens = 1\n";
 
@@ -15,7 +15,7 @@ fn a_ring_is_read_in_any_order(rt: HostRuntime) {
     assert!(rt; read_model(rt.alloc(), text) == Ok((AnyModel::TokenRing(ring), 1099511627776)));
 }
 
-/// A model file behind a megabyte of comments.
+/// A model file after a megabyte of comments.
 fn commented(alloc: Global) -> Result<String, AllocError> {
     let mut text = String::with_capacity(alloc, 1_100_000)?;
     for _ in 0..16_384u32 {
@@ -26,7 +26,7 @@ fn commented(alloc: Global) -> Result<String, AllocError> {
 }
 
 #[test]
-fn a_megabyte_of_comments_is_passed_over(rt: HostRuntime) -> Result<(), Fail> {
+fn a_megabyte_of_comments_is_skipped(rt: HostRuntime) -> Result<(), Fail> {
     let text = commented(rt.alloc())?;
     assert!(rt; text.len() > 1 << 20);
     let ring = TokenRing::new(3, 2, 1);
@@ -35,7 +35,7 @@ fn a_megabyte_of_comments_is_passed_over(rt: HostRuntime) -> Result<(), Fail> {
 }
 
 #[test]
-fn phold_and_the_job_shop_are_read_at_both_ends(rt: HostRuntime) {
+fn phold_and_the_job_shop_are_read_at_their_limits(rt: HostRuntime) {
     let seed = 9223372036854775807;
     let most = u32::MAX;
     let files = [
@@ -68,7 +68,7 @@ fn phold_and_the_job_shop_are_read_at_both_ends(rt: HostRuntime) {
 }
 
 #[test]
-fn a_mistake_is_told_in_plain_words(rt: HostRuntime) -> Result<(), Fail> {
+fn a_mistake_is_described_in_plain_words(rt: HostRuntime) -> Result<(), Fail> {
     let rest = "end = 10\nhold = 2\ntokens = 1\n";
     let texts = [
         ("lps =", "not TOML"),
@@ -88,33 +88,33 @@ fn a_mistake_is_told_in_plain_words(rt: HostRuntime) -> Result<(), Fail> {
             "a key that the model does not have",
         ),
     ];
-    for (start, want) in texts {
+    for (start, expected) in texts {
         let text = format!(in rt.alloc(); "{start}{rest}")?;
         let Err(ModelFault::BadModel(mistake)) = read_model::<AnyModel>(rt.alloc(), text.as_str())
         else {
             return Err("a mistake".into());
         };
-        let told = format!(in rt.alloc(); "{mistake}")?;
-        assert_eq!(rt; told.as_str(), want);
+        let printed = format!(in rt.alloc(); "{mistake}")?;
+        assert_eq!(rt; printed.as_str(), expected);
     }
     Ok(())
 }
 
-/// A file, and all that is wrong with it, a line for each.
+/// Files, each with the text of its mistakes, a line for each.
 const WRONG: [(&str, &str); 8] = [
-    // Nothing is.
+    // No mistake.
     (RING, ""),
     (
         "model = 'jobshop'\nlps = true\nend = 1.5\njobs = [1]\nservice = {}\nseed = 1979-05-27\n",
         "  \
-lps: true or false; wanted is a whole number from 1 to 1024
-  end: a number with a fraction; wanted is a whole number from 1 to 1099511627776
-  jobs: a list; wanted is a whole number from 1 to 8
-  service: a table; wanted is a whole number from 1 to 4294967295
-  seed: a date or a time; wanted is a whole number from 0 to 9223372036854775807
+lps: true or false; expected a whole number from 1 to 1024
+  end: a number with a fraction; expected a whole number from 1 to 1099511627776
+  jobs: a list; expected a whole number from 1 to 8
+  service: a table; expected a whole number from 1 to 4294967295
+  seed: a date or a time; expected a whole number from 0 to 9223372036854775807
 ",
     ),
-    // The text of a first mistake that says all is not said again.
+    // A first mistake whose text says everything is not repeated.
     (
         "model = 'phold'\nlps = 0\nend = -1\npopulation = 9\nspread = 4294967296\nseed = -5\n",
         "  \
@@ -124,16 +124,16 @@ end: -1 is not within 1 to 1099511627776
   seed: -5 is not within 0 to 9223372036854775807
 ",
     ),
-    // How many tokens there may be is a matter of `lps`.
+    // The limit of tokens depends on `lps`.
     (
         "model = 'ring'\nlps = 3\nend = 10\nhold = 0\ntokens = 25\n",
         "  tokens: 25 is not within 1 to 24\n",
     ),
     (
         "model = 'ring'\nend = 10\nhold = 1\ntokens = 25\n",
-        "  lps: missing; wanted is a whole number from 1 to 1024\n",
+        "  lps: missing; expected a whole number from 1 to 1024\n",
     ),
-    // Keys of another model are none of this one's.
+    // Keys of another model are unknown keys.
     (
         "model = 'ring'\nlps = 3\nend = 10\nhold = 1\ntokens = 1\nspread = 7\njobs = 2\n",
         "  \
@@ -141,12 +141,12 @@ end: -1 is not within 1 to 1099511627776
   \"spread\": the model has no such key
 ",
     ),
-    // Where no model is named, only the keys that each model has are looked at.
+    // If no model is named, only the keys that all models have are checked.
     (
         "model = 'Ring'\nlps = 3\nend = 10\nhold = 'x'\n",
-        "  model: a string; wanted is \"ring\", \"phold\" or \"jobshop\"\n",
+        "  model: a string; expected \"ring\", \"phold\" or \"jobshop\"\n",
     ),
-    // The line is that on which the mistake begins.
+    // The reported line is the one where the mistake begins.
     (
         "# one\n# two\nlps = 3\nlps = [\n  4,\n]\n",
         "  line 4: duplicate key\n",
@@ -154,53 +154,53 @@ end: -1 is not within 1 to 1099511627776
 ];
 
 #[test]
-fn all_mistakes_are_told(rt: HostRuntime) -> Result<(), Fail> {
-    for (text, want) in WRONG {
+fn all_mistakes_are_listed(rt: HostRuntime) -> Result<(), Fail> {
+    for (text, expected) in WRONG {
         let found = find_mistakes::<AnyModel>(rt.alloc(), text.as_bytes())?;
-        let told = format!(in rt.alloc(); "{found}")?;
-        assert_eq!(rt; told.as_str(), want);
+        let printed = format!(in rt.alloc(); "{found}")?;
+        assert_eq!(rt; printed.as_str(), expected);
     }
     Ok(())
 }
 
 #[test]
-fn a_finding_says_what_was_found_and_what_is_wanted(rt: HostRuntime) -> Result<(), Fail> {
+fn a_finding_has_what_was_found_and_what_was_expected(rt: HostRuntime) -> Result<(), Fail> {
     let text = "model = 'ring'\nlps = 3\nend = 10\nhold = 2\ntokens = '1'\nseed = 7\n";
     let found = find_mistakes::<AnyModel>(rt.alloc(), text.as_bytes())?;
     let Mistakes::Keys(found) = found else {
         return Err("a table".into());
     };
-    let wanted = Wanted::Number { least: 1, most: 24 };
-    let want = [
-        ("tokens", Found::Text, wanted),
-        ("seed", Found::Number(7), Wanted::Nothing),
+    let expected = Expected::Number { least: 1, most: 24 };
+    let expected = [
+        ("tokens", Found::Text, expected),
+        ("seed", Found::Number(7), Expected::Nothing),
     ];
-    assert_eq!(rt; found.as_slice().len(), want.len());
-    for (finding, (key, found, wanted)) in found.as_slice().iter().zip(want.iter()) {
-        let want = Finding {
+    assert_eq!(rt; found.as_slice().len(), expected.len());
+    for (finding, (key, found, expected)) in found.as_slice().iter().zip(expected.iter()) {
+        let expected = Finding {
             key: String::from_str(rt.alloc(), *key)?,
             found: *found,
-            wanted: *wanted,
+            expected: *expected,
         };
-        assert!(rt; *finding == want);
+        assert!(rt; *finding == expected);
     }
     Ok(())
 }
 
 #[test]
-fn faults_are_told_by_their_names(rt: HostRuntime) -> Result<(), Fail> {
+fn model_faults_are_printed_by_name(rt: HostRuntime) -> Result<(), Fail> {
     for (fault, name) in [
         (ModelFault::BadModel(Mistake::Toml), "BadModel"),
         (ModelFault::NoMemory, "NoMemory"),
     ] {
-        let told = format!(in rt.alloc(); "{fault}")?;
-        assert_eq!(rt; told.as_str(), name);
+        let printed = format!(in rt.alloc(); "{fault}")?;
+        assert_eq!(rt; printed.as_str(), name);
     }
     Ok(())
 }
 
 #[test]
-fn other_texts_are_no_model(rt: HostRuntime) {
+fn other_texts_are_no_model_files(rt: HostRuntime) {
     let texts = [
         "",
         "model = \"ring\"\nlps = 3\nend = 10\nhold = 2\n",
@@ -259,7 +259,7 @@ fn other_texts_are_no_model(rt: HostRuntime) {
 }
 
 #[test]
-fn mistakes_are_told_at_a_second_try(rt: HostRuntime) -> Result<(), Fail> {
+fn mistakes_are_found_after_an_allocation_failure(rt: HostRuntime) -> Result<(), Fail> {
     let text = "model = 'ring'\nlps = 3\nend = 10\nhold = '2'\ntokens = 1\nseed = 7\n";
     let mut found = find_mistakes::<AnyModel>(rt.alloc(), text.as_bytes());
     if found.is_err() {
@@ -272,10 +272,10 @@ fn mistakes_are_told_at_a_second_try(rt: HostRuntime) -> Result<(), Fail> {
     Ok(())
 }
 
-// Want of memory is told by its name, and a second try then answers as if there had been none.
+// An allocation failure is reported as `NoMemory`, and a second call succeeds.
 
 #[test]
-fn a_model_is_read_at_a_second_try(rt: HostRuntime) {
+fn a_model_is_read_after_an_allocation_failure(rt: HostRuntime) {
     let mut read = read_model(rt.alloc(), RING);
     if read == Err(ModelFault::NoMemory) {
         read = read_model(rt.alloc(), RING);
@@ -284,7 +284,7 @@ fn a_model_is_read_at_a_second_try(rt: HostRuntime) {
 }
 
 #[test]
-fn a_bad_model_is_refused_at_a_second_try(rt: HostRuntime) {
+fn a_bad_model_is_refused_after_an_allocation_failure(rt: HostRuntime) {
     let text = "model = \"ring\"\nlps = 0\nend = 10\nhold = 2\ntokens = 1\n";
     let mut read = read_model::<AnyModel>(rt.alloc(), text);
     if read == Err(ModelFault::NoMemory) {

@@ -6,7 +6,7 @@ use std::io::{Error, ErrorKind, Result, Write};
 use std::test::Fail;
 use texts::{write_log, write_world};
 
-/// A writer that takes at most `count` bytes a call, and refuses the call number `fail`.
+/// A writer that accepts at most `count` bytes per call, and refuses the call number `fail`.
 #[derive(Drop)]
 struct Faulty {
     taken: Vec<u8>,
@@ -86,9 +86,7 @@ fn a_world_has_its_processes_and_pending_messages(
 }
 
 #[test]
-fn what_a_failing_writer_has_of_a_world_is_a_beginning(
-    rt: HostRuntime,
-) -> std::result::Result<(), Fail> {
+fn a_failing_writer_gets_a_prefix_of_a_world(rt: HostRuntime) -> std::result::Result<(), Fail> {
     let mut states = Vec::new(rt.alloc());
     states.push(SmallVec::new(rt.alloc()))?;
     states.push(SmallVec::from_slice(rt.alloc(), &[5, 0, u64::MAX])?)?;
@@ -112,7 +110,7 @@ fn what_a_failing_writer_has_of_a_world_is_a_beginning(
     Ok(())
 }
 
-/// What a writer may answer that is not tried again.
+/// Errors of a writer after which the write is not repeated.
 const KINDS: [ErrorKind; 4] = [
     ErrorKind::BrokenPipe,
     ErrorKind::WouldBlock,
@@ -121,7 +119,7 @@ const KINDS: [ErrorKind; 4] = [
 ];
 
 #[test]
-fn an_error_of_the_writer_is_told_as_it_is(rt: HostRuntime) -> std::result::Result<(), Fail> {
+fn an_error_of_the_writer_is_returned_unchanged(rt: HostRuntime) -> std::result::Result<(), Fail> {
     let log = log().ok_or("log")?;
     for kind in KINDS {
         let mut out = Faulty {
@@ -138,7 +136,7 @@ fn an_error_of_the_writer_is_told_as_it_is(rt: HostRuntime) -> std::result::Resu
 }
 
 #[test]
-fn an_interrupted_write_is_made_again(rt: HostRuntime) -> std::result::Result<(), Fail> {
+fn an_interrupted_write_is_repeated(rt: HostRuntime) -> std::result::Result<(), Fail> {
     let log = log().ok_or("log")?;
     let mut out = Faulty {
         taken: Vec::new(rt.alloc()),
@@ -153,7 +151,7 @@ fn an_interrupted_write_is_made_again(rt: HostRuntime) -> std::result::Result<()
 }
 
 #[test]
-fn a_writer_that_takes_nothing_is_an_error(rt: HostRuntime) -> std::result::Result<(), Fail> {
+fn a_writer_that_accepts_nothing_is_an_error(rt: HostRuntime) -> std::result::Result<(), Fail> {
     let log = log().ok_or("log")?;
     let mut out = Faulty {
         taken: Vec::new(rt.alloc()),

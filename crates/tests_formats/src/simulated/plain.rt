@@ -1,5 +1,5 @@
-// Runs of PHOLD and the job shop beside a plain program, which keeps a sorted list of what is
-// pending and has each model written once more.
+// Compares runs of PHOLD and the job shop with a plain program, which keeps a sorted list of the
+// pending messages and has its own version of each model.
 
 use eventkey::Message;
 use model::World;
@@ -22,7 +22,7 @@ fn pcg(state: u64, stream: u64) -> u64 {
 }
 
 #[test]
-fn the_first_word_is_that_of_the_reference(rt: HostRuntime) {
+fn the_first_word_equals_the_reference(rt: HostRuntime) {
     assert_eq!(rt; pcg(42, 54), 0xa15c02b7);
 }
 
@@ -35,7 +35,8 @@ fn key_after(key: u64, lp: u64, j: u64) -> u64 {
     (word(key, lp, j) << 32) | word(key, lp, j.wrapping_add(1))
 }
 
-/// A model's number of processes, first messages a process, greatest delay or service, and seed.
+/// The number of processes of a model, the first messages per process, the greatest delay or
+/// service, and the seed.
 #[derive(Clone, Copy)]
 struct Numbers {
     lps: u64,
@@ -63,7 +64,7 @@ impl Plain {
         }
     }
 
-    /// Sends a message from a process with this state, and keeps the list sorted.
+    /// Sends a message from a process, and keeps the pending list sorted.
     fn send(&mut self, time: u64, from: u64, to: u64, content: [u64; 4]) -> Result<(), AllocError> {
         let place = from as usize;
         if place < self.numbers.len() {
@@ -76,7 +77,7 @@ impl Plain {
         Ok(())
     }
 
-    /// The least message before the end, which is then in the log.
+    /// Takes the least message before the end and appends it to the log.
     fn take(&mut self, end: u64) -> Result<Option<Row>, AllocError> {
         let Some(least) = self.pending.first().copied() else {
             return Ok(None);
@@ -101,7 +102,7 @@ impl Plain {
     }
 }
 
-/// The state that a process of PHOLD starts with, and its first messages.
+/// Opens a process of PHOLD: its state, and its first messages.
 fn open_hold(plain: &mut Plain, n: Numbers, lp: u64) -> Result<(), AllocError> {
     plain
         .states
@@ -131,7 +132,7 @@ fn handle_hold(plain: &mut Plain, n: Numbers, x: Row) -> Result<(), AllocError> 
     )
 }
 
-/// The state that a machine starts with, and its first jobs.
+/// Opens a machine of the job shop: its state, and its first jobs.
 fn open_shop(plain: &mut Plain, n: Numbers, lp: u64) -> Result<(), AllocError> {
     plain.states.push([0, 0, 0, 0, key_after(n.seed, lp, 0)])?;
     plain.numbers.push(0)?;
@@ -161,7 +162,7 @@ fn handle_shop(plain: &mut Plain, n: Numbers, x: Row) -> Result<(), AllocError> 
     plain.send(end, x[3], to, [x[4], x[5].wrapping_add(1), x[6], x[7]])
 }
 
-/// A plain run to the end, of a job shop or of PHOLD.
+/// A plain run of a job shop or of PHOLD to the end.
 fn run(alloc: Global, is_shop: bool, n: Numbers, end: u64) -> Result<Plain, AllocError> {
     let mut plain = Plain::new(alloc);
     for lp in 0..n.lps {
@@ -198,10 +199,14 @@ fn row(x: &Message) -> Row {
 }
 
 fn are_rows(messages: &[Message], rows: &[Row]) -> bool {
-    messages.len() == rows.len() && messages.iter().zip(rows).all(|(x, want)| row(x) == *want)
+    messages.len() == rows.len()
+        && messages
+            .iter()
+            .zip(rows)
+            .all(|(x, expected)| row(x) == *expected)
 }
 
-/// Whether a model's run is the plain one, with so many words of each state.
+/// Whether a run of the model equals the plain one, with `words` words in each state.
 fn is_plain(
     alloc: Global,
     model: &AnyModel,
@@ -216,14 +221,15 @@ fn is_plain(
     world.run_to(model, end)?;
     let states = world.states().iter().zip(plain.states.as_slice());
     let same = world.states().len() == plain.states.len()
-        && states.into_iter().all(|(state, want)| Some(state.as_slice()) == want.get(..words))
+        && states.into_iter().all(|(state, expected)| Some(state.as_slice())
+            == expected.get(..words))
         && world.numbers() == plain.numbers.as_slice()
         && are_rows(world.log(), plain.log.as_slice());
     Ok(same && are_rows(world.pending(), plain.pending.as_slice()))
 }
 
 #[test]
-fn phold_runs_as_a_plain_program_does(rt: HostRuntime) -> Result<(), Fail> {
+fn phold_runs_like_a_plain_program(rt: HostRuntime) -> Result<(), Fail> {
     for (lps, population, spread, seed, end, events) in [
         (16, 2, 20, 7, 200, 500),
         (1, 8, 4294967295, 9223372036854775807, 1 << 36, 100),
@@ -244,7 +250,7 @@ fn phold_runs_as_a_plain_program_does(rt: HostRuntime) -> Result<(), Fail> {
 }
 
 #[test]
-fn a_job_shop_runs_as_a_plain_program_does(rt: HostRuntime) -> Result<(), Fail> {
+fn a_job_shop_runs_like_a_plain_program(rt: HostRuntime) -> Result<(), Fail> {
     for (lps, jobs, service, seed, end, events) in [
         (8, 4, 20, 7, 400, 100),
         (1, 8, 1, 5, 100, 90),

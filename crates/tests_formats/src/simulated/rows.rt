@@ -1,4 +1,4 @@
-// Worked examples of PHOLD and the job shop, each made by hand.
+// Worked examples of PHOLD and the job shop, calculated by hand.
 
 use eventkey::Message;
 use model::{Model, Outgoing, World};
@@ -21,11 +21,15 @@ fn row(x: &Message) -> [u64; 8] {
 }
 
 fn are(messages: &[Message], rows: &[[u64; 8]]) -> bool {
-    messages.len() == rows.len() && messages.iter().zip(rows).all(|(x, want)| row(x) == *want)
+    messages.len() == rows.len()
+        && messages
+            .iter()
+            .zip(rows)
+            .all(|(x, expected)| row(x) == *expected)
 }
 
 #[test]
-fn one_message_of_phold_comes_each_tick(rt: HostRuntime) -> Result<(), Fail> {
+fn phold_handles_its_only_message_each_tick(rt: HostRuntime) -> Result<(), Fail> {
     for seed in [0, 7, (1 << 63) - 1] {
         let model = AnyModel::Phold(Phold::new(1, 1, 1, seed));
         let mut world = World::open(rt.alloc(), &model, 4)?;
@@ -46,7 +50,7 @@ fn one_message_of_phold_comes_each_tick(rt: HostRuntime) -> Result<(), Fail> {
 }
 
 #[test]
-fn one_machine_serves_a_job_a_tick(rt: HostRuntime) -> Result<(), Fail> {
+fn one_machine_serves_one_job_per_tick(rt: HostRuntime) -> Result<(), Fail> {
     for seed in [0, 7, (1 << 63) - 1] {
         let model = AnyModel::JobShop(JobShop::new(1, 2, 1, seed));
         let mut world = World::open(rt.alloc(), &model, 3)?;
@@ -74,7 +78,7 @@ fn one_machine_serves_a_job_a_tick(rt: HostRuntime) -> Result<(), Fail> {
     Ok(())
 }
 
-/// What is sent on with the last two words of the message that was handled.
+/// A send with the last two words of the handled message.
 fn sent_on(to: u32, delay: u32, a: u64, b: u64) -> Outgoing {
     Outgoing {
         to,
@@ -103,7 +107,7 @@ fn the_last_two_words_are_kept(rt: HostRuntime) -> Result<(), Fail> {
 }
 
 #[test]
-fn a_job_past_every_delay_is_turned_away(rt: HostRuntime) -> Result<(), Fail> {
+fn a_job_beyond_the_longest_delay_is_turned_away(rt: HostRuntime) -> Result<(), Fail> {
     let shop = JobShop::new(2, 1, 1, 3);
     let message = Message::new(5, 1, 0, 0, 9, u64::MAX, 8, u64::MAX)?;
     let state = SmallVec::from_slice(rt.alloc(), &[4294967299])?;

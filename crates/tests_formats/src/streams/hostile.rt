@@ -1,9 +1,9 @@
-// Ten thousand streams of hostile bytes, beside a decoder as plain as it can be had: it walks over
-// a frame's numbers and keeps nothing.
+// Ten thousand streams of hostile bytes, compared with the simplest possible decoder: it walks over
+// the numbers of a frame and keeps nothing.
 
 use super::*;
 
-/// The bytes that are not yet walked over.
+/// The bytes that the walk has not passed yet.
 #[derive(Drop)]
 struct Walk<'a> {
     rest: &'a [u8],
@@ -120,7 +120,7 @@ impl<'a> Walk<'a> {
     }
 }
 
-/// How many bytes the first frame has, or the fault there.
+/// The length of the first frame in bytes, or its fault.
 fn judged(bytes: &[u8]) -> Result<Option<usize>, WireFault> {
     if bytes.is_empty() {
         return Ok(None);
@@ -151,7 +151,7 @@ fn judged(bytes: &[u8]) -> Result<Option<usize>, WireFault> {
     }
 }
 
-/// A word after another (xorshift, Marsaglia 2003).
+/// Pseudorandom numbers (xorshift, Marsaglia 2003).
 #[derive(Drop)]
 struct Random {
     word: u64,
@@ -168,7 +168,7 @@ impl Random {
     }
 }
 
-/// A frame with some bytes changed, and some at its end cut off or added.
+/// Two frames with some bytes changed, and maybe cut short.
 fn damaged(alloc: Global, random: &mut Random) -> Result<Vec<u8>, Fail> {
     let frames: [&[u8]; 5] = [&LOAD, &PARCEL, &REPLY, &LADEN, &FAULT];
     let mut bytes = Vec::new(alloc);
@@ -191,7 +191,7 @@ fn damaged(alloc: Global, random: &mut Random) -> Result<Vec<u8>, Fail> {
     Ok(bytes)
 }
 
-/// Bytes of which most are small.
+/// Random bytes, most of them small.
 fn noise(alloc: Global, random: &mut Random) -> Result<Vec<u8>, Fail> {
     let mut bytes = Vec::new(alloc);
     for place in 0..random.below(40) {
@@ -205,17 +205,17 @@ fn noise(alloc: Global, random: &mut Random) -> Result<Vec<u8>, Fail> {
     Ok(bytes)
 }
 
-/// The first frame is read as the plain decoder judges it, and a frame that is read is spelled as
-/// it was.
+/// Checks that the first frame is read with the result of the plain decoder, and that its encoding
+/// is what was read.
 fn compare(rt: &impl Abort, alloc: Global, bytes: &[u8], size: usize) -> Result<(), Fail> {
     let mut reader = Pieces::of(bytes, size);
     let read = read_frame(alloc, &mut reader);
     match (read, judged(bytes)) {
         (Ok(None), judged) => assert_eq!(rt; judged, Ok(None)),
         (Ok(Some(frame)), judged) => {
-            let spelled = spelled(alloc, &frame)?;
-            assert_eq!(rt; judged, Ok(Some(spelled.len())));
-            assert_eq!(rt; bytes.get(..spelled.len()), Some(spelled.as_slice()));
+            let encoded = encoded(alloc, &frame)?;
+            assert_eq!(rt; judged, Ok(Some(encoded.len())));
+            assert_eq!(rt; bytes.get(..encoded.len()), Some(encoded.as_slice()));
         }
         (Err(fault), judged) => assert_eq!(rt; judged, Err(fault)),
     }
@@ -223,7 +223,7 @@ fn compare(rt: &impl Abort, alloc: Global, bytes: &[u8], size: usize) -> Result<
 }
 
 #[test]
-fn hostile_streams_are_judged_as_plainly(rt: HostRuntime) -> Result<(), Fail> {
+fn hostile_streams_match_the_plain_decoder(rt: HostRuntime) -> Result<(), Fail> {
     let alloc = rt.alloc();
     let mut random = Random {
         word: 0x9e37_79b9_7f4a_7c15,

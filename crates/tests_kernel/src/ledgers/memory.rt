@@ -1,8 +1,8 @@
 use super::*;
 
-// What is refused memory once leaves the ledger as it was, and the same call works then. With ample
-// memory each call works at once; `rt try --test --fail-alloc N` refuses the allocation of each
-// number in turn.
+// A call that meets an allocation failure leaves the ledger unchanged, and a second call succeeds.
+// With enough memory the first call succeeds; `rt try --test --fail-alloc N` refuses each
+// allocation in turn.
 
 fn made(alloc: Global, lows: [Option<u64>; 2]) -> Result<Ledger, LedgerFault> {
     match two_nodes(alloc, 0, lows) {
@@ -11,8 +11,8 @@ fn made(alloc: Global, lows: [Option<u64>; 2]) -> Result<Ledger, LedgerFault> {
     }
 }
 
-// What a ledger shows: how much travels, the first and the last of it, the floor and the least
-// floor answered.
+// The visible state of a ledger: the number of messages in transit, the first and the last of them,
+// the floor, and the least floor that a node answered.
 type Shown = (usize, Option<Signed>, Option<Signed>, u64, u64);
 
 fn shown(ledger: &Ledger) -> Shown {
@@ -45,7 +45,7 @@ fn taken(alloc: Global, ledger: &mut Ledger, node: u32, out: &[Signed]) -> Resul
 }
 
 #[test]
-fn a_call_that_was_refused_memory_works_the_next_time(rt: HostRuntime) -> Result<(), Fail> {
+fn a_ledger_call_succeeds_after_an_allocation_failure(rt: HostRuntime) -> Result<(), Fail> {
     let mut ledger = made(rt.alloc(), [Some(6), Some(8)])?;
     let sent = [plus(4, 0, 1)?, plus(5, 1, 1)?];
     let _parcel = posted(&mut ledger, 0, &[])?;

@@ -1,6 +1,6 @@
 use super::*;
 
-// Posts as a plain list has them: the picked ones by place, and those at no picked place.
+// Does a post on a plain list: takes the picked messages out by their places, and keeps the others.
 fn picked_plainly(
     alloc: Global,
     transit: &mut Vec<Signed>,
@@ -22,7 +22,7 @@ fn picked_plainly(
     Ok(deliver)
 }
 
-// Three of four messages for the node, the last first.
+// Picks three in four of the messages for the node, the last one first.
 fn chosen_for(alloc: Global, transit: &[Signed], node: u32) -> Result<Vec<u32>, Fail> {
     let mut picks = Vec::new(alloc);
     for (place, one) in transit.iter().enumerate() {
@@ -34,7 +34,7 @@ fn chosen_for(alloc: Global, transit: &[Signed], node: u32) -> Result<Vec<u32>, 
     Ok(picks)
 }
 
-// Whether one post and its reply, which sends half of it on, leave what a plain list has.
+// Whether one post and its reply, which sends half of the parcel again, match a plain list.
 fn posts_as_a_list(
     alloc: Global,
     ledger: &mut Ledger,
@@ -55,7 +55,7 @@ fn posts_as_a_list(
 }
 
 #[test]
-fn a_long_transit_is_posted_as_a_plain_list_would(rt: HostRuntime) -> Result<(), Fail> {
+fn posts_from_a_long_transit_match_a_plain_list(rt: HostRuntime) -> Result<(), Fail> {
     let alloc = rt.alloc();
     let mut ledger = Ledger::new(alloc, 3, 5000, 0, &[None, None, None])?;
     let mut transit = Vec::new(alloc);

@@ -1,6 +1,5 @@
-// A node as plainly as it can be had: three lists a process in no order but that in which things
-// came, and whatever is wanted is found by looking at all of them. Nothing is let go: what was told
-// is counted.
+// The simplest possible node: each process has three unsorted lists, and searches all of a list for
+// what it needs. It frees no records, and counts those that it has reported.
 
 use super::*;
 use models::Relay;
@@ -21,7 +20,7 @@ pub struct PlainProcess {
     state: u64,
     number: u64,
     done: Vec<Handled>,
-    told: usize,
+    reported: usize,
     waiting: Vec<Message>,
     antis: Vec<Message>,
 }
@@ -54,12 +53,12 @@ fn going_out(message: Message) -> Signed {
     Signed { sign, message }
 }
 
-fn taken_back(message: Message) -> Signed {
+fn antimessage_of(message: Message) -> Signed {
     let sign = Sign::Minus;
     Signed { sign, message }
 }
 
-/// Takes one copy out. Whether there was one.
+/// Removes one copy. Returns whether there was one.
 fn remove_one(
     alloc: Global,
     messages: &mut Vec<Message>,
@@ -97,13 +96,13 @@ impl PlainProcess {
             state: 0,
             number,
             done: Vec::new(alloc),
-            told: 0,
+            reported: 0,
             waiting: pending,
             antis: Vec::new(alloc),
         }
     }
 
-    /// How many handlings came after a message.
+    /// The number of handled messages after this one.
     fn after(&self, message: Message) -> usize {
         self.done
             .iter()
@@ -115,12 +114,12 @@ impl PlainProcess {
         self.done.iter().any(|handled| handled.message == message)
     }
 
-    /// Takes back the last so many handlings.
+    /// Rolls back the last `count` handlings.
     fn undo(&mut self, count: usize, out: &mut Vec<Signed>) -> Result<(), AllocError> {
         let kept = self.done.len().saturating_sub(count);
         for handled in self.done.iter().skip(kept) {
             for sent in handled.sent.iter() {
-                out.push(taken_back(*sent))?;
+                out.push(antimessage_of(*sent))?;
             }
         }
         for _ in 0..count {
@@ -183,10 +182,10 @@ impl PlainProcess {
         Ok(())
     }
 
-    /// Tells of the handlings before the floor, in ticks, that were not told.
-    fn tell(&mut self, floor: u64, fossils: &mut Vec<PlainFossil>) -> Result<(), AllocError> {
-        let mut told = self.told;
-        for (place, handled) in self.done.iter().enumerate().skip(self.told) {
+    /// Reports the handlings before the floor, in ticks, that were not yet reported.
+    fn report(&mut self, floor: u64, fossils: &mut Vec<PlainFossil>) -> Result<(), AllocError> {
+        let mut reported = self.reported;
+        for (place, handled) in self.done.iter().enumerate().skip(self.reported) {
             if handled.message.time() < floor {
                 let next = self.done.get(place.wrapping_add(1));
                 let (after, number_after) = match next {
@@ -199,10 +198,10 @@ impl PlainProcess {
                     after,
                     number_after,
                 })?;
-                told = place.wrapping_add(1);
+                reported = place.wrapping_add(1);
             }
         }
-        self.told = told;
+        self.reported = reported;
         Ok(())
     }
 }
@@ -250,7 +249,7 @@ impl PlainNode {
         Ok(())
     }
 
-    /// Handles the least message, where there is one before the end.
+    /// Handles the least waiting message before the end, if there is one.
     fn run_one(&mut self, out: &mut Vec<Signed>) -> Result<u32, Fail> {
         let Some(message) = self.least_waiting() else {
             return Ok(0);
@@ -277,7 +276,7 @@ impl PlainNode {
         }
         let mut fossils = Vec::new(self.alloc);
         for process in self.processes.iter_mut() {
-            process.tell(floor, &mut fossils)?;
+            process.report(floor, &mut fossils)?;
         }
         Ok(PlainReply {
             out,

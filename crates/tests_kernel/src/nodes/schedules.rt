@@ -1,4 +1,4 @@
-// Small schedules by lot: nodes of a model answer as plain nodes do.
+// Small random schedules: nodes answer as plain nodes do.
 
 ghost use Rattle.std.specs.Prelude.{◌<◌, ◌≤◌, IfOk};
 ghost use Rattle.std.specs.List.{AllByRecursion as Every};
@@ -10,17 +10,17 @@ use models::Relay;
 
 const END: u64 = 60;
 
-/// How many processes a relay has.
+/// The number of processes of a relay.
 const RELAYS: u32 = 6;
 
-/// Numbers by lot, the same at each run (a linear congruence).
+/// Pseudorandom numbers, the same in each run (a linear congruential generator).
 #[derive(Drop)]
 struct Lottery {
     state: u64,
 }
 
 impl Lottery {
-    /// A number below another.
+    /// A number below `limit`.
     fn below(&mut self, limit: u64) -> u64 {
         let state = self.state.wrapping_mul(6_364_136_223_846_793_005);
         self.state = state.wrapping_add(1_442_695_040_888_963_407);
@@ -28,7 +28,7 @@ impl Lottery {
     }
 }
 
-/// A node, the plain one, and what they told last.
+/// A node and its plain counterpart, with the low of their last reply and the last floor.
 #[derive(Drop)]
 struct Pair {
     node: Tried<Relay>,
@@ -41,11 +41,11 @@ struct Pair {
 struct Schedule {
     alloc: Global,
     lottery: Lottery,
-    /// Whether what was delivered may travel once more.
+    /// Whether a delivered message may stay in transit and be delivered again.
     repeats: bool,
     transit: Vec<Signed>,
     pairs: Vec<Pair>,
-    /// How many antimessages were sent.
+    /// The number of antimessages sent.
     undone: u64,
 }
 
@@ -61,13 +61,13 @@ fn agree(reply: &Reply, plain: &PlainReply) -> bool {
         && reply.low == plain.low
         && reply.ran == plain.ran
         && reply.fossils.as_slice().len() == plain.fossils.len();
-    for (fossil, told) in reply.fossils.as_slice().iter().zip(plain.fossils.iter()) {
-        agree = agree && is_as_plain(fossil, told);
+    for (fossil, reported) in reply.fossils.as_slice().iter().zip(plain.fossils.iter()) {
+        agree = agree && is_as_plain(fossil, reported);
     }
     agree
 }
 
-/// What waits for a process at first.
+/// The messages that wait for a process at the start.
 fn pending(lp: u32) -> [Row; 2] {
     let time = u64::from(lp % 3);
     [
@@ -113,7 +113,7 @@ fn paired(alloc: Global, node: u32, nodes: u32) -> Result<Pair, Fail>
 }
 
 impl Pair {
-    /// Hands both the same parcel. Their reply, if it is the same.
+    /// Posts the same parcel to both. Returns their reply, or `None` if the replies differ.
     fn handle(
         &mut self,
         alloc: Global,
@@ -156,7 +156,7 @@ impl Schedule {
         })
     }
 
-    /// The time, in ticks, before which nothing comes any more.
+    /// The least time, in ticks, of all that waits or travels, or the end.
     fn floor(&self) -> u64 {
         let mut floor = END;
         for pair in self.pairs.iter() {
@@ -168,7 +168,7 @@ impl Schedule {
         floor
     }
 
-    /// Takes some of what travels to a node out of transit, in this order or against it.
+    /// Takes some of the messages in transit to a node, in their order or in reverse.
     fn picked(&mut self, node: u32, nodes: u32) -> Result<Vec<Signed>, Fail> {
         let (mut deliver, mut left) = (Vec::new(self.alloc), Vec::new(self.alloc));
         for signed in self.transit.iter() {
@@ -198,7 +198,7 @@ impl Schedule {
         Ok(())
     }
 
-    /// One parcel to one node. Whether both nodes answer the same.
+    /// Posts one parcel to one node. Returns whether both answer the same.
     fn step(&mut self, nodes: u32) -> Result<bool, Fail> {
         let node = u32::try_from(self.lottery.below(u64::from(nodes)))?;
         let floor = self.floor();
@@ -206,7 +206,7 @@ impl Schedule {
         self.post(node, deliver.as_slice(), floor)
     }
 
-    /// Hands a node these deliveries, and this floor or the one that it has.
+    /// Posts these deliveries to a node, with this floor or the floor of its last parcel.
     fn post(&mut self, node: u32, deliver: &[Signed], floor: u64) -> Result<bool, Fail> {
         let budget = u32::try_from(self.lottery.below(9))?;
         let keeps = self.lottery.below(3) == 0;
@@ -225,7 +225,7 @@ impl Schedule {
     }
 }
 
-/// So many parcels. How many antimessages were sent, if all replies were the same.
+/// Posts a number of parcels. Returns how many antimessages were sent, or `None` if replies differ.
 fn lot(alloc: Global, seed: u64, nodes: u32, parcels: u32) -> Result<Option<u64>, Fail>
     requires { nodes ≤ 64 }
 {
@@ -238,8 +238,8 @@ fn lot(alloc: Global, seed: u64, nodes: u32, parcels: u32) -> Result<Option<u64>
     Ok(Some(schedule.undone))
 }
 
-/// Schedules of so many nodes, by several lots: all replies are the same, and there was much to
-/// take back.
+/// Runs schedules of several seeds over this number of nodes. All replies must agree, and there
+/// must be many rollbacks.
 fn agree_by_lot(rt: &impl Abort, alloc: Global, nodes: u32) -> Result<(), Fail>
     requires { nodes ≤ 64 }
 {
@@ -254,16 +254,16 @@ fn agree_by_lot(rt: &impl Abort, alloc: Global, nodes: u32) -> Result<(), Fail>
 }
 
 #[test]
-fn one_node_answers_as_a_plain_one(rt: HostRuntime) -> Result<(), Fail> {
+fn one_node_answers_like_a_plain_node(rt: HostRuntime) -> Result<(), Fail> {
     agree_by_lot(&rt, rt.alloc(), 1)
 }
 
 #[test]
-fn two_nodes_answer_as_plain_ones(rt: HostRuntime) -> Result<(), Fail> {
+fn two_nodes_answer_like_plain_nodes(rt: HostRuntime) -> Result<(), Fail> {
     agree_by_lot(&rt, rt.alloc(), 2)
 }
 
 #[test]
-fn four_nodes_answer_as_plain_ones(rt: HostRuntime) -> Result<(), Fail> {
+fn four_nodes_answer_like_plain_nodes(rt: HostRuntime) -> Result<(), Fail> {
     agree_by_lot(&rt, rt.alloc(), 4)
 }

@@ -6,9 +6,10 @@ use coordinator::{Resumed, resume};
 use disk::DiskFault;
 use recovery::RecoveryFault;
 
-// The opening of a session, and whole sessions.
+// Openings of sessions, and whole sessions.
 
-/// A disk with this image, of at most 1 MiB, whose operation of this number fails, counted from 0.
+/// A disk with this image, whose operation number `fail` fails, counted from 0; an empty one if the
+/// image has more than 1 MiB.
 pub(super) fn failing(alloc: Global, image: Vec<u8>, fail: Option<u64>) -> Result<MemDisk, Fail> {
     if image.len() > 1 << 20 {
         return Ok(MemDisk::blank(alloc, 0)?);
@@ -16,7 +17,7 @@ pub(super) fn failing(alloc: Global, image: Vec<u8>, fail: Option<u64>) -> Resul
     Ok(MemDisk::of(alloc, image, Plan { fail, stop: None })?)
 }
 
-/// Why a disk is not opened up to this end, which is below 2^40, and the disk.
+/// Opens a disk for this end, which must be refused. Returns the fault and the disk.
 fn refused(
     alloc: Global,
     ring: &Ring,
@@ -66,7 +67,7 @@ fn a_log_with_a_record_opens_at_its_time(rt: HostRuntime) -> Result<(), Fail> {
 }
 
 #[test]
-fn the_sync_of_an_opening_fails(rt: HostRuntime) -> Result<(), Fail> {
+fn an_opening_whose_sync_fails_returns_the_disk(rt: HostRuntime) -> Result<(), Fail> {
     let alloc = rt.alloc();
     let ring = Ring;
     let image = formatted(alloc, &ring)?.crash(alloc, Torn::Old)?;
@@ -79,7 +80,7 @@ fn the_sync_of_an_opening_fails(rt: HostRuntime) -> Result<(), Fail> {
 }
 
 #[test]
-fn whole_sessions(rt: HostRuntime) -> Result<(), Fail> {
+fn a_second_session_goes_on_from_the_first(rt: HostRuntime) -> Result<(), Fail> {
     let alloc = rt.alloc();
     let ring = Ring;
     let disk = formatted(alloc, &ring)?;
@@ -99,7 +100,8 @@ fn whole_sessions(rt: HostRuntime) -> Result<(), Fail> {
         fault,
     } = left;
     assert!(rt; time == Some(3) && done == 13 && fault.is_none());
-    // A second one goes on from there, and its fourth step picks what no longer travels.
+    // A second session goes on from there; its fourth step picks a message that is no longer in
+    // transit.
     let left = resume(
         alloc,
         &ring,

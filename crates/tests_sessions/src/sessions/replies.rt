@@ -5,17 +5,17 @@ use std::io::Write;
 use std::os::unix::net::UnixStream;
 use wire::PortFault;
 
-// Sessions over a socket, behind whose other end no node stands: what it answers is written there.
+// Sessions over a socket without a node at the other end: the test writes the replies itself.
 
-/// The frame of a reply: one handling, which sent a message of time 3 to process 1.
+/// The frame of a reply: one handled message, and one sent message of time 3 for process 1.
 const REPLY: [u8; 75] = [
     0, 0, 0, 70, 3, 0, 0, 0, 1, 0, 0, 0, 0, 0, 0, 0, 0, 3, 0, 0, 0, 0, 0, 0, 0, 0, 0, 0, 0, 1, 0,
     0, 0, 1, 0, 0, 0, 0, 0, 0, 0, 0, 0, 0, 0, 0, 0, 0, 0, 1, 0, 0, 0, 0, 0, 0, 0, 0, 0, 0, 0, 0, 0,
     0, 0, 0, 0, 0, 0, 0, 0, 0, 0, 0, 1,
 ];
 
-/// What a take answers where the reply's message is for this process, what a post answers then, and
-/// how many messages are in transit.
+/// Takes a reply whose message is for process `to`. Returns the answer, the answer of a post after
+/// it, and the number of messages in transit.
 fn answered(
     rt: HostRuntime,
     to: u8,
@@ -47,7 +47,7 @@ fn answered(
 }
 
 #[test]
-fn a_reply_for_a_process_that_is_there_is_taken(rt: HostRuntime) -> Result<(), Fail> {
+fn a_reply_for_an_existing_process_is_taken(rt: HostRuntime) -> Result<(), Fail> {
     let (taken, again, travels) = answered(rt, 2)?;
     assert!(rt;
         taken
@@ -63,7 +63,7 @@ fn a_reply_for_a_process_that_is_there_is_taken(rt: HostRuntime) -> Result<(), F
 }
 
 #[test]
-fn a_reply_for_a_process_that_is_not_there_ends_the_session(rt: HostRuntime) -> Result<(), Fail> {
+fn a_reply_for_an_unknown_process_ends_the_session(rt: HostRuntime) -> Result<(), Fail> {
     let (taken, again, travels) = answered(rt, 3)?;
     assert!(rt; taken == Err(SessionFault::Port(PortFault::BadReply)));
     assert!(rt; again == Err(SessionFault::Spent));

@@ -6,9 +6,9 @@ use eventkey::Sign;
 use model::Model as Simulated;
 use wire::Port;
 
-// Sessions that are driven one step at a time.
+// Sessions that are driven step by step.
 
-/// What is in transit after each step of the table.
+/// The messages in transit after each step of the table.
 const TRANSIT: [&[(Sign, [u64; 8])]; 13] = [
     &[],
     &[(Sign::Plus, [3, 0, 1, 1, 0, 1, 0, 0])],
@@ -48,7 +48,7 @@ const TRANSIT: [&[(Sign, [u64; 8])]; 13] = [
     ],
 ];
 
-/// Makes a step, of a session that no proof here looks into.
+/// Makes a step. It has no contract, which keeps the proofs of the tests short.
 pub(super) fn stepped<M: Simulated, P: Port, D: SectorDisk>(
     session: &mut Session<'_, M, P, D>,
     step: &Step,
@@ -56,7 +56,7 @@ pub(super) fn stepped<M: Simulated, P: Port, D: SectorDisk>(
     session.step(step)
 }
 
-/// Whether exactly this is in transit.
+/// Whether exactly these messages are in transit.
 fn travels(session: &Local<'_>, transit: &[(Sign, [u64; 8])]) -> bool {
     session
         .transit()
@@ -65,8 +65,8 @@ fn travels(session: &Local<'_>, transit: &[(Sign, [u64; 8])]) -> bool {
         .eq(transit.iter().copied())
 }
 
-/// Makes the step of the table at this place, and answers whether it answers what stands there,
-/// with that in transit.
+/// Makes one step of the table. Returns whether its answer and the messages in transit are those of
+/// the tables.
 fn is_made_as_written(
     alloc: Global,
     session: &mut Local<'_>,
@@ -81,7 +81,7 @@ fn is_made_as_written(
 }
 
 #[test]
-fn thirteen_steps_one_at_a_time(rt: HostRuntime) -> Result<(), Fail> {
+fn thirteen_steps_answer_as_in_the_table(rt: HostRuntime) -> Result<(), Fail> {
     let alloc = rt.alloc();
     let ring = Ring;
     let mut session = opened(alloc, &ring, formatted(alloc, &ring)?)?;
@@ -94,7 +94,7 @@ fn thirteen_steps_one_at_a_time(rt: HostRuntime) -> Result<(), Fail> {
 }
 
 #[test]
-fn a_post_to_a_busy_node(rt: HostRuntime) -> Result<(), Fail> {
+fn a_post_to_a_busy_node_is_refused(rt: HostRuntime) -> Result<(), Fail> {
     let alloc = rt.alloc();
     let ring = Ring;
     let mut session = opened(alloc, &ring, formatted(alloc, &ring)?)?;
@@ -109,11 +109,11 @@ fn a_post_to_a_busy_node(rt: HostRuntime) -> Result<(), Fail> {
 }
 
 #[test]
-fn the_last_sync_of_a_commit_fails(rt: HostRuntime) -> Result<(), Fail> {
+fn a_failed_last_sync_of_a_commit_spends_the_session(rt: HostRuntime) -> Result<(), Fail> {
     let alloc = rt.alloc();
     let ring = Ring;
     let image = formatted(alloc, &ring)?.crash(alloc, Torn::Old)?;
-    // The opening syncs and reads three sectors; the commit writes a data sector and the next gate,
+    // The opening syncs and reads three sectors. The commit writes a data sector and the next gate,
     // syncs, opens its gate, and syncs.
     let mut session = opened(alloc, &ring, failing(alloc, image, Some(8))?)?;
     session.drive(steps(alloc, 12)?.as_slice())?;
@@ -122,7 +122,7 @@ fn the_last_sync_of_a_commit_fails(rt: HostRuntime) -> Result<(), Fail> {
     let again = stepped(&mut session, &Step::Commit);
     assert!(rt; again == Err(SessionFault::Spent));
     assert_eq!(rt; session.front().time, 0);
-    // Opening the disk again syncs it, and a crash from then on keeps the record.
+    // Opening the disk again syncs it, and later crashes keep the record.
     let session = opened(alloc, &ring, session.into_disk())?;
     assert!(rt; is_at_three(&session));
     let image = session.into_disk().crash(alloc, Torn::Old)?;

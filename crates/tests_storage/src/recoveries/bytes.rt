@@ -12,7 +12,7 @@ fn a_header_has_the_bytes_of_its_format(rt: HostRuntime) -> Result<(), Fail> {
     Ok(())
 }
 
-/// This sector of a log with two records, the first of no event and the other of three.
+/// Sector `n` of a log with two records, the first without events, the second with three.
 fn sector_of(alloc: Global, n: u32) -> Result<[u8; 512], Fail> {
     let log = log_with(alloc, &[(1, &[]), (7, &EVENTS[..3])], None)?;
     let mut sector = [9; 512];
@@ -34,7 +34,7 @@ fn records_of_events_have_the_bytes_of_their_format(rt: HostRuntime) -> Result<(
 
 const NINE: [[u64; 8]; 9] = [[1, 2, 3, 4, 5, 6, 7, 8]; 9];
 
-/// The sectors of a log with two records: the first of these events, the other of none.
+/// The image of a log with two records: one of these events, and one without events.
 fn sectors_of(alloc: Global, events: &[[u64; 8]]) -> Result<Vec<u8>, Fail> {
     let log = log_with(alloc, &[(2, events), (2, &[])], None)?;
     Ok(log.into_disk().crash(alloc, Torn::Old)?)
@@ -44,8 +44,8 @@ fn are_zeros(bytes: Option<&[u8]>) -> bool {
     bytes.is_some_and(|bytes| bytes.iter().all(|byte| *byte == 0))
 }
 
-/// Whether a log has a record of events whose last byte stands at this place, with zeros behind it
-/// up to the next gate, which is open, as that behind the next record is not.
+/// Whether the record of these events has its last byte at this place, zeros from there to the next
+/// gate, and whether that gate is open and the one after it is closed.
 fn ends_at(alloc: Global, events: &[[u64; 8]], last: usize, gate: usize) -> Result<bool, Fail> {
     let image = sectors_of(alloc, events)?;
     let gate = gate.min(64) * 512;

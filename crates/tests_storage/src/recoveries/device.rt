@@ -1,6 +1,6 @@
 use super::*;
 
-// A device that fails once, in each of its operations in turn.
+// A device that fails once, at each of its operations in turn.
 
 /// The image of a disk with a log of all events.
 fn image_of_all(alloc: Global) -> Result<Vec<u8>, Fail> {
@@ -8,7 +8,7 @@ fn image_of_all(alloc: Global) -> Result<Vec<u8>, Fail> {
     Ok(disk.crash(alloc, Torn::Old)?)
 }
 
-/// The log of a disk with this image, whose operation of this number fails, counted from 0.
+/// The log of a disk with this image, whose operation number `fail` fails, counted from 0.
 fn failing_log(alloc: Global, image: &[u8], fail: u64) -> Result<Log<MemDisk>, RecoveryFault> {
     if image.len() > 1 << 20 {
         return Err(RecoveryFault::Log(LogFault::TooLong));
@@ -21,7 +21,7 @@ fn failing_log(alloc: Global, image: &[u8], fail: u64) -> Result<Log<MemDisk>, R
     Ok(open(alloc, disk)?)
 }
 
-/// What a recovery is refused for, and what the next one is. `None` where the first one is not.
+/// The faults of a recovery and of a second one; `None` if the first one succeeds.
 fn refused_twice(
     alloc: Global,
     image: &[u8],
@@ -37,16 +37,16 @@ fn refused_twice(
     }
 }
 
-/// What a failure of one operation leads to.
+/// The effect of one failed operation.
 #[derive(Clone, Copy, Debug, PartialEq, Eq)]
 enum Met {
     /// The log is not opened.
     Unopened,
     /// The recovery is refused, and then the log is spent.
     Spent,
-    /// The recovery does not come to that operation.
+    /// The recovery does not reach that operation.
     Nothing,
-    /// Something else, which should not come.
+    /// Anything else, which must not happen.
     Other,
 }
 
@@ -62,7 +62,7 @@ fn met_at(alloc: Global, image: &[u8], fail: u64) -> Met {
 }
 
 #[test]
-fn a_device_that_fails_spends_the_log(rt: HostRuntime) -> Result<(), Fail> {
+fn a_device_failure_spends_the_log(rt: HostRuntime) -> Result<(), Fail> {
     let image = image_of_all(rt.alloc())?;
     let mut spending: u32 = 0;
     let mut recovers = false;
@@ -72,7 +72,7 @@ fn a_device_that_fails_spends_the_log(rt: HostRuntime) -> Result<(), Fail> {
         spending = spending.saturating_add(u32::from(met == Met::Spent));
         recovers = recovers || met == Met::Nothing;
     }
-    // Each of the three records is read in one operation or more, and nothing behind the last one.
+    // Each of the three records takes at least one read, and nothing after the last one is read.
     assert!(rt; spending >= 3 && recovers);
     Ok(())
 }

@@ -5,7 +5,7 @@ const LATER: u64 = 20;
 
 const LATER_BODY: [u8; 8] = [0, 0, 0, 0, 0, 0, 0, 20];
 
-/// A log with all events before the end, and behind them records of ends with these bodies.
+/// A log with all events before the end, followed by records of ends with these bodies.
 fn with_bodies(alloc: Global, bodies: &[&[u8]]) -> Result<Log<MemDisk>, Fail> {
     let mut log = log_of_all(alloc)?;
     for body in bodies {
@@ -14,7 +14,7 @@ fn with_bodies(alloc: Global, bodies: &[&[u8]]) -> Result<Log<MemDisk>, Fail> {
     Ok(log)
 }
 
-/// A log with all events before the end, and behind them these ends.
+/// A log with all events before the end, followed by these ends.
 fn extended(alloc: Global, ends: &[u64]) -> Result<Log<MemDisk>, Fail> {
     let mut log = log_of_all(alloc)?;
     for end in ends {
@@ -23,7 +23,7 @@ fn extended(alloc: Global, ends: &[u64]) -> Result<Log<MemDisk>, Fail> {
     Ok(log)
 }
 
-/// The fault of the recovery under the end that the records tell, if there is one.
+/// The fault of the recovery for the end that the records give, if there is one.
 fn fault_under_its_end(
     alloc: Global,
     mut log: Log<MemDisk>,
@@ -44,7 +44,7 @@ fn end_behind(alloc: Global, bodies: &[&[u8]]) -> Result<u64, Fail> {
     Ok(end_of(alloc, &ring(), &mut log)?)
 }
 
-// A body of another length tells none, and a lower end is told all the same.
+// A body of another length gives no end. A lower end counts here too.
 const BODIES: [(&[&[u8]], u64); 4] = [
     (&[], END),
     (&[&LATER_BODY], LATER),
@@ -53,22 +53,22 @@ const BODIES: [(&[&[u8]], u64); 4] = [
 ];
 
 #[test]
-fn the_last_record_of_an_end_tells_the_one_in_force(rt: HostRuntime) -> Result<(), Fail> {
-    for (bodies, want) in BODIES {
-        assert_eq!(rt; end_behind(rt.alloc(), bodies)?, want);
+fn the_last_record_of_an_end_gives_the_end_in_force(rt: HostRuntime) -> Result<(), Fail> {
+    for (bodies, expected) in BODIES {
+        assert_eq!(rt; end_behind(rt.alloc(), bodies)?, expected);
     }
     Ok(())
 }
 
 #[test]
-fn the_end_of_another_model_is_not_told(rt: HostRuntime) -> Result<(), Fail> {
+fn the_end_of_another_model_is_not_read(rt: HostRuntime) -> Result<(), Fail> {
     let mut log = extended(rt.alloc(), &[LATER])?;
-    let told = end_of(rt.alloc(), &TokenRing::new(3, 2, 2), &mut log);
-    assert_eq!(rt; told, Err(RecoveryFault::OtherModel));
+    let stated = end_of(rt.alloc(), &TokenRing::new(3, 2, 2), &mut log);
+    assert_eq!(rt; stated, Err(RecoveryFault::OtherModel));
     Ok(())
 }
 
-/// The front of a log under a later end, and why there is none under the earlier one.
+/// The front of a log for the later end, and the fault for the earlier one.
 fn recovered_under_both(alloc: Global) -> Result<(Front, Option<RecoveryFault>), Fail> {
     let mut log = extended(alloc, &[LATER])?;
     let front = recover(alloc, &ring(), &mut log, LATER)?;
@@ -76,7 +76,7 @@ fn recovered_under_both(alloc: Global) -> Result<(Front, Option<RecoveryFault>),
 }
 
 #[test]
-fn a_later_end_leaves_the_world(rt: HostRuntime) -> Result<(), Fail> {
+fn a_later_end_does_not_change_the_world(rt: HostRuntime) -> Result<(), Fail> {
     let (front, fault) = recovered_under_both(rt.alloc())?;
     assert!(rt; front.is_same(&front_at_the_end(rt.alloc())?));
     assert_eq!(rt; fault, Some(RecoveryFault::OtherModel));
@@ -90,14 +90,14 @@ fn fault_of_late_events(alloc: Global) -> Result<Option<RecoveryFault>, Fail> {
     fault_of(alloc, &all, Some((1, more.as_slice())))
 }
 
-/// The front after events up to time 12 behind a later end.
+/// The front after events up to time 12 that follow a later end.
 fn front_of_late_events(alloc: Global) -> Result<Front, Fail> {
     let mut log = extended(alloc, &[LATER])?;
     log.append(1, body(alloc, 12, &EVENTS[5..])?.as_slice())?;
     Ok(recover(alloc, &ring(), &mut log, LATER)?)
 }
 
-/// The time of a message that is alone.
+/// The time of the message, if there is exactly one.
 fn only_time(messages: &[Message]) -> Option<u64> {
     match messages {
         [message] => Some(message.time()),
@@ -106,7 +106,7 @@ fn only_time(messages: &[Message]) -> Option<u64> {
 }
 
 #[test]
-fn events_go_on_under_a_later_end(rt: HostRuntime) -> Result<(), Fail> {
+fn events_continue_after_a_later_end(rt: HostRuntime) -> Result<(), Fail> {
     let fault = fault_of_late_events(rt.alloc())?;
     assert_eq!(rt; fault, Some(RecoveryFault::GoesBack));
     let front = front_of_late_events(rt.alloc())?;
@@ -131,7 +131,7 @@ const ENDS: [(&[u64], Option<RecoveryFault>); 7] = [
 ];
 
 #[test]
-fn ends_rise_and_are_at_most_the_highest(rt: HostRuntime) -> Result<(), Fail> {
+fn ends_increase_up_to_the_limit(rt: HostRuntime) -> Result<(), Fail> {
     for (ends, fault) in ENDS {
         assert_eq!(rt; fault_behind(rt.alloc(), ends)?, fault, "{ends:?}");
     }
@@ -139,7 +139,7 @@ fn ends_rise_and_are_at_most_the_highest(rt: HostRuntime) -> Result<(), Fail> {
 }
 
 #[test]
-fn an_end_of_another_length_is_no_record(rt: HostRuntime) -> Result<(), Fail> {
+fn an_end_of_another_length_is_a_bad_record(rt: HostRuntime) -> Result<(), Fail> {
     for size in [0, 7, 9] {
         let log = with_bodies(rt.alloc(), &[[0; 9].split_at(size).0])?;
         let fault = fault_under_its_end(rt.alloc(), log)?;

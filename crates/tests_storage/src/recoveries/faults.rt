@@ -1,6 +1,6 @@
 use super::*;
 
-/// Records of events, behind which one of no kind stands, and the fault.
+/// Records of events, followed by one of an unknown kind, and the fault.
 const AT_FAULT: [(&[(u64, &[[u64; 8]])], RecoveryFault); 3] = [
     (
         &[(7, &[FIRST, SECOND, THIRD]), (6, &[]), (2, &[])],
@@ -14,7 +14,7 @@ const AT_FAULT: [(&[(u64, &[[u64; 8]])], RecoveryFault); 3] = [
 ];
 
 #[test]
-fn the_first_record_at_fault_decides(rt: HostRuntime) -> Result<(), Fail> {
+fn the_first_record_at_fault_gives_the_fault(rt: HostRuntime) -> Result<(), Fail> {
     for (records, fault) in AT_FAULT {
         let behind = Some((9, [].as_slice()));
         assert_eq!(rt; fault_of(rt.alloc(), records, behind)?, Some(fault));
@@ -23,7 +23,7 @@ fn the_first_record_at_fault_decides(rt: HostRuntime) -> Result<(), Fail> {
 }
 
 #[test]
-fn a_fault_from_below_keeps_its_name(rt: HostRuntime) -> Result<(), Fail> {
+fn a_fault_of_a_lower_crate_keeps_its_name(rt: HostRuntime) -> Result<(), Fail> {
     let alloc = rt.alloc();
     let device = LogFault::Disk(DiskFault::Device);
     let faults = [

@@ -1,8 +1,7 @@
 use super::*;
 
-// What refuses memory once leaves the log as it was, and the same call works then. With ample
-// memory each call answers at once; `rt try --test --fail-alloc N` refuses the allocation of each
-// number in turn.
+// An allocation failure leaves the log unchanged, and a second call succeeds. With enough memory
+// the first call succeeds; `rt try --test --fail-alloc N` refuses each allocation in turn.
 
 fn is_of_memory(fault: &RecoveryFault) -> bool {
     matches!(
@@ -11,7 +10,7 @@ fn is_of_memory(fault: &RecoveryFault) -> bool {
     )
 }
 
-/// Recovers the ring; where memory is refused and the log is not spent, once again.
+/// Recovers the ring; a second time after an allocation failure that did not spend the log.
 fn recovered_again(alloc: Global, log: &mut Log<MemDisk>) -> Result<Front, RecoveryFault> {
     match recover(alloc, &ring(), log, END) {
         Err(fault) if is_of_memory(&fault) && !log.is_spent() => recover(alloc, &ring(), log, END),
@@ -30,7 +29,7 @@ fn encoded_again(alloc: Global, g: u64, events: &[Message]) -> Result<Vec<u8>, A
 }
 
 #[test]
-fn a_recovery_that_was_refused_memory_works_the_next_time(rt: HostRuntime) -> Result<(), Fail> {
+fn a_recovery_succeeds_after_an_allocation_failure(rt: HostRuntime) -> Result<(), Fail> {
     let alloc = rt.alloc();
     let mut log = log_of_all(alloc)?;
     let front = recovered_again(alloc, &mut log)?;
@@ -41,7 +40,7 @@ fn a_recovery_that_was_refused_memory_works_the_next_time(rt: HostRuntime) -> Re
 }
 
 #[test]
-fn a_body_that_was_refused_memory_is_made_the_next_time(rt: HostRuntime) -> Result<(), Fail> {
+fn a_body_is_encoded_after_an_allocation_failure(rt: HostRuntime) -> Result<(), Fail> {
     let alloc = rt.alloc();
     let events = messages(alloc, &EVENTS[..3])?;
     let body = encoded_again(alloc, 7, events.as_slice())?;

@@ -1,7 +1,7 @@
 use super::*;
 use recovery::{Stop, behind_checkpoints, front_of, replay_log};
 
-/// Where the replay of a log stops whose last record is of this kind and has no body, behind three
+/// Where the replay of a log stops that has a record of this kind without a body after three
 /// commits.
 fn stop_at(alloc: Global, kind: u8) -> Result<Option<Stop>, Fail> {
     let mut log = log_of_all(alloc)?;
@@ -21,7 +21,7 @@ fn replayed(alloc: Global) -> Result<Front, Fail> {
 }
 
 #[test]
-fn a_replay_comes_to_the_last_record(rt: HostRuntime) -> Result<(), Fail> {
+fn a_replay_reaches_the_last_record(rt: HostRuntime) -> Result<(), Fail> {
     let front = replayed(rt.alloc())?;
     assert!(rt; front.is_same(&front_at_the_end(rt.alloc())?));
     Ok(())

@@ -1,5 +1,5 @@
 use Rattle.std.proofs.Common.{ap, ◌∙◌}
-use Rattle.cli.specs.Line.{sectors_option}
+use Rattle.cli.specs.Command.{sectors_option}
 use Rattle.cli.proofs.Lines.{argument_added}
 use Rattle.cli.proofs.grammar.grow.Goals as goal
 

@@ -1,7 +1,7 @@
 use Rattle.std.proofs.Common.{ap, Ok}
 use Rattle.std.proofs.lemmas.Result.{IfOk-weaker}
 use Rattle.clap.specs.Words.{App}
-use Rattle.cli.specs.Line.{without_commands}
+use Rattle.cli.specs.Command.{without_commands}
 use Rattle.cli.proofs.Lines.{command_added}
 use Rattle.cli.proofs.grammar.program.Goals as goal
 

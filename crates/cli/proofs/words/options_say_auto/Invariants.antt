@@ -1,5 +1,5 @@
 use Rattle.std.proofs.Common.{◌≡◌, map, drop}
-use Rattle.cli.specs.Line.{says_auto}
+use Rattle.cli.specs.Command.{says_auto}
 use Rattle.cli.proofs.Autos.{left_say}
 use Rattle.cli.proofs.words.options_say_auto.Given as goal
 

@@ -1,6 +1,6 @@
 use Rattle.std.proofs.Common.{ap, map, drop, sym, ◌+◌, ◌∷◌, ◌≡◌, ◌∙◌}
 use Rattle.std.proofs.lemmas.List.{at_drop_all, at_drop_more}
-use Rattle.cli.specs.Line.{says_large}
+use Rattle.cli.specs.Command.{says_large}
 use Rattle.cli.proofs.Autos.{large_met, large_more, large_none}
 use Rattle.cli.proofs.words.options_say_large.Goals as goal
 

@@ -1,5 +1,5 @@
 use Rattle.std.proofs.Common.{◌≡◌, map, drop}
-use Rattle.cli.specs.Line.{says_large}
+use Rattle.cli.specs.Command.{says_large}
 use Rattle.cli.proofs.words.options_say_large.Given as goal
 
 abbrev pub invariant-loop-word : goal.invariant-loop-word

@@ -1,5 +1,5 @@
 use Rattle.std.proofs.Common.{ap, sym, ◌∙◌}
-use Rattle.cli.specs.Line.{says_auto}
+use Rattle.cli.specs.Command.{says_auto}
 use Rattle.cli.proofs.Autos.{auto_none, behind_first, none_behind}
 use Rattle.cli.proofs.words.says_auto.Goals as goal
 

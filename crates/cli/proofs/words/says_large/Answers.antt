@@ -1,5 +1,5 @@
 use Rattle.std.proofs.Common.{ap, sym, ◌∙◌}
-use Rattle.cli.specs.Line.{says_large}
+use Rattle.cli.specs.Command.{says_large}
 use Rattle.cli.proofs.Autos.{behind_first, large_none, none_behind}
 use Rattle.cli.proofs.words.says_large.Goals as goal
 

@@ -9,7 +9,7 @@ returns-in_err-write-clause-torn g c bytes within sector =
     let old : DiskState = g.D.SectorDisk.state c.args.disk.now in
     let new : DiskState = g.D.SectorDisk.state c.write.new.self in
     let image : List (List ℕ) = set old.reads c.args.n bytes in
-    let torn : MayLeave new.reads new.loose image = torn_left c.args.n bytes old.reads new.reads old.loose new.loose (law.sound c.args.disk.now) (law.sound c.write.new.self) within sector c.write.ensures.elsewhere c.write.ensures.loosened in
+    let torn : MayLeave new.reads new.dirty image = torn_left c.args.n bytes old.reads new.reads old.dirty new.dirty (law.sound c.args.disk.now) (law.sound c.write.new.self) within sector c.write.ensures.elsewhere c.write.ensures.loosened in
     counts_now new (moment old) image c.write.ensures.time.later torn
 
 pub returns-clause-torn : goal.returns-clause-torn
@@ -18,5 +18,5 @@ returns-clause-torn g c bytes within sector =
     let old : DiskState = g.D.SectorDisk.state c.args.disk.now in
     let mid : DiskState = g.D.SectorDisk.state c.write.new.self in
     let image : List (List ℕ) = set old.reads c.args.n bytes in
-    let torn : MayLeave mid.reads mid.loose image = torn_left c.args.n bytes old.reads mid.reads old.loose mid.loose (law.sound c.args.disk.now) (law.sound c.write.new.self) within sector c.write.ensures.elsewhere c.write.ensures.loosened in
+    let torn : MayLeave mid.reads mid.dirty image = torn_left c.args.n bytes old.reads mid.reads old.dirty mid.dirty (law.sound c.args.disk.now) (law.sound c.write.new.self) within sector c.write.ensures.elsewhere c.write.ensures.loosened in
     still_left old mid (g.D.SectorDisk.state c.sync.new.self) c.write.ensures.time c.sync.ensures.time image torn

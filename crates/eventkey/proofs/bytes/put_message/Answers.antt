@@ -1,7 +1,7 @@
 use Rattle.std.proofs.Common.{refl}
 use Rattle.eventkey.proofs.Written.{begins, put_field, all_written}
 use Rattle.byteorder.specs.Endian.{big_bytes}
-use Rattle.eventkey.specs.Spelling.{message_bytes}
+use Rattle.eventkey.specs.Encoding.{message_bytes}
 use Rattle.eventkey.proofs.bytes.put_message.Goals as goal
 
 pub returns : goal.returns

@@ -1,6 +1,6 @@
 use Rattle.std.proofs.Common.{ℕ, List, ◌∙◌, ◌∷◌, ap}
 use Rattle.eventkey.proofs.Written.{first_and_rest_written}
-use Rattle.eventkey.specs.Spelling.{signed_bytes, sign_byte}
+use Rattle.eventkey.specs.Encoding.{signed_bytes, sign_byte}
 use Rattle.eventkey.proofs.bytes.put_signed.Goals as goal
 
 pub returns : goal.returns

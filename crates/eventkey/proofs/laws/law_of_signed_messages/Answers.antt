@@ -1,8 +1,8 @@
-use Rattle.eventkey.proofs.Readings.{signed_are_read, signed_are_spelled, spellings_are_as_long}
+use Rattle.eventkey.proofs.Readings.{signed_are_read, signed_are_canonical, spellings_are_as_long}
 use Rattle.eventkey.proofs.laws.law_of_signed_messages.Goals as goal
 
-pub returns-clause-spelled : goal.returns-clause-spelled
-returns-clause-spelled c = signed_are_spelled
+pub returns-clause-encoded : goal.returns-clause-encoded
+returns-clause-encoded c = signed_are_canonical
 
 pub returns-clause-read : goal.returns-clause-read
 returns-clause-read c = signed_are_read

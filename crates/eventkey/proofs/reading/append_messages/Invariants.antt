@@ -1,6 +1,6 @@
 use Rattle.std.proofs.Common.{◌≡◌, ◌++◌, take}
 use Rattle.std.specs.List.{flat_map}
-use Rattle.eventkey.specs.Spelling.{message_bytes}
+use Rattle.eventkey.specs.Encoding.{message_bytes}
 use Rattle.eventkey.proofs.reading.append_messages.Given as goal
 
 abbrev pub invariant-loop-message : goal.invariant-loop-message

@@ -3,7 +3,7 @@ use Rattle.eventkey.proofs.Missing.{messages_missing}
 use Rattle.eventkey.proofs.Loop.{items_done, items_fail, items_go_on, with_front}
 use Rattle.eventkey.specs.Message.{Message}
 use Rattle.eventkey.specs.Reading.{items_at}
-use Rattle.eventkey.specs.Spelling.{message_at}
+use Rattle.eventkey.specs.Encoding.{message_at}
 use Rattle.eventkey.proofs.reading.read_messages.Goals as goal
 
 pub returns-in-None-clause-read : goal.returns-in-None-clause-read

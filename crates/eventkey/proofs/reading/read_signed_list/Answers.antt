@@ -3,7 +3,7 @@ use Rattle.eventkey.proofs.Missing.{signed_missing}
 use Rattle.eventkey.proofs.Loop.{items_done, items_fail, items_go_on, with_front}
 use Rattle.eventkey.specs.declared.Signed.{Signed}
 use Rattle.eventkey.specs.Reading.{items_at}
-use Rattle.eventkey.specs.Spelling.{signed_at}
+use Rattle.eventkey.specs.Encoding.{signed_at}
 use Rattle.eventkey.proofs.reading.read_signed_list.Goals as goal
 
 pub returns-in-None-clause-read : goal.returns-in-None-clause-read

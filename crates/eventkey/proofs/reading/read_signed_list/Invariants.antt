@@ -1,6 +1,6 @@
 use Rattle.std.proofs.Common.{◌≡◌, ◌-◌}
 use Rattle.eventkey.specs.Reading.{items_at}
-use Rattle.eventkey.specs.Spelling.{signed_at}
+use Rattle.eventkey.specs.Encoding.{signed_at}
 use Rattle.eventkey.proofs.Loop.{with_front}
 use Rattle.eventkey.proofs.reading.read_signed_list.Given as goal
 

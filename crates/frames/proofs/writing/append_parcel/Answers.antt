@@ -2,7 +2,7 @@ use Rattle.std.proofs.Common.{◌≡◌, ◌++◌, List, length, subst}
 use Rattle.std.proofs.lemmas.Result.{on_ok_weaker}
 use Rattle.std.specs.List.{flat_map}
 use Rattle.byteorder.specs.Endian.{big_bytes}
-use Rattle.eventkey.specs.Spelling.{signed_bytes}
+use Rattle.eventkey.specs.Encoding.{signed_bytes}
 use Rattle.eventkey.specs.declared.Signed.{Signed}
 use Rattle.frames.proofs.Appending.{parcel_joined}
 use Rattle.frames.proofs.writing.append_parcel.Goals as goal

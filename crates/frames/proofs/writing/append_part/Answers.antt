@@ -3,8 +3,8 @@ use Rattle.std.proofs.lemmas.Result.{on_ok_weaker}
 use Rattle.std.specs.List.{flat_map}
 use Rattle.byteorder.specs.Endian.{big_bytes}
 use Rattle.eventkey.specs.Message.{Message}
-use Rattle.eventkey.specs.Spelling.{message_bytes}
-use Rattle.model.specs.Spelling.{words_bytes}
+use Rattle.eventkey.specs.Encoding.{message_bytes}
+use Rattle.model.specs.Encoding.{words_bytes}
 use Rattle.frames.proofs.Appending.{part_joined}
 use Rattle.frames.proofs.writing.append_part.Goals as goal
 

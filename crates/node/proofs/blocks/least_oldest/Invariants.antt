@@ -3,5 +3,5 @@ use Rattle.node.specs.Node.{earliest}
 use Rattle.node.specs.Tournament.{least_among}
 use Rattle.node.proofs.blocks.least_oldest.Given as goal
 
-abbrev pub invariant-loop-standing : goal.invariant-loop-standing
-invariant-loop-standing l = earliest l.oldest (least_among (drop l.standing-index l.standings)).oldest ≡ (least_among l.standings).oldest
+abbrev pub invariant-loop-summary : goal.invariant-loop-summary
+invariant-loop-summary l = earliest l.oldest (least_among (drop l.summary-index l.summaries)).oldest ≡ (least_among l.summaries).oldest

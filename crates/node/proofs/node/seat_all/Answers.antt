@@ -28,10 +28,10 @@ set-requires-clause-inside c =
 
 pub loop-part-preserved : goal.loop-part-preserved
 loop-part-preserved c =
-    let told = c.len-in-loop-part.ensures in
+    let reported = c.len-in-loop-part.ensures in
     let place : c.len-in-loop-part.result ≡ length c.loop-part.processes.items = omega (arith, c.loop-part.processes.ok) in
     record {
-      so_far = seats_more (into_iter_items c.next.new.self) c.in-Some.part c.in_ok-process.process c.push.new.self.items c.of.result c.set.new.self c.loop-part.invariant.so_far c.in-Some.ensures.steps.0 c.in_ok-process.ensures.process c.in_ok-push.ensures.items c.of.ensures.standing (c.set.ensures ∙ ap (λ n. set c.loop-part.standings n c.of.result) place);
+      so_far = seats_more (into_iter_items c.next.new.self) c.in-Some.part c.in_ok-process.process c.push.new.self.items c.of.result c.set.new.self c.loop-part.invariant.so_far c.in-Some.ensures.steps.0 c.in_ok-process.ensures.process c.in_ok-push.ensures.items c.of.ensures.summary (c.set.ensures ∙ ap (λ n. set c.loop-part.summaries n c.of.result) place);
       left =
           let was = c.loop-part.invariant.left in
           let gone = c.in-Some.ensures.steps.1 in
@@ -44,7 +44,7 @@ returns-clause-processes c =
     let none = sym c.loop-part.invariant.left ∙ c.in-None.ensures.steps.0 in
     (all_seated c.loop-part.invariant.so_far none).0 ∙ ap (map (seat_of c.args.floor)) c.into_iter-part-iterator.ensures.into_iter_gives.0
 
-pub returns-clause-standings : goal.returns-clause-standings
-returns-clause-standings c =
+pub returns-clause-summaries : goal.returns-clause-summaries
+returns-clause-summaries c =
     let none = sym c.loop-part.invariant.left ∙ c.in-None.ensures.steps.0 in
     (all_seated c.loop-part.invariant.so_far none).1 ∙ ap (λ (ps : List Part). standings_of c.args.end (map (seat_of c.args.floor) ps)) c.into_iter-part-iterator.ensures.into_iter_gives.0

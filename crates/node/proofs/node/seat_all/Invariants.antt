@@ -5,6 +5,6 @@ use Rattle.node.proofs.node.seat_all.Given as goal
 
 abbrev pub invariant-loop-part : goal.invariant-loop-part
 invariant-loop-part l = record {
-  so_far : IsSeatedSoFar l.end l.floor (into_iter_items l.initial.part-iterator) l.yielded (into_iter_items l.part-iterator) l.processes.items l.standings;
+  so_far : IsSeatedSoFar l.end l.floor (into_iter_items l.initial.part-iterator) l.yielded (into_iter_items l.part-iterator) l.processes.items l.summaries;
   left : into_iter_len l.part-iterator ≡ length (into_iter_items l.part-iterator);
 }

@@ -30,7 +30,7 @@ times_of-requires-clause-events g c =
     (run_reached m c.args.end c.args.to c.in_ok-world.world c.run_to.new.self.world (g.met.M.Model.lawful c.args.model.now) c.requires.end c.in_ok-world.ensures.ok c.in_ok-run_to.ensures.sequential)
     (c.as_slice-3.ensures.value ∙ c.into_parts-time.ensures.log))
 
--- the run that the code answers
+-- the run that the code returns
 abbrev run_at : (g : given.Over) → goal.In_ok-times g → Run
 run_at g c = record {
   time = c.into_parts-time.result.time;

@@ -19,7 +19,7 @@ run_over-ended-requires g c =
 
 pub returns-in_err-ended-clause-err : goal.returns-in_err-ended-clause-err
 returns-in_err-ended-clause-err g c =
-    on_any c.from_residual.result (at_err c.in_err-ended.was (on_command c.run_over-ended.result.told
+    on_any c.from_residual.result (at_err c.in_err-ended.was (on_command c.run_over-ended.result.outcome
     (λ e. behind_begun (g.M.Model.meaning) (g.M.Described.says) _ _ (c.requires.file.0) c.args.of.now.model c.args.of.now.end (c.requires.file.1) c.args.plan _ _ _ _ (c.run_over-ended.ensures.over_err e))
     (λ f e n. c.run_over-ended.ensures.unwritten f e n)))
 

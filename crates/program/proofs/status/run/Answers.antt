@@ -1,7 +1,10 @@
-use Rattle.program.proofs.Printed.{at_err, on_any}
+use Rattle.std.proofs.Common.{[], refl}
+use Rattle.std.proofs.KnownBytes.{Appends-nil}
+use Rattle.program.proofs.Printed.{when_ok}
 use Rattle.program.proofs.status.run.Goals as goal
 
-pub returns-in_err-log_of-in-Log-clause-err : goal.returns-in_err-log_of-in-Log-clause-err
-returns-in_err-log_of-in-Log-clause-err g c =
-    rw c.in-Log.is
-    (on_any c.from_residual-in_err-log_of-in-Log.result (at_err c.in_err-log_of-in-Log.was c.log_of.ensures.err))
+-- a node prints nothing
+pub returns-in-Node-clause-ok : goal.returns-in-Node-clause-ok
+returns-in-Node-clause-ok g c =
+    rw c.in-Node.is
+    (when_ok c.serve_on.result ([], refl, Appends-nil (g.O.Write.contents c.args.out.now)))

@@ -2,7 +2,7 @@ use Rattle.std.proofs.Common.{◌∙◌, ap, reverse, subst, sym}
 use Rattle.eventkey.proofs.Lists.{IsAscending-left}
 use Rattle.eventkey.specs.Bag.{IsAscending}
 use Rattle.queues.proofs.Splits.{taken_far, taken_near}
-use Rattle.queues.specs.Place.{StandsAt}
+use Rattle.queues.specs.Place.{IsAtPlace}
 use Rattle.queues.specs.Split.{IsSplit, both}
 use Rattle.queues.proofs.event_list.take_out.Goals as goal
 
@@ -11,17 +11,17 @@ find-requires c = subst (λ xs. IsAscending (reverse xs)) (sym c.as_slice.ensure
 
 pub refill-requires-clause-ascending : goal.refill-requires-clause-ascending
 refill-requires-clause-ascending c =
-    let at : StandsAt c.args.message.now c.args.near.now.items c.in-Some.place = rw c.as_slice.ensures.value at c.in-Some.ensures in
+    let at : IsAtPlace c.args.message.now c.args.near.now.items c.in-Some.place = rw c.as_slice.ensures.value at c.in-Some.ensures in
     (taken_near c.args.message.now c.args.near.now.items c.args.far.now c.remove.new.self.items c.requires.ascending at.among (ap reverse c.remove.ensures.items ∙ at.without)).2
 
 pub returns-in-Some-clause-answer : goal.returns-in-Some-clause-answer
 returns-in-Some-clause-answer c =
-    let at : StandsAt c.args.message.now c.args.near.now.items c.in-Some.place = rw c.as_slice.ensures.value at c.in-Some.ensures in
+    let at : IsAtPlace c.args.message.now c.args.near.now.items c.in-Some.place = rw c.as_slice.ensures.value at c.in-Some.ensures in
     sym (taken_near c.args.message.now c.args.near.now.items c.args.far.now c.remove.new.self.items c.requires.ascending at.among (ap reverse c.remove.ensures.items ∙ at.without)).0
 
 pub returns-in-Some-clause-taken : goal.returns-in-Some-clause-taken
 returns-in-Some-clause-taken c =
-    let at : StandsAt c.args.message.now c.args.near.now.items c.in-Some.place = rw c.as_slice.ensures.value at c.in-Some.ensures in
+    let at : IsAtPlace c.args.message.now c.args.near.now.items c.in-Some.place = rw c.as_slice.ensures.value at c.in-Some.ensures in
     c.refill.ensures.same ∙ (taken_near c.args.message.now c.args.near.now.items c.args.far.now c.remove.new.self.items c.requires.ascending at.among (ap reverse c.remove.ensures.items ∙ at.without)).1
 
 pub returns-in-None-clause-split : goal.returns-in-None-clause-split

@@ -1,8 +1,10 @@
-use Rattle.std.proofs.Common.{refl, sym, ◌∙◌}
+use Rattle.std.proofs.Common.{List, refl, subst, sym, ◌∙◌}
 use Rattle.std.proofs.lemmas.List.{length-map}
 use Rattle.std.proofs.lemmas.Result.{IfOk-weaker}
-use Rattle.runs.proofs.Ports.{all_fresh, all_tell, so_many}
-use Rattle.wire.specs.Local.{state_of}
+use Rattle.runs.proofs.Ports.{all_fresh, all_faithful, so_many}
+use Rattle.wire.specs.Local.{state_by, state_of}
+use Rattle.wire.specs.Port.{PortState}
+use Rattle.runs.specs.Driver.{SessionRefused}
 use Rattle.wire.specs.declared.local.Held.TheVariants.{Fresh}
 use Rattle.runs.proofs.local.run_local.Goals as goal
 
@@ -18,16 +20,20 @@ run_over-requires g c =
     }
 
 pub returns-clause-finished : goal.returns-clause-finished
-returns-clause-finished g c = c.run_over.ensures.finished (all_tell c.args.plan.nodes (state_of (g.M.Model.meaning c.args.model.now) Fresh) _ c.in-Ok.ensures.ports (g.M.Model.meaning c.args.model.now) refl refl)
+returns-clause-finished g c = c.run_over.ensures.finished (all_faithful c.args.plan.nodes (state_of (g.M.Model.meaning c.args.model.now) Fresh) _ c.in-Ok.ensures.ports (g.M.Model.meaning c.args.model.now) refl refl)
 
 pub returns-clause-rounds : goal.returns-clause-rounds
-returns-clause-rounds g c = c.run_over.ensures.rounds (all_tell c.args.plan.nodes (state_of (g.M.Model.meaning c.args.model.now) Fresh) _ c.in-Ok.ensures.ports (g.M.Model.meaning c.args.model.now) refl refl)
+returns-clause-rounds g c = c.run_over.ensures.rounds (all_faithful c.args.plan.nodes (state_of (g.M.Model.meaning c.args.model.now) Fresh) _ c.in-Ok.ensures.ports (g.M.Model.meaning c.args.model.now) refl refl)
 
 pub returns-clause-crashes : goal.returns-clause-crashes
-returns-clause-crashes g c = c.run_over.ensures.crashes (all_tell c.args.plan.nodes (state_of (g.M.Model.meaning c.args.model.now) Fresh) _ c.in-Ok.ensures.ports (g.M.Model.meaning c.args.model.now) refl refl)
+returns-clause-crashes g c = c.run_over.ensures.crashes (all_faithful c.args.plan.nodes (state_of (g.M.Model.meaning c.args.model.now) Fresh) _ c.in-Ok.ensures.ports (g.M.Model.meaning c.args.model.now) refl refl)
 
 pub returns-clause-committed : goal.returns-clause-committed
-returns-clause-committed g c = c.run_over.ensures.committed (all_tell c.args.plan.nodes (state_of (g.M.Model.meaning c.args.model.now) Fresh) _ c.in-Ok.ensures.ports (g.M.Model.meaning c.args.model.now) refl refl)
+returns-clause-committed g c = c.run_over.ensures.committed (all_faithful c.args.plan.nodes (state_of (g.M.Model.meaning c.args.model.now) Fresh) _ c.in-Ok.ensures.ports (g.M.Model.meaning c.args.model.now) refl refl)
 
 pub returns-clause-reached : goal.returns-clause-reached
-returns-clause-reached g c = IfOk-weaker c.run_over.result.told _ _ (λ told over. over.reached) c.run_over.ensures.over
+returns-clause-reached g c = IfOk-weaker c.run_over.result.outcome _ _ (λ outcome over. over.reached) c.run_over.ensures.over
+
+pub returns-clause-refused : goal.returns-clause-refused
+returns-clause-refused g c = λ fault is.
+    subst (λ (ports : List PortState). SessionRefused g.M.Model.meaning (state_by g.M.Model.meaning) g.D.SectorDisk.state c.args.model.now c.args.end c.args.plan ports c.args.disk c.run_over.result.disk fault) c.in-Ok.ensures.ports (c.run_over.ensures.refused fault is)

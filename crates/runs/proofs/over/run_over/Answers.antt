@@ -1,13 +1,14 @@
-use Rattle.std.proofs.Common.{Err, ap, arith, length, refl, subst, sym, ◌≡◌, ◌∙◌}
+use Rattle.std.proofs.Common.{inr, Err, ap, arith, length, refl, subst, sym, ◌≡◌, ◌∙◌}
 use Rattle.coordinator.proofs.Resuming.{driven-on}
 use Rattle.coordinator.proofs.Begun.{recovers-genuine}
-use Rattle.coordinator.specs.Session.{picture_of, running}
-use Rattle.runs.proofs.Drives.{answered, goes_by}
+use Rattle.coordinator.specs.Session.{system_of, running}
+use Rattle.runs.proofs.Drives.{answered, goes_by, in_transit, shaped_by}
+use Rattle.runs.specs.Driver.{AreRounds}
 use Rattle.runs.proofs.Kept.{comes_to, keeps}
 use Rattle.runs.proofs.Unfinished.{unfinished}
-use Rattle.runs.specs.declared.rounds.RunFault.TheVariants.{Rounds}
+use Rattle.runs.specs.declared.rounds.RunFault.TheVariants.{Rounds, Session}
 use Rattle.model.specs.World.{IsUpto, World}
-use Rattle.protocol.specs.Picture.{opened as opened_picture}
+use Rattle.protocol.specs.System.{opened as opened_system}
 use Rattle.runs.proofs.over.run_over.Goals as goal
 use Rattle.runs.proofs.over.run_over.Goals.{in-Ok-run_session, in-Err-run_session}
 
@@ -15,7 +16,31 @@ pub returns-clause-over : goal.returns-clause-over
 returns-clause-over g c = elim c.match-run_session.branch [
   | in-Ok-run_session w ↦
       let time = ap (λ (v : World). v.time) w.front-front.ensures in
-      rw w.told-is
+      rw w.outcome-is
+      (record {
+        rounds = w.in-Ok-run_session.ensures.in_rounds.0;
+        front = c.run_session.new.session.front;
+        some = w.in-Ok-run_session.ensures.in_rounds.1;
+        run = record {
+          first = c.in-Ok.session;
+          last = c.run_session.new.session;
+          same = (c.in-Ok.ensures.same.0, c.in-Ok.ensures.same.1);
+          replayed = c.in-Ok.ensures.replayed;
+          driven = shaped_by g.M.Model.meaning g.P.Port.state g.D.SectorDisk.state _ (AreRounds c.args.plan c.args.end w.in-Ok-run_session.ensures.in_rounds.0) c.in-Ok.session c.run_session.new.session (λ ks is. is.0) w.in-Ok-run_session.ensures.in_rounds.2;
+          front_is = refl;
+          left = c.into_disk.ensures;
+        };
+        reached = omega (arith, w.in-Ok-run_session.ensures.ended, time);
+        time_is = sym time;
+        events_are = sym (ap (λ (v : World). length v.log) w.front-front.ensures);
+      })
+  | in-Err-run_session w ↦ rw w.outcome-is tt
+]
+
+pub returns-clause-counts : goal.returns-clause-counts
+returns-clause-counts g c = elim c.match-run_session.branch [
+  | in-Ok-run_session w ↦
+      rw w.outcome-is
       (record {
         rounds = w.in-Ok-run_session.ensures.in_rounds.0;
         front = c.run_session.new.session.front;
@@ -29,18 +54,15 @@ returns-clause-over g c = elim c.match-run_session.branch [
           front_is = refl;
           left = c.into_disk.ensures;
         };
-        reached = omega (arith, w.in-Ok-run_session.ensures.ended, time);
-        time_is = sym time;
-        events_are = sym (ap (λ (v : World). length v.log) w.front-front.ensures);
       })
-  | in-Err-run_session w ↦ rw w.told-is tt
+  | in-Err-run_session w ↦ rw w.outcome-is tt
 ]
 
 pub returns-clause-rounds_over : goal.returns-clause-rounds_over
 returns-clause-rounds_over g c = elim c.match-run_session.branch [
-  | in-Ok-run_session w ↦ rw w.told-is (λ is. absurd (cc))
+  | in-Ok-run_session w ↦ rw w.outcome-is (λ is. absurd (cc))
   | in-Err-run_session w ↦
-      rw w.told-is
+      rw w.outcome-is
       (λ is.
       let cause : w.in-Err-run_session.fault ≡ Rounds = cc in
       let all = ap Err cause in
@@ -60,62 +82,84 @@ returns-clause-rounds_over g c = elim c.match-run_session.branch [
 ]
 
 pub returns-clause-finished : goal.returns-clause-finished
-returns-clause-finished g c = λ tell genuine. elim c.match-run_session.branch [
+returns-clause-finished g c = λ are_faithful genuine. elim c.match-run_session.branch [
   | in-Ok-run_session w ↦
       let same = c.in-Ok.ensures.same in
-      let told = (c.in-Ok.ensures.told genuine tell).0 in
+      let consistent = (c.in-Ok.ensures.consistent genuine are_faithful).0 in
       let front = c.run_session.new.session.front in
-      let upto : IsUpto (g.M.Model.meaning c.args.model.now) c.args.end c.args.end front = subst (λ (x : g.row.M.Denot). IsUpto (g.M.Model.meaning x) c.args.end c.args.end front) same.0 (w.in-Ok-run_session.ensures.finished same.1 told) in
-      rw w.told-is
+      let upto : IsUpto (g.M.Model.meaning c.args.model.now) c.args.end c.args.end front = subst (λ (x : g.row.M.Denot). IsUpto (g.M.Model.meaning x) c.args.end c.args.end front) same.0 (w.in-Ok-run_session.ensures.finished same.1 consistent) in
+      rw w.outcome-is
       (record {
         world = front;
         upto = upto;
         time_is = sym (ap (λ (v : World). v.time) w.front-front.ensures) ∙ upto.time;
         events_are = sym (ap (λ (v : World). length v.log) w.front-front.ensures);
       })
-  | in-Err-run_session w ↦ rw w.told-is tt
+  | in-Err-run_session w ↦ rw w.outcome-is tt
 ]
 
 pub returns-clause-crashes : goal.returns-clause-crashes
-returns-clause-crashes g c = λ tell a recovers.
+returns-clause-crashes g c = λ are_faithful a recovers.
     let opened = c.in-Ok.ensures in
     let m = g.M.Model.meaning c.args.model.now in
     let genuine = recovers-genuine m c.args.end (g.met.M.Model.lawful c.args.model.now) c.requires.short (g.D.SectorDisk.state c.args.disk) (g.met.D.SectorDisk.sound c.args.disk) a recovers in
-    let told = (opened.told genuine tell).0 in
+    let consistent = (opened.consistent genuine are_faithful).0 in
     rw c.into_disk.ensures
     (keeps m c.args.end c.in-Ok.session.front c.run_session.new.session.front (g.D.SectorDisk.state c.args.disk) (g.D.SectorDisk.state c.in-Ok.session.log.disk) (g.D.SectorDisk.state c.run_session.new.session.log.disk)
-    (driven-on _ _ _ _ c.in-Ok.session.front c.run_session.new.session.front c.in-Ok.session.log _ _ (ap g.M.Model.meaning opened.same.0) opened.same.1 (c.run_session.ensures.keeps.crashes told) (opened.written genuine))
+    (driven-on _ _ _ _ c.in-Ok.session.front c.run_session.new.session.front c.in-Ok.session.log _ _ (ap g.M.Model.meaning opened.same.0) opened.same.1 (c.run_session.ensures.keeps.crashes consistent) (opened.written genuine))
     a (opened.crashes a recovers))
 
 pub returns-clause-committed : goal.returns-clause-committed
-returns-clause-committed g c = λ tell genuine. elim c.match-run_session.branch [
+returns-clause-committed g c = λ are_faithful genuine. elim c.match-run_session.branch [
   | in-Ok-run_session w ↦
       let opened = c.in-Ok.ensures in
       let m = g.M.Model.meaning c.args.model.now in
-      let told = (opened.told genuine tell).0 in
-      rw (w.told-is, c.into_disk.ensures)
+      let consistent = (opened.consistent genuine are_faithful).0 in
+      rw (w.outcome-is, c.into_disk.ensures)
       (comes_to m c.args.end c.in-Ok.session.front c.run_session.new.session.front (g.D.SectorDisk.state c.args.disk) (g.D.SectorDisk.state c.in-Ok.session.log.disk) (g.D.SectorDisk.state c.run_session.new.session.log.disk)
-      (driven-on _ _ _ _ c.in-Ok.session.front c.run_session.new.session.front c.in-Ok.session.log _ _ (ap g.M.Model.meaning opened.same.0) opened.same.1 (c.run_session.ensures.keeps.crashes told) (opened.written genuine))
+      (driven-on _ _ _ _ c.in-Ok.session.front c.run_session.new.session.front c.in-Ok.session.log _ _ (ap g.M.Model.meaning opened.same.0) opened.same.1 (c.run_session.ensures.keeps.crashes consistent) (opened.written genuine))
       c.args.end w.in-Ok-run_session.ensures.ended (opened.exactly genuine))
-  | in-Err-run_session w ↦ rw w.told-is tt
+  | in-Err-run_session w ↦ rw w.outcome-is tt
 ]
 
 pub returns-clause-rounds : goal.returns-clause-rounds
-returns-clause-rounds g c = λ tell genuine. elim c.match-run_session.branch [
-  | in-Ok-run_session w ↦ rw w.told-is (λ is. absurd (cc))
+returns-clause-rounds g c = λ are_faithful genuine. elim c.match-run_session.branch [
+  | in-Ok-run_session w ↦ rw w.outcome-is (λ is. absurd (cc))
   | in-Err-run_session w ↦
       let m = g.M.Model.meaning c.args.model.now in
       let opened = c.in-Ok.ensures in
-      let begun = opened.told genuine tell in
-      let picture = subst (λ n. picture_of (running g.M.Model.meaning g.P.Port.state c.in-Ok.session) ≡ opened_picture m.lps n c.in-Ok.session.front) c.requires.each begun.1 in
-      rw w.told-is
+      let begun = opened.consistent genuine are_faithful in
+      let system = subst (λ n. system_of (running g.M.Model.meaning g.P.Port.state c.in-Ok.session) ≡ opened_system m.lps n c.in-Ok.session.front) c.requires.each begun.1 in
+      rw w.outcome-is
       (λ is.
       let cause : w.in-Err-run_session.fault ≡ Rounds = cc in
       let all = ap Err cause in
       let by = w.in-Err-run_session.ensures.all_rounds all in
       unfinished m c.args.end c.args.plan (g.D.SectorDisk.state c.args.disk).reads c.in-Ok.session.front
       (running g.M.Model.meaning g.P.Port.state c.in-Ok.session) (running g.M.Model.meaning g.P.Port.state c.run_session.new.session) by.steps
-      opened.replayed (ap g.M.Model.meaning opened.same.0) opened.same.1 picture by.shape
+      opened.replayed (ap g.M.Model.meaning opened.same.0) opened.same.1 system by.shape
       ((goes_by g.M.Model.meaning g.P.Port.state g.D.SectorDisk.state by.steps c.in-Ok.session c.run_session.new.session by.made).made begun.0)
-      (answered g.M.Model.meaning g.P.Port.state g.D.SectorDisk.state by.steps c.in-Ok.session c.run_session.new.session by.made begun.0) (w.in-Err-run_session.ensures.rounds all))
+      (answered g.M.Model.meaning g.P.Port.state g.D.SectorDisk.state by.steps c.in-Ok.session c.run_session.new.session by.made begun.0)
+      (in_transit g.M.Model.meaning g.P.Port.state g.D.SectorDisk.state by.steps c.in-Ok.session c.run_session.new.session by.made begun.0) (w.in-Err-run_session.ensures.rounds all))
+]
+
+pub returns-clause-refused : goal.returns-clause-refused
+returns-clause-refused g c = elim c.match-run_session.branch [
+  | in-Ok-run_session w ↦ rw w.outcome-is (λ fault is. absurd (cc))
+  | in-Err-run_session w ↦
+      rw w.outcome-is
+      (λ fault is.
+      let cause : w.in-Err-run_session.fault ≡ Session fault = cc in
+      let stop = w.in-Err-run_session.ensures.refused fault (ap Err cause) in
+      inr
+      (record {
+        first = c.in-Ok.session;
+        last = c.run_session.new.session;
+        same = (c.in-Ok.ensures.same.0, c.in-Ok.ensures.same.1);
+        replayed = c.in-Ok.ensures.replayed;
+        rounds = stop.0;
+        some = stop.1;
+        refused = stop.2;
+        left = c.into_disk.ensures;
+      }))
 ]

@@ -1,40 +1,37 @@
-use Rattle.std.proofs.Common.{◌≡◌, ◌+◌, ℕ, List, ◌++◌, append-nil, refl, ap, arith, drop, subst, length, rules, take, ◌∙◌}
-use Rattle.std.proofs.lemmas.List.{drop_all, take_all}
+use Rattle.std.proofs.Common.{◌≡◌, ◌+◌, ℕ, List, refl, ap, arith, subst, sym, length, ◌∙◌}
+use Rattle.std.proofs.lemmas.List.{length-replicate}
 use Rattle.model.specs.World.{World}
-use Rattle.runs.specs.Driver.{AreRounds, IsDrivenBy, IsRound, told_since}
+use Rattle.runs.specs.Driver.{AreCounts, AreRounds, IsDrivenBy, IsRound, reported_since}
 use Rattle.runs.specs.Tallies.{IsTallied, IsTallyOf}
-use Rattle.runs.proofs.Counts.{round_more}
-use Rattle.runs.proofs.Drives.{driven_so, driven_stands, finished, shaped_by, stood_by, then_after, then_stands}
+use Rattle.runs.proofs.Counts.{none_handled, round_more}
+use Rattle.runs.proofs.Drives.{driven_so, driven_represents, finished, shaped_by, stood_by, then_after, then_represents}
+use Rattle.runs.proofs.Refused.{passed_on, refused_after}
+use Rattle.runs.proofs.Shapes.{one_round_more}
 use Rattle.runs.proofs.rounds.run_session.Goals as goal
-
--- a vector whose items were lent out as a slice is as long as before
-as_long : (n : ℕ) (new old : List ℕ) → n ≡ length old → length new ≡ length old → length (take n (new ++ drop (length new) old)) ≡ length old
-as_long n new old whole same =
-    ap length (ap (take n) (ap (λ (rest : List ℕ). new ++ rest) (drop_all (length new) old (omega arith)) ∙ append-nil new) ∙ take_all n new (omega arith)) ∙ same
 
 pub rounds-init : goal.rounds-init
 rounds-init g c = record {
   made = omega arith;
-  driven = stood_by g.M.Model.meaning g.P.Port.state g.D.SectorDisk.state (λ made. AreRounds c.args.plan c.args.end 0 made × IsTallyOf c.args.plan.commit_every c.in_ok-tally.tally made) c.args.session.now (refl, record { wanted = omega (arith, c.in_ok-tally.ensures.wanted); commits = c.in_ok-tally.ensures.commits });
+  driven = stood_by g.M.Model.meaning g.P.Port.state g.D.SectorDisk.state (λ made. AreRounds c.args.plan c.args.end 0 made × IsTallyOf c.args.plan.commit_every c.in_ok-tally.tally made) c.args.session.now (refl, record { events_until_commit = omega (arith, c.in_ok-tally.ensures.events_until_commit); commits = c.in_ok-tally.ensures.commits; handled = none_handled c.args.plan.nodes c.in_ok-tally.tally.handled_per_node.items c.in_ok-tally.ensures.handled });
   commits = omega (arith, c.in_ok-tally.ensures.commits);
   budgets = c.in_ok-tally.ensures.budgets;
-  count = search rules;
+  counts = ap length c.in_ok-tally.ensures.handled ∙ length-replicate {A = ℕ} c.args.plan.nodes 0;
 }
 
 pub returns-in_err-round-clause-keeps : goal.returns-in_err-round-clause-keeps
-returns-in_err-round-clause-keeps g c = then_stands g.M.Model.meaning g.P.Port.state g.D.SectorDisk.state c.args.session.now c.rounds.session c.round.new.session (driven_so g.M.Model.meaning g.P.Port.state g.D.SectorDisk.state _ c.args.session.now c.rounds.session c.rounds.invariant.driven) c.in_err-round.ensures.keeps
+returns-in_err-round-clause-keeps g c = then_represents g.M.Model.meaning g.P.Port.state g.D.SectorDisk.state c.args.session.now c.rounds.session c.round.new.session (driven_so g.M.Model.meaning g.P.Port.state g.D.SectorDisk.state _ c.args.session.now c.rounds.session c.rounds.invariant.driven) c.in_err-round.ensures.keeps
 
 pub rounds-preserved : goal.rounds-preserved
 rounds-preserved g c = (let before = c.rounds.invariant.driven in record {
   made = omega (arith, c.if-made-plan.false);
-  driven = then_after g.M.Model.meaning g.P.Port.state g.D.SectorDisk.state _ (λ made. IsRound c.args.plan c.args.end (told_since 0 before.steps) c.rounds.tally.commits made × IsTallied c.args.plan.commit_every c.rounds.tally c.round.new.tally made)
+  driven = then_after g.M.Model.meaning g.P.Port.state g.D.SectorDisk.state _ (λ made. IsRound c.args.plan c.args.end (reported_since 0 before.steps) c.rounds.tally.commits made × IsTallied c.args.plan.commit_every c.rounds.tally c.round.new.tally made)
       (λ made. AreRounds c.args.plan c.args.end (c.rounds.made + 1) made × IsTallyOf c.args.plan.commit_every c.round.new.tally made)
       c.args.session.now c.rounds.session c.round.new.session before
       (λ ls round. round_more c.args.plan c.args.end c.rounds.made c.rounds.tally c.round.new.tally before.steps ls before.shape round)
-      (c.in_ok-round.ensures.driven (told_since 0 before.steps) before.shape.1.wanted);
+      (c.in_ok-round.ensures.driven (reported_since 0 before.steps) before.shape.1.events_until_commit);
   commits = omega (arith, c.in_ok-round.ensures.commits, c.rounds.invariant.commits);
   budgets = c.round.ensures.budgets ∙ c.rounds.invariant.budgets;
-  count = as_long c.rounds.handled_per_node.len c.round.new.handled_per_node c.rounds.handled_per_node.items (omega (arith, c.as_mut_slice.ensures.len, c.rounds.handled_per_node.ok)) (omega (arith, c.round.auto.handled_per_node, c.as_mut_slice.ensures.len)) ∙ c.rounds.invariant.count;
+  counts = c.round.ensures.counts ∙ c.rounds.invariant.counts;
 })
 
 pub returns-clause-finished : goal.returns-clause-finished
@@ -44,16 +41,31 @@ pub returns-clause-driven : goal.returns-clause-driven
 returns-clause-driven g c = driven_so g.M.Model.meaning g.P.Port.state g.D.SectorDisk.state _ c.args.session.now c.rounds.session c.rounds.invariant.driven
 
 pub returns-clause-in_rounds : goal.returns-clause-in_rounds
-returns-clause-in_rounds g c = (c.rounds.made, c.rounds.invariant.made, shaped_by g.M.Model.meaning g.P.Port.state g.D.SectorDisk.state _ (AreRounds c.args.plan c.args.end c.rounds.made) c.args.session.now c.rounds.session (λ ks is. is.0) c.rounds.invariant.driven)
+returns-clause-in_rounds g c = (
+  c.rounds.made,
+  c.rounds.invariant.made,
+  shaped_by g.M.Model.meaning g.P.Port.state g.D.SectorDisk.state _ (λ made. AreRounds c.args.plan c.args.end c.rounds.made made × AreCounts c.into_handled_per_node.result.items made) c.args.session.now c.rounds.session
+      (λ ks is. (is.0, subst (λ (counts : List ℕ). AreCounts counts ks) (sym c.into_handled_per_node.ensures) is.1.handled)) c.rounds.invariant.driven,
+)
 
 pub returns-then-made-plan-clause-keeps : goal.returns-then-made-plan-clause-keeps
-returns-then-made-plan-clause-keeps g c = driven_stands g.M.Model.meaning g.P.Port.state g.D.SectorDisk.state c.args.session.now c.rounds.session (driven_so g.M.Model.meaning g.P.Port.state g.D.SectorDisk.state _ c.args.session.now c.rounds.session c.rounds.invariant.driven)
+returns-then-made-plan-clause-keeps g c = driven_represents g.M.Model.meaning g.P.Port.state g.D.SectorDisk.state c.args.session.now c.rounds.session (driven_so g.M.Model.meaning g.P.Port.state g.D.SectorDisk.state _ c.args.session.now c.rounds.session c.rounds.invariant.driven)
 
 pub returns-clause-keeps : goal.returns-clause-keeps
-returns-clause-keeps g c = driven_stands g.M.Model.meaning g.P.Port.state g.D.SectorDisk.state c.args.session.now c.rounds.session (driven_so g.M.Model.meaning g.P.Port.state g.D.SectorDisk.state _ c.args.session.now c.rounds.session c.rounds.invariant.driven)
+returns-clause-keeps g c = driven_represents g.M.Model.meaning g.P.Port.state g.D.SectorDisk.state c.args.session.now c.rounds.session (driven_so g.M.Model.meaning g.P.Port.state g.D.SectorDisk.state _ c.args.session.now c.rounds.session c.rounds.invariant.driven)
 
 pub returns-then-made-plan-clause-all_rounds : goal.returns-then-made-plan-clause-all_rounds
 returns-then-made-plan-clause-all_rounds g c = λ is.
     let all : c.rounds.made ≡ c.args.plan.rounds = omega (arith, c.if-made-plan.true, c.rounds.invariant.made) in
     subst (λ n. IsDrivenBy g.M.Model.meaning g.P.Port.state g.D.SectorDisk.state (AreRounds c.args.plan c.args.end n) c.args.session.now c.rounds.session) all
     (shaped_by g.M.Model.meaning g.P.Port.state g.D.SectorDisk.state _ (AreRounds c.args.plan c.args.end c.rounds.made) c.args.session.now c.rounds.session (λ ks h. h.0) c.rounds.invariant.driven)
+
+pub returns-in_err-round-clause-refused : goal.returns-in_err-round-clause-refused
+returns-in_err-round-clause-refused g c = λ fault e.
+    let before = c.rounds.invariant.driven in (
+      c.rounds.made + 1,
+      omega (arith, c.if-made-plan.false),
+      refused_after g.M.Model.meaning g.P.Port.state g.D.SectorDisk.state _ (IsRound c.args.plan c.args.end (reported_since 0 before.steps) c.rounds.tally.commits) (AreRounds c.args.plan c.args.end (c.rounds.made + 1)) c.args.session.now c.rounds.session c.round.new.session fault before
+          (λ ls round. one_round_more c.args.plan c.args.end c.rounds.made before.steps ls before.shape.0 (subst (λ (n : ℕ). IsRound c.args.plan c.args.end (reported_since 0 before.steps) n ls) before.shape.1.commits round))
+          (c.in_err-round.ensures.refused (reported_since 0 before.steps) before.shape.1.events_until_commit fault (passed_on c.from_residual-in_err-round.result c.in_err-round.field-0.0 fault c.from_residual-in_err-round.ensures.1 e)),
+    )

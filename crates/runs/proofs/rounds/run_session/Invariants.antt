@@ -9,7 +9,7 @@ invariant-rounds g l = record {
   driven : IsDrivenBy g.M.Model.meaning g.P.Port.state g.D.SectorDisk.state (λ made. AreRounds l.plan l.end l.made made × IsTallyOf l.plan.commit_every l.tally made) l.fn.session l.session;
   commits : l.tally.commits ≤ l.made;
   budgets : length l.tally.budgets.items ≡ l.plan.nodes;
-  count : length l.handled_per_node.items ≡ l.plan.nodes;
+  counts : length l.tally.handled_per_node.items ≡ l.plan.nodes;
 }
 
 abbrev pub decreases-rounds : goal.decreases-rounds

@@ -1,23 +1,26 @@
 use Rattle.std.proofs.Common.{◌≡◌, [], ◌∷◌, arith, refl}
 use Rattle.protocol.specs.Moves.Move.{Take}
+use Rattle.runs.specs.Driver.{moves_of}
 use Rattle.runs.specs.Tallies.{Tallied}
+use Rattle.runs.proofs.Counts.{take_counted}
 use Rattle.runs.proofs.Drives.{one_step_by}
+use Rattle.runs.proofs.Refused.{of_step, refused_at_once}
+use Rattle.protocol.specs.declared.Answer.TheVariants.{AlreadyAt}
 use Rattle.runs.proofs.rounds.take.Goals as goal
 
-pub returns-in-Taken-clause-driven : goal.returns-in-Taken-clause-driven
-returns-in-Taken-clause-driven g c = λ every.
-    one_step_by g.M.Model.meaning g.P.Port.state g.D.SectorDisk.state (Tallied every (λ moves. moves ≡ Take c.args.node ∷ []) c.args.tally.now c.taken.new.self) _ c.in_ok-answer.answer c.args.session.now c.step.new.self
+pub returns-clause-driven : goal.returns-clause-driven
+returns-clause-driven g c = λ every.
+    one_step_by g.M.Model.meaning g.P.Port.state g.D.SectorDisk.state (Tallied every (λ taken. moves_of taken ≡ Take c.args.node ∷ []) c.args.tally.now c.taken.new.self) _ c.in_ok-answer.answer c.args.session.now c.step.new.self
     (record {
       shape = refl;
-      tally = record { wanted = λ told is. omega (arith, c.taken.ensures.wanted, is); commits = omega (arith, c.taken.ensures.commits) };
+      tally = record {
+        events_until_commit = λ reported is. omega (arith, c.taken.ensures.events_until_commit, is);
+        commits = omega (arith, c.taken.ensures.commits);
+        handled = take_counted c.args.node c.args.tally.now.handled_per_node.items c.taken.new.self.handled_per_node.items c.in_ok-answer.answer c.requires.counts c.taken.ensures.handled;
+      };
       floor = c.taken.ensures.floor;
     }) c.in_ok-answer.ensures
 
-pub returns-in_default-clause-driven : goal.returns-in_default-clause-driven
-returns-in_default-clause-driven g c = λ every.
-    one_step_by g.M.Model.meaning g.P.Port.state g.D.SectorDisk.state (Tallied every (λ moves. moves ≡ Take c.args.node ∷ []) c.args.tally.now c.taken.new.self) _ c.in_ok-answer.answer c.args.session.now c.step.new.self
-    (record {
-      shape = refl;
-      tally = record { wanted = λ told is. omega (arith, c.taken.ensures.wanted, is); commits = omega (arith, c.taken.ensures.commits) };
-      floor = c.taken.ensures.floor;
-    }) c.in_ok-answer.ensures
+pub returns-in_err-answer-clause-refused : goal.returns-in_err-answer-clause-refused
+returns-in_err-answer-clause-refused g c = λ fault is.
+    refused_at_once g.M.Model.meaning g.P.Port.state g.D.SectorDisk.state (λ taken. moves_of taken ≡ Take c.args.node ∷ []) _ (AlreadyAt 0) [] c.args.session.now c.step.new.self c.in_err-answer.field-0.0 fault refl (of_step c.from_residual.result c.in_err-answer.field-0.0 fault c.from_residual.ensures.1 is) c.in_err-answer.ensures

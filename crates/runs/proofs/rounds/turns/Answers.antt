@@ -2,35 +2,42 @@ use Rattle.std.proofs.Common.{◌≡◌, ◌∙◌, ◌+◌, arith, refl, subst}
 use Rattle.runs.specs.Driver.{IsDrivenBy, AreTurns, IsTurn}
 use Rattle.runs.specs.Tallies.{Tallied}
 use Rattle.runs.proofs.Counts.{both_tallied, no_move}
-use Rattle.runs.proofs.Drives.{driven_so, driven_stands, stood_by, then_by, then_stands}
+use Rattle.runs.proofs.Drives.{driven_so, driven_represents, stood_by, then_by, then_represents}
 use Rattle.runs.proofs.Shapes.{one_turn_more}
+use Rattle.runs.proofs.Refused.{passed_on, refused_within, turns_more}
 use Rattle.runs.proofs.rounds.turns.Goals as goal
 
 pub nodes-init : goal.nodes-init
 nodes-init g c = record {
-  driven = stood_by g.M.Model.meaning g.P.Port.state g.D.SectorDisk.state _ c.args.session.now (no_move c.args.plan.commit_every (AreTurns c.args.plan.batch 0) c.args.tally.now refl);
+  driven = stood_by g.M.Model.meaning g.P.Port.state g.D.SectorDisk.state _ c.args.session.now (no_move c.args.plan.commit_every (AreTurns c.args.plan 0) c.args.tally.now refl);
   commits = refl;
   budgets = refl;
+  counts = refl;
 }
 
 pub returns-in_err-turn-clause-keeps : goal.returns-in_err-turn-clause-keeps
 returns-in_err-turn-clause-keeps g c =
-    then_stands g.M.Model.meaning g.P.Port.state g.D.SectorDisk.state c.args.session.now c.nodes.session c.turn.new.session
+    then_represents g.M.Model.meaning g.P.Port.state g.D.SectorDisk.state c.args.session.now c.nodes.session c.turn.new.session
     (driven_so g.M.Model.meaning g.P.Port.state g.D.SectorDisk.state _ c.args.session.now c.nodes.session c.nodes.invariant.driven) c.in_err-turn.ensures.keeps
 
 pub nodes-preserved : goal.nodes-preserved
 nodes-preserved g c = record {
   driven = then_by g.M.Model.meaning g.P.Port.state g.D.SectorDisk.state _ _ _ c.args.session.now c.nodes.session c.turn.new.session
-      (both_tallied c.args.plan.commit_every (AreTurns c.args.plan.batch c.nodes.node) (IsTurn c.args.plan.batch c.nodes.node) (AreTurns c.args.plan.batch (c.nodes.node + 1)) c.args.tally.now c.nodes.tally c.turn.new.tally (one_turn_more c.args.plan.batch c.nodes.node))
+      (both_tallied c.args.plan.commit_every (AreTurns c.args.plan c.nodes.node) (IsTurn c.args.plan c.nodes.node) (AreTurns c.args.plan (c.nodes.node + 1)) c.args.tally.now c.nodes.tally c.turn.new.tally (one_turn_more c.args.plan c.nodes.node))
       c.nodes.invariant.driven c.in_ok-turn.ensures.driven;
   commits = omega (arith, c.turn.ensures.commits, c.nodes.invariant.commits);
   budgets = c.turn.ensures.budgets ∙ c.nodes.invariant.budgets;
+  counts = c.turn.ensures.counts ∙ c.nodes.invariant.counts;
 }
 
 pub returns-clause-driven : goal.returns-clause-driven
 returns-clause-driven g c =
     let whole : c.nodes.node ≡ c.args.plan.nodes = omega (arith, c.nodes-test.false, c.nodes.auto.node-end) in
-    subst (λ n. IsDrivenBy g.M.Model.meaning g.P.Port.state g.D.SectorDisk.state (Tallied c.args.plan.commit_every (AreTurns c.args.plan.batch n) c.args.tally.now c.nodes.tally) c.args.session.now c.nodes.session) whole c.nodes.invariant.driven
+    subst (λ n. IsDrivenBy g.M.Model.meaning g.P.Port.state g.D.SectorDisk.state (Tallied c.args.plan.commit_every (AreTurns c.args.plan n) c.args.tally.now c.nodes.tally) c.args.session.now c.nodes.session) whole c.nodes.invariant.driven
 
 pub returns-clause-keeps : goal.returns-clause-keeps
-returns-clause-keeps g c = driven_stands g.M.Model.meaning g.P.Port.state g.D.SectorDisk.state c.args.session.now c.nodes.session (driven_so g.M.Model.meaning g.P.Port.state g.D.SectorDisk.state _ c.args.session.now c.nodes.session c.nodes.invariant.driven)
+returns-clause-keeps g c = driven_represents g.M.Model.meaning g.P.Port.state g.D.SectorDisk.state c.args.session.now c.nodes.session (driven_so g.M.Model.meaning g.P.Port.state g.D.SectorDisk.state _ c.args.session.now c.nodes.session c.nodes.invariant.driven)
+
+pub returns-in_err-turn-clause-refused : goal.returns-in_err-turn-clause-refused
+returns-in_err-turn-clause-refused g c = λ fault is.
+    refused_within g.M.Model.meaning g.P.Port.state g.D.SectorDisk.state (AreTurns c.args.plan) (IsTurn c.args.plan c.nodes.node) c.nodes.node c.args.plan.nodes c.args.session.now c.nodes.session c.turn.new.session fault c.nodes-test.true (turns_more c.args.plan) (one_turn_more c.args.plan c.nodes.node) c.nodes.invariant.driven (c.in_err-turn.ensures.refused fault (passed_on c.from_residual.result c.in_err-turn.field-0.0 fault c.from_residual.ensures.1 is))

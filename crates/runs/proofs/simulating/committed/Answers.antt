@@ -14,12 +14,12 @@ returns-clause-late g c =
     let opened = c.in-Ok.ensures in
     let holds : Holds c.in-Ok.log.header c.in-Ok.log.records disk.reads = subst (λ (image : List (List ℕ)). Holds c.in-Ok.log.header c.in-Ok.log.records image) opened.looks.same opened.durable.holds in
     elim c.match-recover.branch [
-      | in-Ok-recover w ↦ rw w.told-is (λ a recovers.
+      | in-Ok-recover w ↦ rw w.outcome-is (λ a recovers.
           (let ours = w.in-Ok-recover.ensures.ours in
           let genuine = recovers-genuine m c.args.end (g.met.M.Model.lawful c.args.model.now) c.requires.short disk (g.met.D.SectorDisk.sound c.args.disk) a recovers c.in-Ok.log.records (log-on m c.args.end c.in-Ok.log.header c.in-Ok.log.records disk.reads ours holds) in
           no_earlier m c.args.end a disk (world_of w.in-Ok-recover.front) (g.met.M.Model.lawful c.args.model.now) c.requires.short (g.met.D.SectorDisk.sound c.args.disk) recovers
-          (w.in-Ok-recover.ensures.stands ours genuine disk.reads holds)))
-      | in-Err-recover w ↦ rw w.told-is (λ a recovers. tt)
+          (w.in-Ok-recover.ensures.represents ours genuine disk.reads holds)))
+      | in-Err-recover w ↦ rw w.outcome-is (λ a recovers. tt)
     ]
 
 pub returns-clause-refused : goal.returns-clause-refused
@@ -31,22 +31,22 @@ returns-clause-refused g c =
     let new = g.D.SectorDisk.state c.recover.new.log.disk in
     let holds : Holds log.header log.records old.reads = subst (λ (image : List (List ℕ)). Holds log.header log.records image) c.in-Ok.ensures.looks.same c.in-Ok.ensures.durable.holds in
     elim c.match-recover.branch [
-      | in-Ok-recover w ↦ rw w.told-is tt
+      | in-Ok-recover w ↦ rw w.outcome-is tt
       | in-Err-recover w ↦
-          rw (w.told-is, c.into_disk.ensures)
+          rw (w.outcome-is, c.into_disk.ensures)
           (not_recovered m c.args.end log old.reads w.in-Err-recover.fault (mid.failures < new.failures) (old.failures < new.failures) (λ f. subst (λ (n : ℕ). n < new.failures) c.in-Ok.ensures.no_failure f) c.in-Ok.ensures.ready holds w.in-Err-recover.ensures.refused)
     ]
 
-pub returns-clause-stands : goal.returns-clause-stands
-returns-clause-stands g c = λ genuine.
+pub returns-clause-represents : goal.returns-clause-represents
+returns-clause-represents g c = λ genuine.
     let disk = g.D.SectorDisk.state c.args.disk in
     let log = c.in-Ok.log in
     let holds : Holds log.header log.records disk.reads = subst (λ (image : List (List ℕ)). Holds log.header log.records image) c.in-Ok.ensures.looks.same c.in-Ok.ensures.durable.holds in
     elim c.match-recover.branch [
-      | in-Ok-recover w ↦ rw w.told-is
+      | in-Ok-recover w ↦ rw w.outcome-is
           (let ours = w.in-Ok-recover.ensures.ours in
-          w.in-Ok-recover.ensures.stands ours (genuine log.records (log-on (g.M.Model.meaning c.args.model.now) c.args.end log.header log.records disk.reads ours holds)) disk.reads holds)
-      | in-Err-recover w ↦ rw w.told-is tt
+          w.in-Ok-recover.ensures.represents ours (genuine log.records (log-on (g.M.Model.meaning c.args.model.now) c.args.end log.header log.records disk.reads ours holds)) disk.reads holds)
+      | in-Err-recover w ↦ rw w.outcome-is tt
     ]
 
 pub returns-clause-upto : goal.returns-clause-upto
@@ -55,8 +55,8 @@ returns-clause-upto g c = λ genuine.
     let log = c.in-Ok.log in
     let holds : Holds log.header log.records disk.reads = subst (λ (image : List (List ℕ)). Holds log.header log.records image) c.in-Ok.ensures.looks.same c.in-Ok.ensures.durable.holds in
     elim c.match-recover.branch [
-      | in-Ok-recover w ↦ rw w.told-is
+      | in-Ok-recover w ↦ rw w.outcome-is
           (let ours = w.in-Ok-recover.ensures.ours in
           (w.in-Ok-recover.ensures.upto ours (genuine log.records (log-on (g.M.Model.meaning c.args.model.now) c.args.end log.header log.records disk.reads ours holds)), w.in-Ok-recover.ensures.loadable.within))
-      | in-Err-recover w ↦ rw w.told-is tt
+      | in-Err-recover w ↦ rw w.outcome-is tt
     ]

@@ -28,9 +28,9 @@ returns-in_err-write_world-clause-written g c =
     let pending_is : c.as_slice-4.result.now ≡ w.pending = c.as_slice-4.ensures.value ∙ c.into_parts-parts.ensures.pending in
     let text : log_text c.as_slice.result.now ++ world_text (record { time = c.into_parts-parts.result.time; states = map (λ s. s.items) c.as_slice-2.result.now; numbers = c.as_slice-3.result.now; pending = c.as_slice-4.result.now; log = [] })
     ≡ run_text w = rw (log_is, c.into_parts-parts.ensures.time, states_are, numbers_are, pending_is) refl in
-    let told = writes_as (writes_then c.write_log.ensures c.in_ok-write_log.was c.write_world.ensures) text in
+    let found_there = writes_as (writes_then c.write_log.ensures c.in_ok-write_log.was c.write_world.ensures) text in
     subst (Writes (g.O.Write.contents c.args.out.now) (g.O.Write.contents c.write_world.new.out) c.from_residual-in_err-write_world.result) (append-nil (run_text w))
-    (writes_failed c.from_residual-in_err-write_world.result [] told c.in_err-write_world.was c.from_residual-in_err-write_world.ensures.0)
+    (writes_failed c.from_residual-in_err-write_world.result [] found_there c.in_err-write_world.was c.from_residual-in_err-write_world.ensures.0)
 
 pub returns-in_err-flush-clause-written : goal.returns-in_err-flush-clause-written
 returns-in_err-flush-clause-written g c =

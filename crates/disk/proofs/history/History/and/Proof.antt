@@ -1,4 +1,4 @@
--- The new history tells of one moment more.
+-- The new history has one more moment.
 use Rattle.std.proofs.Common.{List, [], ◌∷◌, ◌++◌, refl}
 use seplogic.Ra.Ura.{Ura}
 use mir.Val.{Val, vptr}
@@ -25,7 +25,7 @@ use denote.Triple.Spec.{Meets, triple_of}
 use denote.Triple.Table.{entered}
 use denote.Triple.Walked.{says, Stays, stay_dropped, walk_of, ends_at, walk_Meets, Goes-dropped}
 use Rattle.disk.proofs.Blank.{blank, blank_made}
-use Rattle.disk.specs.Disk.{standing_of}
+use Rattle.disk.specs.Disk.{past_state}
 use Rattle.disk.specs.contracts.history.History as History
 use Rattle.disk.specs.contracts.image.Image as Image
 use Rattle.disk.specs.contracts.history.History.and as F
@@ -52,7 +52,7 @@ module _ {M : Type 1} {𝓤 : Ura M} (𝓛 : Logic 𝓤) (at_mem : Memory → SP
         let vss = z.0.4 in
         let u : Val = vptr a.0.ref_ptr.0 a.0.ref_ptr.1 in
         let v : Val = vptr a.1.0.ref_ptr.0 a.1.0.ref_ptr.1 in
-        let history : (History.the_row).Denot = record { past = standing_of a.1.0.now.sectors.items a.1.0.now.loose.items ∷ a.0.now.past } in
+        let history : (History.the_row).Denot = record { past = past_state a.1.0.now.sectors.items a.1.0.now.dirty.items ∷ a.0.now.past } in
         qed 𝓛 ((raw (alive 𝓛 F.ended.signature z.0.0 z.0.1) ⊛ ‵ (owns (types_at F.ended.signature.params z.0.0) a vss)) ∷ raw ((held z.0.0 a).requires z.1) ∷ []) ∵
         keep ! (0 ∷ []) $ split ! $ move ! (1 ∷ []) $ fsplit ! $ fsplit ! $ feq_l ! (λ is₀. drop ! $ fsplit ! $ fsplit ! $ feq_l ! (λ is₁. drop ! $ drop ! $
         regoal ! (λ (us : List Val). prop (WpFn 𝓤 H C Λ code.function (us ++ (vss.1.0 ++ [])) Post)) is₀ refl $

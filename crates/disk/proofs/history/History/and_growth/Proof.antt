@@ -1,4 +1,4 @@
--- The new history tells of the moments of a growth.
+-- The new history has the moments of a growth.
 use Rattle.std.proofs.Common.{List, [], ◌∷◌, ◌++◌, ◌-◌, length, refl}
 use seplogic.Ra.Ura.{Ura}
 use mir.Val.{Val, vptr}
@@ -53,7 +53,7 @@ module _ {M : Type 1} {𝓤 : Ura M} (𝓛 : Logic 𝓤) (at_mem : Memory → SP
         let u : Val = vptr a.0.ref_ptr.0 a.0.ref_ptr.1 in
         let v : Val = vptr a.1.0.ref_ptr.0 a.1.0.ref_ptr.1 in
         let w : Val = vptr a.1.1.0.ref_ptr.0 a.1.1.0.ref_ptr.1 in
-        let history : (History.the_row).Denot = record { past = growth a.1.0.now.sectors.items a.1.0.now.loose.items (length a.1.1.0.now.sectors.items - length a.1.0.now.sectors.items) ++ a.0.now.past } in
+        let history : (History.the_row).Denot = record { past = growth a.1.0.now.sectors.items a.1.0.now.dirty.items (length a.1.1.0.now.sectors.items - length a.1.0.now.sectors.items) ++ a.0.now.past } in
         qed 𝓛 ((raw (alive 𝓛 F.ended.signature z.0.0 z.0.1) ⊛ ‵ (owns (types_at F.ended.signature.params z.0.0) a vss)) ∷ raw ((held z.0.0 a).requires z.1) ∷ []) ∵
         keep ! (0 ∷ []) $ split ! $ move ! (1 ∷ []) $ fsplit ! $ fsplit ! $ feq_l ! (λ is₀. drop ! $ fsplit ! $ fsplit ! $ feq_l ! (λ is₁. drop ! $ fsplit ! $ fsplit ! $ feq_l ! (λ is₂. drop ! $ drop ! $
         regoal ! (λ (us : List Val). prop (WpFn 𝓤 H C Λ code.function (us ++ (vss.1.0 ++ (vss.1.1.0 ++ []))) Post)) is₀ refl $

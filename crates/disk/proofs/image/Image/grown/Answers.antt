@@ -3,8 +3,8 @@ use Rattle.disk.specs.Disk.{IsSector}
 use Rattle.disk.proofs.Growths.{all_whole}
 use Rattle.disk.proofs.image.Image.grown.Goals as goal
 
-pub firm-requires-clause-whole : goal.firm-requires-clause-whole
-firm-requires-clause-whole c =
+pub in_sync-requires-clause-whole : goal.in_sync-requires-clause-whole
+in_sync-requires-clause-whole c =
     let reads : List (List ℕ) = c.args.self.now.sectors.items in
     subst (λ (sectors : List (List ℕ)). (n : ℕ) → n < length sectors → IsSector (get_or sectors n []))
     (sym c.in_ok-grown.ensures.items)

@@ -20,7 +20,7 @@ loop-n-preserved c =
       whole = λ k small. ⊎_elim (λ (same : k ≡ c.loop-n.n). subst (λ n. IsSector (content n)) (sym same) (subst IsSector here.content here.whole)) (λ (other : k ≢ c.loop-n.n). so.whole k (omega (arith, small, other))) (cases_eq k c.loop-n.n);
     }
 
--- the loop has gone through all sectors
+-- after the loop all sectors are done
 through : (c : After-loop-n) → c.loop-n.n ≡ length c.args.self.now.reads
 through c = omega (arith, c.loop-n.auto.n-end, c.loop-n-test.false, c.count-count.ensures, ap (λ (disk : MemoryState). length disk.reads) c.self.view_is)
 
@@ -35,6 +35,6 @@ returns-clause-image c = crashed c
 
 pub returns-clause-left : goal.returns-clause-left
 returns-clause-left c =
-    let each = ap (λ (disk : MemoryState). length disk.loose) c.self.view_is in
+    let each = ap (λ (disk : MemoryState). length disk.dirty) c.self.view_is in
     let reads = ap (λ (disk : MemoryState). length disk.reads) c.self.view_is in
     crash_may_leave c.args.torn c.args.self.now (image_of c.loop-n.bytes.items) (sym each ∙ c.self.inside.image.each ∙ reads) (λ n within. c.loop-n.invariant.whole n (omega (arith, within, through c))) (crashed c)

@@ -2,7 +2,7 @@ use Rattle.std.proofs.Common.{refl, sym, ◌∙◌}
 use Rattle.network.specs.NetworkFile.{IsNetworkTable, network_wrong}
 use Rattle.network.specs.declared.network.Network.{Network}
 use Rattle.network.proofs.Right.{network_right, network_there}
-use Rattle.texts.proofs.Right.{none_told, some_told}
+use Rattle.texts.proofs.Right.{none_reported, some_found}
 use Rattle.toml.specs.View.{table_view}
 use Rattle.network.proofs.network_file.NetworkDescribed.mistakes.Goals as goal
 
@@ -11,7 +11,7 @@ returns-in-Ok c =
     let (network, end) = c.in-Ok._file in
     let is = c.in-Ok.ensures.ok in
     record {
-      told = c.new.ensures ∙ sym (network_right (table_view c.args.table.now) network.torus end is);
+      reported = c.new.ensures ∙ sym (network_right (table_view c.args.table.now) network.torus end is);
       none = λ none. (network, end, is);
       some = λ model end is. c.new.ensures;
     }
@@ -21,9 +21,9 @@ returns-in-Err c =
     let table = table_view c.args.table.now in
     let bad = c.in-Err.ensures.bad refl in
     record {
-      told = c.mistakes_of.ensures;
-      none = none_told c.mistakes_of.result (network_wrong table) _ c.mistakes_of.ensures
+      reported = c.mistakes_of.ensures;
+      none = none_reported c.mistakes_of.result (network_wrong table) _ c.mistakes_of.ensures
           (λ none. let (torus, end, is) = network_there table none in absurd (bad torus end is));
-      some = some_told c.mistakes_of.result (network_wrong table) Network (λ n end. IsNetworkTable table n.torus end) c.mistakes_of.ensures
+      some = some_found c.mistakes_of.result (network_wrong table) Network (λ n end. IsNetworkTable table n.torus end) c.mistakes_of.ensures
           (λ n end is. network_right table n.torus end is);
     }

@@ -5,7 +5,7 @@ use Rattle.node.proofs.blocks.Blocks.low.Given as goal
 
 abbrev pub invariant-loop-block : goal.invariant-loop-block
 invariant-loop-block l = record {
-  standings_are : l.self-inside.standings.items ≡ l.fn.self;
-  blocks : AreBlocks l.self-inside.standings.items l.self-inside.bounds.items;
-  so_far : IsLowSoFar l.self-inside.standings.items l.block l.low;
+  standings_are : l.self-inside.summaries.items ≡ l.fn.self;
+  blocks : AreBlocks l.self-inside.summaries.items l.self-inside.bounds.items;
+  so_far : IsLowSoFar l.self-inside.summaries.items l.block l.low;
 }

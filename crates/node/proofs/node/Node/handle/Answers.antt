@@ -9,4 +9,4 @@ handle-requires-clause-modelled g c =
 
 pub returns-clause-histories : goal.returns-clause-histories
 returns-clause-histories g c =
-    have_histories (g.M.Model.meaning c.args.model.now) (place_of c.handle.new.self) c.handle.new.self.processes.items c.handle.new.self.standings c.in_ok-reply.ensures.ready c.in_ok-reply.ensures.modelled
+    have_histories (g.M.Model.meaning c.args.model.now) (place_of c.handle.new.self) c.handle.new.self.processes.items c.handle.new.self.summaries c.in_ok-reply.ensures.ready c.in_ok-reply.ensures.modelled

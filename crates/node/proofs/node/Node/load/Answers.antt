@@ -24,7 +24,7 @@ seat_all-requires-clause-few g c =
 pub invariant_of-result : goal.invariant_of-result
 invariant_of-result g c unspent =
     let p : Place = record { node = c.args.load.node; nodes = c.args.load.nodes; lps = c.lps-lps.result; end = c.args.load.end; floor = c.args.load.floor } in
-    rw (c.in_ok-processes.ensures.processes, c.in_ok-processes.ensures.standings, c.into_vec.ensures ∙ sym c.as_slice-parts.ensures)
+    rw (c.in_ok-processes.ensures.processes, c.in_ok-processes.ensures.summaries, c.into_vec.ensures ∙ sym c.as_slice-parts.ensures)
     (seats_staffed p c.as_slice-parts.result.now c.requires.node c.requires.end (c.if-not-are_own.ensures.0 refl) (c.if-not-are_for_own.ensures.0 refl))
 
 pub seat_all-requires-clause-late : goal.seat_all-requires-clause-late

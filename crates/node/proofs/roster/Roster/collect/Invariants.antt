@@ -9,13 +9,13 @@ use Rattle.node.proofs.roster.Roster.collect.Given as goal
 
 abbrev pub invariant-loop-place : goal.invariant-loop-place
 invariant-loop-place g l = record {
-  staffed : IsStaffed (at_floor l.floor (place_of l.self)) l.self.processes.items l.self.standings;
+  staffed : IsStaffed (at_floor l.floor (place_of l.self)) l.self.processes.items l.self.summaries;
   modelled : Every (IsModelled (g.M.Model.meaning l.model)) l.self.processes.items;
   place_is : place_of l.self ≡ place_of l.fn.self;
   collected : IsCollected l.floor (processes_of l.fn.self.processes.items) (processes_of l.self.processes.items) l.fossils.items;
   within : l.place ≤ length l.self.processes.items;
-  quiet : IsQuiet l.floor l.self.standings l.place;
-  due : l.place < length l.self.processes.items → is_due l.floor (get_or l.self.standings l.place absent).oldest ≡ true;
+  quiet : IsQuiet l.floor l.self.summaries l.place;
+  due : l.place < length l.self.processes.items → is_due l.floor (get_or l.self.summaries l.place absent).oldest ≡ true;
   range : Every IsDoneInRange l.fossils.items;
 }
 

@@ -10,19 +10,19 @@ use Rattle.node.proofs.roster.Roster.collect_at.Goals as goal
 
 pub returns-clause-staffed : goal.returns-clause-staffed
 returns-clause-staffed g c = rw c.set.ensures
-    (staffed_then (at_floor c.args.floor (place_of c.args.self.now)) c.args.self.now.processes.items c.args.self.now.standings c.args.place c.index_mut-process.result.now c.requires.staffed c.requires.there c.index_mut-process.ensures.value
-    c.collect_into.new.self c.of-standing.result c.in_ok-collect_into.ensures.collected c.of-standing.ensures.standing)
+    (staffed_then (at_floor c.args.floor (place_of c.args.self.now)) c.args.self.now.processes.items c.args.self.now.summaries c.args.place c.index_mut-process.result.now c.requires.staffed c.requires.there c.index_mut-process.ensures.value
+    c.collect_into.new.self c.of-summary.result c.in_ok-collect_into.ensures.collected c.of-summary.ensures.summary)
 
 pub returns-clause-processes : goal.returns-clause-processes
 returns-clause-processes g c =
-    processes_then (at_floor c.args.floor (place_of c.args.self.now)) c.args.self.now.processes.items c.args.self.now.standings c.args.place c.index_mut-process.result.now c.requires.staffed c.requires.there c.index_mut-process.ensures.value
+    processes_then (at_floor c.args.floor (place_of c.args.self.now)) c.args.self.now.processes.items c.args.self.now.summaries c.args.place c.index_mut-process.result.now c.requires.staffed c.requires.there c.index_mut-process.ensures.value
     c.collect_into.new.self c.in_ok-collect_into.ensures.collected
 
 pub returns-clause-fossils : goal.returns-clause-fossils
 returns-clause-fossils g c =
     c.in_ok-collect_into.ensures.fossils
     ∙ ap (λ (q : Process). c.args.fossils.now.items ++ fossils_of c.args.floor q)
-    (sym (process_at (at_floor c.args.floor (place_of c.args.self.now)) c.args.self.now.processes.items c.args.self.now.standings c.args.place c.index_mut-process.result.now c.requires.staffed c.requires.there c.index_mut-process.ensures.value))
+    (sym (process_at (at_floor c.args.floor (place_of c.args.self.now)) c.args.self.now.processes.items c.args.self.now.summaries c.args.place c.index_mut-process.result.now c.requires.staffed c.requires.there c.index_mut-process.ensures.value))
 
 pub returns-clause-range : goal.returns-clause-range
 returns-clause-range g c ranged =
@@ -40,6 +40,6 @@ collect_into-requires-clause-history g c = λ _.
 pub returns-clause-modelled : goal.returns-clause-modelled
 returns-clause-modelled g c =
     let m = g.M.Model.meaning c.args.model.now in
-    let seated = seated_at (at_floor c.args.floor (place_of c.args.self.now)) c.args.self.now.processes.items c.args.self.now.standings c.args.place c.index_mut-process.result.now c.requires.staffed c.requires.there c.index_mut-process.ensures.value in
+    let seated = seated_at (at_floor c.args.floor (place_of c.args.self.now)) c.args.self.now.processes.items c.args.self.now.summaries c.args.place c.index_mut-process.result.now c.requires.staffed c.requires.there c.index_mut-process.ensures.value in
     let was = modelled_at m c.args.self.now.processes.items c.requires.modelled c.args.place c.index_mut-process.result.now c.requires.there c.index_mut-process.ensures.value in
     modelled_again m c.args.self.now.processes.items c.requires.modelled c.args.place c.index_mut-process.result.now c.collect_into.new.self was c.in_ok-collect_into.ensures.lp (c.in_ok-collect_into.ensures.history (ap (λ (v : ProcessView). v.spent) c.in_ok-collect_into.ensures.collected ∙ seated.unspent))

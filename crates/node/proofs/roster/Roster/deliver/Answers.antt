@@ -3,7 +3,7 @@ use Rattle.std.proofs.lemmas.Bool.{both_ways}
 use Rattle.std.proofs.lemmas.Result.{err_from_is_err_and}
 use Rattle.node.proofs.Deliveries.{at_of, deliver_ready, deliver_work, memory_left, own_parts}
 use Rattle.node.proofs.Histories.{modelled_again, modelled_at}
-use Rattle.node.proofs.Seats.{length-standings, place_inside}
+use Rattle.node.proofs.Seats.{length-summaries, place_inside}
 use Rattle.node.specs.Roster.{node_of_roster, place_of}
 use Rattle.process.specs.View.{ProcessView}
 use Rattle.node.proofs.roster.Roster.deliver.Goals as goal
@@ -11,13 +11,13 @@ use Rattle.node.proofs.roster.Roster.deliver.Goals as goal
 pub index_mut-process-requires : goal.index_mut-process-requires
 index_mut-process-requires g c =
     let own = own_parts (node_of_roster false c.args.self.now) c.args.delivery.now.message.to c.requires.own in
-    let inside = place_inside (place_of c.args.self.now) c.args.self.now.processes.items c.args.self.now.standings c.args.delivery.now.message.to c.requires.ready own.0 own.1 in
+    let inside = place_inside (place_of c.args.self.now) c.args.self.now.processes.items c.args.self.now.summaries c.args.delivery.now.message.to c.requires.ready own.0 own.1 in
     rw c.to.ensures (search (rules, inside))
 
 pub returns-in_err-deliver-clause-memory : goal.returns-in_err-deliver-clause-memory
 returns-in_err-deliver-clause-memory g c =
     let own = own_parts (node_of_roster false c.args.self.now) c.args.delivery.now.message.to c.requires.own in
-    let at = at_of (place_of c.args.self.now) c.args.self.now.processes.items c.args.self.now.standings c.args.delivery.now c.to.result c.index_mut-process.result.now (record { lp_is = c.to.ensures; staffed = c.requires.ready; node = own.0; there = own.1; read = c.index_mut-process.ensures.value }) in
+    let at = at_of (place_of c.args.self.now) c.args.self.now.processes.items c.args.self.now.summaries c.args.delivery.now c.to.result c.index_mut-process.result.now (record { lp_is = c.to.ensures; staffed = c.requires.ready; node = own.0; there = own.1; read = c.index_mut-process.ensures.value }) in
     let p = err_from_is_err_and c.from_residual.result c.from_residual.ensures.1 in
     rw (p.1, p.2)
     (memory_left c.in_err-deliver.field-0.0
@@ -29,39 +29,39 @@ returns-in_err-deliver-clause-memory g c =
 pub set-requires-clause-inside : goal.set-requires-clause-inside
 set-requires-clause-inside g c =
     let own = own_parts (node_of_roster false c.args.self.now) c.args.delivery.now.message.to c.requires.own in
-    rw (c.to.ensures, length-standings (place_of c.args.self.now) c.args.self.now.processes.items c.args.self.now.standings c.requires.ready)
-    (place_inside (place_of c.args.self.now) c.args.self.now.processes.items c.args.self.now.standings c.args.delivery.now.message.to c.requires.ready own.0 own.1)
+    rw (c.to.ensures, length-summaries (place_of c.args.self.now) c.args.self.now.processes.items c.args.self.now.summaries c.requires.ready)
+    (place_inside (place_of c.args.self.now) c.args.self.now.processes.items c.args.self.now.summaries c.args.delivery.now.message.to c.requires.ready own.0 own.1)
 
 pub returns-clause-ready : goal.returns-clause-ready
 returns-clause-ready g c =
     let own = own_parts (node_of_roster false c.args.self.now) c.args.delivery.now.message.to c.requires.own in
     rw c.set.ensures
-    (deliver_ready (place_of c.args.self.now) c.args.self.now.processes.items c.args.self.now.standings c.args.delivery.now c.to.result c.index_mut-process.result.now c.deliver.new.self c.of-standing.result
-    (record { lp_is = c.to.ensures; staffed = c.requires.ready; node = own.0; there = own.1; read = c.index_mut-process.ensures.value }) c.in_ok-deliver.ensures.delivered c.of-standing.ensures.standing)
+    (deliver_ready (place_of c.args.self.now) c.args.self.now.processes.items c.args.self.now.summaries c.args.delivery.now c.to.result c.index_mut-process.result.now c.deliver.new.self c.of-summary.result
+    (record { lp_is = c.to.ensures; staffed = c.requires.ready; node = own.0; there = own.1; read = c.index_mut-process.ensures.value }) c.in_ok-deliver.ensures.delivered c.of-summary.ensures.summary)
 
 pub returns-clause-work : goal.returns-clause-work
 returns-clause-work g c ran =
     let own = own_parts (node_of_roster false c.args.self.now) c.args.delivery.now.message.to c.requires.own in
-    deliver_work (place_of c.args.self.now) c.args.self.now.processes.items c.args.self.now.standings c.args.delivery.now c.to.result c.index_mut-process.result.now c.deliver.new.self c.args.out.now.items c.deliver.new.out.items ran
+    deliver_work (place_of c.args.self.now) c.args.self.now.processes.items c.args.self.now.summaries c.args.delivery.now c.to.result c.index_mut-process.result.now c.deliver.new.self c.args.out.now.items c.deliver.new.out.items ran
     (record { lp_is = c.to.ensures; staffed = c.requires.ready; node = own.0; there = own.1; read = c.index_mut-process.ensures.value }) c.in_ok-deliver.ensures.delivered c.in_ok-deliver.ensures.out
 
 pub deliver-requires-clause-lp : goal.deliver-requires-clause-lp
 deliver-requires-clause-lp g c =
     let own = own_parts (node_of_roster false c.args.self.now) c.args.delivery.now.message.to c.requires.own in
-    let inside = place_inside (place_of c.args.self.now) c.args.self.now.processes.items c.args.self.now.standings c.args.delivery.now.message.to c.requires.ready own.0 own.1 in
+    let inside = place_inside (place_of c.args.self.now) c.args.self.now.processes.items c.args.self.now.summaries c.args.delivery.now.message.to c.requires.ready own.0 own.1 in
     (modelled_at (g.M.Model.meaning c.args.model.now) c.args.self.now.processes.items c.requires.modelled (c.to.result / c.args.self.now.nodes) c.index_mut-process.result.now (rw c.to.ensures inside) c.index_mut-process.ensures.value).there
 
 pub deliver-requires-clause-history : goal.deliver-requires-clause-history
 deliver-requires-clause-history g c = λ _.
     let own = own_parts (node_of_roster false c.args.self.now) c.args.delivery.now.message.to c.requires.own in
-    let inside = place_inside (place_of c.args.self.now) c.args.self.now.processes.items c.args.self.now.standings c.args.delivery.now.message.to c.requires.ready own.0 own.1 in
+    let inside = place_inside (place_of c.args.self.now) c.args.self.now.processes.items c.args.self.now.summaries c.args.delivery.now.message.to c.requires.ready own.0 own.1 in
     (modelled_at (g.M.Model.meaning c.args.model.now) c.args.self.now.processes.items c.requires.modelled (c.to.result / c.args.self.now.nodes) c.index_mut-process.result.now (rw c.to.ensures inside) c.index_mut-process.ensures.value).history
 
 pub returns-clause-modelled : goal.returns-clause-modelled
 returns-clause-modelled g c =
     let m = g.M.Model.meaning c.args.model.now in
     let own = own_parts (node_of_roster false c.args.self.now) c.args.delivery.now.message.to c.requires.own in
-    let at = at_of (place_of c.args.self.now) c.args.self.now.processes.items c.args.self.now.standings c.args.delivery.now c.to.result c.index_mut-process.result.now (record { lp_is = c.to.ensures; staffed = c.requires.ready; node = own.0; there = own.1; read = c.index_mut-process.ensures.value }) in
-    let inside = place_inside (place_of c.args.self.now) c.args.self.now.processes.items c.args.self.now.standings c.args.delivery.now.message.to c.requires.ready own.0 own.1 in
+    let at = at_of (place_of c.args.self.now) c.args.self.now.processes.items c.args.self.now.summaries c.args.delivery.now c.to.result c.index_mut-process.result.now (record { lp_is = c.to.ensures; staffed = c.requires.ready; node = own.0; there = own.1; read = c.index_mut-process.ensures.value }) in
+    let inside = place_inside (place_of c.args.self.now) c.args.self.now.processes.items c.args.self.now.summaries c.args.delivery.now.message.to c.requires.ready own.0 own.1 in
     let was = modelled_at m c.args.self.now.processes.items c.requires.modelled (c.to.result / c.args.self.now.nodes) c.index_mut-process.result.now (rw c.to.ensures inside) c.index_mut-process.ensures.value in
     modelled_again m c.args.self.now.processes.items c.requires.modelled (c.to.result / c.args.self.now.nodes) c.index_mut-process.result.now c.deliver.new.self was c.in_ok-deliver.ensures.lp (c.in_ok-deliver.ensures.history (ap (λ (v : ProcessView). v.spent) c.in_ok-deliver.ensures.delivered ∙ at.seated.unspent))

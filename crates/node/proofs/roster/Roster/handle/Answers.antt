@@ -3,7 +3,7 @@ use Rattle.std.proofs.lemmas.Result.{err_from_is_err_and}
 use Rattle.std.specs.List.{AllByRecursion as Every}
 use Rattle.process.specs.View.{IsDoneInRange}
 use Rattle.node.proofs.Handled.{answered, limited_then}
-use Rattle.node.proofs.Lows.{low_told}
+use Rattle.node.proofs.Lows.{low_reported}
 use Rattle.node.proofs.Runs.{same_err}
 use Rattle.node.specs.declared.NodeFault.TheVariants.{NumberLimit}
 use Rattle.node.specs.Roster.{node_of_roster, place_of, processes_of}
@@ -14,7 +14,7 @@ returns-clause-handled g c =
     answered (g.M.Model.meaning c.args.model.now) c.args.parcel (place_of c.args.self.now) (place_of c.deliver_all.new.self) (place_of c.run.new.self)
     (processes_of c.args.self.now.processes.items) (processes_of c.deliver_all.new.self.processes.items) (processes_of c.run.new.self.processes.items)
     c.as_slice-2.result.now c.in_ok-out.out.items c.deliver_all.new.out.items c.run.new.out.items c.from_vec.result c.in_ok-ran.ran c.low.result c.from_vec-2.result (node_of_roster false c.collect.new.self)
-    c.as_slice-2.ensures c.in_ok-out.ensures.items c.in_ok-deliver_all.ensures.place (c.in_ok-deliver_all.ensures.work 0) c.in_ok-ran.ensures.place c.in_ok-ran.ensures.work c.in_ok-fossils.ensures.node c.from_vec.ensures (low_told (place_of c.collect.new.self) c.collect.new.self.processes.items c.collect.new.self.standings c.low.result c.in_ok-fossils.ensures.ready c.low.ensures.low) (c.from_vec-2.ensures ∙ c.in_ok-fossils.ensures.fossils)
+    c.as_slice-2.ensures c.in_ok-out.ensures.items c.in_ok-deliver_all.ensures.place (c.in_ok-deliver_all.ensures.work 0) c.in_ok-ran.ensures.place c.in_ok-ran.ensures.work c.in_ok-fossils.ensures.node c.from_vec.ensures (low_reported (place_of c.collect.new.self) c.collect.new.self.processes.items c.collect.new.self.summaries c.low.result c.in_ok-fossils.ensures.ready c.low.ensures.low) (c.from_vec-2.ensures ∙ c.in_ok-fossils.ensures.fossils)
 
 pub returns-clause-range : goal.returns-clause-range
 returns-clause-range g c = record { low = c.low.ensures.range; fossils = subst (Every IsDoneInRange) (sym c.from_vec-2.ensures) c.in_ok-fossils.ensures.range }

@@ -21,4 +21,4 @@ loop-cell-preserved c =
 
 pub invariant_of-result : goal.invariant_of-result
 invariant_of-result c =
-    seeded_is_tournament c.args.leaves c.loop-cell.cell c.in_ok-standings.standings c.loop-cell.winners.items c.requires c.loop-cell-test.false c.in_ok-standings.ensures c.loop-cell.invariant
+    seeded_is_tournament c.args.leaves c.loop-cell.cell c.in_ok-summaries.summaries c.loop-cell.winners.items c.requires c.loop-cell-test.false c.in_ok-summaries.ensures c.loop-cell.invariant

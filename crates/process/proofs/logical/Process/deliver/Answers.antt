@@ -3,7 +3,7 @@ use Rattle.eventkey.specs.Signed.{minus}
 use Rattle.process.proofs.Calls.{back_fits, delivered_done, delivered_is, undone_is}
 use Rattle.process.proofs.Sound.{arrived_sound, done_arrived, has_history, sound_handlings}
 use Rattle.process.specs.Inside.{view_of}
-use Rattle.process.specs.Process.{Process, arrive, taken_back}
+use Rattle.process.specs.Process.{Process, arrive, cancelled_sends}
 use Rattle.process.specs.View.{HasDone, IsSound, ProcessView}
 use Rattle.queues.specs.Queue.{last_of}
 use Rattle.queues.specs.Record.{sent_in}
@@ -11,8 +11,8 @@ use Rattle.queues.specs.declared.Record.{Record}
 use Rattle.process.proofs.logical.Process.deliver.Given as given
 use Rattle.process.proofs.logical.Process.deliver.Goals as goal
 
-pub take_back_sends-requires : goal.take_back_sends-requires
-take_back_sends-requires g c =
+pub cancel_sends-requires : goal.cancel_sends-requires
+cancel_sends-requires g c =
     let whole = c.self.invariant c.if-self.false in
     back_fits c.self.inside.queue (view_of c.self.inside).process whole.0 refl refl c.args.signed c.back-back.result c.in_ok-arrival.arrival c.in_ok-arrival.ensures.answer c.back-back.ensures whole.1.in_order.done
 
@@ -24,7 +24,7 @@ roll_back-requires g c =
       handlings = sound_handlings (g.M.Model.meaning c.args.model.now) (view_of c.self.inside) c.args.self.now c.self.view_is c.if-self.false whole.1 c.requires.lp c.requires.history;
     }
 
--- the process as the code leaves it
+-- the process that the code leaves
 abbrev new_of : (g : given.Over) → goal.After-self-2-1 g → Process
 new_of g c = (view_of (record { alloc = c.self.inside.alloc; lp = c.self.inside.lp; floor = c.self.inside.floor; spent = false; queue = c.arrive.new.self; history = c.roll_back.new.self; state = c.roll_back.new.state; number = c.roll_back.new.number })).process
 
@@ -63,8 +63,8 @@ returns-clause-out g c =
     let whole = c.self.invariant c.if-self.false in
     let undone = undone_is c.self.inside.queue (view_of c.self.inside).process whole.0 refl refl c.args.signed c.back-back.result c.in_ok-arrival.arrival c.in_ok-arrival.ensures.answer c.back-back.ensures whole.1.in_order.done
     (last_of c.back-back.result c.self.inside.history) refl in
-    c.in_ok-take_back_sends.ensures.out
-    ∙ (ap (λ (hs : List Record). c.args.out.now.items ++ map minus (sent_in hs)) undone ∙ ap (λ (v : ProcessView). c.args.out.now.items ++ taken_back c.args.signed v.process) c.self.view_is)
+    c.in_ok-cancel_sends.ensures.out
+    ∙ (ap (λ (hs : List Record). c.args.out.now.items ++ map minus (sent_in hs)) undone ∙ ap (λ (v : ProcessView). c.args.out.now.items ++ cancelled_sends c.args.signed v.process) c.self.view_is)
 
 pub returns-clause-history : goal.returns-clause-history
 returns-clause-history g c = λ _.

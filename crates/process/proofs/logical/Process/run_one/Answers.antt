@@ -13,7 +13,7 @@ use Rattle.queues.specs.declared.Record.{Record}
 use Rattle.process.proofs.logical.Process.run_one.Given as given
 use Rattle.process.proofs.logical.Process.run_one.Goals as goal
 
--- the process as the code leaves it, and the record that it adds
+-- the process that the code leaves, and the record that it appends
 abbrev left_of : (g : given.Over) → goal.Joined-sends-6 g → ProcessView
 left_of g c = view_of (record { alloc = c.self.inside.alloc; lp = c.self.inside.lp; floor = c.self.inside.floor; spent = false; queue = c.take_next.new.self; history = c.push_handling.new.self; state = c.from_words.result; number = c.self.inside.number + c.len-count.result })
 

@@ -49,7 +49,7 @@ returns-in_err-wait_again-clause-unchanged c =
 pub overflow_add-result : goal.overflow_add-result
 overflow_add-result c = omega (arith, after-le c.args.message c.self.inside.done.items)
 
--- 3. The antimessage stays
+-- 3. The antimessage waits
 
 pub invariant_of-self-in_err-add : goal.invariant_of-self-in_err-add
 invariant_of-self-in_err-add c =
@@ -61,7 +61,7 @@ returns-in_err-add-clause-unchanged c =
     let kept = not_taken c.args.message c.self.inside.waiting c.remove.new.self (sym c.remove.ensures.answer ∙ c.if-remove.false) c.remove.ensures.removed in
     on_err c.from_residual-in_err-add.result (same_queue _ (queue_inside c.self.inside) refl kept c.in_err-add.ensures.unchanged ∙ c.self.view_is)
 
--- 4. What an arrival leaves
+-- 4. The queue after an arrival
 
 pub invariant_of-self-then-holds : goal.invariant_of-self-then-holds
 invariant_of-self-then-holds c =

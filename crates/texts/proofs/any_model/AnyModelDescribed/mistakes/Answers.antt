@@ -1,7 +1,7 @@
 use Rattle.models.specs.declared.any_model.AnyModel.{AnyModel}
 use Rattle.texts.specs.AnyModel.{IsTableOf, any_wrong}
 use Rattle.texts.proofs.KindsRight.{any_right, any_there}
-use Rattle.texts.proofs.Right.{none_told, some_told}
+use Rattle.texts.proofs.Right.{none_reported, some_found}
 use Rattle.toml.specs.View.{table_view}
 use Rattle.texts.proofs.any_model.AnyModelDescribed.mistakes.Goals as goal
 
@@ -9,7 +9,7 @@ pub returns : goal.returns
 returns c =
     let table = table_view c.args.table.now in
     record {
-      told = c.mistakes_of.ensures;
-      none = none_told c.mistakes_of.result (any_wrong table) _ c.mistakes_of.ensures (any_there table);
-      some = some_told c.mistakes_of.result (any_wrong table) AnyModel (IsTableOf table) c.mistakes_of.ensures (any_right table);
+      reported = c.mistakes_of.ensures;
+      none = none_reported c.mistakes_of.result (any_wrong table) _ c.mistakes_of.ensures (any_there table);
+      some = some_found c.mistakes_of.result (any_wrong table) AnyModel (IsTableOf table) c.mistakes_of.ensures (any_right table);
     }

@@ -1,0 +1,510 @@
+-- The command line of a program (this project's profile), in the terms of clap: its commands, and
+-- the meaning of a parsed command.
+use Rattle.std.specs.Prelude.{◌≡◌, ◌⊎◌, ◌≤◌, ◌==◌, ◌&&◌, ◌||◌, ℕ, List, [], ◌∷◌, Option, Some, None}
+use Rattle.std.specs.Prelude.{Bool, true, false, not, drop, nat_le, is_some, codes, option_map}
+use Rattle.std.specs.Prelude.{unwrap_or, option_and_then, if◌then◌else◌, IfSome, IsOkAnd, Result, ⊤}
+use Rattle.std.specs.List.{after_first, before_first}
+use Rattle.std.specs.Option.{option_map_or}
+use Rattle.std.specs.Str.{bytes_eq}
+use Rattle.std.specs.Str.Parse.{digits_value, without_leading_plus}
+use Rattle.clap.specs.Kinds.{or_else}
+use Rattle.clap.specs.declared.builder.arg.Arg.{Arg}
+use Rattle.clap.specs.declared.builder.command.Command.{Command as ClapCommand}
+use Rattle.clap.specs.declared.builder.command.Command.TheViews.{out-Command}
+use Rattle.clap.specs.Words.{AddsArg, AddsSubcommand, App, Kinds, Row, Rule, Text, app_of}
+use Rattle.clap.specs.Words.{fault_of, first_of, new_app, new_rule, one_of, subcommand_of}
+use Rattle.clap.specs.Words.{with_rule, with_subcommand}
+use Rattle.clap.specs.ValueTests.{accepts}
+use Rattle.clap.specs.declared.builder.action.ArgAction.TheVariants.{SetTrue}
+use Rattle.clap.specs.declared.builder.value_parser.ValueParser.{ValueParser}
+use Rattle.clap.specs.declared.builder.value_parser.ValueParser.TheVariants.{Unsigned}
+use Rattle.clap.specs.declared.error.kind.ErrorKind.TheVariants.{InvalidValue}
+use Rattle.cli.specs.declared.command.BatchOption.{BatchOption}
+use Rattle.cli.specs.declared.command.BatchOption.TheVariants.{Auto, Fixed}
+use Rattle.cli.specs.declared.command.Command.{Command}
+use Rattle.cli.specs.declared.command.Command.TheVariants.{Check, Draw, Extend, Grow, Log, Migrate}
+use Rattle.cli.specs.declared.command.Command.TheVariants.{New, Node, Run, Seq, Show, Stats, Status}
+use Rattle.cli.specs.declared.command.DiskArgs.{DiskArgs}
+use Rattle.cli.specs.declared.command.DrawArgs.{DrawArgs}
+use Rattle.cli.specs.declared.command.GrowArgs.{GrowArgs}
+use Rattle.cli.specs.declared.command.LogArgs.{LogArgs}
+use Rattle.cli.specs.declared.command.MigrateArgs.{MigrateArgs}
+use Rattle.cli.specs.declared.command.ModelArgs.{ModelArgs}
+use Rattle.cli.specs.declared.command.NewArgs.{NewArgs}
+use Rattle.cli.specs.declared.command.NodeArgs.{NodeArgs}
+use Rattle.cli.specs.declared.command.RunArgs.{RunArgs}
+use Rattle.cli.specs.declared.command.SourceArgs.{SourceArgs}
+use Rattle.cli.specs.declared.command.StatsArgs.{StatsArgs}
+
+-- ---- the arguments
+
+-- a required argument that is a path
+abbrev pub path_argument : Text → Rule
+path_argument id = record (new_rule id) { required = true }
+
+-- an optional argument that is a path
+abbrev pub optional_argument : Text → Rule
+optional_argument id = new_rule id
+
+-- an option whose value is a number from `least` to `most`, with a default
+abbrev pub number_option : Text → ℕ → ℕ → Text → Rule
+number_option name least most default = record (new_rule name) {
+  long = Some name;
+  value_names = 1;
+  parser = Some (Unsigned least most);
+  defaults = default ∷ [];
+}
+
+-- the same without a default
+abbrev pub optional_number : Text → ℕ → ℕ → Rule
+optional_number name least most = record (new_rule name) {
+  long = Some name;
+  value_names = 1;
+  parser = Some (Unsigned least most);
+}
+
+-- an option whose value is any text, with a default
+abbrev pub text_option : Text → Text → Rule
+text_option name default = record (new_rule name) {
+  long = Some name;
+  value_names = 1;
+  defaults = default ∷ [];
+}
+
+-- an option whose value passes this parser, with a default
+abbrev pub choice_option : Text → ValueParser → Text → Rule
+choice_option name parser default = record (text_option name default) { parser = Some parser }
+
+-- an option without a default, whose value is any text
+abbrev pub optional_text : Text → Rule
+optional_text name = record (new_rule name) { long = Some name; value_names = 1 }
+
+-- a virtual time, 0 to 2^40 ticks
+abbrev pub time_option : Text → Rule
+time_option name = optional_number name 0 1099511627776
+
+-- the maximum number of sectors, of 512 bytes each, of a disk, large or not
+abbrev pub most_sectors : Bool → ℕ
+most_sectors false = 131072
+most_sectors true = 16777216
+
+-- the number of sectors of a disk, at least 8
+abbrev pub sectors_option : Bool → Text → Rule
+sectors_option large default = number_option (codes "sectors") 8 (most_sectors large) default
+
+-- an option without a value
+abbrev pub flag : Text → Rule
+flag name = record (new_rule name) { long = Some name; action = Some SetTrue }
+
+-- disks may be large ones
+abbrev pub large_option : Rule
+large_option = flag (codes "large")
+
+-- ---- the commands
+
+-- a command on a model file
+abbrev pub on_model : Text → App
+on_model name = with_rule (new_app name) (path_argument (codes "MODEL"))
+
+-- a command on a model file and a disk
+abbrev pub on_disk : Text → App
+on_disk name = with_rule (on_model name) (path_argument (codes "DISK"))
+
+-- the same without other arguments; the disk may be a large one
+abbrev pub on_any_disk : Text → App
+on_any_disk name = with_rule (on_disk name) large_option
+
+-- a disk with its number of sectors; it may be a large one
+abbrev pub new_command : Bool → App
+new_command large = with_rule (with_rule (on_disk (codes "new"))
+    (sectors_option large (codes "4096")))
+    large_option
+
+-- a batch: a number of messages, 1 to 2^32 - 1; or, if it is given as a word, any text
+abbrev pub batch_option : Bool → Rule
+batch_option false = number_option (codes "batch") 1 4294967295 (codes "16")
+batch_option true = text_option (codes "batch") (codes "16")
+
+-- 1 to 64 nodes; a batch; 1 to 2^32 - 1 rounds; a checkpoint every 1 to 1,000,000 commits; a commit
+-- for 1 to 400,000 events; the folder of node programs; the node that is cut short; nodes that work
+-- at the same time; programs that are awaited instead of started; the file of a trace; and the disk
+-- may be a large one
+abbrev pub run_command : Bool → App
+run_command word = with_rule (with_rule (with_rule (with_rule (with_rule (with_rule (with_rule
+    (with_rule (with_rule (with_rule
+    (with_rule (on_disk (codes "run")) (number_option (codes "nodes") 1 64 (codes "1")))
+    (batch_option word))
+    (number_option (codes "rounds") 1 4294967295 (codes "1000000")))
+    (optional_number (codes "checkpoint") 1 1000000))
+    (optional_number (codes "commit-every") 1 400000))
+    (optional_text (codes "sockets")))
+    (optional_number (codes "cut") 0 4294967295))
+    (flag (codes "together")))
+    (flag (codes "attach")))
+    (optional_text (codes "trace")))
+    large_option
+
+-- the maximum number of sectors, as the default of an option
+abbrev pub most_text : Bool → Text
+most_text false = codes "131072"
+most_text true = codes "16777216"
+
+-- a disk with the number of sectors that it then has; it may be a large one
+abbrev pub grow_command : Bool → App
+grow_command large = with_rule (with_rule (on_disk (codes "grow"))
+    (sectors_option large (most_text large)))
+    large_option
+
+-- a disk of format 1, and a disk of format 2 with its number of sectors; both may be large ones
+abbrev pub migrate_command : Bool → App
+migrate_command large = with_rule (with_rule (with_rule (with_rule (on_model (codes "migrate"))
+    (path_argument (codes "OLD")))
+    (path_argument (codes "NEW")))
+    (sectors_option large (codes "4096")))
+    large_option
+
+-- the events of a log from one time on, before another time, and of one process; the disk may be a
+-- large one
+abbrev pub log_command : App
+log_command = with_rule (with_rule (with_rule (with_rule (on_disk (codes "log"))
+    (time_option (codes "from")))
+    (time_option (codes "to")))
+    (optional_number (codes "process") 0 4294967295))
+    large_option
+
+-- the figures of a run, in one of two formats; the disk may be a large one
+abbrev pub stats_command : App
+stats_command = with_rule (with_rule (with_rule (on_model (codes "stats"))
+    (optional_argument (codes "DISK")))
+    (text_option (codes "format") (codes "text")))
+    large_option
+
+-- a picture of a run, from one time on, before another time, of some processes; or of its load; or
+-- of the course in a trace; the disk may be a large one
+abbrev pub draw_command : App
+draw_command = with_rule (with_rule (with_rule (with_rule (with_rule (with_rule (with_rule
+    (on_model (codes "draw"))
+    (optional_argument (codes "DISK")))
+    (time_option (codes "from")))
+    (time_option (codes "to")))
+    (optional_text (codes "processes")))
+    (flag (codes "load")))
+    (optional_text (codes "trace")))
+    large_option
+
+-- a node behind a socket, for 1 to 2^32 - 1 replies
+abbrev pub node_command : App
+node_command = with_rule
+    (with_rule (on_model (codes "node")) (path_argument (codes "SOCKET")))
+    (number_option (codes "parcels") 1 4294967295 (codes "4294967295"))
+
+-- the words must name a command or ask for the version; there is no command `help`
+abbrev pub without_commands : Text → App
+without_commands called = record (new_app called) {
+  top = record (new_app called).top {
+    subcommand_required = true;
+    arg_required_else_help = true;
+    disable_help_subcommand = true;
+    has_version = true;
+  };
+}
+
+-- the program of this name; the batch is given as a word or as a number, and disks are asked for as
+-- large ones or not
+abbrev pub program_by : Bool → Bool → Text → App
+program_by word large called = with_subcommand (with_subcommand (with_subcommand (with_subcommand
+    (with_subcommand (with_subcommand (with_subcommand (with_subcommand (with_subcommand
+    (with_subcommand (with_subcommand (with_subcommand (with_subcommand (without_commands called)
+    (new_command large).top) (run_command word).top) (on_any_disk (codes "extend")).top)
+    (grow_command large).top) (migrate_command large).top)
+    (on_any_disk (codes "status")).top) log_command.top) (on_any_disk (codes "show")).top)
+    stats_command.top) draw_command.top) (on_model (codes "seq")).top)
+    (on_model (codes "check")).top) node_command.top
+
+-- a program with a single option, whose value passes this parser, and whose default is this text
+abbrev pub refusing : Text → ValueParser → Text → App
+refusing option parser text = with_rule (new_app option) (choice_option option parser text)
+
+-- ---- the batch as a word
+
+-- the next word is `auto`
+abbrev pub begins_auto : List Text → Bool
+begins_auto [] = false
+begins_auto (word ∷ rest) = bytes_eq word (codes "auto")
+
+-- the batch is given as the word `auto`: as `--batch` directly followed by `auto`, or as
+-- `--batch=auto`, before any word `--`, which ends the options
+unfoldable pub says_auto : List Text → Bool
+says_auto [] = false
+says_auto (word ∷ rest) = not (bytes_eq word (codes "--"))
+    && (bytes_eq word (codes "--batch=auto")
+    || (bytes_eq word (codes "--batch") && begins_auto rest) || says_auto rest)
+
+-- ---- large disks
+
+-- large disks are asked for: by the word `--large`, before any word `--`
+unfoldable pub says_large : List Text → Bool
+says_large [] = false
+says_large (word ∷ rest) = not (bytes_eq word (codes "--"))
+    && (bytes_eq word (codes "--large") || says_large rest)
+
+-- the program of this name that reads these words; the first word is the program's own name
+abbrev pub grammar_of : Text → List Text → App
+grammar_of called words = program_by (says_auto (drop 1 words)) (says_large (drop 1 words)) called
+
+-- ---- building them
+
+-- the command reads words as `app` does, and has no global arguments
+abbrev pub IsApp : App → ClapCommand → Type 0
+IsApp app command = (app_of command ≡ app) × ((out-Command command).has_globals ≡ false)
+
+-- the command, if it is there, with this argument added
+abbrev pub AddsArgument : {E : Type 0} → Result ClapCommand E → Arg → ClapCommand → Type 0
+AddsArgument command argument new = IsOkAnd command (λ old. AddsArg old argument new)
+
+-- the program, if it is there, with this command added, which is there too
+abbrev pub AddsCommand
+    : {E : Type 0} → Result ClapCommand E → Result ClapCommand E → ClapCommand → Type 0
+AddsCommand program command new =
+    IsOkAnd program (λ old. IsOkAnd command (λ added. AddsSubcommand old added new))
+
+-- ---- the meaning of a parsed command
+
+-- the text of an argument
+abbrev pub text_in : Text → List Row → Text
+text_in id rows = unwrap_or (first_of id rows) []
+
+-- the number in the text, with or without a plus sign; unparseable text yields `least`
+abbrev pub number_of : ℕ → ℕ → Option Text → ℕ
+number_of least most None = least
+number_of least most (Some text) = if accepts true (Unsigned least most) text
+    then digits_value 10 (without_leading_plus text) else least
+
+-- the number of an option
+abbrev pub number_in : Text → ℕ → ℕ → List Row → ℕ
+number_in id least most rows = number_of least most (one_of id rows)
+
+-- the same, if it has a value
+abbrev pub optional_number_in : Text → ℕ → ℕ → List Row → Option ℕ
+optional_number_in id least most rows =
+    option_map (λ text. number_in id least most rows) (first_of id rows)
+
+-- the option has this text
+abbrev pub is_text : Option Text → Text → Bool
+is_text None word = false
+is_text (Some text) word = bytes_eq text word
+
+-- the batch: `auto`, or a number
+abbrev pub batch_in : List Row → BatchOption
+batch_in rows = if is_text (first_of (codes "batch") rows) (codes "auto") then Auto
+    else Fixed (number_in (codes "batch") 1 4294967295 rows)
+
+-- ---- a range of processes
+
+-- the number in the text, if it is one below 2^32
+abbrev pub written_number : Text → Option ℕ
+written_number text = if accepts true (Unsigned 0 4294967295) text
+    then Some (digits_value 10 (without_leading_plus text)) else None
+
+-- both numbers, if the first is not above the last
+abbrev pub in_order : Option ℕ → Option ℕ → Option (ℕ × ℕ)
+in_order (Some first) (Some last) = if nat_le first last then Some (first, last) else None
+in_order _ _ = None
+
+-- the range, from the text before the first point and the text behind it
+abbrev pub range_between : Text → Text → Option (ℕ × ℕ)
+range_between first [] = None
+range_between first (next ∷ last) =
+    if next == 46 then in_order (written_number first) (written_number last) else None
+
+-- a range of processes, `A..B`
+abbrev pub range_of : Text → Option (ℕ × ℕ)
+range_of text = range_between (before_first (λ b. b == 46) text) (after_first (λ b. b == 46) text)
+
+-- ---- invalid values
+
+-- the text is a number of at least 1
+abbrev pub is_positive : Text → Bool
+is_positive text = option_map_or (λ n. nat_le 1 n) (written_number text) false
+
+-- a batch that is neither `auto` nor a number of at least 1
+abbrev pub is_no_batch : Option Text → Bool
+is_no_batch None = false
+is_no_batch (Some text) = not (bytes_eq text (codes "auto") || is_positive text)
+
+-- processes that are not a range
+abbrev pub is_no_range : Option Text → Bool
+is_no_range None = false
+is_no_range (Some text) = not (is_some (range_of text))
+
+-- an unknown format
+abbrev pub is_no_format : Option Text → Bool
+is_no_format None = false
+is_no_format (Some text) = not (bytes_eq text (codes "text") || bytes_eq text (codes "csv"))
+
+-- the errors for the values of these rows that clap takes as any text
+abbrev pub unread_fault : List Row → Kinds
+unread_fault rows = if is_no_batch (first_of (codes "batch") rows)
+    || (is_no_range (first_of (codes "processes") rows)
+    || is_no_format (first_of (codes "format") rows)) then InvalidValue ∷ [] else []
+
+abbrev pub value_fault : Option (Text × List Row) → Kinds
+value_fault None = []
+value_fault (Some found) = unread_fault found.1
+
+-- the errors for these words: those of clap, or else those of such values
+abbrev pub refusal_of : Text → List Text → Kinds
+refusal_of called words = or_else (fault_of (grammar_of called words) words)
+    (value_fault (subcommand_of (grammar_of called words) words))
+
+-- ---- the values of a command
+
+-- the value of a flag, by what clap reads for it
+pub record IsFlagIn (id : Text) (rows : List Row) (value : Bool) : Type 0 where
+  pub used : one_of id rows ≡ Some (codes "true") → value ≡ true
+  pub unused : one_of id rows ≡ Some (codes "false") → value ≡ false
+  pub unread : one_of id rows ≡ None → value ≡ false
+
+-- the model file, as clap gives it
+abbrev pub SaysModel : ModelArgs → List Row → Type 0
+SaysModel args rows = args.model.now ≡ text_in (codes "MODEL") rows
+
+-- the model file and the disk, and whether it may be a large one
+abbrev pub SaysDisk : DiskArgs → List Row → Type 0
+SaysDisk args rows = (args.model.now ≡ text_in (codes "MODEL") rows)
+    × (args.disk.now ≡ text_in (codes "DISK") rows)
+    × IsFlagIn (codes "large") rows args.large
+
+-- the same where a disk need not be given
+abbrev pub SaysSource : SourceArgs → List Row → Type 0
+SaysSource args rows = (args.model.now ≡ text_in (codes "MODEL") rows)
+    × (option_map (λ path. path.now) args.disk ≡ first_of (codes "DISK") rows)
+    × IsFlagIn (codes "large") rows args.large
+
+-- The number of sectors of a disk, large or not. The range follows what clap read for the flag, not
+-- the words by which it was chosen, so this holds for each command, whatever words clap takes as
+-- another option's value.
+abbrev pub SaysSectors : ℕ → Bool → List Row → Type 0
+SaysSectors sectors large rows = sectors ≡ number_in (codes "sectors") 8 (most_sectors large) rows
+
+-- the time from which on, and the time before which, events count
+abbrev pub SaysTimes : Option ℕ → Option ℕ → List Row → Type 0
+SaysTimes from to rows = (from ≡ optional_number_in (codes "from") 0 1099511627776 rows)
+    × (to ≡ optional_number_in (codes "to") 0 1099511627776 rows)
+
+abbrev pub SaysNew : NewArgs → List Row → Type 0
+SaysNew args rows = SaysDisk args.on rows × SaysSectors args.sectors args.on.large rows
+
+abbrev pub SaysRun : RunArgs → List Row → Type 0
+SaysRun args rows = SaysDisk args.on rows
+    × (args.nodes ≡ number_in (codes "nodes") 1 64 rows)
+    × (args.batch ≡ batch_in rows)
+    × (args.rounds ≡ number_in (codes "rounds") 1 4294967295 rows)
+    × (args.checkpoint ≡ optional_number_in (codes "checkpoint") 1 1000000 rows)
+    × (args.commit_every ≡ optional_number_in (codes "commit-every") 1 400000 rows)
+    × (option_map (λ path. path.now) args.sockets ≡ first_of (codes "sockets") rows)
+    × (args.cut ≡ optional_number_in (codes "cut") 0 4294967295 rows)
+    × IsFlagIn (codes "together") rows args.together
+    × IsFlagIn (codes "attach") rows args.attach
+    × (option_map (λ path. path.now) args.trace ≡ first_of (codes "trace") rows)
+
+abbrev pub SaysGrow : GrowArgs → List Row → Type 0
+SaysGrow args rows = SaysDisk args.on rows × SaysSectors args.sectors args.on.large rows
+
+abbrev pub SaysMigrate : MigrateArgs → List Row → Type 0
+SaysMigrate args rows = (args.model.now ≡ text_in (codes "MODEL") rows)
+    × (args.old.now ≡ text_in (codes "OLD") rows)
+    × (args.new.now ≡ text_in (codes "NEW") rows)
+    × SaysSectors args.sectors args.large rows
+    × IsFlagIn (codes "large") rows args.large
+
+abbrev pub SaysLog : LogArgs → List Row → Type 0
+SaysLog args rows = SaysDisk args.on rows
+    × SaysTimes args.from args.to rows
+    × (args.process ≡ optional_number_in (codes "process") 0 4294967295 rows)
+
+abbrev pub SaysStats : StatsArgs → List Row → Type 0
+SaysStats args rows = SaysSource args.of rows
+    × (args.csv ≡ is_text (first_of (codes "format") rows) (codes "csv"))
+
+abbrev pub SaysDraw : DrawArgs → List Row → Type 0
+SaysDraw args rows = SaysSource args.of rows
+    × SaysTimes args.from args.to rows
+    × (args.processes ≡ option_and_then range_of (first_of (codes "processes") rows))
+    × IsFlagIn (codes "load") rows args.load
+    × (option_map (λ path. path.now) args.trace ≡ first_of (codes "trace") rows)
+
+abbrev pub SaysNode : NodeArgs → List Row → Type 0
+SaysNode args rows = (args.model.now ≡ text_in (codes "MODEL") rows)
+    × (args.socket.now ≡ text_in (codes "SOCKET") rows)
+    × (args.parcels ≡ number_in (codes "parcels") 1 4294967295 rows)
+
+-- the command has this name, and the values of these rows, as clap gives them
+abbrev pub SaysRows : Command → Text → List Row → Type 0
+SaysRows (New args) name rows = (name ≡ codes "new") × SaysNew args rows
+SaysRows (Run args) name rows = (name ≡ codes "run") × SaysRun args rows
+SaysRows (Extend args) name rows = (name ≡ codes "extend") × SaysDisk args rows
+SaysRows (Grow args) name rows = (name ≡ codes "grow") × SaysGrow args rows
+SaysRows (Migrate args) name rows = (name ≡ codes "migrate") × SaysMigrate args rows
+SaysRows (Status args) name rows = (name ≡ codes "status") × SaysDisk args rows
+SaysRows (Log args) name rows = (name ≡ codes "log") × SaysLog args rows
+SaysRows (Show args) name rows = (name ≡ codes "show") × SaysDisk args rows
+SaysRows (Stats args) name rows = (name ≡ codes "stats") × SaysStats args rows
+SaysRows (Draw args) name rows = (name ≡ codes "draw") × SaysDraw args rows
+SaysRows (Seq args) name rows = (name ≡ codes "seq") × SaysModel args rows
+SaysRows (Check args) name rows = (name ≡ codes "check") × SaysModel args rows
+SaysRows (Node args) name rows = (name ≡ codes "node") × SaysNode args rows
+
+-- the command is the subcommand that clap finds in the words, for the program of this name, with
+-- its values
+pub record Says (called : Text) (words : List Text) (command : Command) : Type 0 where
+  pub name : Text
+  pub rows : List Row
+  pub found : subcommand_of (grammar_of called words) words ≡ Some (name, rows)
+  pub values : SaysRows command name rows
+
+-- a batch that is a number is at least 1
+abbrev pub IsBatchRanged : BatchOption → Type 0
+IsBatchRanged (Fixed messages) = 1 ≤ messages
+IsBatchRanged Auto = ⊤
+
+-- a number that is there is in this range
+abbrev pub IsWithin : ℕ → ℕ → Option ℕ → Type 0
+IsWithin least most number = IfSome number (λ n. (least ≤ n) × (n ≤ most))
+
+-- a disk of this number of sectors, large or not, is allowed
+abbrev pub IsSized : ℕ → Bool → Type 0
+IsSized sectors large = (8 ≤ sectors) × (sectors ≤ most_sectors large)
+
+abbrev pub IsRunRanged : RunArgs → Type 0
+IsRunRanged args = (1 ≤ args.nodes) × (args.nodes ≤ 64) × IsBatchRanged args.batch
+    × (1 ≤ args.rounds) × IsWithin 1 1000000 args.checkpoint × IsWithin 1 400000 args.commit_every
+
+abbrev pub AreTimes : Option ℕ → Option ℕ → Type 0
+AreTimes from to = IsWithin 0 1099511627776 from × IsWithin 0 1099511627776 to
+
+abbrev pub IsLogRanged : LogArgs → Type 0
+IsLogRanged args = AreTimes args.from args.to
+
+abbrev pub IsDrawRanged : DrawArgs → Type 0
+IsDrawRanged args = AreTimes args.from args.to
+    × IfSome args.processes (λ range. range.0 ≤ range.1)
+
+-- the numbers of a command are in their ranges
+abbrev pub IsRanged : Command → Type 0
+IsRanged (New args) = IsSized args.sectors args.on.large
+IsRanged (Run args) = IsRunRanged args
+IsRanged (Grow args) = IsSized args.sectors args.on.large
+IsRanged (Migrate args) = IsSized args.sectors args.large
+IsRanged (Log args) = IsLogRanged args
+IsRanged (Draw args) = IsDrawRanged args
+IsRanged (Node args) = 1 ≤ args.parcels
+IsRanged _ = ⊤
+
+-- the name is that of a command
+abbrev pub IsNamed : Text → Type 0
+IsNamed name = (name ≡ codes "new") ⊎ ((name ≡ codes "run") ⊎ ((name ≡ codes "extend")
+    ⊎ ((name ≡ codes "grow") ⊎ ((name ≡ codes "migrate") ⊎ ((name ≡ codes "status")
+    ⊎ ((name ≡ codes "log")
+    ⊎ ((name ≡ codes "show") ⊎ ((name ≡ codes "stats") ⊎ ((name ≡ codes "draw")
+    ⊎ ((name ≡ codes "seq") ⊎ ((name ≡ codes "check") ⊎ (name ≡ codes "node"))))))))))))

@@ -1,0 +1,186 @@
+// The commands and their arguments.
+
+/// A parsed command.
+#[derive(Clone, Copy, Debug, PartialEq, Eq)]
+pub enum Command<'a> {
+    /// Make an empty log on a disk.
+    New(NewArgs<'a>),
+    /// Run a model on its disk.
+    Run(RunArgs<'a>),
+    /// Continue a disk to the later end of the model file.
+    Extend(DiskArgs<'a>),
+    /// Make a disk longer.
+    Grow(GrowArgs<'a>),
+    /// Write what is committed on a disk of format 1 to a new disk of format 2.
+    Migrate(MigrateArgs<'a>),
+    /// Print how far the run of a disk has come.
+    Status(DiskArgs<'a>),
+    /// Print the committed events of a disk.
+    Log(LogArgs<'a>),
+    /// Print the committed world of a disk.
+    Show(DiskArgs<'a>),
+    /// Print the figures of a run.
+    Stats(StatsArgs<'a>),
+    /// Print a picture of a run, as SVG.
+    Draw(DrawArgs<'a>),
+    /// Run a model by the plain runner.
+    Seq(ModelArgs<'a>),
+    /// Print whether a file is a model file, or what is wrong with it.
+    Check(ModelArgs<'a>),
+    /// Serve as a node behind a socket.
+    Node(NodeArgs<'a>),
+}
+
+/// The argument of a command on a model file alone.
+#[derive(Clone, Copy, Debug, PartialEq, Eq)]
+pub struct ModelArgs<'a> {
+    /// The path of the model file.
+    pub model: &'a str,
+}
+
+/// The arguments of a command on a model file and a disk, which other commands have too.
+#[derive(Clone, Copy, Debug, PartialEq, Eq)]
+pub struct DiskArgs<'a> {
+    /// The path of the model file.
+    pub model: &'a str,
+    /// The path of the disk's file.
+    pub disk: &'a str,
+    /// Whether the disk may have up to 16,777,216 sectors instead of 131,072.
+    pub large: bool,
+}
+
+/// The arguments of a command on the run of a disk, or on a run that the plain runner makes.
+#[derive(Clone, Copy, Debug, PartialEq, Eq)]
+pub struct SourceArgs<'a> {
+    /// The path of the model file.
+    pub model: &'a str,
+    /// The path of the disk's file; none for a run by the plain runner.
+    pub disk: Option<&'a str>,
+    /// Whether the disk may have up to 16,777,216 sectors instead of 131,072.
+    pub large: bool,
+}
+
+/// The arguments of `new`.
+#[derive(Clone, Copy, Debug, PartialEq, Eq)]
+pub struct NewArgs<'a> {
+    /// The model file and the disk.
+    pub on: DiskArgs<'a>,
+    /// The disk's number of sectors: 8 to 131,072, or to 16,777,216 for a large one.
+    pub sectors: u32,
+}
+
+/// The arguments of `run`.
+#[derive(Clone, Copy, Debug, PartialEq, Eq)]
+pub struct RunArgs<'a> {
+    /// The model file and the disk.
+    pub on: DiskArgs<'a>,
+    /// The number of nodes, 1 to 64.
+    pub nodes: u32,
+    /// How many messages a node may handle at a turn.
+    pub batch: BatchOption,
+    /// The maximum number of rounds, at least 1.
+    pub rounds: u32,
+    /// A checkpoint follows each time this many commits are made, at least 1; none for no
+    /// checkpoints.
+    pub checkpoint: Option<u32>,
+    /// A round commits once this many more events can be committed, 1 to 400,000; none for a
+    /// commit in each round.
+    pub commit_every: Option<u32>,
+    /// The folder with the sockets of node programs; none if the nodes are in this program.
+    pub sockets: Option<&'a str>,
+    /// The node whose program ends after one reply, if there is one.
+    pub cut: Option<u32>,
+    /// Whether all nodes are posted their parcels before a reply is taken.
+    pub together: bool,
+    /// Whether the run waits for the programs behind the sockets to connect, instead of starting
+    /// them.
+    pub attach: bool,
+    /// The path of the trace file, with a row for each turn of a node; none for no trace.
+    pub trace: Option<&'a str>,
+}
+
+/// How many messages a node may handle at a turn.
+#[derive(Clone, Copy, Debug, PartialEq, Eq)]
+pub enum BatchOption {
+    /// This number, at least 1.
+    Fixed(u32),
+    /// A number that each node adjusts by how much of what it handles is committed.
+    Auto,
+}
+
+/// The arguments of `grow`.
+#[derive(Clone, Copy, Debug, PartialEq, Eq)]
+pub struct GrowArgs<'a> {
+    /// The model file and the disk.
+    pub on: DiskArgs<'a>,
+    /// The number of sectors that the disk then has: 8 to 131,072, or to 16,777,216 for a large
+    /// one.
+    pub sectors: u32,
+}
+
+/// The arguments of `migrate`.
+#[derive(Clone, Copy, Debug, PartialEq, Eq)]
+pub struct MigrateArgs<'a> {
+    /// The path of the model file.
+    pub model: &'a str,
+    /// The path of the file of the disk of format 1.
+    pub old: &'a str,
+    /// The path of the file of the disk of format 2.
+    pub new: &'a str,
+    /// The number of sectors of the disk of format 2: 8 to 131,072, or to 16,777,216 for a large
+    /// one.
+    pub sectors: u32,
+    /// Whether each disk may have up to 16,777,216 sectors instead of 131,072.
+    pub large: bool,
+}
+
+/// The arguments of `log`.
+#[derive(Clone, Copy, Debug, PartialEq, Eq)]
+pub struct LogArgs<'a> {
+    /// The model file and the disk.
+    pub on: DiskArgs<'a>,
+    /// Only events at this time or later, in ticks, at most 2^40; none for all.
+    pub from: Option<u64>,
+    /// Only events before this time, in ticks, at most 2^40; none for all.
+    pub to: Option<u64>,
+    /// Only events that this process handled; none for all.
+    pub process: Option<u32>,
+}
+
+/// The arguments of `stats`.
+#[derive(Clone, Copy, Debug, PartialEq, Eq)]
+pub struct StatsArgs<'a> {
+    /// The run that is counted.
+    pub of: SourceArgs<'a>,
+    /// Whether the figures are printed as comma-separated values instead of a text.
+    pub csv: bool,
+}
+
+/// The arguments of `draw`.
+#[derive(Clone, Copy, Debug, PartialEq, Eq)]
+pub struct DrawArgs<'a> {
+    /// The run that is drawn.
+    pub of: SourceArgs<'a>,
+    /// Only events at this time or later, in ticks, at most 2^40; none for all.
+    pub from: Option<u64>,
+    /// Only events before this time, in ticks, at most 2^40; none for all.
+    pub to: Option<u64>,
+    /// The first and the last process that are drawn, the first not above the last; none for all.
+    pub processes: Option<(u32, u32)>,
+    /// Whether the load of the processes is drawn instead of each event.
+    pub load: bool,
+    /// The path of a trace file: only the course of its run is drawn; none for a picture of the
+    /// run.
+    pub trace: Option<&'a str>,
+}
+
+/// The arguments of `node`.
+#[derive(Clone, Copy, Debug, PartialEq, Eq)]
+pub struct NodeArgs<'a> {
+    /// The path of the model file.
+    pub model: &'a str,
+    /// The path of the socket.
+    pub socket: &'a str,
+    /// The maximum number of parcels that are answered, at least 1.
+    pub parcels: u32,
+}

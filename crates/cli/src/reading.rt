@@ -1,0 +1,213 @@
+// Reads the command line.
+
+ghost use Rattle.std.specs.Prelude.{◌≡◌, ◌≤◌, map, IfOk};
+ghost use Rattle.clap.specs.Words.{found_of, rows_of, FailsBy};
+ghost use Rattle.cli.specs.Command.{refusal_of, IsDrawRanged, IsLogRanged, IsNamed, IsRanged};
+ghost use Rattle.cli.specs.Command.{IsRunRanged, IsSized, Says, SaysDisk, SaysDraw, SaysGrow};
+ghost use Rattle.cli.specs.Command.{SaysLog, SaysMigrate, SaysModel, SaysNew, SaysNode, SaysRows};
+ghost use Rattle.cli.specs.Command.{SaysRun, SaysSource, SaysStats};
+
+use crate::command::{
+    Command, DiskArgs, DrawArgs, GrowArgs, LogArgs, MigrateArgs, ModelArgs, NewArgs, NodeArgs,
+    RunArgs, SourceArgs, StatsArgs,
+};
+use crate::grammar::{Texts, most_sectors, program};
+use crate::values::{
+    batch, is_flagged, is_text, optional_number, optional_small_number, optional_text, range,
+    refusal, small_number, text,
+};
+use crate::words::{says_auto, says_large};
+use clap::{ArgMatches, Error};
+use std::alloc::Global;
+use std::convert::AsStr;
+
+/// Returns the command that the words name, with its values. The first word is the program's own
+/// name, and `texts` are the texts of its help.
+///
+/// If they name none, returns `clap`'s error: its text says what is wrong, or is the help or the
+/// version that was asked for (of the kinds `DisplayHelp` and `DisplayVersion`). An invalid batch,
+/// an invalid range of processes and an unknown format are errors of the kind `InvalidValue`, in
+/// `clap`'s words. If an allocation failed, the result is an error of `clap` too.
+pub fn read_command<'a, S: AsStr>(
+    alloc: Global,
+    texts: Texts<'a>,
+    words: &'a [S],
+) -> Result<Command<'a>, Error>
+    ensures ok { IfOk result (Says texts.entry.name.now (map S.text words.entry.now)) }
+    ensures ranged { IfOk result IsRanged }
+    ensures refused { FailsBy (refusal_of texts.entry.name.now (map S.text words.entry.now))
+        result }
+{
+    let word = says_auto(words);
+    let large = says_large(words);
+    let matches = program(alloc, texts, word, large)?.try_get_matches_from(words)?;
+    match matches.subcommand() {
+        Some((name, values)) => match refusal(alloc, values) {
+            Some(error) => Err(error),
+            None => Ok(command_of(name, values)),
+        },
+        None => unreachable!(),
+    }
+}
+
+/// The command of this name with these values.
+fn command_of<'a>(name: &str, values: &ArgMatches<'a>) -> Command<'a>
+    requires { IsNamed name.now }
+    ensures says { SaysRows result name.now (rows_of (found_of values.now)) }
+    ensures ranged { IsRanged result }
+{
+    match name {
+        "new" => Command::New(new_args(values)),
+        "run" => Command::Run(run_args(values)),
+        "extend" => Command::Extend(disk_args(values)),
+        "grow" => Command::Grow(grow_args(values)),
+        "migrate" => Command::Migrate(migrate_args(values)),
+        "status" => Command::Status(disk_args(values)),
+        "log" => Command::Log(log_args(values)),
+        "show" => Command::Show(disk_args(values)),
+        "stats" => Command::Stats(stats_args(values)),
+        "draw" => Command::Draw(draw_args(values)),
+        "seq" => Command::Seq(model_args(values)),
+        "check" => Command::Check(model_args(values)),
+        _ => Command::Node(node_args(values)),
+    }
+}
+
+/// The argument of a command on a model file alone.
+fn model_args<'a>(values: &ArgMatches<'a>) -> ModelArgs<'a>
+    ensures { SaysModel result (rows_of (found_of values.now)) }
+{
+    ModelArgs {
+        model: text(values, "MODEL"),
+    }
+}
+
+/// The arguments of a command on a model file and a disk.
+fn disk_args<'a>(values: &ArgMatches<'a>) -> DiskArgs<'a>
+    ensures { SaysDisk result (rows_of (found_of values.now)) }
+{
+    DiskArgs {
+        model: text(values, "MODEL"),
+        disk: text(values, "DISK"),
+        large: is_flagged(values, "large"),
+    }
+}
+
+/// The arguments of a command on a run of a model file, on a disk or not.
+fn source_args<'a>(values: &ArgMatches<'a>) -> SourceArgs<'a>
+    ensures { SaysSource result (rows_of (found_of values.now)) }
+{
+    SourceArgs {
+        model: text(values, "MODEL"),
+        disk: optional_text(values, "DISK"),
+        large: is_flagged(values, "large"),
+    }
+}
+
+/// The arguments of `new`.
+fn new_args<'a>(values: &ArgMatches<'a>) -> NewArgs<'a>
+    ensures says { SaysNew result (rows_of (found_of values.now)) }
+    ensures ranged { IsSized result.sectors result.on.large }
+{
+    let on = disk_args(values);
+    let sectors = small_number(values, "sectors", 8, most_sectors(on.large));
+    NewArgs { on, sectors }
+}
+
+/// The arguments of `run`.
+fn run_args<'a>(values: &ArgMatches<'a>) -> RunArgs<'a>
+    ensures says { SaysRun result (rows_of (found_of values.now)) }
+    ensures ranged { IsRunRanged result }
+{
+    RunArgs {
+        on: disk_args(values),
+        nodes: small_number(values, "nodes", 1, 64),
+        batch: batch(values),
+        rounds: small_number(values, "rounds", 1, u32::MAX),
+        checkpoint: optional_small_number(values, "checkpoint", 1, 1_000_000),
+        commit_every: optional_small_number(values, "commit-every", 1, 400_000),
+        sockets: optional_text(values, "sockets"),
+        cut: optional_small_number(values, "cut", 0, u32::MAX),
+        together: is_flagged(values, "together"),
+        attach: is_flagged(values, "attach"),
+        trace: optional_text(values, "trace"),
+    }
+}
+
+/// The arguments of `grow`.
+fn grow_args<'a>(values: &ArgMatches<'a>) -> GrowArgs<'a>
+    ensures says { SaysGrow result (rows_of (found_of values.now)) }
+    ensures ranged { IsSized result.sectors result.on.large }
+{
+    let on = disk_args(values);
+    let sectors = small_number(values, "sectors", 8, most_sectors(on.large));
+    GrowArgs { on, sectors }
+}
+
+/// The arguments of `migrate`.
+fn migrate_args<'a>(values: &ArgMatches<'a>) -> MigrateArgs<'a>
+    ensures says { SaysMigrate result (rows_of (found_of values.now)) }
+    ensures ranged { IsSized result.sectors result.large }
+{
+    let large = is_flagged(values, "large");
+    MigrateArgs {
+        model: text(values, "MODEL"),
+        old: text(values, "OLD"),
+        new: text(values, "NEW"),
+        sectors: small_number(values, "sectors", 8, most_sectors(large)),
+        large,
+    }
+}
+
+/// The arguments of `log`.
+fn log_args<'a>(values: &ArgMatches<'a>) -> LogArgs<'a>
+    ensures says { SaysLog result (rows_of (found_of values.now)) }
+    ensures ranged { IsLogRanged result }
+{
+    LogArgs {
+        on: disk_args(values),
+        from: optional_number(values, "from", 0, LAST_TIME),
+        to: optional_number(values, "to", 0, LAST_TIME),
+        process: optional_small_number(values, "process", 0, u32::MAX),
+    }
+}
+
+/// The maximum virtual time, in ticks.
+const LAST_TIME: u64 = 1_099_511_627_776;
+
+/// The arguments of `stats`.
+fn stats_args<'a>(values: &ArgMatches<'a>) -> StatsArgs<'a>
+    ensures { SaysStats result (rows_of (found_of values.now)) }
+{
+    StatsArgs {
+        of: source_args(values),
+        csv: is_text(optional_text(values, "format"), "csv"),
+    }
+}
+
+/// The arguments of `draw`.
+fn draw_args<'a>(values: &ArgMatches<'a>) -> DrawArgs<'a>
+    ensures says { SaysDraw result (rows_of (found_of values.now)) }
+    ensures ranged { IsDrawRanged result }
+{
+    DrawArgs {
+        of: source_args(values),
+        from: optional_number(values, "from", 0, LAST_TIME),
+        to: optional_number(values, "to", 0, LAST_TIME),
+        processes: range(values),
+        load: is_flagged(values, "load"),
+        trace: optional_text(values, "trace"),
+    }
+}
+
+/// The arguments of `node`.
+fn node_args<'a>(values: &ArgMatches<'a>) -> NodeArgs<'a>
+    ensures says { SaysNode result (rows_of (found_of values.now)) }
+    ensures ranged { 1 ≤ result.parcels }
+{
+    NodeArgs {
+        model: text(values, "MODEL"),
+        socket: text(values, "SOCKET"),
+        parcels: small_number(values, "parcels", 1, u32::MAX),
+    }
+}
