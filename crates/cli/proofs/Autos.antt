@@ -1,12 +1,12 @@
--- The batch as a word, and large disks, word by word.
-use Rattle.std.specs.Prelude.{◌≡◌, ◌==◌, ◌-◌, ◌&&◌, ◌||◌, drop, length, map, take, Bool, true, false, List, [], ◌∷◌, codes}
+-- The batch as a word, and flags, word by word.
+use Rattle.std.specs.Prelude.{◌≡◌, ◌==◌, ◌-◌, ◌&&◌, ◌||◌, drop, length, map, not, take, Bool, true, false, List, [], ◌∷◌, codes}
 use Rattle.std.specs.Str.{bytes_eq}
 use Rattle.std.proofs.Common.{refl, ap, arith, inl, inr}
 use Rattle.std.proofs.lemmas.List.{take_all}
 use Rattle.std.proofs.lemmas.Bool.{cases_Bool, eqb-true}
 use Rattle.std.proofs.lemmas.Slice.Eq.{bytes_eq-Decides}
 use Rattle.clap.specs.Words.{Text}
-use Rattle.cli.specs.Command.{begins_auto, says_auto, says_large}
+use Rattle.cli.specs.Command.{begins_auto, says_auto, says_flag}
 
 -- what the remaining words say; `after` says whether the word before them is `--batch`
 abbrev pub left_say : Bool → List Text → Bool
@@ -70,25 +70,22 @@ pub auto_none : says_auto [] ≡ false
 unfolding says_auto
 auto_none = refl
 
-pub large_none : says_large [] ≡ false
-unfolding says_large
-large_none = refl
+pub flag_none : (flag : Text) → says_flag flag [] ≡ false
+unfolding says_flag
+flag_none flag = refl
 
--- `--` and `--large` decide, and each other word leaves it to the words behind it
-pub large_met : (word : Text) (rest : List Text) → (bytes_eq word (codes "--") || bytes_eq word (codes "--large")) ≡ true → says_large (word ∷ rest) ≡ bytes_eq word (codes "--large")
-unfolding says_large
-large_met word rest met = elim (cases_Bool (bytes_eq word (codes "--"))) [
-  | inl e ↦
-      let is : word ≡ codes "--" = (bytes_eq-Decides word (codes "--")).0 e in
-      let other : bytes_eq word (codes "--large") ≡ false = rw is refl in
-      rw (e, other) refl
+-- `--` and the flag decide, and each other word leaves it to the words behind it
+pub flag_met : (flag word : Text) (rest : List Text) → (bytes_eq word (codes "--") || bytes_eq word flag) ≡ true → says_flag flag (word ∷ rest) ≡ not (bytes_eq word (codes "--"))
+unfolding says_flag
+flag_met flag word rest met = elim (cases_Bool (bytes_eq word (codes "--"))) [
+  | inl e ↦ rw e refl
   | inr e ↦
-      let is : bytes_eq word (codes "--large") ≡ true = rw e at met in
+      let is : bytes_eq word flag ≡ true = rw e at met in
       rw (e, is) refl
 ]
 
-pub large_more : (word : Text) (rest : List Text) → (bytes_eq word (codes "--") || bytes_eq word (codes "--large")) ≡ false → says_large (word ∷ rest) ≡ says_large rest
-unfolding says_large
-large_more word rest e =
-    let parts = neither (bytes_eq word (codes "--")) (bytes_eq word (codes "--large")) e in
+pub flag_more : (flag word : Text) (rest : List Text) → (bytes_eq word (codes "--") || bytes_eq word flag) ≡ false → says_flag flag (word ∷ rest) ≡ says_flag flag rest
+unfolding says_flag
+flag_more flag word rest e =
+    let parts = neither (bytes_eq word (codes "--")) (bytes_eq word flag) e in
     rw (parts.0, parts.1) refl

@@ -81,8 +81,10 @@ entered_named word large called (Some p) found h = elim (found_among (λ s. answ
   | inr (inr (inr (inr (inr (inr (inr (inr (inr (inl e))))))))) ↦ inr (inr (inr (inr (inr (inr (inr (inr (inr (inl (sym (ap (λ r. r.0) e)))))))))))
   | inr (inr (inr (inr (inr (inr (inr (inr (inr (inr (inl e)))))))))) ↦ inr (inr (inr (inr (inr (inr (inr (inr (inr (inr (inl (sym (ap (λ r. r.0) e))))))))))))
   | inr (inr (inr (inr (inr (inr (inr (inr (inr (inr (inr (inl e))))))))))) ↦ inr (inr (inr (inr (inr (inr (inr (inr (inr (inr (inr (inl (sym (ap (λ r. r.0) e)))))))))))))
-  | inr (inr (inr (inr (inr (inr (inr (inr (inr (inr (inr (inr (inl e)))))))))))) ↦ inr (inr (inr (inr (inr (inr (inr (inr (inr (inr (inr (inr (sym (ap (λ r. r.0) e)))))))))))))
-  | inr (inr (inr (inr (inr (inr (inr (inr (inr (inr (inr (inr (inr e)))))))))))) ↦ absurd e
+  | inr (inr (inr (inr (inr (inr (inr (inr (inr (inr (inr (inr (inl e)))))))))))) ↦ inr (inr (inr (inr (inr (inr (inr (inr (inr (inr (inr (inr (inl (sym (ap (λ r. r.0) e))))))))))))))
+  | inr (inr (inr (inr (inr (inr (inr (inr (inr (inr (inr (inr (inr (inl e))))))))))))) ↦ inr (inr (inr (inr (inr (inr (inr (inr (inr (inr (inr (inr (inr (inl (sym (ap (λ r. r.0) e)))))))))))))))
+  | inr (inr (inr (inr (inr (inr (inr (inr (inr (inr (inr (inr (inr (inr (inl e)))))))))))))) ↦ inr (inr (inr (inr (inr (inr (inr (inr (inr (inr (inr (inr (inr (inr (sym (ap (λ r. r.0) e)))))))))))))))
+  | inr (inr (inr (inr (inr (inr (inr (inr (inr (inr (inr (inr (inr (inr (inr e)))))))))))))) ↦ absurd e
 ]
 
 pub only_named : (word large : Bool) (called : Text) (words : List Text) (name : Text) (rows : List Row) → subcommand_of (program_by word large called) words ≡ Some (name, rows) → IsNamed name

@@ -1,7 +1,7 @@
 -- The command line of a program (this project's profile), in the terms of clap: its commands, and
 -- the meaning of a parsed command.
 use Rattle.std.specs.Prelude.{◌≡◌, ◌⊎◌, ◌≤◌, ◌==◌, ◌&&◌, ◌||◌, ℕ, List, [], ◌∷◌, Option, Some, None}
-use Rattle.std.specs.Prelude.{Bool, true, false, not, drop, nat_le, is_some, codes, option_map}
+use Rattle.std.specs.Prelude.{Bool, true, false, not, drop, nat_le, nat_lt, is_some, codes, option_map}
 use Rattle.std.specs.Prelude.{unwrap_or, option_and_then, if◌then◌else◌, IfSome, IsOkAnd, Result, ⊤}
 use Rattle.std.specs.List.{after_first, before_first}
 use Rattle.std.specs.Option.{option_map_or}
@@ -17,13 +17,16 @@ use Rattle.clap.specs.Words.{with_rule, with_subcommand}
 use Rattle.clap.specs.ValueTests.{accepts}
 use Rattle.clap.specs.declared.builder.action.ArgAction.TheVariants.{SetTrue}
 use Rattle.clap.specs.declared.builder.value_parser.ValueParser.{ValueParser}
+use Rattle.clap.specs.declared.builder.value_parser.ValueParser.TheVariants.{NonEmptyString}
 use Rattle.clap.specs.declared.builder.value_parser.ValueParser.TheVariants.{Unsigned}
-use Rattle.clap.specs.declared.error.kind.ErrorKind.TheVariants.{InvalidValue}
+use Rattle.clap.specs.declared.error.kind.ErrorKind.TheVariants.{ArgumentConflict, InvalidValue}
+use Rattle.clap.specs.declared.error.kind.ErrorKind.TheVariants.{MissingRequiredArgument}
+use Rattle.clap.specs.declared.error.kind.ErrorKind.TheVariants.{ValueValidation}
 use Rattle.cli.specs.declared.command.BatchOption.{BatchOption}
 use Rattle.cli.specs.declared.command.BatchOption.TheVariants.{Auto, Fixed}
 use Rattle.cli.specs.declared.command.Command.{Command}
 use Rattle.cli.specs.declared.command.Command.TheVariants.{Check, Draw, Extend, Grow, Log, Migrate}
-use Rattle.cli.specs.declared.command.Command.TheVariants.{New, Node, Run, Seq, Show, Stats, Status}
+use Rattle.cli.specs.declared.command.Command.TheVariants.{New, Node, Reopen, Run, Seq, Show, Stats, Status, Verify}
 use Rattle.cli.specs.declared.command.DiskArgs.{DiskArgs}
 use Rattle.cli.specs.declared.command.DrawArgs.{DrawArgs}
 use Rattle.cli.specs.declared.command.GrowArgs.{GrowArgs}
@@ -38,13 +41,13 @@ use Rattle.cli.specs.declared.command.StatsArgs.{StatsArgs}
 
 -- ---- the arguments
 
--- a required argument that is a path
+-- a required argument that is a path, and not empty
 abbrev pub path_argument : Text → Rule
-path_argument id = record (new_rule id) { required = true }
+path_argument id = record (new_rule id) { required = true; parser = Some NonEmptyString }
 
--- an optional argument that is a path
+-- an optional argument that is a path, and not empty
 abbrev pub optional_argument : Text → Rule
-optional_argument id = new_rule id
+optional_argument id = record (new_rule id) { parser = Some NonEmptyString }
 
 -- an option whose value is a number from `least` to `most`, with a default
 abbrev pub number_option : Text → ℕ → ℕ → Text → Rule
@@ -75,9 +78,13 @@ text_option name default = record (new_rule name) {
 abbrev pub choice_option : Text → ValueParser → Text → Rule
 choice_option name parser default = record (text_option name default) { parser = Some parser }
 
--- an option without a default, whose value is any text
+-- an option without a default, whose value is any text but the empty one
 abbrev pub optional_text : Text → Rule
-optional_text name = record (new_rule name) { long = Some name; value_names = 1 }
+optional_text name = record (new_rule name) {
+  long = Some name;
+  value_names = 1;
+  parser = Some NonEmptyString;
+}
 
 -- a virtual time, 0 to 2^40 ticks
 abbrev pub time_option : Text → Rule
@@ -96,15 +103,20 @@ sectors_option large default = number_option (codes "sectors") 8 (most_sectors l
 abbrev pub flag : Text → Rule
 flag name = record (new_rule name) { long = Some name; action = Some SetTrue }
 
+-- lines of advice follow a fault
+abbrev pub advice_option : Rule
+advice_option = flag (codes "advice")
+
 -- disks may be large ones
 abbrev pub large_option : Rule
 large_option = flag (codes "large")
 
 -- ---- the commands
 
--- a command on a model file
+-- a command on a model file, with or without advice
 abbrev pub on_model : Text → App
-on_model name = with_rule (new_app name) (path_argument (codes "MODEL"))
+on_model name =
+    with_rule (with_rule (new_app name) (path_argument (codes "MODEL"))) advice_option
 
 -- a command on a model file and a disk
 abbrev pub on_disk : Text → App
@@ -127,11 +139,12 @@ batch_option true = text_option (codes "batch") (codes "16")
 
 -- 1 to 64 nodes; a batch; 1 to 2^32 - 1 rounds; a checkpoint every 1 to 1,000,000 commits; a commit
 -- for 1 to 400,000 events; the folder of node programs; the node that is cut short; nodes that work
--- at the same time; programs that are awaited instead of started; the file of a trace; and the disk
--- may be a large one
-abbrev pub run_command : Bool → App
-run_command word = with_rule (with_rule (with_rule (with_rule (with_rule (with_rule (with_rule
-    (with_rule (with_rule (with_rule
+-- at the same time; programs that are awaited instead of started; the file of a trace; the file that
+-- ends the run; a line of progress every 1 to 86,400 seconds; a disk that is made if it is not
+-- there, and its number of sectors; and the disk may be a large one
+abbrev pub run_command : Bool → Bool → App
+run_command word large = with_rule (with_rule (with_rule (with_rule (with_rule (with_rule
+    (with_rule (with_rule (with_rule (with_rule (with_rule (with_rule (with_rule (with_rule
     (with_rule (on_disk (codes "run")) (number_option (codes "nodes") 1 64 (codes "1")))
     (batch_option word))
     (number_option (codes "rounds") 1 4294967295 (codes "1000000")))
@@ -142,6 +155,10 @@ run_command word = with_rule (with_rule (with_rule (with_rule (with_rule (with_r
     (flag (codes "together")))
     (flag (codes "attach")))
     (optional_text (codes "trace")))
+    (optional_text (codes "stop-file")))
+    (optional_number (codes "progress") 1 86400))
+    (flag (codes "create")))
+    (sectors_option large (codes "4096")))
     large_option
 
 -- the maximum number of sectors, as the default of an option
@@ -213,11 +230,13 @@ without_commands called = record (new_app called) {
 -- large ones or not
 abbrev pub program_by : Bool → Bool → Text → App
 program_by word large called = with_subcommand (with_subcommand (with_subcommand (with_subcommand
+    (with_subcommand (with_subcommand
     (with_subcommand (with_subcommand (with_subcommand (with_subcommand (with_subcommand
     (with_subcommand (with_subcommand (with_subcommand (with_subcommand (without_commands called)
-    (new_command large).top) (run_command word).top) (on_any_disk (codes "extend")).top)
+    (new_command large).top) (run_command word large).top) (on_any_disk (codes "extend")).top)
     (grow_command large).top) (migrate_command large).top)
-    (on_any_disk (codes "status")).top) log_command.top) (on_any_disk (codes "show")).top)
+    (on_any_disk (codes "reopen")).top) (on_any_disk (codes "status")).top)
+    (on_any_disk (codes "verify")).top) log_command.top) (on_any_disk (codes "show")).top)
     stats_command.top) draw_command.top) (on_model (codes "seq")).top)
     (on_model (codes "check")).top) node_command.top
 
@@ -240,13 +259,21 @@ says_auto (word ∷ rest) = not (bytes_eq word (codes "--"))
     && (bytes_eq word (codes "--batch=auto")
     || (bytes_eq word (codes "--batch") && begins_auto rest) || says_auto rest)
 
--- ---- large disks
+-- ---- large disks, and advice
 
--- large disks are asked for: by the word `--large`, before any word `--`
-unfoldable pub says_large : List Text → Bool
-says_large [] = false
-says_large (word ∷ rest) = not (bytes_eq word (codes "--"))
-    && (bytes_eq word (codes "--large") || says_large rest)
+-- this flag is among the words, before any word `--`
+unfoldable pub says_flag : Text → List Text → Bool
+says_flag flag [] = false
+says_flag flag (word ∷ rest) = not (bytes_eq word (codes "--"))
+    && (bytes_eq word flag || says_flag flag rest)
+
+-- large disks are asked for
+abbrev pub says_large : List Text → Bool
+says_large = says_flag (codes "--large")
+
+-- advice is asked for
+abbrev pub says_advice : List Text → Bool
+says_advice = says_flag (codes "--advice")
 
 -- the program of this name that reads these words; the first word is the program's own name
 abbrev pub grammar_of : Text → List Text → App
@@ -343,16 +370,51 @@ is_no_format None = false
 is_no_format (Some text) = not (bytes_eq text (codes "text") || bytes_eq text (codes "csv"))
 
 -- the errors for the values of these rows that clap takes as any text
-abbrev pub unread_fault : List Row → Kinds
-unread_fault rows = if is_no_batch (first_of (codes "batch") rows)
+abbrev pub text_fault : List Row → Kinds
+text_fault rows = if is_no_batch (first_of (codes "batch") rows)
     || (is_no_range (first_of (codes "processes") rows)
     || is_no_format (first_of (codes "format") rows)) then InvalidValue ∷ [] else []
+
+-- an option without a value is used
+abbrev pub is_used : Text → List Row → Bool
+is_used id rows = is_text (first_of id rows) (codes "true")
+
+-- programs are awaited, but no folder of their sockets is given
+abbrev pub is_lonely : List Row → Bool
+is_lonely rows = is_used (codes "attach") rows && not (is_some (first_of (codes "sockets") rows))
+
+abbrev pub lonely_fault : List Row → Kinds
+lonely_fault rows = if is_lonely rows then MissingRequiredArgument ∷ [] else []
+
+-- both the load and the course in a trace are to be drawn
+abbrev pub is_drawn_twice : List Row → Bool
+is_drawn_twice rows = is_used (codes "load") rows && is_some (first_of (codes "trace") rows)
+
+abbrev pub drawn_fault : List Row → Kinds
+drawn_fault rows = if is_drawn_twice rows then ArgumentConflict ∷ [] else []
+
+-- the second time is before the first
+abbrev pub is_no_span : Option ℕ → Option ℕ → Bool
+is_no_span (Some from) (Some to) = nat_lt to from
+is_no_span _ _ = false
+
+abbrev pub span_fault : List Row → Kinds
+span_fault rows = if is_no_span (optional_number_in (codes "from") 0 1099511627776 rows)
+    (optional_number_in (codes "to") 0 1099511627776 rows) then ValueValidation ∷ [] else []
+
+-- the errors for options that do not go together
+abbrev pub company_fault : List Row → Kinds
+company_fault rows = or_else (lonely_fault rows) (or_else (drawn_fault rows) (span_fault rows))
+
+-- the errors for these rows that clap does not find
+abbrev pub unread_fault : List Row → Kinds
+unread_fault rows = or_else (text_fault rows) (company_fault rows)
 
 abbrev pub value_fault : Option (Text × List Row) → Kinds
 value_fault None = []
 value_fault (Some found) = unread_fault found.1
 
--- the errors for these words: those of clap, or else those of such values
+-- the errors for these words: those of clap, or else those of such rows
 abbrev pub refusal_of : Text → List Text → Kinds
 refusal_of called words = or_else (fault_of (grammar_of called words) words)
     (value_fault (subcommand_of (grammar_of called words) words))
@@ -407,6 +469,10 @@ SaysRun args rows = SaysDisk args.on rows
     × IsFlagIn (codes "together") rows args.together
     × IsFlagIn (codes "attach") rows args.attach
     × (option_map (λ path. path.now) args.trace ≡ first_of (codes "trace") rows)
+    × (option_map (λ path. path.now) args.stop_file ≡ first_of (codes "stop-file") rows)
+    × (args.progress ≡ optional_number_in (codes "progress") 1 86400 rows)
+    × IsFlagIn (codes "create") rows args.create
+    × SaysSectors args.sectors args.on.large rows
 
 abbrev pub SaysGrow : GrowArgs → List Row → Type 0
 SaysGrow args rows = SaysDisk args.on rows × SaysSectors args.sectors args.on.large rows
@@ -446,7 +512,9 @@ SaysRows (Run args) name rows = (name ≡ codes "run") × SaysRun args rows
 SaysRows (Extend args) name rows = (name ≡ codes "extend") × SaysDisk args rows
 SaysRows (Grow args) name rows = (name ≡ codes "grow") × SaysGrow args rows
 SaysRows (Migrate args) name rows = (name ≡ codes "migrate") × SaysMigrate args rows
+SaysRows (Reopen args) name rows = (name ≡ codes "reopen") × SaysDisk args rows
 SaysRows (Status args) name rows = (name ≡ codes "status") × SaysDisk args rows
+SaysRows (Verify args) name rows = (name ≡ codes "verify") × SaysDisk args rows
 SaysRows (Log args) name rows = (name ≡ codes "log") × SaysLog args rows
 SaysRows (Show args) name rows = (name ≡ codes "show") × SaysDisk args rows
 SaysRows (Stats args) name rows = (name ≡ codes "stats") × SaysStats args rows
@@ -479,6 +547,7 @@ IsSized sectors large = (8 ≤ sectors) × (sectors ≤ most_sectors large)
 abbrev pub IsRunRanged : RunArgs → Type 0
 IsRunRanged args = (1 ≤ args.nodes) × (args.nodes ≤ 64) × IsBatchRanged args.batch
     × (1 ≤ args.rounds) × IsWithin 1 1000000 args.checkpoint × IsWithin 1 400000 args.commit_every
+    × IsWithin 1 86400 args.progress × IsSized args.sectors args.on.large
 
 abbrev pub AreTimes : Option ℕ → Option ℕ → Type 0
 AreTimes from to = IsWithin 0 1099511627776 from × IsWithin 0 1099511627776 to
@@ -504,7 +573,7 @@ IsRanged _ = ⊤
 -- the name is that of a command
 abbrev pub IsNamed : Text → Type 0
 IsNamed name = (name ≡ codes "new") ⊎ ((name ≡ codes "run") ⊎ ((name ≡ codes "extend")
-    ⊎ ((name ≡ codes "grow") ⊎ ((name ≡ codes "migrate") ⊎ ((name ≡ codes "status")
-    ⊎ ((name ≡ codes "log")
+    ⊎ ((name ≡ codes "grow") ⊎ ((name ≡ codes "migrate") ⊎ ((name ≡ codes "reopen")
+    ⊎ ((name ≡ codes "status") ⊎ ((name ≡ codes "verify") ⊎ ((name ≡ codes "log")
     ⊎ ((name ≡ codes "show") ⊎ ((name ≡ codes "stats") ⊎ ((name ≡ codes "draw")
-    ⊎ ((name ≡ codes "seq") ⊎ ((name ≡ codes "check") ⊎ (name ≡ codes "node"))))))))))))
+    ⊎ ((name ≡ codes "seq") ⊎ ((name ≡ codes "check") ⊎ (name ≡ codes "node"))))))))))))))

@@ -13,8 +13,12 @@ pub enum Command<'a> {
     Grow(GrowArgs<'a>),
     /// Write what is committed on a disk of format 1 to a new disk of format 2.
     Migrate(MigrateArgs<'a>),
+    /// Open the gate of a disk's header again.
+    Reopen(DiskArgs<'a>),
     /// Print how far the run of a disk has come.
     Status(DiskArgs<'a>),
+    /// Check all that a disk holds.
+    Verify(DiskArgs<'a>),
     /// Print the committed events of a disk.
     Log(LogArgs<'a>),
     /// Print the committed world of a disk.
@@ -97,6 +101,15 @@ pub struct RunArgs<'a> {
     pub attach: bool,
     /// The path of the trace file, with a row for each turn of a node; none for no trace.
     pub trace: Option<&'a str>,
+    /// The path of a file that ends the run once it is there; none for no such file.
+    pub stop_file: Option<&'a str>,
+    /// The number of seconds between two lines of progress where there is no terminal, 1 to 86,400;
+    /// none for no such lines.
+    pub progress: Option<u32>,
+    /// Whether the disk is made, as `new` does, if its file is not there.
+    pub create: bool,
+    /// The number of sectors of a disk that is made: 8 to 131,072, or to 16,777,216 for a large one.
+    pub sectors: u32,
 }
 
 /// How many messages a node may handle at a turn.

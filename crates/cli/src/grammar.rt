@@ -4,7 +4,8 @@ ghost use Rattle.std.specs.Prelude.{◌≡◌, ◌≤◌, false, true, IfOk};
 ghost use Rattle.clap.specs.Words.{app_of, rule_of};
 ghost use Rattle.clap.specs.declared.builder.command.Command.TheViews.{out-Command as fields_of};
 ghost use Rattle.clap.specs.declared.builder.value_parser.ValueParser.TheVariants.{Names};
-ghost use Rattle.cli.specs.Command.{batch_option, choice_option, draw_command, flag, log_command};
+ghost use Rattle.cli.specs.Command.{advice_option, batch_option, choice_option, draw_command};
+ghost use Rattle.cli.specs.Command.{flag, log_command};
 ghost use Rattle.cli.specs.Command.{grow_command, large_option, migrate_command, refusing};
 ghost use Rattle.cli.specs.Command.{most_sectors, most_text, on_any_disk};
 ghost use Rattle.cli.specs.Command.{new_command, node_command, number_option, on_disk, on_model};
@@ -51,7 +52,7 @@ pub fn program<'a>(
         Ok(without_commands(alloc, name, version, help)),
         new(alloc, large),
     );
-    let program = with_command(program, run(alloc, word));
+    let program = with_command(program, run(alloc, word, large));
     let program = with_command(
         program,
         on_any_disk(alloc, "extend", EXTEND_ABOUT, EXTEND_HELP),
@@ -60,7 +61,15 @@ pub fn program<'a>(
     let program = with_command(program, migrate(alloc, large));
     let program = with_command(
         program,
+        on_any_disk(alloc, "reopen", REOPEN_ABOUT, REOPEN_HELP),
+    );
+    let program = with_command(
+        program,
         on_any_disk(alloc, "status", STATUS_ABOUT, STATUS_HELP),
+    );
+    let program = with_command(
+        program,
+        on_any_disk(alloc, "verify", VERIFY_ABOUT, VERIFY_HELP),
     );
     let program = with_command(program, log(alloc));
     let program = with_command(program, on_any_disk(alloc, "show", SHOW_ABOUT, SHOW_HELP));
@@ -119,14 +128,21 @@ Faults:
   Migrate ..   'migrate' stops: Old .. (OLD has another format, is of another simulation, or is
                damaged), New .. (NEW: Full (it has no room), Disk .., NoMemory)
   Grow ..      'grow' stops: Fewer (the disk has more sectors), TooMany, Device, NoMemory
-  Record N ..  'status' finds the record behind N others at fault: BadRecord, NotTheLeast, ..
+  Shut         'new' finds records behind a closed gate ('reopen' opens it)
+  Reopen ..    'reopen' stops: NotShut (the gate is open), Log .., Recovery .., Record N ..
+  Record N ..  'status' or 'verify' finds the record behind N others at fault: BadRecord,
+               NotTheLeast, ..
   World ..     'seq', 'stats' or 'draw' stops: NoMemory, or NumberLimit past 2^63 messages of one
                process
   BadTrace     'draw --trace' finds that the file is not as 'run --trace' writes one
   Wire ..      'node' stops: Truncated, TooLong, BadKind, BadBody (what was received is not a
                frame allowed at that point), Io, NoMemory
+  NoSuchProcess  'log' or 'draw' is asked for a process that the model does not have
   NoMemory     memory ran out elsewhere
-  Output       standard output refused a write"
+  Output       standard output refused a write
+
+With --advice, or where the environment has TIMEWARP_ADVICE=1, what to do about a fault follows it,
+as it always does on a terminal."
     )
 }
 
@@ -149,6 +165,11 @@ const LARGE_HELP: &str = "Allows up to 16777216 sectors instead of 131072";
 const NEW_HELP: &str = "\
 If the file exists, it must have the size that is asked for, and no log.
 
+Each commit takes at least 2 sectors, and 9 events take about 1. The default has room for at most
+2,000 commits, so a run of more rounds fills it (Session Full), and 'grow' makes it longer. For a
+model that you do not know use --sectors 131072, and 'run' with --batch auto --commit-every 4096.
+The file takes room on its device only as sectors are written.
+
 In memory a disk takes 512 bytes for each sector that is used, and a byte for each that it has.
 The commands take a disk of more than 131072 sectors only with --large.
 
@@ -156,8 +177,8 @@ Output:
   formatted N sectors";
 
 /// The command `run`.
-fn run<'a>(alloc: Global, word: bool) -> Result<ClapCommand<'a>, AllocError>
-    ensures { IfOk result (IsApp (run_command word)) }
+fn run<'a>(alloc: Global, word: bool, large: bool) -> Result<ClapCommand<'a>, AllocError>
+    ensures { IfOk result (IsApp (run_command word large)) }
 {
     let nodes = number_option(alloc, "nodes", "1", 1, 64, NODES_HELP);
     let batch = batch_option(alloc, word);
@@ -173,6 +194,11 @@ fn run<'a>(alloc: Global, word: bool) -> Result<ClapCommand<'a>, AllocError>
     let command = with_argument(command, flag(alloc, "together", TOGETHER_HELP));
     let command = with_argument(command, flag(alloc, "attach", ATTACH_HELP));
     let command = with_argument(command, optional_text(alloc, "trace", "FILE", TRACE_HELP));
+    let stop = optional_text(alloc, "stop-file", "FILE", STOP_HELP);
+    let progress = optional_number(alloc, "progress", "SECONDS", 1, 86_400, PROGRESS_HELP);
+    let command = with_argument(with_argument(command, stop), progress);
+    let command = with_argument(command, flag(alloc, "create", CREATE_HELP));
+    let command = with_argument(command, sectors(alloc, large, "4096", CREATED_HELP));
     with_argument(command, large_option(alloc))
 }
 
@@ -200,7 +226,7 @@ const ROUNDS_HELP: &str =
 const CHECKPOINT_HELP: &str = "Keeps the state in a record after each E-th commit, 1 to 1000000";
 
 const COMMIT_HELP: &str =
-    "Commits once E more events can be committed, 1 to 400000, and at the end";
+    "Commits once nodes have reported E more events, 1 to 400000, and at the end (see below)";
 
 const SOCKETS_HELP: &str = "Runs each node as a program of its own, behind the socket DIR/nodeI";
 
@@ -211,6 +237,16 @@ const TOGETHER_HELP: &str = "Hands work to all nodes before a reply is taken, so
 const ATTACH_HELP: &str = "Starts no node programs: waits for them to connect, in any order";
 
 const TRACE_HELP: &str = "Writes a row for each turn of a node to FILE, by commas (CSV)";
+
+const STOP_HELP: &str = "Commits and ends, with status 0, once FILE is there";
+
+const PROGRESS_HELP: &str =
+    "Prints a line of progress each SECONDS where there is no terminal, 1 to 86400";
+
+const CREATE_HELP: &str = "Makes the disk first, as 'new' does, if its file is not there";
+
+const CREATED_HELP: &str =
+    "With --create: how many sectors a new disk has, 8 to 131072, or with --large to 16777216";
 
 const RUN_HELP: &str = "\
 In a round each node has its turn, and what no rollback can reach any more is committed.
@@ -225,8 +261,10 @@ cannot pass. Use --rounds 2 or more.
 With --batch auto each node has its own batch, which grows and shrinks with the share of its handled
 messages that is committed.
 
-A commit waits for the disk twice. With --commit-every a power cut can cost the work since the last
-commit. Rounds that do not commit do not count for --checkpoint.
+A commit waits for the disk twice. With --commit-every a round commits if nodes have reported E
+events or more since the last commit: the commit takes those before the floor that all nodes know,
+often a few less than E. A power cut can cost the work since the last commit. Rounds that do not
+commit do not count for --checkpoint, so with both, checkpoints are far apart.
 
 A checkpoint is one record on the disk, as long as the states of all processes and the pending
 messages. The next opening begins at the last one, and replays only the events after it.
@@ -240,9 +278,14 @@ answer in a node's place. Sockets that a killed run left there are removed.
 With --attach as well it starts none of them: start each node I as 'node MODEL DIR/nodeI' once its
 socket is there, in any order. The run begins when all have connected.
 
+With --stop-file the run looks once a round, and at most ten times a second, whether FILE is there.
+The round after that is its last: what it may is committed, and the status is 0. FILE stays.
+
 Output:
   node NODE ran N           messages that the node handled, with those that were rolled back
-  committed TIME events N   ticks, and events in the log";
+  committed TIME events N   ticks, and events in the log
+
+A run that FILE ends prints the second line alone.";
 
 const EXTEND_ABOUT: &str = "Gives a disk a later end than the one it was made for";
 
@@ -312,6 +355,16 @@ If NEW exists, it must have the size that is asked for, and no log.
 Output:
   migrated TIME events N   ticks, and events in the log";
 
+const REOPEN_ABOUT: &str = "Opens the gate of a disk's header again, after damage closed it";
+
+const REOPEN_HELP: &str = "\
+A disk whose first byte is damaged seems to have no log, though its records are all there; 'new'
+does not take it (Shut). This command looks at everything before it writes: it replays all records
+from the beginning and compares each checkpoint with the world that they reach. If all is true, it
+opens the gate. Nothing else on the disk changes.
+
+Output: 'reopened: committed G events N', as 'run' prints what is committed.";
+
 const STATUS_ABOUT: &str = "Prints how far a disk's run has come and how much room is left";
 
 const STATUS_HELP: &str = "\
@@ -325,7 +378,7 @@ Output, all numbers decimal:
   full at about T ticks at the pace of the last L commits
 
 The last line is 'room to the end at the pace of the last L commits' where the rest of the run has
-room, and is left out where nothing is committed.";
+room, and is left out where nothing is committed or the run is at its end.";
 
 /// The command `log`.
 fn log<'a>(alloc: Global) -> Result<ClapCommand<'a>, AllocError>
@@ -344,6 +397,16 @@ const FROM_HELP: &str = "Only events at T ticks or later, 0 to 1099511627776";
 const TO_HELP: &str = "Only events before T ticks, 0 to 1099511627776";
 
 const PROCESS_HELP: &str = "Only events that process L handled, 0 to 4294967295";
+
+const VERIFY_ABOUT: &str = "Checks all that a disk holds, from its first record on";
+
+const VERIFY_HELP: &str = "\
+The disk is only read. Other commands take what a checkpoint holds as it stands; this one replays
+all records from the beginning, and compares each checkpoint with the world that they reach. It
+takes about as long as 'seq'.
+
+Output: 'verified: committed G events N', if the disk is what a run leaves. Otherwise the command
+fails with 'Record N ..', the first record at fault and what is wrong with it.";
 
 const LOG_ABOUT: &str = "Prints the committed events of a disk";
 
@@ -509,7 +572,8 @@ fn on_model<'a>(
     ensures { IfOk result (IsApp (on_model name.entry.now)) }
 {
     let command = ClapCommand::new(alloc, name).about(about).after_help(help);
-    with_argument(Ok(command), path(alloc, "MODEL", MODEL_HELP))
+    let command = with_argument(Ok(command), path(alloc, "MODEL", MODEL_HELP));
+    with_argument(command, advice_option(alloc))
 }
 
 const MODEL_HELP: &str =
@@ -552,20 +616,35 @@ fn with_argument<'a>(
     command?.arg(argument)
 }
 
-/// A required argument that is a path.
+/// The flag for advice after a fault, which each command has. In the help it comes before `--help`.
+fn advice_option<'a>(alloc: Global) -> Arg<'a>
+    ensures rule { rule_of result ≡ advice_option }
+    ensures local { result.global ≡ false }
+{
+    flag(alloc, "advice", ADVICE_HELP).display_order(998)
+}
+
+const ADVICE_HELP: &str = "Says after a fault what to do about it, as a terminal always does";
+
+/// A required argument that is a path, and not empty.
 fn path<'a>(alloc: Global, id: &'a str, help: &'a str) -> Arg<'a>
     ensures rule { rule_of result ≡ path_argument id.entry.now }
     ensures local { result.global ≡ false }
 {
-    Arg::new(alloc, id).required(true).help(help)
+    Arg::new(alloc, id)
+        .required(true)
+        .value_parser(ValueParser::NonEmptyString)
+        .help(help)
 }
 
-/// An optional argument that is a path.
+/// An optional argument that is a path, and not empty.
 fn optional_argument<'a>(alloc: Global, id: &'a str, help: &'a str) -> Arg<'a>
     ensures rule { rule_of result ≡ optional_argument id.entry.now }
     ensures local { result.global ≡ false }
 {
-    Arg::new(alloc, id).help(help)
+    Arg::new(alloc, id)
+        .value_parser(ValueParser::NonEmptyString)
+        .help(help)
 }
 
 /// The option for a disk's number of sectors.
@@ -677,7 +756,7 @@ fn names_option<'a>(
         .default_value(default)
 }
 
-/// An option without a default, whose value is any text.
+/// An option without a default, whose value is any text but the empty one.
 fn optional_text<'a>(alloc: Global, name: &'a str, value: &'a str, help: &'a str) -> Arg<'a>
     ensures rule { rule_of result ≡ optional_text name.entry.now }
     ensures local { result.global ≡ false }
@@ -685,6 +764,7 @@ fn optional_text<'a>(alloc: Global, name: &'a str, value: &'a str, help: &'a str
     Arg::new(alloc, name)
         .long(name)
         .value_name(value)
+        .value_parser(ValueParser::NonEmptyString)
         .help(help)
 }
 

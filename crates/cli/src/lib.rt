@@ -3,7 +3,9 @@
 #![tactic(auto)]
 
 mod command;
+mod company;
 mod grammar;
+mod hint;
 mod reading;
 mod values;
 mod words;
@@ -13,4 +15,6 @@ pub use command::{
     NodeArgs, RunArgs, SourceArgs, StatsArgs,
 };
 pub use grammar::{Texts, most_sectors, program_help, seq_help};
+pub use hint::{Hint, hint_of};
 pub use reading::read_command;
+pub use words::says_advice;

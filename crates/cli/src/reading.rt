@@ -11,6 +11,7 @@ use crate::command::{
     Command, DiskArgs, DrawArgs, GrowArgs, LogArgs, MigrateArgs, ModelArgs, NewArgs, NodeArgs,
     RunArgs, SourceArgs, StatsArgs,
 };
+use crate::company::LAST_TIME;
 use crate::grammar::{Texts, most_sectors, program};
 use crate::values::{
     batch, is_flagged, is_text, optional_number, optional_small_number, optional_text, range,
@@ -27,7 +28,10 @@ use std::convert::AsStr;
 /// If they name none, returns `clap`'s error: its text says what is wrong, or is the help or the
 /// version that was asked for (of the kinds `DisplayHelp` and `DisplayVersion`). An invalid batch,
 /// an invalid range of processes and an unknown format are errors of the kind `InvalidValue`, in
-/// `clap`'s words. If an allocation failed, the result is an error of `clap` too.
+/// `clap`'s words; then come options that do not go together, each in `clap`'s form: `--attach`
+/// without `--sockets` (`MissingRequiredArgument`), `--load` with `--trace` (`ArgumentConflict`), and
+/// a time of `--to` before that of `--from` (`ValueValidation`). If an allocation failed,
+/// the result is an error of `clap` too.
 pub fn read_command<'a, S: AsStr>(
     alloc: Global,
     texts: Texts<'a>,
@@ -42,7 +46,7 @@ pub fn read_command<'a, S: AsStr>(
     let large = says_large(words);
     let matches = program(alloc, texts, word, large)?.try_get_matches_from(words)?;
     match matches.subcommand() {
-        Some((name, values)) => match refusal(alloc, values) {
+        Some((name, values)) => match refusal(alloc, texts.name, values) {
             Some(error) => Err(error),
             None => Ok(command_of(name, values)),
         },
@@ -62,7 +66,9 @@ fn command_of<'a>(name: &str, values: &ArgMatches<'a>) -> Command<'a>
         "extend" => Command::Extend(disk_args(values)),
         "grow" => Command::Grow(grow_args(values)),
         "migrate" => Command::Migrate(migrate_args(values)),
+        "reopen" => Command::Reopen(disk_args(values)),
         "status" => Command::Status(disk_args(values)),
+        "verify" => Command::Verify(disk_args(values)),
         "log" => Command::Log(log_args(values)),
         "show" => Command::Show(disk_args(values)),
         "stats" => Command::Stats(stats_args(values)),
@@ -119,8 +125,9 @@ fn run_args<'a>(values: &ArgMatches<'a>) -> RunArgs<'a>
     ensures says { SaysRun result (rows_of (found_of values.now)) }
     ensures ranged { IsRunRanged result }
 {
+    let on = disk_args(values);
     RunArgs {
-        on: disk_args(values),
+        on,
         nodes: small_number(values, "nodes", 1, 64),
         batch: batch(values),
         rounds: small_number(values, "rounds", 1, u32::MAX),
@@ -131,6 +138,10 @@ fn run_args<'a>(values: &ArgMatches<'a>) -> RunArgs<'a>
         together: is_flagged(values, "together"),
         attach: is_flagged(values, "attach"),
         trace: optional_text(values, "trace"),
+        stop_file: optional_text(values, "stop-file"),
+        progress: optional_small_number(values, "progress", 1, 86_400),
+        create: is_flagged(values, "create"),
+        sectors: small_number(values, "sectors", 8, most_sectors(on.large)),
     }
 }
 
@@ -171,9 +182,6 @@ fn log_args<'a>(values: &ArgMatches<'a>) -> LogArgs<'a>
         process: optional_small_number(values, "process", 0, u32::MAX),
     }
 }
-
-/// The maximum virtual time, in ticks.
-const LAST_TIME: u64 = 1_099_511_627_776;
 
 /// The arguments of `stats`.
 fn stats_args<'a>(values: &ArgMatches<'a>) -> StatsArgs<'a>

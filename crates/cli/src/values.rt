@@ -8,10 +8,11 @@ ghost use Rattle.clap.specs.Words.{first_of, found_of, rows_of, HasKind};
 ghost use Rattle.clap.specs.declared.error.kind.ErrorKind.TheVariants.{InvalidValue};
 ghost use Rattle.cli.specs.Command.{batch_in, is_no_batch, is_no_format, is_no_range, is_positive};
 ghost use Rattle.cli.specs.Command.{is_text, number_in, optional_number_in, range_of, text_in};
-ghost use Rattle.cli.specs.Command.{unread_fault, written_number};
+ghost use Rattle.cli.specs.Command.{text_fault, unread_fault, written_number};
 ghost use Rattle.cli.specs.Command.{IsBatchRanged, IsFlagIn, IsWithin};
 
 use crate::command::BatchOption;
+use crate::company::refused_company;
 use crate::grammar::refusing;
 use clap::{ArgMatches, Error};
 use std::alloc::Global;
@@ -161,10 +162,22 @@ fn is_positive(text: &str) -> bool
     }
 }
 
-/// The error for invalid values among those that `clap` takes as any text.
-pub fn refusal(alloc: Global, values: &ArgMatches<'_>) -> Option<Error>
+/// The error for what `clap` does not refuse itself: values that it takes as any text, and options
+/// that do not go together, in a program of this name.
+pub fn refusal(alloc: Global, name: &str, values: &ArgMatches<'_>) -> Option<Error>
     ensures { MatchOption result (unread_fault (rows_of (found_of values.now)) ≡ [])
-        (λ e. (unread_fault (rows_of (found_of values.now)) ≡ InvalidValue ∷ [])
+        (λ e. HasKind (unread_fault (rows_of (found_of values.now))) e) }
+{
+    match refused_text(alloc, values) {
+        Some(error) => Some(error),
+        None => refused_company(alloc, name, values),
+    }
+}
+
+/// The error for invalid values among those that `clap` takes as any text.
+fn refused_text(alloc: Global, values: &ArgMatches<'_>) -> Option<Error>
+    ensures { MatchOption result (text_fault (rows_of (found_of values.now)) ≡ [])
+        (λ e. (text_fault (rows_of (found_of values.now)) ≡ InvalidValue ∷ [])
         × HasKind (InvalidValue ∷ []) e) }
 {
     match refused_batch(alloc, optional_text(values, "batch")) {

@@ -1,8 +1,8 @@
-// Finds in the words whether the batch is `auto`, and whether large disks are asked for.
+// Finds in the words whether the batch is `auto`, and whether large disks or advice are asked for.
 
 ghost use Rattle.std.specs.Prelude.{◌≡◌, ◌&&◌, ◌||◌, codes, drop, map};
 ghost use Rattle.std.specs.Str.{bytes_eq};
-ghost use Rattle.cli.specs.Command.{says_auto, says_large};
+ghost use Rattle.cli.specs.Command.{says_advice, says_auto, says_flag, says_large};
 
 use std::convert::AsStr;
 
@@ -47,28 +47,44 @@ fn is_auto(after_batch: bool, word: &str) -> bool
 pub fn says_large<S: AsStr>(words: &[S]) -> bool
     ensures { result ≡ says_large (drop 1 (map S.text words.now)) }
 {
+    says(words, "--large")
+}
+
+/// Whether there is a word `--advice` before any word `--`. The first word is the program's own
+/// name. Also says so of words that name no command.
+pub fn says_advice<S: AsStr>(words: &[S]) -> bool
+    ensures { result ≡ says_advice (drop 1 (map S.text words.now)) }
+{
+    says(words, "--advice")
+}
+
+/// Whether this flag is among the words, before any word `--`. The first word is the program's own
+/// name.
+fn says<S: AsStr>(words: &[S], flag: &str) -> bool
+    ensures { result ≡ says_flag flag.now (drop 1 (map S.text words.now)) }
+{
     if words.is_empty() {
         return false;
     }
-    options_say_large(&words[1..])
+    options_say(&words[1..], flag)
 }
 
-/// Whether there is a word `--large` among these words, before any word `--`.
-fn options_say_large<S: AsStr>(words: &[S]) -> bool
-    ensures { result ≡ says_large (map S.text words.now) }
+/// Whether this flag is among these words, before any word `--`.
+fn options_say<S: AsStr>(words: &[S], flag: &str) -> bool
+    ensures { result ≡ says_flag flag.now (map S.text words.now) }
 {
     for word in words {
         let word = word.as_str();
-        if decides(word) {
-            return word == "--large";
+        if decides(word, flag) {
+            return word != "--";
         }
     }
     false
 }
 
-/// Whether this word decides the answer: options end at it, or it is `--large`.
-fn decides(word: &str) -> bool
-    ensures { result ≡ (bytes_eq word.now (codes "--") || bytes_eq word.now (codes "--large")) }
+/// Whether this word decides the answer: options end at it, or it is the flag.
+fn decides(word: &str, flag: &str) -> bool
+    ensures { result ≡ (bytes_eq word.now (codes "--") || bytes_eq word.now flag.now) }
 {
-    word == "--" || word == "--large"
+    word == "--" || word == flag
 }

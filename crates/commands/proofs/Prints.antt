@@ -3,6 +3,12 @@ use Rattle.std.proofs.Common.{false, ap, arith, inl, inr, refl, subst, sym, ◌�
 use Rattle.std.specs.Io.KnownBytes.{Appends, Keeps}
 use Rattle.std.specs.Prelude.{◌≡◌, ◌≤◌, ◌^◌, ℕ, List, [], Option, Result, Ok, Err, OnOk, length}
 use Rattle.commands.specs.Commands.{IsBlankOrRepresents, IsNotRecovered, PrintsExtended, extended_text}
+use Rattle.commands.specs.Commands.{of_run}
+use Rattle.commands.specs.declared.fault.CommandFault.{CommandFault}
+use Rattle.commands.specs.declared.fault.CommandFault.TheVariants.{Stopped}
+use Rattle.runs.specs.declared.rounds.RunFault.{RunFault}
+use Rattle.runs.specs.declared.rounds.RunFault.TheVariants as run
+use Rattle.std.specs.Result.{IsErrOf}
 use Rattle.commitlog.specs.Faults.{OpenIsRefused}
 use Rattle.commitlog.specs.Log.{IsDurable, Opened}
 use Rattle.commitlog.specs.declared.records.Entry.{Entry}
@@ -36,6 +42,19 @@ use Rattle.texts.specs.Text.{log_text, world_text}
 pub at_ok : {T E X : Type 0} (r : Result T E) → X → OnOk r X
 at_ok (Ok x) h = h
 at_ok (Err e) h = tt
+
+-- only the stop of a run is reported as one
+stop_of : (fault : RunFault) (time events : ℕ) → of_run fault ≡ Stopped time events → fault ≡ run.Stopped time events
+stop_of (run.Session f) time events is = absurd cc
+stop_of run.Rounds time events is = absurd cc
+stop_of run.NoMemory time events is = absurd cc
+stop_of (run.Stopped t n) time events is = cc
+
+pub asked_to_stop : {T : Type 0} (fault : RunFault) (own : CommandFault) (time events : ℕ) → own ≡ of_run fault → ◌≡◌ {A = Result T CommandFault} (Err own) (Err (Stopped time events)) → fault ≡ run.Stopped time events
+asked_to_stop fault own time events own_is is = (let same : own ≡ Stopped time events = cc in stop_of fault time events (sym own_is ∙ same))
+
+pub stopped_first : {T : Type 0} (r : Result T RunFault) (fault : RunFault) (time events : ℕ) → r ≡ Err fault → fault ≡ run.Stopped time events → IsErrOf r (run.Stopped time events)
+stopped_first r fault time events is same = is ∙ ap Err same
 
 module _ (m : Meaning) (end : ℕ) (header : List ℕ) (is : header ≡ header_bytes (header_of m end)) (possible : IsEnd end) where
   -- an empty log represents the opening world, whatever a crash leaves

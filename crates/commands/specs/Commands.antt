@@ -4,7 +4,7 @@ use Rattle.std.specs.Prelude.{◌≡◌, ◌≤◌, ◌⊎◌, ℕ, List, ◌++�
 use Rattle.std.specs.Prelude.{None, get_or, length}
 use Rattle.commands.specs.declared.fault.CommandFault.{CommandFault}
 use Rattle.commands.specs.declared.fault.CommandFault.TheVariants.{Log, NoMemory, Output, Recovery}
-use Rattle.commands.specs.declared.fault.CommandFault.TheVariants.{Rounds, Session}
+use Rattle.commands.specs.declared.fault.CommandFault.TheVariants.{Rounds, Session, Stopped}
 use Rattle.commitlog.specs.Faults.{FormatIsRefused, OpenIsRefused}
 use Rattle.commitlog.specs.Records.{IsBlank, IsFormatted, records_of}
 use Rattle.commitlog.specs.declared.fault.LogFault.TheVariants as log
@@ -43,6 +43,11 @@ abbrev pub ran_text : List ℕ → ℕ → ℕ → List ℕ
 ran_text ran time events =
     flat_map (node_text ran) (below (length ran))
     ++ (codes "committed " ++ decimal time) ++ (codes " events " ++ decimal events) ++ codes "\n"
+
+-- the time before which `events` events are committed, by a run that was asked to stop
+abbrev pub stopped_text : ℕ → ℕ → List ℕ
+stopped_text time events =
+    (codes "committed " ++ decimal time) ++ (codes " events " ++ decimal events) ++ codes "\n"
 
 -- the end that was in force, and the new one
 abbrev pub extended_text : ℕ → ℕ → List ℕ
@@ -156,4 +161,5 @@ IsOfSession fault Cause = ⊥
 abbrev pub of_run : RunFault → CommandFault
 of_run (run.Session fault) = Session fault
 of_run run.Rounds = Rounds
+of_run (run.Stopped time events) = Stopped time events
 of_run run.NoMemory = NoMemory

@@ -30,6 +30,14 @@ pub enum CommandFault {
     /// The run made all its rounds before everything was committed.
     #[error("Rounds")]
     Rounds,
+    /// The run was asked to stop, and stopped before its end with rounds left.
+    #[error("Stopped")]
+    Stopped {
+        /// The virtual time before which everything is committed, in ticks.
+        time: u64,
+        /// The number of committed events.
+        events: usize,
+    },
     /// A disk of format 1 was not migrated, or only in part.
     #[error("Migrate {0}")]
     Migrate(MigrateFault),
@@ -87,6 +95,7 @@ impl From<RunFault> for CommandFault {
         match fault {
             RunFault::Session(fault) => CommandFault::Session(fault),
             RunFault::Rounds => CommandFault::Rounds,
+            RunFault::Stopped { time, events } => CommandFault::Stopped { time, events },
             RunFault::NoMemory => CommandFault::NoMemory,
         }
     }

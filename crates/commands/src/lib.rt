@@ -10,3 +10,4 @@ mod printing;
 pub use commands::{Ended, Simulated, committed, extend, log, new, run, run_over, show};
 pub use fault::CommandFault;
 pub use migrating::{migrate, old_log};
+pub use printing::write_stopped;

@@ -2,6 +2,7 @@
 
 ghost use Rattle.std.specs.Prelude.{◌++◌, codes, decimal, flat_map, length, IsOkUnless};
 ghost use Rattle.commands.specs.Commands.{extended_text, formatted_text, node_text, ran_text};
+ghost use Rattle.commands.specs.Commands.{stopped_text};
 ghost use Rattle.commands.specs.Migrating.{migrated_text};
 ghost use Rattle.commands.specs.declared.fault.CommandFault.TheVariants.{Output};
 ghost use Rattle.model.specs.World.{below};
@@ -44,6 +45,19 @@ pub fn write_migrated<O: Write>(time: u64, count: usize, out: &mut O) -> Result<
 {
     write_number("migrated ", time, out)?;
     write_number(" events ", count as u64, out)?;
+    write_text("\n", out)?;
+    out.flush()?;
+    Ok(())
+}
+
+/// Writes what is committed after a run that was asked to stop, and flushes the writer.
+pub fn write_stopped<O: Write>(time: u64, events: usize, out: &mut O) -> Result<(), CommandFault>
+    ensures written { Writes (O.contents out.old) (O.contents out.new) result
+        (stopped_text time events) }
+    ensures fault { IsOkUnless result Output }
+{
+    write_number("committed ", time, out)?;
+    write_number(" events ", events as u64, out)?;
     write_text("\n", out)?;
     out.flush()?;
     Ok(())

@@ -69,8 +69,12 @@ pace_text i =
     else line ((codes "full at about ", full_at i)
     ∷ (codes " ticks at the pace of the last ", i.pace.commits) ∷ []) (codes " commits\n")
 
+-- left out if the run is at its end
+abbrev pub rest_text : Inspection → List ℕ
+rest_text i = if nat_le i.end i.time then [] else pace_text i
+
 -- 3. The whole text
 
 abbrev pub inspection_text : Inspection → List ℕ
 inspection_text i =
-    time_text i ++ events_text i ++ records_text i ++ sectors_text i ++ pace_text i
+    time_text i ++ events_text i ++ records_text i ++ sectors_text i ++ rest_text i

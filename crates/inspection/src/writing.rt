@@ -5,6 +5,7 @@ ghost use Rattle.std.specs.Prelude.{if◌then◌else◌, Option, Some, None};
 ghost use Rattle.eventkey.specs.Writing.{Writes};
 ghost use Rattle.inspection.specs.Text.{bytes_each, events_text, full_at};
 ghost use Rattle.inspection.specs.Text.{inspection_text, line, pace_text, percent, records_text};
+ghost use Rattle.inspection.specs.Text.{rest_text};
 ghost use Rattle.inspection.specs.Text.{sectors_text, time_text};
 
 use crate::inspecting::Inspection;
@@ -23,7 +24,7 @@ pub fn write_inspection<W: Write>(shown: &Inspection, out: &mut W) -> Result<()>
     write_events(shown, out)?;
     write_records(shown, out)?;
     write_sectors(shown, out)?;
-    write_pace(shown, out)
+    write_rest(shown, out)
 }
 
 /// Writes how far the run has come.
@@ -98,6 +99,16 @@ fn write_sectors<W: Write>(shown: &Inspection, out: &mut W) -> Result<()>
         " free\n",
         out,
     )
+}
+
+/// Writes when the disk is full, unless the run is at its end.
+fn write_rest<W: Write>(shown: &Inspection, out: &mut W) -> Result<()>
+    ensures { Writes (W.contents out.old) (W.contents out.new) result (rest_text shown.now) }
+{
+    if shown.end <= shown.time {
+        return Ok(());
+    }
+    write_pace(shown, out)
 }
 
 /// Writes when the disk is full at the pace of the last commits, if there are any.

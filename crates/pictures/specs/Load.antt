@@ -61,10 +61,16 @@ abbrev pub cells_text : Run → Frame → ℕ → ℕ → List ℕ
 cells_text r f most row =
     flat_map (λ slice. cell_text f most row slice (cell_count r f row slice)) (below (slices_of f))
 
+-- the first and the last tick, the most events of a cell, the number of slices, and how many of the
+-- processes are shown, from which on
+abbrev pub head_text : Run → Frame → ℕ → List ℕ
+head_text r f most = filled LOAD_HEAD.now
+    ((bottom_of f + 40) ∷ (bottom_of f + 40) ∷ f.from ∷ (f.to - 1) ∷ most ∷ slices_of f
+    ∷ f.rows ∷ length r.first ∷ f.first ∷ [])
+
 abbrev pub map_text : Run → Frame → ℕ → List ℕ
 map_text r f most =
-    filled LOAD_HEAD.now
-    ((bottom_of f + 40) ∷ (bottom_of f + 40) ∷ f.from ∷ f.to ∷ most ∷ slices_of f ∷ [])
+    head_text r f most
     ++ STYLE.now ++ ticks_text f ++ rows_text f
     ++ flat_map (cells_text r f most) (below f.rows) ++ TAIL.now
 

@@ -4,7 +4,8 @@ ghost use Rattle.std.specs.Prelude.{◌≡◌, ◌≤◌, ◌<◌, ◌+◌, ◌-
 ghost use Rattle.std.specs.Prelude.{slice_index};
 ghost use Rattle.eventkey.specs.Writing.{Writes};
 ghost use Rattle.model.specs.World.{below};
-ghost use Rattle.pictures.specs.Load.{cell_count, cell_text, cells_text, is_in_row, level_of};
+ghost use Rattle.pictures.specs.Load.{cell_count, cell_text, cells_text, head_text, is_in_row};
+ghost use Rattle.pictures.specs.Load.{level_of};
 ghost use Rattle.pictures.specs.Load.{load_text, map_text, most_in_row, most_in_rows, slice_at};
 ghost use Rattle.pictures.specs.Load.{slice_start, slices_of};
 
@@ -22,7 +23,7 @@ const MOST: u64 = 1 << 56;
 const LOAD_HEAD: &str = "\
 <svg xmlns=\"http://www.w3.org/2000/svg\" viewBox=\"0 0 1000 $\" width=\"1000\" height=\"$\" role=\"img\">
 <title>Events a process, virtual time $ to $</title>
-<text x=\"60\" y=\"24\">deepest: $ events of a process in one of $ slices</text>
+<text x=\"60\" y=\"24\">deepest: $ events of a process in one of $ slices; $ of $ processes, from process $</text>
 ";
 
 const CELL: &str = "\
@@ -35,6 +36,7 @@ const CELL: &str = "\
 ///
 /// There is a rectangle for each of up to 64 slices of each of the first 64 processes of the view,
 /// in ten depths of colour; the deepest is that of the most events. Times above 2^41 count as 2^41.
+/// The title has the first and the last tick, and a line says how many of the processes are shown.
 ///
 /// If the writer fails, its error is returned, and it has taken a beginning of the text. The events
 /// are read twice for each process shown, and nothing is allocated.
@@ -55,14 +57,33 @@ fn write_map<W: Write>(trace: &Trace, frame: &Frame, most: u64, out: &mut W) -> 
     ensures { Writes (W.contents out.old) (W.contents out.new) result
         (map_text trace.now frame.now most) }
 {
-    let height = bottom(frame) + 40;
-    let numbers = [height, height, frame.from, frame.to, most, slices(frame)];
-    write_filled(LOAD_HEAD, &numbers, out)?;
+    write_head(trace, frame, most, out)?;
     write_text(STYLE, out)?;
     write_ticks(frame, out)?;
     write_rows(frame, out)?;
     write_all_cells(trace, frame, most, out)?;
     write_text(TAIL, out)
+}
+
+/// Writes the title, and how much is shown.
+fn write_head<W: Write>(trace: &Trace, frame: &Frame, most: u64, out: &mut W) -> Result<()>
+    requires rows { frame.now.rows ≤ 64 }
+    ensures { Writes (W.contents out.old) (W.contents out.new) result
+        (head_text trace.now frame.now most) }
+{
+    let height = bottom(frame) + 40;
+    let numbers = [
+        height,
+        height,
+        frame.from,
+        frame.to.saturating_sub(1),
+        most,
+        slices(frame),
+        u64::from(frame.rows),
+        trace.first().len() as u64,
+        u64::from(frame.first),
+    ];
+    write_filled(LOAD_HEAD, &numbers, out)
 }
 
 fn write_all_cells<W: Write>(trace: &Trace, frame: &Frame, most: u64, out: &mut W) -> Result<()>

@@ -1,8 +1,8 @@
 -- What the commands print, in a common form.
 use Rattle.std.specs.Io.KnownBytes.{Appends}
 use Rattle.std.specs.Prelude.{◌≡◌, ◌⊎◌, ◌≢◌, ℕ, List, Option, Result, Ok, Err, OnOk, OnErr, length}
-use Rattle.std.proofs.Common.{refl, inl, inr}
-use Rattle.commands.specs.Commands.{BeginsCommitted, PrintsCommitted, PrintsExtended, PrintsEndOfRun, PrintsEndOfRunOver, extended_text, ran_text}
+use Rattle.std.proofs.Common.{Bool, false, true, arith, refl, subst, sym, inl, inr, ◌<◌, ◌∙◌}
+use Rattle.commands.specs.Commands.{BeginsCommitted, PrintsCommitted, PrintsExtended, PrintsEndOfRun, PrintsEndOfRunOver, extended_text, ran_text, stopped_text}
 use Rattle.commands.specs.Migrating.{PrintsMigrated, migrated_text}
 use Rattle.commands.specs.declared.fault.CommandFault.{CommandFault}
 use Rattle.commands.specs.declared.fault.CommandFault.TheVariants as on_disk
@@ -10,14 +10,17 @@ use Rattle.commitlog.specs.Records.{Holds}
 use Rattle.commitlog.specs.declared.records.Entry.{Entry}
 use Rattle.disk.specs.Disk.{DiskState}
 use Rattle.runs.specs.declared.rounds.Plan.{Plan}
-use Rattle.eventkey.specs.Writing.{TakesBeginning}
+use Rattle.eventkey.specs.Writing.{TakesBeginning, Writes}
 use Rattle.migration.specs.Old.{IsOldLog}
 use Rattle.model.specs.World.{World}
 use Rattle.model.specs.Meaning.{Meaning}
 use Rattle.texts.specs.ModelFile.{IsModelFile}
 use Rattle.wire.specs.Port.{PortState}
 use Rattle.views.specs.Views.{Begins, Describes, IsCommitted, Prints}
-use Rattle.program.specs.Command.{IsExtendedText, IsRan, IsRanBehind, IsMigratedText}
+use Rattle.program.specs.Command.{IsEnded, IsExtendedText, IsMigratedText, IsNotEnded, IsRan, IsRanBehind, IsStoppedBehind, IsStoppedText}
+use Rattle.program.specs.declared.fault.Fault.{Fault}
+use Rattle.recovery.specs.Represents.{IsGenuine}
+use Rattle.runs.specs.Driver.{IsStoppedAt, IsStoppedOver}
 
 pub at_ok : {T E X : Type 0} {r : Result T E} {x : T} → r ≡ Ok x → OnOk r X → X
 at_ok {r = Ok x} e h = h
@@ -31,9 +34,23 @@ pub when_ok : {T E X : Type 0} (r : Result T E) → X → OnOk r X
 when_ok (Ok x) h = h
 when_ok (Err e) h = tt
 
+pub on_ok_so : {T E X Y : Type 0} (r : Result T E) → (X → Y) → OnOk r X → OnOk r Y
+on_ok_so (Ok x) so h = so h
+on_ok_so (Err e) so h = tt
+
 pub on_any : {T E X : Type 0} (r : Result T E) → X → OnErr r X
 on_any (Ok x) h = tt
 on_any (Err e) h = h
+
+-- what is written of a text with this property
+module _ (P : List ℕ → Type 0) (text : List ℕ) (is : P text) {T E : Type 0} {old new : Option (List ℕ)} where
+  pub prints_written : (r : Result T E) → Writes old new r text → OnOk r (Prints P old new)
+  prints_written (Ok x) h = (text, is, h.all)
+  prints_written (Err e) h = tt
+
+  pub begins_written : (A : Type 0) → (r : Result T E) → Writes old new r text → OnErr r (A ⊎ Begins P old new)
+  begins_written A (Ok x) h = tt
+  begins_written A (Err e) h = inr (text, is, h.part)
 
 module _ {T A B : Type 0} where
   -- a fault is `Output`, or another one
@@ -45,7 +62,44 @@ module _ {T A B : Type 0} where
   on_command (Err (on_disk.Recovery f)) h k = inl (k (on_disk.Recovery f) refl (λ e. cc))
   on_command (Err (on_disk.Session f)) h k = inl (k (on_disk.Session f) refl (λ e. cc))
   on_command (Err on_disk.Rounds) h k = inl (k on_disk.Rounds refl (λ e. cc))
+  on_command (Err (on_disk.Stopped t n)) h k = inl (k (on_disk.Stopped t n) refl (λ e. cc))
   on_command (Err (on_disk.Migrate f)) h k = inl (k (on_disk.Migrate f) refl (λ e. cc))
+
+-- how a run ended, after what it has printed, from `old` to `mid`
+module _ {T U : Type 0} (Ran Stopped : List ℕ → Type 0) (old mid new : Option (List ℕ)) where
+  -- `Ran` holds of the text at the end of its simulation, and `Stopped` of that after a stop
+  pub ended_printed : (outcome : Result T CommandFault) (r : Result U Fault) (stops : Bool) → OnOk outcome (Prints Ran old mid) → ((f : CommandFault) → outcome ≡ Err f → f ≢ on_disk.Output → mid ≡ old)
+      → ((time events : ℕ) → outcome ≡ Err (on_disk.Stopped time events) → Stopped (stopped_text time events)) → OnOk r (IsEnded outcome stops mid new) → OnOk r (Prints (λ text. Ran text ⊎ ((stops ≡ true) × Stopped text)) old new)
+  ended_printed outcome (Err e) stops ran unwritten stopped ended = tt
+  ended_printed (Ok x) (Ok y) stops ran unwritten stopped ended = (ran.0, inl ran.1, subst (λ (o : Option (List ℕ)). Appends old o ran.0) (sym ended) ran.2)
+  ended_printed (Err (on_disk.Stopped t n)) (Ok y) true ran unwritten stopped ended =
+      (stopped_text t n, inr (refl, stopped t n refl), subst (λ (o : Option (List ℕ)). Appends o new (stopped_text t n)) (unwritten (on_disk.Stopped t n) refl (λ e. cc)) ended)
+  ended_printed (Err (on_disk.Stopped t n)) (Ok y) false ran unwritten stopped ended = absurd ended
+  ended_printed (Err on_disk.Output) (Ok y) stops ran unwritten stopped ended = absurd ended
+  ended_printed (Err on_disk.NoMemory) (Ok y) stops ran unwritten stopped ended = absurd ended
+  ended_printed (Err (on_disk.Log f)) (Ok y) stops ran unwritten stopped ended = absurd ended
+  ended_printed (Err (on_disk.Recovery f)) (Ok y) stops ran unwritten stopped ended = absurd ended
+  ended_printed (Err (on_disk.Session f)) (Ok y) stops ran unwritten stopped ended = absurd ended
+  ended_printed (Err on_disk.Rounds) (Ok y) stops ran unwritten stopped ended = absurd ended
+  ended_printed (Err (on_disk.Migrate f)) (Ok y) stops ran unwritten stopped ended = absurd ended
+
+  -- `same` says that nothing is printed after the run, and `all` that nothing is printed at all
+  pub ended_begun : (outcome : Result T CommandFault) (r : Result U Fault) (stops : Bool) (same all : Type 0) → (outcome ≡ Err on_disk.Output → Begins Ran old mid) → ((f : CommandFault) → outcome ≡ Err f → f ≢ on_disk.Output → mid ≡ old)
+      → ((time events : ℕ) → outcome ≡ Err (on_disk.Stopped time events) → Stopped (stopped_text time events)) → (same → new ≡ mid) → ((f : CommandFault) → outcome ≡ Err f → f ≢ on_disk.Output → same → all)
+      → OnErr r (IsNotEnded outcome stops same (TakesBeginning mid new)) → OnErr r (all ⊎ Begins (λ text. Ran text ⊎ ((stops ≡ true) × Stopped text)) old new)
+  ended_begun outcome (Ok y) stops same all begun unwritten stopped still none ended = tt
+  ended_begun (Ok x) (Err e) stops same all begun unwritten stopped still none ended = absurd ended
+  ended_begun (Err (on_disk.Stopped t n)) (Err e) true same all begun unwritten stopped still none ended =
+      inr (stopped_text t n, inr (refl, stopped t n refl), subst (λ (o : Option (List ℕ)). TakesBeginning o new (stopped_text t n)) (unwritten (on_disk.Stopped t n) refl (λ e. cc)) ended)
+  ended_begun (Err (on_disk.Stopped t n)) (Err e) false same all begun unwritten stopped still none ended = inl (none (on_disk.Stopped t n) refl (λ e. cc) ended)
+  ended_begun (Err on_disk.Output) (Err e) stops same all begun unwritten stopped still none ended =
+      (let part = begun refl in inr (part.0, inl part.1, subst (λ (o : Option (List ℕ)). TakesBeginning old o part.0) (sym (still ended)) part.2))
+  ended_begun (Err on_disk.NoMemory) (Err e) stops same all begun unwritten stopped still none ended = inl (none on_disk.NoMemory refl (λ e. cc) ended)
+  ended_begun (Err (on_disk.Log f)) (Err e) stops same all begun unwritten stopped still none ended = inl (none (on_disk.Log f) refl (λ e. cc) ended)
+  ended_begun (Err (on_disk.Recovery f)) (Err e) stops same all begun unwritten stopped still none ended = inl (none (on_disk.Recovery f) refl (λ e. cc) ended)
+  ended_begun (Err (on_disk.Session f)) (Err e) stops same all begun unwritten stopped still none ended = inl (none (on_disk.Session f) refl (λ e. cc) ended)
+  ended_begun (Err on_disk.Rounds) (Err e) stops same all begun unwritten stopped still none ended = inl (none on_disk.Rounds refl (λ e. cc) ended)
+  ended_begun (Err (on_disk.Migrate f)) (Err e) stops same all begun unwritten stopped still none ended = inl (none (on_disk.Migrate f) refl (λ e. cc) ended)
 
 -- the output of a run, for the model of a file
 module _ {M : Type 0} (meaning : M → Meaning) (says : Describes M) (source : List ℕ) (model : M) (end : ℕ) (file : IsModelFile says source model end) where
@@ -71,6 +125,9 @@ module _ {M : Type 0} (meaning : M → Meaning) (says : Describes M) (source : L
 
   pub ran_printed : (image : List (List ℕ)) (nodes : ℕ) (old new : Option (List ℕ)) → PrintsEndOfRun (meaning model) end nodes image (Appends old new) → Prints (IsRan meaning says nodes) old new
   ran_printed image nodes old new p = ran_taken image nodes p
+
+  pub stopped_printed : (image : List (List ℕ)) (time events : ℕ) → (IsGenuine (meaning model) end image → IsStoppedAt (meaning model) end time events) → IsStoppedText meaning says (stopped_text time events)
+  stopped_printed image time events genuine = record { source = source; model = model; end = end; image = image; time = time; events = events; file = file; genuine = genuine; is = refl }
 
   pub ran_begun : (image : List (List ℕ)) (nodes : ℕ) (old new : Option (List ℕ)) → PrintsEndOfRun (meaning model) end nodes image (TakesBeginning old new) → Begins (IsRan meaning says nodes) old new
   ran_begun image nodes old new p = ran_taken image nodes p
@@ -189,6 +246,9 @@ module _ {M P D : Type 0} (meaning : M → Meaning) (says : Describes M) (state 
     },
     p.taken,
   )
+
+  pub behind_stopped : (time events : ℕ) → IsStoppedOver meaning state disk model end plan begun left time events → IsStoppedBehind says (stopped_text time events)
+  behind_stopped time events over = record { source = source; model = model; end = end; time = time; events = events; file = file; early = omega (arith, over.early, over.time_is); is = refl }
 
   pub behind_printed : (old new : Option (List ℕ)) → PrintsEndOfRunOver meaning state disk model end plan begun left (Appends old new) → Prints (IsRanBehind says plan.nodes) old new
   behind_printed old new p = behind p

@@ -1,8 +1,10 @@
 -- What the program prints (this project's profile).
+use Rattle.std.specs.Io.KnownBytes.{Appends}
 use Rattle.std.specs.Prelude.{◌≡◌, ◌≤◌, ◌*◌, ◌&&◌, ℕ, Bool, List, [], ◌++◌, nat_le, not}
-use Rattle.std.specs.Prelude.{None, Option, Some, codes, decimal, if◌then◌else◌}
+use Rattle.std.specs.Prelude.{Err, None, Ok, Option, Result, Some, codes, decimal, true}
+use Rattle.std.specs.Prelude.{if◌then◌else◌, ◌<◌, ◌⊎◌}
 use Rattle.std.specs.Prelude.{is_some, length, min, unwrap_or}
-use Rattle.commands.specs.Commands.{extended_text, formatted_text, ran_text}
+use Rattle.commands.specs.Commands.{extended_text, formatted_text, ran_text, stopped_text}
 use Rattle.commands.specs.Migrating.{migrated_text}
 use Rattle.commands.specs.declared.fault.CommandFault.{CommandFault}
 use Rattle.commands.specs.declared.fault.CommandFault.TheVariants as on_disk
@@ -10,7 +12,7 @@ use Rattle.commitlog.specs.Records.{Holds}
 use Rattle.commitlog.specs.declared.records.Entry.{Entry}
 use Rattle.disk.specs.declared.file.FileFault.{FileFault}
 use Rattle.disk.specs.declared.file.FileFault.TheVariants as opening
-use Rattle.runs.specs.Driver.{IsRunOf}
+use Rattle.runs.specs.Driver.{IsRunOf, IsStoppedAt}
 use Rattle.runs.specs.declared.rounds.Batch.{Batch as DriverBatch}
 use Rattle.runs.specs.declared.rounds.Batch.TheVariants as driver
 use Rattle.runs.specs.declared.rounds.Plan.{Plan}
@@ -22,9 +24,10 @@ use Rattle.cli.specs.declared.command.BatchOption.{BatchOption}
 use Rattle.cli.specs.declared.command.BatchOption.TheVariants.{Auto, Fixed}
 use Rattle.cli.specs.declared.command.Command.{Command}
 use Rattle.cli.specs.declared.command.Command.TheVariants.{Check, Draw, Extend, Grow, Log, Migrate}
-use Rattle.cli.specs.declared.command.Command.TheVariants.{New, Node, Run, Seq, Show, Stats, Status}
+use Rattle.cli.specs.declared.command.Command.TheVariants.{New, Node, Reopen, Run, Seq, Show, Stats, Status, Verify}
 use Rattle.cli.specs.declared.command.DrawArgs.{DrawArgs}
 use Rattle.cli.specs.declared.command.RunArgs.{RunArgs}
+use Rattle.eventkey.specs.Writing.{TakesBeginning}
 use Rattle.growing.specs.declared.GrowingFault.{GrowingFault}
 use Rattle.growing.specs.declared.GrowingFault.TheVariants as growing
 use Rattle.migration.specs.Migrated.{IsMigrated}
@@ -36,7 +39,9 @@ use Rattle.node_programs.specs.declared.fault.NodesFault.TheVariants as nodes
 use Rattle.texts.specs.ModelFile.{IsModelFile}
 use Rattle.texts.specs.Text.{world_text}
 use Rattle.views.specs.Views.{Begins, Describes, IsCommitted, IsCourse, IsDrawn, IsLogged}
-use Rattle.views.specs.Views.{IsSomeChecked, IsStats, IsStatus, IsWholeSimulation, Prints, Shows}
+use Rattle.upkeep.specs.Verified.{IsOfWorld}
+use Rattle.upkeep.specs.declared.verifying.Verified.{Verified}
+use Rattle.views.specs.Views.{IsSomeChecked, IsStats, IsStatus, IsVerifiedText, IsWholeSimulation, Prints, Shows}
 use Rattle.views.specs.declared.fault.ViewFault.{ViewFault}
 use Rattle.views.specs.declared.fault.ViewFault.TheVariants as view
 use Rattle.program.specs.declared.fault.Fault.{Fault}
@@ -52,6 +57,7 @@ of_view (view.Recovery f) = fault.Recovery f
 of_view (view.Record number f) = fault.Record number f
 of_view view.BadTrace = fault.BadTrace
 of_view (view.Mistake mistake) = fault.Mistake mistake
+of_view (view.NoSuchProcess processes) = fault.NoSuchProcess processes
 of_view view.NoMemory = fault.NoMemory
 of_view view.Output = fault.Output
 
@@ -68,6 +74,7 @@ of_command (on_disk.Log f) = fault.Log f
 of_command (on_disk.Recovery f) = fault.Recovery f
 of_command (on_disk.Session f) = fault.Session f
 of_command on_disk.Rounds = fault.Rounds
+of_command (on_disk.Stopped time events) = fault.Stopped
 of_command (on_disk.Migrate f) = fault.Migrate f
 of_command on_disk.Output = fault.Output
 
@@ -102,6 +109,37 @@ pub record IsRan {M : Type 0} (meaning : M → Meaning) (says : Describes M)
   pub reached : end ≤ time
   pub genuine : IsGenuine (meaning model) end image → IsRunOf (meaning model) end time events
   pub is : text ≡ ran_text ran time events
+
+-- the time and the number of events of the world that a reopened disk represents
+abbrev pub reopened_text : Verified → List ℕ
+reopened_text seen = (codes "reopened: committed " ++ decimal seen.time)
+    ++ (codes " events " ++ decimal seen.events) ++ codes "\n"
+
+-- The text of the world that the image of a disk represents, once its gate is open.
+pub record IsReopenedText {M : Type 0} (meaning : M → Meaning) (says : Describes M)
+    (text : List ℕ) : Type 0 where
+  pub source : List ℕ
+  pub model : M
+  pub end : ℕ
+  pub image : List (List ℕ)
+  pub seen : Verified
+  pub file : IsModelFile says source model end
+  pub of_world : IsOfWorld (meaning model) end image seen
+  pub is : text ≡ reopened_text seen
+
+-- What is committed after a run that a file ended, before the end of its simulation. If the image
+-- from which the run began is genuine, it is the sequential simulation up to that time.
+pub record IsStoppedText {M : Type 0} (meaning : M → Meaning) (says : Describes M)
+    (text : List ℕ) : Type 0 where
+  pub source : List ℕ
+  pub model : M
+  pub end : ℕ
+  pub image : List (List ℕ)
+  pub time : ℕ
+  pub events : ℕ
+  pub file : IsModelFile says source model end
+  pub genuine : IsGenuine (meaning model) end image → IsStoppedAt (meaning model) end time events
+  pub is : text ≡ stopped_text time events
 
 -- The end that was in force on a disk, whose image is replayed under it, and the later end of the
 -- model file.
@@ -161,6 +199,42 @@ pub record IsRanBehind {M : Type 0} (says : Describes M) (nodes : ℕ) (text : L
   pub reached : end ≤ time
   pub is : text ≡ ran_text ran time events
 
+-- The same of a run over node programs: a time before the end, and a number of events.
+pub record IsStoppedBehind {M : Type 0} (says : Describes M) (text : List ℕ) : Type 0 where
+  pub source : List ℕ
+  pub model : M
+  pub end : ℕ
+  pub time : ℕ
+  pub events : ℕ
+  pub file : IsModelFile says source model end
+  pub early : time < end
+  pub is : text ≡ stopped_text time events
+
+-- what a run prints that ended at its end, or, if `stops`, that a file ended
+abbrev pub IsRunHere : {M : Type 0} → (M → Meaning) → Describes M → ℕ → Bool → List ℕ → Type 0
+IsRunHere meaning says nodes stops text =
+    IsRan meaning says nodes text ⊎ ((stops ≡ true) × IsStoppedText meaning says text)
+
+abbrev pub IsRunBehind : {M : Type 0} → Describes M → ℕ → Bool → List ℕ → Type 0
+IsRunBehind says nodes stops text =
+    IsRanBehind says nodes text ⊎ ((stops ≡ true) × IsStoppedBehind says text)
+
+-- The outcome of a run that has ended well, and what is printed then: nothing more at the end of its
+-- simulation; if a file ended it, what is committed.
+abbrev pub IsEnded : {T : Type 0} → Result T CommandFault → Bool → Option (List ℕ) →
+    Option (List ℕ) → Type 0
+IsEnded (Ok x) stops old new = new ≡ old
+IsEnded (Err (on_disk.Stopped time events)) true old new = Appends old new (stopped_text time events)
+IsEnded (Err fault) stops old new = ⊥
+
+-- The outcome of a run that has failed, or whose last line was not written completely: `same` says
+-- that nothing more is printed, and `part` of which text a beginning is.
+abbrev pub IsNotEnded : {T : Type 0} → Result T CommandFault → Bool → Type 0 →
+    (List ℕ → Type 0) → Type 0
+IsNotEnded (Ok x) stops same part = ⊥
+IsNotEnded (Err (on_disk.Stopped time events)) true same part = part (stopped_text time events)
+IsNotEnded (Err fault) stops same part = same
+
 abbrev pub IsShown : {M : Type 0} → (M → Meaning) → Describes M → List ℕ → Type 0
 IsShown meaning says = IsCommitted meaning says world_text
 
@@ -193,14 +267,15 @@ plan_of args = record {
 }
 
 -- what a run prints, over nodes in this program or behind sockets in a folder
-abbrev pub IsRanOver : {M : Type 0} → (M → Meaning) → Describes M → {S : Type 0} → Option S → ℕ →
-    List ℕ → Type 0
-IsRanOver meaning says None nodes text = IsRan meaning says nodes text
-IsRanOver meaning says (Some folder) nodes text = IsRanBehind says nodes text
+abbrev pub IsRunOver : {M : Type 0} → (M → Meaning) → Describes M → {S : Type 0} → Option S → ℕ →
+    Bool → List ℕ → Type 0
+IsRunOver meaning says None nodes stops text = IsRunHere meaning says nodes stops text
+IsRunOver meaning says (Some folder) nodes stops text = IsRunBehind says nodes stops text
 
 -- what `run` prints
 abbrev pub IsRunOutput : {M : Type 0} → (M → Meaning) → Describes M → RunArgs → List ℕ → Type 0
-IsRunOutput meaning says args = IsRanOver meaning says args.sockets args.nodes
+IsRunOutput meaning says args =
+    IsRunOver meaning says args.sockets args.nodes (is_some args.stop_file)
 
 -- what `draw` prints: the picture of a run, or the course in a trace
 abbrev pub IsPicture : {M : Type 0} → (M → Meaning) → Describes M → DrawArgs → {S : Type 0} →
@@ -217,7 +292,9 @@ IsOutput meaning says shows (Run args) text = IsRunOutput meaning says args text
 IsOutput meaning says shows (Extend args) text = IsExtendedText meaning says text
 IsOutput meaning says shows (Grow args) text = IsGrown args.sectors text
 IsOutput meaning says shows (Migrate args) text = IsMigratedText meaning says text
+IsOutput meaning says shows (Reopen args) text = IsReopenedText meaning says text
 IsOutput meaning says shows (Status args) text = IsStatus meaning says text
+IsOutput meaning says shows (Verify args) text = IsVerifiedText meaning says text
 IsOutput meaning says shows (Log args) text =
     IsLogged meaning says args.from args.to args.process text
 IsOutput meaning says shows (Show args) text = IsShown meaning says text

@@ -18,6 +18,7 @@ use std::alloc::{AllocError, AllocFailed};
 use std::io::Error as IoError;
 use texts::Mistake;
 use thiserror::Error;
+use upkeep::{ReopenFault, VerifyFault};
 use views::ViewFault;
 use wire::{PortFault, WireFault};
 
@@ -50,13 +51,23 @@ pub enum Fault {
     /// The run made all its rounds before everything was committed.
     #[error("Rounds")]
     Rounds,
+    /// The run was asked to stop before everything was committed, though no file that ends it was
+    /// named.
+    #[error("Stopped")]
+    Stopped,
     /// A disk of format 1 was not migrated, or only in part.
     #[error("Migrate {0}")]
     Migrate(MigrateFault),
     /// A disk was not made longer.
     #[error("Grow {0}")]
     Grow(GrowthFault),
-    /// `status` found a fault in a record of a disk.
+    /// `new` found records behind a closed gate.
+    #[error("Shut")]
+    Shut,
+    /// The gate of a disk's header was not opened again.
+    #[error("Reopen {0}")]
+    Reopen(ReopenFault),
+    /// `status` or `verify` found a fault in a record of a disk.
     #[error("Record {number} {fault}")]
     Record {
         /// The number of records before it.
@@ -70,6 +81,12 @@ pub enum Fault {
     /// `check` found a mistake in a file that is not a model file.
     #[error("{0}")]
     Mistake(Mistake),
+    /// The model does not have the process that is asked for.
+    #[error("NoSuchProcess")]
+    NoSuchProcess {
+        /// How many processes it has.
+        processes: u32,
+    },
     /// An allocation failed in a call without its own fault for it.
     #[error("NoMemory")]
     NoMemory,
@@ -79,16 +96,16 @@ pub enum Fault {
 }
 
 impl Fault {
-    /// Returns a line of advice for the user, which a terminal shows below the fault. Returns none
-    /// if the fault says enough.
+    /// Returns a line of advice for the user, which is shown below the fault on a terminal or if it
+    /// is asked for. Returns none if the fault says enough.
     pub fn advice(self) -> Option<&'static str> {
         match self {
             Fault::BadModel => Some("the command `check` says what is wrong with the model file"),
             Fault::File => Some(
                 "see that both files are there and may be read, that the disk has 8 to 131072 \
                  sectors of 512 bytes, or with --large to 16777216 (with `new` as many as asked \
-                 for), and that no other run has it; with --sockets, that the folder is there and \
-                 holds no socket of an earlier run",
+                 for), that a model file has at most 16777216 bytes, and that no other run has it; \
+                 with --sockets, that the folder is there and holds no socket of an earlier run",
             ),
             Fault::World(fault) => of_world(fault),
             Fault::Log(fault) => of_log(fault),
@@ -96,14 +113,21 @@ impl Fault {
             Fault::Session(fault) => of_session(fault),
             Fault::Wire(fault) => of_wire(fault),
             Fault::Rounds => Some("what is committed stays: run it again, with more --rounds"),
+            Fault::Stopped => None,
             Fault::Migrate(fault) => of_migration(fault),
             Fault::Grow(fault) => Some(of_growth(fault)),
+            Fault::Shut => Some(
+                "the disk has records, but the gate of its header is closed: `reopen` looks at \
+                 all of them and opens it again; nothing is written",
+            ),
+            Fault::Reopen(fault) => Some(of_reopening(fault)),
             Fault::Record { .. } => Some(
                 "the disk is damaged at this record: go on with a copy that was made before, or \
                  begin anew on another disk",
             ),
             Fault::BadTrace => Some("the file is not as `run --trace` writes one"),
             Fault::Mistake(_) => None,
+            Fault::NoSuchProcess { .. } => Some("the model has fewer processes"),
             Fault::NoMemory => Some(NO_MEMORY),
             Fault::Output => Some(
                 "standard output was closed, as by `| head`, or has no room: what is committed \
@@ -118,8 +142,9 @@ const NO_MEMORY: &str =
     "what is committed stays: run it again with more memory, or take a smaller model";
 
 /// Advice if the device of a disk failed.
-const NO_DEVICE: &str = "the disk's file could not be written: see that its device has room and \
-                         works; what is committed stays";
+const NO_DEVICE: &str = "the disk's file could not be written: see that its device has room \
+                         (`df`) and works (`dmesg`), and that no limit on the size of files is \
+                         below the disk's (`ulimit -f`); what is committed stays";
 
 /// Advice if a record of a disk is at fault.
 const DAMAGED: &str = "the disk is damaged: `status` says at which record";
@@ -166,11 +191,15 @@ fn of_recovery(fault: RecoveryFault) -> Option<&'static str> {
 fn of_session(fault: SessionFault) -> Option<&'static str> {
     match fault {
         SessionFault::EndRefused => {
-            Some("the model file has to have a later end than the one in force on the disk")
+            Some(
+                "the model file's end is not later than the one in force on the disk: if it is that \
+                 one, as after an earlier `extend`, `run` goes on to it",
+            )
         }
         SessionFault::Full => Some(
             "the disk has no room for the next commit: what is committed stays; `grow` makes the \
-             disk longer, and --commit-every takes fewer commits",
+             disk longer, of 131072 sectors if no number is given, and then `run` goes on; with \
+             --commit-every 4096 commits take less room",
         ),
         SessionFault::TooLong => Some(
             "a commit has more than a record takes: what is committed stays; run it again with a \
@@ -229,6 +258,23 @@ fn of_migration(fault: MigrateFault) -> Option<&'static str> {
     }
 }
 
+/// Advice if the gate of a header is not opened again.
+fn of_reopening(fault: ReopenFault) -> &'static str {
+    match fault {
+        ReopenFault::NotShut => "the gate of the disk's header is open: `verify` checks the disk",
+        ReopenFault::Behind(VerifyFault::Recovery(RecoveryFault::OtherModel)) => {
+            "behind the gate is no log of this model with this end: see that it is the model file \
+             of the disk; nothing is written"
+        }
+        ReopenFault::Behind(_) => {
+            "what is behind the gate is damaged too: go on with a copy that was made before; \
+             nothing is written"
+        }
+        ReopenFault::Disk(_) => NO_DEVICE,
+        ReopenFault::NoMemory => NO_MEMORY,
+    }
+}
+
 /// Advice if a disk does not grow.
 fn of_growth(fault: GrowthFault) -> &'static str {
     match fault {
@@ -254,6 +300,7 @@ impl From<ViewFault> for Fault {
             ViewFault::Record { number, fault } => Fault::Record { number, fault },
             ViewFault::BadTrace => Fault::BadTrace,
             ViewFault::Mistake(mistake) => Fault::Mistake(mistake),
+            ViewFault::NoSuchProcess { processes } => Fault::NoSuchProcess { processes },
             ViewFault::NoMemory => Fault::NoMemory,
             ViewFault::Output => Fault::Output,
         }
@@ -299,6 +346,7 @@ impl From<CommandFault> for Fault {
             CommandFault::Recovery(fault) => Fault::Recovery(fault),
             CommandFault::Session(fault) => Fault::Session(fault),
             CommandFault::Rounds => Fault::Rounds,
+            CommandFault::Stopped { .. } => Fault::Stopped,
             CommandFault::Migrate(fault) => Fault::Migrate(fault),
             CommandFault::Output => Fault::Output,
         }
@@ -313,6 +361,16 @@ impl From<GrowingFault> for Fault {
             GrowingFault::Recovery(fault) => Fault::Recovery(fault),
             GrowingFault::Growth(fault) => Fault::Grow(fault),
         }
+    }
+}
+
+impl From<ReopenFault> for Fault {
+    ghost use Rattle.program.specs.declared.fault.Fault.TheVariants.{Reopen};
+
+    ghost from_gives = { λ fault e. e ≡ Reopen fault };
+
+    fn from(fault: ReopenFault) -> Fault {
+        Fault::Reopen(fault)
     }
 }
 

@@ -2,8 +2,10 @@
 //! line to an exit status.
 #![tactic(auto)]
 
+mod advising;
 mod described;
 mod disks;
+mod ending;
 mod fault;
 mod looking;
 mod running;

@@ -1,7 +1,7 @@
 // Runs over nodes in this program or behind sockets, with or without a trace; and a node.
 
-ghost use Rattle.std.specs.Prelude.{◌≡◌, ◌≤◌, ◌^◌, ◌⊎◌, ℕ, List, OnErr, OnOk, map, replicate};
-ghost use Rattle.program.specs.Command.{are_rounds_cheap, most_of, plan_of, IsRanBehind};
+ghost use Rattle.std.specs.Prelude.{◌≡◌, ◌≤◌, ◌^◌, ◌⊎◌, ℕ, List, OnErr, OnOk, is_some, map, replicate};
+ghost use Rattle.program.specs.Command.{are_rounds_cheap, most_of, plan_of, IsRunBehind};
 ghost use Rattle.program.specs.Command.{IsRunOutput};
 ghost use Rattle.sockets.specs.Socket.{state_of};
 ghost use Rattle.sockets.specs.declared.port.Held.TheVariants.{Fresh};
@@ -9,16 +9,16 @@ ghost use Rattle.texts.specs.ModelFile.{IsModelFile};
 ghost use Rattle.views.specs.Views.{Begins, Prints};
 
 use crate::described::simulated;
-use crate::disks::run_on;
+use crate::disks::{disk_of, run_on};
+use crate::ending::end_run;
 use crate::fault::Fault;
 use crate::watching::Watching;
-use cli::{BatchOption, DiskArgs, NodeArgs, RunArgs, most_sectors};
+use cli::{BatchOption, DiskArgs, NodeArgs, RunArgs};
 use commands::Simulated;
 use disk::FileDisk;
 use node_programs::{Behind, clear, meet};
 use runs::{Batch as DriverBatch, Plan};
 use sockets::{ReadAhead, SocketPort};
-use std::alloc::Global;
 use std::fs::{File, OpenOptions};
 use std::io::{BufWriter, Error as IoError, Write};
 use std::net::Net;
@@ -26,7 +26,7 @@ use std::os::unix::net::UnixStream;
 use std::process::Processes;
 use std::rt::Files;
 use std::time::Clock;
-use terminal::{Progress, Traced, are_one_file};
+use terminal::{Earlier, Progress, Traced, are_one_file};
 use texts::Described;
 use views::unreadable;
 
@@ -93,6 +93,9 @@ where
         ⊎ Begins (IsRunOutput M.meaning M.says args.entry)
         (O.contents out.old) (O.contents out.new)) }
 {
+    if let Some(seconds) = args.progress {
+        progress.every(seconds);
+    }
     match args.trace {
         None => run_with::<M, R, P, O>(rt, program, args, progress, out),
         Some(trace) => run_traced::<M, R, P, O>(rt, program, args, trace, progress, out),
@@ -121,8 +124,13 @@ where
         (O.contents out.old) (O.contents out.new)) }
 {
     let plan = plan_of(&args);
+    let create = if args.create {
+        Some(args.sectors)
+    } else {
+        None
+    };
     match args.sockets {
-        None => run_on::<M, R, P, O>(rt, args.on, plan, progress, out),
+        None => run_on::<M, R, P, O>(rt, args.on, create, plan, args.stop_file, progress, out),
         Some(folder) => {
             let behind = Behind {
                 program,
@@ -131,7 +139,16 @@ where
                 cut: args.cut,
                 attach: args.attach,
             };
-            run_behind::<M, R, P, O>(rt, behind, args.on, plan, progress, out)
+            run_behind::<M, R, P, O>(
+                rt,
+                behind,
+                args.on,
+                create,
+                plan,
+                args.stop_file,
+                progress,
+                out,
+            )
         }
     }
 }
@@ -149,7 +166,9 @@ fn run_behind<M, R, P, O>(
     rt: &R,
     behind: Behind<'_>,
     on: DiskArgs<'_>,
+    create: Option<u32>,
     plan: Plan,
+    stop: Option<&str>,
     progress: &mut P,
     out: &mut O,
 ) -> Result<(), Fault>
@@ -160,18 +179,18 @@ where
     O: Write,
     requires some { 1 ≤ plan.nodes }
     requires few { plan.nodes ≤ 64 }
-    ensures ok { OnOk result (Prints (IsRanBehind M.says plan.nodes)
+    ensures ok { OnOk result (Prints (IsRunBehind M.says plan.nodes (is_some stop.entry))
         (O.contents out.old) (O.contents out.new)) }
-    ensures err { OnErr result ((out.new ≡ out.old) ⊎ Begins (IsRanBehind M.says plan.nodes)
+    ensures err { OnErr result ((out.new ≡ out.old)
+        ⊎ Begins (IsRunBehind M.says plan.nodes (is_some stop.entry))
         (O.contents out.old) (O.contents out.new)) }
 {
     let of: Simulated<M> = simulated(rt, on.model)?;
-    let most = most_sectors(on.large);
-    let disk = FileDisk::open_up_to(rt, rt.alloc(), on.disk, None, most)?;
+    let disk = disk_of(rt, &of, on, create)?;
     let mut met = Vec::with_capacity(rt.alloc(), plan.nodes as usize)?;
     // every exit from here on passes the cleanup
     let outcome = match meet(rt, behind, plan.nodes, &mut met, progress) {
-        Ok(ports) => run_met(rt.alloc(), &of, ports, disk, plan, progress, out),
+        Ok(ports) => run_met(rt, &of, ports, disk, plan, stop, progress, out),
         Err(fault) => Err(Fault::from(fault)),
     };
     clear(rt, met);
@@ -180,17 +199,19 @@ where
 
 /// Runs a model on its disk over connected node programs. All connections are closed when it
 /// returns.
-fn run_met<M, P, O>(
-    alloc: Global,
+fn run_met<M, R, P, O>(
+    rt: &R,
     of: &Simulated<M>,
     ports: Vec<SocketPort<ReadAhead<UnixStream>>>,
     disk: FileDisk,
     plan: Plan,
+    stop: Option<&str>,
     progress: &mut P,
     out: &mut O,
 ) -> Result<(), Fault>
 where
     M: Described,
+    R: Files<File = File> + Clock + AllocGlobal,
     P: Progress,
     O: Write,
     requires nodes { 1 ≤ plan.nodes }
@@ -200,20 +221,20 @@ where
     requires file { (text : List ℕ) × IsModelFile M.says text of.now.model of.now.end }
     requires some { 1 ≤ of.now.end }
     requires short { of.now.end ≤ 2 ^ 40 }
-    ensures ok { OnOk result (Prints (IsRanBehind M.says plan.nodes)
+    ensures ok { OnOk result (Prints (IsRunBehind M.says plan.nodes (is_some stop.entry))
         (O.contents out.old) (O.contents out.new)) }
-    ensures err { OnErr result ((out.new ≡ out.old) ⊎ Begins (IsRanBehind M.says plan.nodes)
+    ensures err { OnErr result ((out.new ≡ out.old)
+        ⊎ Begins (IsRunBehind M.says plan.nodes (is_some stop.entry))
         (O.contents out.old) (O.contents out.new)) }
 {
     progress.begin(of.end);
-    let mut watch = Watching { progress };
-    let ended = commands::run_over(alloc, of, ports, disk, plan, &mut watch, out);
-    ended.outcome?;
-    watch.progress.finished();
-    Ok(())
+    let mut watch = Watching::new(rt, progress, stop);
+    let ended = commands::run_over(rt.alloc(), of, ports, disk, plan, &mut watch, out);
+    end_run(ended.outcome, stop, watch.progress, out)
 }
 
-/// Makes a run, and writes its trace to a file, which is created or emptied first.
+/// Makes a run, and writes its trace to a file, which is created if it is not there. A trace of
+/// earlier runs of this disk is continued; anything else in the file is replaced.
 ///
 /// Returns `File` if the trace file is the file of the model or of the disk, if it cannot be made,
 /// or, after a run that reached its end, if a part of the trace was not written.
@@ -241,20 +262,15 @@ where
     if are_one_file(rt, args.on.model, trace) || are_one_file(rt, args.on.disk, trace) {
         return Err(Fault::File);
     }
-    let opened = OpenOptions::new()
-        .write(true)
-        .create(true)
-        .truncate(true)
-        .open(rt, trace);
+    let earlier = Earlier::of(rt, trace);
+    let opened = OpenOptions::new().write(true).create(true).open(rt, trace);
     let file = opened.map_err(unwritable)?;
     let rows = BufWriter::new(rt.alloc(), file).map_err(unwritable)?;
-    let mut traced = Traced::to(progress, rows);
-    run_with::<M, R, _, O>(rt, program, args, &mut traced, out)?;
-    if traced.is_whole() {
-        Ok(())
-    } else {
-        Err(Fault::File)
-    }
+    let mut traced = Traced::to(progress, rows, earlier);
+    let outcome = run_with::<M, R, _, O>(rt, program, args, &mut traced, out);
+    let is_whole = traced.is_whole();
+    outcome?;
+    if is_whole { Ok(()) } else { Err(Fault::File) }
 }
 
 /// Serves as a node that runs the model of a file, behind a socket.

@@ -7,12 +7,13 @@ ghost use Rattle.cli.specs.Command.{refusal_of, IsRanged};
 ghost use Rattle.program.specs.Command.{BeginsSaid, IsOutput, PrintsSaid};
 ghost use Rattle.views.specs.Views.{Begins, Prints};
 
-use crate::disks::{extend_on, grow_on, migrate_on, new_on, show_on};
+use crate::advising::advise;
+use crate::disks::{extend_on, grow_on, migrate_on, new_on, reopen_on, show_on};
 use crate::fault::Fault;
-use crate::looking::{draw_on, log_on, stats_on, status_on};
+use crate::looking::{draw_on, log_on, stats_on, status_on, verify_on};
 use crate::running::{run_as, serve_on};
 use clap::error::{Error as LineError, ErrorKind as LineFault};
-use cli::{Command, Texts, program_help, read_command, seq_help};
+use cli::{Command, Hint, Texts, hint_of, program_help, read_command, says_advice, seq_help};
 use std::convert::AsStr;
 use std::env;
 use std::fs::File;
@@ -21,9 +22,9 @@ use std::net::Net;
 use std::process::Processes;
 use std::rt::{Env, Files};
 use std::time::Clock;
-use terminal::{Progress, cause_of};
-use texts::{Described, Mistakes};
-use views::{check_of, seq_of};
+use terminal::Progress;
+use texts::{Described, Report};
+use views::{Wrong, check_of, seq_of};
 
 /// The version of this program and of programs over other models, and the format of their disks.
 const VERSION: &str = "0.4.0 (disks of format 2)";
@@ -50,8 +51,9 @@ pub fn words<R: Env + AllocGlobal>(rt: &R) -> IoResult<Vec<String>> {
 ///
 /// The status is 0 if the command succeeds; 1 after a fault, which is printed on `err` as the
 /// program's name, `: ` and its text; and 2 if the words are no command or ask for help, with
-/// `clap`'s text on `err`. Below a mistake in a model file all its mistakes are printed, a line for
-/// each.
+/// `clap`'s text on `err`. Below a mistake that `check` finds all mistakes of the model file are
+/// printed, each beside its line. With `--advice`, or if `progress` is seen, what to do about a fault
+/// follows it.
 ///
 /// The command writes its results to `out`, which is flushed at the end. A run reports its progress
 /// to `progress`, and each command its fault, after that is printed.
@@ -102,7 +104,10 @@ where
     };
     let command = match read_command(rt.alloc(), texts, words) {
         Ok(command) => command,
-        Err(error) => return refuse_line(about.name, error, err),
+        Err(error) => {
+            let hint = hint_of(words);
+            return refuse_line(about.name, error, hint, err);
+        }
     };
     let program = words.first().map(AsStr::as_str).unwrap_or("");
     let mut found = None;
@@ -111,8 +116,9 @@ where
         Err(fault) => {
             progress.clear();
             let status = print_fault(about.name, fault, err);
-            print_faults(&found, err);
-            advise(rt, command, fault, progress);
+            print_mistakes(command, &found, err);
+            let is_asked = says_advice(words);
+            advise::<M, R, P, E>(rt, command, fault, is_asked, progress, err);
             status
         }
     }
@@ -150,30 +156,15 @@ where
     }
 }
 
-/// Passes the advice for the fault of a command to `progress`, and the cause of a `File` if
-/// `progress` is seen.
-fn advise<R, P>(rt: &R, command: Command<'_>, fault: Fault, progress: &mut P)
-where
-    R: Files<File = File> + AllocGlobal,
-    P: Progress,
-{
-    let cause = if matches!(fault, Fault::File) && progress.is_seen() {
-        cause_of(rt, command)
-    } else {
-        None
-    };
-    progress.failed(fault.advice(), cause);
-}
-
 /// Runs a command. Starts node programs by the name in `program`. If `check` finds a mistake in a
-/// model file, `found` gets all of them.
+/// model file, `found` gets the file and all of them.
 fn run<M, R, P, O>(
     rt: &R,
     program: &str,
     command: Command<'_>,
     progress: &mut P,
     out: &mut O,
-    found: &mut Option<Mistakes>,
+    found: &mut Option<Wrong>,
 ) -> Result<(), Fault>
 where
     M: Described,
@@ -193,7 +184,9 @@ where
         Command::Extend(args) => extend_on::<M, R, O>(rt, args, out),
         Command::Grow(args) => grow_on::<M, R, O>(rt, args, out),
         Command::Migrate(args) => migrate_on::<M, R, O>(rt, args, out),
+        Command::Reopen(args) => reopen_on::<M, R, P, O>(rt, args, progress, out),
         Command::Status(args) => status_on::<M, R, O>(rt, args, out),
+        Command::Verify(args) => verify_on::<M, R, P, O>(rt, args, progress, out),
         Command::Log(args) => log_on::<M, R, O>(rt, args, out),
         Command::Show(args) => show_on::<M, R, O>(rt, args, out),
         Command::Stats(args) => stats_on::<M, R, O>(rt, args, out),
@@ -204,9 +197,10 @@ where
     }
 }
 
-/// Prints on `err` why the words are no command, and returns the exit status: 1 if an allocation
-/// failed, and 2 for a mistake in the words or a request for help.
-fn refuse_line<E: Write>(name: &str, error: LineError, err: &mut E) -> u8
+/// Prints on `err` why the words are no command, and for a mistake in a value what to write instead,
+/// if there is a hint. Returns the exit status: 1 if an allocation failed, and 2 for a mistake in the
+/// words or a request for help.
+fn refuse_line<E: Write>(name: &str, error: LineError, hint: Option<Hint>, err: &mut E) -> u8
     ensures usage { kind_of error ≢ LineFault.OutOfMemory → result ≡ 2 }
     ensures memory { kind_of error ≡ LineFault.OutOfMemory → result ≡ 1 }
 {
@@ -214,6 +208,12 @@ fn refuse_line<E: Write>(name: &str, error: LineError, err: &mut E) -> u8
         LineFault::OutOfMemory => print_fault(name, Fault::NoMemory, err),
         _ => {
             let _ = write!(err, "{error}");
+            if let (LineFault::ValueValidation | LineFault::UnknownArgument, Some(hint)) = (
+                error.kind(),
+                hint,
+            ) {
+                let _ = writeln!(err, "{hint}");
+            }
             2
         }
     }
@@ -253,9 +253,14 @@ pub fn print_fault<E: Write>(name: &str, fault: Fault, err: &mut E) -> u8
     1
 }
 
-/// Prints all mistakes that were found in a model file, a line for each.
-fn print_faults<E: Write>(found: &Option<Mistakes>, err: &mut E) {
-    if let Some(mistakes) = found {
-        let _ = write!(err, "{mistakes}");
+/// Prints all mistakes that `check` found in a model file, each beside its line.
+fn print_mistakes<E: Write>(command: Command<'_>, found: &Option<Wrong>, err: &mut E) {
+    if let (Command::Check(args), Some(found)) = (command, found) {
+        let report = Report {
+            path: args.model,
+            text: found.text.as_slice(),
+            mistakes: &found.mistakes,
+        };
+        let _ = write!(err, "{report}");
     }
 }

@@ -1,8 +1,8 @@
 -- What a run counts, over steps one after another.
-use Rattle.std.proofs.Common.{◌≡◌, ◌≢◌, ◌+◌, ◌-◌, ◌<◌, ◌≤◌, ◌^◌, ◌==◌, ◌||◌, Bool, cond, get_or, length, min, set, ℕ, List, [], ◌∷◌, ◌++◌, ap, ap₂, arith, inl, inr, nat_le, refl, subst, sym, ◌∙◌}
+use Rattle.std.proofs.Common.{◌≡◌, ◌≢◌, ◌+◌, ◌-◌, ◌<◌, ◌≤◌, ◌^◌, ◌==◌, ◌||◌, Bool, true, false, cond, get_or, length, min, set, ℕ, List, [], ◌∷◌, ◌++◌, ap, ap₂, arith, inl, inr, nat_le, refl, subst, sym, ◌∙◌}
 use Rattle.std.proofs.lemmas.Bool.{cases_Bool, cases_lt, eq-eqb, eqb-true, le-leb, leb-true}
 use Rattle.std.proofs.lemmas.List.{get_or-replicate, get_or-set_other, get_or-set_same, get_or_past, length-replicate, map-append}
-use Rattle.std.specs.Prelude.{replicate}
+use Rattle.std.specs.Prelude.{replicate, if◌then◌else◌}
 use Rattle.coordinator.specs.Steps.{move_of}
 use Rattle.runs.proofs.Shapes.{one_round_more}
 use Rattle.runs.specs.Driver.{AreAsked, AreCounts, AreRounds, IsRound, Made, closing_of, commits_in, handled_by, handled_in, handled_of, is_due, kept_after, least_by, least_posted, moves_of, reported_after, reported_since}
@@ -122,30 +122,30 @@ module _ (every : ℕ) where
       (moves_more ks ls ∙ ap₂ (λ (a b : List Move). a ++ b) first.0 same, tallied_more old new new ks ls first.1 rest)
 
 module _ (plan : Plan) where
-  pub round_shape : (end reported : ℕ) (old begun asked : Tally) (ks ls : List Made) → begun.floor ≡ end → begun.commits ≡ old.commits → asked.commits ≡ begun.commits → Tallied plan.commit_every (AreAsked plan.together plan) begun asked ks
-      → moves_of ls ≡ closing_of plan end (reported_since reported ks) asked.floor asked.commits → IsRound plan end reported old.commits (ks ++ ls)
-  round_shape end reported old begun asked ks ls floor commits same first second =
+  pub round_shape : (end : ℕ) (last : Bool) (reported : ℕ) (old begun asked : Tally) (ks ls : List Made) → begun.floor ≡ end → begun.commits ≡ old.commits → asked.commits ≡ begun.commits → Tallied plan.commit_every (AreAsked plan.together plan) begun asked ks
+      → moves_of ls ≡ closing_of plan end last (reported_since reported ks) asked.floor asked.commits → IsRound plan end last reported old.commits (ks ++ ls)
+  round_shape end last reported old begun asked ks ls floor commits same first second =
       let least : asked.floor ≡ least_posted end ks = first.floor ∙ ap (λ (n : ℕ). least_posted n ks) floor in
-      let closing : moves_of ls ≡ closing_of plan end (reported_since reported ks) (least_posted end ks) old.commits =
-      second ∙ ap₂ (λ (f n : ℕ). closing_of plan end (reported_since reported ks) f n) least (same ∙ commits) in
+      let closing : moves_of ls ≡ closing_of plan end last (reported_since reported ks) (least_posted end ks) old.commits =
+      second ∙ ap₂ (λ (f n : ℕ). closing_of plan end last (reported_since reported ks) f n) least (same ∙ commits) in
       (ks, ls, first.shape, closing, refl)
 
   -- all nodes are asked, and then the round ends
-  pub round_made : (end reported : ℕ) (old begun asked closed : Tally) (ks ls : List Made) → begun.floor ≡ end → begun.events_until_commit ≡ old.events_until_commit → begun.commits ≡ old.commits → begun.handled_per_node.items ≡ old.handled_per_node.items → asked.commits ≡ begun.commits
-      → Tallied plan.commit_every (AreAsked plan.together plan) begun asked ks → (moves_of ls ≡ closing_of plan end (reported_since reported ks) asked.floor asked.commits) × IsTallied plan.commit_every asked closed ls
-      → IsRound plan end reported old.commits (ks ++ ls) × IsTallied plan.commit_every old closed (ks ++ ls)
-  round_made end reported old begun asked closed ks ls floor events_until_commit commits handled same first second =
+  pub round_made : (end : ℕ) (last : Bool) (reported : ℕ) (old begun asked closed : Tally) (ks ls : List Made) → begun.floor ≡ end → begun.events_until_commit ≡ old.events_until_commit → begun.commits ≡ old.commits → begun.handled_per_node.items ≡ old.handled_per_node.items → asked.commits ≡ begun.commits
+      → Tallied plan.commit_every (AreAsked plan.together plan) begun asked ks → (moves_of ls ≡ closing_of plan end last (reported_since reported ks) asked.floor asked.commits) × IsTallied plan.commit_every asked closed ls
+      → IsRound plan end last reported old.commits (ks ++ ls) × IsTallied plan.commit_every old closed (ks ++ ls)
+  round_made end last reported old begun asked closed ks ls floor events_until_commit commits handled same first second =
       let start : IsTallied plan.commit_every old begun [] = record { events_until_commit = λ t is. events_until_commit ∙ is; commits = omega (arith, commits); handled = none_counted old.handled_per_node.items begun.handled_per_node.items [] handled (λ node. refl) } in
-      (round_shape end reported old begun asked ks ls floor commits same first second.0, tallied_more plan.commit_every old begun closed [] (ks ++ ls) start (tallied_more plan.commit_every begun asked closed ks ls first.tally second.1))
+      (round_shape end last reported old begun asked ks ls floor commits same first second.0, tallied_more plan.commit_every old begun closed [] (ks ++ ls) start (tallied_more plan.commit_every begun asked closed ks ls first.tally second.1))
 
   -- one more round
-  pub round_more : (end rounds : ℕ) (old new : Tally) (ks ls : List Made) → AreRounds plan end rounds ks × IsTallyOf plan.commit_every old ks → IsRound plan end (reported_since 0 ks) old.commits ls × IsTallied plan.commit_every old new ls
-      → AreRounds plan end (rounds + 1) (ks ++ ls) × IsTallyOf plan.commit_every new (ks ++ ls)
-  round_more end rounds old new ks ls before round =
+  pub round_more : (end last rounds : ℕ) (old new : Tally) (ks ls : List Made) → AreRounds plan end last rounds ks × IsTallyOf plan.commit_every old ks → IsRound plan end (rounds + 1 == last) (reported_since 0 ks) old.commits ls × IsTallied plan.commit_every old new ls
+      → AreRounds plan end last (rounds + 1) (ks ++ ls) × IsTallyOf plan.commit_every new (ks ++ ls)
+  round_more end last rounds old new ks ls before round =
       let counted = before.1.commits in
       let more = round.1.commits in
       let all = commits_more ks ls in (
-        one_round_more plan end rounds ks ls before.0 (subst (λ (n : ℕ). IsRound plan end (reported_since 0 ks) n ls) counted round.0),
+        one_round_more plan end last rounds ks ls before.0 (subst (λ (n : ℕ). IsRound plan end (rounds + 1 == last) (reported_since 0 ks) n ls) counted round.0),
         record {
           events_until_commit = round.1.events_until_commit (reported_since 0 ks) before.1.events_until_commit ∙ ap (λ (n : ℕ). plan.commit_every - n) (sym (reported_more 0 ks ls));
           commits = omega (arith, more, all, counted);
@@ -163,6 +163,9 @@ same_test a b c d to from = elim (cases_Bool (nat_le a b)) [
 ]
 
 -- a commit is due by the tally exactly if it is due by what was reported
-pub due_so : (plan : Plan) (end reported floor events_until_commit : ℕ) → events_until_commit ≡ plan.commit_every - reported → (nat_le events_until_commit 0 || nat_le end floor) ≡ is_due plan end reported floor
-due_so plan end reported floor events_until_commit is =
-    ap (λ (b : Bool). b || nat_le end floor) (same_test events_until_commit 0 plan.commit_every reported (λ h. omega (arith, h, is)) (λ h. omega (arith, h, is)))
+pub due_so : (plan : Plan) (end : ℕ) (last : Bool) (reported floor events_until_commit missing : ℕ) → events_until_commit ≡ plan.commit_every - reported → missing ≡ (if last then plan.commit_every - 1 else 0)
+    → (nat_le events_until_commit missing || nat_le end floor) ≡ is_due plan end last reported floor
+due_so plan end true reported floor events_until_commit missing is most =
+    ap (λ (b : Bool). b || nat_le end floor) (same_test events_until_commit missing (min plan.commit_every 1) reported (λ h. omega (arith, h, is, most)) (λ h. omega (arith, h, is, most)))
+due_so plan end false reported floor events_until_commit missing is most =
+    ap (λ (b : Bool). b || nat_le end floor) (same_test events_until_commit missing plan.commit_every reported (λ h. omega (arith, h, is, most)) (λ h. omega (arith, h, is, most)))

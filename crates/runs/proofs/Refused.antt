@@ -1,5 +1,5 @@
 -- Steps that begin a round, of which the next one is refused.
-use Rattle.std.proofs.Common.{◌≡◌, ◌∙◌, ◌+◌, ◌<◌, ◌≤◌, ◌-◌, ℕ, zero, suc, List, Err, Ok, Result, true, [], ◌∷◌, ◌++◌, ap, append-nil, append_assoc, arith, map, max, refl, subst, sym}
+use Rattle.std.proofs.Common.{◌≡◌, ◌∙◌, ◌+◌, ◌<◌, ◌≤◌, ◌-◌, ℕ, zero, suc, Bool, List, Err, Ok, Result, true, [], ◌∷◌, ◌++◌, ap, append-nil, append_assoc, arith, map, max, refl, subst, sym}
 use Rattle.std.proofs.Math.Nat.{le-max_right}
 use Rattle.std.specs.Result.{IsErrAnd, IsErrOf}
 use Rattle.coordinator.specs.Drives.{IsStep}
@@ -88,9 +88,9 @@ takes_more node ks is = (made_for (Take node ∷ []), one_take_more node ks (mad
 pub after_posts : (plan : Plan) → Completes (ArePosts plan plan.nodes) (AreAsked true plan)
 after_posts plan ks is = (made_for (takes_of plan.nodes), then_takes plan ks (made_for (takes_of plan.nodes)) is (same_moves (takes_of plan.nodes)))
 
-pub after_asked : (plan : Plan) (end reported commits : ℕ) → Completes (AreAsked plan.together plan) (IsRound plan end reported commits)
-after_asked plan end reported commits ks is =
-    let moves = closing_of plan end (reported_since reported ks) (least_posted end ks) commits in
+pub after_asked : (plan : Plan) (end : ℕ) (last : Bool) (reported commits : ℕ) → Completes (AreAsked plan.together plan) (IsRound plan end last reported commits)
+after_asked plan end last reported commits ks is =
+    let moves = closing_of plan end last (reported_since reported ks) (least_posted end ks) commits in
     (made_for moves, (ks, made_for moves, is, same_moves moves, refl))
 
 -- 2. A fault that is passed on

@@ -1,5 +1,6 @@
 -- Turns and rounds, one after another.
-use Rattle.std.proofs.Common.{◌≡◌, ◌+◌, ◌<◌, ◌^◌, length, ℕ, suc, List, [], ◌∷◌, ◌++◌, true, ap, ap₂, arith, refl, subst, sym, ◌∙◌}
+use Rattle.std.proofs.Common.{◌≡◌, ◌+◌, ◌<◌, ◌^◌, ◌==◌, length, ℕ, zero, suc, Bool, List, [], ◌∷◌, ◌++◌, false, true, ap, ap₂, arith, inl, inr, refl, subst, sym, ◌∙◌}
+use Rattle.std.proofs.lemmas.Bool.{cases_Bool, eqb-true}
 use Rattle.std.proofs.lemmas.List.{map-append}
 use Rattle.coordinator.specs.Steps.{move_of}
 use Rattle.eventkey.specs.declared.Signed.{Signed}
@@ -35,7 +36,24 @@ one_take_more node ks ls before take =
 pub then_takes : (plan : Plan) (ks ls : List Made) → ArePosts plan plan.nodes ks → moves_of ls ≡ takes_of plan.nodes → AreAsked true plan (ks ++ ls)
 then_takes plan ks ls posts takes = (ks, ls, posts, takes, refl)
 
-pub one_round_more : (plan : Plan) (end rounds : ℕ) (ks ls : List Made) → AreRounds plan end rounds ks → IsRound plan end (reported_since 0 ks) (commits_in ks) ls → AreRounds plan end (rounds + 1) (ks ++ ls)
-one_round_more plan end rounds ks ls before round =
+pub one_round_more : (plan : Plan) (end last rounds : ℕ) (ks ls : List Made) → AreRounds plan end last rounds ks → IsRound plan end (rounds + 1 == last) (reported_since 0 ks) (commits_in ks) ls → AreRounds plan end last (rounds + 1) (ks ++ ls)
+one_round_more plan end last rounds ks ls before round =
     let next : rounds + 1 ≡ suc rounds = omega arith in
-    subst (λ n. AreRounds plan end n (ks ++ ls)) (sym next) (ks, ls, before, round, refl)
+    let same : IsRound plan end (suc rounds == last) (reported_since 0 ks) (commits_in ks) ls = subst (λ n. IsRound plan end (n == last) (reported_since 0 ks) (commits_in ks) ls) next round in
+    subst (λ n. AreRounds plan end last n (ks ++ ls)) (sym next) (ks, ls, before, same, refl)
+
+-- a round before the last one
+not_last : (round last : ℕ) → round < last → (round == last) ≡ false
+not_last round last l = elim (cases_Bool (round == last)) [
+  | inl e ↦ (let same : round ≡ last = eqb-true round last e in absurd (omega (arith, same, l)))
+  | inr e ↦ e
+]
+
+-- rounds before the last one are the same, whichever round that is
+pub rounds_before : (plan : Plan) (end last other rounds : ℕ) (ks : List Made) → rounds < last → rounds < other → AreRounds plan end last rounds ks → AreRounds plan end other rounds ks
+rounds_before plan end last other zero ks l k none = none
+rounds_before plan end last other (suc rounds) ks l k is =
+    let same : (suc rounds == last) ≡ (suc rounds == other) = not_last (suc rounds) last l ∙ sym (not_last (suc rounds) other k) in
+    let less : rounds < last = omega (arith, l) in
+    let fewer : rounds < other = omega (arith, k) in
+    (is.0, is.1, rounds_before plan end last other rounds is.0 less fewer is.2, subst (λ (b : Bool). IsRound plan end b (reported_since 0 is.0) (commits_in is.0) is.1) same is.3, is.4)

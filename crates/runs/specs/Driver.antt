@@ -149,11 +149,16 @@ AreAsked true plan made = (posts : List Made) × (taken : List Made)
     × ArePosts plan plan.nodes posts × (moves_of taken ≡ takes_of plan.nodes)
     × (made ≡ posts ++ taken)
 
--- A round ends with a commit if at least as many events as the plan asks for were reported since
--- the last one, or if no floor posted in it is below the end, so that the commit reaches the end. A
--- plan that asks for none commits in each round.
-abbrev pub is_due : Plan → ℕ → ℕ → ℕ → Bool
-is_due plan end reported floor = nat_le plan.commit_every reported || nat_le end floor
+-- How many events have to be reported since the last commit for a round to end with the next one:
+-- as many as the plan asks for, or any in the last round of a run. A plan that asks for none commits
+-- in each round.
+abbrev pub events_due : Plan → Bool → ℕ
+events_due plan last = if last then min plan.commit_every 1 else plan.commit_every
+
+-- A round ends with a commit if at least so many were reported, or if no floor posted in it is below
+-- the end, so that the commit reaches the end.
+abbrev pub is_due : Plan → ℕ → Bool → ℕ → ℕ → Bool
+is_due plan end last reported floor = nat_le (events_due plan last) reported || nat_le end floor
 
 -- a checkpoint follows each commit whose number is a multiple of `every`; 0 is for none
 abbrev pub is_kept : ℕ → ℕ → Bool
@@ -162,27 +167,30 @@ is_kept every number = nat_lt 0 every && number % every == 0
 abbrev pub kept_after : ℕ → ℕ → List Move
 kept_after every number = if is_kept every number then Checkpoint ∷ [] else []
 
--- the end of a round, with `reported` events reported since the last of `commits` commits
-abbrev pub closing_of : Plan → ℕ → ℕ → ℕ → ℕ → List Move
-closing_of plan end reported floor commits =
-    if is_due plan end reported floor then Commit ∷ kept_after plan.checkpoint_every (commits + 1)
-    else []
+-- the end of a round, the last of its run or not, with `reported` events reported since the last of
+-- `commits` commits
+abbrev pub closing_of : Plan → ℕ → Bool → ℕ → ℕ → ℕ → List Move
+closing_of plan end last reported floor commits =
+    if is_due plan end last reported floor
+    then Commit ∷ kept_after plan.checkpoint_every (commits + 1) else []
 
--- A round, with `reported` events reported since the last of `commits` commits before it: all nodes are
--- asked, then a commit is made if one is due, and a checkpoint if one is due after that.
-abbrev pub IsRound : Plan → ℕ → ℕ → ℕ → List Made → Type 0
-IsRound plan end reported commits made = (asked : List Made) × (closing : List Made)
+-- A round, the last of its run or not, with `reported` events reported since the last of `commits`
+-- commits before it: all nodes are asked, then a commit is made if one is due, and a checkpoint if
+-- one is due after that.
+abbrev pub IsRound : Plan → ℕ → Bool → ℕ → ℕ → List Made → Type 0
+IsRound plan end last reported commits made = (asked : List Made) × (closing : List Made)
     × AreAsked plan.together plan asked
     × (moves_of closing
-    ≡ closing_of plan end (reported_since reported asked) (least_posted end asked) commits)
+    ≡ closing_of plan end last (reported_since reported asked) (least_posted end asked) commits)
     × (made ≡ asked ++ closing)
 
--- this many rounds
-abbrev pub AreRounds : Plan → ℕ → ℕ → List Made → Type 0
-AreRounds plan end zero made = made ≡ []
-AreRounds plan end (suc rounds) made = (before : List Made) × (round : List Made)
-    × AreRounds plan end rounds before
-    × IsRound plan end (reported_since 0 before) (commits_in before) round
+-- The first so many rounds of a run whose last round has the number `last`, unless it reaches the
+-- end before. That is the number of rounds of the plan, or a lower one if the run was asked to stop.
+abbrev pub AreRounds : Plan → ℕ → ℕ → ℕ → List Made → Type 0
+AreRounds plan end last zero made = made ≡ []
+AreRounds plan end last (suc rounds) made = (before : List Made) × (round : List Made)
+    × AreRounds plan end last rounds before
+    × IsRound plan end (suc rounds == last) (reported_since 0 before) (commits_in before) round
     × (made ≡ before ++ round)
 
 -- 3. The session after the steps
@@ -237,18 +245,19 @@ module _ {M P D : Type 0} (meaning : M → Meaning) (state : P → PortState) wh
     pub front_is : front ≡ last.front
     pub left : new ≡ last.log.disk
 
-  -- the steps are this many rounds
-  abbrev pub HasRun : (D → DiskState) → M → ℕ → Plan → ℕ → D → D → World → Type 0
-  HasRun disk model end plan rounds old new front =
-      HasMade disk model end (AreRounds plan end rounds) old new front
+  -- the steps are the first so many rounds of a run to the round with the number `last`
+  abbrev pub HasRun : (D → DiskState) → M → ℕ → Plan → ℕ → ℕ → D → D → World → Type 0
+  HasRun disk model end plan last rounds old new front =
+      HasMade disk model end (AreRounds plan end last rounds) old new front
 
   -- the result of a run that reached its end, over any ports
   pub record IsRunOver (disk : D → DiskState) (model : M) (end : ℕ) (plan : Plan) (old new : D)
       (time events : ℕ) : Type 0 where
     pub rounds : ℕ
+    pub last : ℕ
     pub front : World
-    pub some : rounds ≤ plan.rounds
-    pub run : HasRun disk model end plan rounds old new front
+    pub some : (rounds ≤ last) × (last ≤ plan.rounds)
+    pub run : HasRun disk model end plan last rounds old new front
     pub reached : end ≤ time
     pub time_is : time ≡ front.time
     pub events_are : events ≡ length front.log
@@ -257,17 +266,30 @@ module _ {M P D : Type 0} (meaning : M → Meaning) (state : P → PortState) wh
   pub record HasCounted (disk : D → DiskState) (model : M) (end : ℕ) (plan : Plan) (old new : D)
       (counts : List ℕ) : Type 0 where
     pub rounds : ℕ
+    pub last : ℕ
     pub front : World
-    pub some : rounds ≤ plan.rounds
+    pub some : (rounds ≤ last) × (last ≤ plan.rounds)
     pub run : HasMade disk model end
-        (λ made. AreRounds plan end rounds made × AreCounts counts made) old new front
+        (λ made. AreRounds plan end last rounds made × AreCounts counts made) old new front
 
   -- all rounds of a run were made, and its front has not reached the end, over any ports
   pub record IsShortOver (disk : D → DiskState) (model : M) (end : ℕ) (plan : Plan)
       (old new : D) : Type 0 where
     pub front : World
-    pub run : HasRun disk model end plan plan.rounds old new front
+    pub run : HasRun disk model end plan plan.rounds plan.rounds old new front
     pub early : front.time < end
+
+  -- A run was asked to stop before it had made all its rounds, and its front has not reached the
+  -- end, over any ports. Before this time everything is committed, and the log has these many events.
+  pub record IsStoppedOver (disk : D → DiskState) (model : M) (end : ℕ) (plan : Plan) (old new : D)
+      (time events : ℕ) : Type 0 where
+    pub last : ℕ
+    pub fewer : last < plan.rounds
+    pub front : World
+    pub run : HasRun disk model end plan last last old new front
+    pub early : front.time < end
+    pub time_is : time ≡ front.time
+    pub events_are : events ≡ length front.log
 
   -- A session was opened on a disk, the plan's rounds were made, and a step of them was refused
   -- with this fault, over any ports.
@@ -278,8 +300,9 @@ module _ {M P D : Type 0} (meaning : M → Meaning) (state : P → PortState) wh
     pub same : (first.model ≡ model) × (first.end ≡ end)
     pub replayed : IsReplayedTo (meaning model) end (disk old).reads first.front
     pub rounds : ℕ
-    pub some : rounds ≤ plan.rounds
-    pub refused : IsRefusedIn disk (AreRounds plan end rounds) first last fault
+    pub final : ℕ
+    pub some : (rounds ≤ final) × (final ≤ plan.rounds)
+    pub refused : IsRefusedIn disk (AreRounds plan end final rounds) first last fault
     pub left : new ≡ last.log.disk
 
   -- why a run over ports in these states failed with this fault of a session: the session was not
@@ -301,6 +324,14 @@ pub record IsRunOf (m : Meaning) (end time events : ℕ) : Type 0 where
   pub time_is : time ≡ end
   pub events_are : events ≡ length world.log
 
+-- the numbers of a run that was asked to stop: a time before the end, and the number of events in
+-- the log of the sequential simulation up to that time
+pub record IsStoppedAt (m : Meaning) (end time events : ℕ) : Type 0 where
+  pub world : World
+  pub upto : IsUpto m end time world
+  pub early : time < end
+  pub events_are : events ≡ length world.log
+
 -- the answers of moves made one after another
 abbrev pub answers_of : Meaning → ℕ → List Move → System → List (Option Answer)
 answers_of m end [] p = []
@@ -316,7 +347,7 @@ transits_of m end (k ∷ ks) p = p.transit ∷ transits_of m end ks (unwrap_or (
 -- transit, and its front has not reached the end
 pub record IsUnfinished (m : Meaning) (end : ℕ) (plan : Plan) (image : List (List ℕ)) : Type 0 where
   pub made : List Made
-  pub rounds_are : AreRounds plan end plan.rounds made
+  pub rounds_are : AreRounds plan end plan.rounds plan.rounds made
   pub front : World
   pub driven : IsDrivenFrom m end plan.nodes image (moves_of made) front
   pub answers_are : map (λ (k : Made). Some k.answer) made

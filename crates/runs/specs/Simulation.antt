@@ -18,7 +18,7 @@ use Rattle.recovery.specs.declared.RecoveryFault.{RecoveryFault}
 use Rattle.recovery.specs.declared.RecoveryFault.TheVariants as recovery
 use Rattle.runs.specs.declared.fault.SimulationFault.{SimulationFault}
 use Rattle.runs.specs.declared.fault.SimulationFault.TheVariants.{File, Log, NoMemory}
-use Rattle.runs.specs.declared.fault.SimulationFault.TheVariants.{Recovery, Rounds, Session}
+use Rattle.runs.specs.declared.fault.SimulationFault.TheVariants.{Recovery, Rounds, Session, Stopped}
 
 -- 1. What remains on the disk
 
@@ -61,6 +61,7 @@ ReadingIsRefused m end fault image failed = ⊥
 abbrev pub of_run : RunFault → SimulationFault
 of_run (run.Session fault) = Session fault
 of_run run.Rounds = Rounds
+of_run (run.Stopped time events) = Stopped
 of_run run.NoMemory = NoMemory
 
 -- and that of a file that could not be opened as a disk

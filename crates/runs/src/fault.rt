@@ -37,6 +37,9 @@ pub enum SimulationFault {
     /// All rounds of a run were made before everything was committed.
     #[error("Rounds")]
     Rounds,
+    /// A run was asked to stop, and stopped before everything was committed.
+    #[error("Stopped")]
+    Stopped,
     /// The plain runner refused.
     #[error("World {0}")]
     World(WorldFault),
@@ -82,6 +85,7 @@ impl From<RunFault> for SimulationFault {
         match fault {
             RunFault::Session(fault) => SimulationFault::Session(fault),
             RunFault::Rounds => SimulationFault::Rounds,
+            RunFault::Stopped { .. } => SimulationFault::Stopped,
             RunFault::NoMemory => SimulationFault::NoMemory,
         }
     }

@@ -5,7 +5,7 @@ ghost use Rattle.std.specs.Prelude.{map, replicate};
 ghost use Rattle.coordinator.specs.declared.SessionFault.{SessionFault};
 ghost use Rattle.coordinator.specs.Crashes.{KeepsRecovery, Recovers};
 ghost use Rattle.recovery.specs.Represents.{IsGenuine};
-ghost use Rattle.runs.specs.Driver.{HasCounted, IsRunOf, IsUnfinished, SessionRefused};
+ghost use Rattle.runs.specs.Driver.{HasCounted, IsRunOf, IsStoppedAt, IsUnfinished, SessionRefused};
 ghost use Rattle.wire.specs.Local.{state_by, state_of};
 ghost use Rattle.wire.specs.declared.local.Held.TheVariants.{Fresh};
 
@@ -20,8 +20,8 @@ use wire::LocalPort;
 /// `end`, the tick at which it ends, 1 to 2^40, and returns the disk.
 ///
 /// Fails with the faults of the session's opening and steps (`Session`), if all rounds were made
-/// (`Rounds`), or if an allocation fails (`NoMemory`). What was committed stays on the disk in
-/// every case.
+/// (`Rounds`), if `watch` asked for a stop (`Stopped`), or if an allocation fails (`NoMemory`). What
+/// was committed stays on the disk in every case.
 pub fn run_local<M: Simulated, D: SectorDisk + Drop, W: Watch>(
     alloc: Global,
     model: &M,
@@ -51,6 +51,12 @@ pub fn run_local<M: Simulated, D: SectorDisk + Drop, W: Watch>(
     ensures rounds { IsGenuine (M.meaning model.now) end (D.state disk).reads →
         IsErrOf result.outcome RunFault.Rounds →
         IsUnfinished (M.meaning model.now) end plan (D.state disk).reads }
+    // After a stop the numbers are those of the sequential simulation up to that time, and the disk
+    // recovers to at least that time.
+    ensures stopped_at { IsGenuine (M.meaning model.now) end (D.state disk).reads →
+        (time events : ℕ) → IsErrOf result.outcome (RunFault.Stopped time events) →
+        IsStoppedAt (M.meaning model.now) end time events
+        × Recovers (M.meaning model.now) end time (D.state result.disk) }
     // Crash safety: what recovered to at least time `a` before still does, during and after the
     // run, at every exit. After a run that reached its end, it recovers to at least the end.
     ensures crashes { (a : ℕ) → Recovers (M.meaning model.now) end a (D.state disk) →

@@ -5,7 +5,8 @@ ghost use Rattle.coordinator.specs.declared.SessionFault.{SessionFault};
 ghost use Rattle.coordinator.specs.Crashes.{KeepsRecovery, Recovers};
 ghost use Rattle.recovery.specs.Represents.{IsGenuine};
 ghost use Rattle.coordinator.specs.Opening.{AllFresh, AllFaithful};
-ghost use Rattle.runs.specs.Driver.{HasCounted, IsRunOf, IsRunOver, IsShortOver, IsUnfinished, SessionRefused};
+ghost use Rattle.runs.specs.Driver.{HasCounted, IsRunOf, IsRunOver, IsShortOver, IsStoppedAt};
+ghost use Rattle.runs.specs.Driver.{IsStoppedOver, IsUnfinished, SessionRefused};
 
 use crate::rounds::{Plan, RunFault, Watch, run_session};
 use coordinator::{NotOpened, Session};
@@ -39,8 +40,9 @@ pub struct Ran<D> {
 /// returns the disk. Node k is behind the port at place k.
 ///
 /// Fails with the faults of the session's opening and steps (`Session`), if all rounds were made
-/// (`Rounds`), or if an allocation fails (`NoMemory`). Over faithful ports that run this model,
-/// what was committed stays on the disk in every case. Of other ports it is only guaranteed that
+/// (`Rounds`), if `watch` asked for a stop (`Stopped`), or if an allocation fails (`NoMemory`). Over
+/// faithful ports that run this model, what was committed stays on the disk in every case. Of other
+/// ports it is only guaranteed that
 /// they are asked as the plan says.
 pub fn run_over<M: Simulated, P: Port + Drop, D: SectorDisk + Drop, W: Watch>(
     alloc: Global,
@@ -66,6 +68,10 @@ pub fn run_over<M: Simulated, P: Port + Drop, D: SectorDisk + Drop, W: Watch>(
         model.now end plan disk result.disk outcome.ran.items) }
     ensures rounds_over { IsErrOf result.outcome RunFault.Rounds →
         IsShortOver M.meaning P.state D.state model.now end plan disk result.disk }
+    // After a stop the session has made some of the plan's rounds, the last of them as if the plan
+    // had no more.
+    ensures stopped { (time events : ℕ) → IsErrOf result.outcome (RunFault.Stopped time events) →
+        IsStoppedOver M.meaning P.state D.state model.now end plan disk result.disk time events }
     // A fault of the session is that of its opening, or of a step which the plan makes next.
     ensures refused { (fault : SessionFault) → IsErrOf result.outcome (RunFault.Session fault) →
         SessionRefused M.meaning P.state D.state model.now end plan (map P.state ports.items)
@@ -81,6 +87,13 @@ pub fn run_over<M: Simulated, P: Port + Drop, D: SectorDisk + Drop, W: Watch>(
         IsGenuine (M.meaning model.now) end (D.state disk).reads →
         IsErrOf result.outcome RunFault.Rounds →
         IsUnfinished (M.meaning model.now) end plan (D.state disk).reads }
+    // After a stop the numbers are those of the sequential simulation up to that time, and the disk
+    // recovers to at least that time.
+    ensures stopped_at { AllFaithful (M.meaning model.now) (map P.state ports.items) →
+        IsGenuine (M.meaning model.now) end (D.state disk).reads →
+        (time events : ℕ) → IsErrOf result.outcome (RunFault.Stopped time events) →
+        IsStoppedAt (M.meaning model.now) end time events
+        × Recovers (M.meaning model.now) end time (D.state result.disk) }
     // Crash safety: what recovered to at least time `a` before still does, during and after the
     // run, at every exit. After a run that reached its end, it recovers to at least the end.
     ensures crashes { AllFaithful (M.meaning model.now) (map P.state ports.items) → (a : ℕ) →

@@ -1,7 +1,7 @@
 // Rounds of steps.
 
 ghost use Rattle.std.specs.Prelude.{◌≡◌, ◌<◌, ◌≤◌, ◌+◌, ◌-◌, ◌^◌, [], ◌∷◌, ℕ, IfOk, OnOk};
-ghost use Rattle.std.specs.Prelude.{IsErrOf, length};
+ghost use Rattle.std.specs.Prelude.{IsErrOf, length, if◌then◌else◌};
 ghost use Rattle.runs.specs.Driver.{AreAsked, AreCounts, ArePosts, AreRounds, AreTurns, IsDriven};
 ghost use Rattle.runs.specs.Driver.{IsDrivenBy, IsFinished, IsPost, IsRefusedIn, IsRound, IsTurn, is_kept};
 ghost use Rattle.runs.specs.Driver.{closing_of, kept_after, moves_of, takes_of};
@@ -54,7 +54,7 @@ pub struct Plan {
     pub checkpoint_every: u32,
     /// The number of events that have to be reported since the last commit before a round ends with
     /// the next one; 0 for a commit in each round. A round that reaches the end commits in any
-    /// case. A record holds at most 299,592 events, including those of the round that ends with the
+    /// case, and the last round of a run commits if any event was reported. A record holds at most 299,592 events, including those of the round that ends with the
     /// commit.
     pub commit_every: u32,
 }
@@ -68,13 +68,25 @@ pub enum RunFault {
     /// All rounds were made before everything was committed.
     #[error("Rounds")]
     Rounds,
+    /// The run was asked to stop, and stopped before its end with rounds left.
+    #[error("Stopped")]
+    Stopped {
+        /// The virtual time before which everything is committed, in ticks.
+        time: u64,
+        /// The number of committed events.
+        events: usize,
+    },
     /// An allocation failed.
     #[error("NoMemory")]
     NoMemory,
 }
 
-/// Observes the progress of a run.
+/// Observes the progress of a run, and may end it.
 pub trait Watch {
+    /// Called at the beginning of a run: everything before this virtual time, in ticks, is committed
+    /// on the disk, `events` events in all.
+    fn opened(&mut self, _time: u64, _events: usize) {}
+
     /// Called after each commit, before the checkpoint that may follow it: everything before this
     /// virtual time, in ticks, is committed, `events` events in all.
     fn committed(&mut self, time: u64, events: usize);
@@ -86,6 +98,12 @@ pub trait Watch {
 
     /// Called for each turn of a node, when its reply has been taken.
     fn turned(&mut self, _turn: &Turn) {}
+
+    /// Called before each round. Returns whether that round is the last one: the run then ends with
+    /// it, as if the plan had no more rounds.
+    fn is_stopped(&mut self) -> bool {
+        false
+    }
 }
 
 /// Drives a session until everything before `end` is committed, the tick at which its simulation
@@ -94,10 +112,11 @@ pub trait Watch {
 /// A round gives each node its turn, from node 0 up: everything in transit for it is posted, it
 /// handles at most its budget of messages, and its reply is taken. If the nodes work together, all
 /// are posted to before the first reply is taken. Then a commit follows if it is due: enough events
-/// were reported since the last one, or the commit reaches the end. A checkpoint follows the commit
-/// if the plan has one after that many. The first refusal ends the run: a step (`Session`), no
-/// rounds left (`Rounds`), or a failed allocation (`NoMemory`). What was committed stays committed.
-/// A turn costs one pass over transit and its two steps.
+/// were reported since the last one, any were in the last round, or the commit reaches the end. A
+/// checkpoint follows the commit if the plan has one after that many. The first refusal ends the
+/// run: a step (`Session`), no rounds left (`Rounds`), or a failed allocation (`NoMemory`). If
+/// `watch` asks for a stop, the run ends after the next round (`Stopped`), unless that reaches the
+/// end or is the plan's last one. What was committed stays committed. A turn costs one pass over transit and its two steps.
 pub fn run_session<M: Simulated, P: Port, D: SectorDisk, W: Watch>(
     alloc: Global,
     session: &mut Session<'_, M, P, D>,
@@ -109,10 +128,11 @@ pub fn run_session<M: Simulated, P: Port, D: SectorDisk, W: Watch>(
     // Everything is committed, by steps of the session alone.
     ensures ended { OnOk result (end ≤ session.new.front.time) }
     ensures driven { OnOk result (IsDriven M.meaning P.state D.state session.old session.new) }
-    // The steps are rounds, and each count is what the replies of its node said in them.
-    ensures in_rounds { IfOk result (λ handled_per_node. (rounds : ℕ) × (rounds ≤ plan.rounds)
-        × IsDrivenBy M.meaning P.state D.state
-        (λ made. AreRounds plan end rounds made × AreCounts handled_per_node.items made)
+    // The steps are rounds, and each count is what the replies of its node said in them. The run was
+    // to end after `last` rounds.
+    ensures in_rounds { IfOk result (λ handled_per_node. (rounds last : ℕ)
+        × ((rounds ≤ last) × (last ≤ plan.rounds)) × IsDrivenBy M.meaning P.state D.state
+        (λ made. AreRounds plan end last rounds made × AreCounts handled_per_node.items made)
         session.old session.new) }
     ensures finished { session.old.end ≡ end →
         OnOk result (IsFinished M.meaning P.state end session.old session.new) }
@@ -120,33 +140,71 @@ pub fn run_session<M: Simulated, P: Port, D: SectorDisk, W: Watch>(
     ensures keeps { KeepsRepresentation M.meaning P.state D.state session.old session.new }
     ensures rounds { IsErrOf result RunFault.Rounds → session.new.front.time < end }
     ensures all_rounds { IsErrOf result RunFault.Rounds →
-        IsDrivenBy M.meaning P.state D.state (AreRounds plan end plan.rounds)
+        IsDrivenBy M.meaning P.state D.state (AreRounds plan end plan.rounds plan.rounds)
         session.old session.new }
+    // After a stop some of the plan's rounds were made, and the last of them ended like the last
+    // round of a plan.
+    ensures stopped { (time events : ℕ) → IsErrOf result (RunFault.Stopped time events) →
+        (session.new.front.time < end) × (time ≡ session.new.front.time)
+        × (events ≡ length session.new.front.log)
+        × ((last : ℕ) × (last < plan.rounds)
+        × IsDrivenBy M.meaning P.state D.state (AreRounds plan end last last)
+        session.old session.new) }
     // A fault of the session is that of a step which the plan makes next.
     ensures refused { (fault : SessionFault) → IsErrOf result (RunFault.Session fault) →
-        (rounds : ℕ) × (rounds ≤ plan.rounds)
-        × IsRefusedIn M.meaning P.state D.state (AreRounds plan end rounds)
+        (rounds last : ℕ) × ((rounds ≤ last) × (last ≤ plan.rounds))
+        × IsRefusedIn M.meaning P.state D.state (AreRounds plan end last rounds)
         session.old session.new fault }
     ensures count { IfOk result (λ handled_per_node. length handled_per_node.items ≡ plan.nodes) }
 {
     let mut tally = Tally::new(alloc, plan)?;
-    watch.stored(session.used(), session.sectors());
+    begin(session, watch);
+    let mut last = plan.rounds;
     let mut made = 0;
     'rounds: while session.front().time < end {
         if made >= plan.rounds {
             return Err(RunFault::Rounds);
         }
+        if made >= last {
+            let front = session.front();
+            return Err(RunFault::Stopped {
+                time: front.time,
+                events: front.log.len(),
+            });
+        }
+        last = last_round(made, last, watch);
         made += 1;
-        round(alloc, session, end, plan, &mut tally, watch)?;
+        round(alloc, session, end, made == last, plan, &mut tally, watch)?;
     }
     Ok(tally.into_handled_per_node())
 }
 
-/// Makes a round: asks all nodes, and ends with a commit if one is due.
+/// Reports what a run begins with.
+fn begin<M: Simulated, P: Port, D: SectorDisk, W: Watch>(
+    session: &Session<'_, M, P, D>,
+    watch: &mut W,
+) {
+    let front = session.front();
+    watch.opened(front.time, front.log.len());
+    watch.stored(session.used(), session.sectors());
+}
+
+/// Returns the number of a run's last round, after `made` rounds of at most `last`: the next one if
+/// the run is to stop.
+fn last_round<W: Watch>(made: u32, last: u32, watch: &mut W) -> u32
+    requires { made < last }
+    ensures later { made < result }
+    ensures none_more { result ≤ last }
+{
+    if watch.is_stopped() { made + 1 } else { last }
+}
+
+/// Makes a round, the last of its run or not: asks all nodes, and ends with a commit if one is due.
 fn round<M: Simulated, P: Port, D: SectorDisk, W: Watch>(
     alloc: Global,
     session: &mut Session<'_, M, P, D>,
     end: u64,
+    last: bool,
     plan: Plan,
     tally: &mut Tally,
     watch: &mut W,
@@ -156,7 +214,7 @@ fn round<M: Simulated, P: Port, D: SectorDisk, W: Watch>(
     requires commits { tally.old.commits < 2 ^ 32 - 1 }
     ensures driven { (reported : ℕ) → tally.old.events_until_commit ≡ plan.commit_every - reported →
         OnOk result (IsDrivenBy M.meaning P.state D.state
-        (λ made. IsRound plan end reported tally.old.commits made
+        (λ made. IsRound plan end last reported tally.old.commits made
         × IsTallied plan.commit_every tally.old tally.new made) session.old session.new) }
     ensures commits { OnOk result (tally.new.commits ≤ tally.old.commits + 1) }
     ensures budgets { length tally.new.budgets.items ≡ length tally.old.budgets.items }
@@ -165,13 +223,14 @@ fn round<M: Simulated, P: Port, D: SectorDisk, W: Watch>(
     ensures keeps { KeepsRepresentation M.meaning P.state D.state session.old session.new }
     ensures refused { (reported : ℕ) → tally.old.events_until_commit ≡ plan.commit_every - reported →
         (fault : SessionFault) → IsErrOf result (RunFault.Session fault) →
-        IsRefusedIn M.meaning P.state D.state (λ made. IsRound plan end reported tally.old.commits made)
+        IsRefusedIn M.meaning P.state D.state (λ made. IsRound plan end last reported tally.old.commits made)
         session.old session.new fault }
     ensures rounds { IsErrOf result RunFault.Rounds → ⊥ }
+    ensures stopped { (time events : ℕ) → IsErrOf result (RunFault.Stopped time events) → ⊥ }
 {
     tally.begin_round(end);
     ask(alloc, session, plan, tally, watch)?;
-    close(session, end, plan, tally, watch)
+    close(session, end, last, plan, tally, watch)
 }
 
 /// Ends a round: if a commit is due, commits, makes a checkpoint if it is due, and reports the
@@ -179,6 +238,7 @@ fn round<M: Simulated, P: Port, D: SectorDisk, W: Watch>(
 fn close<M: Simulated, P: Port, D: SectorDisk, W: Watch>(
     session: &mut Session<'_, M, P, D>,
     end: u64,
+    last: bool,
     plan: Plan,
     tally: &mut Tally,
     watch: &mut W,
@@ -186,7 +246,7 @@ fn close<M: Simulated, P: Port, D: SectorDisk, W: Watch>(
     requires { tally.old.commits < 2 ^ 32 - 1 }
     ensures driven { (reported : ℕ) → tally.old.events_until_commit ≡ plan.commit_every - reported →
         OnOk result (IsDrivenBy M.meaning P.state D.state
-        (λ made. (moves_of made ≡ closing_of plan end reported tally.old.floor tally.old.commits)
+        (λ made. (moves_of made ≡ closing_of plan end last reported tally.old.floor tally.old.commits)
         × IsTallied plan.commit_every tally.old tally.new made) session.old session.new) }
     ensures commits { OnOk result (tally.new.commits ≤ tally.old.commits + 1) }
     ensures budgets { tally.new.budgets ≡ tally.old.budgets }
@@ -194,15 +254,29 @@ fn close<M: Simulated, P: Port, D: SectorDisk, W: Watch>(
     ensures keeps { KeepsRepresentation M.meaning P.state D.state session.old session.new }
     ensures refused { (reported : ℕ) → tally.old.events_until_commit ≡ plan.commit_every - reported →
         (fault : SessionFault) → IsErrOf result (RunFault.Session fault) →
-        IsRefusedIn M.meaning P.state D.state (λ made. moves_of made ≡ closing_of plan end reported tally.old.floor tally.old.commits)
+        IsRefusedIn M.meaning P.state D.state (λ made. moves_of made ≡ closing_of plan end last reported tally.old.floor tally.old.commits)
         session.old session.new fault }
     ensures rounds { IsErrOf result RunFault.Rounds → ⊥ }
+    ensures stopped { (time events : ℕ) → IsErrOf result (RunFault.Stopped time events) → ⊥ }
 {
-    if tally.is_due(end) {
+    let missing = missing_events(plan.commit_every, last);
+    if tally.is_due(end, missing) {
         commit(session, plan, tally, watch)?;
         watch.stored(session.used(), session.sectors());
     }
     Ok(())
+}
+
+/// Returns how many of the events that a commit waits for may still be missing at the end of a
+/// round: none, or in the last round of a run all but one.
+fn missing_events(commit_every: u32, last: bool) -> usize
+    ensures { result ≡ (if last then commit_every - 1 else 0) }
+{
+    if last {
+        commit_every.saturating_sub(1) as usize
+    } else {
+        0
+    }
 }
 
 /// Commits, reports the commit, and makes a checkpoint if one is due.
@@ -226,6 +300,7 @@ fn commit<M: Simulated, P: Port, D: SectorDisk, W: Watch>(
         ≡ CommitMove ∷ kept_after plan.checkpoint_every (tally.old.commits + 1))
         session.old session.new fault }
     ensures rounds { IsErrOf result RunFault.Rounds → ⊥ }
+    ensures stopped { (time events : ℕ) → IsErrOf result (RunFault.Stopped time events) → ⊥ }
 {
     session.step(&Step::Commit)?;
     tally.committed(plan.commit_every);
@@ -248,6 +323,7 @@ fn keep<M: Simulated, P: Port, D: SectorDisk>(
         IsRefusedIn M.meaning P.state D.state (λ made. moves_of made ≡ kept_after every number)
         session.old session.new fault }
     ensures rounds { IsErrOf result RunFault.Rounds → ⊥ }
+    ensures stopped { (time events : ℕ) → IsErrOf result (RunFault.Stopped time events) → ⊥ }
 {
     if is_kept(every, number) {
         session.step(&Step::Checkpoint)?;
@@ -285,6 +361,7 @@ fn ask<M: Simulated, P: Port, D: SectorDisk, W: Watch>(
         IsRefusedIn M.meaning P.state D.state (AreAsked plan.together plan)
         session.old session.new fault }
     ensures rounds { IsErrOf result RunFault.Rounds → ⊥ }
+    ensures stopped { (time events : ℕ) → IsErrOf result (RunFault.Stopped time events) → ⊥ }
 {
     if plan.together {
         post_all(alloc, session, plan, tally)?;
@@ -316,6 +393,7 @@ fn turns<M: Simulated, P: Port, D: SectorDisk, W: Watch>(
         IsRefusedIn M.meaning P.state D.state (AreTurns plan plan.nodes)
         session.old session.new fault }
     ensures rounds { IsErrOf result RunFault.Rounds → ⊥ }
+    ensures stopped { (time events : ℕ) → IsErrOf result (RunFault.Stopped time events) → ⊥ }
 {
     'nodes: for node in 0..plan.nodes {
         turn(alloc, session, node, plan, tally, watch)?;
@@ -342,6 +420,7 @@ fn post_all<M: Simulated, P: Port, D: SectorDisk>(
         IsRefusedIn M.meaning P.state D.state (ArePosts plan plan.nodes)
         session.old session.new fault }
     ensures rounds { IsErrOf result RunFault.Rounds → ⊥ }
+    ensures stopped { (time events : ℕ) → IsErrOf result (RunFault.Stopped time events) → ⊥ }
 {
     'nodes: for node in 0..plan.nodes {
         post(alloc, session, node, plan, tally)?;
@@ -369,6 +448,7 @@ fn take_all<M: Simulated, P: Port, D: SectorDisk, W: Watch>(
         IsRefusedIn M.meaning P.state D.state (λ taken. moves_of taken ≡ takes_of plan.nodes)
         session.old session.new fault }
     ensures rounds { IsErrOf result RunFault.Rounds → ⊥ }
+    ensures stopped { (time events : ℕ) → IsErrOf result (RunFault.Stopped time events) → ⊥ }
 {
     'nodes: for node in 0..plan.nodes {
         take(session, node, tally, watch)?;
@@ -400,6 +480,7 @@ fn turn<M: Simulated, P: Port, D: SectorDisk, W: Watch>(
         IsRefusedIn M.meaning P.state D.state (IsTurn plan node)
         session.old session.new fault }
     ensures rounds { IsErrOf result RunFault.Rounds → ⊥ }
+    ensures stopped { (time events : ℕ) → IsErrOf result (RunFault.Stopped time events) → ⊥ }
 {
     post(alloc, session, node, plan, tally)?;
     take(session, node, tally, watch)
@@ -426,6 +507,7 @@ fn post<M: Simulated, P: Port, D: SectorDisk>(
         IsRefusedIn M.meaning P.state D.state (IsPost plan node)
         session.old session.new fault }
     ensures rounds { IsErrOf result RunFault.Rounds → ⊥ }
+    ensures stopped { (time events : ℕ) → IsErrOf result (RunFault.Stopped time events) → ⊥ }
 {
     let picks = places(alloc, session.transit(), node, plan.nodes)?;
     let undone = antimessages(session.transit(), picks.as_slice());
@@ -462,6 +544,7 @@ fn take<M: Simulated, P: Port, D: SectorDisk, W: Watch>(
         IsRefusedIn M.meaning P.state D.state (λ taken. moves_of taken ≡ TakeMove node ∷ [])
         session.old session.new fault }
     ensures rounds { IsErrOf result RunFault.Rounds → ⊥ }
+    ensures stopped { (time events : ℕ) → IsErrOf result (RunFault.Stopped time events) → ⊥ }
 {
     let answer = session.step(&Step::Take { node })?;
     tally.taken(node, &answer);

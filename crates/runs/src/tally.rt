@@ -189,12 +189,12 @@ impl Tally {
         self.commits += 1;
     }
 
-    /// Returns whether a round of a run to this end, in ticks, ends with a commit: enough events
-    /// were reported, or no floor that was posted is below the end.
-    pub(crate) fn is_due(&self, end: u64) -> bool
-        ensures { result ≡ (nat_le self.now.events_until_commit 0 || nat_le end self.now.floor) }
+    /// Returns whether a round of a run to this end, in ticks, ends with a commit: at most this many
+    /// of the events for one are missing, or no floor that was posted is below the end.
+    pub(crate) fn is_due(&self, end: u64, missing: usize) -> bool
+        ensures { result ≡ (nat_le self.now.events_until_commit missing || nat_le end self.now.floor) }
     {
-        self.events_until_commit == 0 || self.floor >= end
+        self.events_until_commit <= missing || self.floor >= end
     }
 
     /// Returns the number of messages that each node handled.

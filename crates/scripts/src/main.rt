@@ -11,18 +11,12 @@ mod peer;
 mod play;
 mod script;
 
-use models::AnyModel;
 use program::{About, start, words};
+use rule_files::{FileModel, RULES_KEYS};
 use std::io;
 use std::os::unix::process::CommandExt;
 use std::process::{Command, ExitCode};
 use texts::ANY_MODEL_KEYS;
-
-const ABOUT: About<'static> = About {
-    name: "timewarp",
-    example: "examples/ring.toml",
-    keys: ANY_MODEL_KEYS,
-};
 
 fn main(rt: HostRuntime) -> ExitCode {
     let Ok(words) = words(&rt) else {
@@ -36,9 +30,9 @@ fn main(rt: HostRuntime) -> ExitCode {
         "peer" => peer::speak(&rt, rest),
         "named" => named(&rt, rest),
         "damage" => damage::report(&rt, rest),
-        "timewarp" => Ok(start::<AnyModel, _, _>(&rt, ABOUT, rt.stderr())),
+        "timewarp" => Ok(timewarp(&rt)),
         _ if rest.is_empty() => play::play_all(&rt, name.as_str()),
-        _ => Ok(start::<AnyModel, _, _>(&rt, ABOUT, rt.stderr())),
+        _ => Ok(timewarp(&rt)),
     };
     match done {
         Ok(status) => ExitCode::from(status),
@@ -47,6 +41,21 @@ fn main(rt: HostRuntime) -> ExitCode {
             ExitCode::from(1)
         }
     }
+}
+
+/// Runs as `timewarp`. Returns its exit status.
+fn timewarp(rt: &HostRuntime) -> u8 {
+    let joined = format!(in rt.alloc(); "{ANY_MODEL_KEYS}\n\n{RULES_KEYS}");
+    let keys = match &joined {
+        Ok(keys) => keys.as_str(),
+        Err(_) => ANY_MODEL_KEYS,
+    };
+    let about = About {
+        name: "timewarp",
+        example: "examples/ring.toml",
+        keys,
+    };
+    start::<FileModel, _, _>(rt, about, rt.stderr())
 }
 
 /// Starts this program under another name, the first argument. Returns its exit status.

@@ -1,11 +1,12 @@
 -- The trace of a run (this project's profile): how a row gets what was committed before its turn.
-use Rattle.std.specs.Prelude.{ℕ}
+use Rattle.std.specs.Prelude.{min, ℕ, ◌+◌, ◌-◌, ◌^◌}
 use Rattle.pictures.specs.declared.turns.Row.{Row}
 
--- the row of a turn, before which `events` events were committed up to `time`
-abbrev pub row_behind : Row → ℕ → ℕ → Row
-row_behind turn time events = record {
-  round = turn.round;
+-- the row of a turn, after `rounds` rounds of earlier runs, before which `events` events were
+-- committed up to `time`
+abbrev pub row_behind : Row → ℕ → ℕ → ℕ → Row
+row_behind turn rounds time events = record {
+  round = min (turn.round + rounds) (2 ^ 64 - 1);
   node = turn.node;
   budget = turn.budget;
   gvt = turn.gvt;

@@ -4,18 +4,26 @@
 use crate::paths::are_one_file;
 use cli::{Command, DiskArgs, DrawArgs, MigrateArgs, NewArgs, RunArgs, SourceArgs, most_sectors};
 use disk::{MOST_SECTORS, MOST_SECTORS_OF_LARGE};
+use std::fmt;
 use std::fs::{self, File, Metadata, OpenOptions, TryLockError};
 use std::io::{Error as IoError, ErrorKind};
 use std::path::Path;
 use std::rt::Files;
+use texts::{LONGEST_MODEL_FILE, Printable};
 use thiserror::Error;
 
-/// A file or a folder of a command, and what is wrong with it.
-#[derive(Clone, Copy, Debug, PartialEq, Eq, Error)]
-#[error("{path}: {reason}")]
+/// A file or a folder of a command, and what is wrong with it. Its text can't control a terminal.
+#[derive(Clone, Copy, Debug, PartialEq, Eq)]
 pub struct Cause<'a> {
     path: &'a str,
     reason: Reason,
+}
+
+impl fmt::Display for Cause<'_> {
+    fn fmt<W: fmt::Write>(&self, f: &mut fmt::Formatter<W>) -> fmt::Result {
+        let (path, reason) = (Printable(self.path), self.reason);
+        write!(f, "{path}: {reason}")
+    }
 }
 
 /// What is wrong with a file or a folder.
@@ -43,6 +51,12 @@ enum Reason {
     OtherSize { bytes: u64, sectors: u32 },
     #[error("two paths of the command lead to this file")]
     OneFile,
+    #[error("a model file has at most 16777216 bytes, and this has {0}")]
+    LongModel(u64),
+    #[error("its name with .unfinished-disk behind it, under which a disk is made, is too long")]
+    LongName,
+    #[error("{0}")]
+    System(SystemError),
     #[error("not all of it may have been written: see that there is room")]
     NotWhole,
     #[error("there is no such folder")]
@@ -63,11 +77,24 @@ enum Reason {
     NotHeard,
 }
 
+/// The number of an error of the system. Its text is the system's.
+#[derive(Clone, Copy, Debug, PartialEq, Eq)]
+struct SystemError(i32);
+
+impl fmt::Display for SystemError {
+    fn fmt<W: fmt::Write>(&self, f: &mut fmt::Formatter<W>) -> fmt::Result {
+        let error = IoError::from_raw_os_error(self.0);
+        write!(f, "{error}")
+    }
+}
+
 /// What a command does with a path.
 #[derive(Clone, Copy)]
 enum Step<'a> {
     /// Reads the file.
     Reads(&'a str),
+    /// Reads a model file.
+    ReadsModel(&'a str),
     /// Requires the first path to lead to another file than the second.
     AreTwoFiles(&'a str, &'a str),
     /// Reads a disk of at most this many sectors.
@@ -94,14 +121,19 @@ where
         Command::Extend(args) => first_of_writer(rt, args),
         Command::Grow(args) => first_of_writer(rt, args.on),
         Command::Migrate(args) => first_of_migration(rt, args),
+        Command::Reopen(args) => first_of_writer(rt, args),
         Command::Status(args) => first_of_reader(rt, args),
+        Command::Verify(args) => first_of_reader(rt, args),
         Command::Log(args) => first_of_reader(rt, args.on),
         Command::Show(args) => first_of_reader(rt, args),
         Command::Stats(args) => first_of_source(rt, args.of),
         Command::Draw(args) => first_of_drawing(rt, args),
-        Command::Seq(args) => first(rt, &[Step::Reads(args.model)]),
-        Command::Check(args) => first(rt, &[Step::Reads(args.model)]),
-        Command::Node(args) => first(rt, &[Step::Reads(args.model), Step::Connects(args.socket)]),
+        Command::Seq(args) => first(rt, &[Step::ReadsModel(args.model)]),
+        Command::Check(args) => first(rt, &[Step::ReadsModel(args.model)]),
+        Command::Node(args) => first(
+            rt,
+            &[Step::ReadsModel(args.model), Step::Connects(args.socket)],
+        ),
     }
 }
 
@@ -122,7 +154,7 @@ fn first_of_new<'a, R: Files<File = File>>(rt: &R, args: NewArgs<'a>) -> Option<
     first(
         rt,
         &[
-            Step::Reads(model),
+            Step::ReadsModel(model),
             Step::AreTwoFiles(disk, model),
             Step::Makes(disk, args.sectors),
         ],
@@ -137,7 +169,7 @@ where
     first(
         rt,
         &[
-            Step::Reads(args.model),
+            Step::ReadsModel(args.model),
             Step::LooksAt(args.old, most_sectors(args.large)),
             Step::AreTwoFiles(args.new, args.model),
             Step::AreTwoFiles(args.new, args.old),
@@ -151,7 +183,7 @@ fn first_of_writer<'a, R: Files<File = File>>(rt: &R, args: DiskArgs<'a>) -> Opt
     let most = most_sectors(args.large);
     first(
         rt,
-        &[Step::Reads(args.model), Step::Writes(args.disk, most)],
+        &[Step::ReadsModel(args.model), Step::Writes(args.disk, most)],
     )
 }
 
@@ -160,7 +192,7 @@ fn first_of_reader<'a, R: Files<File = File>>(rt: &R, args: DiskArgs<'a>) -> Opt
     let most = most_sectors(args.large);
     first(
         rt,
-        &[Step::Reads(args.model), Step::LooksAt(args.disk, most)],
+        &[Step::ReadsModel(args.model), Step::LooksAt(args.disk, most)],
     )
 }
 
@@ -168,7 +200,7 @@ fn first_of_reader<'a, R: Files<File = File>>(rt: &R, args: DiskArgs<'a>) -> Opt
 fn first_of_source<'a, R: Files<File = File>>(rt: &R, args: SourceArgs<'a>) -> Option<Cause<'a>> {
     let SourceArgs { model, disk, large } = args;
     match disk {
-        None => first(rt, &[Step::Reads(model)]),
+        None => first(rt, &[Step::ReadsModel(model)]),
         Some(disk) => first_of_reader(rt, DiskArgs { model, disk, large }),
     }
 }
@@ -244,6 +276,7 @@ fn caused<'a>(path: &'a str, reason: Option<Reason>) -> Option<Cause<'a>> {
 fn cause_at<'a, R: Files<File = File>>(rt: &R, step: Step<'a>) -> Option<Cause<'a>> {
     match step {
         Step::Reads(path) => caused(path, reason_of_file(rt, path)),
+        Step::ReadsModel(path) => caused(path, reason_of_model(rt, path)),
         Step::AreTwoFiles(path, other) => caused(path, reason_of_two(rt, path, other)),
         Step::LooksAt(path, most) => caused(path, reason_of_disk(rt, path, most)),
         Step::Writes(path, most) => caused(path, reason_of_writer(rt, path, most)),
@@ -253,14 +286,35 @@ fn cause_at<'a, R: Files<File = File>>(rt: &R, step: Step<'a>) -> Option<Cause<'
     }
 }
 
-/// What is wrong with a path for which the system returns this error: nothing is there, or it may
-/// not be read.
+/// What is wrong with a path for which the system returns this error: nothing is there, it may not
+/// be read, or what the system says.
 fn reason_of_error(error: IoError, missing: Reason) -> Option<Reason> {
     match error.kind() {
         ErrorKind::NotFound | ErrorKind::NotADirectory => Some(missing),
         ErrorKind::PermissionDenied => Some(Reason::NotRead),
-        _ => None,
+        _ => reason_of_system(error),
     }
+}
+
+/// What the system says of an error, if it is one of the system.
+fn reason_of_system(error: IoError) -> Option<Reason> {
+    match error.raw_os_error() {
+        Some(number) => Some(Reason::System(SystemError(number))),
+        None => None,
+    }
+}
+
+/// What is wrong with a model file.
+fn reason_of_model<R: Files<File = File>>(rt: &R, path: &str) -> Option<Reason> {
+    let reason = reason_of_file(rt, path);
+    if reason.is_some() {
+        return reason;
+    }
+    let bytes = fs::metadata(rt, path).ok()?.len();
+    if bytes > LONGEST_MODEL_FILE {
+        return Some(Reason::LongModel(bytes));
+    }
+    None
 }
 
 /// What is wrong with a file that a command reads. Only plain files are opened again.
@@ -365,7 +419,7 @@ fn reason_of_open(opened: Result<File, IoError>) -> Option<Reason> {
 fn reason_of_refusal(error: IoError) -> Option<Reason> {
     match error.kind() {
         ErrorKind::PermissionDenied | ErrorKind::ReadOnlyFilesystem => Some(Reason::NotWritten),
-        _ => None,
+        _ => reason_of_system(error),
     }
 }
 
@@ -376,6 +430,7 @@ fn cause_of_new<'a, R: Files<File = File>>(
     sectors: u32,
 ) -> Option<Cause<'a>> {
     match fs::metadata(rt, path) {
+        Err(_) if is_long(rt, path) => caused(path, Some(Reason::LongName)),
         Err(error) => cause_of_folder(rt, path, error),
         Ok(metadata) => {
             let reason = reason_of_lock(rt, path);
@@ -390,6 +445,19 @@ fn cause_of_new<'a, R: Files<File = File>>(
         }
     }
 }
+
+/// Whether the name of a disk in an existing folder is a name, but too long for the file under which
+/// the disk is made.
+fn is_long<R: Files<File = File>>(rt: &R, path: &str) -> bool {
+    let name = match path.rsplit_once('/') {
+        Some((_, name)) => name,
+        None => path,
+    };
+    (240..=LONGEST_NAME).contains(&name.len()) && reason_of_folder(rt, folder_of(path)).is_none()
+}
+
+/// The maximum length of a file's name in bytes, set by the system.
+const LONGEST_NAME: usize = 255;
 
 /// The cause for which the file of a trace cannot be made or emptied.
 fn cause_of_trace<'a, R: Files<File = File>>(rt: &R, path: &'a str) -> Option<Cause<'a>> {
@@ -414,6 +482,9 @@ fn cause_of_folder<'a, R: Files<File = File>>(
     error: IoError,
 ) -> Option<Cause<'a>> {
     let reason = reason_of_error(error, Reason::NotMade)?;
+    if matches!(reason, Reason::System(_)) {
+        return caused(path, Some(reason));
+    }
     let folder = folder_of(path);
     match reason_of_folder(rt, folder) {
         None => caused(folder, Some(reason)),

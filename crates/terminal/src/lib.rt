@@ -10,4 +10,4 @@ mod tracing;
 pub use cause::{Cause, cause_of};
 pub use paths::are_one_file;
 pub use progress::{Progress, TerminalProgress};
-pub use tracing::Traced;
+pub use tracing::{Earlier, Traced};

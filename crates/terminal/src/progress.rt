@@ -10,6 +10,14 @@ pub trait Progress {
     /// A run begins. It ends at this tick.
     fn begin(&mut self, end: u64);
 
+    /// Called once before a run: a line of progress is wanted each so many seconds, at least 1, also
+    /// where there is no terminal.
+    fn every(&mut self, _seconds: u32) {}
+
+    /// What the disk of a run has at its beginning: all events before this virtual time, in ticks,
+    /// `events` in all.
+    fn opened(&mut self, _time: u64, _events: usize) {}
+
     /// A run waits for the programs of these nodes to connect; the list is empty once all have.
     fn waiting(&mut self, nodes: &[usize]);
 
@@ -32,6 +40,9 @@ pub trait Progress {
     /// A run has reached its end, and its output is printed.
     fn finished(&mut self);
 
+    /// A run has ended because this file is there; its output comes next.
+    fn stopped(&mut self, _file: &str) {}
+
     /// Whether a user sees what is shown.
     fn is_seen(&self) -> bool;
 
@@ -41,13 +52,19 @@ pub trait Progress {
 }
 
 /// Shows on one line of a terminal which nodes a run waits for, and its progress, at most twice a
-/// second; then a summary of the run, and after a fault what to do about it. Shows nothing if there
-/// is no terminal.
+/// second; then a summary of the run, and after a fault what to do about it. Where there is no
+/// terminal, it writes a line of progress each so many seconds if that is wanted, and which file
+/// ended a run.
 #[derive(Drop)]
 pub struct TerminalProgress<'c, C, T> {
     clock: &'c C,
     terminal: Option<T>,
+    // What gets whole lines instead of the terminal, and the time between two of progress.
+    lines: Option<T>,
+    every: Option<Duration>,
     end: u64,
+    // The virtual time of the last commit, in ticks.
+    time: u64,
     // The first commit of the run, and the commit since which the next rates are measured.
     first: Option<Mark>,
     last: Option<Mark>,
@@ -105,10 +122,22 @@ impl Totals {
 impl<'c, C: Clock, T: Write> TerminalProgress<'c, C, T> {
     /// Shows progress on this terminal, if there is one.
     pub fn on(clock: &'c C, terminal: Option<T>) -> TerminalProgress<'c, C, T> {
+        TerminalProgress::to(clock, terminal, None)
+    }
+
+    /// Writes lines of progress to `lines`, which is no terminal, once `every` asks for them.
+    pub fn in_lines(clock: &'c C, lines: T) -> TerminalProgress<'c, C, T> {
+        TerminalProgress::to(clock, None, Some(lines))
+    }
+
+    fn to(clock: &'c C, terminal: Option<T>, lines: Option<T>) -> TerminalProgress<'c, C, T> {
         TerminalProgress {
             clock,
             terminal,
+            lines,
+            every: None,
             end: 0,
+            time: 0,
             first: None,
             last: None,
             used: 0,
@@ -118,13 +147,93 @@ impl<'c, C: Clock, T: Write> TerminalProgress<'c, C, T> {
         }
     }
 
-    /// Writes the progress at the commit `now`, with rates since `last` and the time left by the
-    /// pace since `first`. It is one line of at most 79 columns; what does not fit is left out.
-    fn show(&mut self, first: Mark, last: Mark, now: Mark) {
-        let Some(terminal) = &mut self.terminal else {
+    /// The time between two lines of progress; none if there are no such lines.
+    fn pause(&self) -> Option<Duration> {
+        match self.terminal {
+            Some(_) => Some(Duration::from_millis(500)),
+            None => self.every,
+        }
+    }
+
+    /// Notes the time, after a commit or a turn, and shows the progress if it is time for that. At
+    /// the end of a run removes what is shown, since its output comes next.
+    fn note(&mut self, is_over: bool) {
+        let Some(pause) = self.pause() else {
             return;
         };
-        let end = self.end;
+        let Ok(at) = self.clock.monotonic() else {
+            return;
+        };
+        let now = Mark {
+            at,
+            time: self.time,
+            events: self.totals.events,
+            antimessages: self.totals.antimessages,
+        };
+        let first = self.first.unwrap_or(now);
+        let last = self.last.unwrap_or(now);
+        self.first = Some(first);
+        if is_over {
+            self.clear();
+            self.last = Some(now);
+        } else if at.saturating_sub(last.at) < pause {
+            self.last = Some(last);
+        } else {
+            self.show(first, last, now);
+            self.last = Some(now);
+        }
+    }
+
+    /// Shows the progress at the moment `now`, with rates since `last` and the time left by the pace
+    /// since `first`.
+    fn show(&mut self, first: Mark, last: Mark, now: Mark) {
+        let line = Line {
+            first,
+            last,
+            now,
+            end: self.end,
+            used: self.used,
+            sectors: self.sectors,
+            totals: self.totals,
+        };
+        if let Some(terminal) = &mut self.terminal {
+            let _ = terminal.write_all(b"\r");
+            line.write(COLUMNS, terminal);
+            let _ = terminal.write_all(b"\x1b[K");
+            let _ = terminal.flush();
+            self.is_written = true;
+        } else if let Some(lines) = &mut self.lines {
+            line.write(usize::MAX, lines);
+            let _ = lines.write_all(b"\n");
+            let _ = lines.flush();
+        }
+    }
+}
+
+/// What a line of progress says.
+#[derive(Clone, Copy)]
+struct Line {
+    first: Mark,
+    last: Mark,
+    now: Mark,
+    end: u64,
+    used: u64,
+    sectors: u64,
+    totals: Totals,
+}
+
+impl Line {
+    /// Writes the line without its end. Leaves out what does not fit in `most` columns.
+    fn write<T: Write>(&self, most: usize, out: &mut T) {
+        let Line {
+            first,
+            last,
+            now,
+            end,
+            used,
+            sectors,
+            totals,
+        } = *self;
         let past = now.at.saturating_sub(last.at).as_millis().max(1);
         let percent = u128::from(now.time) * 100 / u128::from(end.max(1));
         let events = now.events;
@@ -133,36 +242,34 @@ impl<'c, C: Clock, T: Write> TerminalProgress<'c, C, T> {
         for number in [percent, events as u128, rate] {
             columns = columns.saturating_add(digits(number));
         }
-        let _ = write!(terminal, "\r{percent}%, {events} events ({rate}/s)");
+        let _ = write!(out, "{percent}%, {events} events ({rate}/s)");
         if let Some(left) = seconds_left(first, now, end) {
             columns = columns.saturating_add(10).saturating_add(digits(left));
-            if columns <= COLUMNS {
-                let _ = write!(terminal, ", {left} s to go");
+            if columns <= most {
+                let _ = write!(out, ", {left} s to go");
             }
         }
-        if let Some(efficiency) = self.totals.efficiency() {
+        if let Some(efficiency) = totals.efficiency() {
             columns = columns
                 .saturating_add(14)
                 .saturating_add(digits(efficiency));
-            if columns <= COLUMNS {
-                let _ = write!(terminal, ", efficiency {efficiency}%");
+            if columns <= most {
+                let _ = write!(out, ", efficiency {efficiency}%");
             }
         }
-        if self.sectors > 0 {
-            let full = u128::from(self.used) * 100 / u128::from(self.sectors);
+        if sectors > 0 {
+            let full = u128::from(used) * 100 / u128::from(sectors);
             columns = columns.saturating_add(13).saturating_add(digits(full));
-            if columns <= COLUMNS {
-                let _ = write!(terminal, ", disk {full}% full");
+            if columns <= most {
+                let _ = write!(out, ", disk {full}% full");
             }
         }
         let undone = now.antimessages.saturating_sub(last.antimessages);
         let undone = per_second(u128::from(undone), past);
         columns = columns.saturating_add(17).saturating_add(digits(undone));
-        if columns <= COLUMNS {
-            let _ = write!(terminal, ", {undone} antimessages/s");
+        if columns <= most {
+            let _ = write!(out, ", {undone} antimessages/s");
         }
-        let _ = terminal.write_all(b"\x1b[K");
-        let _ = terminal.flush();
     }
 }
 
@@ -207,6 +314,18 @@ impl<C: Clock, T: Write> Progress for TerminalProgress<'_, C, T> {
         self.end = end;
     }
 
+    fn every(&mut self, seconds: u32) {
+        self.every = Some(Duration::from_secs(u64::from(seconds)));
+    }
+
+    fn opened(&mut self, time: u64, events: usize) {
+        self.time = time;
+        self.totals.events = events;
+        if self.terminal.is_none() {
+            self.note(false);
+        }
+    }
+
     fn waiting(&mut self, nodes: &[usize]) {
         if nodes.is_empty() {
             self.clear();
@@ -232,34 +351,8 @@ impl<C: Clock, T: Write> Progress for TerminalProgress<'_, C, T> {
     fn committed(&mut self, time: u64, events: usize) {
         self.totals.commits = self.totals.commits.saturating_add(1);
         self.totals.events = events;
-        if self.terminal.is_none() {
-            return;
-        }
-        let Ok(at) = self.clock.monotonic() else {
-            return;
-        };
-        let now = Mark {
-            at,
-            time,
-            events,
-            antimessages: self.totals.antimessages,
-        };
-        let first = self.first.unwrap_or(now);
-        let last = self.last.unwrap_or(now);
-        self.first = Some(first);
-        if time >= self.end {
-            // the run is over, and its output comes next
-            self.clear();
-            self.last = Some(now);
-            return;
-        }
-        if at.saturating_sub(last.at) < Duration::from_millis(500) {
-            self.last = Some(last);
-            return;
-        }
-        self.show(first, last, now);
-        self.last = Some(now);
-        self.is_written = true;
+        self.time = time;
+        self.note(time >= self.end);
     }
 
     fn stored(&mut self, used: u32, sectors: u32) {
@@ -272,6 +365,9 @@ impl<C: Clock, T: Write> Progress for TerminalProgress<'_, C, T> {
         totals.handled = totals.handled.saturating_add(turn.handled);
         totals.reported = totals.reported.saturating_add(turn.reported);
         totals.antimessages = totals.antimessages.saturating_add(turn.antimessages);
+        if self.terminal.is_none() {
+            self.note(false);
+        }
     }
 
     fn clear(&mut self) {
@@ -312,6 +408,15 @@ impl<C: Clock, T: Write> Progress for TerminalProgress<'_, C, T> {
         let (used, sectors) = (self.used, self.sectors);
         if sectors > 0 {
             let _ = writeln!(terminal, "{used} of {sectors} sectors of the disk are used");
+        }
+    }
+
+    fn stopped(&mut self, file: &str) {
+        self.clear();
+        if let Some(terminal) = &mut self.terminal {
+            let _ = writeln!(terminal, "stopped at {file}");
+        } else if let Some(lines) = &mut self.lines {
+            let _ = writeln!(lines, "stopped at {file}");
         }
     }
 

@@ -2,8 +2,8 @@
 
 use clap::error::ErrorKind;
 use cli::{
-    BatchOption, Command, DiskArgs, DrawArgs, GrowArgs, LogArgs, MigrateArgs, ModelArgs, NewArgs,
-    NodeArgs, RunArgs, SourceArgs, StatsArgs, Texts, read_command,
+    BatchOption, Command, DiskArgs, DrawArgs, GrowArgs, Hint, LogArgs, MigrateArgs, ModelArgs,
+    NewArgs, NodeArgs, RunArgs, SourceArgs, StatsArgs, Texts, hint_of, read_command, says_advice,
 };
 use std::alloc::Global;
 
@@ -68,6 +68,10 @@ const RUN: RunArgs<'static> = RunArgs {
     together: false,
     attach: false,
     trace: None,
+    stop_file: None,
+    progress: None,
+    create: false,
+    sectors: 4096,
 };
 
 /// `log` without options.
@@ -89,7 +93,44 @@ const DRAW: DrawArgs<'static> = DrawArgs {
 };
 
 /// Words, and the command that they give.
-const READ: [(&[&str], Command<'static>); 37] = [
+const READ: [(&[&str], Command<'static>); 46] = [
+    (
+        &["timewarp", "draw", "a", "--load", "--from=5", "--to=5"],
+        Command::Draw(DrawArgs {
+            load: true,
+            from: Some(5),
+            to: Some(5),
+            ..DRAW
+        }),
+    ),
+    (
+        &["timewarp", "seq", "--advice", "a"],
+        Command::Seq(ModelArgs { model: "a" }),
+    ),
+    (
+        &["timewarp", "node", "a", "b", "--advice"],
+        Command::Node(NodeArgs {
+            model: "a",
+            socket: "b",
+            parcels: 4_294_967_295,
+        }),
+    ),
+    (
+        &["timewarp", "run", "a", "b", "--attach", "--sockets", "c"],
+        Command::Run(RunArgs {
+            attach: true,
+            sockets: Some("c"),
+            ..RUN
+        }),
+    ),
+    // Without a folder of sockets there is no node program to cut short.
+    (
+        &["timewarp", "run", "a", "b", "--cut", "1"],
+        Command::Run(RunArgs {
+            cut: Some(1),
+            ..RUN
+        }),
+    ),
     (
         &["timewarp", "seq", "examples/ring.toml"],
         Command::Seq(ModelArgs {
@@ -120,7 +161,9 @@ const READ: [(&[&str], Command<'static>); 37] = [
             ..LOG
         }),
     ),
+    (&["timewarp", "reopen", "a", "b"], Command::Reopen(ON)),
     (&["timewarp", "status", "a", "b"], Command::Status(ON)),
+    (&["timewarp", "verify", "a", "b"], Command::Verify(ON)),
     (
         &["timewarp", "stats", "a"],
         Command::Stats(StatsArgs { of: OF, csv: false }),
@@ -141,7 +184,6 @@ const READ: [(&[&str], Command<'static>); 37] = [
             "3..3",
             "a",
             "b",
-            "--load",
             "--trace=t",
             "--from=5",
             "--to",
@@ -152,7 +194,7 @@ const READ: [(&[&str], Command<'static>); 37] = [
             from: Some(5),
             to: Some(9),
             processes: Some((3, 3)),
-            load: true,
+            load: false,
             trace: Some("t"),
         }),
     ),
@@ -241,6 +283,44 @@ const READ: [(&[&str], Command<'static>); 37] = [
             batch: BatchOption::Auto,
             commit_every: Some(400_000),
             trace: Some("c"),
+            ..RUN
+        }),
+    ),
+    (
+        &[
+            "timewarp",
+            "run",
+            "--stop-file=s",
+            "a",
+            "b",
+            "--progress",
+            "86400",
+            "--sectors=8",
+            "--create",
+        ],
+        Command::Run(RunArgs {
+            stop_file: Some("s"),
+            progress: Some(86_400),
+            create: true,
+            sectors: 8,
+            ..RUN
+        }),
+    ),
+    (
+        &[
+            "timewarp",
+            "run",
+            "a",
+            "b",
+            "--large",
+            "--create",
+            "--sectors",
+            "16777216",
+        ],
+        Command::Run(RunArgs {
+            on: LARGE,
+            create: true,
+            sectors: 16_777_216,
             ..RUN
         }),
     ),
@@ -405,7 +485,62 @@ fn words_give_a_command_and_its_values(rt: HostRuntime) {
 }
 
 /// Words that are refused, and the kind of the error.
-const REFUSED: [(&[&str], ErrorKind); 51] = [
+const REFUSED: [(&[&str], ErrorKind); 69] = [
+    // No path is empty.
+    (&["timewarp", "seq", ""], ErrorKind::InvalidValue),
+    (&["timewarp", "new", "a", ""], ErrorKind::InvalidValue),
+    (
+        &["timewarp", "migrate", "a", "b", ""],
+        ErrorKind::InvalidValue,
+    ),
+    (&["timewarp", "node", "a", ""], ErrorKind::InvalidValue),
+    (&["timewarp", "draw", "a", ""], ErrorKind::InvalidValue),
+    (
+        &["timewarp", "run", "a", "b", "--sockets", ""],
+        ErrorKind::InvalidValue,
+    ),
+    (
+        &["timewarp", "run", "a", "b", "--trace="],
+        ErrorKind::InvalidValue,
+    ),
+    // Options that do not go together.
+    (
+        &["timewarp", "run", "a", "b", "--attach"],
+        ErrorKind::MissingRequiredArgument,
+    ),
+    (
+        &["timewarp", "draw", "a", "--load", "--trace", "t"],
+        ErrorKind::ArgumentConflict,
+    ),
+    (
+        &["timewarp", "log", "a", "b", "--from", "5", "--to", "4"],
+        ErrorKind::ValueValidation,
+    ),
+    (
+        &["timewarp", "draw", "a", "--from=200", "--to=100"],
+        ErrorKind::ValueValidation,
+    ),
+    (
+        &["timewarp", "log", "a", "b", "--to=0", "--from=1"],
+        ErrorKind::ValueValidation,
+    ),
+    // Advice is a flag of the commands.
+    (
+        &["timewarp", "--advice", "seq", "a"],
+        ErrorKind::UnknownArgument,
+    ),
+    (
+        &["timewarp", "seq", "a", "--advice=1"],
+        ErrorKind::TooManyValues,
+    ),
+    (
+        &["timewarp", "seq", "a", "--advice", "--advice"],
+        ErrorKind::ArgumentConflict,
+    ),
+    (
+        &["timewarp", "log", "a", "b", "--from", "-1"],
+        ErrorKind::UnknownArgument,
+    ),
     (&["timewarp", "seq"], ErrorKind::MissingRequiredArgument),
     (&["timewarp", "seq", "a", "b"], ErrorKind::UnknownArgument),
     (
@@ -426,6 +561,14 @@ const REFUSED: [(&[&str], ErrorKind); 51] = [
     ),
     (
         &["timewarp", "run", "a", "b", "--checkpoint=1000001"],
+        ErrorKind::ValueValidation,
+    ),
+    (
+        &["timewarp", "run", "a", "b", "--progress", "0"],
+        ErrorKind::ValueValidation,
+    ),
+    (
+        &["timewarp", "run", "a", "b", "--progress=86401"],
         ErrorKind::ValueValidation,
     ),
     (
@@ -627,6 +770,83 @@ const REFUSED: [(&[&str], ErrorKind); 51] = [
 fn wrong_words_are_refused_with_the_kind_of_mistake(rt: HostRuntime) {
     for (words, kind) in REFUSED {
         assert!(rt; is_refused_as(rt.alloc(), words, kind), "{words:?}");
+    }
+}
+
+/// Words that are refused, and what to write in place of one.
+const HINTED: [(&[&str], Option<Hint>); 14] = [
+    (
+        &["timewarp", "run", "a", "b", "--batch", "atuo"],
+        Some(Hint::Batch),
+    ),
+    (
+        &["timewarp", "run", "a", "b", "--batch=0"],
+        Some(Hint::Batch),
+    ),
+    (
+        &["timewarp", "run", "a", "b", "--batch", "-1"],
+        Some(Hint::Batch),
+    ),
+    (
+        &["timewarp", "new", "a", "b", "--sectors", "200000"],
+        Some(Hint::Large),
+    ),
+    (
+        &["timewarp", "grow", "a", "b", "--sectors=131073"],
+        Some(Hint::Large),
+    ),
+    (&["timewarp", "new", "a", "b", "--sectors", "131072"], None),
+    (
+        &["timewarp", "new", "a", "b", "--sectors", "16777217"],
+        None,
+    ),
+    (
+        &[
+            "timewarp",
+            "new",
+            "a",
+            "b",
+            "--sectors",
+            "200000",
+            "--large",
+        ],
+        None,
+    ),
+    (
+        &["timewarp", "log", "a", "b", "--from", "-1"],
+        Some(Hint::Negative("from")),
+    ),
+    (
+        &["timewarp", "run", "a", "b", "--nodes=-2"],
+        Some(Hint::Negative("nodes")),
+    ),
+    (&["timewarp", "run", "a", "b", "--trace", "-1"], None),
+    (&["timewarp", "log", "a", "b", "--", "--from", "-1"], None),
+    (&["timewarp", "seq"], None),
+    (&[], None),
+];
+
+#[test]
+fn refused_words_get_a_hint(rt: HostRuntime) {
+    for (words, expected) in HINTED {
+        assert!(rt; hint_of(words) == expected, "{words:?}");
+    }
+}
+
+/// Words, and whether they ask for advice.
+const ADVISED: [(&[&str], bool); 6] = [
+    (&["timewarp", "seq", "a", "--advice"], true),
+    (&["timewarp", "seq", "--advice", "a"], true),
+    (&["timewarp", "new", "--advice"], true),
+    (&["timewarp", "seq", "--", "--advice"], false),
+    (&["--advice", "seq", "a"], false),
+    (&[], false),
+];
+
+#[test]
+fn words_ask_for_advice_before_two_hyphens(rt: HostRuntime) {
+    for (words, expected) in ADVISED {
+        assert!(rt; says_advice(words) == expected, "{words:?}");
     }
 }
 

@@ -8,8 +8,7 @@ use disk::{
     SectorDisk,
 };
 use std::fs::{File, Permissions};
-use std::io::Write;
-use std::os::unix::fs::PermissionsExt;
+use std::os::unix::fs::{MetadataExt, PermissionsExt, symlink};
 use std::path::PathBuf;
 use std::test::Fail;
 use std::{fs, io};
@@ -139,29 +138,140 @@ fn refused_folder(rt: &HostRuntime) -> io::Result<Option<FileFault>> {
     Ok(refusal(rt, &std::env::temp_dir(rt)?, Some(8)))
 }
 
-/// Leaves an unfinished file of this size, and makes the disk. Returns whether the disk is blank,
-/// and whether the unfinished file still exists.
+/// Leaves an unfinished file of zeros of this size, and makes the disk. Returns whether the disk is
+/// blank, and whether the unfinished file still exists.
 fn made_after(rt: &HostRuntime, path: &PathBuf, left: u64) -> Result<(bool, bool), Fail> {
     let unfinished = unfinished_path(rt, path)?;
-    leave(rt, &unfinished, left)?;
+    make_file(rt, &unfinished, left)?;
     let (_sectors, blank) = found(rt, path, Some(8), &[(0, 0), (7, 0)])?;
     Ok((blank, fs::exists(rt, unfinished.as_path())?))
 }
 
-/// Makes a file of this size that starts with 100 sevens; the rest is zeros.
-fn leave(rt: &HostRuntime, path: &PathBuf, bytes: u64) -> io::Result<()> {
-    let mut file = File::create(rt, path.as_path())?;
-    file.write_all(&[7; 100])?;
-    file.set_len(bytes)
-}
-
 #[test]
-fn an_unfinished_disk_of_a_killed_program_is_replaced(rt: HostRuntime) -> Result<(), Fail> {
+fn an_unfinished_disk_of_a_killed_program_is_taken_over(rt: HostRuntime) -> Result<(), Fail> {
     let path = free_path(&rt, "unfinished")?;
-    for left in [0, 100, 9 * 512] {
+    for left in [0, 512, 9 * 512] {
         assert_eq!(rt; made_after(&rt, &path, left)?, (true, false));
         remove(&rt, &path)?;
     }
+    Ok(())
+}
+
+/// A file that has the name of an unfinished one, and is none.
+#[derive(Clone, Copy)]
+enum Taken {
+    /// It has 512 bytes, this one first, and zeros.
+    Bytes(u8),
+    /// It has so many zeros.
+    Zeros(u64),
+    /// It is a second name of a file of zeros.
+    Linked,
+    /// It is a symbolic link to a file of zeros.
+    LinkedByName,
+    /// It is a folder.
+    Folder,
+}
+
+const TAKEN: [Taken; 5] = [
+    Taken::Bytes(7),
+    Taken::Zeros(700),
+    Taken::Linked,
+    Taken::LinkedByName,
+    Taken::Folder,
+];
+
+/// Makes such a file at the path. What it is another name of is at `other`.
+fn take_name(rt: &HostRuntime, path: &str, other: &PathBuf, taken: Taken) -> io::Result<()> {
+    make_file(rt, other, 512)?;
+    match taken {
+        Taken::Bytes(byte) => {
+            let mut sector = [0; 512];
+            sector[0] = byte;
+            fs::write(rt, path, sector.as_slice())
+        }
+        Taken::Zeros(bytes) => File::create(rt, path)?.set_len(bytes),
+        Taken::Linked => fs::hard_link(rt, other.as_path(), path),
+        Taken::LinkedByName => symlink(rt, other.as_path(), path),
+        Taken::Folder => fs::create_dir(rt, path),
+    }
+}
+
+/// What the name of the unfinished file has: its size, its names, and whether it is a link.
+fn held(rt: &HostRuntime, path: &str) -> io::Result<(u64, u64, bool)> {
+    let found = fs::symlink_metadata(rt, path)?;
+    Ok((found.len(), found.nlink(), found.is_symlink()))
+}
+
+/// Why no disk is made while the name of its unfinished file is taken, and whether the file that
+/// has it stays as it is, the disk does not exist, and the other file has its size.
+fn refused_beside(
+    rt: &HostRuntime,
+    path: &PathBuf,
+    other: &PathBuf,
+    taken: Taken,
+) -> Result<(Option<FileFault>, [bool; 3]), Fail> {
+    let unfinished = unfinished_path(rt, path)?;
+    take_name(rt, unfinished.as_str(), other, taken)?;
+    let before = held(rt, unfinished.as_str())?;
+    let fault = refusal(rt, path, Some(8));
+    let same = before == held(rt, unfinished.as_str())?;
+    let kept = [
+        same,
+        !fs::exists(rt, path.as_path())?,
+        size_of(rt, other)? == 512,
+    ];
+    if matches!(taken, Taken::Folder) {
+        fs::remove_dir(rt, unfinished.as_path())?;
+    } else {
+        remove(rt, &unfinished)?;
+    }
+    Ok((fault, kept))
+}
+
+#[test]
+fn a_file_of_somebody_else_is_never_taken_over(rt: HostRuntime) -> Result<(), Fail> {
+    let path = free_path(&rt, "taken")?;
+    let other = free_path(&rt, "precious")?;
+    for taken in TAKEN {
+        let met = refused_beside(&rt, &path, &other, taken)?;
+        assert_eq!(rt; met, (Some(FileFault::File), [true; 3]));
+    }
+    remove(&rt, &other)?;
+    Ok(())
+}
+
+/// Gives a disk the name of its unfinished file too, as a program leaves it that is killed between
+/// two calls, and opens it. Returns whether it is as before, and whether it still has that name.
+fn found_twice(rt: &HostRuntime, path: &PathBuf) -> Result<(bool, bool), Fail> {
+    let unfinished = unfinished_path(rt, path)?;
+    store(&mut opened(rt, path, Some(8))?, &[(3, 3)])?;
+    fs::hard_link(rt, path.as_path(), unfinished.as_path())?;
+    let (_sectors, same) = found(rt, path, Some(8), &[(0, 0), (3, 3)])?;
+    Ok((same, fs::exists(rt, unfinished.as_path())?))
+}
+
+#[test]
+fn a_disk_keeps_no_second_name(rt: HostRuntime) -> Result<(), Fail> {
+    let path = free_path(&rt, "twice")?;
+    assert_eq!(rt; found_twice(&rt, &path)?, (true, false));
+    remove(&rt, &path)?;
+    Ok(())
+}
+
+/// Why no disk is made where a link leads to no file, and whether the link is still there.
+fn refused_dangling(rt: &HostRuntime, path: &PathBuf) -> Result<(Option<FileFault>, bool), Fail> {
+    symlink(rt, "nothing-of-this-name", path.as_path())?;
+    let fault = refusal(rt, path, Some(8));
+    let kept = fs::symlink_metadata(rt, path.as_path())?.is_symlink();
+    remove(rt, path)?;
+    Ok((fault, kept))
+}
+
+#[test]
+fn a_link_that_leads_nowhere_stays(rt: HostRuntime) -> Result<(), Fail> {
+    let path = free_path(&rt, "dangling")?;
+    let refused = (Some(FileFault::File), true);
+    assert_eq!(rt; refused_dangling(&rt, &path)?, refused);
     Ok(())
 }
 

@@ -102,8 +102,7 @@ fn a_run_is_inspected(rt: HostRuntime) -> Result<(), Fail> {
     let text = "virtual time 10 of 10 ticks, 100 percent\n\
         events 5, 922 bytes of disk an event\n\
         records 3, of them 0 checkpoints and 0 ends\n\
-        sectors 9 used of 64, 55 free\n\
-        room to the end at the pace of the last 3 commits\n";
+        sectors 9 used of 64, 55 free\n";
     let disk = run_on(rt.alloc(), new_disk(rt.alloc(), 64)?, 0);
     assert!(rt; is_shown_as(rt.alloc(), disk, END, text)?);
     Ok(())
@@ -114,8 +113,7 @@ fn a_run_with_a_checkpoint_is_inspected(rt: HostRuntime) -> Result<(), Fail> {
     let text = "virtual time 10 of 10 ticks, 100 percent\n\
         events 5, 1127 bytes of disk an event\n\
         records 4, of them 1 checkpoints (the last at 10 ticks) and 0 ends\n\
-        sectors 11 used of 11, 0 free\n\
-        room to the end at the pace of the last 3 commits\n";
+        sectors 11 used of 11, 0 free\n";
     let disk = run_on(rt.alloc(), new_disk(rt.alloc(), 11)?, 3);
     assert!(rt; is_shown_as(rt.alloc(), disk, END, text)?);
     Ok(())

@@ -41,6 +41,26 @@ fn an_inspection_estimates_when_a_disk_is_full(rt: HostRuntime) -> Result<(), Fa
     Ok(())
 }
 
+// At its end, and past it, a run has no pace; one tick before it has.
+#[test]
+fn a_run_at_its_end_has_no_pace(rt: HostRuntime) -> Result<(), Fail> {
+    let mut shown = shown();
+    shown.time = 1000;
+    let text = "virtual time 1000 of 1000 ticks, 100 percent\n\
+        events 7, 4462 bytes of disk an event\n\
+        records 31, of them 2 checkpoints (the last at 90 ticks) and 1 ends\n\
+        sectors 61 used of 100, 39 free\n";
+    assert!(rt; is_written(rt.alloc(), &shown, text)?);
+    shown.time = 999;
+    let text = "virtual time 999 of 1000 ticks, 99 percent\n\
+        events 7, 4462 bytes of disk an event\n\
+        records 31, of them 2 checkpoints (the last at 90 ticks) and 1 ends\n\
+        sectors 61 used of 100, 39 free\n\
+        room to the end at the pace of the last 10 commits\n";
+    assert!(rt; is_written(rt.alloc(), &shown, text)?);
+    Ok(())
+}
+
 #[test]
 fn percentages_are_rounded_down(rt: HostRuntime) -> Result<(), Fail> {
     let mut shown = shown();
@@ -66,8 +86,7 @@ fn large_numbers_are_written(rt: HostRuntime) -> Result<(), Fail> {
     let text = "virtual time 18446744073709551615 of 1 ticks, 18446744073709551615 percent\n\
         events 1, 18446744073709551615 bytes of disk an event\n\
         records 31, of them 2 checkpoints (the last at 90 ticks) and 1 ends\n\
-        sectors 18446744073709551615 used of 18446744073709551615, 0 free\n\
-        room to the end at the pace of the last 10 commits\n";
+        sectors 18446744073709551615 used of 18446744073709551615, 0 free\n";
     assert!(rt; is_written(rt.alloc(), &shown, text)?);
     Ok(())
 }

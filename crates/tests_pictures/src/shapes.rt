@@ -157,11 +157,16 @@ fn a_picture_shows_the_first_events_and_processes(rt: HostRuntime) -> Result<(),
 
 /// Heat maps of a ring up to a time: the number of rectangles plus one, and a part: the deepest
 /// count, or a cell with one event, with two, or without.
-const LOADS: [(u64, usize, &str); 7] = [
+const LOADS: [(u64, usize, &str); 8] = [
     (
         12,
         37,
-        "y=\"24\">deepest: 1 events of a process in one of 12 slices</text>",
+        "<title>Events a process, virtual time 0 to 11</title>",
+    ),
+    (
+        12,
+        37,
+        "y=\"24\">deepest: 1 events of a process in one of 12 slices; 3 of 3 processes, from process 0</text>",
     ),
     (
         12,
@@ -181,7 +186,7 @@ const LOADS: [(u64, usize, &str); 7] = [
     (
         640,
         193,
-        "y=\"24\">deepest: 2 events of a process in one of 64 slices</text>",
+        "y=\"24\">deepest: 2 events of a process in one of 64 slices; 3 of 3 processes, from process 0</text>",
     ),
     (
         640,

@@ -20,6 +20,7 @@ use std::fmt::Display;
 use std::process::Abort;
 use std::test::Fail;
 use texts::{Mistake, ModelFault};
+use upkeep::{ReopenFault, VerifyFault};
 use wire::{PortFault, WireFault};
 
 /// Checks that each fault is printed as the text beside it.
@@ -155,6 +156,17 @@ fn disk_and_log_faults_have_names(rt: HostRuntime) -> Result<(), Fail> {
         Recovery(RecoveryFault::OtherModel) => "Recovery OtherModel",
         Record { number: 0, fault: RecoveryFault::GoesBack } => "Record 0 GoesBack",
     });
+    check_names!(rt; VerifyFault {
+        Log(LogFault::NotFormatted) => "Log NotFormatted",
+        Recovery(RecoveryFault::OtherModel) => "Recovery OtherModel",
+        Record { number: 0, fault: RecoveryFault::GoesBack } => "Record 0 GoesBack",
+    });
+    check_names!(rt; ReopenFault {
+        NotShut => "NotShut",
+        Behind(VerifyFault::Log(LogFault::Full)) => "Log Full",
+        Disk(DiskFault::Device) => "Disk Device",
+        NoMemory => "NoMemory",
+    });
     check_names!(rt; GrowingFault {
         Recovery(RecoveryFault::OtherModel) => "OtherModel",
         Growth(GrowthFault::Device) => "Device",
@@ -187,6 +199,7 @@ fn session_and_run_faults_have_names(rt: HostRuntime) -> Result<(), Fail> {
     check_names!(rt; RunFault {
         Session(SessionFault::Full) => "Session Full",
         Rounds => "Rounds",
+        Stopped { time: 7, events: 3 } => "Stopped",
         NoMemory => "NoMemory",
     });
     Ok(())
@@ -218,6 +231,7 @@ fn command_and_program_faults_have_names(rt: HostRuntime) -> Result<(), Fail> {
         Recovery(RecoveryFault::GoesBack) => "Recovery GoesBack",
         Session(SessionFault::Disk) => "Session Disk",
         Rounds => "Rounds",
+        Stopped { time: 7, events: 3 } => "Stopped",
         Migrate(MigrateFault::NotEmpty) => "Migrate NotEmpty",
         Output => "Output",
     });
@@ -227,6 +241,7 @@ fn command_and_program_faults_have_names(rt: HostRuntime) -> Result<(), Fail> {
         Recovery(RecoveryFault::GoesBack) => "Recovery GoesBack",
         Session(SessionFault::Disk) => "Session Disk",
         Rounds => "Rounds",
+        Stopped => "Stopped",
         World(WorldFault::NumberLimit) => "World NumberLimit",
         NoMemory => "NoMemory",
         Output => "Output",
@@ -240,11 +255,15 @@ fn command_and_program_faults_have_names(rt: HostRuntime) -> Result<(), Fail> {
         Session(SessionFault::Full) => "Session Full",
         Wire(WireFault::BadKind) => "Wire BadKind",
         Rounds => "Rounds",
+        Stopped => "Stopped",
         Migrate(MigrateFault::Old(RecoveryFault::BadEnd)) => "Migrate Old BadEnd",
         Grow(GrowthFault::Fewer) => "Grow Fewer",
+        Shut => "Shut",
+        Reopen(ReopenFault::NotShut) => "Reopen NotShut",
         Record { number: 7, fault: RecoveryFault::BadRecord } => "Record 7 BadRecord",
         BadTrace => "BadTrace",
         Mistake(Mistake::Missing("hold")) => "hold: missing",
+        NoSuchProcess { processes: 3 } => "NoSuchProcess",
         NoMemory => "NoMemory",
         Output => "Output",
     });

@@ -146,6 +146,63 @@ fn antimessages_are_shown_if_there_is_room(rt: HostRuntime) -> Result<(), Fail> 
     Ok(())
 }
 
+/// The lines of a run of 2.2 seconds by the clock, one for each second.
+const LINES: &[u8] = b"\
+    20%, 60 events (30/s), 8 s to go, efficiency 75%, disk 4% full, 8 antimessages/s\n\
+    20%, 60 events (0/s), 16 s to go, efficiency 75%, disk 4% full, 8 antimessages/s\n\
+    stopped at halt\n";
+
+#[test]
+fn lines_of_progress_are_printed_where_there_is_no_terminal(rt: HostRuntime) -> Result<(), Fail> {
+    for (seconds, lines) in [(0, b"stopped at halt\n".as_slice()), (1, LINES)] {
+        let clock = Ticking {
+            looks: std::cell::Cell::new(0),
+        };
+        let mut err = Vec::with_capacity(rt.alloc(), 512)?;
+        let mut shown = TerminalProgress::in_lines(&clock, &mut err);
+        if seconds > 0 {
+            shown.every(seconds);
+        }
+        shown.begin(1000);
+        shown.stored(2, 64);
+        shown.opened(100, 30);
+        for _ in 0..2 {
+            for _ in 0..3 {
+                shown.turned(&turn(40, 30, 2));
+            }
+            shown.committed(200, 60);
+            shown.turned(&turn(40, 30, 2));
+        }
+        shown.committed(400, 90);
+        shown.waiting(&[]);
+        shown.stopped("halt");
+        shown.failed(Fault::Rounds.advice(), None);
+        assert_eq!(rt; err.as_slice(), lines, "{seconds}");
+    }
+    Ok(())
+}
+
+#[test]
+fn a_terminal_shows_which_file_ended_a_run(rt: HostRuntime) -> Result<(), Fail> {
+    let clock = Ticking {
+        looks: std::cell::Cell::new(0),
+    };
+    let mut terminal = Vec::with_capacity(rt.alloc(), 512)?;
+    let mut shown = TerminalProgress::on(&clock, Some(&mut terminal));
+    shown.every(1);
+    shown.begin(9);
+    shown.opened(0, 0);
+    for _ in 0..4 {
+        shown.committed(1, 1);
+    }
+    shown.stopped("halt");
+    assert_eq!(rt;
+        terminal.as_slice(),
+        b"\r11%, 1 events (0/s), 0 antimessages/s\x1b[K\r\x1b[Kstopped at halt\n".as_slice()
+    );
+    Ok(())
+}
+
 /// Event counts and the lines that show them: one of full width, and one that leaves out a part
 /// that would make it a column wider.
 const WIDEST: [(usize, &[u8]); 2] = [
@@ -191,12 +248,16 @@ fn advice(rt: &HostRuntime, fault: Fault) -> Vec<u8> {
 
 const MEMORY: &str = "with more memory, or take a smaller model\n";
 
-const DEVICE: &str = "see that its device has room and works; what is committed stays\n";
+const DEVICE: &str = "is below the disk's (`ulimit -f`); what is committed stays\n";
 
 const DAMAGED: &str = "the disk is damaged: `status` says at which record\n";
 
 /// Faults, and the end of the line after each.
-const ADVICE: [(Fault, &str); 22] = [
+const ADVICE: [(Fault, &str); 23] = [
+    (
+        Fault::NoSuchProcess { processes: 3 },
+        "the model has fewer processes\n",
+    ),
     (Fault::BadModel, "what is wrong with the model file\n"),
     (
         Fault::File,
@@ -221,7 +282,8 @@ const ADVICE: [(Fault, &str); 22] = [
     (
         Fault::Session(SessionFault::Full),
         "the disk has no room for the next commit: what is committed stays; `grow` makes the disk \
-         longer, and --commit-every takes fewer commits\n",
+         longer, of 131072 sectors if no number is given, and then `run` goes on; with \
+         --commit-every 4096 commits take less room\n",
     ),
     (
         Fault::Session(SessionFault::TooLong),

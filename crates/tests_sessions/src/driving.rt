@@ -12,11 +12,14 @@ use std::alloc::Global;
 use std::test::Fail;
 
 /// The commits that a run reported: their number, and the time and the event count of the last one.
+/// Asks for a stop before the round of this number and each later one; 0 for no stop.
 #[derive(Drop)]
 struct Seen {
     commits: u32,
     time: u64,
     events: usize,
+    rounds: u32,
+    stop_before: u32,
 }
 
 impl Seen {
@@ -25,6 +28,15 @@ impl Seen {
             commits: 0,
             time: 0,
             events: 0,
+            rounds: 0,
+            stop_before: 0,
+        }
+    }
+
+    fn stopping_before(round: u32) -> Seen {
+        Seen {
+            stop_before: round,
+            ..Seen::nothing()
         }
     }
 }
@@ -34,6 +46,11 @@ impl Watch for Seen {
         self.commits = self.commits.saturating_add(1);
         self.time = time;
         self.events = events;
+    }
+
+    fn is_stopped(&mut self) -> bool {
+        self.rounds = self.rounds.saturating_add(1);
+        self.stop_before > 0 && self.rounds >= self.stop_before
     }
 }
 
@@ -113,5 +130,73 @@ fn a_run_commits_after_a_number_of_events(rt: HostRuntime) -> Result<(), Fail> {
         assert!(rt; outcome.time == 10 && outcome.events == 5);
         assert!(rt; outcome.commits == commits, "{commit_every}");
     }
+    Ok(())
+}
+
+/// The last round of a plan commits if any event was reported, however many a commit waits for. In
+/// the first round none is reported, and in the second one three.
+#[test]
+fn the_last_round_commits_what_was_reported(rt: HostRuntime) -> Result<(), Fail> {
+    for (rounds, commit_every, commits, time, events) in [
+        (1, 0, 1, 1, 0),
+        (1, 1, 0, 0, 0),
+        (1, 400_000, 0, 0, 0),
+        (2, 0, 2, 7, 3),
+        (2, 3, 1, 7, 3),
+        (2, 4, 1, 7, 3),
+        (2, 400_000, 1, 7, 3),
+    ] {
+        let mut outcome = Seen::nothing();
+        let plan = Plan {
+            rounds,
+            commit_every,
+            ..PLAN
+        };
+        let ended = run_on(rt.alloc(), 64, plan, &mut outcome)?;
+        assert!(rt; ended.err() == Some(RunFault::Rounds));
+        assert!(rt; outcome.commits == commits, "{rounds} {commit_every}");
+        assert!(rt; outcome.time == time && outcome.events == events);
+    }
+    Ok(())
+}
+
+/// A run that is asked to stop makes the next round as its last one. It is over if that reaches the
+/// end, which the third one does.
+#[test]
+fn a_run_stops_when_it_is_asked_to(rt: HostRuntime) -> Result<(), Fail> {
+    for (stop_before, commit_every, time, events) in [
+        (1, 0, 1, 0),
+        (1, 400_000, 0, 0),
+        (2, 0, 7, 3),
+        (2, 400_000, 7, 3),
+    ] {
+        let mut outcome = Seen::stopping_before(stop_before);
+        let plan = Plan {
+            commit_every,
+            ..PLAN
+        };
+        let ended = run_on(rt.alloc(), 64, plan, &mut outcome)?;
+        assert!(rt;
+            ended.err() == Some(RunFault::Stopped { time, events }),
+            "{stop_before}"
+        );
+        assert!(rt; outcome.time == time && outcome.events == events);
+        assert!(rt; outcome.rounds == stop_before);
+    }
+    let mut outcome = Seen::stopping_before(3);
+    let ended = run_on(rt.alloc(), 64, PLAN, &mut outcome)?;
+    assert!(rt;
+        matches!(
+            ended,
+            Ok(Finished {
+                time: 10,
+                events: 5,
+                ..
+            })
+        )
+    );
+    let mut outcome = Seen::stopping_before(2);
+    let ended = run_on(rt.alloc(), 64, Plan { rounds: 2, ..PLAN }, &mut outcome)?;
+    assert!(rt; ended.err() == Some(RunFault::Rounds));
     Ok(())
 }

@@ -18,7 +18,7 @@ IsLineOf text line = (place : ℕ) × (place ≤ length text) × (line ≡ line_
 -- these are the mistakes of a text: either it is not TOML, with an error on a line of it, or these
 -- are the mistakes in its table
 abbrev pub AreMistakes : (Members → List Wrong) → List ℕ → Mistakes → Type 0
-AreMistakes wrong text (Toml line why) =
+AreMistakes wrong text (Toml line column why) =
     (IsUtf8 text → parse_document text ≡ None) × IsLineOf text line
 AreMistakes wrong text (Keys found) =
     IsUtf8 text × ((table : Members) × (parse_document text ≡ Some table) × (found ≡ wrong table))

@@ -5,10 +5,16 @@ mod any_model;
 mod findings;
 mod mistakes;
 mod model_file;
+mod printable;
+mod report;
 mod text;
 
 pub use any_model::ANY_MODEL_KEYS;
 pub use findings::{Expected, Finding, Findings, Found, found_in};
 pub use mistakes::{Mistakes, find_mistakes};
-pub use model_file::{Described, Mistake, ModelFault, number_at, only, read_model, string_at};
+pub use model_file::{
+    Described, LONGEST_MODEL_FILE, Mistake, ModelFault, number_at, only, read_model, string_at,
+};
+pub use printable::Printable;
+pub use report::Report;
 pub use text::{write_log, write_message, write_number, write_text, write_world};

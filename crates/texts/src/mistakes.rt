@@ -21,6 +21,8 @@ pub enum Mistakes {
     Toml {
         /// The line of the error, counted from 1.
         line: usize,
+        /// The column of the error on its line, in characters, counted from 1.
+        column: usize,
         /// The reason, in words.
         why: String,
     },
@@ -41,8 +43,9 @@ pub fn find_mistakes<M: Described>(alloc: Global, text: &[u8]) -> Result<Mistake
         Err(error) if error.is_memory() => Err(AllocError),
         Err(error) => {
             let line = line_of(text, &error);
+            let column = column_of(text, &error);
             let why = String::from_str(alloc, error.message())?;
-            Ok(Mistakes::Toml { line, why })
+            Ok(Mistakes::Toml { line, column, why })
         }
     }
 }
@@ -56,6 +59,32 @@ fn line_of(text: &[u8], error: &Error) -> usize
         Some(span) => line_at(text, span.start),
         None => line_at(text, 0),
     }
+}
+
+/// Returns the column, counted from 1, at which an error begins.
+fn column_of(text: &[u8], error: &Error) -> usize
+    requires { IsWithin text.now error.now }
+{
+    match error.span() {
+        Some(span) => column_at(text, span.start),
+        None => 1,
+    }
+}
+
+/// Returns the column, in characters and counted from 1, of a place in bytes.
+fn column_at(text: &[u8], place: usize) -> usize
+    requires { place ≤ length text.now }
+{
+    let mut column = 1usize;
+    for byte in text.split_at(place).0 {
+        if *byte == b'\n' {
+            column = 1;
+        } else if *byte < 0x80 || *byte >= 0xc0 {
+            // the other bytes continue a character
+            column = column.saturating_add(1);
+        }
+    }
+    column
 }
 
 /// Returns the line, counted from 1, of a place in bytes.
@@ -76,7 +105,7 @@ fn line_feeds(text: &[u8]) -> usize
 impl fmt::Display for Mistakes {
     fn fmt<W: fmt::Write>(&self, f: &mut fmt::Formatter<W>) -> fmt::Result {
         match self {
-            Mistakes::Toml { line, why } => {
+            Mistakes::Toml { line, why, .. } => {
                 let why = why.as_str();
                 writeln!(f, "  line {line}: {why}")
             }

@@ -13,6 +13,9 @@ use std::alloc::{AllocError, Global};
 use thiserror::Error;
 use toml::Table;
 
+/// The maximum number of bytes of a model file.
+pub const LONGEST_MODEL_FILE: u64 = 16_777_216;
+
 /// The reason why a text gives no model.
 #[derive(Clone, Copy, Debug, PartialEq, Eq, Error)]
 pub enum ModelFault {

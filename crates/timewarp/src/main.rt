@@ -2,17 +2,21 @@
 //! times.
 #![tactic(auto)]
 
-use models::AnyModel;
 use program::About;
+use rule_files::{FileModel, RULES_KEYS};
 use std::process::ExitCode;
 use texts::ANY_MODEL_KEYS;
 
-const ABOUT: About<'static> = About {
-    name: "timewarp",
-    example: "examples/ring.toml",
-    keys: ANY_MODEL_KEYS,
-};
-
 fn main(rt: HostRuntime) -> ExitCode {
-    ExitCode::from(program::start::<AnyModel, _, _>(&rt, ABOUT, rt.stderr()))
+    let joined = format!(in rt.alloc(); "{ANY_MODEL_KEYS}\n\n{RULES_KEYS}");
+    let keys = match &joined {
+        Ok(keys) => keys.as_str(),
+        Err(_) => ANY_MODEL_KEYS,
+    };
+    let about = About {
+        name: "timewarp",
+        example: "examples/ring.toml",
+        keys,
+    };
+    ExitCode::from(program::start::<FileModel, _, _>(&rt, about, rt.stderr()))
 }

@@ -31,6 +31,7 @@ module _ {T A B : Type 0} where
   on_fault (Err (fault.Record n f)) h k = inl (k (fault.Record n f) refl (λ e. cc))
   on_fault (Err fault.BadTrace) h k = inl (k fault.BadTrace refl (λ e. cc))
   on_fault (Err (fault.Mistake f)) h k = inl (k (fault.Mistake f) refl (λ e. cc))
+  on_fault (Err (fault.NoSuchProcess n)) h k = inl (k (fault.NoSuchProcess n) refl (λ e. cc))
   on_fault (Err fault.NoMemory) h k = inl (k fault.NoMemory refl (λ e. cc))
 
 -- what is written of a text with this property

@@ -1,7 +1,7 @@
 -- What the read-only commands print (this project's profile).
 use Rattle.std.specs.Io.KnownBytes.{Appends}
 use Rattle.std.specs.Prelude.{◌≡◌, ◌≤◌, ◌^◌, ◌+◌, ◌-◌, ◌&&◌, ℕ, Bool, true, false, List}
-use Rattle.std.specs.Prelude.{◌++◌, None, Option, Some, codes, filter, if◌then◌else◌}
+use Rattle.std.specs.Prelude.{◌++◌, None, Option, Some, codes, decimal, filter, if◌then◌else◌}
 use Rattle.std.specs.Prelude.{is_none, min, unwrap_or}
 use Rattle.disk.specs.declared.file.FileFault.{FileFault}
 use Rattle.disk.specs.declared.file.FileFault.TheVariants as opening
@@ -34,6 +34,10 @@ use Rattle.texts.specs.Text.{log_text, world_text}
 use Rattle.texts.specs.declared.model_file.ModelFault.{ModelFault}
 use Rattle.texts.specs.declared.model_file.ModelFault.TheVariants as file
 use Rattle.toml.specs.Data.{Members}
+use Rattle.upkeep.specs.Verified.{IsOfWorld}
+use Rattle.upkeep.specs.declared.verifying.Verified.{Verified}
+use Rattle.upkeep.specs.declared.verifying.VerifyFault.{VerifyFault}
+use Rattle.upkeep.specs.declared.verifying.VerifyFault.TheVariants as verifying
 use Rattle.views.specs.declared.fault.ViewFault.{ViewFault}
 use Rattle.views.specs.declared.fault.ViewFault.TheVariants.{BadModel, BadTrace, NoMemory}
 use Rattle.views.specs.declared.fault.ViewFault.TheVariants as fault
@@ -73,6 +77,12 @@ abbrev pub of_inspection : InspectionFault → ViewFault
 of_inspection (inspecting.Log f) = fault.Log f
 of_inspection (inspecting.Recovery f) = fault.Recovery f
 of_inspection (inspecting.Record number f) = fault.Record number f
+
+-- for a fault of the verification of a disk
+abbrev pub of_verification : VerifyFault → ViewFault
+of_verification (verifying.Log f) = fault.Log f
+of_verification (verifying.Recovery f) = fault.Recovery f
+of_verification (verifying.Record number f) = fault.Record number f
 
 -- for a fault of a disk's file
 abbrev pub of_file : FileFault → ViewFault
@@ -136,6 +146,24 @@ abbrev pub IsLogged : {M : Type 0} → (M → Meaning) → Describes M → Optio
     → List ℕ → Type 0
 IsLogged meaning says from to process =
     IsCommitted meaning says (λ w. log_text (log_part from to process w.log))
+
+-- the time and the number of events of a world
+abbrev pub verified_text : Verified → List ℕ
+verified_text seen = (codes "verified: committed " ++ decimal seen.time)
+    ++ (codes " events " ++ decimal seen.events) ++ codes "\n"
+
+-- The text of the world that the image of a disk represents: a checkpoint in it holds what the
+-- records before it reach.
+pub record IsVerifiedText {M : Type 0} (meaning : M → Meaning) (says : Describes M)
+    (text : List ℕ) : Type 0 where
+  pub source : List ℕ
+  pub model : M
+  pub end : ℕ
+  pub image : List (List ℕ)
+  pub seen : Verified
+  pub file : IsModelFile says source model end
+  pub of_world : IsOfWorld (meaning model) end image seen
+  pub is : text ≡ verified_text seen
 
 -- the text of the inspection of a disk
 pub record IsStatus {M : Type 0} (meaning : M → Meaning) (says : Describes M)

@@ -2,7 +2,7 @@
 
 ghost use Rattle.std.specs.IoError.{error_kind};
 ghost use Rattle.std.specs.Prelude.{◌≡◌, ◌≢◌};
-ghost use Rattle.views.specs.Views.{of_file, of_inspection, of_model, of_trace};
+ghost use Rattle.views.specs.Views.{of_file, of_inspection, of_model, of_trace, of_verification};
 ghost use Rattle.views.specs.declared.fault.ViewFault.TheVariants.{NoMemory, Output};
 ghost use Rattle.views.specs.declared.fault.ViewFault.TheVariants.{Recovery as RecoveryCase};
 ghost use Rattle.views.specs.declared.fault.ViewFault.TheVariants.{World as WorldCase};
@@ -17,6 +17,7 @@ use std::alloc::{AllocError, AllocFailed};
 use std::io::{Error as IoError, ErrorKind};
 use texts::{Mistake, ModelFault};
 use thiserror::Error;
+use upkeep::VerifyFault;
 
 /// Why a read-only command failed. Printed as its name, followed by a space and the fault that it
 /// carries, if any.
@@ -37,7 +38,7 @@ pub enum ViewFault {
     /// No world was recovered from the log.
     #[error("Recovery {0}")]
     Recovery(RecoveryFault),
-    /// `status` found a fault in a record of a disk.
+    /// `status` or `verify` found a fault in a record of a disk.
     #[error("Record {number} {fault}")]
     Record {
         /// The number of records before it.
@@ -51,6 +52,12 @@ pub enum ViewFault {
     /// `check` found a mistake in a file that is not a model file.
     #[error("{0}")]
     Mistake(Mistake),
+    /// The model does not have the process that is asked for.
+    #[error("NoSuchProcess")]
+    NoSuchProcess {
+        /// How many processes it has.
+        processes: u32,
+    },
     /// An allocation failed in a call without its own fault for it.
     #[error("NoMemory")]
     NoMemory,
@@ -114,6 +121,18 @@ impl From<InspectionFault> for ViewFault {
             InspectionFault::Log(fault) => ViewFault::Log(fault),
             InspectionFault::Recovery(fault) => ViewFault::Recovery(fault),
             InspectionFault::Record { number, fault } => ViewFault::Record { number, fault },
+        }
+    }
+}
+
+impl From<VerifyFault> for ViewFault {
+    ghost from_gives = { λ fault e. e ≡ of_verification fault };
+
+    fn from(fault: VerifyFault) -> ViewFault {
+        match fault {
+            VerifyFault::Log(fault) => ViewFault::Log(fault),
+            VerifyFault::Recovery(fault) => ViewFault::Recovery(fault),
+            VerifyFault::Record { number, fault } => ViewFault::Record { number, fault },
         }
     }
 }

@@ -11,14 +11,15 @@ ghost use Rattle.views.specs.Views.{IsWholeSimulation, Prints, PrintsBeginning, 
 ghost use Rattle.views.specs.declared.fault.ViewFault.TheVariants.{Output};
 
 use crate::fault::{ViewFault, unreadable};
+use disk::FileDisk;
 use model::{World, WorldFault};
 use std::alloc::Global;
-use std::fs;
-use std::io::{Result as IoResult, Write};
+use std::fs::{self, File};
+use std::io::{Read, Result as IoResult, Write};
 use std::rt::Files;
 use texts::{
-    Described, Mistake, Mistakes, ModelFault, find_mistakes, read_model, write_log, write_text,
-    write_world,
+    Described, LONGEST_MODEL_FILE, Mistake, Mistakes, ModelFault, find_mistakes, read_model,
+    write_log, write_text, write_world,
 };
 
 /// Runs the model of a file by the plain runner, and writes the log and then the world.
@@ -32,17 +33,27 @@ where
     ensures err { OnErr result ((out.new ≡ out.old)
         ⊎ Begins (IsWholeSimulation M.meaning M.says) (O.contents out.old) (O.contents out.new)) }
 {
-    let bytes = fs::read(rt, model).map_err(unreadable)?;
+    let bytes = read_bytes(rt, model)?;
     let text = text_of(bytes.as_slice()).map_err(ModelFault::BadModel)?;
     seq::<M, O>(rt.alloc(), text, out)
 }
 
-/// Checks whether a file is a model file. At a `Mistake`, `found` gets all mistakes of the file.
+/// A file that is not a model file: what it holds, and all its mistakes.
+#[derive(Drop)]
+pub struct Wrong {
+    /// What the file holds.
+    pub text: Vec<u8>,
+    /// All mistakes of this text.
+    pub mistakes: Mistakes,
+}
+
+/// Checks whether a file is a model file. At a `Mistake`, `found` gets the file and all its
+/// mistakes.
 pub fn check_of<M, R, O>(
     rt: &R,
     model: &str,
     out: &mut O,
-    found: &mut Option<Mistakes>,
+    found: &mut Option<Wrong>,
 ) -> Result<(), ViewFault>
 where
     M: Described,
@@ -53,13 +64,81 @@ where
     ensures err { OnErr result ((out.new ≡ out.old)
         ⊎ Begins (IsSomeChecked M.says M.shows) (O.contents out.old) (O.contents out.new)) }
 {
-    let bytes = fs::read(rt, model).map_err(unreadable)?;
-    match text_of(bytes.as_slice()) {
-        Ok(text) => check::<M, O>(rt.alloc(), text, out, found),
+    let text = read_bytes(rt, model)?;
+    let mut mistakes = None;
+    let checked = check_bytes::<M, O>(rt.alloc(), text.as_slice(), out, &mut mistakes);
+    *found = wrong_of(text, mistakes);
+    checked
+}
+
+/// Returns what a file holds with its mistakes, if they were found.
+fn wrong_of(text: Vec<u8>, mistakes: Option<Mistakes>) -> Option<Wrong> {
+    match mistakes {
+        Some(mistakes) => Some(Wrong { text, mistakes }),
+        None => None,
+    }
+}
+
+/// Checks whether bytes are a model file. At a `Mistake`, `found` gets all their mistakes.
+fn check_bytes<M: Described, O: Write>(
+    alloc: Global,
+    bytes: &[u8],
+    out: &mut O,
+    found: &mut Option<Mistakes>,
+) -> Result<(), ViewFault>
+    ensures ok { OnOk result
+        (Prints (IsSomeChecked M.says M.shows) (O.contents out.old) (O.contents out.new)) }
+    ensures err { OnErr result ((out.new ≡ out.old)
+        ⊎ Begins (IsSomeChecked M.says M.shows) (O.contents out.old) (O.contents out.new)) }
+{
+    match text_of(bytes) {
+        Ok(text) => check::<M, O>(alloc, text, out, found),
         Err(mistake) => {
-            *found = Some(find_mistakes::<M>(rt.alloc(), bytes.as_slice())?);
+            *found = Some(find_mistakes::<M>(alloc, bytes)?);
             Err(ViewFault::Mistake(mistake))
         }
+    }
+}
+
+/// A file that is not a model file, with all its mistakes; `None` if it cannot be read, or again, or
+/// is a model file.
+pub fn mistakes_of<M, R>(rt: &R, path: &str) -> Option<Wrong>
+where
+    M: Described,
+    R: Files + AllocGlobal,
+{
+    // what is not a plain file may give its bytes once
+    if !fs::metadata(rt, path).ok()?.is_file() {
+        return None;
+    }
+    let text = read_bytes(rt, path).ok()?;
+    let mistakes = find_mistakes::<M>(rt.alloc(), text.as_slice()).ok()?;
+    Some(Wrong { text, mistakes })
+}
+
+/// Reads a model file. Returns `File` if it cannot be read, or has more than 16,777,216 bytes, of
+/// which then no more are read; and `NoMemory`.
+fn read_bytes<R: Files + AllocGlobal>(rt: &R, path: &str) -> Result<Vec<u8>, ViewFault> {
+    let file = fs::open(rt, path).map_err(unreadable)?;
+    let mut bytes = Vec::new(rt.alloc());
+    file.take(LONGEST_MODEL_FILE + 1)
+        .read_to_end(&mut bytes)
+        .map_err(unreadable)?;
+    if bytes.len() as u64 > LONGEST_MODEL_FILE {
+        return Err(ViewFault::File);
+    }
+    Ok(bytes)
+}
+
+/// Opens a disk of at most `most` sectors to read it. Returns `File` if it is not a plain file, as a
+/// pipe, which might never open.
+pub fn open_disk<R>(rt: &R, path: &str, most: u32) -> Result<FileDisk, ViewFault>
+where
+    R: Files<File = File> + AllocGlobal,
+{
+    match fs::metadata(rt, path) {
+        Ok(metadata) if !metadata.is_file() => Err(ViewFault::File),
+        _ => Ok(FileDisk::open_to_read_up_to(rt, rt.alloc(), path, most)?),
     }
 }
 
@@ -160,7 +239,8 @@ fn write_checked<O: Write>(values: &str, out: &mut O) -> IoResult<()>
 
 /// Reads the model and its end from a model file. A program's own command starts with this call.
 ///
-/// Returns `File` if the file cannot be read, `BadModel` if it is not a model file, and `NoMemory`.
+/// Returns `File` if the file cannot be read or has more than 16,777,216 bytes, `BadModel` if it is
+/// not a model file, and `NoMemory`.
 pub fn read_model_file<M, R>(rt: &R, path: &str) -> Result<(M, u64), ViewFault>
 where
     M: Described,
@@ -169,7 +249,7 @@ where
     ensures some { IfOk result (λ of. 1 ≤ of.1) }
     ensures short { IfOk result (λ of. of.1 ≤ 2 ^ 40) }
 {
-    let bytes = fs::read(rt, path).map_err(unreadable)?;
+    let bytes = read_bytes(rt, path)?;
     let text = text_of(bytes.as_slice()).map_err(ModelFault::BadModel)?;
     Ok(read_model(rt.alloc(), text)?)
 }

@@ -3,10 +3,12 @@
 //! so this crate is proved beside the crates that `program` waits for.
 #![tactic(auto)]
 
+mod differing;
 mod fault;
 mod files;
 mod looking;
 
+pub use differing::{Difference, Identity, Simulation, committed_on, difference_of};
 pub use fault::{ViewFault, unreadable};
-pub use files::{check, check_of, read_model_file, seq, seq_of};
-pub use looking::{Part, Seen, course_of, draw_of, log_of, stats_of, status_of};
+pub use files::{Wrong, check, check_of, mistakes_of, open_disk, read_model_file, seq, seq_of};
+pub use looking::{Part, Seen, course_of, draw_of, log_of, stats_of, status_of, verify_of};

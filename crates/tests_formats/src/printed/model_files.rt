@@ -3,7 +3,9 @@
 use models::{AnyModel, JobShop, Phold, TokenRing};
 use std::alloc::{AllocError, Global};
 use std::test::Fail;
-use texts::{Expected, Finding, Found, Mistake, Mistakes, ModelFault, find_mistakes, read_model};
+use texts::{
+    Expected, Finding, Found, Mistake, Mistakes, ModelFault, Report, find_mistakes, read_model,
+};
 
 const RING: &str = "model = \"ring\"\nlps = 3\nend = 10\nhold = 2\ntokens = 1\n";
 
@@ -158,6 +160,99 @@ fn all_mistakes_are_listed(rt: HostRuntime) -> Result<(), Fail> {
     for (text, expected) in WRONG {
         let found = find_mistakes::<AnyModel>(rt.alloc(), text.as_bytes())?;
         let printed = format!(in rt.alloc(); "{found}")?;
+        assert_eq!(rt; printed.as_str(), expected);
+    }
+    Ok(())
+}
+
+/// Texts that are no model files, and their mistakes beside their lines.
+const REPORTED: [(&str, &str); 7] = [
+    (
+        "model = 'phold'\n lps=0 # none\nend = 1e3\npopulaton = 1\nspread = 2.5\nseed = -1\n",
+        "  \
+a\\u{1b}b.toml:2:6: lps: 0 is not within 1 to 1024
+     lps=0 # none
+         ^
+  a\\u{1b}b.toml:3:7: end: 1e3 is a float; write 1000
+    end = 1e3
+          ^
+  a\\u{1b}b.toml: population: missing; expected a whole number from 1 to 8
+  a\\u{1b}b.toml:5:10: spread: a number with a fraction; expected a whole number from 1 to 4294967295
+    spread = 2.5
+             ^
+  a\\u{1b}b.toml:6:8: seed: -1 is not within 0 to 9223372036854775807
+    seed = -1
+           ^
+  a\\u{1b}b.toml:4:1: \"populaton\": the model has no such key; did you mean `population`?
+    populaton = 1
+    ^
+",
+    ),
+    (
+        "model = 'ring'\nlps = abc\n",
+        "  \
+a\\u{1b}b.toml:2:7: invalid value, expected a string, number, boolean, date-time, array or inline table
+    lps = abc
+          ^
+",
+    ),
+    // Quoted keys, and a tab.
+    (
+        "model = 'ring'\n'lps' = 3\n\"end\"\t= 10.50e1\r\nhold = 1.5e1\ntokens = 1\n",
+        "  \
+a\\u{1b}b.toml:3:9: end: 10.50e1 is a float; write 105
+    \"end\" = 10.50e1
+            ^
+  a\\u{1b}b.toml:4:8: hold: 1.5e1 is a float; write 15
+    hold = 1.5e1
+           ^
+",
+    ),
+    // A key that is near no missing one, and a float that no number of 64 bits is.
+    (
+        "model = 'ring'\nlps = 3\nend = 10\nholds = 1\nxyz = 2\ntokens = 1e99\n",
+        "  \
+a\\u{1b}b.toml: hold: missing; expected a whole number from 1 to 4294967295
+  a\\u{1b}b.toml:6:10: tokens: a number with a fraction; expected a whole number from 1 to 24
+    tokens = 1e99
+             ^
+  a\\u{1b}b.toml:4:1: \"holds\": the model has no such key; did you mean `hold`?
+    holds = 1
+    ^
+  a\\u{1b}b.toml:5:1: \"xyz\": the model has no such key
+    xyz = 2
+    ^
+",
+    ),
+    // A column counts characters.
+    (
+        "model = 'ring'\nlps = '\u{e4}\u{e4}' x\n",
+        "  \
+a\\u{1b}b.toml:2:12: unexpected key or value, expected newline, `#`
+    lps = '\u{e4}\u{e4}' x
+               ^
+",
+    ),
+    (
+        "model = 'ring'\nend = 1\nhold = 1\ntokens = 1\n",
+        "  a\\u{1b}b.toml: lps: missing; expected a whole number from 1 to 1024\n",
+    ),
+    (
+        "model = 'ring'\nlps = 3\nend = 10\nhold = 2\ntokens = 1\n",
+        "",
+    ),
+];
+
+#[test]
+fn mistakes_are_reported_beside_their_lines(rt: HostRuntime) -> Result<(), Fail> {
+    for (text, expected) in REPORTED {
+        let mistakes = find_mistakes::<AnyModel>(rt.alloc(), text.as_bytes())?;
+        let report = Report {
+            path: "a\u{1b}b.toml",
+            text: text.as_bytes(),
+            mistakes: &mistakes,
+        };
+        let printed = format!(in rt.alloc(); "{report}")?;
         assert_eq!(rt; printed.as_str(), expected);
     }
     Ok(())

@@ -50,7 +50,7 @@ returns-in-Some-refusal-clause-refused g c =
     ∙ subcommand_found c.in_ok-matches.matches c.in-Some.name.now rows c.in-Some.ensures.name c.in-Some.ensures.rows in
     let passes : fault_of (grammar_of called words) words ≡ [] =
     sym (ap (λ a. fault_of a words) e) ∙ c.in_ok-matches.ensures.kinds (ap is_simple_and_free e ∙ program_is_free (says_auto (drop 1 words)) (says_large (drop 1 words)) called) in
-    subst (λ ks. HasKind ks c.in-Some-refusal.error) (sym (refused_then called words c.in-Some.name.now rows passes found ∙ c.in-Some-refusal.ensures.0)) c.in-Some-refusal.ensures.1
+    subst (λ ks. HasKind ks c.in-Some-refusal.error) (sym (refused_then called words c.in-Some.name.now rows passes found)) c.in-Some-refusal.ensures
 
 pub returns-in_err-matches-clause-refused : goal.returns-in_err-matches-clause-refused
 returns-in_err-matches-clause-refused g c =

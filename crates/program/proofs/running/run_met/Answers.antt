@@ -1,9 +1,11 @@
-use Rattle.std.proofs.Common.{refl, sym, ◌∙◌}
+use Rattle.std.proofs.Common.{refl, sym, ap, ◌≡◌, ◌∙◌}
 use Rattle.std.proofs.lemmas.List.{length-map}
+use Rattle.std.specs.Prelude.{is_some}
 use Rattle.runs.proofs.Ports.{all_fresh, so_many}
 use Rattle.sockets.specs.Socket.{state_of}
 use Rattle.sockets.specs.declared.port.Held.TheVariants.{Fresh}
-use Rattle.program.proofs.Printed.{at_err, at_ok, behind_begun, behind_printed, on_any, on_command}
+use Rattle.program.specs.Command.{IsRanBehind, IsStoppedBehind}
+use Rattle.program.proofs.Printed.{behind_begun, behind_printed, behind_stopped, ended_begun, ended_printed, on_ok_so}
 use Rattle.program.proofs.running.run_met.Goals as goal
 
 pub run_over-ended-requires : goal.run_over-ended-requires
@@ -17,12 +19,26 @@ run_over-ended-requires g c =
       short = c.requires.short;
     }
 
-pub returns-in_err-ended-clause-err : goal.returns-in_err-ended-clause-err
-returns-in_err-ended-clause-err g c =
-    on_any c.from_residual.result (at_err c.in_err-ended.was (on_command c.run_over-ended.result.outcome
-    (λ e. behind_begun (g.M.Model.meaning) (g.M.Described.says) _ _ (c.requires.file.0) c.args.of.now.model c.args.of.now.end (c.requires.file.1) c.args.plan _ _ _ _ (c.run_over-ended.ensures.over_err e))
-    (λ f e n. c.run_over-ended.ensures.unwritten f e n)))
-
 pub returns-clause-ok : goal.returns-clause-ok
 returns-clause-ok g c =
-    behind_printed (g.M.Model.meaning) (g.M.Described.says) _ _ (c.requires.file.0) c.args.of.now.model c.args.of.now.end (c.requires.file.1) c.args.plan _ _ _ _ (at_ok c.in_ok-ended.was c.run_over-ended.ensures.over)
+    let of = c.args.of.now in
+    let file = c.requires.file in
+    let run = c.run_over-ended.ensures in
+    ended_printed (IsRanBehind g.M.Described.says c.args.plan.nodes) (IsStoppedBehind g.M.Described.says) _ _ _ c.run_over-ended.result.outcome c.end_run.result (is_some c.args.stop)
+    (on_ok_so c.run_over-ended.result.outcome (λ p. behind_printed g.M.Model.meaning g.M.Described.says _ _ file.0 of.model of.end file.1 c.args.plan _ _ _ _ p) run.over)
+    (λ f e n. ap g.O.Write.contents (run.unwritten f e n))
+    (λ time events is. behind_stopped g.M.Model.meaning g.M.Described.says _ _ file.0 of.model of.end file.1 c.args.plan _ _ time events (run.stopped_over time events is))
+    c.end_run.ensures.ok
+
+pub returns-clause-err : goal.returns-clause-err
+returns-clause-err g c =
+    let of = c.args.of.now in
+    let file = c.requires.file in
+    let run = c.run_over-ended.ensures in
+    ended_begun (IsRanBehind g.M.Described.says c.args.plan.nodes) (IsStoppedBehind g.M.Described.says) _ _ _ c.run_over-ended.result.outcome c.end_run.result (is_some c.args.stop) (c.end_run.new.out ≡ c.run_over-ended.new.out) (c.end_run.new.out ≡ c.args.out.now)
+    (λ e. behind_begun g.M.Model.meaning g.M.Described.says _ _ file.0 of.model of.end file.1 c.args.plan _ _ _ _ (run.over_err e))
+    (λ f e n. ap g.O.Write.contents (run.unwritten f e n))
+    (λ time events is. behind_stopped g.M.Model.meaning g.M.Described.says _ _ file.0 of.model of.end file.1 c.args.plan _ _ time events (run.stopped_over time events is))
+    (λ same. ap g.O.Write.contents same)
+    (λ f e n same. same ∙ run.unwritten f e n)
+    c.end_run.ensures.err

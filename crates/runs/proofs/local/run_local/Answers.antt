@@ -25,6 +25,9 @@ returns-clause-finished g c = c.run_over.ensures.finished (all_faithful c.args.p
 pub returns-clause-rounds : goal.returns-clause-rounds
 returns-clause-rounds g c = c.run_over.ensures.rounds (all_faithful c.args.plan.nodes (state_of (g.M.Model.meaning c.args.model.now) Fresh) _ c.in-Ok.ensures.ports (g.M.Model.meaning c.args.model.now) refl refl)
 
+pub returns-clause-stopped_at : goal.returns-clause-stopped_at
+returns-clause-stopped_at g c = c.run_over.ensures.stopped_at (all_faithful c.args.plan.nodes (state_of (g.M.Model.meaning c.args.model.now) Fresh) _ c.in-Ok.ensures.ports (g.M.Model.meaning c.args.model.now) refl refl)
+
 pub returns-clause-crashes : goal.returns-clause-crashes
 returns-clause-crashes g c = c.run_over.ensures.crashes (all_faithful c.args.plan.nodes (state_of (g.M.Model.meaning c.args.model.now) Fresh) _ c.in-Ok.ensures.ports (g.M.Model.meaning c.args.model.now) refl refl)
 

@@ -1,12 +1,12 @@
-use Rattle.std.proofs.Common.{inr, Err, ap, arith, length, refl, subst, sym, ◌≡◌, ◌∙◌}
+use Rattle.std.proofs.Common.{inr, ℕ, Err, ap, arith, length, refl, subst, sym, ◌≡◌, ◌∙◌}
 use Rattle.coordinator.proofs.Resuming.{driven-on}
 use Rattle.coordinator.proofs.Begun.{recovers-genuine}
 use Rattle.coordinator.specs.Session.{system_of, running}
-use Rattle.runs.proofs.Drives.{answered, goes_by, in_transit, shaped_by}
+use Rattle.runs.proofs.Drives.{answered, front_upto, goes_by, in_transit, shaped_by}
 use Rattle.runs.specs.Driver.{AreRounds}
-use Rattle.runs.proofs.Kept.{comes_to, keeps}
+use Rattle.runs.proofs.Kept.{comes_to, keeps, stopped_at}
 use Rattle.runs.proofs.Unfinished.{unfinished}
-use Rattle.runs.specs.declared.rounds.RunFault.TheVariants.{Rounds, Session}
+use Rattle.runs.specs.declared.rounds.RunFault.TheVariants.{Rounds, Session, Stopped}
 use Rattle.model.specs.World.{IsUpto, World}
 use Rattle.protocol.specs.System.{opened as opened_system}
 use Rattle.runs.proofs.over.run_over.Goals as goal
@@ -19,14 +19,15 @@ returns-clause-over g c = elim c.match-run_session.branch [
       rw w.outcome-is
       (record {
         rounds = w.in-Ok-run_session.ensures.in_rounds.0;
+        last = w.in-Ok-run_session.ensures.in_rounds.1;
         front = c.run_session.new.session.front;
-        some = w.in-Ok-run_session.ensures.in_rounds.1;
+        some = w.in-Ok-run_session.ensures.in_rounds.2;
         run = record {
           first = c.in-Ok.session;
           last = c.run_session.new.session;
           same = (c.in-Ok.ensures.same.0, c.in-Ok.ensures.same.1);
           replayed = c.in-Ok.ensures.replayed;
-          driven = shaped_by g.M.Model.meaning g.P.Port.state g.D.SectorDisk.state _ (AreRounds c.args.plan c.args.end w.in-Ok-run_session.ensures.in_rounds.0) c.in-Ok.session c.run_session.new.session (λ ks is. is.0) w.in-Ok-run_session.ensures.in_rounds.2;
+          driven = shaped_by g.M.Model.meaning g.P.Port.state g.D.SectorDisk.state _ (AreRounds c.args.plan c.args.end w.in-Ok-run_session.ensures.in_rounds.1 w.in-Ok-run_session.ensures.in_rounds.0) c.in-Ok.session c.run_session.new.session (λ ks is. is.0) w.in-Ok-run_session.ensures.in_rounds.3;
           front_is = refl;
           left = c.into_disk.ensures;
         };
@@ -43,14 +44,15 @@ returns-clause-counts g c = elim c.match-run_session.branch [
       rw w.outcome-is
       (record {
         rounds = w.in-Ok-run_session.ensures.in_rounds.0;
+        last = w.in-Ok-run_session.ensures.in_rounds.1;
         front = c.run_session.new.session.front;
-        some = w.in-Ok-run_session.ensures.in_rounds.1;
+        some = w.in-Ok-run_session.ensures.in_rounds.2;
         run = record {
           first = c.in-Ok.session;
           last = c.run_session.new.session;
           same = (c.in-Ok.ensures.same.0, c.in-Ok.ensures.same.1);
           replayed = c.in-Ok.ensures.replayed;
-          driven = w.in-Ok-run_session.ensures.in_rounds.2;
+          driven = w.in-Ok-run_session.ensures.in_rounds.3;
           front_is = refl;
           left = c.into_disk.ensures;
         };
@@ -79,6 +81,55 @@ returns-clause-rounds_over g c = elim c.match-run_session.branch [
         };
         early = w.in-Err-run_session.ensures.rounds all;
       })
+]
+
+pub returns-clause-stopped : goal.returns-clause-stopped
+returns-clause-stopped g c = elim c.match-run_session.branch [
+  | in-Ok-run_session w ↦ rw w.outcome-is (λ time events is. absurd (cc))
+  | in-Err-run_session w ↦
+      rw w.outcome-is
+      (λ time events is.
+      let cause : w.in-Err-run_session.fault ≡ Stopped time events = cc in
+      let stop = w.in-Err-run_session.ensures.stopped time events (ap Err cause) in
+      record {
+        last = stop.3.0;
+        fewer = stop.3.1;
+        front = c.run_session.new.session.front;
+        run = record {
+          first = c.in-Ok.session;
+          last = c.run_session.new.session;
+          same = (c.in-Ok.ensures.same.0, c.in-Ok.ensures.same.1);
+          replayed = c.in-Ok.ensures.replayed;
+          driven = stop.3.2;
+          front_is = refl;
+          left = c.into_disk.ensures;
+        };
+        early = stop.0;
+        time_is = stop.1;
+        events_are = stop.2;
+      })
+]
+
+pub returns-clause-stopped_at : goal.returns-clause-stopped_at
+returns-clause-stopped_at g c = λ are_faithful genuine. elim c.match-run_session.branch [
+  | in-Ok-run_session w ↦ rw w.outcome-is (λ time events is. absurd (cc))
+  | in-Err-run_session w ↦
+      let opened = c.in-Ok.ensures in
+      let m = g.M.Model.meaning c.args.model.now in
+      let consistent = (opened.consistent genuine are_faithful).0 in
+      rw (w.outcome-is, c.into_disk.ensures)
+      (λ time events is.
+      let cause : w.in-Err-run_session.fault ≡ Stopped time events = cc in
+      let stop = w.in-Err-run_session.ensures.stopped time events (ap Err cause) in
+      let front = c.run_session.new.session.front in
+      let upto = front_upto g.M.Model.meaning g.P.Port.state g.D.SectorDisk.state _ c.in-Ok.session c.run_session.new.session stop.3.2 consistent in (
+        stopped_at m c.args.end time events front stop.1 stop.0 stop.2
+            (subst (λ (x : g.row.M.Denot). IsUpto (g.M.Model.meaning x) c.args.end front.time front) opened.same.0
+            (subst (λ (e : ℕ). IsUpto (g.M.Model.meaning c.in-Ok.session.model) e front.time front) opened.same.1 upto)),
+        comes_to m c.args.end c.in-Ok.session.front front (g.D.SectorDisk.state c.args.disk) (g.D.SectorDisk.state c.in-Ok.session.log.disk) (g.D.SectorDisk.state c.run_session.new.session.log.disk)
+            (driven-on _ _ _ _ c.in-Ok.session.front front c.in-Ok.session.log _ _ (ap g.M.Model.meaning opened.same.0) opened.same.1 (c.run_session.ensures.keeps.crashes consistent) (opened.written genuine))
+            time (omega (arith, stop.1)) (opened.exactly genuine),
+      ))
 ]
 
 pub returns-clause-finished : goal.returns-clause-finished
@@ -158,8 +209,9 @@ returns-clause-refused g c = elim c.match-run_session.branch [
         same = (c.in-Ok.ensures.same.0, c.in-Ok.ensures.same.1);
         replayed = c.in-Ok.ensures.replayed;
         rounds = stop.0;
-        some = stop.1;
-        refused = stop.2;
+        final = stop.1;
+        some = stop.2;
+        refused = stop.3;
         left = c.into_disk.ensures;
       }))
 ]

@@ -13,10 +13,10 @@ returns-clause-driven g c = λ reported is.
     let asked = c.in_ok-ask.ensures.driven in
     on_ok c.close.result
     (then_after g.M.Model.meaning g.P.Port.state g.D.SectorDisk.state _
-    (λ (made : List Made). (moves_of made ≡ closing_of c.args.plan c.args.end (reported_since reported asked.steps) c.ask.new.tally.floor c.ask.new.tally.commits) × IsTallied c.args.plan.commit_every c.ask.new.tally c.close.new.tally made)
-    (λ (made : List Made). IsRound c.args.plan c.args.end reported c.args.tally.now.commits made × IsTallied c.args.plan.commit_every c.args.tally.now c.close.new.tally made)
+    (λ (made : List Made). (moves_of made ≡ closing_of c.args.plan c.args.end c.args.last (reported_since reported asked.steps) c.ask.new.tally.floor c.ask.new.tally.commits) × IsTallied c.args.plan.commit_every c.ask.new.tally c.close.new.tally made)
+    (λ (made : List Made). IsRound c.args.plan c.args.end c.args.last reported c.args.tally.now.commits made × IsTallied c.args.plan.commit_every c.args.tally.now c.close.new.tally made)
     c.args.session.now c.ask.new.session c.close.new.session asked
-    (λ ls closed. round_made c.args.plan c.args.end reported c.args.tally.now c.begin_round.new.self c.ask.new.tally c.close.new.tally asked.steps ls
+    (λ ls closed. round_made c.args.plan c.args.end c.args.last reported c.args.tally.now c.begin_round.new.self c.ask.new.tally c.close.new.tally asked.steps ls
     c.begin_round.ensures.floor c.begin_round.ensures.events_until_commit c.begin_round.ensures.commits c.begin_round.ensures.handled c.ask.ensures.commits asked.shape closed))
     (c.close.ensures.driven (reported_since reported asked.steps) (asked.shape.tally.events_until_commit reported (c.begin_round.ensures.events_until_commit ∙ is)))
 
@@ -27,12 +27,12 @@ returns-clause-keeps g c =
 
 pub returns-in_err-ask-clause-refused : goal.returns-in_err-ask-clause-refused
 returns-in_err-ask-clause-refused g c = λ reported is fault e.
-    refused_first g.M.Model.meaning g.P.Port.state g.D.SectorDisk.state (AreAsked c.args.plan.together c.args.plan) (IsRound c.args.plan c.args.end reported c.args.tally.now.commits) c.args.session.now c.ask.new.session fault (after_asked c.args.plan c.args.end reported c.args.tally.now.commits) (c.in_err-ask.ensures.refused fault (passed_on c.from_residual.result c.in_err-ask.field-0.0 fault c.from_residual.ensures.1 e))
+    refused_first g.M.Model.meaning g.P.Port.state g.D.SectorDisk.state (AreAsked c.args.plan.together c.args.plan) (IsRound c.args.plan c.args.end c.args.last reported c.args.tally.now.commits) c.args.session.now c.ask.new.session fault (after_asked c.args.plan c.args.end c.args.last reported c.args.tally.now.commits) (c.in_err-ask.ensures.refused fault (passed_on c.from_residual.result c.in_err-ask.field-0.0 fault c.from_residual.ensures.1 e))
 
 pub returns-clause-refused : goal.returns-clause-refused
 returns-clause-refused g c = λ reported is fault e.
     let asked = c.in_ok-ask.ensures.driven in
-    refused_after g.M.Model.meaning g.P.Port.state g.D.SectorDisk.state _ (λ (made : List Made). moves_of made ≡ closing_of c.args.plan c.args.end (reported_since reported asked.steps) c.ask.new.tally.floor c.ask.new.tally.commits) (IsRound c.args.plan c.args.end reported c.args.tally.now.commits)
+    refused_after g.M.Model.meaning g.P.Port.state g.D.SectorDisk.state _ (λ (made : List Made). moves_of made ≡ closing_of c.args.plan c.args.end c.args.last (reported_since reported asked.steps) c.ask.new.tally.floor c.ask.new.tally.commits) (IsRound c.args.plan c.args.end c.args.last reported c.args.tally.now.commits)
     c.args.session.now c.ask.new.session c.close.new.session fault asked
-    (λ ls closed. round_shape c.args.plan c.args.end reported c.args.tally.now c.begin_round.new.self c.ask.new.tally asked.steps ls c.begin_round.ensures.floor c.begin_round.ensures.commits c.ask.ensures.commits asked.shape closed)
+    (λ ls closed. round_shape c.args.plan c.args.end c.args.last reported c.args.tally.now c.begin_round.new.self c.ask.new.tally asked.steps ls c.begin_round.ensures.floor c.begin_round.ensures.commits c.ask.ensures.commits asked.shape closed)
     (c.close.ensures.refused (reported_since reported asked.steps) (asked.shape.tally.events_until_commit reported (c.begin_round.ensures.events_until_commit ∙ is)) fault e)

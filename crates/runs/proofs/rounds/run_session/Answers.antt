@@ -1,18 +1,18 @@
-use Rattle.std.proofs.Common.{◌≡◌, ◌+◌, ℕ, List, refl, ap, arith, subst, sym, length, ◌∙◌}
+use Rattle.std.proofs.Common.{◌≡◌, ◌+◌, ◌==◌, ℕ, List, refl, ap, arith, subst, sym, length, ◌∙◌}
 use Rattle.std.proofs.lemmas.List.{length-replicate}
 use Rattle.model.specs.World.{World}
 use Rattle.runs.specs.Driver.{AreCounts, AreRounds, IsDrivenBy, IsRound, reported_since}
 use Rattle.runs.specs.Tallies.{IsTallied, IsTallyOf}
 use Rattle.runs.proofs.Counts.{none_handled, round_more}
-use Rattle.runs.proofs.Drives.{driven_so, driven_represents, finished, shaped_by, stood_by, then_after, then_represents}
+use Rattle.runs.proofs.Drives.{all_made, driven_so, driven_represents, finished, shaped_by, stood_by, then_after, then_represents}
 use Rattle.runs.proofs.Refused.{passed_on, refused_after}
-use Rattle.runs.proofs.Shapes.{one_round_more}
+use Rattle.runs.proofs.Shapes.{one_round_more, rounds_before}
 use Rattle.runs.proofs.rounds.run_session.Goals as goal
 
 pub rounds-init : goal.rounds-init
 rounds-init g c = record {
-  made = omega arith;
-  driven = stood_by g.M.Model.meaning g.P.Port.state g.D.SectorDisk.state (λ made. AreRounds c.args.plan c.args.end 0 made × IsTallyOf c.args.plan.commit_every c.in_ok-tally.tally made) c.args.session.now (refl, record { events_until_commit = omega (arith, c.in_ok-tally.ensures.events_until_commit); commits = c.in_ok-tally.ensures.commits; handled = none_handled c.args.plan.nodes c.in_ok-tally.tally.handled_per_node.items c.in_ok-tally.ensures.handled });
+  made = (omega arith, omega arith);
+  driven = stood_by g.M.Model.meaning g.P.Port.state g.D.SectorDisk.state (λ made. AreRounds c.args.plan c.args.end c.args.plan.rounds 0 made × IsTallyOf c.args.plan.commit_every c.in_ok-tally.tally made) c.args.session.now (refl, record { events_until_commit = omega (arith, c.in_ok-tally.ensures.events_until_commit); commits = c.in_ok-tally.ensures.commits; handled = none_handled c.args.plan.nodes c.in_ok-tally.tally.handled_per_node.items c.in_ok-tally.ensures.handled });
   commits = omega (arith, c.in_ok-tally.ensures.commits);
   budgets = c.in_ok-tally.ensures.budgets;
   counts = ap length c.in_ok-tally.ensures.handled ∙ length-replicate {A = ℕ} c.args.plan.nodes 0;
@@ -22,17 +22,21 @@ pub returns-in_err-round-clause-keeps : goal.returns-in_err-round-clause-keeps
 returns-in_err-round-clause-keeps g c = then_represents g.M.Model.meaning g.P.Port.state g.D.SectorDisk.state c.args.session.now c.rounds.session c.round.new.session (driven_so g.M.Model.meaning g.P.Port.state g.D.SectorDisk.state _ c.args.session.now c.rounds.session c.rounds.invariant.driven) c.in_err-round.ensures.keeps
 
 pub rounds-preserved : goal.rounds-preserved
-rounds-preserved g c = (let before = c.rounds.invariant.driven in record {
-  made = omega (arith, c.if-made-plan.false);
-  driven = then_after g.M.Model.meaning g.P.Port.state g.D.SectorDisk.state _ (λ made. IsRound c.args.plan c.args.end (reported_since 0 before.steps) c.rounds.tally.commits made × IsTallied c.args.plan.commit_every c.rounds.tally c.round.new.tally made)
-      (λ made. AreRounds c.args.plan c.args.end (c.rounds.made + 1) made × IsTallyOf c.args.plan.commit_every c.round.new.tally made)
-      c.args.session.now c.rounds.session c.round.new.session before
-      (λ ls round. round_more c.args.plan c.args.end c.rounds.made c.rounds.tally c.round.new.tally before.steps ls before.shape round)
-      (c.in_ok-round.ensures.driven (reported_since 0 before.steps) before.shape.1.events_until_commit);
-  commits = omega (arith, c.in_ok-round.ensures.commits, c.rounds.invariant.commits);
-  budgets = c.round.ensures.budgets ∙ c.rounds.invariant.budgets;
-  counts = c.round.ensures.counts ∙ c.rounds.invariant.counts;
-})
+rounds-preserved g c =
+    let before = c.rounds.invariant.driven in
+    let last = c.last_round-last.result in
+    let now = rounds_before c.args.plan c.args.end c.rounds.last last c.rounds.made before.steps (omega (arith, c.if-made-last.false)) c.last_round-last.ensures.later before.shape.0 in
+    record {
+      made = (omega (arith, c.last_round-last.ensures.later), omega (arith, c.last_round-last.ensures.none_more, c.rounds.invariant.made.1));
+      driven = then_after g.M.Model.meaning g.P.Port.state g.D.SectorDisk.state _ (λ made. IsRound c.args.plan c.args.end (c.rounds.made + 1 == last) (reported_since 0 before.steps) c.rounds.tally.commits made × IsTallied c.args.plan.commit_every c.rounds.tally c.round.new.tally made)
+          (λ made. AreRounds c.args.plan c.args.end last (c.rounds.made + 1) made × IsTallyOf c.args.plan.commit_every c.round.new.tally made)
+          c.args.session.now c.rounds.session c.round.new.session before
+          (λ ls round. round_more c.args.plan c.args.end last c.rounds.made c.rounds.tally c.round.new.tally before.steps ls (now, before.shape.1) round)
+          (c.in_ok-round.ensures.driven (reported_since 0 before.steps) before.shape.1.events_until_commit);
+      commits = omega (arith, c.in_ok-round.ensures.commits, c.rounds.invariant.commits);
+      budgets = c.round.ensures.budgets ∙ c.rounds.invariant.budgets;
+      counts = c.round.ensures.counts ∙ c.rounds.invariant.counts;
+    }
 
 pub returns-clause-finished : goal.returns-clause-finished
 returns-clause-finished g c = λ same. finished g.M.Model.meaning g.P.Port.state g.D.SectorDisk.state c.args.end c.args.session.now c.rounds.session same (driven_so g.M.Model.meaning g.P.Port.state g.D.SectorDisk.state _ c.args.session.now c.rounds.session c.rounds.invariant.driven) (let time = ap (λ (w : World). w.time) c.front.ensures in omega (arith, time, c.rounds-test.false))
@@ -43,8 +47,9 @@ returns-clause-driven g c = driven_so g.M.Model.meaning g.P.Port.state g.D.Secto
 pub returns-clause-in_rounds : goal.returns-clause-in_rounds
 returns-clause-in_rounds g c = (
   c.rounds.made,
+  c.rounds.last,
   c.rounds.invariant.made,
-  shaped_by g.M.Model.meaning g.P.Port.state g.D.SectorDisk.state _ (λ made. AreRounds c.args.plan c.args.end c.rounds.made made × AreCounts c.into_handled_per_node.result.items made) c.args.session.now c.rounds.session
+  shaped_by g.M.Model.meaning g.P.Port.state g.D.SectorDisk.state _ (λ made. AreRounds c.args.plan c.args.end c.rounds.last c.rounds.made made × AreCounts c.into_handled_per_node.result.items made) c.args.session.now c.rounds.session
       (λ ks is. (is.0, subst (λ (counts : List ℕ). AreCounts counts ks) (sym c.into_handled_per_node.ensures) is.1.handled)) c.rounds.invariant.driven,
 )
 
@@ -56,16 +61,42 @@ returns-clause-keeps g c = driven_represents g.M.Model.meaning g.P.Port.state g.
 
 pub returns-then-made-plan-clause-all_rounds : goal.returns-then-made-plan-clause-all_rounds
 returns-then-made-plan-clause-all_rounds g c = λ is.
-    let all : c.rounds.made ≡ c.args.plan.rounds = omega (arith, c.if-made-plan.true, c.rounds.invariant.made) in
-    subst (λ n. IsDrivenBy g.M.Model.meaning g.P.Port.state g.D.SectorDisk.state (AreRounds c.args.plan c.args.end n) c.args.session.now c.rounds.session) all
-    (shaped_by g.M.Model.meaning g.P.Port.state g.D.SectorDisk.state _ (AreRounds c.args.plan c.args.end c.rounds.made) c.args.session.now c.rounds.session (λ ks h. h.0) c.rounds.invariant.driven)
+    let all : c.rounds.made ≡ c.args.plan.rounds = omega (arith, c.if-made-plan.true, c.rounds.invariant.made.0, c.rounds.invariant.made.1) in
+    let last : c.rounds.last ≡ c.args.plan.rounds = omega (arith, c.if-made-plan.true, c.rounds.invariant.made.0, c.rounds.invariant.made.1) in
+    all_made g.M.Model.meaning g.P.Port.state g.D.SectorDisk.state c.args.plan c.args.end c.rounds.last c.rounds.made c.args.plan.rounds c.args.session.now c.rounds.session last all
+    (shaped_by g.M.Model.meaning g.P.Port.state g.D.SectorDisk.state _ (AreRounds c.args.plan c.args.end c.rounds.last c.rounds.made) c.args.session.now c.rounds.session (λ ks h. h.0) c.rounds.invariant.driven)
+
+pub returns-then-made-last-clause-keeps : goal.returns-then-made-last-clause-keeps
+returns-then-made-last-clause-keeps g c = driven_represents g.M.Model.meaning g.P.Port.state g.D.SectorDisk.state c.args.session.now c.rounds.session (driven_so g.M.Model.meaning g.P.Port.state g.D.SectorDisk.state _ c.args.session.now c.rounds.session c.rounds.invariant.driven)
+
+pub returns-then-made-last-clause-stopped : goal.returns-then-made-last-clause-stopped
+returns-then-made-last-clause-stopped g c = λ time events is.
+    let front = c.front-front.ensures in
+    let time_is : time ≡ c.front-front.result.time = cc in
+    let events_are : events ≡ length c.front-front.result.log.now = cc in
+    let late : c.rounds.session.front.time ≡ c.front-front.result.time = ap (λ (w : World). w.time) front in
+    let before : c.rounds.session.front.time ≡ c.front.result.time = ap (λ (w : World). w.time) c.front.ensures in
+    let all : c.rounds.made ≡ c.rounds.last = omega (arith, c.if-made-last.true, c.rounds.invariant.made.0) in (
+      omega (arith, before, c.rounds-test.true),
+      time_is ∙ sym late,
+      events_are ∙ sym (ap (λ (w : World). length w.log) front),
+      (
+        c.rounds.last,
+        omega (arith, c.if-made-plan.false, c.if-made-last.true),
+        all_made g.M.Model.meaning g.P.Port.state g.D.SectorDisk.state c.args.plan c.args.end c.rounds.last c.rounds.made c.rounds.last c.args.session.now c.rounds.session refl all
+            (shaped_by g.M.Model.meaning g.P.Port.state g.D.SectorDisk.state _ (AreRounds c.args.plan c.args.end c.rounds.last c.rounds.made) c.args.session.now c.rounds.session (λ ks h. h.0) c.rounds.invariant.driven),
+      ),
+    )
 
 pub returns-in_err-round-clause-refused : goal.returns-in_err-round-clause-refused
 returns-in_err-round-clause-refused g c = λ fault e.
-    let before = c.rounds.invariant.driven in (
+    let before = c.rounds.invariant.driven in
+    let last = c.last_round-last.result in
+    let now = rounds_before c.args.plan c.args.end c.rounds.last last c.rounds.made before.steps (omega (arith, c.if-made-last.false)) c.last_round-last.ensures.later before.shape.0 in (
       c.rounds.made + 1,
-      omega (arith, c.if-made-plan.false),
-      refused_after g.M.Model.meaning g.P.Port.state g.D.SectorDisk.state _ (IsRound c.args.plan c.args.end (reported_since 0 before.steps) c.rounds.tally.commits) (AreRounds c.args.plan c.args.end (c.rounds.made + 1)) c.args.session.now c.rounds.session c.round.new.session fault before
-          (λ ls round. one_round_more c.args.plan c.args.end c.rounds.made before.steps ls before.shape.0 (subst (λ (n : ℕ). IsRound c.args.plan c.args.end (reported_since 0 before.steps) n ls) before.shape.1.commits round))
+      last,
+      (omega (arith, c.last_round-last.ensures.later), omega (arith, c.last_round-last.ensures.none_more, c.rounds.invariant.made.1)),
+      refused_after g.M.Model.meaning g.P.Port.state g.D.SectorDisk.state _ (IsRound c.args.plan c.args.end (c.rounds.made + 1 == last) (reported_since 0 before.steps) c.rounds.tally.commits) (AreRounds c.args.plan c.args.end last (c.rounds.made + 1)) c.args.session.now c.rounds.session c.round.new.session fault before
+          (λ ls round. one_round_more c.args.plan c.args.end last c.rounds.made before.steps ls now (subst (λ (n : ℕ). IsRound c.args.plan c.args.end (c.rounds.made + 1 == last) (reported_since 0 before.steps) n ls) before.shape.1.commits round))
           (c.in_err-round.ensures.refused (reported_since 0 before.steps) before.shape.1.events_until_commit fault (passed_on c.from_residual-in_err-round.result c.in_err-round.field-0.0 fault c.from_residual-in_err-round.ensures.1 e)),
     )

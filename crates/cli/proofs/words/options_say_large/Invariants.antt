@@ -1,7 +1,0 @@
-use Rattle.std.proofs.Common.{◌≡◌, map, drop}
-use Rattle.cli.specs.Command.{says_large}
-use Rattle.cli.proofs.words.options_say_large.Given as goal
-
-abbrev pub invariant-loop-word : goal.invariant-loop-word
-invariant-loop-word g l =
-    says_large (map g.S.AsStr.text l.fn.words) ≡ says_large (map g.S.AsStr.text (drop l.word-index l.words))

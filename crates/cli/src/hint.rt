@@ -1,0 +1,100 @@
+// What to write in place of words that are refused, where `clap`'s text does not say it.
+
+use crate::words::says_large;
+use std::convert::AsStr;
+use thiserror::Error;
+
+/// What to write in place of a refused word.
+#[derive(Clone, Copy, Debug, PartialEq, Eq, Error)]
+pub enum Hint {
+    /// The batch is neither a number nor `auto`.
+    #[error("'--batch' takes a number from 1 to 4294967295, or 'auto'")]
+    Batch,
+    /// The number of sectors is that of a large disk.
+    #[error("'--sectors' takes up to 16777216 with '--large'")]
+    Large,
+    /// The number of this option is negative.
+    #[error("'--{0}' takes a whole number that is not negative")]
+    Negative(&'static str),
+}
+
+/// The options that take numbers.
+const NUMBERS: &[&str] = &[
+    "sectors",
+    "nodes",
+    "rounds",
+    "checkpoint",
+    "commit-every",
+    "cut",
+    "from",
+    "to",
+    "process",
+    "parcels",
+];
+
+/// What to write in place of the first word for which there is a hint. The first word is the
+/// program's own name. The words are those of a command that was refused: a hint for others may be
+/// wrong.
+pub fn hint_of<S: AsStr>(words: &[S]) -> Option<Hint> {
+    let large = says_large(words);
+    let mut before = "";
+    for word in words {
+        let word = word.as_str();
+        if word == "--" {
+            return None;
+        }
+        let (option, value) = parts_of(before, word);
+        let hint = hint_at(option, value, large);
+        if hint.is_some() {
+            return hint;
+        }
+        before = word;
+    }
+    None
+}
+
+/// The option and the value that a word gives: both as `--option=value`, or a value behind an
+/// option.
+fn parts_of<'a>(before: &'a str, word: &'a str) -> (&'a str, &'a str) {
+    match word.split_once('=') {
+        Some(parts) if word.starts_with("--") => parts,
+        _ => (before, word),
+    }
+}
+
+/// The hint for the value of an option, if there is one.
+fn hint_at(option: &str, value: &str, large: bool) -> Option<Hint> {
+    let name = option.strip_prefix("--")?;
+    match name {
+        "batch" if !is_batch(value) => Some(Hint::Batch),
+        "sectors" if !large && is_of_large(value) => Some(Hint::Large),
+        _ if is_negative(value) => negative(name),
+        _ => None,
+    }
+}
+
+/// The hint for a negative number of this option, if it takes a number.
+fn negative(name: &str) -> Option<Hint> {
+    for known in NUMBERS {
+        if *known == name {
+            return Some(Hint::Negative(known));
+        }
+    }
+    None
+}
+
+/// Whether a text is a batch.
+fn is_batch(text: &str) -> bool {
+    text == "auto" || text.parse::<u32>().is_ok_and(|number| number > 0)
+}
+
+/// Whether a text is a number of sectors that only a large disk has.
+fn is_of_large(text: &str) -> bool {
+    text.parse::<u32>()
+        .is_ok_and(|number| 131_072 < number && number <= 16_777_216)
+}
+
+/// Whether a text is a negative number.
+fn is_negative(text: &str) -> bool {
+    text.parse::<i64>().is_ok_and(|number| number < 0)
+}

@@ -1,0 +1,4 @@
+pub mod Ways
+pub mod Appends
+pub mod Recoveries
+pub mod Rounds

@@ -1,0 +1,7 @@
+pub mod Crashes
+pub mod Going
+pub mod Commits
+pub mod Inside
+pub mod Opening
+pub mod Refusals
+pub mod Runs

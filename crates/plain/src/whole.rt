@@ -1,0 +1,203 @@
+// Whole plain runs on a disk.
+
+ghost use Rattle.std.specs.Prelude.{◌≡◌, ◌≤◌, ◌<◌, ◌^◌, ℕ, IfErr, IfOk, OnOk, length, true};
+ghost use Rattle.plain.specs.Commits.{StaysRecoverable};
+ghost use Rattle.plain.specs.Crashes.{KeepsRecovery, KeepsUnderItsEnd, Recovers};
+ghost use Rattle.plain.specs.Crashes.{RecoversUnderItsEnd};
+ghost use Rattle.plain.specs.Refusals.{SavingIsRefused};
+ghost use Rattle.plain.specs.Runs.{AreRounds, IsRound, IsRunOf, IsRunOver, IsSavedIf, IsStopped};
+ghost use Rattle.plain.specs.Runs.{RoundIsRefused, RunIsRefused, is_kept};
+ghost use Rattle.recovery.specs.Represents.{IsGenuine};
+
+use crate::{PlainFault, PlainRun, Stopped};
+use disk::SectorDisk;
+use model::Model as Simulated;
+use std::alloc::Global;
+
+/// How a plain run commits.
+#[derive(Clone, Copy, Debug, PartialEq, Eq)]
+pub struct Plan {
+    /// The number of events after which a commit follows, at the end of their virtual time; 0
+    /// counts as 1. A record holds at most 299,592 events.
+    pub commit_every: u32,
+    /// The number of commits after which a checkpoint follows; 0 for no checkpoints.
+    pub checkpoint_every: u32,
+    /// The most commits that are made.
+    pub commits: u32,
+}
+
+/// The result of a finished run.
+#[derive(Clone, Copy, Debug, PartialEq, Eq)]
+pub struct Finished {
+    /// The virtual time before which everything is committed, in ticks.
+    pub time: u64,
+    /// The number of committed events.
+    pub events: usize,
+}
+
+/// How a run ended.
+#[derive(Drop)]
+pub struct Ran<D> {
+    /// The disk as the run left it.
+    pub disk: D,
+    /// The result, or why the run stopped before its end.
+    pub outcome: Result<Finished, PlainFault>,
+}
+
+/// Observes the progress of a plain run.
+pub trait Watch {
+    /// Called after each commit, before the checkpoint that may follow it: everything before this
+    /// virtual time, in ticks, is committed, `events` events in all.
+    fn committed(&mut self, time: u64, events: usize);
+
+    /// Called at the beginning of a run, and after each commit and the checkpoint that may follow
+    /// it, with the number of sectors that hold the log and the number that the disk has. One more
+    /// sector is the closed gate; the rest are free.
+    fn stored(&mut self, _used: u32, _sectors: u32) {}
+}
+
+/// Runs a simulation on its disk, one event at a time and without nodes, from the front on the disk
+/// to `end`, the tick at which it ends, 1 to 2^40, and returns the disk. The disk may have been run
+/// over nodes before, and may be run over nodes later.
+///
+/// Fails with the faults of the opening ([`PlainRun::open`]), of a commit ([`PlainRun::commit`]) or
+/// of a checkpoint ([`PlainRun::checkpoint`]), or with `Commits` if all commits were made before
+/// the end was reached. What was committed stays on the disk in every case.
+pub fn run_plain<M: Simulated, D: SectorDisk + Drop, W: Watch>(
+    alloc: Global,
+    model: &M,
+    disk: D,
+    end: u64,
+    plan: Plan,
+    watch: &mut W,
+) -> Ran<D>
+    requires begun { 1 ≤ end }
+    requires short { end ≤ 2 ^ 40 }
+    // On a disk whose records are genuine, the result is that of the sequential simulation up to
+    // the end.
+    ensures finished { IsGenuine (M.meaning model.now) end (D.state disk).reads →
+        IfOk result.outcome (λ done. IsRunOf (M.meaning model.now) end done.time done.events) }
+    ensures reached { IfOk result.outcome (λ done. end ≤ done.time) }
+    // The run made the plan's commits and checkpoints, and wrote nothing else.
+    ensures over { IfOk result.outcome (λ done. IsRunOver M.meaning D.state model.now end plan disk
+        result.disk done.time done.events) }
+    ensures refused { IfErr result.outcome (λ fault. RunIsRefused M.meaning D.state model.now end
+        plan disk result.disk fault) }
+    // Crash safety: what recovered to at least time `a` before still does, during and after the
+    // run, at every exit. After a run that reached its end, it recovers to at least the end.
+    ensures crashes { (a : ℕ) → Recovers (M.meaning model.now) end a (D.state disk) →
+        KeepsRecovery (M.meaning model.now) end a a (D.state disk) (D.state result.disk) }
+    ensures committed { IsGenuine (M.meaning model.now) end (D.state disk).reads →
+        OnOk result.outcome (Recovers (M.meaning model.now) end end (D.state result.disk)) }
+    // The same if each image represents a world under its own end, as after a stopped call that
+    // named a later one.
+    ensures under_its_end { (a : ℕ) → RecoversUnderItsEnd (M.meaning model.now) a (D.state disk) →
+        KeepsUnderItsEnd (M.meaning model.now) a a (D.state disk) (D.state result.disk) }
+    ensures acknowledged { (a : ℕ) → RecoversUnderItsEnd (M.meaning model.now) a (D.state disk) →
+        IfOk result.outcome (λ done. IsRunOf (M.meaning model.now) end done.time done.events
+        × KeepsUnderItsEnd (M.meaning model.now) a done.time (D.state disk) (D.state result.disk)) }
+{
+    let run = match PlainRun::open(alloc, model, disk, end) {
+        Ok(run) => run,
+        Err(Stopped { fault, disk }) => {
+            return Ran {
+                disk,
+                outcome: Err(fault),
+            };
+        }
+    };
+    match make_rounds(run, plan, watch) {
+        Ok(run) => {
+            let done = Finished {
+                time: run.time(),
+                events: run.events(),
+            };
+            Ran {
+                disk: run.into_disk(),
+                outcome: Ok(done),
+            }
+        }
+        Err(Stopped { fault, disk }) => Ran {
+            disk,
+            outcome: Err(fault),
+        },
+    }
+}
+
+/// Commits until the end is reached.
+fn make_rounds<'m, M: Simulated, D: SectorDisk, W: Watch>(
+    run: PlainRun<'m, M, D>,
+    plan: Plan,
+    watch: &mut W,
+) -> Result<PlainRun<'m, M, D>, Stopped<D>>
+    ensures made { IfOk result (λ last. (number : ℕ) × (number ≤ plan.commits)
+        × AreRounds M.meaning D.state plan number run.entry last
+        × (last.front.end ≤ last.front.world.time)) }
+    ensures stopped { IfErr result (λ e. IsStopped M.meaning D.state plan run.entry e.disk e.fault) }
+{
+    watch.stored(run.used(), run.sectors());
+    let mut run = run;
+    'commits: for number in 0..plan.commits {
+        if run.end() <= run.time() {
+            return Ok(run);
+        }
+        run = match make_round(run, plan, number + 1, watch) {
+            Ok(next) => next,
+            Err(stopped) => return Err(stopped),
+        };
+    }
+    if run.end() <= run.time() {
+        return Ok(run);
+    }
+    Err(Stopped {
+        fault: PlainFault::Commits,
+        disk: run.into_disk(),
+    })
+}
+
+/// Makes the commit of this number, and a checkpoint if one is due.
+fn make_round<'m, M: Simulated, D: SectorDisk, W: Watch>(
+    run: PlainRun<'m, M, D>,
+    plan: Plan,
+    number: u32,
+    watch: &mut W,
+) -> Result<PlainRun<'m, M, D>, Stopped<D>>
+    requires { run.front.world.time < run.front.end }
+    ensures made { IfOk result (λ next. IsRound M.meaning D.state plan number run.entry next) }
+    ensures refused { IfErr result (λ e.
+        RoundIsRefused M.meaning D.state plan number run.entry e.disk e.fault) }
+    ensures crashes_err { IfErr result (λ e. StaysRecoverable M.meaning D.state run.entry e.disk) }
+{
+    let run = match run.commit(plan.commit_every) {
+        Ok(run) => run,
+        Err(stopped) => return Err(stopped),
+    };
+    watch.committed(run.time(), run.events());
+    let run = match save_if(run, is_kept(plan.checkpoint_every, number)) {
+        Ok(run) => run,
+        Err(stopped) => return Err(stopped),
+    };
+    watch.stored(run.used(), run.sectors());
+    Ok(run)
+}
+
+/// Makes a checkpoint if one is due.
+fn save_if<'m, M: Simulated, D: SectorDisk>(
+    run: PlainRun<'m, M, D>,
+    due: bool,
+) -> Result<PlainRun<'m, M, D>, Stopped<D>>
+    ensures saved { IfOk result (λ next. IsSavedIf M.meaning D.state due run.entry next) }
+    ensures refused { IfErr result (λ e. (due ≡ true) × SavingIsRefused run.entry.front.world
+        run.entry.log.records (length (D.state run.entry.log.disk).reads)
+        ((D.state run.entry.log.disk).failures < (D.state e.disk).failures) e.fault) }
+    ensures crashes_err { IfErr result (λ e. StaysRecoverable M.meaning D.state run.entry e.disk) }
+{
+    if due { run.checkpoint() } else { Ok(run) }
+}
+
+/// Returns whether a checkpoint follows the commit of this number.
+fn is_kept(every: u32, number: u32) -> bool
+    ensures { result ≡ is_kept every number }
+{
+    every > 0 && number % every == 0
+}

@@ -1,0 +1,227 @@
+// What a user reads below a fault: what to do about it, and what the files of the command say.
+
+use crate::fault::Fault;
+use cli::{Command, most_sectors};
+use commitlog::LogFault;
+use coordinator::SessionFault;
+use migration::MigrateFault;
+use recovery::RecoveryFault;
+use std::fs::File;
+use std::io::Write;
+use std::rt::Files;
+use terminal::{Cause, Progress, cause_of};
+use texts::{Described, Printable, Report};
+use views::{committed_on, difference_of, mistakes_of};
+
+/// Passes the advice for the fault of a command to `progress`, and the cause of a `File` if
+/// `progress` is seen. If `progress` is not seen but advice is asked for, both are printed on `err`.
+///
+/// In both cases `err` gets what the files of the command say about the fault, if they say
+/// something, in place of the advice.
+pub(crate) fn advise<M, R, P, E>(
+    rt: &R,
+    command: Command<'_>,
+    fault: Fault,
+    is_asked: bool,
+    progress: &mut P,
+    err: &mut E,
+)
+where
+    M: Described,
+    R: Files<File = File> + AllocGlobal,
+    P: Progress,
+    E: Write,
+{
+    let is_seen = progress.is_seen();
+    let is_wanted = is_seen || is_asked;
+    let is_explained = is_wanted && explain::<M, R, E>(rt, command, fault, err);
+    if is_wanted && stops_a_run(command, fault) {
+        print_committed::<M, R, E>(rt, paths_of(command), err);
+    }
+    let cause = if is_wanted && matches!(fault, Fault::File) {
+        cause_of(rt, command)
+    } else {
+        None
+    };
+    let advice = if is_explained {
+        None
+    } else {
+        advice_of(command, fault)
+    };
+    progress.failed(advice, cause);
+    if is_asked && !is_seen {
+        print_advice(advice, cause, err);
+    }
+}
+
+/// Whether a run that had begun stopped with this fault.
+fn stops_a_run(command: Command<'_>, fault: Fault) -> bool {
+    match (command, fault) {
+        (Command::Run(_), Fault::Session(SessionFault::Recovery(_))) => false,
+        (Command::Run(_), Fault::Session(_) | Fault::Rounds) => true,
+        _ => false,
+    }
+}
+
+/// Prints up to which time everything is committed on the disk of a command.
+fn print_committed<M, R, E>(rt: &R, paths: Paths<'_>, err: &mut E)
+where
+    M: Described,
+    R: Files<File = File> + AllocGlobal,
+    E: Write,
+{
+    let Some(disk) = paths.disk else {
+        return;
+    };
+    let most = most_sectors(paths.large);
+    if let Some(time) = committed_on::<M, R>(rt, paths.model, disk, most) {
+        let disk = Printable(disk);
+        let _ = writeln!(err, "{disk} has all events before {time} ticks");
+    }
+}
+
+/// Prints the cause of a `File`, or else the advice, if there is one.
+fn print_advice<E: Write>(advice: Option<&'static str>, cause: Option<Cause<'_>>, err: &mut E) {
+    if let Some(cause) = cause {
+        let _ = writeln!(err, "{cause}");
+    } else if let Some(advice) = advice {
+        let _ = writeln!(err, "{advice}");
+    }
+}
+
+/// The advice for a fault of a command. A command that writes to a disk prints its report once all
+/// is done, so if only the report is refused, the advice says so.
+fn advice_of(command: Command<'_>, fault: Fault) -> Option<&'static str> {
+    match (fault, command) {
+        (Fault::Output, Command::Run(_)) => Some(
+            "the run is at its end, and everything is committed: only its report was not printed",
+        ),
+        (
+            Fault::Output,
+            Command::New(_)
+            | Command::Extend(_)
+            | Command::Grow(_)
+            | Command::Migrate(_)
+            | Command::Reopen(_),
+        ) => Some("the command is done: only its report was not printed"),
+        (Fault::Log(LogFault::NotBlank), Command::Migrate(_)) => Some(
+            "the disk NEW has a log already: if an earlier `migrate` to it was stopped, it is \
+             partial: remove its file, and call `migrate` again",
+        ),
+        _ => fault.advice(),
+    }
+}
+
+/// The files that a command reads.
+#[derive(Clone, Copy)]
+struct Paths<'a> {
+    /// The model file.
+    model: &'a str,
+    /// The disk, if there is one.
+    disk: Option<&'a str>,
+    /// Whether the disk may be a large one.
+    large: bool,
+    /// The format of the disks that the command reads.
+    format: u32,
+}
+
+/// Prints what the files of a command say about its fault. Returns whether they say something.
+fn explain<M, R, E>(rt: &R, command: Command<'_>, fault: Fault, err: &mut E) -> bool
+where
+    M: Described,
+    R: Files<File = File> + AllocGlobal,
+    E: Write,
+{
+    let paths = paths_of(command);
+    match fault {
+        Fault::BadModel => explain_model::<M, R, E>(rt, paths.model, err),
+        Fault::Recovery(RecoveryFault::OtherModel)
+        | Fault::Session(SessionFault::Recovery(RecoveryFault::OtherModel))
+        | Fault::Migrate(MigrateFault::Old(RecoveryFault::OtherModel)) => {
+            explain_disk::<M, R, E>(rt, paths, err)
+        }
+        Fault::NoSuchProcess { processes } => {
+            let last = processes.saturating_sub(1);
+            let _ = writeln!(err, "the model has the processes 0 to {last}");
+            true
+        }
+        _ => false,
+    }
+}
+
+/// Prints all mistakes of a file that is not a model file.
+fn explain_model<M, R, E>(rt: &R, path: &str, err: &mut E) -> bool
+where
+    M: Described,
+    R: Files<File = File> + AllocGlobal,
+    E: Write,
+{
+    let Some(wrong) = mistakes_of::<M, R>(rt, path) else {
+        return false;
+    };
+    let report = Report {
+        path,
+        text: wrong.text.as_slice(),
+        mistakes: &wrong.mistakes,
+    };
+    let _ = write!(err, "{report}");
+    true
+}
+
+/// Prints how a disk and a model file differ.
+fn explain_disk<M, R, E>(rt: &R, paths: Paths<'_>, err: &mut E) -> bool
+where
+    M: Described,
+    R: Files<File = File> + AllocGlobal,
+    E: Write,
+{
+    let Some(disk) = paths.disk else {
+        return false;
+    };
+    let most = most_sectors(paths.large);
+    let format = paths.format;
+    let Some(difference) = difference_of::<M, R>(rt, paths.model, disk, most, format) else {
+        return false;
+    };
+    let (model, disk) = (Printable(paths.model), Printable(disk));
+    let _ = writeln!(
+        err,
+        "{disk} is {}; {model} is {}",
+        difference.disk, difference.file
+    );
+    if let Some(advice) = difference.advice() {
+        let _ = writeln!(err, "{advice}");
+    }
+    true
+}
+
+/// The files that a command reads.
+fn paths_of<'a>(command: Command<'a>) -> Paths<'a> {
+    let (model, disk, large) = match command {
+        Command::New(args) => (args.on.model, None, false),
+        Command::Run(args) => (args.on.model, Some(args.on.disk), args.on.large),
+        Command::Extend(args)
+        | Command::Reopen(args)
+        | Command::Status(args)
+        | Command::Verify(args)
+        | Command::Show(args) => { (args.model, Some(args.disk), args.large) }
+        Command::Grow(args) => (args.on.model, Some(args.on.disk), args.on.large),
+        Command::Migrate(args) => (args.model, Some(args.old), args.large),
+        Command::Log(args) => (args.on.model, Some(args.on.disk), args.on.large),
+        Command::Stats(args) => (args.of.model, args.of.disk, args.of.large),
+        Command::Draw(args) => (args.of.model, args.of.disk, args.of.large),
+        Command::Seq(args) | Command::Check(args) => (args.model, None, false),
+        Command::Node(args) => (args.model, None, false),
+    };
+    let format = if matches!(command, Command::Migrate(_)) {
+        1
+    } else {
+        2
+    };
+    Paths {
+        model,
+        disk,
+        large,
+        format,
+    }
+}

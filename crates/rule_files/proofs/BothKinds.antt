@@ -1,0 +1,46 @@
+-- Model files of both kinds.
+use Rattle.std.proofs.Common.{◌≡◌, ℕ, List, [], true, false, option_and_then, Result, Ok, Err, IfOk, ap, sym, ◌∙◌, if◌then◌else◌}
+use Rattle.models.specs.declared.any_model.AnyModel.{AnyModel}
+use Rattle.models.specs.declared.any_model.AnyModel.TheVariants.{JobShop, Phold, TokenRing}
+use Rattle.rule_files.proofs.Right.{table_right}
+use Rattle.rule_files.specs.FileTable.{IsFileTable, IsRulesTable, file_wrong, is_rules, is_rules_kind, rules_table_wrong}
+use Rattle.rule_files.specs.declared.file_model.FileModel.{FileModel}
+use Rattle.rule_files.specs.declared.file_model.FileModel.TheVariants.{BuiltIn, Rules}
+use Rattle.rules.specs.Limits.{IsWithin}
+use Rattle.rules.specs.Rules.{Description, GoodRules}
+use Rattle.texts.specs.AnyModel.{IsTableOf, any_wrong}
+use Rattle.texts.specs.ModelFile.{Wrong}
+use Rattle.toml.specs.Data.{Members, as_str}
+
+pub same_fault : {A E : Type 0} (f g : E) → ◌≡◌ {A = Result A E} (Err f) (Err g) → f ≡ g
+same_fault f g e = cc
+
+built_in : (t : Members) (m : AnyModel) (end : ℕ) → IsTableOf t m end → is_rules t ≡ false
+unfolding is_rules
+built_in t (TokenRing r) end h = ap (λ o. is_rules_kind (option_and_then as_str o)) h.model
+built_in t (Phold p) end h = ap (λ o. is_rules_kind (option_and_then as_str o)) h.model
+built_in t (JobShop s) end h = ap (λ o. is_rules_kind (option_and_then as_str o)) h.model
+
+module _ (t : Members) where
+  pub file_right : (r : GoodRules) (end : ℕ) → IsRulesTable t r.description end → file_wrong t ≡ []
+  file_right r end h =
+      ap (λ b. if b then rules_table_wrong t else any_wrong t) h.kind ∙ table_right t r.description end h r.good.start r.good.handle
+
+  module _ (kind : is_rules t ≡ true) where
+    not_built_in : (m : AnyModel) (end : ℕ) → IsTableOf t m end → ⊥
+    not_built_in m end h = let e : true ≡ false = sym kind ∙ built_in t m end h in cc
+
+    pub no_file : ((d : Description) (end : ℕ) → IsWithin d.start → IsWithin d.handle → ¬ IsRulesTable t d end)
+        → (model : FileModel) (end : ℕ) → ¬ IsFileTable t model end
+    no_file none (BuiltIn m) end h = not_built_in m end h
+    no_file none (Rules r) end h = none r.description end r.good.start r.good.handle h
+
+    pub rules_right : (model : FileModel) (end : ℕ) → IsFileTable t model end → rules_table_wrong t ≡ []
+    rules_right (BuiltIn m) end h = absurd (not_built_in m end h)
+    rules_right (Rules r) end h = table_right t r.description end h r.good.start r.good.handle
+
+  pub of_file : {E : Type 0} (r : Result (List Wrong) E)
+      → IfOk r (λ found. found ≡ [] → (m : AnyModel) × (end : ℕ) × IsTableOf t m end)
+      → IfOk r (λ found. found ≡ [] → (x : FileModel) × (end : ℕ) × IsFileTable t x end)
+  of_file (Ok found) h = λ e. let (m, end, is) = h e in (BuiltIn m, end, is)
+  of_file (Err e) h = tt

@@ -1,0 +1,5 @@
+pub mod Lists
+pub mod Seam
+pub mod Names
+pub mod Right
+pub mod BothKinds

@@ -1,0 +1,124 @@
+-- What is spelled is a rule.
+use Rattle.std.proofs.Common.{◌≡◌, ◌≤◌, ◌<◌, ℕ, ◌+◌, ◌*◌, ◌&&◌, List, [], ◌∷◌, Bool, true, false, Option, Some, None, ap, refl, sym, ◌∙◌, subst, arith, max, nat_le}
+use Rattle.std.proofs.lemmas.Bool.Decides.{nat_tests}
+use Rattle.rule_files.specs.Reading.{Spells, act_cost, acts_cost, are_within, dictionary, is_rule, tree_cost}
+use Rattle.rule_files.specs.RuleFile.{Parts}
+use Rattle.rules.specs.Costs.{cost, cost_of, cost_of_all, cost_of_row, draw_cost, send_cost, step_cost}
+use Rattle.rules.specs.Limits.{Exceeds, IsWithin}
+use Rattle.rules.specs.declared.limits.Limit.{Limit}
+use Rattle.rules.specs.declared.limits.Limit.TheVariants.{Draws, Sends, Steps}
+use Rattle.rules.specs.declared.limits.TheConstants.{MAX_DRAWS, MAX_SENDS, MAX_STEPS}
+use Rattle.rules.specs.declared.tree.Expression.{Expression}
+use Rattle.rules.specs.declared.tree.Expression.TheVariants as e
+use Rattle.rules.specs.declared.tree.Statement.{Statement, Row_of-Statement, end_of-Statement, more_of-Statement}
+use Rattle.rules.specs.declared.tree.Statement.TheVariants as s
+use Rattle.rules_text.specs.Grammar.{tree_of}
+use Rattle.rules_text.specs.Scopes.{Dictionary}
+use Rattle.rules_text.specs.Statements.{Acts, act_of, acts_of, acts_of_row}
+use Rattle.rules_text.specs.Texts.{IsForMemory, IsRule, read_at}
+use Rattle.rules_text.specs.declared.mistakes.Mistake.{Mistake}
+use Rattle.rules_text.specs.declared.read.ReadError.{ReadError}
+use Rattle.rules_text.specs.declared.read.ReadError.TheVariants.{Mistaken}
+use Rattle.rules_text.proofs.Whole.{read_is, read_only}
+
+-- 1. A tree costs what the text spells
+
+pub tree_cost_is : (c : Limit) (x : Expression) → tree_cost c (tree_of x) ≡ cost c x
+tree_cost_is c (e.Number n) = refl
+tree_cost_is c (e.Word i) = refl
+tree_cost_is c (e.Content i) = refl
+tree_cost_is c (e.Local i) = refl
+tree_cost_is c (e.Read known) = refl
+tree_cost_is c (e.Not' p x) = ap (λ n. step_cost c + n) (tree_cost_is c x)
+tree_cost_is c (e.Two' o p x q y) =
+    ap (λ n. step_cost c + n + tree_cost c (tree_of y)) (tree_cost_is c x) ∙ ap (λ n. step_cost c + cost c x + n) (tree_cost_is c y)
+tree_cost_is c (e.Entry' table p x) = ap (λ n. step_cost c + n) (tree_cost_is c x)
+tree_cost_is c (e.Draw' p x) = ap (λ n. draw_cost c + n) (tree_cost_is c x)
+
+six : (k a b d f g h a2 b2 d2 f2 g2 h2 : ℕ) → a ≡ a2 → b ≡ b2 → d ≡ d2 → f ≡ f2 → g ≡ g2 → h ≡ h2
+    → k + (a + b + d + f + g + h) ≡ k + (a2 + b2 + d2 + f2 + g2 + h2)
+six k a b d f g h a2 b2 d2 f2 g2 h2 p q r s u v = cc
+
+mutual
+  act_cost_is : (c : Limit) (x : Statement) → act_cost c (act_of x) ≡ cost_of c x
+  act_cost_is c (s.Let i x) = ap (λ n. step_cost c + n) (tree_cost_is c x)
+  act_cost_is c (s.Set i x) = ap (λ n. step_cost c + n) (tree_cost_is c x)
+  act_cost_is c (s.Send x) =
+      six (send_cost c) _ _ _ _ _ _ _ _ _ _ _ _ (tree_cost_is c x.to) (tree_cost_is c x.after) (tree_cost_is c x.a) (tree_cost_is c x.b) (tree_cost_is c x.c) (tree_cost_is c x.d)
+  act_cost_is c (s.If' x p met q unmet) =
+      ap (λ n. step_cost c + n + max (acts_cost c (acts_of_row met)) (acts_cost c (acts_of_row unmet))) (tree_cost_is c x)
+      ∙ ap (λ n. step_cost c + cost c x + max n (acts_cost c (acts_of_row unmet))) (row_cost_is c met)
+      ∙ ap (λ n. step_cost c + cost c x + max (cost_of_row c met) n) (row_cost_is c unmet)
+  act_cost_is c (s.Repeat' i n p body) = ap (λ k. step_cost c + n * (step_cost c + k)) (row_cost_is c body)
+
+  row_cost_is : (c : Limit) {m : _} (row : Row_of-Statement m) → acts_cost c (acts_of_row row) ≡ cost_of_row c row
+  row_cost_is c end_of-Statement = refl
+  row_cost_is c (more_of-Statement x rest) =
+      ap (λ n. n + acts_cost c (acts_of_row rest)) (act_cost_is c x) ∙ ap (λ n. cost_of c x + n) (row_cost_is c rest)
+
+pub acts_cost_is : (c : Limit) (xs : List Statement) → acts_cost c (acts_of xs) ≡ cost_of_all c xs
+acts_cost_is c [] = refl
+acts_cost_is c (x ∷ xs) = ap (λ n. n + acts_cost c (acts_of xs)) (act_cost_is c x) ∙ ap (λ n. cost_of c x + n) (acts_cost_is c xs)
+
+-- 2. Within the limits, or not
+
+abbrev all_below : ℕ → ℕ → ℕ → Bool
+all_below a b d = nat_le a MAX_SENDS && (nat_le b MAX_DRAWS && nat_le d MAX_STEPS)
+
+below : (a b d : ℕ) → a ≤ MAX_SENDS → b ≤ MAX_DRAWS → d ≤ MAX_STEPS → all_below a b d ≡ true
+below a b d p q r = grind (arith, nat_tests)
+
+costs_are : (xs : List Statement) → are_within (Some (acts_of xs)) ≡ all_below (cost_of_all Sends xs) (cost_of_all Draws xs) (cost_of_all Steps xs)
+costs_are xs =
+    ap (λ n. all_below n (acts_cost Draws (acts_of xs)) (acts_cost Steps (acts_of xs))) (acts_cost_is Sends xs)
+    ∙ ap (λ n. all_below (cost_of_all Sends xs) n (acts_cost Steps (acts_of xs))) (acts_cost_is Draws xs)
+    ∙ ap (λ n. all_below (cost_of_all Sends xs) (cost_of_all Draws xs) n) (acts_cost_is Steps xs)
+
+first_above : (a b d : ℕ) → MAX_SENDS < a → all_below a b d ≡ false
+first_above a b d p = grind (arith, nat_tests)
+
+second_above : (a b d : ℕ) → a ≤ MAX_SENDS → MAX_DRAWS < b → all_below a b d ≡ false
+second_above a b d p q = grind (arith, nat_tests)
+
+third_above : (a b d : ℕ) → a ≤ MAX_SENDS → b ≤ MAX_DRAWS → MAX_STEPS < d → all_below a b d ≡ false
+third_above a b d p q r = grind (arith, nat_tests)
+
+not_below : (limit : Limit) (xs : List Statement) → Exceeds limit xs → all_below (cost_of_all Sends xs) (cost_of_all Draws xs) (cost_of_all Steps xs) ≡ false
+not_below Sends xs h = first_above (cost_of_all Sends xs) (cost_of_all Draws xs) (cost_of_all Steps xs) h
+not_below Draws xs h = second_above (cost_of_all Sends xs) (cost_of_all Draws xs) (cost_of_all Steps xs) h.0 h.1
+not_below Steps xs h = third_above (cost_of_all Sends xs) (cost_of_all Draws xs) (cost_of_all Steps xs) h.0 h.1 h.2
+
+-- 3. What is spelled within the limits is a rule; nothing else is
+
+pub spelled : (p : Parts) (text : List ℕ) (rule : List Statement) → Spells p text rule → IsWithin rule → is_rule p text ≡ true
+unfolding Spells is_rule
+spelled p text rule h within =
+    ap are_within (read_is (dictionary p) text (acts_of rule) h) ∙ costs_are rule ∙ below (cost_of_all Sends rule) (cost_of_all Draws rule) (cost_of_all Steps rule) within.sends within.draws within.steps
+
+pub exceeding : (p : Parts) (text : List ℕ) (rule : List Statement) (limit : Limit) → Spells p text rule → Exceeds limit rule → is_rule p text ≡ false
+unfolding Spells is_rule
+exceeding p text rule limit h exceeds =
+    ap are_within (read_is (dictionary p) text (acts_of rule) h) ∙ costs_are rule ∙ not_below limit rule exceeds
+
+nothing_read : (scope : Dictionary) (text : List ℕ) (read : Option Acts) → read_at scope text ≡ read
+    → ((acts : Acts) → ¬ IsRule scope text acts) → are_within read ≡ false
+nothing_read scope text None e none = refl
+nothing_read scope text (Some acts) e none = absurd (none acts (read_only scope text acts e))
+
+pub not_spelled : (p : Parts) (text : List ℕ) → ((acts : Acts) → ¬ IsRule (dictionary p) text acts) → is_rule p text ≡ false
+unfolding is_rule
+not_spelled p text none = nothing_read (dictionary p) text (read_at (dictionary p) text) refl none
+
+-- 4. The same, where the names are known by another name
+
+module _ (p : Parts) (text : List ℕ) (scope : Dictionary) (e : scope ≡ dictionary p) where
+  pub rule_is : (rule : List Statement) → IsRule scope text (acts_of rule) → IsWithin rule → is_rule p text ≡ true
+  unfolding Spells
+  rule_is rule h within = spelled p text rule (subst (λ d. IsRule d text (acts_of rule)) e h) within
+
+  pub rule_exceeds : (rule : List Statement) (limit : Limit) → IsRule scope text (acts_of rule) → Exceeds limit rule → is_rule p text ≡ false
+  unfolding Spells
+  rule_exceeds rule limit h exceeds = exceeding p text rule limit (subst (λ d. IsRule d text (acts_of rule)) e h) exceeds
+
+  pub no_rule : (err : ReadError) (mistake : Mistake) → err ≡ Mistaken mistake → ((acts : Acts) → IsRule scope text acts → IsForMemory err) → is_rule p text ≡ false
+  no_rule err mistake is only = not_spelled p text (λ acts h. subst IsForMemory is (only acts (subst (λ d. IsRule d text acts) (sym e) h)))

@@ -1,0 +1,6 @@
+-- For callers
+pub mod FileModel  -- what a model that a file describes means
+pub mod RuleFile  -- what the file of a model by rules says
+pub mod Reading  -- which text spells which rule
+pub mod FileTable  -- model files of all models
+pub mod Names  -- names in the file of a model by rules

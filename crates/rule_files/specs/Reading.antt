@@ -1,0 +1,96 @@
+-- Which text spells which rule (this project's profile), by the names that a model file gives.
+use Rattle.std.specs.Prelude.{ℕ, ◌+◌, ◌*◌, List, [], ◌∷◌, ◌++◌, Option, Some, None, Bool, false}
+use Rattle.std.specs.Prelude.{◌&&◌, drop, if◌then◌else◌, length, map, max, nat_le}
+use Rattle.std.specs.List.{list_any}
+use Rattle.rule_files.specs.Names.{is_key}
+use Rattle.rule_files.specs.RuleFile.{Parts, other_names}
+use Rattle.rules.specs.Costs.{draw_cost, send_cost, step_cost}
+use Rattle.rules.specs.declared.limits.Limit.{Limit}
+use Rattle.rules.specs.declared.limits.Limit.TheVariants.{Draws, Sends, Steps}
+use Rattle.rules.specs.declared.limits.TheConstants.{MAX_DRAWS, MAX_SENDS, MAX_STEPS}
+use Rattle.rules.specs.declared.tree.Statement.{Statement}
+use Rattle.rules_text.specs.Grammar.{Tree, Number, Word, Content, Local, Read, Not, Two, Entry, Draw}
+use Rattle.rules_text.specs.Scopes.{Dictionary}
+use Rattle.rules_text.specs.Statements.{Act, Acts, Let, Set, Send, If, Repeat, empty, cons, acts_of}
+use Rattle.rules_text.specs.Texts.{IsRule, read_at}
+use Rattle.rules_text.specs.declared.token.Token.{Token}
+use Rattle.rules_text.specs.declared.token.Token.TheVariants as t
+
+-- 1. What the names of a file mean
+
+-- the words of the state, by their places; the key has a place but no name
+abbrev pub words_from : ℕ → List (List ℕ) → List (List ℕ × Token)
+words_from i [] = []
+words_from i (word ∷ words) =
+    if is_key word then words_from (i + 1) words else (word, t.Word i) ∷ words_from (i + 1) words
+
+-- the words of content, by their places
+abbrev pub content_from : ℕ → List (List ℕ) → List (List ℕ × Token)
+content_from i [] = []
+content_from i (name ∷ names) = (name, t.Content i) ∷ content_from (i + 1) names
+
+-- the tables, by their places
+abbrev pub tables_from : ℕ → List (List ℕ × List ℕ) → List (List ℕ × Token)
+tables_from i [] = []
+tables_from i (table ∷ tables) = (table.0, t.Table i) ∷ tables_from (i + 1) tables
+
+abbrev pub value_of : List ℕ → ℕ
+value_of [] = 0
+value_of (n ∷ ns) = n
+
+abbrev pub number_names : List (List ℕ × List ℕ) → List (List ℕ × Token)
+number_names ns = map (λ n. (n.0, t.Number (value_of n.1))) ns
+
+-- all names; rules may draw if the state has a key
+abbrev pub dictionary : Parts → Dictionary
+dictionary p = record {
+  draws = list_any is_key p.words;
+  entries =
+      (((words_from 0 p.words ++ content_from 0 p.content)
+      ++ content_from (length p.content) (drop (length p.content) other_names))
+      ++ number_names p.numbers)
+      ++ tables_from 0 p.tables;
+}
+
+-- the text spells this rule, by these names
+unfoldable pub Spells : Parts → List ℕ → List Statement → Type 0
+Spells parts text rule = IsRule (dictionary parts) text (acts_of rule)
+
+-- 2. Whether a text is a rule within the limits
+
+-- the costs of what a text spells, which are those of its trees
+abbrev pub tree_cost : Limit → Tree → ℕ
+tree_cost c (Number n) = step_cost c
+tree_cost c (Word i) = step_cost c
+tree_cost c (Content i) = step_cost c
+tree_cost c (Local i) = step_cost c
+tree_cost c (Read known) = step_cost c
+tree_cost c (Not x) = step_cost c + tree_cost c x
+tree_cost c (Two o x y) = step_cost c + tree_cost c x + tree_cost c y
+tree_cost c (Entry table x) = step_cost c + tree_cost c x
+tree_cost c (Draw x) = draw_cost c + tree_cost c x
+
+abbrev mutual
+  pub act_cost : Limit → Act → ℕ
+  act_cost c (Let i x) = step_cost c + tree_cost c x
+  act_cost c (Set i x) = step_cost c + tree_cost c x
+  act_cost c (Send to after four) =
+      send_cost c
+      + (tree_cost c to + tree_cost c after + tree_cost c four.a + tree_cost c four.b + tree_cost c four.c + tree_cost c four.d)
+  act_cost c (If x met unmet) =
+      step_cost c + tree_cost c x + max (acts_cost c met) (acts_cost c unmet)
+  act_cost c (Repeat i n body) = step_cost c + n * (step_cost c + acts_cost c body)
+
+  pub acts_cost : Limit → Acts → ℕ
+  acts_cost c empty = 0
+  acts_cost c (cons x rest) = act_cost c x + acts_cost c rest
+
+abbrev pub are_within : Option Acts → Bool
+are_within None = false
+are_within (Some acts) =
+    nat_le (acts_cost Sends acts) MAX_SENDS
+    && (nat_le (acts_cost Draws acts) MAX_DRAWS && nat_le (acts_cost Steps acts) MAX_STEPS)
+
+-- the text spells a rule within the limits
+unfoldable pub is_rule : Parts → List ℕ → Bool
+is_rule parts text = are_within (read_at (dictionary parts) text)

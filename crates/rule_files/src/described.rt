@@ -1,0 +1,468 @@
+// Model files of all models.
+
+ghost use Rattle.std.specs.Prelude.{◌≡◌, ◌≢◌, ◌++◌, ◌≤◌, ◌^◌, ℕ, [], IfErr, IfOk, IfSome, IsErr};
+ghost use Rattle.std.specs.Prelude.{◌<◌, ◌==◌, true, is_some, option_and_then};
+ghost use Rattle.std.specs.Prelude.{IsNone, OnOk, Err, None, Some, codes, false, length, map};
+ghost use Rattle.std.specs.Prelude.{option_map, string_bytes, nat_lt};
+ghost use Rattle.rule_files.specs.FileTable.{IsBody, IsFileTable, IsRuleAt, IsRulesTable};
+ghost use Rattle.rule_files.specs.FileTable.{body_fits, file_text, file_wrong, head_wrong};
+ghost use Rattle.rule_files.specs.FileTable.{fits_names, is_rules, key_from, rest_of, rest_wrong};
+ghost use Rattle.rule_files.specs.FileTable.{rule_wrong};
+ghost use Rattle.rule_files.specs.FileTable.{names_wrong, rule_fits, rule_keys, rules_keys};
+ghost use Rattle.rule_files.specs.FileTable.{rules_of};
+ghost use Rattle.rule_files.specs.FileTable.{rules_table_wrong, rules_text, rules_wrong, seed_of};
+ghost use Rattle.rule_files.specs.FileTable.{seed_wrong, text_in};
+ghost use Rattle.rule_files.specs.RuleFile.{named_view, parts_of, parts_view};
+ghost use Rattle.rules.specs.Limits.{IsWithin};
+ghost use Rattle.rules.specs.Rules.{Description};
+ghost use Rattle.texts.specs.ModelFile.{number_at, unknown_wrong};
+ghost use Rattle.toml.specs.Data.{as_table, get_member, string};
+ghost use Rattle.toml.specs.View.{table_view};
+
+use crate::digest::digest_of;
+use crate::entries::{
+    CONTENT, NUMBERS, TABLES, TWICE, WORDS, has_content, has_numbers, has_scope, has_tables,
+    has_words, scope_of, value_at,
+};
+use crate::file_model::FileModel;
+use crate::reading::read_rule;
+use crate::scope::{Named, Scope, is_key};
+use model::Model as Simulated;
+use models::AnyModel;
+use rules::{MAX_LPS, Rules, RulesParts, Statement, Table as Numbers};
+use std::alloc::{AllocError, Global};
+use texts::{Described, Findings, Mistake, ModelFault, number_at, only, string_at};
+use toml::Table;
+
+/// The part of a program's help about the keys of the file of a model by rules.
+pub const RULES_KEYS: &str = "\
+A model by rules (model = \"rules\") has these keys:
+  lps         processes, 1 to 1024
+  end         ticks at which the run ends, 1 to 1099511627776
+  state       names of the words of a state, at most 16; key is the key of drawn words
+  seed        the first key, 0 to 9223372036854775807, if the state has the word key
+  message     names of the words of a message, at most 4; the others are a, b, c and d
+  numbers     a table of named numbers, 0 to 9223372036854775807
+  tables      a table of named lists of such numbers
+  rules       a table of two texts: start, what a process does when it starts, and handle,
+              what it does with a message";
+
+/// A model file is TOML with the keys of its model. The files of this project's models are those of
+/// `AnyModel`. The file of a model by rules has `model = "rules"`, `lps` (1 to 1,024 processes),
+/// `end` (1 to 2^40 ticks), `state` (at most 16 names), `seed` (0 to 2^63 - 1) if the state has the
+/// word `key`, `rules` with the texts `start` and `handle`, and maybe `message` (at most 4 names),
+/// `numbers` and `tables`. No name may be there twice.
+impl Described for FileModel {
+    ghost says = { IsFileTable };
+
+    ghost shows = { file_text };
+
+    ghost wrong = { file_wrong };
+
+    fn describe(alloc: Global, table: &Table) -> Result<(FileModel, u64), ModelFault> {
+        if is_rules(table) {
+            match rules_model_of(alloc, table) {
+                Ok((rules, end)) => Ok((FileModel::Rules(rules), end)),
+                Err(fault) => Err(fault),
+            }
+        } else {
+            match AnyModel::describe(alloc, table) {
+                Ok((model, end)) => Ok((FileModel::BuiltIn(model), end)),
+                Err(fault) => Err(fault),
+            }
+        }
+    }
+
+    fn mistakes(alloc: Global, table: &Table) -> Result<Findings, AllocError> {
+        if is_rules(table) {
+            match rules_model_of(alloc, table) {
+                Ok(_file) => Ok(Findings::new(alloc)),
+                Err(ModelFault::BadModel(_mistake)) => rules_mistakes_of(alloc, table),
+                Err(ModelFault::NoMemory) => Err(AllocError),
+            }
+        } else {
+            AnyModel::mistakes(alloc, table)
+        }
+    }
+
+    fn values(&self, alloc: Global, end: u64) -> Result<String, AllocError> {
+        match self {
+            FileModel::BuiltIn(model) => model.values(alloc, end),
+            FileModel::Rules(rules) => rules_values(alloc, rules, end),
+        }
+    }
+}
+
+#[tactic(auto, unfolding(crate::specs::FileTable::is_rules))]
+/// Returns whether a table has `model = "rules"`.
+fn is_rules(table: &Table) -> bool
+    ensures { result ≡ is_rules (table_view table.now) }
+{
+    match string_at(table, "model") {
+        Some(kind) => kind == "rules",
+        None => false,
+    }
+}
+
+/// Returns the lines of a model by rules.
+fn rules_values(alloc: Global, rules: &Rules, end: u64) -> Result<String, AllocError>
+    ensures { IfOk result (λ text. string_bytes text ≡ rules_text rules.now.description end) }
+{
+    let lps = rules.lps();
+    let words = rules.width();
+    let tables = rules.tables().len();
+    format!(in alloc;
+        "model: rules\nlps: {lps}\nend: {end}\nwords of state: {words}\ntables: {tables}\n"
+    )
+}
+
+/// The keys of the file of a model by rules.
+const KEYS: [&str; 9] = [
+    "model", "lps", "end", "seed", "message", "state", "numbers", "tables", "rules",
+];
+
+/// Returns the model by rules that a table describes, and the tick at which its run ends.
+fn rules_model_of(alloc: Global, table: &Table) -> Result<(Rules, u64), ModelFault>
+    requires { is_rules (table_view table.now) ≡ true }
+    ensures ok { IfOk result (λ file.
+        IsRulesTable (table_view table.now) file.0.description file.1) }
+    ensures bad { (mistake : Mistake) → result ≡ Err (ModelFault.BadModel mistake) →
+        (d : Description) (end : ℕ) → IsWithin d.start → IsWithin d.handle →
+        ¬ IsRulesTable (table_view table.now) d end }
+    ensures wrong { (mistake : Mistake) → result ≡ Err (ModelFault.BadModel mistake) →
+        rules_table_wrong (table_view table.now) ≢ [] }
+    ensures some { IfOk result (λ file. 1 ≤ file.1) }
+    ensures end { IfOk result (λ file. file.1 ≤ 2 ^ 40) }
+{
+    let (lps, end) = match head_of(table) {
+        Ok(head) => head,
+        Err(mistake) => return Err(ModelFault::BadModel(mistake)),
+    };
+    let body = match body_of(alloc, table) {
+        Ok(Ok(body)) => body,
+        Ok(Err(mistake)) => return Err(ModelFault::BadModel(mistake)),
+        Err(_) => return Err(ModelFault::NoMemory),
+    };
+    let Body {
+        width,
+        key,
+        seed,
+        digest,
+        tables,
+        start,
+        handle,
+    } = body;
+    let made = Rules::new(RulesParts {
+        lps: lps as u32,
+        digest,
+        width,
+        key,
+        seed,
+        tables,
+        start,
+        handle,
+    });
+    match made {
+        Ok(rules) => Ok((rules, end)),
+        Err(_) => Err(ModelFault::BadModel(NO_START)),
+    }
+}
+
+/// Returns the number of processes and the end of a table without unknown keys.
+fn head_of(table: &Table) -> Result<(u64, u64), Mistake>
+    ensures lps { IfOk result (λ head.
+        number_at (codes "lps") 1 1024 (table_view table.now) ≡ Some head.0) }
+    ensures last { IfOk result (λ head.
+        number_at (codes "end") 1 (2 ^ 40) (table_view table.now) ≡ Some head.1) }
+    ensures only { IfOk result (λ _. unknown_wrong rules_keys (table_view table.now) ≡ []) }
+    ensures some { IfOk result (λ head. (1 ≤ head.0) × (1 ≤ head.1)) }
+    ensures within { IfOk result (λ head. (head.0 ≤ 1024) × (head.1 ≤ 2 ^ 40)) }
+    ensures bad { IsErr result → head_wrong (table_view table.now) ≢ [] }
+{
+    let lps = number_at(table, "lps", 1, u64::from(MAX_LPS))?;
+    let end = number_at(table, "end", 1, 1 << 40)?;
+    only(table, &KEYS)?;
+    Ok((lps, end))
+}
+
+/// The parts of a model by rules, apart from the number of processes.
+#[derive(Drop)]
+struct Body {
+    width: u8,
+    key: Option<u8>,
+    seed: u64,
+    digest: [u64; 4],
+    tables: Vec<Numbers>,
+    start: Vec<Statement>,
+    handle: Vec<Statement>,
+}
+
+/// Reads the names and the rules of a table.
+fn body_of(alloc: Global, table: &Table) -> Result<Result<Body, Mistake>, AllocError>
+    ensures ok { IfOk result (λ read. IfOk read (λ body.
+        IsBody (table_view table.now) (record {
+          lps = 0;
+          digest = body.digest;
+          width = body.width;
+          key = body.key;
+          seed = body.seed;
+          tables = body.tables.items;
+          start = body.start.items;
+          handle = body.handle.items;
+        }))) }
+    ensures within { IfOk result (λ read. IfOk read (λ body.
+        IsWithin body.start.items × IsWithin body.handle.items)) }
+    ensures width { IfOk result (λ read. IfOk read (λ body. body.width ≤ 16)) }
+    ensures seed { IfOk result (λ read. IfOk read (λ body. body.seed < 2 ^ 63)) }
+    ensures bad { IfOk result (λ read. IsErr read → body_fits (table_view table.now) ≡ false) }
+{
+    let scope = match scope_of(alloc, table)? {
+        Ok(scope) => scope,
+        Err(mistake) => return Ok(Err(mistake)),
+    };
+    let key = key_of(scope.words.as_slice());
+    let seed = match seed_of(key, table) {
+        Some(seed) => seed,
+        None => return Ok(Err(NO_SEED)),
+    };
+    let Some(rules) = rules_at(table) else {
+        return Ok(Err(NO_RULES));
+    };
+    let Some(start) = rule_at(alloc, &scope, rules, "start")? else {
+        return Ok(Err(NO_START));
+    };
+    let Some(handle) = rule_at(alloc, &scope, rules, "handle")? else {
+        return Ok(Err(NO_HANDLE));
+    };
+    let tables = tables_in(alloc, scope.tables.as_slice())?;
+    let digest = digest_of(
+        &scope,
+        seed,
+        tables.as_slice(),
+        start.as_slice(),
+        handle.as_slice(),
+    );
+    Ok(Ok(Body {
+        width: scope.words.len() as u8,
+        key,
+        seed,
+        digest,
+        tables,
+        start,
+        handle,
+    }))
+}
+
+const NO_SEED: Mistake = Mistake::Not {
+    key: "seed",
+    expected: SEED,
+};
+
+const NO_RULES: Mistake = Mistake::Not {
+    key: "rules",
+    expected: RULES,
+};
+
+const NO_START: Mistake = Mistake::Not {
+    key: "rules.start",
+    expected: RULE,
+};
+
+const NO_HANDLE: Mistake = Mistake::Not {
+    key: "rules.handle",
+    expected: RULE,
+};
+
+const SEED: &str =
+    "a whole number from 0 to 9223372036854775807 if the state has key, otherwise nothing";
+
+const RULES: &str = "a table with the texts start and handle";
+
+const RULE: &str = "a rule of at most 65536 bytes";
+
+/// Returns the place of `key` among the words of the state.
+fn key_of(words: &[String]) -> Option<u8>
+    requires { length words.now ≤ 16 }
+    ensures { result ≡ key_from 0 (map string_bytes words.now) }
+{
+    for (place, word) in words.iter().enumerate() {
+        if is_key(word.as_str()) {
+            return Some(place as u8);
+        }
+    }
+    None
+}
+
+/// Returns the seed, which must be there exactly if the state has a key.
+fn seed_of(key: Option<u8>, table: &Table) -> Option<u64>
+    ensures seed { result ≡ seed_of key (table_view table.now) }
+    ensures within { IfSome result (λ seed. seed < 2 ^ 63) }
+{
+    match key {
+        Some(_) => number_at(table, "seed", 0, u64::MAX >> 1).ok(),
+        None => match value_at(table, "seed") {
+            Some(_) => None,
+            None => Some(0),
+        },
+    }
+}
+
+#[tactic(auto, unfolding(crate::specs::FileTable::rules_of))]
+/// Returns the table of the two rules.
+fn rules_at(table: &Table) -> Option<&Table>
+    ensures { option_map (λ t. table_view t.now) result ≡ rules_of (table_view table.now) }
+{
+    match table_at(table, "rules") {
+        Some(rules) if is_two_rules(rules) => Some(rules),
+        _ => None,
+    }
+}
+
+/// Returns the table at a key.
+fn table_at<'a>(table: &'a Table, key: &str) -> Option<&'a Table>
+    ensures { option_map (λ t. table_view t.now) result
+        ≡ option_and_then as_table (get_member key.now (table_view table.now)) }
+{
+    match value_at(table, key) {
+        Some(value) => value.as_table(),
+        None => None,
+    }
+}
+
+/// Returns whether a table has no keys but those of the two rules.
+fn is_two_rules(rules: &Table) -> bool
+    ensures { result ≡ (length (unknown_wrong rule_keys (table_view rules.now)) == 0) }
+{
+    only(rules, &["start", "handle"]).is_ok()
+}
+
+/// Returns the text of a rule: at most 65,536 bytes.
+fn text_at<'a>(rules: &'a Table, key: &str) -> Option<&'a str>
+    ensures { option_map (λ s. s.now) result ≡ text_in key.now (table_view rules.now) }
+{
+    match string_at(rules, key) {
+        Some(text) if text.len() <= 1 << 16 => Some(text),
+        _ => None,
+    }
+}
+
+/// Reads a rule.
+fn rule_at(
+    alloc: Global,
+    scope: &Scope,
+    rules: &Table,
+    key: &str,
+) -> Result<Option<Vec<Statement>>, AllocError>
+    ensures some { IfOk result (λ read. IfSome read (λ rule.
+        IsRuleAt key.now (parts_view scope.now) (table_view rules.now) rule.items)) }
+    ensures within { IfOk result (λ read. IfSome read (λ rule. IsWithin rule.items)) }
+    ensures fits { IfOk result (λ read.
+        is_some read ≡ rule_fits key.now (table_view rules.now) (parts_view scope.now)) }
+{
+    let Some(text) = text_at(rules, key) else {
+        return Ok(None);
+    };
+    match read_rule(alloc, scope, text)? {
+        Ok(rule) => Ok(Some(rule)),
+        Err(_) => Ok(None),
+    }
+}
+
+/// Copies the tables.
+fn tables_in(alloc: Global, named: &[Named]) -> Result<Vec<Numbers>, AllocError>
+    ensures { IfOk result (λ tables. tables.items ≡ map (λ n. n.1) (map named_view named.now)) }
+{
+    let mut tables = Vec::new(alloc);
+    for one in named {
+        let numbers = Vec::from_slice(alloc, one.numbers.as_slice())?;
+        tables.push(Numbers::from_numbers(numbers))?;
+    }
+    Ok(tables)
+}
+
+/// Finds all mistakes in the table of a model by rules.
+fn rules_mistakes_of(alloc: Global, table: &Table) -> Result<Findings, AllocError>
+    ensures { IfOk result (λ found. found ≡ rules_table_wrong (table_view table.now)) }
+{
+    let mut found = Findings::new(alloc);
+    found.number_at(alloc, table, "lps", 1, u64::from(MAX_LPS))?;
+    found.number_at(alloc, table, "end", 1, 1 << 40)?;
+    look_at_names(alloc, table, &mut found)?;
+    look_at_body(alloc, table, &mut found)?;
+    found.others(alloc, table, &KEYS)?;
+    Ok(found)
+}
+
+/// Checks the names of a table.
+fn look_at_names(alloc: Global, table: &Table, found: &mut Findings) -> Result<(), AllocError>
+    ensures { OnOk result (found.new ≡ found.old ++ names_wrong (table_view table.now)) }
+{
+    let words = has_words(alloc, table)?;
+    let content = has_content(alloc, table)?;
+    let numbers = has_numbers(alloc, table)?;
+    let tables = has_tables(alloc, table)?;
+    let fit = fits_names(has_scope(alloc, table)?, words, content, numbers, tables);
+    found.words_at(alloc, table, "state", WORDS, words)?;
+    found.words_at(alloc, table, "message", CONTENT, content)?;
+    found.words_at(alloc, table, "numbers", NUMBERS, numbers)?;
+    found.words_at(alloc, table, "tables", TABLES, tables)?;
+    found.words_at(alloc, table, "state", TWICE, fit)
+}
+
+/// Returns whether no name is there twice, or some names cannot be read.
+fn fits_names(distinct: bool, words: bool, content: bool, numbers: bool, tables: bool) -> bool
+    ensures { result ≡ fits_names distinct words content numbers tables }
+{
+    distinct || !(words && content && numbers && tables)
+}
+
+/// Checks the seed and the rules of a table.
+fn look_at_body(alloc: Global, table: &Table, found: &mut Findings) -> Result<(), AllocError>
+    ensures { OnOk result (found.new ≡ found.old ++ rest_wrong (table_view table.now)) }
+{
+    match scope_of(alloc, table)? {
+        Ok(scope) => look_at_both(alloc, table, &scope, found),
+        Err(_) => {
+            let there = rules_at(table).is_some();
+            found.words_at(alloc, table, "rules", RULES, there)
+        }
+    }
+}
+
+/// Checks the seed and the rules of a table whose names can be read.
+fn look_at_both(
+    alloc: Global,
+    table: &Table,
+    scope: &Scope,
+    found: &mut Findings,
+) -> Result<(), AllocError>
+    requires { length scope.now.words.items ≤ 16 }
+    ensures { OnOk result (found.new ≡ found.old ++ rest_of (Some (parts_view scope.now))
+        (rules_of (table_view table.now)) (table_view table.now)) }
+{
+    let seed = seed_of(key_of(scope.words.as_slice()), table);
+    found.words_at(alloc, table, "seed", SEED, seed.is_some())?;
+    match rules_at(table) {
+        Some(rules) => {
+            found.words_at(alloc, table, "rules", RULES, true)?;
+            look_at_rule(alloc, scope, rules, "start", found)?;
+            look_at_rule(alloc, scope, rules, "handle", found)
+        }
+        None => found.words_at(alloc, table, "rules", RULES, false),
+    }
+}
+
+/// Checks one rule.
+fn look_at_rule(
+    alloc: Global,
+    scope: &Scope,
+    rules: &Table,
+    key: &str,
+    found: &mut Findings,
+) -> Result<(), AllocError>
+    ensures { OnOk result (found.new ≡ found.old
+        ++ rule_wrong key.now (table_view rules.now) (parts_view scope.now)) }
+{
+    let rule = rule_at(alloc, scope, rules, key)?;
+    found.words_at(alloc, rules, key, RULE, rule.is_some())
+}

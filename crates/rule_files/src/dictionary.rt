@@ -1,0 +1,148 @@
+// The names of a model file, as the reader of rules knows them.
+
+ghost use Rattle.std.specs.Prelude.{◌≡◌, ◌<◌, ◌+◌, ◌∷◌, ◌++◌, IfOk, OnOk, drop, map, string_bytes};
+ghost use Rattle.std.specs.List.{list_any};
+ghost use Rattle.rule_files.specs.Names.{is_key};
+ghost use Rattle.rule_files.specs.Reading.{content_from, dictionary, number_names, tables_from};
+ghost use Rattle.rule_files.specs.Reading.{value_of, words_from};
+ghost use Rattle.rule_files.specs.RuleFile.{named_view, other_names, parts_view};
+ghost use Rattle.rules_text.specs.Scopes.{token_meant, with_entry};
+
+use crate::scope::{Named, OTHERS, Scope, is_key};
+use rules_text::{Meaning, Scope as Dictionary};
+use std::alloc::{AllocError, Global};
+
+/// Returns what the names of a model file mean in its rules.
+pub(crate) fn dictionary_of(alloc: Global, scope: &Scope) -> Result<Dictionary, AllocError>
+    ensures { IfOk result (λ names. names ≡ dictionary (parts_view scope.now)) }
+{
+    let mut names = Dictionary::new(alloc, has_key(scope.words.as_slice()));
+    add_words(alloc, &mut names, scope.words.as_slice())?;
+    add_content(alloc, &mut names, scope.content.as_slice())?;
+    add_others(alloc, &mut names, scope.content.len())?;
+    add_numbers(alloc, &mut names, scope.numbers.as_slice())?;
+    add_tables(alloc, &mut names, scope.tables.as_slice())?;
+    Ok(names)
+}
+
+/// Returns whether one of the words is `key`.
+fn has_key(words: &[String]) -> bool
+    ensures { result ≡ list_any is_key (map string_bytes words.now) }
+{
+    for word in words {
+        if is_key(word.as_str()) {
+            return true;
+        }
+    }
+    false
+}
+
+/// Adds one name. The names of a model file are names, no two of them the same, and their places
+/// fit, so that only memory can be missing.
+fn add(alloc: Global, names: &mut Dictionary, name: &str, what: Meaning) -> Result<(), AllocError>
+    ensures { OnOk result (names.new ≡ with_entry names.old name.now (token_meant what)) }
+{
+    match names.add(alloc, name, what) {
+        Ok(()) => Ok(()),
+        Err(_) => Err(AllocError),
+    }
+}
+
+/// Returns a place as a word of the state or of content has it.
+fn byte(place: usize) -> Result<u8, AllocError>
+    ensures { IfOk result (λ byte. byte ≡ place) }
+{
+    match u8::try_from(place) {
+        Ok(byte) => Ok(byte),
+        Err(_) => Err(AllocError),
+    }
+}
+
+/// Adds the words of the state but the key.
+fn add_words(alloc: Global, names: &mut Dictionary, words: &[String]) -> Result<(), AllocError>
+    ensures draws { OnOk result (names.new.draws ≡ names.old.draws) }
+    ensures entries { OnOk result (names.new.entries
+        ≡ names.old.entries ++ words_from 0 (map string_bytes words.now)) }
+{
+    for (place, word) in words.iter().enumerate() {
+        if !is_key(word.as_str()) {
+            add(alloc, names, word.as_str(), Meaning::Word(byte(place)?))?;
+        }
+    }
+    Ok(())
+}
+
+/// Adds the words of content that have a name.
+fn add_content(alloc: Global, names: &mut Dictionary, words: &[String]) -> Result<(), AllocError>
+    ensures draws { OnOk result (names.new.draws ≡ names.old.draws) }
+    ensures entries { OnOk result (names.new.entries
+        ≡ names.old.entries ++ content_from 0 (map string_bytes words.now)) }
+{
+    for (place, word) in words.iter().enumerate() {
+        add(alloc, names, word.as_str(), Meaning::Content(byte(place)?))?;
+    }
+    Ok(())
+}
+
+/// Adds the words of content that have no name of their own.
+fn add_others(alloc: Global, names: &mut Dictionary, count: usize) -> Result<(), AllocError>
+    ensures draws { OnOk result (names.new.draws ≡ names.old.draws) }
+    ensures entries { OnOk result (names.new.entries
+        ≡ names.old.entries ++ content_from count (drop count other_names)) }
+{
+    'others: for place in count..4 {
+        add(
+            alloc,
+            names,
+            other_name(place),
+            Meaning::Content(place as u8),
+        )?;
+    }
+    Ok(())
+}
+
+/// Returns the name that the word of content at this place has if it has none of its own.
+fn other_name(place: usize) -> &'static str
+    requires { place < 4 }
+    ensures { drop place other_names ≡ result.now ∷ drop (place + 1) other_names }
+{
+    OTHERS[place]
+}
+
+/// Adds the named numbers.
+fn add_numbers(alloc: Global, names: &mut Dictionary, more: &[Named]) -> Result<(), AllocError>
+    ensures draws { OnOk result (names.new.draws ≡ names.old.draws) }
+    ensures entries { OnOk result (names.new.entries
+        ≡ names.old.entries ++ number_names (map named_view more.now)) }
+{
+    for named in more {
+        let number = value_of(named.numbers.as_slice());
+        add(alloc, names, named.name.as_str(), Meaning::Number(number))?;
+    }
+    Ok(())
+}
+
+/// Returns the one number of a name.
+fn value_of(numbers: &[u64]) -> u64
+    ensures { result ≡ value_of numbers.now }
+{
+    match numbers.first() {
+        Some(number) => *number,
+        None => 0,
+    }
+}
+
+/// Adds the tables.
+fn add_tables(alloc: Global, names: &mut Dictionary, more: &[Named]) -> Result<(), AllocError>
+    ensures draws { OnOk result (names.new.draws ≡ names.old.draws) }
+    ensures entries { OnOk result (names.new.entries
+        ≡ names.old.entries ++ tables_from 0 (map named_view more.now)) }
+{
+    'tables: for (place, named) in more.iter().enumerate() {
+        let Ok(place) = u32::try_from(place) else {
+            return Err(AllocError);
+        };
+        add(alloc, names, named.name.as_str(), Meaning::Table(place))?;
+    }
+    Ok(())
+}

@@ -1,0 +1,68 @@
+// The models that a model file can describe.
+
+use eventkey::Message;
+use model::{Model as Simulated, Sends, Words};
+use models::AnyModel;
+use rules::Rules;
+use smallvec::SmallVec;
+use std::alloc::Global;
+
+/// A model that a model file can describe.
+#[derive(Debug, Drop)]
+pub enum FileModel {
+    /// One of the models of this project.
+    BuiltIn(AnyModel),
+    /// A model that is described by rules.
+    Rules(Rules),
+}
+
+impl Simulated for FileModel {
+    ghost use Rattle.rule_files.specs.FileModel.{file_lawful, file_meaning};
+
+    ghost meaning = { file_meaning };
+
+    ghost lawful = { file_lawful };
+
+    fn lps(&self) -> u32 {
+        match self {
+            FileModel::BuiltIn(model) => model.lps(),
+            FileModel::Rules(rules) => rules.lps(),
+        }
+    }
+
+    fn identity(&self, alloc: Global) -> SmallVec<u64, 8> {
+        match self {
+            FileModel::BuiltIn(model) => model.identity(alloc),
+            FileModel::Rules(rules) => rules.identity(alloc),
+        }
+    }
+
+    fn start(&self, alloc: Global, lp: u32) -> (Words, Sends) {
+        match self {
+            FileModel::BuiltIn(model) => model.start(alloc, lp),
+            FileModel::Rules(rules) => rules.start(alloc, lp),
+        }
+    }
+
+    fn handle(&self, alloc: Global, lp: u32, state: &Words, message: &Message) -> (Words, Sends) {
+        match self {
+            FileModel::BuiltIn(model) => model.handle(alloc, lp, state, message),
+            FileModel::Rules(rules) => rules.handle(alloc, lp, state, message),
+        }
+    }
+
+    fn handle_into(
+        &self,
+        alloc: Global,
+        lp: u32,
+        state: &Words,
+        message: &Message,
+        next: &mut Words,
+        sends: &mut Sends,
+    ) {
+        match self {
+            FileModel::BuiltIn(model) => model.handle_into(alloc, lp, state, message, next, sends),
+            FileModel::Rules(rules) => rules.handle_into(alloc, lp, state, message, next, sends),
+        }
+    }
+}

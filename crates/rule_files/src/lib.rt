@@ -1,0 +1,15 @@
+//! Model files of all models: those of this project, and models that are described by rules.
+#![tactic(auto)]
+
+mod described;
+mod dictionary;
+mod digest;
+mod entries;
+mod file_model;
+mod reading;
+mod scope;
+
+pub use described::RULES_KEYS;
+pub use file_model::FileModel;
+pub use reading::RuleMistake;
+pub use scope::{Named, Scope};

@@ -1,0 +1,17 @@
+//! Models that are described by rules: a tree of statements says how a process starts, and another
+//! one what it does with a message.
+#![tactic(auto)]
+
+mod evaluate;
+mod limits;
+mod operate;
+mod parts;
+mod rules;
+mod tables;
+mod tree;
+
+pub use limits::{Limit, MAX_DRAWS, MAX_LPS, MAX_SENDS, MAX_STEPS, RulesFault, exceeded};
+pub use parts::RulesParts;
+pub use rules::Rules;
+pub use tables::Table;
+pub use tree::{Expression, Known, Operator, Sending, Statement};

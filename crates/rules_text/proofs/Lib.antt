@@ -1,0 +1,11 @@
+pub mod Complete
+pub mod Marks
+pub mod Sound
+pub mod Steps
+pub mod Rows
+pub mod Turns
+pub mod StatementsComplete
+pub mod StatementsSound
+pub mod Pieces
+pub mod Whole
+pub mod Lexes

@@ -1,0 +1,59 @@
+-- The text of a rule is read just where it is one.
+use Rattle.std.proofs.Common.{◌≡◌, ◌≤◌, ℕ, List, Option, Some, None, Result, Ok, Err, false, ltb, length, sym, ap, ◌∙◌, subst, arith, if◌then◌else◌, inl, inr}
+use Rattle.std.proofs.lemmas.Bool.{cases_Bool}
+use Rattle.std.proofs.lemmas.Bool.Decides.{nat_tests}
+use Rattle.std.specs.Prelude.{IfOk}
+use Rattle.rules_text.specs.declared.stop.Stop.{Stop}
+use Rattle.rules_text.specs.declared.lexemes.Placed.{Placed}
+use Rattle.rules_text.specs.Lexical.{Splits, lexemes_at}
+use Rattle.rules_text.specs.Reading.{◌>>=◌, Gives}
+use Rattle.rules_text.specs.ReadingStatements.{rule_at}
+use Rattle.rules_text.specs.Scopes.{Dictionary, tokens_of}
+use Rattle.rules_text.specs.Statements.{Acts}
+use Rattle.rules_text.specs.Texts.{IsRule, read_at}
+use Rattle.rules_text.proofs.Lexes.{split_is, split_only}
+use Rattle.rules_text.proofs.Marks.{bind_is}
+use Rattle.rules_text.proofs.StatementsComplete.{rule_is}
+use Rattle.rules_text.proofs.StatementsSound.{rule_only}
+
+not_long : (n : ℕ) → n ≤ 65536 → ltb 65536 n ≡ false
+not_long n h = grind (arith, nat_tests)
+
+is_short : (n : ℕ) → ltb 65536 n ≡ false → n ≤ 65536
+is_short n h = grind (arith, nat_tests)
+
+pub read_is : (scope : Dictionary) (text : List ℕ) (acts : Acts) → IsRule scope text acts → read_at scope text ≡ Some acts
+unfolding read_at
+read_is scope text acts rule =
+    ap (λ b. if b then None else (lexemes_at text >>= λ lexemes. rule_at (tokens_of scope text lexemes))) (not_long (length text) rule.short)
+    ∙ ap (λ r. r >>= λ lexemes. rule_at (tokens_of scope text lexemes)) (split_is text rule.lexemes rule.split)
+    ∙ rule_is acts (tokens_of scope text rule.lexemes) rule.spelled
+
+pub read_only : (scope : Dictionary) (text : List ℕ) (acts : Acts) → read_at scope text ≡ Some acts → IsRule scope text acts
+unfolding read_at
+read_only scope text acts e = elim (cases_Bool (ltb 65536 (length text))) [
+  | inl long ↦
+      let here : ◌≡◌ {A = Option Acts} None (Some acts) =
+      ap (λ b. if b then None else (lexemes_at text >>= λ lexemes. rule_at (tokens_of scope text lexemes))) (sym long) ∙ e in
+      absurd cc
+  | inr short ↦
+      let here : (lexemes_at text >>= λ lexemes. rule_at (tokens_of scope text lexemes)) ≡ Some acts =
+      ap (λ b. if b then None else (lexemes_at text >>= λ lexemes. rule_at (tokens_of scope text lexemes))) (sym short) ∙ e in
+      let a = bind_is (lexemes_at text) (λ lexemes. rule_at (tokens_of scope text lexemes)) acts here in
+      record { short = is_short (length text) short; lexemes = a.0; split = split_only text a.0 a.1; spelled = rule_only acts (tokens_of scope text a.0) a.2 }
+]
+
+-- nothing is spelled where nothing is read
+pub refused_is : {X : Type 0} (scope : Dictionary) (text : List ℕ) (acts : Acts) → read_at scope text ≡ None → IsRule scope text acts → X
+refused_is scope text acts none rule = let some = read_is scope text acts rule in absurd cc
+
+pub same_acts : (scope : Dictionary) (text : List ℕ) (found acts : Acts) → read_at scope text ≡ Some found → IsRule scope text acts → found ≡ acts
+same_acts scope text found acts read rule = let some = read_is scope text acts rule in cc
+
+-- what was split is so, and what is so was split
+pub split_found : {X : Type 0} (view : X → List Placed) (r : Result X Stop) (text : List ℕ) → Gives view r (lexemes_at text) → IfOk r (λ x. Splits 0 text (view x))
+split_found view (Ok x) text e = split_only text (view x) e
+split_found view (Err e) text h = tt
+
+pub split_whole : {X : Type 0} (view : X → List Placed) (r : Result X Stop) (text : List ℕ) (ts : List Placed) → Gives view r (lexemes_at text) → Splits 0 text ts → Gives view r (Some ts)
+split_whole view r text ts e splits = subst (Gives view r) (split_is text ts splits) e

@@ -1,0 +1,7 @@
+pub mod Grammar
+pub mod Reading
+pub mod Statements
+pub mod ReadingStatements
+pub mod Lexical
+pub mod Scopes
+pub mod Texts

@@ -1,0 +1,103 @@
+-- What the names of a rule mean.
+use Rattle.std.specs.Prelude.{ℕ, List, [], ◌∷◌, ◌++◌, Option, Some, None, Bool, true, false, ◌&&◌, ◌-◌, codes, map, take, drop, if◌then◌else◌}
+use Rattle.std.specs.Str.{bytes_eq}
+use Rattle.rules.specs.declared.tree.Known.TheVariants as k
+use Rattle.rules_text.specs.declared.lexemes.Lexeme.{Lexeme}
+use Rattle.rules_text.specs.declared.lexemes.Lexeme.TheVariants as x
+use Rattle.rules_text.specs.declared.lexemes.Placed.{Placed}
+use Rattle.rules_text.specs.declared.scope.Entry.{Entry}
+use Rattle.rules_text.specs.declared.scope.Meaning.{Meaning}
+use Rattle.rules_text.specs.declared.scope.Meaning.TheVariants as w
+use Rattle.rules_text.specs.declared.token.Mark.TheVariants as m
+use Rattle.rules_text.specs.declared.token.Token.{Token}
+use Rattle.rules_text.specs.declared.token.Token.TheVariants as t
+
+-- whether rules may draw, and the names of the model file with the tokens that they mean
+pub record Dictionary : Type 0 where
+  pub draws : Bool
+  pub entries : List (List ℕ × Token)
+
+abbrev pub entries_of : List Entry → List (List ℕ × Token)
+entries_of es = map (λ e. (e.name.items, e.token)) es
+
+abbrev pub dictionary_of : Bool → List Entry → Dictionary
+dictionary_of draws es = record { draws = draws; entries = entries_of es }
+
+abbrev pub with_entry : Dictionary → List ℕ → Token → Dictionary
+with_entry scope name token = record { draws = scope.draws; entries = scope.entries ++ (name, token) ∷ [] }
+
+abbrev pub token_meant : Meaning → Token
+token_meant (w.Word place) = t.Word place
+token_meant (w.Content place) = t.Content place
+token_meant (w.Number n) = t.Number n
+token_meant (w.Table place) = t.Table place
+
+-- the words of the language
+abbrev pub statement_word : List ℕ → Option Token
+statement_word name =
+    if bytes_eq name (codes "let") then Some (t.Mark m.Let) else
+    if bytes_eq name (codes "send") then Some (t.Mark m.Send) else
+    if bytes_eq name (codes "to") then Some (t.Mark m.To) else
+    if bytes_eq name (codes "after") then Some (t.Mark m.After) else
+    if bytes_eq name (codes "with") then Some (t.Mark m.With) else
+    if bytes_eq name (codes "if") then Some (t.Mark m.If) else
+    if bytes_eq name (codes "else") then Some (t.Mark m.Else) else
+    if bytes_eq name (codes "repeat") then Some (t.Mark m.Repeat) else
+    None
+
+abbrev pub value_word : Bool → List ℕ → Option Token
+value_word draws name =
+    if bytes_eq name (codes "min") then Some (t.Mark m.Min) else
+    if bytes_eq name (codes "max") then Some (t.Mark m.Max) else
+    if bytes_eq name (codes "draw") then Some (t.Mark (if draws then m.Draw else m.Kept)) else
+    if bytes_eq name (codes "key") then Some (t.Mark m.Kept) else
+    if bytes_eq name (codes "self") then Some (t.Known k.Process) else
+    if bytes_eq name (codes "sender") then Some (t.Known k.Sender) else
+    if bytes_eq name (codes "now") then Some (t.Known k.Now) else
+    if bytes_eq name (codes "lps") then Some (t.Known k.Processes) else
+    None
+
+abbrev pub lookup : List ℕ → List (List ℕ × Token) → Option Token
+lookup name [] = None
+lookup name (e ∷ es) = if bytes_eq e.0 name then Some e.1 else lookup name es
+
+abbrev pub or_else : Option Token → Option Token → Option Token
+or_else None other = other
+or_else (Some token) other = Some token
+
+-- what a name means
+abbrev pub meaning : Dictionary → List ℕ → Option Token
+meaning scope name = or_else (statement_word name) (or_else (value_word scope.draws name) (lookup name scope.entries))
+
+-- the bytes of a lexeme
+abbrev pub letters_of : List ℕ → Placed → List ℕ
+letters_of text p = take (p.end - p.start) (drop p.start text)
+
+abbrev pub is_name_lexeme : Lexeme → Bool
+is_name_lexeme x.Name = true
+is_name_lexeme _ = false
+
+abbrev pub is_same_name : List ℕ → List ℕ → Placed → Bool
+is_same_name text letters p = is_name_lexeme p.lexeme && bytes_eq (letters_of text p) letters
+
+-- where a name stands first: names with no meaning are told apart by this place
+abbrev pub first_place : List ℕ → List ℕ → List Placed → ℕ
+first_place text letters [] = 0
+first_place text letters (p ∷ ps) = if is_same_name text letters p then p.start else first_place text letters ps
+
+abbrev pub known_or : Option Token → ℕ → Token
+known_or (Some token) place = token
+known_or None place = t.Name place
+
+abbrev pub token_by : Lexeme → Dictionary → List ℕ → List Placed → List ℕ → Token
+token_by (x.Number n) scope text all letters = t.Number n
+token_by (x.Sign o) scope text all letters = t.Sign o
+token_by (x.Mark mark) scope text all letters = t.Mark mark
+token_by x.Name scope text all letters = known_or (meaning scope letters) (first_place text letters all)
+
+abbrev pub token_of : Dictionary → List ℕ → List Placed → Placed → Token
+token_of scope text all p = token_by p.lexeme scope text all (letters_of text p)
+
+-- what the lexemes of a text mean
+abbrev pub tokens_of : Dictionary → List ℕ → List Placed → List Token
+tokens_of scope text all = map (token_of scope text all) all

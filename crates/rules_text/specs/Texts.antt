@@ -1,0 +1,31 @@
+-- Which text is which rule.
+use Rattle.std.specs.Prelude.{◌≡◌, ℕ, ◌≤◌, List, Option, None, Result, Ok, Err, length, nat_lt, if◌then◌else◌}
+use Rattle.rules_text.specs.declared.lexemes.Placed.{Placed}
+use Rattle.rules_text.specs.declared.read.ReadError.{ReadError}
+use Rattle.rules_text.specs.declared.read.ReadError.TheVariants.{Memory, Mistaken}
+use Rattle.rules_text.specs.Lexical.{Splits, lexemes_at}
+use Rattle.rules_text.specs.Reading.{◌>>=◌}
+use Rattle.rules_text.specs.ReadingStatements.{rule_at}
+use Rattle.rules_text.specs.Scopes.{Dictionary, tokens_of}
+use Rattle.rules_text.specs.Statements.{Acts, SpellsRule}
+
+-- the text, of at most 65,536 bytes, is the rule: what its lexemes mean in the scope spells these statements
+pub record IsRule (scope : Dictionary) (text : List ℕ) (acts : Acts) : Type 0 where
+  pub short : length text ≤ 65536
+  pub lexemes : List Placed
+  pub split : Splits 0 text lexemes
+  pub spelled : SpellsRule acts (tokens_of scope text lexemes)
+
+-- an error for lack of memory alone
+abbrev pub IsForMemory : ReadError → Type 0
+IsForMemory Memory = Unit {0}
+IsForMemory (Mistaken m) = ⊥
+
+-- these statements, unless memory ran out
+abbrev pub Yields : {X : Type 0} → (X → Acts) → Result X ReadError → Acts → Type 0
+Yields view (Ok x) acts = view x ≡ acts
+Yields view (Err e) acts = IsForMemory e
+
+-- the statements of a text, by one pass over its lexemes
+unfoldable pub read_at : Dictionary → List ℕ → Option Acts
+read_at scope text = if nat_lt 65536 (length text) then None else (lexemes_at text >>= λ lexemes. rule_at (tokens_of scope text lexemes))

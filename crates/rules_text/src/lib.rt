@@ -1,0 +1,21 @@
+//! Which text is which rule: names, numbers and signs, their meaning in a scope, and the grammar.
+#![tactic(auto)]
+
+mod lexemes;
+mod mistakes;
+mod read;
+mod scope;
+mod statements;
+mod stop;
+#[cfg(test)]
+mod tests;
+mod token;
+mod values;
+mod words;
+
+pub use lexemes::{Lexeme, Placed, tokens};
+pub use mistakes::{Kind, Mistake};
+pub use read::{ReadError, read_rule};
+pub use scope::{Meaning, Scope, ScopeError};
+pub use stop::{Refusal, Stop, Wanted};
+pub use token::{Mark, Token};

@@ -1,0 +1,248 @@
+// Where a text stops being a rule, and what was wanted there. No clause speaks of it: tests hold it.
+
+use crate::lexemes::{Lexeme, Placed, pieces};
+use crate::scope::Scope;
+use crate::stop::{Refusal, Stop, Wanted};
+use crate::token::{Mark, Token};
+use crate::words::{part, words};
+use rules::Operator;
+use std::alloc::{AllocError, Global};
+use std::fmt;
+use strsim::levenshtein;
+
+/// What is wrong at a place of a text.
+#[derive(Debug, Drop)]
+pub enum Kind {
+    /// There is nothing of this name; the nearest one that there is.
+    Unknown(String, Option<String>),
+    /// A name that rules neither read nor set.
+    Kept(String),
+    /// A name that is in use.
+    InUse(String),
+    /// A second comparison in a row.
+    Chain,
+    /// The text ends, where something else was wanted.
+    End(Wanted),
+    /// Something else was wanted.
+    Wanted(Wanted),
+}
+
+/// A place where a text stops being a rule.
+#[derive(Debug, Drop)]
+pub struct Mistake {
+    /// The line, from 1.
+    pub line: usize,
+    /// The column, from 1, in characters.
+    pub column: usize,
+    /// What is wrong there.
+    pub kind: Kind,
+}
+
+/// The mistake that a refusal names.
+pub(crate) fn find_mistake(
+    alloc: Global,
+    scope: &Scope,
+    text: &str,
+    refusal: Refusal,
+) -> Result<Mistake, AllocError> {
+    let bytes = text.as_bytes();
+    if refusal.wanted == Wanted::LessText {
+        return Ok(Mistake {
+            line: 1,
+            column: 1,
+            kind: Kind::Wanted(refusal.wanted),
+        });
+    }
+    if refusal.wanted == Wanted::Lexeme {
+        return Ok(at(
+            bytes,
+            bytes.len().saturating_sub(refusal.left),
+            Kind::Wanted(refusal.wanted),
+        ));
+    }
+    let lexemes = match pieces(alloc, text) {
+        Ok(lexemes) => lexemes,
+        Err(_) => return Err(AllocError),
+    };
+    let tokens = words(alloc, scope, bytes, &lexemes)?;
+    let index = tokens.len().saturating_sub(refusal.left);
+    match (lexemes.get(index), tokens.get(index)) {
+        (Some(lexeme), Some(token)) => {
+            let kind = kind_at(alloc, scope, bytes, lexeme, token, refusal.wanted)?;
+            Ok(at(bytes, lexeme.start, kind))
+        }
+        _ => Ok(at(bytes, bytes.len(), Kind::End(refusal.wanted))),
+    }
+}
+
+/// What is wrong at a token.
+fn kind_at(
+    alloc: Global,
+    scope: &Scope,
+    text: &[u8],
+    lexeme: &Placed,
+    token: &Token,
+    wanted: Wanted,
+) -> Result<Kind, AllocError> {
+    let name = part(text, lexeme.start, lexeme.end);
+    let is_read = wanted == Wanted::Value || wanted == Wanted::Statement;
+    match *token {
+        Token::Mark(Mark::Kept) => Ok(Kind::Kept(owned(alloc, name)?)),
+        Token::Name(_) if is_read => {
+            let near = nearest(alloc, scope, name)?;
+            Ok(Kind::Unknown(owned(alloc, name)?, near))
+        }
+        Token::Sign(operator) if is_comparison(operator) && wanted == Wanted::Statement => Ok(
+            Kind::Chain,
+        ),
+        _ if lexeme.lexeme == Lexeme::Name && wanted == Wanted::NewName => Ok(Kind::InUse(owned(
+            alloc, name,
+        )?)),
+        _ => Ok(Kind::Wanted(wanted)),
+    }
+}
+
+fn is_comparison(operator: Operator) -> bool {
+    matches!(
+        operator,
+        Operator::Same
+            | Operator::Different
+            | Operator::Below
+            | Operator::AtMost
+            | Operator::Above
+            | Operator::AtLeast
+    )
+}
+
+/// The text of a name, whose bytes are ASCII.
+fn owned(alloc: Global, name: &[u8]) -> Result<String, AllocError> {
+    let mut text = String::new(alloc);
+    'bytes: for byte in name {
+        text.push(char::from(*byte))?;
+    }
+    Ok(text)
+}
+
+/// The name of the scope that is nearest to this one, if at most two letters differ.
+fn nearest(alloc: Global, scope: &Scope, name: &[u8]) -> Result<Option<String>, AllocError> {
+    let name = owned(alloc, name)?;
+    let mut best: Option<String> = None;
+    let mut least: usize = 3;
+    'entries: for index in 0..scope.count() {
+        let other = owned(alloc, scope.name(index).unwrap_or(&[]))?;
+        let edits = levenshtein(alloc, name.as_str(), other.as_str())?;
+        if edits < least && edits < other.len() {
+            least = edits;
+            best = Some(other);
+        }
+    }
+    Ok(best)
+}
+
+/// The mistake at a byte of the text.
+fn at(text: &[u8], byte: usize, kind: Kind) -> Mistake {
+    let mut line: usize = 1;
+    let mut column: usize = 1;
+    'bytes: for (i, b) in text.iter().enumerate() {
+        if i >= byte {
+            break;
+        }
+        if *b == 10 {
+            line = line.saturating_add(1);
+            column = 1;
+        } else if *b < 128 || *b >= 192 {
+            // bytes from 128 to 191 go on with a character
+            column = column.saturating_add(1);
+        }
+    }
+    Mistake { line, column, kind }
+}
+
+impl fmt::Display for Mistake {
+    fn fmt<W: fmt::Write>(&self, f: &mut fmt::Formatter<W>) -> fmt::Result {
+        let Mistake { line, column, kind } = self;
+        write!(f, "line {line}, column {column}: {kind}")
+    }
+}
+
+impl fmt::Display for Kind {
+    fn fmt<W: fmt::Write>(&self, f: &mut fmt::Formatter<W>) -> fmt::Result {
+        match self {
+            Kind::Unknown(name, Some(near)) => {
+                let (name, near) = (name.as_str(), near.as_str());
+                write!(
+                    f,
+                    "there is nothing named \"{name}\"; did you mean \"{near}\"?"
+                )
+            }
+            Kind::Unknown(name, None) => {
+                let name = name.as_str();
+                write!(f, "there is nothing named \"{name}\"")
+            }
+            Kind::Kept(name) => {
+                let name = name.as_str();
+                if name == "draw" {
+                    f.write_str("draw wants the word key in the state")
+                } else {
+                    write!(f, "\"{name}\" is neither read nor set")
+                }
+            }
+            Kind::InUse(name) => {
+                let name = name.as_str();
+                write!(f, "the name \"{name}\" is in use")
+            }
+            Kind::Chain => f.write_str("comparisons do not chain: use brackets"),
+            Kind::End(wanted) => write!(f, "the text ends, but {wanted}"),
+            Kind::Wanted(wanted) => write!(f, "{wanted}"),
+        }
+    }
+}
+
+impl fmt::Display for Wanted {
+    fn fmt<W: fmt::Write>(&self, f: &mut fmt::Formatter<W>) -> fmt::Result {
+        match self {
+            Wanted::Lexeme => f.write_str(
+                "a sign, a name of at most 64 letters or a number below 2^64 is wanted here",
+            ),
+            Wanted::LessText => f.write_str("a rule has at most 65,536 bytes"),
+            Wanted::Value => f.write_str("a value is wanted here"),
+            Wanted::Statement => f.write_str("a statement is wanted here"),
+            Wanted::Mark(mark) => {
+                let sign = spelling(*mark);
+                write!(f, "\"{sign}\" is wanted here")
+            }
+            Wanted::NewName => f.write_str("a new name is wanted here"),
+            Wanted::Count => f.write_str("a number below 2^32 is wanted here"),
+            Wanted::LessNesting => f.write_str("this is nested more than 64 deep"),
+            Wanted::LowerValue => f.write_str("this value is more than 256 operators deep"),
+            Wanted::FewerNames => f.write_str("more than 16 names are in scope here"),
+        }
+    }
+}
+
+/// How a mark is written.
+fn spelling(mark: Mark) -> &'static str {
+    match mark {
+        Mark::Not => "!",
+        Mark::Is => "=",
+        Mark::Comma => ",",
+        Mark::Open => "(",
+        Mark::Close => ")",
+        Mark::OpenIndex => "[",
+        Mark::CloseIndex => "]",
+        Mark::OpenBlock => "{",
+        Mark::CloseBlock => "}",
+        Mark::Let => "let",
+        Mark::Send => "send",
+        Mark::To => "to",
+        Mark::After => "after",
+        Mark::With => "with",
+        Mark::If => "if",
+        Mark::Else => "else",
+        Mark::Repeat => "repeat",
+        Mark::Min => "min",
+        Mark::Max => "max",
+        Mark::Draw => "draw",
+        Mark::Kept => "key",
+    }
+}

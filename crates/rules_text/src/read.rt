@@ -1,0 +1,73 @@
+// Reads the text of a rule.
+
+ghost use Rattle.std.specs.Prelude.{◌≡◌, ◌≤◌, IfOk, length};
+ghost use Rattle.rules_text.specs.Reading.{Gives};
+ghost use Rattle.rules_text.specs.Statements.{Acts, acts_of};
+ghost use Rattle.rules_text.specs.Texts.{IsRule, Yields, read_at};
+
+use crate::lexemes::pieces;
+use crate::mistakes::{Mistake, find_mistake};
+use crate::scope::Scope;
+use crate::statements::rule;
+use crate::stop::{Refusal, Stop, Wanted};
+use crate::words::words;
+use rules::Statement;
+use std::alloc::{AllocError, Global};
+use thiserror::Error;
+
+/// Why a text was not read.
+#[derive(Debug, Drop, Error)]
+pub enum ReadError {
+    /// An allocation failed.
+    #[error("out of memory")]
+    Memory,
+    /// The text is no rule.
+    #[error("{0}")]
+    Mistaken(Mistake),
+}
+
+/// The most bytes that a rule's text may have.
+const MOST_BYTES: usize = 65_536;
+
+/// The statements of a rule, or where it stops being one.
+#[tactic(auto, unfolding(crate::specs::Texts::read_at))]
+fn read(alloc: Global, scope: &Scope, text: &str) -> Result<Vec<Statement>, Stop>
+    ensures { Gives (λ v. acts_of v.items) result (read_at scope.now text.now) }
+{
+    if text.len() > MOST_BYTES {
+        return Err(Stop::Refused(Refusal {
+            left: 0,
+            wanted: Wanted::LessText,
+        }));
+    }
+    let lexemes = pieces(alloc, text)?;
+    let tokens = words(alloc, scope, text.as_bytes(), &lexemes)?;
+    rule(alloc, &tokens)
+}
+
+/// The statements that a rule's text spells in this scope.
+///
+/// # Errors
+///
+/// `Mistaken` just where the text is no rule: it has more than 65,536 bytes, is not of names, numbers and signs, or
+/// is not by the grammar, with a place and what was wanted there.
+pub fn read_rule(alloc: Global, scope: &Scope, text: &str) -> Result<Vec<Statement>, ReadError>
+    // What is read is spelled so.
+    ensures found { IfOk result (λ v. IsRule scope.now text.now (acts_of v.items)) }
+    // What is spelled so is read, unless memory runs out.
+    ensures only { (acts : Acts) → IsRule scope.now text.now acts → Yields (λ v. acts_of v.items) result acts }
+{
+    match read(alloc, scope, text) {
+        Ok(statements) => Ok(statements),
+        Err(Stop::Memory) => Err(ReadError::Memory),
+        Err(Stop::Refused(refusal)) => Err(mistaken(alloc, scope, text, refusal)),
+    }
+}
+
+/// The error of a text that is no rule.
+fn mistaken(alloc: Global, scope: &Scope, text: &str, refusal: Refusal) -> ReadError {
+    match find_mistake(alloc, scope, text, refusal) {
+        Ok(mistake) => ReadError::Mistaken(mistake),
+        Err(_) => ReadError::Memory,
+    }
+}

@@ -1,0 +1,328 @@
+// Reads statements, from the left.
+
+ghost use Rattle.std.specs.Prelude.{◌≡◌, ◌<◌, ◌≤◌, ◌++◌, ◌∷◌, [], None, Some, IfOk, IfSome, OnOk, length};
+ghost use Rattle.rules_text.specs.Grammar.{tree_of};
+ghost use Rattle.rules_text.specs.Reading.{Gives};
+ghost use Rattle.rules_text.specs.ReadingStatements.{assignment as assignment_at, begins as begins_at, block_at, choice_at, choice_with, content as content_at, contents as contents_at, count_at, naming as naming_at, new_name as new_name_at, one as one_at, otherwise as otherwise_at, repetition as repetition_at, rule_at, sending as sending_at, statements_at, with_name as with_name_of};
+ghost use Rattle.rules_text.specs.Statements.{If, Repeat, act_of, acts_of};
+
+use crate::stop::{Stop, Wanted, refused};
+use crate::token::{Mark, Token};
+use crate::values::{Reads, behind, expect, first, place, value};
+use rules::{Expression, Sending, Statement};
+use std::alloc::{AllocError, Global};
+
+/// A statement, and the name that it gives to what follows.
+type Named = (Statement, Option<usize>);
+
+/// How many names of `let` and `repeat` may be in scope at once.
+const MOST_NAMES: usize = 16;
+
+/// The statements that all of these tokens spell.
+#[tactic(auto, unfolding(crate::specs::ReadingStatements::rule_at))]
+pub(crate) fn rule(alloc: Global, tokens: &[Token]) -> Result<Vec<Statement>, Stop>
+    ensures { Gives (λ v. acts_of v.items) result (rule_at tokens.now) }
+{
+    let (statements, rest) = row(alloc, &[], 64, tokens)?;
+    match first(rest) {
+        None => Ok(statements),
+        Some(_) => Err(refused(rest, Wanted::Statement)),
+    }
+}
+
+/// Whether a statement begins here.
+fn begins(tokens: &[Token]) -> bool
+    ensures { result ≡ begins_at tokens.now }
+{
+    match first(tokens) {
+        Some((Token::Word(_), _)) => true,
+        Some((Token::Mark(mark), _)) => match mark {
+            Mark::Let | Mark::Send | Mark::If | Mark::Repeat => true,
+            _ => false,
+        },
+        _ => false,
+    }
+}
+
+/// Adds the name that a statement gives.
+fn add_name(names: &mut Vec<usize>, name: Option<usize>) -> Result<(), AllocError>
+    ensures { OnOk result (names.new.items ≡ with_name_of names.old.items name) }
+{
+    match name {
+        Some(name) => names.push(name)?,
+        None => {}
+    }
+    Ok(())
+}
+
+/// Statements, one after the other, as far as they go.
+#[cycle(statements)]
+fn row<'a>(
+    alloc: Global,
+    names: &[usize],
+    depth: u32,
+    tokens: &'a [Token],
+) -> Reads<'a, Vec<Statement>>
+    requires { length names.now ≤ 16 }
+    ensures { Gives (λ p. (acts_of p.0.items, p.1.now)) result (statements_at depth names.now tokens.now) }
+{
+    let mut names = Vec::from_slice(alloc, names)?;
+    let mut statements = Vec::new(alloc);
+    let mut rest = tokens;
+    'statements: for _turn in 0..tokens.len() {
+        if !begins(rest) {
+            return Ok((statements, rest));
+        }
+        let ((statement, name), after) = one(alloc, &names, depth, rest)?;
+        statements.push(statement)?;
+        add_name(&mut names, name)?;
+        rest = after;
+    }
+    Ok((statements, rest))
+}
+
+/// A statement.
+#[cycle(statements)]
+fn one<'a>(alloc: Global, names: &[usize], depth: u32, tokens: &'a [Token]) -> Reads<'a, Named>
+    requires { length names.now ≤ 16 }
+    ensures read { Gives (λ p. ((act_of p.0.0, p.0.1), p.1.now)) result (one_at depth (block_at depth) (choice_at depth) names.now tokens.now) }
+    ensures room { IfOk result (λ p. IfSome p.0.1 (λ _. length names.now < 16)) }
+{
+    match first(tokens) {
+        Some((Token::Word(place), rest)) => assignment(alloc, names, depth, place, rest),
+        Some((Token::Mark(Mark::Let), rest)) => naming(alloc, names, depth, rest),
+        Some((Token::Mark(Mark::Send), rest)) => sending(alloc, names, depth, rest),
+        Some((Token::Mark(Mark::If), rest)) => {
+            let (statement, rest) = choice(alloc, names, depth, rest)?;
+            Ok(((statement, None), rest))
+        }
+        Some((Token::Mark(Mark::Repeat), rest)) => repetition(alloc, names, depth, rest),
+        _ => Err(refused(tokens, Wanted::Statement)),
+    }
+}
+
+/// A name that is not in use, where there is room for one more.
+fn new_name<'a>(names: &[usize], tokens: &'a [Token]) -> Reads<'a, usize>
+    requires { length names.now ≤ 16 }
+    ensures read { Gives (λ p. (p.0, p.1.now)) result (new_name_at names.now tokens.now) }
+    ensures room { IfOk result (λ _. length names.now < 16) }
+{
+    match first(tokens) {
+        Some((Token::Name(name), rest)) => {
+            if place(names, name).is_some() {
+                return Err(refused(tokens, Wanted::NewName));
+            }
+            if names.len() < MOST_NAMES {
+                Ok((name, rest))
+            } else {
+                Err(refused(tokens, Wanted::FewerNames))
+            }
+        }
+        _ => Err(refused(tokens, Wanted::NewName)),
+    }
+}
+
+/// A name and its value, behind `let`.
+fn naming<'a>(alloc: Global, names: &[usize], depth: u32, tokens: &'a [Token]) -> Reads<'a, Named>
+    requires { length names.now ≤ 16 }
+    ensures read { Gives (λ p. ((act_of p.0.0, p.0.1), p.1.now)) result (naming_at depth names.now tokens.now) }
+    ensures room { IfOk result (λ p. IfSome p.0.1 (λ _. length names.now < 16)) }
+{
+    let (name, rest) = new_name(names, tokens)?;
+    let rest = expect(Mark::Is, rest)?;
+    let (x, rest) = value(alloc, names, depth, rest)?;
+    Ok(((Statement::Let(names.len() as u8, x), Some(name)), rest))
+}
+
+/// The value of a word of the state, behind the word.
+fn assignment<'a>(
+    alloc: Global,
+    names: &[usize],
+    depth: u32,
+    place: u8,
+    tokens: &'a [Token],
+) -> Reads<'a, Named>
+    requires { length names.now ≤ 16 }
+    ensures read { Gives (λ p. ((act_of p.0.0, p.0.1), p.1.now)) result (assignment_at depth place names.now tokens.now) }
+    ensures none { IfOk result (λ p. p.0.1 ≡ None) }
+{
+    let rest = expect(Mark::Is, tokens)?;
+    let (x, rest) = value(alloc, names, depth, rest)?;
+    Ok(((Statement::Set(place, x), None), rest))
+}
+
+/// A word of content behind its mark, if it may be given and is; or else 0.
+fn content<'a>(
+    alloc: Global,
+    names: &[usize],
+    depth: u32,
+    mark: Mark,
+    may: bool,
+    tokens: &'a [Token],
+) -> Reads<'a, (Expression, bool)>
+    requires { length names.now ≤ 16 }
+    ensures { Gives (λ p. ((tree_of p.0.0, p.0.1), p.1.now)) result (content_at depth mark may names.now tokens.now) }
+{
+    if !may {
+        return Ok(((Expression::Number(0), false), tokens));
+    }
+    match behind(mark, tokens) {
+        None => Ok(((Expression::Number(0), false), tokens)),
+        Some(rest) => {
+            let (x, rest) = value(alloc, names, depth, rest)?;
+            Ok(((x, true), rest))
+        }
+    }
+}
+
+/// What a send says, behind `send`.
+fn sending<'a>(alloc: Global, names: &[usize], depth: u32, tokens: &'a [Token]) -> Reads<'a, Named>
+    requires { length names.now ≤ 16 }
+    ensures read { Gives (λ p. ((act_of p.0.0, p.0.1), p.1.now)) result (sending_at depth names.now tokens.now) }
+    ensures none { IfOk result (λ p. p.0.1 ≡ None) }
+{
+    let rest = expect(Mark::To, tokens)?;
+    let (to, rest) = value(alloc, names, depth, rest)?;
+    let rest = expect(Mark::After, rest)?;
+    let (after, rest) = value(alloc, names, depth, rest)?;
+    let ((a, given), rest) = content(alloc, names, depth, Mark::With, true, rest)?;
+    let ((b, given), rest) = content(alloc, names, depth, Mark::Comma, given, rest)?;
+    let ((c, given), rest) = content(alloc, names, depth, Mark::Comma, given, rest)?;
+    let ((d, _), rest) = content(alloc, names, depth, Mark::Comma, given, rest)?;
+    let sending = Sending {
+        to,
+        after,
+        a,
+        b,
+        c,
+        d,
+    };
+    Ok(((Statement::Send(sending), None), rest))
+}
+
+/// A choice between two blocks.
+fn chosen(x: Expression, met: Vec<Statement>, unmet: Vec<Statement>) -> Statement
+    ensures { act_of result ≡ If (tree_of x) (acts_of met.items) (acts_of unmet.items) }
+{
+    Statement::If(x, met, unmet)
+}
+
+/// What stands behind `if`.
+#[cycle(statements)]
+fn choice<'a>(
+    alloc: Global,
+    names: &[usize],
+    depth: u32,
+    tokens: &'a [Token],
+) -> Reads<'a, Statement>
+    requires { length names.now ≤ 16 }
+    ensures { Gives (λ p. (act_of p.0, p.1.now)) result (choice_with depth (block_at depth) (choice_at depth) names.now tokens.now) }
+{
+    let (x, rest) = value(alloc, names, depth, tokens)?;
+    let (met, rest) = block(alloc, names, depth, rest)?;
+    let (unmet, rest) = otherwise(alloc, names, depth, rest)?;
+    Ok((chosen(x, met, unmet), rest))
+}
+
+/// `else` and its block, which may be one `if` more; or nothing.
+#[cycle(statements)]
+fn otherwise<'a>(
+    alloc: Global,
+    names: &[usize],
+    depth: u32,
+    tokens: &'a [Token],
+) -> Reads<'a, Vec<Statement>>
+    requires { length names.now ≤ 16 }
+    ensures { Gives (λ p. (acts_of p.0.items, p.1.now)) result (otherwise_at (block_at depth) (choice_at depth) names.now tokens.now) }
+{
+    let Some(rest) = behind(Mark::Else, tokens) else {
+        return Ok((Vec::new(alloc), tokens));
+    };
+    let Some(more) = behind(Mark::If, rest) else {
+        return block(alloc, names, depth, rest);
+    };
+    let (statement, rest) = nested_choice(alloc, names, depth, more)?;
+    let mut statements = Vec::new(alloc);
+    statements.push(statement)?;
+    Ok((statements, rest))
+}
+
+/// What stands behind `else if`, which is nested once more.
+#[cycle(statements)]
+fn nested_choice<'a>(
+    alloc: Global,
+    names: &[usize],
+    depth: u32,
+    tokens: &'a [Token],
+) -> Reads<'a, Statement>
+    requires { length names.now ≤ 16 }
+    ensures { Gives (λ p. (act_of p.0, p.1.now)) result (choice_at depth names.now tokens.now) }
+{
+    if depth == 0 {
+        return Err(refused(tokens, Wanted::LessNesting));
+    }
+    choice(alloc, names, depth - 1, tokens)
+}
+
+/// How often a block is repeated.
+fn count<'a>(tokens: &'a [Token]) -> Reads<'a, u32>
+    ensures { Gives (λ p. (p.0, p.1.now)) result (count_at tokens.now) }
+{
+    match first(tokens) {
+        Some((Token::Number(n), rest)) => {
+            if n < 0x1_0000_0000 {
+                Ok((n as u32, rest))
+            } else {
+                Err(refused(tokens, Wanted::Count))
+            }
+        }
+        _ => Err(refused(tokens, Wanted::Count)),
+    }
+}
+
+/// A block that is repeated.
+fn repeated(place: u8, count: u32, body: Vec<Statement>) -> Statement
+    ensures { act_of result ≡ Repeat place count (acts_of body.items) }
+{
+    Statement::Repeat(place, count, body)
+}
+
+/// What stands behind `repeat`.
+#[cycle(statements)]
+fn repetition<'a>(
+    alloc: Global,
+    names: &[usize],
+    depth: u32,
+    tokens: &'a [Token],
+) -> Reads<'a, Named>
+    requires { length names.now ≤ 16 }
+    ensures read { Gives (λ p. ((act_of p.0.0, p.0.1), p.1.now)) result (repetition_at (block_at depth) names.now tokens.now) }
+    ensures none { IfOk result (λ p. p.0.1 ≡ None) }
+{
+    let (name, rest) = new_name(names, tokens)?;
+    let (count, rest) = count(rest)?;
+    let mut inner = Vec::from_slice(alloc, names)?;
+    inner.push(name)?;
+    let (body, rest) = block(alloc, &inner, depth, rest)?;
+    Ok(((repeated(names.len() as u8, count, body), None), rest))
+}
+
+/// Statements in braces, which are nested once more.
+#[cycle(statements)]
+fn block<'a>(
+    alloc: Global,
+    names: &[usize],
+    depth: u32,
+    tokens: &'a [Token],
+) -> Reads<'a, Vec<Statement>>
+    requires { length names.now ≤ 16 }
+    ensures { Gives (λ p. (acts_of p.0.items, p.1.now)) result (block_at depth names.now tokens.now) }
+{
+    if depth == 0 {
+        return Err(refused(tokens, Wanted::LessNesting));
+    }
+    let rest = expect(Mark::OpenBlock, tokens)?;
+    let (statements, rest) = row(alloc, names, depth - 1, rest)?;
+    let rest = expect(Mark::CloseBlock, rest)?;
+    Ok((statements, rest))
+}

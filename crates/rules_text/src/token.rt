@@ -1,0 +1,60 @@
+//! What the tokens of a rule mean.
+
+use rules::{Known, Operator};
+
+/// A token of a rule by what it means in the rule's scope.
+#[derive(Clone, Copy, Debug, PartialEq, Eq)]
+pub enum Token {
+    /// A number, or the value of a named number.
+    Number(u64),
+    /// A binary operator.
+    Sign(Operator),
+    /// Any other sign, or a word of the language.
+    Mark(Mark),
+    /// A word for what is known of the handling.
+    Known(Known),
+    /// A word of the state, by its place.
+    Word(u8),
+    /// A word of the content, by its place.
+    Content(u8),
+    /// A table, by its place.
+    Table(u32),
+    /// A name that the scope lacks; equal names have equal numbers.
+    Name(usize),
+}
+
+/// A sign that is no operator, or a word of the language.
+#[derive(Clone, Copy, Debug, PartialEq, Eq)]
+pub enum Mark {
+    /// `!`
+    Not,
+    /// `=`
+    Is,
+    /// `,`
+    Comma,
+    /// `(`
+    Open,
+    /// `)`
+    Close,
+    /// `[`
+    OpenIndex,
+    /// `]`
+    CloseIndex,
+    /// `{`
+    OpenBlock,
+    /// `}`
+    CloseBlock,
+    Let,
+    Send,
+    To,
+    After,
+    With,
+    If,
+    Else,
+    Repeat,
+    Min,
+    Max,
+    Draw,
+    /// A word that this scope keeps from rules: `key`, and `draw` where the state has no `key`.
+    Kept,
+}
