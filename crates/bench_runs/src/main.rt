@@ -21,7 +21,7 @@ use whole_node::Outcome;
 /// Why the program prints no result.
 #[derive(Debug, Drop, Error)]
 enum Failure {
-    #[error("usage: bench_runs MODEL [node], MODEL the path of a model file")]
+    #[error("usage: bench_runs MODEL [node [BUDGET]], MODEL the path of a model file")]
     Usage,
     #[error("{0}")]
     Model(ModelFault),
@@ -79,11 +79,20 @@ struct Task {
     model: AnyModel,
     /// The end, in ticks.
     end: u64,
-    /// Whether one node runs the model.
-    by_node: bool,
+    /// The budget of each parcel if one node runs the model.
+    by_node: Option<u32>,
 }
 
-/// Reads the words after the program's name: the path of a model file, and then `node` or nothing.
+/// The budget of each parcel: the given number, or 16.
+fn budget_of(word: Option<String>) -> Result<u32, Failure> {
+    match word {
+        None => Ok(16),
+        Some(word) => word.parse::<u32>().map_err(|_| Failure::Usage),
+    }
+}
+
+/// Reads the words after the program's name: the path of a model file, and then `node`, with a
+/// budget or without, or nothing.
 fn task_of(rt: &HostRuntime) -> Result<Task, Failure>
     ensures range { IfOk result (λ task. (1 ≤ task.end) × (task.end ≤ 2 ^ 40)) }
 {
@@ -93,8 +102,8 @@ fn task_of(rt: &HostRuntime) -> Result<Task, Failure>
         return Err(Failure::Usage);
     };
     let by_node = match words.next() {
-        None => false,
-        Some(word) if word.as_str() == "node" => true,
+        None => None,
+        Some(word) if word.as_str() == "node" => Some(budget_of(words.next())?),
         Some(_) => return Err(Failure::Usage),
     };
     let bytes = fs::read(rt, path).map_err(|_| Failure::Usage)?;
@@ -114,8 +123,8 @@ fn main(rt: HostRuntime) -> Result<(), Failure> {
         Ok(task) => task,
         Err(failure) => return Err(failure),
     };
-    if task.by_node {
-        let run = whole_node::run(rt.alloc(), &task.model, task.end);
+    if let Some(budget) = task.by_node {
+        let run = whole_node::run(rt.alloc(), &task.model, task.end, budget);
         let Outcome { committed, ran } = run.map_err(Failure::Node)?;
         println!(rt; "committed {committed} ran {ran}").map_err(Failure::Output)?;
         return Ok(());

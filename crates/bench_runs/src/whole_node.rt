@@ -9,9 +9,6 @@ use model::{Model as Simulated, State};
 use node::{Load, Node, NodeFault, Parcel, Part, Reply};
 use std::alloc::{AllocError, Global};
 
-/// The budget of each parcel.
-const BUDGET: u32 = 16;
-
 /// The result of a run.
 #[derive(Drop)]
 pub struct Outcome {
@@ -21,9 +18,15 @@ pub struct Outcome {
     pub ran: u64,
 }
 
-/// Runs a model to its end, in ticks, on one node. Each parcel delivers what the one before it
-/// sent, and its floor is the least time of all that waited or travelled then.
-pub fn run<M: Simulated>(alloc: Global, model: &M, end: u64) -> Result<Outcome, NodeFault>
+/// Runs a model to its end, in ticks, on one node, with this budget for each parcel. Each parcel
+/// delivers what the one before it sent, and its floor is the least time of all that waited or
+/// travelled then.
+pub fn run<M: Simulated>(
+    alloc: Global,
+    model: &M,
+    end: u64,
+    budget: u32,
+) -> Result<Outcome, NodeFault>
     requires { end ≤ 2 ^ 40 }
 {
     let mut node = loaded(alloc, model, end)?;
@@ -36,7 +39,7 @@ pub fn run<M: Simulated>(alloc: Global, model: &M, end: u64) -> Result<Outcome, 
     for _ in 0..u64::MAX {
         let parcel = Parcel {
             deliver,
-            budget: BUDGET,
+            budget,
             floor,
         };
         let reply = node.handle(model, parcel)?;

@@ -36,6 +36,7 @@ use Rattle.cli.specs.declared.command.ModelArgs.{ModelArgs}
 use Rattle.cli.specs.declared.command.NewArgs.{NewArgs}
 use Rattle.cli.specs.declared.command.NodeArgs.{NodeArgs}
 use Rattle.cli.specs.declared.command.RunArgs.{RunArgs}
+use Rattle.cli.specs.declared.command.ShowArgs.{ShowArgs}
 use Rattle.cli.specs.declared.command.SourceArgs.{SourceArgs}
 use Rattle.cli.specs.declared.command.StatsArgs.{StatsArgs}
 
@@ -73,6 +74,10 @@ text_option name default = record (new_rule name) {
   value_names = 1;
   defaults = default ∷ [];
 }
+
+-- the same without a default; the text may be empty
+abbrev pub any_text : Text → Rule
+any_text name = record (new_rule name) { long = Some name; value_names = 1 }
 
 -- an option whose value passes this parser, with a default
 abbrev pub choice_option : Text → ValueParser → Text → Rule
@@ -134,31 +139,53 @@ new_command large = with_rule (with_rule (on_disk (codes "new"))
 
 -- a batch: a number of messages, 1 to 2^32 - 1; or, if it is given as a word, any text
 abbrev pub batch_option : Bool → Rule
-batch_option false = number_option (codes "batch") 1 4294967295 (codes "16")
-batch_option true = text_option (codes "batch") (codes "16")
+batch_option false = optional_number (codes "batch") 1 4294967295
+batch_option true = any_text (codes "batch")
 
--- 1 to 64 nodes; a batch; 1 to 2^32 - 1 rounds; a checkpoint every 1 to 1,000,000 commits; a commit
--- for 1 to 400,000 events; the folder of node programs; the node that is cut short; nodes that work
--- at the same time; programs that are awaited instead of started; the file of a trace; the file that
--- ends the run; a line of progress every 1 to 86,400 seconds; a disk that is made if it is not
--- there, and its number of sectors; and the disk may be a large one
-abbrev pub run_command : Bool → Bool → App
-run_command word large = with_rule (with_rule (with_rule (with_rule (with_rule (with_rule
-    (with_rule (with_rule (with_rule (with_rule (with_rule (with_rule (with_rule (with_rule
-    (with_rule (on_disk (codes "run")) (number_option (codes "nodes") 1 64 (codes "1")))
+-- the number of sectors of a disk that a run makes
+abbrev pub created_option : Bool → Rule
+created_option large = record (optional_number (codes "created") 8 (most_sectors large)) {
+  long = Some (codes "sectors");
+}
+
+-- how a run is made: 1 to 64 nodes; a batch; 1 to 2^32 - 1 rounds; a checkpoint every 1 to 1,000,000
+-- commits; a commit for 1 to 400,000 events; without nodes
+abbrev pub run_made : Bool → App
+run_made word = with_rule (with_rule (with_rule (with_rule (with_rule (with_rule
+    (on_disk (codes "run")) (optional_number (codes "nodes") 1 64))
     (batch_option word))
     (number_option (codes "rounds") 1 4294967295 (codes "1000000")))
     (optional_number (codes "checkpoint") 1 1000000))
     (optional_number (codes "commit-every") 1 400000))
-    (optional_text (codes "sockets")))
+    (flag (codes "plain"))
+
+-- and over which node programs: the folder of their sockets; the node that is cut short; nodes that
+-- work at the same time, or also while replies are taken; programs that are awaited instead of
+-- started, or have a processor each; which of their reports are judged; after how many seconds of
+-- silence they are lost; and how often the run is then begun again
+abbrev pub run_apart : Bool → App
+run_apart word = with_rule (with_rule (with_rule (with_rule (with_rule (with_rule (with_rule
+    (with_rule (with_rule (run_made word) (optional_text (codes "sockets")))
     (optional_number (codes "cut") 0 4294967295))
     (flag (codes "together")))
+    (flag (codes "overlap")))
     (flag (codes "attach")))
-    (optional_text (codes "trace")))
+    (flag (codes "bind")))
+    (optional_number (codes "judge") 0 4294967295))
+    (optional_number (codes "silence") 1 86400))
+    (optional_number (codes "retries") 0 1000000)
+
+-- and with what beside it: the file of a trace; the file that ends the run; a line of progress every
+-- 1 to 86,400 seconds; a disk that is made longer where it is full, or made if it is not there, and
+-- its number of sectors; and the disk may be a large one
+abbrev pub run_command : Bool → Bool → App
+run_command word large = with_rule (with_rule (with_rule (with_rule (with_rule (with_rule
+    (with_rule (run_apart word) (optional_text (codes "trace")))
     (optional_text (codes "stop-file")))
     (optional_number (codes "progress") 1 86400))
+    (flag (codes "grow-when-full")))
     (flag (codes "create")))
-    (sectors_option large (codes "4096")))
+    (created_option large))
     large_option
 
 -- the maximum number of sectors, as the default of an option
@@ -180,20 +207,30 @@ migrate_command large = with_rule (with_rule (with_rule (with_rule (on_model (co
     (sectors_option large (codes "4096")))
     large_option
 
--- the events of a log from one time on, before another time, and of one process; the disk may be a
--- large one
+-- the model's names are printed
+abbrev pub names_option : Rule
+names_option = flag (codes "names")
+
+-- the events of a log from one time on, before another time, and of one process, with names or not;
+-- the disk may be a large one
 abbrev pub log_command : App
-log_command = with_rule (with_rule (with_rule (with_rule (on_disk (codes "log"))
+log_command = with_rule (with_rule (with_rule (with_rule (with_rule (on_disk (codes "log"))
     (time_option (codes "from")))
     (time_option (codes "to")))
     (optional_number (codes "process") 0 4294967295))
+    names_option)
     large_option
 
--- the figures of a run, in one of two formats; the disk may be a large one
+-- the committed world, with names or not; the disk may be a large one
+abbrev pub show_command : App
+show_command = with_rule (with_rule (on_disk (codes "show")) names_option) large_option
+
+-- the figures of a run, in one of two formats, with names or not; the disk may be a large one
 abbrev pub stats_command : App
-stats_command = with_rule (with_rule (with_rule (on_model (codes "stats"))
+stats_command = with_rule (with_rule (with_rule (with_rule (on_model (codes "stats"))
     (optional_argument (codes "DISK")))
     (text_option (codes "format") (codes "text")))
+    names_option)
     large_option
 
 -- a picture of a run, from one time on, before another time, of some processes; or of its load; or
@@ -236,7 +273,7 @@ program_by word large called = with_subcommand (with_subcommand (with_subcommand
     (new_command large).top) (run_command word large).top) (on_any_disk (codes "extend")).top)
     (grow_command large).top) (migrate_command large).top)
     (on_any_disk (codes "reopen")).top) (on_any_disk (codes "status")).top)
-    (on_any_disk (codes "verify")).top) log_command.top) (on_any_disk (codes "show")).top)
+    (on_any_disk (codes "verify")).top) log_command.top) show_command.top)
     stats_command.top) draw_command.top) (on_model (codes "seq")).top)
     (on_model (codes "check")).top) node_command.top
 
@@ -321,10 +358,14 @@ abbrev pub is_text : Option Text → Text → Bool
 is_text None word = false
 is_text (Some text) word = bytes_eq text word
 
+-- the same, or a default
+abbrev pub number_or : Text → ℕ → ℕ → ℕ → List Row → ℕ
+number_or id least most default rows = unwrap_or (optional_number_in id least most rows) default
+
 -- the batch: `auto`, or a number
 abbrev pub batch_in : List Row → BatchOption
 batch_in rows = if is_text (first_of (codes "batch") rows) (codes "auto") then Auto
-    else Fixed (number_in (codes "batch") 1 4294967295 rows)
+    else Fixed (number_or (codes "batch") 1 4294967295 16 rows)
 
 -- ---- a range of processes
 
@@ -379,12 +420,41 @@ text_fault rows = if is_no_batch (first_of (codes "batch") rows)
 abbrev pub is_used : Text → List Row → Bool
 is_used id rows = is_text (first_of id rows) (codes "true")
 
--- programs are awaited, but no folder of their sockets is given
+-- an option with a value, and without a default, is used
+abbrev pub is_there : Text → List Row → Bool
+is_there id rows = is_some (first_of id rows)
+
+-- something is said of node programs, but no folder of their sockets is given
+abbrev pub is_without_sockets : List Row → Bool
+is_without_sockets rows = not (is_there (codes "sockets") rows) && (is_used (codes "attach") rows
+    || (is_used (codes "bind") rows || (is_there (codes "judge") rows
+    || (is_there (codes "silence") rows || is_there (codes "retries") rows))))
+
+-- a disk that is not made has a number of sectors
+abbrev pub is_without_create : List Row → Bool
+is_without_create rows = is_there (codes "created") rows && not (is_used (codes "create") rows)
+
+-- an option says nothing without another one
 abbrev pub is_lonely : List Row → Bool
-is_lonely rows = is_used (codes "attach") rows && not (is_some (first_of (codes "sockets") rows))
+is_lonely rows = is_without_sockets rows || is_without_create rows
 
 abbrev pub lonely_fault : List Row → Kinds
 lonely_fault rows = if is_lonely rows then MissingRequiredArgument ∷ [] else []
+
+-- an option of a run over nodes is used
+abbrev pub is_over_nodes : List Row → Bool
+is_over_nodes rows = is_there (codes "nodes") rows || (is_there (codes "batch") rows
+    || (is_there (codes "sockets") rows || (is_there (codes "cut") rows
+    || (is_used (codes "together") rows || is_used (codes "overlap") rows))))
+
+-- options of a run exclude one another
+abbrev pub is_excluded : List Row → Bool
+is_excluded rows = (is_used (codes "together") rows && is_used (codes "overlap") rows)
+    || ((is_used (codes "attach") rows && is_used (codes "bind") rows)
+    || (is_used (codes "plain") rows && is_over_nodes rows))
+
+abbrev pub excluded_fault : List Row → Kinds
+excluded_fault rows = if is_excluded rows then ArgumentConflict ∷ [] else []
 
 -- both the load and the course in a trace are to be drawn
 abbrev pub is_drawn_twice : List Row → Bool
@@ -402,9 +472,17 @@ abbrev pub span_fault : List Row → Kinds
 span_fault rows = if is_no_span (optional_number_in (codes "from") 0 1099511627776 rows)
     (optional_number_in (codes "to") 0 1099511627776 rows) then ValueValidation ∷ [] else []
 
+-- the errors for options that do not go together in a command that looks at a run
+abbrev pub looking_fault : List Row → Kinds
+looking_fault rows = or_else (drawn_fault rows) (span_fault rows)
+
+-- the errors for options that exclude one another
+abbrev pub together_fault : List Row → Kinds
+together_fault rows = or_else (excluded_fault rows) (looking_fault rows)
+
 -- the errors for options that do not go together
 abbrev pub company_fault : List Row → Kinds
-company_fault rows = or_else (lonely_fault rows) (or_else (drawn_fault rows) (span_fault rows))
+company_fault rows = or_else (lonely_fault rows) (together_fault rows)
 
 -- the errors for these rows that clap does not find
 abbrev pub unread_fault : List Row → Kinds
@@ -459,7 +537,7 @@ SaysNew args rows = SaysDisk args.on rows × SaysSectors args.sectors args.on.la
 
 abbrev pub SaysRun : RunArgs → List Row → Type 0
 SaysRun args rows = SaysDisk args.on rows
-    × (args.nodes ≡ number_in (codes "nodes") 1 64 rows)
+    × (args.nodes ≡ number_or (codes "nodes") 1 64 1 rows)
     × (args.batch ≡ batch_in rows)
     × (args.rounds ≡ number_in (codes "rounds") 1 4294967295 rows)
     × (args.checkpoint ≡ optional_number_in (codes "checkpoint") 1 1000000 rows)
@@ -467,12 +545,19 @@ SaysRun args rows = SaysDisk args.on rows
     × (option_map (λ path. path.now) args.sockets ≡ first_of (codes "sockets") rows)
     × (args.cut ≡ optional_number_in (codes "cut") 0 4294967295 rows)
     × IsFlagIn (codes "together") rows args.together
+    × IsFlagIn (codes "overlap") rows args.overlap
+    × IsFlagIn (codes "plain") rows args.plain
     × IsFlagIn (codes "attach") rows args.attach
+    × IsFlagIn (codes "bind") rows args.bind
+    × (args.judge ≡ optional_number_in (codes "judge") 0 4294967295 rows)
+    × (args.silence ≡ optional_number_in (codes "silence") 1 86400 rows)
+    × (args.retries ≡ optional_number_in (codes "retries") 0 1000000 rows)
+    × IsFlagIn (codes "grow-when-full") rows args.grow_when_full
     × (option_map (λ path. path.now) args.trace ≡ first_of (codes "trace") rows)
     × (option_map (λ path. path.now) args.stop_file ≡ first_of (codes "stop-file") rows)
     × (args.progress ≡ optional_number_in (codes "progress") 1 86400 rows)
     × IsFlagIn (codes "create") rows args.create
-    × SaysSectors args.sectors args.on.large rows
+    × (args.sectors ≡ number_or (codes "created") 8 (most_sectors args.on.large) 4096 rows)
 
 abbrev pub SaysGrow : GrowArgs → List Row → Type 0
 SaysGrow args rows = SaysDisk args.on rows × SaysSectors args.sectors args.on.large rows
@@ -488,10 +573,15 @@ abbrev pub SaysLog : LogArgs → List Row → Type 0
 SaysLog args rows = SaysDisk args.on rows
     × SaysTimes args.from args.to rows
     × (args.process ≡ optional_number_in (codes "process") 0 4294967295 rows)
+    × IsFlagIn (codes "names") rows args.names
+
+abbrev pub SaysShow : ShowArgs → List Row → Type 0
+SaysShow args rows = SaysDisk args.on rows × IsFlagIn (codes "names") rows args.names
 
 abbrev pub SaysStats : StatsArgs → List Row → Type 0
 SaysStats args rows = SaysSource args.of rows
     × (args.csv ≡ is_text (first_of (codes "format") rows) (codes "csv"))
+    × IsFlagIn (codes "names") rows args.names
 
 abbrev pub SaysDraw : DrawArgs → List Row → Type 0
 SaysDraw args rows = SaysSource args.of rows
@@ -516,7 +606,7 @@ SaysRows (Reopen args) name rows = (name ≡ codes "reopen") × SaysDisk args ro
 SaysRows (Status args) name rows = (name ≡ codes "status") × SaysDisk args rows
 SaysRows (Verify args) name rows = (name ≡ codes "verify") × SaysDisk args rows
 SaysRows (Log args) name rows = (name ≡ codes "log") × SaysLog args rows
-SaysRows (Show args) name rows = (name ≡ codes "show") × SaysDisk args rows
+SaysRows (Show args) name rows = (name ≡ codes "show") × SaysShow args rows
 SaysRows (Stats args) name rows = (name ≡ codes "stats") × SaysStats args rows
 SaysRows (Draw args) name rows = (name ≡ codes "draw") × SaysDraw args rows
 SaysRows (Seq args) name rows = (name ≡ codes "seq") × SaysModel args rows
@@ -547,6 +637,7 @@ IsSized sectors large = (8 ≤ sectors) × (sectors ≤ most_sectors large)
 abbrev pub IsRunRanged : RunArgs → Type 0
 IsRunRanged args = (1 ≤ args.nodes) × (args.nodes ≤ 64) × IsBatchRanged args.batch
     × (1 ≤ args.rounds) × IsWithin 1 1000000 args.checkpoint × IsWithin 1 400000 args.commit_every
+    × IsWithin 1 86400 args.silence × IsWithin 0 1000000 args.retries
     × IsWithin 1 86400 args.progress × IsSized args.sectors args.on.large
 
 abbrev pub AreTimes : Option ℕ → Option ℕ → Type 0

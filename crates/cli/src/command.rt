@@ -22,7 +22,7 @@ pub enum Command<'a> {
     /// Print the committed events of a disk.
     Log(LogArgs<'a>),
     /// Print the committed world of a disk.
-    Show(DiskArgs<'a>),
+    Show(ShowArgs<'a>),
     /// Print the figures of a run.
     Stats(StatsArgs<'a>),
     /// Print a picture of a run, as SVG.
@@ -96,9 +96,26 @@ pub struct RunArgs<'a> {
     pub cut: Option<u32>,
     /// Whether all nodes are posted their parcels before a reply is taken.
     pub together: bool,
+    /// Whether each node has a parcel out while the replies of the others are taken.
+    pub overlap: bool,
+    /// Whether the run is made without nodes, one event at a time.
+    pub plain: bool,
     /// Whether the run waits for the programs behind the sockets to connect, instead of starting
     /// them.
     pub attach: bool,
+    /// Whether each program that is started has a processor of its own.
+    pub bind: bool,
+    /// One in this many reported events of node programs is compared with the model, 0 for none;
+    /// none for the default.
+    pub judge: Option<u32>,
+    /// After how many seconds without an answer a node program counts as lost, 1 to 86,400; none
+    /// for no limit.
+    pub silence: Option<u32>,
+    /// How often the run is begun again from the disk after a node program was lost, 0 to
+    /// 1,000,000; none for never.
+    pub retries: Option<u32>,
+    /// Whether a disk that is full is made longer.
+    pub grow_when_full: bool,
     /// The path of the trace file, with a row for each turn of a node; none for no trace.
     pub trace: Option<&'a str>,
     /// The path of a file that ends the run once it is there; none for no such file.
@@ -108,7 +125,8 @@ pub struct RunArgs<'a> {
     pub progress: Option<u32>,
     /// Whether the disk is made, as `new` does, if its file is not there.
     pub create: bool,
-    /// The number of sectors of a disk that is made: 8 to 131,072, or to 16,777,216 for a large one.
+    /// The number of sectors of a disk that is made: 8 to 131,072, or to 16,777,216 for a large
+    /// one; 4,096 if none is given.
     pub sectors: u32,
 }
 
@@ -158,6 +176,17 @@ pub struct LogArgs<'a> {
     pub to: Option<u64>,
     /// Only events that this process handled; none for all.
     pub process: Option<u32>,
+    /// Whether the content of an event is printed with the names that the model has for it.
+    pub names: bool,
+}
+
+/// The arguments of `show`.
+#[derive(Clone, Copy, Debug, PartialEq, Eq)]
+pub struct ShowArgs<'a> {
+    /// The model file and the disk.
+    pub on: DiskArgs<'a>,
+    /// Whether state words are printed with the names that the model has for them.
+    pub names: bool,
 }
 
 /// The arguments of `stats`.
@@ -167,6 +196,8 @@ pub struct StatsArgs<'a> {
     pub of: SourceArgs<'a>,
     /// Whether the figures are printed as comma-separated values instead of a text.
     pub csv: bool,
+    /// Whether the figures of the state words that the model has names for are printed too.
+    pub names: bool,
 }
 
 /// The arguments of `draw`.

@@ -1,10 +1,12 @@
 // Options that do not go together. `clap` could refuse them itself, but says nothing of the words
 // that it then takes.
 
-ghost use Rattle.std.specs.Prelude.{◌≡◌, ◌∷◌, [], MatchOption};
+ghost use Rattle.std.specs.Prelude.{◌≡◌, ◌∷◌, [], is_some, MatchOption};
 ghost use Rattle.clap.specs.Words.{found_of, rows_of, HasKind};
-ghost use Rattle.cli.specs.Command.{company_fault, drawn_fault, is_drawn_twice, is_lonely};
-ghost use Rattle.cli.specs.Command.{is_no_span, is_used, lonely_fault, span_fault};
+ghost use Rattle.cli.specs.Command.{company_fault, drawn_fault, excluded_fault, is_drawn_twice};
+ghost use Rattle.cli.specs.Command.{is_excluded, is_lonely, is_no_span, is_over_nodes, is_there};
+ghost use Rattle.cli.specs.Command.{is_used, is_without_create, is_without_sockets, lonely_fault};
+ghost use Rattle.cli.specs.Command.{looking_fault, span_fault, together_fault};
 
 use crate::values::{is_text, optional_number, optional_text};
 use clap::error::ErrorKind;
@@ -21,35 +23,128 @@ pub fn refused_company(alloc: Global, name: &str, values: &ArgMatches<'_>) -> Op
 {
     match refused_lonely(alloc, name, values) {
         Some(error) => Some(error),
-        None => match refused_drawn(alloc, name, values) {
-            Some(error) => Some(error),
-            None => refused_span(alloc, name, values),
-        },
+        None => refused_together(alloc, name, values),
     }
 }
 
-/// The error if programs are awaited, but no folder of their sockets is given.
+/// The error for options that exclude one another, in a program of this name.
+fn refused_together(alloc: Global, name: &str, values: &ArgMatches<'_>) -> Option<Error>
+    ensures { MatchOption result (together_fault (rows_of (found_of values.now)) ≡ [])
+        (λ e. HasKind (together_fault (rows_of (found_of values.now))) e) }
+{
+    match refused_excluded(alloc, name, values) {
+        Some(error) => Some(error),
+        None => refused_looking(alloc, name, values),
+    }
+}
+
+/// The error for options that do not go together in a command that looks at a run.
+fn refused_looking(alloc: Global, name: &str, values: &ArgMatches<'_>) -> Option<Error>
+    ensures { MatchOption result (looking_fault (rows_of (found_of values.now)) ≡ [])
+        (λ e. HasKind (looking_fault (rows_of (found_of values.now))) e) }
+{
+    match refused_drawn(alloc, name, values) {
+        Some(error) => Some(error),
+        None => refused_span(alloc, name, values),
+    }
+}
+
+/// The error for an option that says nothing without another one.
 fn refused_lonely(alloc: Global, name: &str, values: &ArgMatches<'_>) -> Option<Error>
     ensures { MatchOption result (lonely_fault (rows_of (found_of values.now)) ≡ [])
         (λ e. HasKind (lonely_fault (rows_of (found_of values.now))) e) }
 {
-    if is_lonely(values) {
-        Some(error_of(
-            alloc,
-            name,
-            ErrorKind::MissingRequiredArgument,
+    match lonely(values) {
+        Some(message) => Some(error_of(alloc, name, ErrorKind::MissingRequiredArgument, message)),
+        None => None,
+    }
+}
+
+/// What is wrong with an option that says nothing without another one.
+fn lonely(values: &ArgMatches<'_>) -> Option<&'static str>
+    ensures { is_some result ≡ is_lonely (rows_of (found_of values.now)) }
+{
+    match without_sockets(values) {
+        Some(message) => Some(message),
+        None => without_create(values),
+    }
+}
+
+/// What is wrong with an option of node programs where no folder of their sockets is given.
+fn without_sockets(values: &ArgMatches<'_>) -> Option<&'static str>
+    ensures { is_some result ≡ is_without_sockets (rows_of (found_of values.now)) }
+{
+    if optional_text(values, "sockets").is_some() {
+        None
+    } else if is_used(values, "attach") {
+        Some(
             "the argument '--attach' needs '--sockets <DIR>', the folder in which programs connect",
-        ))
+        )
+    } else if is_used(values, "bind") {
+        Some("the argument '--bind' needs '--sockets <DIR>': it is about node programs")
+    } else if is_there(values, "judge") {
+        Some("the argument '--judge <N>' needs '--sockets <DIR>': it is about node programs")
+    } else if is_there(values, "silence") {
+        Some(
+            "the argument '--silence <SECONDS>' needs '--sockets <DIR>': it is about node programs",
+        )
+    } else if is_there(values, "retries") {
+        Some("the argument '--retries <N>' needs '--sockets <DIR>': it is about node programs")
     } else {
         None
     }
 }
 
-/// Whether programs are awaited, but no folder of their sockets is given.
-fn is_lonely(values: &ArgMatches<'_>) -> bool
-    ensures { result ≡ is_lonely (rows_of (found_of values.now)) }
+/// What is wrong with a number of sectors of a disk that is not made.
+fn without_create(values: &ArgMatches<'_>) -> Option<&'static str>
+    ensures { is_some result ≡ is_without_create (rows_of (found_of values.now)) }
 {
-    is_used(values, "attach") && optional_text(values, "sockets").is_none()
+    if is_there(values, "created") && !is_used(values, "create") {
+        Some("the argument '--sectors <N>' needs '--create', which makes the disk")
+    } else {
+        None
+    }
+}
+
+/// The error for options of `run` that exclude one another.
+fn refused_excluded(alloc: Global, name: &str, values: &ArgMatches<'_>) -> Option<Error>
+    ensures { MatchOption result (excluded_fault (rows_of (found_of values.now)) ≡ [])
+        (λ e. HasKind (excluded_fault (rows_of (found_of values.now))) e) }
+{
+    match excluded(values) {
+        Some(message) => Some(error_of(alloc, name, ErrorKind::ArgumentConflict, message)),
+        None => None,
+    }
+}
+
+/// What is wrong with options of `run` that exclude one another.
+fn excluded(values: &ArgMatches<'_>) -> Option<&'static str>
+    ensures { is_some result ≡ is_excluded (rows_of (found_of values.now)) }
+{
+    if is_used(values, "together") && is_used(values, "overlap") {
+        Some("the argument '--together' cannot be used with '--overlap'")
+    } else if is_used(values, "attach") && is_used(values, "bind") {
+        Some("the argument '--attach' cannot be used with '--bind', which starts the programs")
+    } else if is_used(values, "plain") && is_over_nodes(values) {
+        Some(
+            "the argument '--plain' runs without nodes, and cannot be used with '--nodes', '--batch', \
+             '--sockets', '--cut', '--together' or '--overlap'",
+        )
+    } else {
+        None
+    }
+}
+
+/// Whether an option of a run over nodes is used.
+fn is_over_nodes(values: &ArgMatches<'_>) -> bool
+    ensures { result ≡ is_over_nodes (rows_of (found_of values.now)) }
+{
+    is_there(values, "nodes")
+        || is_there(values, "batch")
+        || is_there(values, "sockets")
+        || is_there(values, "cut")
+        || is_used(values, "together")
+        || is_used(values, "overlap")
 }
 
 /// The error if both the load and the course in a trace are to be drawn.
@@ -103,6 +198,13 @@ fn is_no_span(from: Option<u64>, to: Option<u64>) -> bool
         (Some(from), Some(to)) => to < from,
         _ => false,
     }
+}
+
+/// Whether an option with a value is used. It has no default.
+fn is_there(values: &ArgMatches<'_>, id: &str) -> bool
+    ensures { result ≡ is_there id.now (rows_of (found_of values.now)) }
+{
+    optional_text(values, id).is_some()
 }
 
 /// Whether an option without a value is used.

@@ -4,14 +4,14 @@ ghost use Rattle.std.specs.Prelude.{◌≡◌, ◌≤◌, false, true, IfOk};
 ghost use Rattle.clap.specs.Words.{app_of, rule_of};
 ghost use Rattle.clap.specs.declared.builder.command.Command.TheViews.{out-Command as fields_of};
 ghost use Rattle.clap.specs.declared.builder.value_parser.ValueParser.TheVariants.{Names};
-ghost use Rattle.cli.specs.Command.{advice_option, batch_option, choice_option, draw_command};
-ghost use Rattle.cli.specs.Command.{flag, log_command};
+ghost use Rattle.cli.specs.Command.{advice_option, any_text, batch_option, choice_option};
+ghost use Rattle.cli.specs.Command.{created_option, draw_command, flag, log_command};
 ghost use Rattle.cli.specs.Command.{grow_command, large_option, migrate_command, refusing};
 ghost use Rattle.cli.specs.Command.{most_sectors, most_text, on_any_disk};
 ghost use Rattle.cli.specs.Command.{new_command, node_command, number_option, on_disk, on_model};
 ghost use Rattle.cli.specs.Command.{optional_argument, optional_number, optional_text};
-ghost use Rattle.cli.specs.Command.{path_argument, program_by, run_command, sectors_option};
-ghost use Rattle.cli.specs.Command.{stats_command, text_option, time_option, without_commands};
+ghost use Rattle.cli.specs.Command.{path_argument, program_by, run_apart, run_command, run_made};
+ghost use Rattle.cli.specs.Command.{sectors_option, show_command, stats_command, text_option, time_option, without_commands};
 ghost use Rattle.cli.specs.Command.{AddsArgument, AddsCommand, IsApp};
 
 use clap::builder::ValueParser;
@@ -72,7 +72,7 @@ pub fn program<'a>(
         on_any_disk(alloc, "verify", VERIFY_ABOUT, VERIFY_HELP),
     );
     let program = with_command(program, log(alloc));
-    let program = with_command(program, on_any_disk(alloc, "show", SHOW_ABOUT, SHOW_HELP));
+    let program = with_command(program, show(alloc));
     let program = with_command(program, stats(alloc));
     let program = with_command(program, draw(alloc));
     let program = with_command(program, on_model(alloc, "seq", SEQ_ABOUT, seq_help));
@@ -180,7 +180,42 @@ Output:
 fn run<'a>(alloc: Global, word: bool, large: bool) -> Result<ClapCommand<'a>, AllocError>
     ensures { IfOk result (IsApp (run_command word large)) }
 {
-    let nodes = number_option(alloc, "nodes", "1", 1, 64, NODES_HELP);
+    let trace = optional_text(alloc, "trace", "FILE", TRACE_HELP);
+    let stop = optional_text(alloc, "stop-file", "FILE", STOP_HELP);
+    let progress = optional_number(alloc, "progress", "SECONDS", 1, 86_400, PROGRESS_HELP);
+    let command = with_argument(with_argument(run_apart(alloc, word), trace), stop);
+    let command = with_argument(command, progress);
+    let command = with_argument(command, flag(alloc, "grow-when-full", GROW_WHEN_FULL_HELP));
+    let command = with_argument(command, flag(alloc, "create", CREATE_HELP));
+    let command = with_argument(command, created_option(alloc, large));
+    with_argument(command, large_option(alloc))
+}
+
+/// The command `run` with the options for how it is made and over which node programs.
+fn run_apart<'a>(alloc: Global, word: bool) -> Result<ClapCommand<'a>, AllocError>
+    ensures { IfOk result (IsApp (run_apart word)) }
+{
+    let sockets = optional_text(alloc, "sockets", "DIR", SOCKETS_HELP);
+    let cut = optional_number(alloc, "cut", "I", 0, 4_294_967_295, CUT_HELP);
+    let command = with_argument(with_argument(run_made(alloc, word), sockets), cut);
+    let command = with_argument(command, flag(alloc, "together", TOGETHER_HELP));
+    let command = with_argument(command, flag(alloc, "overlap", OVERLAP_HELP));
+    let command = with_argument(command, flag(alloc, "attach", ATTACH_HELP));
+    let command = with_argument(command, flag(alloc, "bind", BIND_HELP));
+    let judge = optional_number(alloc, "judge", "N", 0, 4_294_967_295, JUDGE_HELP);
+    let silence = optional_number(alloc, "silence", "SECONDS", 1, 86_400, SILENCE_HELP);
+    let retries = optional_number(alloc, "retries", "N", 0, 1_000_000, RETRIES_HELP);
+    with_argument(
+        with_argument(with_argument(command, judge), silence),
+        retries,
+    )
+}
+
+/// The command `run` with the options for how it is made.
+fn run_made<'a>(alloc: Global, word: bool) -> Result<ClapCommand<'a>, AllocError>
+    ensures { IfOk result (IsApp (run_made word)) }
+{
+    let nodes = optional_number(alloc, "nodes", "N", 1, 64, NODES_HELP);
     let batch = batch_option(alloc, word);
     let rounds = number_option(alloc, "rounds", "1000000", 1, 4_294_967_295, ROUNDS_HELP);
     let command = with_argument(on_disk(alloc, "run", RUN_ABOUT, RUN_HELP), nodes);
@@ -188,18 +223,7 @@ fn run<'a>(alloc: Global, word: bool, large: bool) -> Result<ClapCommand<'a>, Al
     let checkpoint = optional_number(alloc, "checkpoint", "E", 1, 1_000_000, CHECKPOINT_HELP);
     let commit = optional_number(alloc, "commit-every", "E", 1, 400_000, COMMIT_HELP);
     let command = with_argument(with_argument(command, checkpoint), commit);
-    let sockets = optional_text(alloc, "sockets", "DIR", SOCKETS_HELP);
-    let cut = optional_number(alloc, "cut", "I", 0, 4_294_967_295, CUT_HELP);
-    let command = with_argument(with_argument(command, sockets), cut);
-    let command = with_argument(command, flag(alloc, "together", TOGETHER_HELP));
-    let command = with_argument(command, flag(alloc, "attach", ATTACH_HELP));
-    let command = with_argument(command, optional_text(alloc, "trace", "FILE", TRACE_HELP));
-    let stop = optional_text(alloc, "stop-file", "FILE", STOP_HELP);
-    let progress = optional_number(alloc, "progress", "SECONDS", 1, 86_400, PROGRESS_HELP);
-    let command = with_argument(with_argument(command, stop), progress);
-    let command = with_argument(command, flag(alloc, "create", CREATE_HELP));
-    let command = with_argument(command, sectors(alloc, large, "4096", CREATED_HELP));
-    with_argument(command, large_option(alloc))
+    with_argument(command, flag(alloc, "plain", PLAIN_HELP))
 }
 
 /// The option for how many messages a node handles at a turn: a number, or any text.
@@ -208,17 +232,30 @@ fn batch_option<'a>(alloc: Global, word: bool) -> Arg<'a>
     ensures local { result.global ≡ false }
 {
     if word {
-        text_option(alloc, "batch", "N", "16", BATCH_HELP)
+        any_text(alloc, "batch", "N", BATCH_HELP)
     } else {
-        number_option(alloc, "batch", "16", 1, 4_294_967_295, BATCH_HELP)
+        optional_number(alloc, "batch", "N", 1, 4_294_967_295, BATCH_HELP)
     }
+}
+
+/// The option for the number of sectors of a disk that a run makes. It is `--sectors`, but has
+/// a name of its own for the other commands' option, which has a default.
+fn created_option<'a>(alloc: Global, large: bool) -> Arg<'a>
+    ensures rule { rule_of result ≡ created_option large }
+    ensures local { result.global ≡ false }
+{
+    let most = u64::from(most_sectors(large));
+    optional_number(alloc, "created", "N", 8, most, CREATED_HELP).long("sectors")
 }
 
 const RUN_ABOUT: &str = "Runs a model on its disk, from the last commit to its end";
 
-const NODES_HELP: &str = "How many nodes share the processes, 1 to 64";
+// These three have no default for `clap`, so that one sees whether they are used.
 
-const BATCH_HELP: &str = "How many messages a node handles at a turn, 1 to 4294967295, or 'auto'";
+const NODES_HELP: &str = "How many nodes share the processes, 1 to 64 [default: 1]";
+
+const BATCH_HELP: &str =
+    "How many messages a node handles at a turn, 1 to 4294967295, or 'auto' [default: 16]";
 
 const ROUNDS_HELP: &str =
     "Stops after N rounds, 1 to 4294967295; with 1 a run makes no progress (see below)";
@@ -232,9 +269,27 @@ const SOCKETS_HELP: &str = "Runs each node as a program of its own, behind the s
 
 const CUT_HELP: &str = "Ends the program of node I after one reply, to see what a run leaves then";
 
+const PLAIN_HELP: &str = "Runs without nodes, one event at a time: the fastest way on one core";
+
 const TOGETHER_HELP: &str = "Hands work to all nodes before a reply is taken, so they work at once";
 
+const OVERLAP_HELP: &str =
+    "Hands new work to a node as soon as its reply is taken, so they work during commits too";
+
 const ATTACH_HELP: &str = "Starts no node programs: waits for them to connect, in any order";
+
+const BIND_HELP: &str = "Gives each node program that is started a processor of its own";
+
+const JUDGE_HELP: &str =
+    "Compares one in N events that node programs report with the model, 0 for none [default: 64]";
+
+const SILENCE_HELP: &str =
+    "Counts a node program as lost after SECONDS without an answer, 1 to 86400";
+
+const RETRIES_HELP: &str =
+    "Goes on from the last commit, with new node programs, up to N times when one is lost";
+
+const GROW_WHEN_FULL_HELP: &str = "Makes the disk longer where it is full, and goes on";
 
 const TRACE_HELP: &str = "Writes a row for each turn of a node to FILE, by commas (CSV)";
 
@@ -246,7 +301,7 @@ const PROGRESS_HELP: &str =
 const CREATE_HELP: &str = "Makes the disk first, as 'new' does, if its file is not there";
 
 const CREATED_HELP: &str =
-    "With --create: how many sectors a new disk has, 8 to 131072, or with --large to 16777216";
+    "With --create: how many sectors a new disk has, 8 to 131072, or with --large to 16777216 [default: 4096]";
 
 const RUN_HELP: &str = "\
 In a round each node has its turn, and what no rollback can reach any more is committed.
@@ -257,6 +312,11 @@ One command at a time writes to a disk: another is refused at once (File). 'log'
 
 Repeated runs with --rounds 1 make no progress: each opening starts with a floor that one round
 cannot pass. Use --rounds 2 or more.
+
+With --plain there are no nodes: events are handled one at a time, as by 'seq', and E of them are
+committed at a time, 4096 unless --commit-every says otherwise; with --rounds it makes N commits. A
+disk may be run so now and over nodes later. On one core, or where an event takes less than some
+microseconds, this is the fastest way.
 
 With --batch auto each node has its own batch, which grows and shrinks with the share of its handled
 messages that is committed.
@@ -274,6 +334,19 @@ A disk of format 1 fails with Session Recovery OtherModel; only 'migrate' reads 
 With --sockets the run starts this program as 'node' for each node, waits for it at the end, and
 removes its socket. DIR must be a folder of your own (mode 700): anyone who can write to it can
 answer in a node's place. Sockets that a killed run left there are removed.
+
+With --overlap nodes work while the run takes the replies of others and commits. It pays where node
+programs have a processor each and an event takes some microseconds; more work is rolled back.
+
+With --judge the run compares what node programs report with its own model: the first reports of
+each node and process, then one event in N. A node that runs another model is found out before what
+it reports is committed (Session Port BadReply).
+
+With --retries a run whose node program ends, is silent for too long (--silence) or is cut off goes
+on from the last commit with new programs. Each new beginning is printed on standard error.
+
+With --grow-when-full a disk without room is made twice as long, up to 131072 sectors, or with
+--large to 16777216, and the run goes on from its last commit.
 
 With --attach as well it starts none of them: start each node I as 'node MODEL DIR/nodeI' once its
 socket is there, in any order. The run begins when all have connected.
@@ -389,8 +462,12 @@ fn log<'a>(alloc: Global) -> Result<ClapCommand<'a>, AllocError>
     let command = with_argument(command, time_option(alloc, "to", TO_HELP));
     let process = optional_number(alloc, "process", "L", 0, 4_294_967_295, PROCESS_HELP);
     let command = with_argument(command, process);
+    let command = with_argument(command, flag(alloc, "names", LOG_NAMES_HELP));
     with_argument(command, large_option(alloc))
 }
+
+const LOG_NAMES_HELP: &str =
+    "Prints the content of each event with the names that a model by rules has for it";
 
 const FROM_HELP: &str = "Only events at T ticks or later, 0 to 1099511627776";
 
@@ -428,6 +505,18 @@ Output, all numbers decimal:
   lp LP sent NUMBER state WORDS        each process
   pending TIME FROM NUMBER TO A B C D  each message that is not handled";
 
+/// The command `show`.
+fn show<'a>(alloc: Global) -> Result<ClapCommand<'a>, AllocError>
+    ensures { IfOk result (IsApp show_command) }
+{
+    let command = on_disk(alloc, "show", SHOW_ABOUT, SHOW_HELP);
+    let command = with_argument(command, flag(alloc, "names", SHOW_NAMES_HELP));
+    with_argument(command, large_option(alloc))
+}
+
+const SHOW_NAMES_HELP: &str =
+    "Prints each state word with the name that a model by rules has for it";
+
 /// The command `stats`.
 fn stats<'a>(alloc: Global) -> Result<ClapCommand<'a>, AllocError>
     ensures { IfOk result (IsApp stats_command) }
@@ -436,6 +525,7 @@ fn stats<'a>(alloc: Global) -> Result<ClapCommand<'a>, AllocError>
     let command = with_argument(command, optional_argument(alloc, "DISK", MAYBE_DISK_HELP));
     let format = text_option(alloc, "format", "F", "text", FORMAT_HELP);
     let command = with_argument(command, format);
+    let command = with_argument(command, flag(alloc, "names", STATS_NAMES_HELP));
     with_argument(command, large_option(alloc))
 }
 
@@ -444,6 +534,9 @@ const STATS_ABOUT: &str = "Prints how many events, sends and delays a run had";
 const MAYBE_DISK_HELP: &str = "The file of the disk; without one the model is run to its end";
 
 const FORMAT_HELP: &str = "The format of what is printed: text or csv";
+
+const STATS_NAMES_HELP: &str =
+    "Prints the sum and the mean of each named state word over the processes too";
 
 const STATS_HELP: &str = "\
 With a disk these are the figures of what is committed there. The disk is only read.
@@ -734,6 +827,17 @@ fn text_option<'a>(
         .long(name)
         .value_name(value)
         .default_value(default)
+        .help(help)
+}
+
+/// An option whose value is any text, without a default.
+fn any_text<'a>(alloc: Global, name: &'a str, value: &'a str, help: &'a str) -> Arg<'a>
+    ensures rule { rule_of result ≡ any_text name.entry.now }
+    ensures local { result.global ≡ false }
+{
+    Arg::new(alloc, name)
+        .long(name)
+        .value_name(value)
         .help(help)
 }
 

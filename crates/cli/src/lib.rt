@@ -12,7 +12,7 @@ mod words;
 
 pub use command::{
     BatchOption, Command, DiskArgs, DrawArgs, GrowArgs, LogArgs, MigrateArgs, ModelArgs, NewArgs,
-    NodeArgs, RunArgs, SourceArgs, StatsArgs,
+    NodeArgs, RunArgs, ShowArgs, SourceArgs, StatsArgs,
 };
 pub use grammar::{Texts, most_sectors, program_help, seq_help};
 pub use hint::{Hint, hint_of};

@@ -5,17 +5,17 @@ ghost use Rattle.clap.specs.Words.{found_of, rows_of, FailsBy};
 ghost use Rattle.cli.specs.Command.{refusal_of, IsDrawRanged, IsLogRanged, IsNamed, IsRanged};
 ghost use Rattle.cli.specs.Command.{IsRunRanged, IsSized, Says, SaysDisk, SaysDraw, SaysGrow};
 ghost use Rattle.cli.specs.Command.{SaysLog, SaysMigrate, SaysModel, SaysNew, SaysNode, SaysRows};
-ghost use Rattle.cli.specs.Command.{SaysRun, SaysSource, SaysStats};
+ghost use Rattle.cli.specs.Command.{SaysRun, SaysShow, SaysSource, SaysStats};
 
 use crate::command::{
     Command, DiskArgs, DrawArgs, GrowArgs, LogArgs, MigrateArgs, ModelArgs, NewArgs, NodeArgs,
-    RunArgs, SourceArgs, StatsArgs,
+    RunArgs, ShowArgs, SourceArgs, StatsArgs,
 };
 use crate::company::LAST_TIME;
 use crate::grammar::{Texts, most_sectors, program};
 use crate::values::{
     batch, is_flagged, is_text, optional_number, optional_small_number, optional_text, range,
-    refusal, small_number, text,
+    refusal, small_number, small_number_or, text,
 };
 use crate::words::{says_auto, says_large};
 use clap::{ArgMatches, Error};
@@ -28,9 +28,11 @@ use std::convert::AsStr;
 /// If they name none, returns `clap`'s error: its text says what is wrong, or is the help or the
 /// version that was asked for (of the kinds `DisplayHelp` and `DisplayVersion`). An invalid batch,
 /// an invalid range of processes and an unknown format are errors of the kind `InvalidValue`, in
-/// `clap`'s words; then come options that do not go together, each in `clap`'s form: `--attach`
-/// without `--sockets` (`MissingRequiredArgument`), `--load` with `--trace` (`ArgumentConflict`), and
-/// a time of `--to` before that of `--from` (`ValueValidation`). If an allocation failed,
+/// `clap`'s words; then come options that do not go together, each in `clap`'s form: options of node
+/// programs without `--sockets`, and `run --sectors` without `--create` (`MissingRequiredArgument`);
+/// `--overlap` with `--together`, `--bind` with `--attach`, `--plain` with an option of nodes, and
+/// `--load` with `--trace` (`ArgumentConflict`); and a time of `--to` before that of `--from`
+/// (`ValueValidation`). If an allocation failed,
 /// the result is an error of `clap` too.
 pub fn read_command<'a, S: AsStr>(
     alloc: Global,
@@ -70,7 +72,7 @@ fn command_of<'a>(name: &str, values: &ArgMatches<'a>) -> Command<'a>
         "status" => Command::Status(disk_args(values)),
         "verify" => Command::Verify(disk_args(values)),
         "log" => Command::Log(log_args(values)),
-        "show" => Command::Show(disk_args(values)),
+        "show" => Command::Show(show_args(values)),
         "stats" => Command::Stats(stats_args(values)),
         "draw" => Command::Draw(draw_args(values)),
         "seq" => Command::Seq(model_args(values)),
@@ -128,7 +130,7 @@ fn run_args<'a>(values: &ArgMatches<'a>) -> RunArgs<'a>
     let on = disk_args(values);
     RunArgs {
         on,
-        nodes: small_number(values, "nodes", 1, 64),
+        nodes: small_number_or(values, "nodes", 1, 64, 1),
         batch: batch(values),
         rounds: small_number(values, "rounds", 1, u32::MAX),
         checkpoint: optional_small_number(values, "checkpoint", 1, 1_000_000),
@@ -136,12 +138,19 @@ fn run_args<'a>(values: &ArgMatches<'a>) -> RunArgs<'a>
         sockets: optional_text(values, "sockets"),
         cut: optional_small_number(values, "cut", 0, u32::MAX),
         together: is_flagged(values, "together"),
+        overlap: is_flagged(values, "overlap"),
+        plain: is_flagged(values, "plain"),
         attach: is_flagged(values, "attach"),
+        bind: is_flagged(values, "bind"),
+        judge: optional_small_number(values, "judge", 0, u32::MAX),
+        silence: optional_small_number(values, "silence", 1, 86_400),
+        retries: optional_small_number(values, "retries", 0, 1_000_000),
+        grow_when_full: is_flagged(values, "grow-when-full"),
         trace: optional_text(values, "trace"),
         stop_file: optional_text(values, "stop-file"),
         progress: optional_small_number(values, "progress", 1, 86_400),
         create: is_flagged(values, "create"),
-        sectors: small_number(values, "sectors", 8, most_sectors(on.large)),
+        sectors: small_number_or(values, "created", 8, most_sectors(on.large), 4_096),
     }
 }
 
@@ -180,6 +189,17 @@ fn log_args<'a>(values: &ArgMatches<'a>) -> LogArgs<'a>
         from: optional_number(values, "from", 0, LAST_TIME),
         to: optional_number(values, "to", 0, LAST_TIME),
         process: optional_small_number(values, "process", 0, u32::MAX),
+        names: is_flagged(values, "names"),
+    }
+}
+
+/// The arguments of `show`.
+fn show_args<'a>(values: &ArgMatches<'a>) -> ShowArgs<'a>
+    ensures { SaysShow result (rows_of (found_of values.now)) }
+{
+    ShowArgs {
+        on: disk_args(values),
+        names: is_flagged(values, "names"),
     }
 }
 
@@ -190,6 +210,7 @@ fn stats_args<'a>(values: &ArgMatches<'a>) -> StatsArgs<'a>
     StatsArgs {
         of: source_args(values),
         csv: is_text(optional_text(values, "format"), "csv"),
+        names: is_flagged(values, "names"),
     }
 }
 

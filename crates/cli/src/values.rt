@@ -7,7 +7,8 @@ ghost use Rattle.std.specs.Str.{bytes_eq};
 ghost use Rattle.clap.specs.Words.{first_of, found_of, rows_of, HasKind};
 ghost use Rattle.clap.specs.declared.error.kind.ErrorKind.TheVariants.{InvalidValue};
 ghost use Rattle.cli.specs.Command.{batch_in, is_no_batch, is_no_format, is_no_range, is_positive};
-ghost use Rattle.cli.specs.Command.{is_text, number_in, optional_number_in, range_of, text_in};
+ghost use Rattle.cli.specs.Command.{is_text, number_in, number_or, optional_number_in, range_of};
+ghost use Rattle.cli.specs.Command.{text_in};
 ghost use Rattle.cli.specs.Command.{text_fault, unread_fault, written_number};
 ghost use Rattle.cli.specs.Command.{IsBatchRanged, IsFlagIn, IsWithin};
 
@@ -102,6 +103,27 @@ pub fn optional_small_number(
     }
 }
 
+/// The number of an option whose numbers have 32 bits, or this default.
+pub fn small_number_or(
+    values: &ArgMatches<'_>,
+    id: &str,
+    least: u32,
+    most: u32,
+    default: u32,
+) -> u32
+    requires least { least ≤ default }
+    requires most { default ≤ most }
+    ensures value { result ≡ number_or id.now least most default
+        (rows_of (found_of values.now)) }
+    ensures least { least ≤ result }
+    ensures most { result ≤ most }
+{
+    match optional_small_number(values, id, least, most) {
+        Some(number) => number,
+        None => default,
+    }
+}
+
 /// The batch of a run.
 pub fn batch(values: &ArgMatches<'_>) -> BatchOption
     ensures value { result ≡ batch_in (rows_of (found_of values.now)) }
@@ -110,7 +132,7 @@ pub fn batch(values: &ArgMatches<'_>) -> BatchOption
     if is_text(optional_text(values, "batch"), "auto") {
         BatchOption::Auto
     } else {
-        BatchOption::Fixed(small_number(values, "batch", 1, u32::MAX))
+        BatchOption::Fixed(small_number_or(values, "batch", 1, u32::MAX, 16))
     }
 }
 

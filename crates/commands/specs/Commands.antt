@@ -12,8 +12,13 @@ use Rattle.commitlog.specs.declared.records.Entry.{Entry}
 use Rattle.coordinator.specs.Extending.{IsExtended}
 use Rattle.coordinator.specs.Opening.{IsAtFault}
 use Rattle.coordinator.specs.declared.SessionFault.{SessionFault}
+use Rattle.coordinator.specs.declared.SessionFault.TheVariants as session
 use Rattle.disk.specs.Disk.{DiskState}
 use Rattle.disk.specs.declared.disk.DiskFault.TheVariants.{Device}
+use Rattle.plain.specs.Runs.{RunIsRefused}
+use Rattle.plain.specs.declared.PlainFault.{PlainFault}
+use Rattle.plain.specs.declared.PlainFault.TheVariants as plain
+use Rattle.plain.specs.declared.whole.Plan.{Plan as PlainPlan}
 use Rattle.runs.specs.Driver.{IsRunOf, IsRunOver}
 use Rattle.runs.specs.declared.rounds.Plan.{Plan}
 use Rattle.runs.specs.declared.rounds.RunFault.{RunFault}
@@ -82,7 +87,7 @@ pub record BeginsCommitted (m : Meaning) (end : ℕ) (image : List (List ℕ)) (
 
 -- `Taken` holds of the output of a run from this image: how many messages each of `nodes` nodes
 -- handled, the time reached, and the number of committed events. If the image is genuine, they are
--- those of the sequential simulation up to the end.
+-- those of the sequential simulation up to the end. A run without nodes is one over 0.
 pub record PrintsEndOfRun (m : Meaning) (end nodes : ℕ) (image : List (List ℕ))
     (Taken : List ℕ → Type 0) : Type 0 where
   pub ran : List ℕ
@@ -163,3 +168,21 @@ of_run (run.Session fault) = Session fault
 of_run run.Rounds = Rounds
 of_run (run.Stopped time events) = Stopped time events
 of_run run.NoMemory = NoMemory
+
+-- for the fault of a run without nodes
+abbrev pub of_plain : PlainFault → CommandFault
+of_plain (plain.Recovery fault) = Session (session.Recovery fault)
+of_plain plain.NumberLimit = Session session.NumberLimit
+of_plain plain.TooLong = Session session.TooLong
+of_plain plain.Full = Session session.Full
+of_plain plain.Disk = Session session.Disk
+of_plain plain.Commits = Rounds
+of_plain (plain.Stopped time events) = Stopped time events
+of_plain plain.NoMemory = Session session.NoMemory
+
+-- why a run without nodes stopped before its end, or its output was not written
+abbrev pub PlainRunIsRefused : {M D : Type 0} → (M → Meaning) → (D → DiskState) → M → ℕ → PlainPlan →
+    D → D → CommandFault → Type 0
+PlainRunIsRefused meaning disk model end plan old new fault = (fault ≡ Output)
+    ⊎ ((cause : PlainFault) × (fault ≡ of_plain cause)
+    × RunIsRefused meaning disk model end plan old new cause)

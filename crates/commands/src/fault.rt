@@ -5,6 +5,7 @@ ghost use Rattle.std.specs.Prelude.{◌≡◌};
 use commitlog::LogFault;
 use coordinator::SessionFault;
 use migration::MigrateFault;
+use plain::PlainFault;
 use recovery::RecoveryFault;
 use runs::RunFault;
 use std::alloc::{AllocError, AllocFailed};
@@ -24,13 +25,14 @@ pub enum CommandFault {
     /// No world was recovered from the log.
     #[error("Recovery {0}")]
     Recovery(RecoveryFault),
-    /// The session of a run refused its opening or a step.
+    /// The session of a run refused its opening or a step; or a run without nodes was refused for
+    /// the same cause.
     #[error("Session {0}")]
     Session(SessionFault),
-    /// The run made all its rounds before everything was committed.
+    /// The run made all its rounds, or commits without nodes, before everything was committed.
     #[error("Rounds")]
     Rounds,
-    /// The run was asked to stop, and stopped before its end with rounds left.
+    /// The run was asked to stop, and stopped before its end with rounds, or commits, left.
     #[error("Stopped")]
     Stopped {
         /// The virtual time before which everything is committed, in ticks.
@@ -97,6 +99,26 @@ impl From<RunFault> for CommandFault {
             RunFault::Rounds => CommandFault::Rounds,
             RunFault::Stopped { time, events } => CommandFault::Stopped { time, events },
             RunFault::NoMemory => CommandFault::NoMemory,
+        }
+    }
+}
+
+/// A plain run has the faults of a session where the cause is the same.
+impl From<PlainFault> for CommandFault {
+    ghost use Rattle.commands.specs.Commands.{of_plain};
+
+    ghost from_gives = { λ fault e. e ≡ of_plain fault };
+
+    fn from(fault: PlainFault) -> CommandFault {
+        match fault {
+            PlainFault::Recovery(fault) => CommandFault::Session(SessionFault::Recovery(fault)),
+            PlainFault::NumberLimit => CommandFault::Session(SessionFault::NumberLimit),
+            PlainFault::TooLong => CommandFault::Session(SessionFault::TooLong),
+            PlainFault::Full => CommandFault::Session(SessionFault::Full),
+            PlainFault::Disk => CommandFault::Session(SessionFault::Disk),
+            PlainFault::Commits => CommandFault::Rounds,
+            PlainFault::Stopped { time, events } => CommandFault::Stopped { time, events },
+            PlainFault::NoMemory => CommandFault::Session(SessionFault::NoMemory),
         }
     }
 }

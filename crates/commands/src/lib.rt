@@ -5,9 +5,11 @@
 mod commands;
 mod fault;
 mod migrating;
+mod plainly;
 mod printing;
 
 pub use commands::{Ended, Simulated, committed, extend, log, new, run, run_over, show};
 pub use fault::CommandFault;
 pub use migrating::{migrate, old_log};
+pub use plainly::run_plain;
 pub use printing::write_stopped;

@@ -4,7 +4,7 @@
 
 use disk::{FileDisk, MemDisk, SectorDisk};
 use models::TokenRing;
-use runs::{Batch, Ended, Outcome, Plan, SimulationFault, simulate};
+use runs::{Batch, Ended, Outcome, Plan, Schedule, SimulationFault, simulate};
 use std::alloc::Global;
 use std::io::{self, Write};
 use std::process::ExitCode;
@@ -18,7 +18,7 @@ const PLAN: Plan = Plan {
     nodes: 3,
     batch: Batch::Fixed(16),
     rounds: 1000,
-    together: false,
+    schedule: Schedule::InTurn,
     checkpoint_every: 0,
     commit_every: 0,
 };

@@ -3,8 +3,11 @@
 //! parallel with the crates that `program` waits for.
 #![tactic(auto)]
 
+mod calls;
 mod fault;
 mod nodes;
+mod processors;
 
+pub use calls::{Call, CallEnd, Calls, NodeStream};
 pub use fault::NodesFault;
 pub use nodes::{Behind, Met, clear, meet, serve_on};

@@ -4,7 +4,9 @@ ghost use Rattle.std.specs.Prelude.{◌≡◌, ◌+◌, IfOk, OnOk, length, map,
 ghost use Rattle.sockets.specs.Socket.{state_of};
 ghost use Rattle.sockets.specs.declared.port.Held.TheVariants.{Fresh};
 
+use crate::calls::{Calls, NodeStream};
 use crate::fault::{NodesFault, unreadable};
+use crate::processors::{command_on, processor_of, processors};
 use frames::serve;
 use model::Model as Simulated;
 use sockets::{ReadAhead, SocketPort};
@@ -33,6 +35,12 @@ pub struct Behind<'a> {
     pub cut: Option<u32>,
     /// Whether to wait for programs that others start, instead of starting them.
     pub attach: bool,
+    /// Whether each program that is started runs on one processor, through the program `taskset`.
+    pub bind: bool,
+    /// After how many seconds without an answer a program counts as lost; none for no limit.
+    pub silence: Option<u32>,
+    /// Where each call on a connection is noted.
+    pub calls: &'a Calls,
 }
 
 /// What must be cleared up for a node: the socket file that this run made, its listener, the
@@ -56,16 +64,18 @@ pub struct Met<P: OpenProcess + Drop> {
 /// waits without limit until each node has connected, in any order, and reports to `progress` which
 /// nodes it waits for.
 ///
+/// A call on a connection that waits longer than `silence` seconds fails, as if the connection had.
+///
 /// Replaces sockets that a killed run left in the folder. A socket of a run that is still alive, a
 /// socket at which another program listens, and any other file stay as they are: the call fails
 /// with `File`.
-pub fn meet<R, P>(
+pub fn meet<'a, R, P>(
     rt: &R,
-    behind: Behind<'_>,
+    behind: Behind<'a>,
     nodes: u32,
     met: &mut Vec<Met<R::Started>>,
     progress: &mut P,
-) -> Result<Vec<SocketPort<ReadAhead<UnixStream>>>, NodesFault>
+) -> Result<Vec<SocketPort<NodeStream<'a>>>, NodesFault>
 where
     R: Files<File = File> + Net + Processes + Clock + AllocGlobal,
     P: Progress,
@@ -80,7 +90,7 @@ where
     }
     let met = met.as_mut_slice();
     gather(rt, behind, met, progress)?;
-    accept_all(rt, met)
+    accept_all(rt, behind, met)
 }
 
 /// Locks the folder of the sockets for this run. Returns `None` if another program has the lock, or
@@ -162,7 +172,7 @@ fn gather<R, P>(
     progress: &mut P,
 ) -> Result<(), NodesFault>
 where
-    R: Processes + Clock + AllocGlobal,
+    R: Files<File = File> + Processes + Clock + AllocGlobal,
     P: Progress,
 {
     if behind.attach {
@@ -251,28 +261,44 @@ where
     }
 }
 
-/// Starts the program of each node.
+/// Starts the program of each node, on a processor of its own if that is asked for.
 fn start_all<R>(rt: &R, behind: Behind<'_>, met: &mut [Met<R::Started>]) -> Result<(), NodesFault>
 where
-    R: Processes + AllocGlobal,
+    R: Files<File = File> + Processes + AllocGlobal,
 {
+    let processors = if behind.bind {
+        processors(rt)?
+    } else {
+        Vec::new(rt.alloc())
+    };
     for (node, met) in met.iter_mut().enumerate() {
         let is_cut = match behind.cut {
             Some(cut) => cut as usize == node,
             None => false,
         };
-        let child = start(rt, behind, met.path.as_str(), is_cut).map_err(unreadable)?;
+        let processor = processor_of(processors.as_slice(), node);
+        let child = start(rt, behind, met.path.as_str(), is_cut, processor).map_err(unreadable)?;
         met.child = Some(child);
     }
     Ok(())
 }
 
-/// Starts the program of the node behind this socket, without standard streams.
-fn start<R>(rt: &R, behind: Behind<'_>, path: &str, is_cut: bool) -> io::Result<Child<R::Started>>
+/// Starts the program of the node behind this socket, without standard streams, and on this
+/// processor if there is one.
+fn start<R>(
+    rt: &R,
+    behind: Behind<'_>,
+    path: &str,
+    is_cut: bool,
+    processor: Option<u32>,
+) -> io::Result<Child<R::Started>>
 where
     R: Processes + AllocGlobal,
 {
-    let mut command = Command::new(rt.alloc(), behind.program)?;
+    let mut command = match processor {
+        Some(processor) => command_on(rt.alloc(), processor, behind.program)?,
+        None => Command::new(rt.alloc(), behind.program)?,
+    };
     command.arg("node")?.arg(behind.model)?.arg(path)?;
     if is_cut {
         command.arg("--parcels")?.arg("1")?;
@@ -285,10 +311,11 @@ where
 }
 
 /// Waits for the program of each node to connect. Returns a port to each.
-fn accept_all<R>(
+fn accept_all<'a, R>(
     rt: &R,
+    behind: Behind<'a>,
     met: &mut [Met<R::Started>],
-) -> Result<Vec<SocketPort<ReadAhead<UnixStream>>>, NodesFault>
+) -> Result<Vec<SocketPort<NodeStream<'a>>>, NodesFault>
 where
     R: Processes + Clock + AllocGlobal,
     ensures { IfOk result (λ ports.
@@ -297,10 +324,24 @@ where
     let mut ports = Vec::with_capacity(rt.alloc(), met.len())?;
     'nodes: for node in 0..met.len() {
         let stream = accept(rt, &mut met[node]).map_err(unreadable)?;
+        limit(&stream, behind.silence).map_err(unreadable)?;
         let stream = ReadAhead::new(rt.alloc(), stream).map_err(unreadable)?;
+        let stream = NodeStream::new(node, behind.calls, stream);
         ports.push(SocketPort::new(rt.alloc(), stream))?;
     }
     Ok(ports)
+}
+
+/// Lets no read and no write of a connection wait longer than this many seconds.
+fn limit(stream: &UnixStream, silence: Option<u32>) -> io::Result<()> {
+    match silence {
+        None => Ok(()),
+        Some(seconds) => {
+            let most = Some(Duration::from_secs(u64::from(seconds)));
+            stream.set_read_timeout(most)?;
+            stream.set_write_timeout(most)
+        }
+    }
 }
 
 /// The connection of a node's program: the one that has arrived already, or the next one, for which
@@ -338,14 +379,20 @@ where
 
 /// Clears up after node programs, once all ports to them are dropped: waits for each program that
 /// was started, and removes each socket that was made.
-pub fn clear<R>(rt: &R, mut met: Vec<Met<R::Started>>)
+///
+/// Where a program that is silent for some seconds counts as lost, the call waits for so long, and
+/// then kills those that have not ended.
+pub fn clear<R>(rt: &R, silence: Option<u32>, mut met: Vec<Met<R::Started>>)
 where
-    R: Files<File = File> + Processes,
+    R: Files<File = File> + Processes + Clock,
 {
     // a program whose connection was not accepted sees its end once the listener is closed
     for node in met.iter_mut() {
         node.listener = None;
         node.stream = None;
+    }
+    if let Some(seconds) = silence {
+        kill_silent(rt, seconds, met.as_mut_slice());
     }
     for node in met.iter_mut() {
         if let Some(child) = &mut node.child {
@@ -355,6 +402,48 @@ where
     for node in met.iter() {
         let _ = fs::remove_file(rt, node.path.as_str());
     }
+}
+
+/// Kills the programs that have not ended within this many seconds. Polls once a millisecond.
+fn kill_silent<R, P>(rt: &R, seconds: u32, met: &mut [Met<P>])
+where
+    R: Clock,
+    P: OpenProcess + Drop,
+{
+    for _ in 0..u64::from(seconds) * 1000 {
+        if have_ended(met) {
+            return;
+        }
+        thread::sleep(rt, Duration::from_millis(1));
+    }
+    kill_all(met);
+}
+
+/// Kills each program that was started and has not ended.
+fn kill_all<P>(met: &mut [Met<P>])
+where
+    P: OpenProcess + Drop,
+{
+    for node in met.iter_mut() {
+        if let Some(child) = &mut node.child {
+            let _ = child.kill();
+        }
+    }
+}
+
+/// Whether each program that was started has ended. One that cannot be asked counts as ended.
+fn have_ended<P>(met: &mut [Met<P>]) -> bool
+where
+    P: OpenProcess + Drop,
+{
+    for node in met.iter_mut() {
+        if let Some(child) = &mut node.child {
+            if let Ok(None) = child.try_wait() {
+                return false;
+            }
+        }
+    }
+    true
 }
 
 /// Serves a node of this model behind this socket, until at most `parcels` parcels are answered.

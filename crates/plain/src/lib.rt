@@ -41,6 +41,14 @@ pub enum PlainFault {
     /// All commits were made before everything was committed.
     #[error("Commits")]
     Commits,
+    /// The run was asked to stop, and stopped before its end with commits left.
+    #[error("Stopped")]
+    Stopped {
+        /// The virtual time before which everything is committed, in ticks.
+        time: u64,
+        /// The number of committed events.
+        events: usize,
+    },
     /// An allocation failed.
     #[error("NoMemory")]
     NoMemory,

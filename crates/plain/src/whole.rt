@@ -1,12 +1,13 @@
 // Whole plain runs on a disk.
 
-ghost use Rattle.std.specs.Prelude.{◌≡◌, ◌≤◌, ◌<◌, ◌^◌, ℕ, IfErr, IfOk, OnOk, length, true};
+ghost use Rattle.std.specs.Prelude.{◌≡◌, ◌≤◌, ◌<◌, ◌^◌, ℕ, IfErr, IfOk, IsErrOf};
+ghost use Rattle.std.specs.Prelude.{OnOk, length, true};
 ghost use Rattle.plain.specs.Commits.{StaysRecoverable};
 ghost use Rattle.plain.specs.Crashes.{KeepsRecovery, KeepsUnderItsEnd, Recovers};
 ghost use Rattle.plain.specs.Crashes.{RecoversUnderItsEnd};
 ghost use Rattle.plain.specs.Refusals.{SavingIsRefused};
 ghost use Rattle.plain.specs.Runs.{AreRounds, IsRound, IsRunOf, IsRunOver, IsSavedIf, IsStopped};
-ghost use Rattle.plain.specs.Runs.{RoundIsRefused, RunIsRefused, is_kept};
+ghost use Rattle.plain.specs.Runs.{IsStoppedAt, RoundIsRefused, RunIsRefused, is_kept};
 ghost use Rattle.recovery.specs.Represents.{IsGenuine};
 
 use crate::{PlainFault, PlainRun, Stopped};
@@ -44,8 +45,12 @@ pub struct Ran<D> {
     pub outcome: Result<Finished, PlainFault>,
 }
 
-/// Observes the progress of a plain run.
+/// Observes the progress of a plain run, and may end it.
 pub trait Watch {
+    /// Called at the beginning of a run: everything before this virtual time, in ticks, is committed
+    /// on the disk, `events` events in all.
+    fn opened(&mut self, _time: u64, _events: usize) {}
+
     /// Called after each commit, before the checkpoint that may follow it: everything before this
     /// virtual time, in ticks, is committed, `events` events in all.
     fn committed(&mut self, time: u64, events: usize);
@@ -54,6 +59,12 @@ pub trait Watch {
     /// it, with the number of sectors that hold the log and the number that the disk has. One more
     /// sector is the closed gate; the rest are free.
     fn stored(&mut self, _used: u32, _sectors: u32) {}
+
+    /// Called before each commit. Returns whether that commit is the last one: the run then ends
+    /// with it, as if the plan had no more commits.
+    fn is_stopped(&mut self) -> bool {
+        false
+    }
 }
 
 /// Runs a simulation on its disk, one event at a time and without nodes, from the front on the disk
@@ -62,7 +73,9 @@ pub trait Watch {
 ///
 /// Fails with the faults of the opening ([`PlainRun::open`]), of a commit ([`PlainRun::commit`]) or
 /// of a checkpoint ([`PlainRun::checkpoint`]), or with `Commits` if all commits were made before
-/// the end was reached. What was committed stays on the disk in every case.
+/// the end was reached. If `watch` asks for a stop, the run ends after the next commit (`Stopped`),
+/// unless that reaches the end or is the plan's last one. What was committed stays on the disk in
+/// every case.
 pub fn run_plain<M: Simulated, D: SectorDisk + Drop, W: Watch>(
     alloc: Global,
     model: &M,
@@ -83,6 +96,12 @@ pub fn run_plain<M: Simulated, D: SectorDisk + Drop, W: Watch>(
         result.disk done.time done.events) }
     ensures refused { IfErr result.outcome (λ fault. RunIsRefused M.meaning D.state model.now end
         plan disk result.disk fault) }
+    // After a stop the numbers are those of the sequential simulation up to that time, and the disk
+    // recovers to at least that time.
+    ensures stopped_at { IsGenuine (M.meaning model.now) end (D.state disk).reads →
+        (time events : ℕ) → IsErrOf result.outcome (PlainFault.Stopped time events) →
+        IsStoppedAt (M.meaning model.now) end time events
+        × Recovers (M.meaning model.now) end time (D.state result.disk) }
     // Crash safety: what recovered to at least time `a` before still does, during and after the
     // run, at every exit. After a run that reached its end, it recovers to at least the end.
     ensures crashes { (a : ℕ) → Recovers (M.meaning model.now) end a (D.state disk) →
@@ -96,6 +115,10 @@ pub fn run_plain<M: Simulated, D: SectorDisk + Drop, W: Watch>(
     ensures acknowledged { (a : ℕ) → RecoversUnderItsEnd (M.meaning model.now) a (D.state disk) →
         IfOk result.outcome (λ done. IsRunOf (M.meaning model.now) end done.time done.events
         × KeepsUnderItsEnd (M.meaning model.now) a done.time (D.state disk) (D.state result.disk)) }
+    ensures stop_acknowledged { (a : ℕ) → RecoversUnderItsEnd (M.meaning model.now) a (D.state disk) →
+        (time events : ℕ) → IsErrOf result.outcome (PlainFault.Stopped time events) →
+        IsStoppedAt (M.meaning model.now) end time events
+        × KeepsUnderItsEnd (M.meaning model.now) a time (D.state disk) (D.state result.disk) }
 {
     let run = match PlainRun::open(alloc, model, disk, end) {
         Ok(run) => run,
@@ -124,7 +147,7 @@ pub fn run_plain<M: Simulated, D: SectorDisk + Drop, W: Watch>(
     }
 }
 
-/// Commits until the end is reached.
+/// Commits until the end is reached, or a stop is asked for.
 fn make_rounds<'m, M: Simulated, D: SectorDisk, W: Watch>(
     run: PlainRun<'m, M, D>,
     plan: Plan,
@@ -135,12 +158,18 @@ fn make_rounds<'m, M: Simulated, D: SectorDisk, W: Watch>(
         × (last.front.end ≤ last.front.world.time)) }
     ensures stopped { IfErr result (λ e. IsStopped M.meaning D.state plan run.entry e.disk e.fault) }
 {
+    watch.opened(run.time(), run.events());
     watch.stored(run.used(), run.sectors());
     let mut run = run;
+    let mut is_last = false;
     'commits: for number in 0..plan.commits {
         if run.end() <= run.time() {
             return Ok(run);
         }
+        if is_last {
+            return Err(stop(run));
+        }
+        is_last = watch.is_stopped();
         run = match make_round(run, plan, number + 1, watch) {
             Ok(next) => next,
             Err(stopped) => return Err(stopped),
@@ -153,6 +182,22 @@ fn make_rounds<'m, M: Simulated, D: SectorDisk, W: Watch>(
         fault: PlainFault::Commits,
         disk: run.into_disk(),
     })
+}
+
+/// Ends a run that was asked to stop.
+fn stop<'m, M: Simulated, D: SectorDisk>(run: PlainRun<'m, M, D>) -> Stopped<D>
+    ensures fault { result.fault
+        ≡ PlainFault.Stopped run.entry.front.world.time (length run.entry.front.world.log) }
+    ensures disk { result.disk ≡ run.entry.log.disk }
+{
+    let fault = PlainFault::Stopped {
+        time: run.time(),
+        events: run.events(),
+    };
+    Stopped {
+        fault,
+        disk: run.into_disk(),
+    }
 }
 
 /// Makes the commit of this number, and a checkpoint if one is due.

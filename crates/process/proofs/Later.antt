@@ -1,11 +1,12 @@
 -- The state words that are kept beside a history, as records are added and removed.
-use Rattle.std.proofs.Common.{◌≡◌, ℕ, Bool, true, false, zero, suc, Option, None, Some, ◌-◌, ◌<◌, ◌≤◌, List, [], ◌∷◌, ◌++◌, sym, ap, arith, ◌∙◌, length, take, drop, subst}
-use Rattle.std.proofs.lemmas.List.{length-take}
+use Rattle.std.proofs.Common.{◌≡◌, ℕ, Bool, true, false, zero, suc, Option, None, Some, ◌+◌, ◌-◌, ◌<◌, ◌≤◌, List, [], ◌∷◌, ◌++◌, sym, ap, arith, ◌∙◌, length, take, drop, subst}
+use Rattle.std.proofs.lemmas.List.{drop-drop, length-drop, length-take}
+use Rattle.std.specs.List.{slice_get}
 use Rattle.std.proofs.lemmas.Option.{same_Some}
 use Rattle.std.specs.Prelude.{IfSome, if◌then◌else◌}
 use Rattle.model.specs.Meaning.{Meaning}
-use Rattle.queues.proofs.Undone.{but_last-take}
-use Rattle.queues.specs.Queue.{but_last}
+use Rattle.queues.proofs.Undone.{but_last-take, last_of-drop}
+use Rattle.queues.specs.Queue.{but_last, last_of}
 use Rattle.queues.specs.Record.{AreHandlings, AreNextWords, state_before}
 use Rattle.queues.specs.declared.Record.{Record}
 use Rattle.process.specs.Later.{AreWordsBefore}
@@ -61,6 +62,40 @@ later_undone later later' hs hs' count long kept b c left is k l =
     let many : long ≡ n = is ∙ (ap length cut ∙ omega (arith, length-take n hs, c)) in
     let last : later' ≡ take (n - 1) later = l ∙ ap (λ (i : ℕ). take i later) (k ∙ ap (λ (i : ℕ). i - 1) many) in
     subst (λ (ws : List (Option (List ℕ))). AreWordsBefore ws (drop 1 hs')) (sym last) (subst (λ (rs : List Record). AreWordsBefore (take (n - 1) later) (drop 1 rs)) (sym cut) (later_taken later hs n b))
+
+known_at : (later : List (Option (List ℕ))) (hs : List Record) (n : ℕ) (words : List ℕ) → AreWordsBefore later hs → slice_get later n ≡ Some (Some words) →
+    (n < length hs) × (words ≡ state_before (drop n hs) [])
+known_at [] hs n words b e = absurd (cc)
+known_at (x ∷ xs) [] n words b e = absurd b
+known_at (x ∷ xs) (r ∷ rs) zero words b e =
+    let is : x ≡ Some words = cc in
+    (omega arith, subst (λ (w : Option (List ℕ)). IfSome w (λ (v : List ℕ). v ≡ r.before)) is b.0)
+known_at (x ∷ xs) (r ∷ rs) (suc n) words b e = let rest = known_at xs rs n words b.1 e in (omega (arith, rest.0), rest.1)
+
+few_at : (m : Meaning) (hs : List Record) (n : ℕ) → AreHandlings m hs → n < length hs → length (state_before (drop n hs) []) ≤ 16
+few_at m [] n a l = absurd (omega arith)
+few_at m (r ∷ rs) zero a l = a.1
+few_at m (r ∷ rs) (suc n) a l = few_at m rs n a.3 (omega arith)
+
+-- these words are those before the last n records, of which there is one at least
+pub record AreWordsAtCut (n : ℕ) (words : List ℕ) (hs : List Record) : Type 0 where
+  pub some : 0 < n
+  pub few : length words ≤ 16
+  pub before : words ≡ state_before (last_of n hs) []
+
+pub words_at_cut : (m : Meaning) (later : List (Option (List ℕ))) (hs : List Record) (count at : ℕ) (words : List ℕ) → AreWordsBefore later (drop 1 hs) → AreHandlings m hs → count ≤ length hs →
+    at ≡ length hs - count → 0 < at → slice_get later (at - 1) ≡ Some (Some words) → AreWordsAtCut count words hs
+words_at_cut m later hs count at words b a c is p e =
+    let known = known_at later (drop 1 hs) (at - 1) words b e in
+    let within : at < length hs = omega (arith, known.0, length-drop 1 hs, p) in
+    let next : 1 + (at - 1) ≡ at = omega (arith, p) in
+    let there : words ≡ state_before (drop at hs) [] = known.1 ∙ (ap (λ (rs : List Record). state_before rs []) (drop-drop (at - 1) 1 hs) ∙ ap (λ (k : ℕ). state_before (drop k hs) []) next) in
+    let last : drop at hs ≡ last_of count hs = ap (λ (k : ℕ). drop k hs) is ∙ sym (last_of-drop count hs c) in
+    record {
+      some = omega (arith, within, is);
+      few = subst (λ (ws : List ℕ). length ws ≤ 16) (sym there) (few_at m hs at a within);
+      before = there ∙ ap (λ (rs : List Record). state_before rs []) last;
+    }
 
 -- 3. The first record removed
 

@@ -1,12 +1,13 @@
 // The handled messages of a process, with more of their state words than the history saves.
 
-ghost use Rattle.std.specs.Prelude.{◌≡◌, ◌<◌, ◌≤◌, ◌++◌, ◌∷◌, [], length, nat_lt, ◌&&◌, if◌then◌else◌};
-ghost use Rattle.std.specs.Prelude.{IfOk, IfSome, OnOk, OnErr, Some, None, IsOk, List, ℕ};
+ghost use Rattle.std.specs.Prelude.{◌≡◌, ◌<◌, ◌≤◌, ◌-◌, ◌++◌, ◌∷◌, [], length, nat_lt, ◌&&◌, if◌then◌else◌};
+ghost use Rattle.std.specs.Prelude.{IfOk, IfSome, OnOk, OnErr, Some, None, IsOk, List, ℕ, drop};
 ghost use Rattle.std.specs.List.{slice_get};
 ghost use Rattle.std.specs.Option.{option_map};
 ghost use Rattle.queues.specs.Queue.{but_last, last_of};
 ghost use Rattle.queues.specs.Record.{AreHandlings, IsFirstTaken, first_handled, number_before};
 ghost use Rattle.queues.specs.Record.{sends, state_before};
+ghost use Rattle.process.specs.Later.{AreWordsBefore};
 
 use eventkey::Message;
 use model::{Model as Simulated, SavedState, Sent, State, Words};
@@ -137,9 +138,9 @@ impl Handled {
     }
 
     /// Rolls back: drops the last `count` records, and sets `state` and `number` to the state words
-    /// and the send number before them. Runs at most 8 handlings; if `count` is 0, none, and it
-    /// allocates nothing. Returns `AllocError` only if an allocation fails; nothing is then
-    /// changed.
+    /// and the send number before them. Runs at most 8 handlings, and none if these words are kept
+    /// or if `count` is 0, when it allocates nothing. Returns `AllocError` only if an allocation
+    /// fails; nothing is then changed.
     pub fn roll_back<M: Simulated>(
         &mut self,
         model: &M,
@@ -157,7 +158,7 @@ impl Handled {
         ensures unchanged { OnErr result
             ((self.new ≡ self.old) × (state.new ≡ state.old) × (number.new ≡ number.old)) }
     {
-        self.history.roll_back(model, count, state, number)?;
+        roll_back_to_kept(model, &mut self.history, &self.later, count, state, number)?;
         self.later.truncate(self.history.len().saturating_sub(1));
         Ok(())
     }
@@ -183,6 +184,50 @@ impl Handled {
             Some(words) => Some((gone, words)),
             None => Some((gone, None)),
         }
+    }
+}
+
+/// Rolls a history back, to the state words kept in `later` if those at the cut are there, and else
+/// by coasting forward.
+fn roll_back_to_kept<M: Simulated>(
+    model: &M,
+    history: &mut History<8>,
+    later: &VecDeque<Option<SavedState>>,
+    count: usize,
+    state: &mut State,
+    number: &mut u64,
+) -> Result<(), AllocError>
+    requires there { count ≤ length history.old }
+    requires handlings { AreHandlings (M.meaning model.now) history.old }
+    requires kept { AreWordsBefore later.now.items (drop 1 history.old) }
+    ensures none { count ≡ 0 → IsOk result }
+    ensures left { OnOk result (history.new ≡ but_last count history.old) }
+    ensures state { OnOk result (state.new ≡ state_before (last_of count history.old) state.old) }
+    ensures number { OnOk result
+        (number.new ≡ number_before (last_of count history.old) number.old) }
+    ensures unchanged { OnErr result
+        ((history.new ≡ history.old) × (state.new ≡ state.old) × (number.new ≡ number.old)) }
+{
+    match kept_words(later, history.len() - count) {
+        Some(words) => {
+            history.roll_back_to(count, words, state, number);
+            Ok(())
+        }
+        None => history.roll_back(model, count, state, number),
+    }
+}
+
+/// Returns the state words before the record at index `at`, if they are kept in `later`.
+fn kept_words(later: &VecDeque<Option<SavedState>>, at: usize) -> Option<&[u64]>
+    ensures { IfSome result (λ words. (0 < at)
+        × (slice_get later.now.items (at - 1) ≡ Some (Some words.now))) }
+{
+    if at == 0 || at > later.len() {
+        return None;
+    }
+    match &later[at - 1] {
+        Some(words) => Some(words.as_slice()),
+        None => None,
     }
 }
 

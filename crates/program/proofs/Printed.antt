@@ -1,7 +1,8 @@
 -- What the commands print, in a common form.
 use Rattle.std.specs.Io.KnownBytes.{Appends}
-use Rattle.std.specs.Prelude.{◌≡◌, ◌⊎◌, ◌≢◌, ℕ, List, Option, Result, Ok, Err, OnOk, OnErr, length}
-use Rattle.std.proofs.Common.{Bool, false, true, arith, refl, subst, sym, inl, inr, ◌<◌, ◌∙◌}
+use Rattle.std.specs.Prelude.{◌≡◌, ◌⊎◌, ◌≢◌, ◌++◌, [], ℕ, List, None, Option, Result, Ok, Err, OnOk, OnErr, Some, length}
+use Rattle.std.proofs.Common.{Bool, false, true, ap, append_assoc, arith, refl, subst, sym, inl, inr, ◌∙◌}
+use Rattle.std.proofs.lemmas.List.{append-nil}
 use Rattle.commands.specs.Commands.{BeginsCommitted, PrintsCommitted, PrintsExtended, PrintsEndOfRun, PrintsEndOfRunOver, extended_text, ran_text, stopped_text}
 use Rattle.commands.specs.Migrating.{PrintsMigrated, migrated_text}
 use Rattle.commands.specs.declared.fault.CommandFault.{CommandFault}
@@ -16,7 +17,7 @@ use Rattle.model.specs.World.{World}
 use Rattle.model.specs.Meaning.{Meaning}
 use Rattle.texts.specs.ModelFile.{IsModelFile}
 use Rattle.wire.specs.Port.{PortState}
-use Rattle.views.specs.Views.{Begins, Describes, IsCommitted, Prints}
+use Rattle.views.specs.Views.{Begins, Describes, IsCommitted, IsNamed, Prints}
 use Rattle.program.specs.Command.{IsEnded, IsExtendedText, IsMigratedText, IsNotEnded, IsRan, IsRanBehind, IsStoppedBehind, IsStoppedText}
 use Rattle.program.specs.declared.fault.Fault.{Fault}
 use Rattle.recovery.specs.Represents.{IsGenuine}
@@ -255,3 +256,41 @@ module _ {M P D : Type 0} (meaning : M → Meaning) (says : Describes M) (state 
 
   pub behind_begun : (old new : Option (List ℕ)) → PrintsEndOfRunOver meaning state disk model end plan begun left (TakesBeginning old new) → Begins (IsRanBehind says plan.nodes) old new
   behind_begun old new p = behind p
+
+-- what is printed first, and then with names
+appended_both : (old mid new : Option (List ℕ)) (a b : List ℕ) → Appends old mid a → Appends mid new b → Appends old new (a ++ b)
+appended_both None mid new a b h k = tt
+appended_both (Some xs) None new a b h k = absurd h
+appended_both (Some xs) (Some ys) None a b h k = absurd k
+appended_both (Some xs) (Some ys) (Some zs) a b h k = k ∙ ap (λ s. s ++ b) h ∙ append_assoc xs a b
+
+begun_after : (old mid new : Option (List ℕ)) (a b : List ℕ) → Appends old mid a → TakesBeginning mid new b → TakesBeginning old new (a ++ b)
+begun_after old mid new a b h k = record {
+  taken = a ++ k.taken;
+  left = k.left;
+  whole = ap (λ s. a ++ s) k.whole ∙ sym (append_assoc a k.taken k.left);
+  appended = appended_both old mid new a k.taken h k.appended;
+}
+
+whole_begun : (old mid new : Option (List ℕ)) (a : List ℕ) → Appends old mid a → new ≡ mid → TakesBeginning old new a
+whole_begun old mid new a h same = record {
+  taken = a;
+  left = [];
+  whole = sym (append-nil a);
+  appended = subst (λ (o : Option (List ℕ)). Appends old o a) (sym same) h;
+}
+
+module _ (First : List ℕ → Type 0) (old mid new : Option (List ℕ)) {T : Type 0} where
+  pub named_printed : (r : Result T Fault) → Prints First old mid → OnOk r (Prints IsNamed mid new) → OnOk r (Prints IsNamed old new)
+  named_printed (Ok x) p q = (p.0 ++ q.0, tt, appended_both old mid new p.0 q.0 p.2 q.2)
+  named_printed (Err e) p q = tt
+
+  pub named_begun : (A B : Type 0) → (A → new ≡ mid) → (r : Result T Fault) → Prints First old mid → OnErr r (A ⊎ Begins IsNamed mid new) → OnErr r (B ⊎ Begins IsNamed old new)
+  named_begun A B same (Ok x) p q = tt
+  named_begun A B same (Err e) p (inl a) = inr (p.0, tt, whole_begun old mid new p.0 p.2 (same a))
+  named_begun A B same (Err e) p (inr q) = inr (p.0 ++ q.0, tt, begun_after old mid new p.0 q.0 p.2 q.2)
+
+pub named_part : {T : Type 0} (First : List ℕ → Type 0) (old new : Option (List ℕ)) (A : Type 0) (r : Result T Fault) → OnErr r (A ⊎ Begins First old new) → OnErr r (A ⊎ Begins IsNamed old new)
+named_part First old new A (Ok x) q = tt
+named_part First old new A (Err e) (inl a) = inl a
+named_part First old new A (Err e) (inr q) = inr (q.0, tt, q.2)

@@ -1,9 +1,9 @@
 -- What the program prints (this project's profile).
 use Rattle.std.specs.Io.KnownBytes.{Appends}
 use Rattle.std.specs.Prelude.{◌≡◌, ◌≤◌, ◌*◌, ◌&&◌, ℕ, Bool, List, [], ◌++◌, nat_le, not}
-use Rattle.std.specs.Prelude.{Err, None, Ok, Option, Result, Some, codes, decimal, true}
-use Rattle.std.specs.Prelude.{if◌then◌else◌, ◌<◌, ◌⊎◌}
-use Rattle.std.specs.Prelude.{is_some, length, min, unwrap_or}
+use Rattle.std.specs.Prelude.{Err, None, Ok, Option, Result, Some, codes, decimal, false, true}
+use Rattle.std.specs.Prelude.{if◌then◌else◌, ◌<◌, ◌⊎◌, ◌≢◌}
+use Rattle.std.specs.Prelude.{OnOk, is_some, length, min, unwrap_or}
 use Rattle.commands.specs.Commands.{extended_text, formatted_text, ran_text, stopped_text}
 use Rattle.commands.specs.Migrating.{migrated_text}
 use Rattle.commands.specs.declared.fault.CommandFault.{CommandFault}
@@ -12,10 +12,13 @@ use Rattle.commitlog.specs.Records.{Holds}
 use Rattle.commitlog.specs.declared.records.Entry.{Entry}
 use Rattle.disk.specs.declared.file.FileFault.{FileFault}
 use Rattle.disk.specs.declared.file.FileFault.TheVariants as opening
+use Rattle.plain.specs.declared.whole.Plan.{Plan as PlainPlan}
 use Rattle.runs.specs.Driver.{IsRunOf, IsStoppedAt}
 use Rattle.runs.specs.declared.rounds.Batch.{Batch as DriverBatch}
 use Rattle.runs.specs.declared.rounds.Batch.TheVariants as driver
 use Rattle.runs.specs.declared.rounds.Plan.{Plan}
+use Rattle.runs.specs.declared.rounds.Schedule.{Schedule}
+use Rattle.runs.specs.declared.rounds.Schedule.TheVariants.{InTurn, Overlapped, Together}
 use Rattle.recovery.specs.Ends.{IsLater}
 use Rattle.recovery.specs.Replay.{IsReplayedTo}
 use Rattle.recovery.specs.Represents.{IsGenuine}
@@ -26,8 +29,9 @@ use Rattle.cli.specs.declared.command.Command.{Command}
 use Rattle.cli.specs.declared.command.Command.TheVariants.{Check, Draw, Extend, Grow, Log, Migrate}
 use Rattle.cli.specs.declared.command.Command.TheVariants.{New, Node, Reopen, Run, Seq, Show, Stats, Status, Verify}
 use Rattle.cli.specs.declared.command.DrawArgs.{DrawArgs}
+use Rattle.cli.specs.declared.command.LogArgs.{LogArgs}
 use Rattle.cli.specs.declared.command.RunArgs.{RunArgs}
-use Rattle.eventkey.specs.Writing.{TakesBeginning}
+use Rattle.cli.specs.declared.command.StatsArgs.{StatsArgs}
 use Rattle.growing.specs.declared.GrowingFault.{GrowingFault}
 use Rattle.growing.specs.declared.GrowingFault.TheVariants as growing
 use Rattle.migration.specs.Migrated.{IsMigrated}
@@ -41,7 +45,7 @@ use Rattle.texts.specs.Text.{world_text}
 use Rattle.views.specs.Views.{Begins, Describes, IsCommitted, IsCourse, IsDrawn, IsLogged}
 use Rattle.upkeep.specs.Verified.{IsOfWorld}
 use Rattle.upkeep.specs.declared.verifying.Verified.{Verified}
-use Rattle.views.specs.Views.{IsSomeChecked, IsStats, IsStatus, IsVerifiedText, IsWholeSimulation, Prints, Shows}
+use Rattle.views.specs.Views.{IsNamed, IsSomeChecked, IsStats, IsStatus, IsVerifiedText, IsWholeSimulation, Prints, Shows}
 use Rattle.views.specs.declared.fault.ViewFault.{ViewFault}
 use Rattle.views.specs.declared.fault.ViewFault.TheVariants as view
 use Rattle.program.specs.declared.fault.Fault.{Fault}
@@ -210,14 +214,50 @@ pub record IsStoppedBehind {M : Type 0} (says : Describes M) (text : List ℕ) :
   pub early : time < end
   pub is : text ≡ stopped_text time events
 
--- what a run prints that ended at its end, or, if `stops`, that a file ended
-abbrev pub IsRunHere : {M : Type 0} → (M → Meaning) → Describes M → ℕ → Bool → List ℕ → Type 0
-IsRunHere meaning says nodes stops text =
-    IsRan meaning says nodes text ⊎ ((stops ≡ true) × IsStoppedText meaning says text)
+-- what a run prints at its end, in this program or behind sockets in a folder
+abbrev pub IsRanOver : {M : Type 0} → (M → Meaning) → Describes M → {S : Type 0} → Option S → ℕ →
+    List ℕ → Type 0
+IsRanOver meaning says None nodes = IsRan meaning says nodes
+IsRanOver meaning says (Some folder) nodes = IsRanBehind says nodes
 
-abbrev pub IsRunBehind : {M : Type 0} → Describes M → ℕ → Bool → List ℕ → Type 0
-IsRunBehind says nodes stops text =
-    IsRanBehind says nodes text ⊎ ((stops ≡ true) × IsStoppedBehind says text)
+-- what it prints if a file ends it
+abbrev pub IsStoppedOver : {M : Type 0} → (M → Meaning) → Describes M → {S : Type 0} → Option S →
+    List ℕ → Type 0
+IsStoppedOver meaning says None = IsStoppedText meaning says
+IsStoppedOver meaning says (Some folder) = IsStoppedBehind says
+
+-- the same without nodes, when there is no line of one, or over nodes
+abbrev pub IsRanAs : {M : Type 0} → (M → Meaning) → Describes M → Bool → {S : Type 0} → Option S →
+    ℕ → List ℕ → Type 0
+IsRanAs meaning says true folder nodes = IsRan meaning says 0
+IsRanAs meaning says false folder nodes = IsRanOver meaning says folder nodes
+
+abbrev pub IsStoppedAs : {M : Type 0} → (M → Meaning) → Describes M → Bool → {S : Type 0} →
+    Option S → List ℕ → Type 0
+IsStoppedAs meaning says true folder = IsStoppedText meaning says
+IsStoppedAs meaning says false folder = IsStoppedOver meaning says folder
+
+-- the same by the arguments of `run`
+abbrev pub IsRanBy : {M : Type 0} → (M → Meaning) → Describes M → RunArgs → List ℕ → Type 0
+IsRanBy meaning says args = IsRanAs meaning says args.plain args.sockets args.nodes
+
+abbrev pub IsStoppedBy : {M : Type 0} → (M → Meaning) → Describes M → RunArgs → List ℕ → Type 0
+IsStoppedBy meaning says args = IsStoppedAs meaning says args.plain args.sockets
+
+-- What an attempt of a run has printed, by its outcome: `Ran` says what at its end, of which a
+-- writer that refuses has taken a beginning, and otherwise nothing (`same`). After a stop `Stopped`
+-- holds of what is printed next.
+pub record IsTried {T : Type 0} (Ran Stopped : List ℕ → Type 0) (outcome : Result T CommandFault)
+    (same : Type 0) (old new : Option (List ℕ)) : Type 0 where
+  pub printed : OnOk outcome (Prints Ran old new)
+  pub output : outcome ≡ Err on_disk.Output → Begins Ran old new
+  pub unwritten : (f : CommandFault) → outcome ≡ Err f → f ≢ on_disk.Output → same
+  pub stopped : (time events : ℕ) → outcome ≡ Err (on_disk.Stopped time events) →
+      Stopped (stopped_text time events)
+
+-- an attempt failed, and not because the writer refused
+abbrev pub IsWithoutOutput : {T : Type 0} → Result T CommandFault → Type 0
+IsWithoutOutput outcome = (f : CommandFault) × (outcome ≡ Err f) × f ≢ on_disk.Output
 
 -- The outcome of a run that has ended well, and what is printed then: nothing more at the end of its
 -- simulation; if a file ended it, what is committed.
@@ -253,6 +293,11 @@ abbrev pub driven_by : BatchOption → Bool → DriverBatch
 driven_by (Fixed messages) rounds_are_cheap = driver.Fixed messages
 driven_by Auto rounds_are_cheap = driver.Adjusting (most_of rounds_are_cheap) rounds_are_cheap
 
+-- the order of posts and takes; the command refuses both options at once
+abbrev pub schedule_of : Bool → Bool → Schedule
+schedule_of together overlap =
+    if together then Together else if overlap then Overlapped else InTurn
+
 -- The plan of a run by the options of its command. A commit has room for 299,592 events, and takes
 -- all those of a round at once, so one is due at 250,000 at the latest.
 abbrev pub plan_of : RunArgs → Plan
@@ -261,21 +306,24 @@ plan_of args = record {
   batch = driven_by args.batch
       (are_rounds_cheap args.nodes args.commit_every (is_some args.sockets));
   rounds = args.rounds;
-  together = args.together;
+  schedule = schedule_of args.together args.overlap;
   checkpoint_every = unwrap_or args.checkpoint 0;
   commit_every = min (unwrap_or args.commit_every 0) 250000;
 }
 
--- what a run prints, over nodes in this program or behind sockets in a folder
-abbrev pub IsRunOver : {M : Type 0} → (M → Meaning) → Describes M → {S : Type 0} → Option S → ℕ →
-    Bool → List ℕ → Type 0
-IsRunOver meaning says None nodes stops text = IsRunHere meaning says nodes stops text
-IsRunOver meaning says (Some folder) nodes stops text = IsRunBehind says nodes stops text
+-- The plan of a run without nodes by the options of its command: at most `rounds` commits, one
+-- after each 4,096 events if no number is given.
+abbrev pub plain_plan_of : RunArgs → PlainPlan
+plain_plan_of args = record {
+  commit_every = min (unwrap_or args.commit_every 4096) 250000;
+  checkpoint_every = unwrap_or args.checkpoint 0;
+  commits = args.rounds;
+}
 
 -- what `run` prints
 abbrev pub IsRunOutput : {M : Type 0} → (M → Meaning) → Describes M → RunArgs → List ℕ → Type 0
-IsRunOutput meaning says args =
-    IsRunOver meaning says args.sockets args.nodes (is_some args.stop_file)
+IsRunOutput meaning says args text = IsRanBy meaning says args text
+    ⊎ ((is_some args.stop_file ≡ true) × IsStoppedBy meaning says args text)
 
 -- what `draw` prints: the picture of a run, or the course in a trace
 abbrev pub IsPicture : {M : Type 0} → (M → Meaning) → Describes M → DrawArgs → {S : Type 0} →
@@ -283,6 +331,20 @@ abbrev pub IsPicture : {M : Type 0} → (M → Meaning) → Describes M → Draw
 IsPicture meaning says args None text =
     IsDrawn meaning says args.of.disk args.load args.from args.to args.processes text
 IsPicture meaning says args (Some trace) text = IsCourse text
+
+-- what `log`, `show` and `stats` print, with the model's names or without them
+abbrev pub IsLoggedAs : {M : Type 0} → (M → Meaning) → Describes M → Bool → LogArgs → List ℕ → Type 0
+IsLoggedAs meaning says true args = IsNamed
+IsLoggedAs meaning says false args = IsLogged meaning says args.from args.to args.process
+
+abbrev pub IsShownAs : {M : Type 0} → (M → Meaning) → Describes M → Bool → List ℕ → Type 0
+IsShownAs meaning says true = IsNamed
+IsShownAs meaning says false = IsShown meaning says
+
+abbrev pub IsStatsAs : {M : Type 0} → (M → Meaning) → Describes M → Bool → StatsArgs → List ℕ →
+    Type 0
+IsStatsAs meaning says true args = IsNamed
+IsStatsAs meaning says false args = IsStats meaning says args.of.disk args.csv
 
 -- a text that a command prints
 abbrev pub IsOutput : {M : Type 0} → (M → Meaning) → Describes M → Shows M → Command → List ℕ →
@@ -295,10 +357,9 @@ IsOutput meaning says shows (Migrate args) text = IsMigratedText meaning says te
 IsOutput meaning says shows (Reopen args) text = IsReopenedText meaning says text
 IsOutput meaning says shows (Status args) text = IsStatus meaning says text
 IsOutput meaning says shows (Verify args) text = IsVerifiedText meaning says text
-IsOutput meaning says shows (Log args) text =
-    IsLogged meaning says args.from args.to args.process text
-IsOutput meaning says shows (Show args) text = IsShown meaning says text
-IsOutput meaning says shows (Stats args) text = IsStats meaning says args.of.disk args.csv text
+IsOutput meaning says shows (Log args) text = IsLoggedAs meaning says args.names args text
+IsOutput meaning says shows (Show args) text = IsShownAs meaning says args.names text
+IsOutput meaning says shows (Stats args) text = IsStatsAs meaning says args.names args text
 IsOutput meaning says shows (Draw args) text = IsPicture meaning says args args.trace text
 IsOutput meaning says shows (Seq args) text = IsWholeSimulation meaning says text
 IsOutput meaning says shows (Check args) text = IsSomeChecked says shows text

@@ -5,6 +5,7 @@ use cli::{Command, most_sectors};
 use commitlog::LogFault;
 use coordinator::SessionFault;
 use migration::MigrateFault;
+use node_programs::{Call, CallEnd};
 use recovery::RecoveryFault;
 use std::fs::File;
 use std::io::Write;
@@ -12,16 +13,19 @@ use std::rt::Files;
 use terminal::{Cause, Progress, cause_of};
 use texts::{Described, Printable, Report};
 use views::{committed_on, difference_of, mistakes_of};
+use wire::{PortFault, WireFault};
 
 /// Passes the advice for the fault of a command to `progress`, and the cause of a `File` if
 /// `progress` is seen. If `progress` is not seen but advice is asked for, both are printed on `err`.
 ///
 /// In both cases `err` gets what the files of the command say about the fault, if they say
-/// something, in place of the advice.
+/// something, in place of the advice; and which node failed in a run over node programs, by the last
+/// call on the connection of one.
 pub(crate) fn advise<M, R, P, E>(
     rt: &R,
     command: Command<'_>,
     fault: Fault,
+    last: Option<Call>,
     is_asked: bool,
     progress: &mut P,
     err: &mut E,
@@ -35,6 +39,9 @@ where
     let is_seen = progress.is_seen();
     let is_wanted = is_seen || is_asked;
     let is_explained = is_wanted && explain::<M, R, E>(rt, command, fault, err);
+    if is_wanted {
+        print_node(command, fault, last, err);
+    }
     if is_wanted && stops_a_run(command, fault) {
         print_committed::<M, R, E>(rt, paths_of(command), err);
     }
@@ -60,6 +67,42 @@ fn stops_a_run(command: Command<'_>, fault: Fault) -> bool {
         (Command::Run(_), Fault::Session(SessionFault::Recovery(_))) => false,
         (Command::Run(_), Fault::Session(_) | Fault::Rounds) => true,
         _ => false,
+    }
+}
+
+/// Prints which node program failed, where its socket was, and how.
+fn print_node<E: Write>(command: Command<'_>, fault: Fault, last: Option<Call>, err: &mut E) {
+    let (Command::Run(args), Fault::Session(SessionFault::Port(fault)), Some(call)) = (
+        command, fault, last,
+    ) else {
+        return;
+    };
+    let Some(folder) = args.sockets else {
+        return;
+    };
+    let (node, folder) = (call.node, Printable(folder));
+    let how = how_it_failed(fault, call.end);
+    let _ = match (args.silence, call.end) {
+        (Some(seconds), CallEnd::Silent) => writeln!(
+            err,
+            "node {node} ({folder}/node{node}) was silent for {seconds} s"
+        ),
+        _ => writeln!(err, "node {node} ({folder}/node{node}) {how}"),
+    };
+}
+
+/// How a node program failed, by the fault of its port and the last call on its connection.
+fn how_it_failed(fault: PortFault, end: CallEnd) -> &'static str {
+    match fault {
+        PortFault::Peer(_) => "refused its work",
+        PortFault::Closed | PortFault::Wire(WireFault::Truncated) => "closed its connection",
+        PortFault::Wire(WireFault::Io) => match end {
+            CallEnd::Silent => "was silent",
+            CallEnd::Closed => "closed its connection",
+            _ => "has a connection that failed",
+        },
+        PortFault::Wire(WireFault::NoMemory | WireFault::TooLong) => "was at work",
+        _ => "answered what is no reply",
     }
 }
 
@@ -203,8 +246,8 @@ fn paths_of<'a>(command: Command<'a>) -> Paths<'a> {
         Command::Extend(args)
         | Command::Reopen(args)
         | Command::Status(args)
-        | Command::Verify(args)
-        | Command::Show(args) => { (args.model, Some(args.disk), args.large) }
+        | Command::Verify(args) => { (args.model, Some(args.disk), args.large) }
+        Command::Show(args) => (args.on.model, Some(args.on.disk), args.on.large),
         Command::Grow(args) => (args.on.model, Some(args.on.disk), args.on.large),
         Command::Migrate(args) => (args.model, Some(args.old), args.large),
         Command::Log(args) => (args.on.model, Some(args.on.disk), args.on.large),

@@ -221,6 +221,10 @@ fn of_port(fault: PortFault) -> &'static str {
             "a node refused its work, as where its memory ran out: what is committed stays; run it \
              again"
         }
+        PortFault::BadReply => {
+            "a node reported what the model does not do, or answered what is no reply: see that \
+             each node runs this program with this model file; what is committed stays"
+        }
         _ => {
             "a node's program ended, or its connection failed: what is committed stays; run it \
              again"

@@ -3,11 +3,13 @@
 #![tactic(auto)]
 
 mod advising;
+mod attempts;
 mod described;
 mod disks;
 mod ending;
 mod fault;
 mod looking;
+mod plainly;
 mod running;
 mod starting;
 mod status;

@@ -1,28 +1,23 @@
-// Runs over nodes in this program or behind sockets, with or without a trace; and a node.
+// Runs without nodes, over nodes in this program or behind sockets, with or without a trace; and a
+// node.
 
-ghost use Rattle.std.specs.Prelude.{◌≡◌, ◌≤◌, ◌^◌, ◌⊎◌, ℕ, List, OnErr, OnOk, is_some, map, replicate};
-ghost use Rattle.program.specs.Command.{are_rounds_cheap, most_of, plan_of, IsRunBehind};
+ghost use Rattle.std.specs.Prelude.{◌≡◌, ◌≤◌, ◌⊎◌, OnErr, OnOk};
+ghost use Rattle.program.specs.Command.{are_rounds_cheap, most_of, plan_of, schedule_of};
 ghost use Rattle.program.specs.Command.{IsRunOutput};
-ghost use Rattle.sockets.specs.Socket.{state_of};
-ghost use Rattle.sockets.specs.declared.port.Held.TheVariants.{Fresh};
-ghost use Rattle.texts.specs.ModelFile.{IsModelFile};
 ghost use Rattle.views.specs.Views.{Begins, Prints};
 
+use crate::attempts::{NodePrograms, run_attempts};
 use crate::described::simulated;
-use crate::disks::{disk_of, run_on};
+use crate::disks::disk_of;
 use crate::ending::end_run;
 use crate::fault::Fault;
 use crate::watching::Watching;
-use cli::{BatchOption, DiskArgs, NodeArgs, RunArgs};
+use cli::{BatchOption, NodeArgs, RunArgs};
 use commands::Simulated;
-use disk::FileDisk;
-use node_programs::{Behind, clear, meet};
-use runs::{Batch as DriverBatch, Plan};
-use sockets::{ReadAhead, SocketPort};
+use runs::{Batch as DriverBatch, Plan, Schedule};
 use std::fs::{File, OpenOptions};
 use std::io::{BufWriter, Error as IoError, Write};
 use std::net::Net;
-use std::os::unix::net::UnixStream;
 use std::process::Processes;
 use std::rt::Files;
 use std::time::Clock;
@@ -48,9 +43,22 @@ fn most_of(rounds_are_cheap: bool) -> u32
     if rounds_are_cheap { 128 } else { 65_536 }
 }
 
+/// Returns the order of posts and takes, for nodes that work together or overlap.
+fn schedule_of(together: bool, overlap: bool) -> Schedule
+    ensures { result ≡ schedule_of together overlap }
+{
+    if together {
+        Schedule::Together
+    } else if overlap {
+        Schedule::Overlapped
+    } else {
+        Schedule::InTurn
+    }
+}
+
 /// Returns the plan of a run by the options of its command. A commit has room for 299,592 events,
 /// and takes all those of a round at once, so one is due at 250,000 at the latest.
-fn plan_of(args: &RunArgs<'_>) -> Plan
+pub(crate) fn plan_of(args: &RunArgs<'_>) -> Plan
     ensures is { result ≡ plan_of args.now }
     ensures nodes { result.nodes ≡ args.now.nodes }
 {
@@ -65,17 +73,16 @@ fn plan_of(args: &RunArgs<'_>) -> Plan
             },
         },
         rounds: args.rounds,
-        together: args.together,
+        schedule: schedule_of(args.together, args.overlap),
         checkpoint_every: args.checkpoint.unwrap_or(0),
         commit_every: args.commit_every.unwrap_or(0).min(250_000),
     }
 }
 
-/// Runs a model on its disk, with a trace if one is asked for. Starts node programs by the name in
-/// `program`.
+/// Runs a model on its disk, with a trace if one is asked for.
 pub(crate) fn run_as<M, R, P, O>(
     rt: &R,
-    program: &str,
+    nodes: NodePrograms<'_>,
     args: RunArgs<'_>,
     progress: &mut P,
     out: &mut O,
@@ -97,15 +104,28 @@ where
         progress.every(seconds);
     }
     match args.trace {
-        None => run_with::<M, R, P, O>(rt, program, args, progress, out),
-        Some(trace) => run_traced::<M, R, P, O>(rt, program, args, trace, progress, out),
+        None => run_with::<M, R, P, O>(rt, nodes, args, progress, out),
+        Some(trace) => run_traced::<M, R, P, O>(rt, nodes, args, trace, progress, out),
     }
 }
 
-/// Runs a model over nodes in this program, or over node programs if a folder of sockets is given.
+/// Returns the number of sectors of the disk that a run makes if there is none.
+pub(crate) fn create_of(args: &RunArgs<'_>) -> Option<u32> {
+    if args.create {
+        Some(args.sectors)
+    } else {
+        None
+    }
+}
+
+/// Runs the model of a file on its disk, which is made first if that is asked for and it is not
+/// there.
+///
+/// Returns, in this order, the faults of the model file, of the disk's file, of the node programs,
+/// and of the run.
 fn run_with<M, R, P, O>(
     rt: &R,
-    program: &str,
+    nodes: NodePrograms<'_>,
     args: RunArgs<'_>,
     progress: &mut P,
     out: &mut O,
@@ -123,114 +143,12 @@ where
         ⊎ Begins (IsRunOutput M.meaning M.says args.entry)
         (O.contents out.old) (O.contents out.new)) }
 {
-    let plan = plan_of(&args);
-    let create = if args.create {
-        Some(args.sectors)
-    } else {
-        None
-    };
-    match args.sockets {
-        None => run_on::<M, R, P, O>(rt, args.on, create, plan, args.stop_file, progress, out),
-        Some(folder) => {
-            let behind = Behind {
-                program,
-                model: args.on.model,
-                folder,
-                cut: args.cut,
-                attach: args.attach,
-            };
-            run_behind::<M, R, P, O>(
-                rt,
-                behind,
-                args.on,
-                create,
-                plan,
-                args.stop_file,
-                progress,
-                out,
-            )
-        }
-    }
-}
-
-/// Runs the model of a file on its disk, over node programs.
-///
-/// Returns, in this order, the faults of the model file and of the disk's file; `File` if a socket
-/// is not made, a program does not start, or one ends before it connects, or `NoMemory`; the faults
-/// of the run. At every exit it then closes the connections, waits for each program that it
-/// started, and removes each socket that it made. Failures of this cleanup are not reported.
-///
-/// If no program is to be started, the run waits without limit until each node has connected, in
-/// any order, and reports to `progress` which ones it waits for.
-fn run_behind<M, R, P, O>(
-    rt: &R,
-    behind: Behind<'_>,
-    on: DiskArgs<'_>,
-    create: Option<u32>,
-    plan: Plan,
-    stop: Option<&str>,
-    progress: &mut P,
-    out: &mut O,
-) -> Result<(), Fault>
-where
-    M: Described,
-    R: Files<File = File> + Net + Processes + Clock + AllocGlobal,
-    P: Progress,
-    O: Write,
-    requires some { 1 ≤ plan.nodes }
-    requires few { plan.nodes ≤ 64 }
-    ensures ok { OnOk result (Prints (IsRunBehind M.says plan.nodes (is_some stop.entry))
-        (O.contents out.old) (O.contents out.new)) }
-    ensures err { OnErr result ((out.new ≡ out.old)
-        ⊎ Begins (IsRunBehind M.says plan.nodes (is_some stop.entry))
-        (O.contents out.old) (O.contents out.new)) }
-{
-    let of: Simulated<M> = simulated(rt, on.model)?;
-    let disk = disk_of(rt, &of, on, create)?;
-    let mut met = Vec::with_capacity(rt.alloc(), plan.nodes as usize)?;
-    // every exit from here on passes the cleanup
-    let outcome = match meet(rt, behind, plan.nodes, &mut met, progress) {
-        Ok(ports) => run_met(rt, &of, ports, disk, plan, stop, progress, out),
-        Err(fault) => Err(Fault::from(fault)),
-    };
-    clear(rt, met);
-    outcome
-}
-
-/// Runs a model on its disk over connected node programs. All connections are closed when it
-/// returns.
-fn run_met<M, R, P, O>(
-    rt: &R,
-    of: &Simulated<M>,
-    ports: Vec<SocketPort<ReadAhead<UnixStream>>>,
-    disk: FileDisk,
-    plan: Plan,
-    stop: Option<&str>,
-    progress: &mut P,
-    out: &mut O,
-) -> Result<(), Fault>
-where
-    M: Described,
-    R: Files<File = File> + Clock + AllocGlobal,
-    P: Progress,
-    O: Write,
-    requires nodes { 1 ≤ plan.nodes }
-    requires few { plan.nodes ≤ 64 }
-    requires ports { map (λ p. state_of p.held) ports.items ≡ replicate plan.nodes
-        (state_of Fresh) }
-    requires file { (text : List ℕ) × IsModelFile M.says text of.now.model of.now.end }
-    requires some { 1 ≤ of.now.end }
-    requires short { of.now.end ≤ 2 ^ 40 }
-    ensures ok { OnOk result (Prints (IsRunBehind M.says plan.nodes (is_some stop.entry))
-        (O.contents out.old) (O.contents out.new)) }
-    ensures err { OnErr result ((out.new ≡ out.old)
-        ⊎ Begins (IsRunBehind M.says plan.nodes (is_some stop.entry))
-        (O.contents out.old) (O.contents out.new)) }
-{
+    let of: Simulated<M> = simulated(rt, args.on.model)?;
+    let disk = disk_of(rt, &of, args.on, create_of(&args))?;
     progress.begin(of.end);
-    let mut watch = Watching::new(rt, progress, stop);
-    let ended = commands::run_over(rt.alloc(), of, ports, disk, plan, &mut watch, out);
-    end_run(ended.outcome, stop, watch.progress, out)
+    let mut watch = Watching::new(rt, progress, args.stop_file);
+    let ended = run_attempts::<M, R, P, O>(rt, nodes, &of, disk, args, &mut watch, out)?;
+    end_run(ended.outcome, args.stop_file, watch.progress, out)
 }
 
 /// Makes a run, and writes its trace to a file, which is created if it is not there. A trace of
@@ -240,7 +158,7 @@ where
 /// or, after a run that reached its end, if a part of the trace was not written.
 fn run_traced<M, R, P, O>(
     rt: &R,
-    program: &str,
+    nodes: NodePrograms<'_>,
     args: RunArgs<'_>,
     trace: &str,
     progress: &mut P,
@@ -267,7 +185,7 @@ where
     let file = opened.map_err(unwritable)?;
     let rows = BufWriter::new(rt.alloc(), file).map_err(unwritable)?;
     let mut traced = Traced::to(progress, rows, earlier);
-    let outcome = run_with::<M, R, _, O>(rt, program, args, &mut traced, out);
+    let outcome = run_with::<M, R, _, O>(rt, nodes, args, &mut traced, out);
     let is_whole = traced.is_whole();
     outcome?;
     if is_whole { Ok(()) } else { Err(Fault::File) }

@@ -8,12 +8,14 @@ ghost use Rattle.program.specs.Command.{BeginsSaid, IsOutput, PrintsSaid};
 ghost use Rattle.views.specs.Views.{Begins, Prints};
 
 use crate::advising::advise;
+use crate::attempts::NodePrograms;
 use crate::disks::{extend_on, grow_on, migrate_on, new_on, reopen_on, show_on};
 use crate::fault::Fault;
 use crate::looking::{draw_on, log_on, stats_on, status_on, verify_on};
 use crate::running::{run_as, serve_on};
 use clap::error::{Error as LineError, ErrorKind as LineFault};
 use cli::{Command, Hint, Texts, hint_of, program_help, read_command, says_advice, seq_help};
+use node_programs::Calls;
 use std::convert::AsStr;
 use std::env;
 use std::fs::File;
@@ -60,7 +62,8 @@ pub fn words<R: Env + AllocGlobal>(rt: &R) -> IoResult<Vec<String>> {
 ///
 /// A run over node programs starts the program of the first word for each node, or waits until
 /// programs that others started have connected. At its end, and after any fault, it waits for those
-/// that it started, and removes the sockets that it made.
+/// that it started, and removes the sockets that it made. If it goes on after a fault, as its options
+/// say, that is only reported to `progress`.
 pub fn command<M, R, S, P, O, E>(
     rt: &R,
     about: About<'_>,
@@ -110,15 +113,21 @@ where
         }
     };
     let program = words.first().map(AsStr::as_str).unwrap_or("");
+    let calls = Calls::none();
+    let nodes = NodePrograms {
+        program,
+        calls: &calls,
+    };
     let mut found = None;
-    match run::<M, R, P, O>(rt, program, command, progress, out, &mut found) {
+    match run::<M, R, P, O>(rt, nodes, command, progress, out, &mut found) {
         Ok(()) => 0,
         Err(fault) => {
             progress.clear();
             let status = print_fault(about.name, fault, err);
             print_mistakes(command, &found, err);
             let is_asked = says_advice(words);
-            advise::<M, R, P, E>(rt, command, fault, is_asked, progress, err);
+            let last = calls.last();
+            advise::<M, R, P, E>(rt, command, fault, last, is_asked, progress, err);
             status
         }
     }
@@ -156,11 +165,10 @@ where
     }
 }
 
-/// Runs a command. Starts node programs by the name in `program`. If `check` finds a mistake in a
-/// model file, `found` gets the file and all of them.
+/// Runs a command. If `check` finds a mistake in a model file, `found` gets the file and all of them.
 fn run<M, R, P, O>(
     rt: &R,
-    program: &str,
+    nodes: NodePrograms<'_>,
     command: Command<'_>,
     progress: &mut P,
     out: &mut O,
@@ -180,7 +188,7 @@ where
 {
     match command {
         Command::New(args) => new_on::<M, R, O>(rt, args, out),
-        Command::Run(args) => run_as::<M, R, P, O>(rt, program, args, progress, out),
+        Command::Run(args) => run_as::<M, R, P, O>(rt, nodes, args, progress, out),
         Command::Extend(args) => extend_on::<M, R, O>(rt, args, out),
         Command::Grow(args) => grow_on::<M, R, O>(rt, args, out),
         Command::Migrate(args) => migrate_on::<M, R, O>(rt, args, out),

@@ -211,10 +211,46 @@ impl<const K: usize> History<K> {
         let kept = self.records.len() - count;
         // The calls that can fail come first.
         let before = self.records.words_before(model, kept)?;
+        self.restore(count, before, state, number);
+        Ok(())
+    }
+
+    /// Does the same for a caller that has the state words before those records, of which there is
+    /// one at least. Allocates nothing, and runs no handling.
+    pub fn roll_back_to(
+        &mut self,
+        count: usize,
+        before: &[u64],
+        state: &mut State,
+        number: &mut u64,
+    )
+        requires some { 0 < count }
+        requires there { count ≤ length self.old }
+        requires few { length before.now ≤ 16 }
+        requires before { before.now ≡ state_before (last_of count self.old) [] }
+        ensures left { self.new ≡ but_last count self.old }
+        ensures state { state.new ≡ state_before (last_of count self.old) state.old }
+        ensures number { number.new ≡ number_before (last_of count self.old) number.old }
+    {
+        // At most 16 words fit inline, so this allocates nothing.
+        let before = Words::from_slice(self.alloc, before).unwrap();
+        self.restore(count, before, state, number);
+    }
+
+    /// Drops the last `count` records, and sets `state` and `number` to the state words, which are
+    /// `before`, and the send number before them.
+    fn restore(&mut self, count: usize, before: Words, state: &mut State, number: &mut u64)
+        requires some { 0 < count }
+        requires there { count ≤ length self.old }
+        requires before { before.items ≡ state_before (last_of count self.old) [] }
+        ensures left { self.new ≡ but_last count self.old }
+        ensures state { state.new ≡ state_before (last_of count self.old) state.old }
+        ensures number { number.new ≡ number_before (last_of count self.old) number.old }
+    {
+        let kept = self.records.len() - count;
         *state = State::from_words(before);
         *number = self.records.number_before(kept);
         self.records.truncate(kept);
-        Ok(())
     }
 
     /// Removes the leading records whose messages are below `floor`, in ticks, and returns them in

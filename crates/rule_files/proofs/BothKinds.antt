@@ -33,11 +33,11 @@ module _ (t : Members) where
     pub no_file : ((d : Description) (end : ℕ) → IsWithin d.start → IsWithin d.handle → ¬ IsRulesTable t d end)
         → (model : FileModel) (end : ℕ) → ¬ IsFileTable t model end
     no_file none (BuiltIn m) end h = not_built_in m end h
-    no_file none (Rules r) end h = none r.description end r.good.start r.good.handle h
+    no_file none (Rules r names) end h = none r.description end r.good.start r.good.handle h
 
     pub rules_right : (model : FileModel) (end : ℕ) → IsFileTable t model end → rules_table_wrong t ≡ []
     rules_right (BuiltIn m) end h = absurd (not_built_in m end h)
-    rules_right (Rules r) end h = table_right t r.description end h r.good.start r.good.handle
+    rules_right (Rules r names) end h = table_right t r.description end h r.good.start r.good.handle
 
   pub of_file : {E : Type 0} (r : Result (List Wrong) E)
       → IfOk r (λ found. found ≡ [] → (m : AnyModel) × (end : ℕ) × IsTableOf t m end)

@@ -8,8 +8,8 @@ use Rattle.rules.specs.Rules.{rules_meaning}
 
 abbrev pub file_meaning : FileModel → Meaning
 file_meaning (BuiltIn m) = any_meaning m
-file_meaning (Rules r) = rules_meaning r.description
+file_meaning (Rules r names) = rules_meaning r.description
 
 pub file_lawful : (m : FileModel) → IsLawful (file_meaning m)
 file_lawful (BuiltIn m) = any_lawful m
-file_lawful (Rules r) = rules_lawful r
+file_lawful (Rules r names) = rules_lawful r

@@ -89,7 +89,7 @@ pub record IsRulesTable (table : Members) (d : Description) (end : ℕ) : Type 0
 -- the table describes this model and a run to this end
 abbrev pub IsFileTable : Members → FileModel → ℕ → Type 0
 IsFileTable table (BuiltIn m) end = IsTableOf table m end
-IsFileTable table (Rules r) end = IsRulesTable table r.description end
+IsFileTable table (Rules r names) end = IsRulesTable table r.description end
 
 -- 2. The mistakes in a table
 
@@ -183,4 +183,4 @@ rules_text d end =
 
 abbrev pub file_text : FileModel → ℕ → List ℕ
 file_text (BuiltIn m) end = model_text m end
-file_text (Rules r) end = rules_text r.description end
+file_text (Rules r names) end = rules_text r.description end

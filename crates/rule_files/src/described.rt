@@ -1,7 +1,7 @@
 // Model files of all models.
 
 ghost use Rattle.std.specs.Prelude.{◌≡◌, ◌≢◌, ◌++◌, ◌≤◌, ◌^◌, ℕ, [], IfErr, IfOk, IfSome, IsErr};
-ghost use Rattle.std.specs.Prelude.{◌<◌, ◌==◌, true, is_some, option_and_then};
+ghost use Rattle.std.specs.Prelude.{◌<◌, ◌==◌, true, is_ok, option_and_then};
 ghost use Rattle.std.specs.Prelude.{IsNone, OnOk, Err, None, Some, codes, false, length, map};
 ghost use Rattle.std.specs.Prelude.{option_map, string_bytes, nat_lt};
 ghost use Rattle.rule_files.specs.FileTable.{IsBody, IsFileTable, IsRuleAt, IsRulesTable};
@@ -24,14 +24,15 @@ use crate::entries::{
     CONTENT, NUMBERS, TABLES, TWICE, WORDS, has_content, has_numbers, has_scope, has_tables,
     has_words, scope_of, value_at,
 };
-use crate::file_model::FileModel;
-use crate::reading::read_rule;
+use crate::file_model::{FileModel, WordNames};
+use crate::reading::{RuleMistake, read_rule};
 use crate::scope::{Named, Scope, is_key};
 use model::Model as Simulated;
 use models::AnyModel;
 use rules::{MAX_LPS, Rules, RulesParts, Statement, Table as Numbers};
+use rules_text::Mistake as Place;
 use std::alloc::{AllocError, Global};
-use texts::{Described, Findings, Mistake, ModelFault, number_at, only, string_at};
+use texts::{Described, Findings, Mistake, ModelFault, TextMistake, number_at, only, string_at};
 use toml::Table;
 
 /// The part of a program's help about the keys of the file of a model by rules.
@@ -62,7 +63,7 @@ impl Described for FileModel {
     fn describe(alloc: Global, table: &Table) -> Result<(FileModel, u64), ModelFault> {
         if is_rules(table) {
             match rules_model_of(alloc, table) {
-                Ok((rules, end)) => Ok((FileModel::Rules(rules), end)),
+                Ok((rules, end, names)) => Ok((FileModel::Rules(rules, names), end)),
                 Err(fault) => Err(fault),
             }
         } else {
@@ -88,7 +89,21 @@ impl Described for FileModel {
     fn values(&self, alloc: Global, end: u64) -> Result<String, AllocError> {
         match self {
             FileModel::BuiltIn(model) => model.values(alloc, end),
-            FileModel::Rules(rules) => rules_values(alloc, rules, end),
+            FileModel::Rules(rules, _) => rules_values(alloc, rules, end),
+        }
+    }
+
+    fn state_names(&self) -> &[String] {
+        match self {
+            FileModel::BuiltIn(model) => model.state_names(),
+            FileModel::Rules(_, names) => names.words.as_slice(),
+        }
+    }
+
+    fn content_names(&self) -> &[String] {
+        match self {
+            FileModel::BuiltIn(model) => model.content_names(),
+            FileModel::Rules(_, names) => names.content.as_slice(),
         }
     }
 }
@@ -121,8 +136,9 @@ const KEYS: [&str; 9] = [
     "model", "lps", "end", "seed", "message", "state", "numbers", "tables", "rules",
 ];
 
-/// Returns the model by rules that a table describes, and the tick at which its run ends.
-fn rules_model_of(alloc: Global, table: &Table) -> Result<(Rules, u64), ModelFault>
+/// Returns the model by rules that a table describes, the tick at which its run ends, and the names
+/// of its words.
+fn rules_model_of(alloc: Global, table: &Table) -> Result<(Rules, u64, WordNames), ModelFault>
     requires { is_rules (table_view table.now) ≡ true }
     ensures ok { IfOk result (λ file.
         IsRulesTable (table_view table.now) file.0.description file.1) }
@@ -151,6 +167,7 @@ fn rules_model_of(alloc: Global, table: &Table) -> Result<(Rules, u64), ModelFau
         tables,
         start,
         handle,
+        names,
     } = body;
     let made = Rules::new(RulesParts {
         lps: lps as u32,
@@ -163,7 +180,7 @@ fn rules_model_of(alloc: Global, table: &Table) -> Result<(Rules, u64), ModelFau
         handle,
     });
     match made {
-        Ok(rules) => Ok((rules, end)),
+        Ok(rules) => Ok((rules, end, names)),
         Err(_) => Err(ModelFault::BadModel(NO_START)),
     }
 }
@@ -195,6 +212,7 @@ struct Body {
     tables: Vec<Numbers>,
     start: Vec<Statement>,
     handle: Vec<Statement>,
+    names: WordNames,
 }
 
 /// Reads the names and the rules of a table.
@@ -228,10 +246,10 @@ fn body_of(alloc: Global, table: &Table) -> Result<Result<Body, Mistake>, AllocE
     let Some(rules) = rules_at(table) else {
         return Ok(Err(NO_RULES));
     };
-    let Some(start) = rule_at(alloc, &scope, rules, "start")? else {
+    let Ok(start) = rule_at(alloc, &scope, rules, "start")? else {
         return Ok(Err(NO_START));
     };
-    let Some(handle) = rule_at(alloc, &scope, rules, "handle")? else {
+    let Ok(handle) = rule_at(alloc, &scope, rules, "handle")? else {
         return Ok(Err(NO_HANDLE));
     };
     let tables = tables_in(alloc, scope.tables.as_slice())?;
@@ -242,14 +260,17 @@ fn body_of(alloc: Global, table: &Table) -> Result<Result<Body, Mistake>, AllocE
         start.as_slice(),
         handle.as_slice(),
     );
+    let width = scope.words.len() as u8;
+    let Scope { words, content, .. } = scope;
     Ok(Ok(Body {
-        width: scope.words.len() as u8,
+        width,
         key,
         seed,
         digest,
         tables,
         start,
         handle,
+        names: WordNames { words, content },
     }))
 }
 
@@ -352,20 +373,17 @@ fn rule_at(
     scope: &Scope,
     rules: &Table,
     key: &str,
-) -> Result<Option<Vec<Statement>>, AllocError>
-    ensures some { IfOk result (λ read. IfSome read (λ rule.
+) -> Result<Result<Vec<Statement>, RuleMistake>, AllocError>
+    ensures some { IfOk result (λ read. IfOk read (λ rule.
         IsRuleAt key.now (parts_view scope.now) (table_view rules.now) rule.items)) }
-    ensures within { IfOk result (λ read. IfSome read (λ rule. IsWithin rule.items)) }
+    ensures within { IfOk result (λ read. IfOk read (λ rule. IsWithin rule.items)) }
     ensures fits { IfOk result (λ read.
-        is_some read ≡ rule_fits key.now (table_view rules.now) (parts_view scope.now)) }
+        is_ok read ≡ rule_fits key.now (table_view rules.now) (parts_view scope.now)) }
 {
     let Some(text) = text_at(rules, key) else {
-        return Ok(None);
+        return Ok(Err(RuleMistake::NoText));
     };
-    match read_rule(alloc, scope, text)? {
-        Ok(rule) => Ok(Some(rule)),
-        Err(_) => Ok(None),
-    }
+    read_rule(alloc, scope, text)
 }
 
 /// Copies the tables.
@@ -463,6 +481,37 @@ fn look_at_rule(
     ensures { OnOk result (found.new ≡ found.old
         ++ rule_wrong key.now (table_view rules.now) (parts_view scope.now)) }
 {
-    let rule = rule_at(alloc, scope, rules, key)?;
-    found.words_at(alloc, rules, key, RULE, rule.is_some())
+    match rule_at(alloc, scope, rules, key)? {
+        Ok(_) => found.words_at(alloc, rules, key, RULE, true),
+        Err(mistake) => {
+            let inside = inside_of(alloc, rules, key, &mistake)?;
+            found.text_at(alloc, rules, key, RULE, false, inside)
+        }
+    }
+}
+
+/// Returns the mistake inside the text of a rule. A limit is exceeded at the beginning of the rule.
+fn inside_of(
+    alloc: Global,
+    rules: &Table,
+    key: &str,
+    mistake: &RuleMistake,
+) -> Result<Option<TextMistake>, AllocError> {
+    let Some(text) = text_at(rules, key) else {
+        return Ok(None);
+    };
+    let (line, column, why) = match mistake {
+        RuleMistake::NoText => return Ok(None),
+        RuleMistake::Text(Place { line, column, kind }) => {
+            (*line, *column, format!(in alloc; "{kind}")?)
+        }
+        RuleMistake::Exceeds(_) => (1, 1, format!(in alloc; "{mistake}")?),
+    };
+    let text = String::from_str(alloc, text)?;
+    Ok(Some(TextMistake {
+        text,
+        line,
+        column,
+        why,
+    }))
 }

@@ -13,7 +13,17 @@ pub enum FileModel {
     /// One of the models of this project.
     BuiltIn(AnyModel),
     /// A model that is described by rules.
-    Rules(Rules),
+    Rules(Rules, WordNames),
+}
+
+/// The names of the words of a model that is described by rules, for its users. They do not change
+/// what the model does.
+#[derive(Debug, Drop)]
+pub struct WordNames {
+    /// The names of the words of a state, by their places.
+    pub words: Vec<String>,
+    /// The names of the words of a message's content, by their places.
+    pub content: Vec<String>,
 }
 
 impl Simulated for FileModel {
@@ -26,28 +36,28 @@ impl Simulated for FileModel {
     fn lps(&self) -> u32 {
         match self {
             FileModel::BuiltIn(model) => model.lps(),
-            FileModel::Rules(rules) => rules.lps(),
+            FileModel::Rules(rules, _) => rules.lps(),
         }
     }
 
     fn identity(&self, alloc: Global) -> SmallVec<u64, 8> {
         match self {
             FileModel::BuiltIn(model) => model.identity(alloc),
-            FileModel::Rules(rules) => rules.identity(alloc),
+            FileModel::Rules(rules, _) => rules.identity(alloc),
         }
     }
 
     fn start(&self, alloc: Global, lp: u32) -> (Words, Sends) {
         match self {
             FileModel::BuiltIn(model) => model.start(alloc, lp),
-            FileModel::Rules(rules) => rules.start(alloc, lp),
+            FileModel::Rules(rules, _) => rules.start(alloc, lp),
         }
     }
 
     fn handle(&self, alloc: Global, lp: u32, state: &Words, message: &Message) -> (Words, Sends) {
         match self {
             FileModel::BuiltIn(model) => model.handle(alloc, lp, state, message),
-            FileModel::Rules(rules) => rules.handle(alloc, lp, state, message),
+            FileModel::Rules(rules, _) => rules.handle(alloc, lp, state, message),
         }
     }
 
@@ -62,7 +72,7 @@ impl Simulated for FileModel {
     ) {
         match self {
             FileModel::BuiltIn(model) => model.handle_into(alloc, lp, state, message, next, sends),
-            FileModel::Rules(rules) => rules.handle_into(alloc, lp, state, message, next, sends),
+            FileModel::Rules(rules, _) => rules.handle_into(alloc, lp, state, message, next, sends),
         }
     }
 }

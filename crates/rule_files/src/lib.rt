@@ -10,6 +10,6 @@ mod reading;
 mod scope;
 
 pub use described::RULES_KEYS;
-pub use file_model::FileModel;
+pub use file_model::{FileModel, WordNames};
 pub use reading::RuleMistake;
 pub use scope::{Named, Scope};

@@ -15,6 +15,9 @@ use thiserror::Error;
 /// Why a text is no rule.
 #[derive(Debug, Drop, Error)]
 pub enum RuleMistake {
+    /// It is no text of at most 65,536 bytes.
+    #[error("no text of at most 65536 bytes")]
+    NoText,
     /// It is not by the grammar, or has a name with no meaning.
     #[error("{0}")]
     Text(Mistake),

@@ -2,12 +2,13 @@
 use Rattle.std.proofs.Common.{◌≡◌, ◌≢◌, ◌+◌, ◌-◌, ◌<◌, ◌≤◌, ◌^◌, ◌==◌, ◌||◌, Bool, true, false, cond, get_or, length, min, set, ℕ, List, [], ◌∷◌, ◌++◌, ap, ap₂, arith, inl, inr, nat_le, refl, subst, sym, ◌∙◌}
 use Rattle.std.proofs.lemmas.Bool.{cases_Bool, cases_lt, eq-eqb, eqb-true, le-leb, leb-true}
 use Rattle.std.proofs.lemmas.List.{get_or-replicate, get_or-set_other, get_or-set_same, get_or_past, length-replicate, map-append}
-use Rattle.std.specs.Prelude.{replicate, if◌then◌else◌}
+use Rattle.std.specs.Prelude.{None, Option, replicate, if◌then◌else◌}
 use Rattle.coordinator.specs.Steps.{move_of}
 use Rattle.runs.proofs.Shapes.{one_round_more}
-use Rattle.runs.specs.Driver.{AreAsked, AreCounts, AreRounds, IsRound, Made, closing_of, commits_in, handled_by, handled_in, handled_of, is_due, kept_after, least_by, least_posted, moves_of, reported_after, reported_since}
-use Rattle.runs.specs.Tallies.{AreCounted, CountsNothing, IsTallied, IsTallyOf, Tallied, handled_after}
+use Rattle.runs.specs.Driver.{AreAsked, AreCounts, AreRounds, IsRound, Made, closing_of, commits_in, events_due, handled_by, handled_in, handled_of, kept_after, least_answered, least_by, moves_of, outstanding_after, outstanding_by, reported_after, reported_since, round_after}
+use Rattle.runs.specs.Tallies.{AreCounted, CountsNothing, IsSized, IsTallied, IsTallyOf, Tallied, handled_after}
 use Rattle.runs.specs.declared.rounds.Plan.{Plan}
+use Rattle.runs.specs.declared.rounds.Round.{Round}
 use Rattle.runs.specs.declared.tally.Tally.{Tally}
 use Rattle.protocol.specs.Moves.{Move}
 use Rattle.protocol.specs.Moves.Move.{Commit, Take}
@@ -18,9 +19,13 @@ pub reported_more : (reported : ℕ) (ks ls : List Made) → reported_since repo
 reported_more reported [] ls = refl
 reported_more reported (k ∷ ks) ls = reported_more (reported_after reported (move_of k.step) k.answer) ks ls
 
-pub least_more : (time : ℕ) (ks ls : List Made) → least_posted time (ks ++ ls) ≡ least_posted (least_posted time ks) ls
-least_more time [] ls = refl
-least_more time (k ∷ ks) ls = least_more (least_by time (move_of k.step) k.answer) ks ls
+pub outstanding_more : (outstanding : List (Option ℕ)) (ks ls : List Made) → outstanding_after outstanding (ks ++ ls) ≡ outstanding_after (outstanding_after outstanding ks) ls
+outstanding_more outstanding [] ls = refl
+outstanding_more outstanding (k ∷ ks) ls = outstanding_more (outstanding_by outstanding (move_of k.step) k.answer) ks ls
+
+pub least_more : (time : ℕ) (outstanding : List (Option ℕ)) (ks ls : List Made) → least_answered time outstanding (ks ++ ls) ≡ least_answered (least_answered time outstanding ks) (outstanding_after outstanding ks) ls
+least_more time outstanding [] ls = refl
+least_more time outstanding (k ∷ ks) ls = least_more (least_by time outstanding (move_of k.step)) (outstanding_by outstanding (move_of k.step) k.answer) ks ls
 
 pub commits_more : (ks ls : List Made) → commits_in (ks ++ ls) ≡ commits_in ks + commits_in ls
 commits_more [] ls = omega arith
@@ -32,6 +37,12 @@ moves_more ks ls = map-append (λ (k : Made). move_of k.step) ks ls
 pub handled_more : (node : ℕ) (ks ls : List Made) → handled_of node (ks ++ ls) ≡ handled_of node ks + handled_of node ls
 handled_more node [] ls = omega arith
 handled_more node (k ∷ ks) ls = (let more = handled_more node ks ls in omega (arith, more))
+
+-- lists that keep their lengths
+pub still_sized : (nodes : ℕ) (old new : Tally) → length new.budgets.items ≡ length old.budgets.items → length new.outstanding.items ≡ length old.outstanding.items → length new.turns.items ≡ length old.turns.items
+    → length new.handled_per_node.items ≡ length old.handled_per_node.items → IsSized nodes old → IsSized nodes new
+still_sized nodes old new budgets outstanding turns handled is =
+    record { budgets = budgets ∙ is.budgets; outstanding = outstanding ∙ is.outstanding; turns = turns ∙ is.turns; handled = handled ∙ is.handled }
 
 capped : (a b : ℕ) → a ≡ b → min a (2 ^ 64 - 1) ≡ min b (2 ^ 64 - 1)
 capped a b is = ap (λ (n : ℕ). min n (2 ^ 64 - 1)) is
@@ -93,21 +104,27 @@ module _ (every : ℕ) where
     handled = counted_more old.handled_per_node.items mid.handled_per_node.items new.handled_per_node.items ks ls first.handled second.handled;
     events_until_commit = λ reported is. second.events_until_commit (reported_since reported ks) (first.events_until_commit reported is) ∙ ap (λ (n : ℕ). every - n) (sym (reported_more reported ks ls));
     commits = (let more = commits_more ks ls in omega (arith, more, first.commits, second.commits));
+    outstanding = second.outstanding ∙ ap (λ (o : List (Option ℕ)). outstanding_after o ls) first.outstanding ∙ sym (outstanding_more old.outstanding.items ks ls);
   }
 
   pub none_tallied : (t : Tally) → IsTallied every t t []
-  none_tallied t = record { events_until_commit = λ reported is. is; commits = omega arith; handled = none_counted t.handled_per_node.items t.handled_per_node.items [] refl (λ node. refl) }
+  none_tallied t = record { events_until_commit = λ reported is. is; commits = omega arith; outstanding = refl; handled = none_counted t.handled_per_node.items t.handled_per_node.items [] refl (λ node. refl) }
 
   pub no_move : (S : List Made → Type 0) (t : Tally) → S [] → Tallied every S t t []
   no_move S t none = record { shape = none; tally = none_tallied t; floor = refl }
 
+  -- the shape of the later steps may depend on the parcels outstanding after the earlier ones
+  pub both_after : (S T U : List Made → Type 0) (old mid new : Tally) → ((ks ls : List Made) → mid.outstanding.items ≡ outstanding_after old.outstanding.items ks → S ks → T ls → U (ks ++ ls)) → (ks ls : List Made) → Tallied every S old mid ks → Tallied every T mid new ls
+      → Tallied every U old new (ks ++ ls)
+  both_after S T U old mid new both ks ls first second = record {
+    shape = both ks ls first.tally.outstanding first.shape second.shape;
+    tally = tallied_more old mid new ks ls first.tally second.tally;
+    floor = second.floor ∙ ap₂ (λ (n : ℕ) (o : List (Option ℕ)). least_answered n o ls) first.floor first.tally.outstanding ∙ sym (least_more old.floor old.outstanding.items ks ls);
+  }
+
   pub both_tallied : (S T U : List Made → Type 0) (old mid new : Tally) → ((ks ls : List Made) → S ks → T ls → U (ks ++ ls)) → (ks ls : List Made) → Tallied every S old mid ks → Tallied every T mid new ls
       → Tallied every U old new (ks ++ ls)
-  both_tallied S T U old mid new both ks ls first second = record {
-    shape = both ks ls first.shape second.shape;
-    tally = tallied_more old mid new ks ls first.tally second.tally;
-    floor = second.floor ∙ ap (λ (n : ℕ). least_posted n ls) first.floor ∙ sym (least_more old.floor ks ls);
-  }
+  both_tallied S T U old mid new both = both_after S T U old mid new (λ ks ls same. both ks ls)
 
   -- a commit, and a checkpoint if one is due
   pub commit_kept : (kept number : ℕ) (old new : Tally) (ks ls : List Made) → number ≡ old.commits + 1 → (moves_of ks ≡ Commit ∷ []) × IsTallied every old new ks → (moves_of ls ≡ kept_after kept number) × CountsNothing ls
@@ -117,41 +134,47 @@ module _ (every : ℕ) where
       let rest : IsTallied every new new ls = record {
         events_until_commit = λ reported e. e ∙ ap (λ (n : ℕ). every - n) (sym (second.1.reported reported));
         commits = (let none = second.1.commits in omega (arith, none));
+        outstanding = sym (second.1.outstanding new.outstanding.items);
         handled = none_counted new.handled_per_node.items new.handled_per_node.items ls refl second.1.handled;
       } in
       (moves_more ks ls ∙ ap₂ (λ (a b : List Move). a ++ b) first.0 same, tallied_more old new new ks ls first.1 rest)
 
-module _ (plan : Plan) where
-  pub round_shape : (end : ℕ) (last : Bool) (reported : ℕ) (old begun asked : Tally) (ks ls : List Made) → begun.floor ≡ end → begun.commits ≡ old.commits → asked.commits ≡ begun.commits → Tallied plan.commit_every (AreAsked plan.together plan) begun asked ks
-      → moves_of ls ≡ closing_of plan end last (reported_since reported ks) asked.floor asked.commits → IsRound plan end last reported old.commits (ks ++ ls)
-  round_shape end last reported old begun asked ks ls floor commits same first second =
-      let least : asked.floor ≡ least_posted end ks = first.floor ∙ ap (λ (n : ℕ). least_posted n ks) floor in
-      let closing : moves_of ls ≡ closing_of plan end last (reported_since reported ks) (least_posted end ks) old.commits =
-      second ∙ ap₂ (λ (f n : ℕ). closing_of plan end last (reported_since reported ks) f n) least (same ∙ commits) in
-      (ks, ls, first.shape, closing, refl)
+module _ (round : Round) where
+  pub round_shape : (reported : ℕ) (old begun asked : Tally) (ks ls : List Made) → begun.floor ≡ round.end → begun.commits ≡ old.commits → begun.outstanding.items ≡ old.outstanding.items → asked.commits ≡ begun.commits
+      → Tallied round.plan.commit_every (AreAsked round.plan.schedule round begun.outstanding.items) begun asked ks → moves_of ls ≡ closing_of round (reported_since reported ks) asked.floor asked.commits
+      → IsRound round reported old.commits old.outstanding.items (ks ++ ls)
+  round_shape reported old begun asked ks ls floor commits outstanding same first second =
+      let least : asked.floor ≡ least_answered round.end old.outstanding.items ks = first.floor ∙ ap₂ (λ (n : ℕ) (o : List (Option ℕ)). least_answered n o ks) floor outstanding in
+      let closing : moves_of ls ≡ closing_of round (reported_since reported ks) (least_answered round.end old.outstanding.items ks) old.commits =
+      second ∙ ap₂ (λ (f n : ℕ). closing_of round (reported_since reported ks) f n) least (same ∙ commits) in
+      (ks, ls, subst (λ (o : List (Option ℕ)). AreAsked round.plan.schedule round o ks) outstanding first.shape, closing, refl)
 
   -- all nodes are asked, and then the round ends
-  pub round_made : (end : ℕ) (last : Bool) (reported : ℕ) (old begun asked closed : Tally) (ks ls : List Made) → begun.floor ≡ end → begun.events_until_commit ≡ old.events_until_commit → begun.commits ≡ old.commits → begun.handled_per_node.items ≡ old.handled_per_node.items → asked.commits ≡ begun.commits
-      → Tallied plan.commit_every (AreAsked plan.together plan) begun asked ks → (moves_of ls ≡ closing_of plan end last (reported_since reported ks) asked.floor asked.commits) × IsTallied plan.commit_every asked closed ls
-      → IsRound plan end last reported old.commits (ks ++ ls) × IsTallied plan.commit_every old closed (ks ++ ls)
-  round_made end last reported old begun asked closed ks ls floor events_until_commit commits handled same first second =
-      let start : IsTallied plan.commit_every old begun [] = record { events_until_commit = λ t is. events_until_commit ∙ is; commits = omega (arith, commits); handled = none_counted old.handled_per_node.items begun.handled_per_node.items [] handled (λ node. refl) } in
-      (round_shape end last reported old begun asked ks ls floor commits same first second.0, tallied_more plan.commit_every old begun closed [] (ks ++ ls) start (tallied_more plan.commit_every begun asked closed ks ls first.tally second.1))
+  pub round_made : (reported : ℕ) (old begun asked closed : Tally) (ks ls : List Made) → begun.floor ≡ round.end → begun.events_until_commit ≡ old.events_until_commit → begun.commits ≡ old.commits → begun.outstanding.items ≡ old.outstanding.items → begun.handled_per_node.items ≡ old.handled_per_node.items → asked.commits ≡ begun.commits
+      → Tallied round.plan.commit_every (AreAsked round.plan.schedule round begun.outstanding.items) begun asked ks → (moves_of ls ≡ closing_of round (reported_since reported ks) asked.floor asked.commits) × IsTallied round.plan.commit_every asked closed ls
+      → IsRound round reported old.commits old.outstanding.items (ks ++ ls) × IsTallied round.plan.commit_every old closed (ks ++ ls)
+  round_made reported old begun asked closed ks ls floor events_until_commit commits outstanding handled same first second =
+      let start : IsTallied round.plan.commit_every old begun [] = record { events_until_commit = λ t is. events_until_commit ∙ is; commits = omega (arith, commits); outstanding = outstanding; handled = none_counted old.handled_per_node.items begun.handled_per_node.items [] handled (λ node. refl) } in
+      (round_shape reported old begun asked ks ls floor commits outstanding same first second.0, tallied_more round.plan.commit_every old begun closed [] (ks ++ ls) start (tallied_more round.plan.commit_every begun asked closed ks ls first.tally second.1))
 
-  -- one more round
-  pub round_more : (end last rounds : ℕ) (old new : Tally) (ks ls : List Made) → AreRounds plan end last rounds ks × IsTallyOf plan.commit_every old ks → IsRound plan end (rounds + 1 == last) (reported_since 0 ks) old.commits ls × IsTallied plan.commit_every old new ls
-      → AreRounds plan end last (rounds + 1) (ks ++ ls) × IsTallyOf plan.commit_every new (ks ++ ls)
-  round_more end last rounds old new ks ls before round =
-      let counted = before.1.commits in
-      let more = round.1.commits in
-      let all = commits_more ks ls in (
-        one_round_more plan end last rounds ks ls before.0 (subst (λ (n : ℕ). IsRound plan end (rounds + 1 == last) (reported_since 0 ks) n ls) counted round.0),
-        record {
-          events_until_commit = round.1.events_until_commit (reported_since 0 ks) before.1.events_until_commit ∙ ap (λ (n : ℕ). plan.commit_every - n) (sym (reported_more 0 ks ls));
-          commits = omega (arith, more, all, counted);
-          handled = λ node. round.1.handled node (handled_of node ks) (before.1.handled node) ∙ capped (handled_of node ks + handled_of node ls) (handled_of node (ks ++ ls)) (sym (handled_more node ks ls));
-        },
-      )
+-- one more round
+pub round_more : (plan : Plan) (end last rounds : ℕ) (old new : Tally) (ks ls : List Made) → AreRounds plan end last rounds ks × IsTallyOf plan.commit_every plan.nodes old ks → IsRound (round_after plan end last rounds) (reported_since 0 ks) old.commits old.outstanding.items ls × IsTallied plan.commit_every old new ls
+    → AreRounds plan end last (rounds + 1) (ks ++ ls) × IsTallyOf plan.commit_every plan.nodes new (ks ++ ls)
+round_more plan end last rounds old new ks ls before round =
+    let counted = before.1.commits in
+    let more = round.1.commits in
+    let all = commits_more ks ls in
+    let first : List (Option ℕ) = replicate plan.nodes None in (
+      one_round_more plan end last rounds ks ls before.0
+          (subst (λ (o : List (Option ℕ)). IsRound (round_after plan end last rounds) (reported_since 0 ks) (commits_in ks) o ls) before.1.outstanding
+          (subst (λ (n : ℕ). IsRound (round_after plan end last rounds) (reported_since 0 ks) n old.outstanding.items ls) counted round.0)),
+      record {
+        events_until_commit = round.1.events_until_commit (reported_since 0 ks) before.1.events_until_commit ∙ ap (λ (n : ℕ). plan.commit_every - n) (sym (reported_more 0 ks ls));
+        commits = omega (arith, more, all, counted);
+        outstanding = round.1.outstanding ∙ ap (λ (o : List (Option ℕ)). outstanding_after o ls) before.1.outstanding ∙ sym (outstanding_more first ks ls);
+        handled = λ node. round.1.handled node (handled_of node ks) (before.1.handled node) ∙ capped (handled_of node ks + handled_of node ls) (handled_of node (ks ++ ls)) (sym (handled_more node ks ls));
+      },
+    )
 
 same_test : (a b c d : ℕ) → (a ≤ b → c ≤ d) → (c ≤ d → a ≤ b) → nat_le a b ≡ nat_le c d
 same_test a b c d to from = elim (cases_Bool (nat_le a b)) [
@@ -164,7 +187,7 @@ same_test a b c d to from = elim (cases_Bool (nat_le a b)) [
 
 -- a commit is due by the tally exactly if it is due by what was reported
 pub due_so : (plan : Plan) (end : ℕ) (last : Bool) (reported floor events_until_commit missing : ℕ) → events_until_commit ≡ plan.commit_every - reported → missing ≡ (if last then plan.commit_every - 1 else 0)
-    → (nat_le events_until_commit missing || nat_le end floor) ≡ is_due plan end last reported floor
+    → (nat_le events_until_commit missing || nat_le end floor) ≡ (nat_le (events_due plan last) reported || nat_le end floor)
 due_so plan end true reported floor events_until_commit missing is most =
     ap (λ (b : Bool). b || nat_le end floor) (same_test events_until_commit missing (min plan.commit_every 1) reported (λ h. omega (arith, h, is, most)) (λ h. omega (arith, h, is, most)))
 due_so plan end false reported floor events_until_commit missing is most =

@@ -4,7 +4,6 @@ use Rattle.std.proofs.lemmas.Bool.{cases_Bool, false≢true}
 use Rattle.std.specs.Prelude.{◌≡◌, ◌≢◌, ◌≤◌, ◌^◌, ℕ, List, [], IfErr, OnOk, Result, Ok, Err, slice_index_or}
 use Rattle.commitlog.specs.Faults.{FormatIsRefused}
 use Rattle.commitlog.specs.Log.{IsDurable, Opened}
-use Rattle.commitlog.specs.declared.records.Entry.{Entry}
 use Rattle.commitlog.specs.Records.{Holds, IsBlank, IsBlankOrEmptyLog, IsFormatted, is_open}
 use Rattle.commitlog.specs.declared.fault.LogFault.{LogFault}
 use Rattle.commitlog.specs.declared.fault.LogFault.TheVariants.{Corrupt, Disk, Full, NoMemory as NoMemoryOfLog, NotBlank, NotFormatted, Spent, TooLong}
@@ -12,20 +11,19 @@ use Rattle.disk.specs.declared.disk.DiskFault.TheVariants.{Device, NoSuchSector}
 use Rattle.coordinator.proofs.Begun.{looked-keeps, recovers-genuine}
 use Rattle.coordinator.proofs.Driving.{followed_by}
 use Rattle.coordinator.specs.Crashes.{KeepsRecovery, Recovers}
-use Rattle.coordinator.specs.Opening.{IsAtFault, LeavesExactly}
-use Rattle.disk.specs.Disk.{DiskState, IsDisk, IsSynced, LeavesOnly, MayLeave, OnlyLooks}
+use Rattle.coordinator.specs.Opening.{LeavesExactly}
+use Rattle.disk.specs.Disk.{DiskState, IsDisk, IsSynced, LeavesOnly, OnlyLooks}
 use Rattle.disk.specs.Laws.{followed, reads_left, weaker}
 use Rattle.model.specs.Meaning.{IsLawful, Meaning}
 use Rattle.model.specs.World.{IsUpto, World, opening}
 use Rattle.recovery.proofs.Images.{empty_log_represents, image_represents_one}
-use Rattle.recovery.specs.Causes.{IsFirstAtFault}
-use Rattle.recovery.specs.Ends.{IsEnd, IsOurs}
+use Rattle.recovery.specs.Ends.{IsEnd}
 use Rattle.recovery.specs.Header.{header_bytes, header_of}
 use Rattle.recovery.specs.Recovered.{RecoveryIsRefused}
 use Rattle.recovery.specs.Represents.{IsGenuine, Represents, RepresentsAtLeast}
 use Rattle.recovery.specs.declared.RecoveryFault.{RecoveryFault}
 use Rattle.recovery.specs.declared.RecoveryFault.TheVariants.{BadCheckpoint, BadEnd, BadRecord, GoesBack, Log as LogOfRecovery, NoMemory, NotTheLeast, NumberLimit, OtherModel}
-use Rattle.coordinator.proofs.Extensions.{are-readable, at-fault, log-on, ours-of}
+use Rattle.coordinator.proofs.Extensions.{are-readable, at-fault, ours-of}
 use Rattle.runs.specs.Simulation.{IsBlankOrRepresents, IsBlankOrRepresentsSo, IsNotRecovered, PreparingIsRefused}
 use Rattle.runs.specs.declared.fault.SimulationFault.{SimulationFault}
 use Rattle.runs.specs.declared.fault.SimulationFault.TheVariants.{Log}

@@ -1,5 +1,5 @@
 -- Steps that begin a round, of which the next one is refused.
-use Rattle.std.proofs.Common.{◌≡◌, ◌∙◌, ◌+◌, ◌<◌, ◌≤◌, ◌-◌, ℕ, zero, suc, Bool, List, Err, Ok, Result, true, [], ◌∷◌, ◌++◌, ap, append-nil, append_assoc, arith, map, max, refl, subst, sym}
+use Rattle.std.proofs.Common.{◌≡◌, ◌∙◌, ◌+◌, ◌<◌, ◌-◌, ℕ, zero, suc, Bool, List, Err, Ok, Result, false, true, [], ◌∷◌, ◌++◌, ap, append-nil, append_assoc, arith, refl, subst, sym}
 use Rattle.std.proofs.Math.Nat.{le-max_right}
 use Rattle.std.specs.Result.{IsErrAnd, IsErrOf}
 use Rattle.coordinator.specs.Drives.{IsStep}
@@ -16,11 +16,14 @@ use Rattle.protocol.specs.declared.Answer.{Answer}
 use Rattle.protocol.specs.declared.Answer.TheVariants.{AlreadyAt}
 use Rattle.wire.specs.Port.{PortState}
 use Rattle.runs.proofs.Drives.{steps_join}
-use Rattle.runs.proofs.Shapes.{is_post, one_post_more, one_take_more, one_turn_more, post_then_take, then_takes}
-use Rattle.runs.specs.Driver.{AreAsked, AreMade, ArePosts, AreTurns, IsBudget, IsDrivenBy, IsPost, IsRefusedIn, IsRound, IsTurn, Made, closing_of, least_posted, moves_of, reported_since, takes_of}
+use Rattle.std.specs.Prelude.{None, Option, Some, get_or}
+use Rattle.runs.proofs.Shapes.{first_then_next, is_post, one_next_more, one_post_more, one_take_more, one_turn_more, post_then_take, take_then_post, then_takes}
+use Rattle.runs.specs.Driver.{AreAsked, AreFirst, AreNext, ArePosts, AreTurns, IsBudget, IsDrivenBy, IsNext, IsPost, IsPostIf, IsRefusedIn, IsRound, IsTurn, Made, closing_of, goes_on, least_answered, moves_of, outstanding_after, reported_since, takes_of}
 use Rattle.runs.specs.declared.rounds.Batch.{Batch}
 use Rattle.runs.specs.declared.rounds.Batch.TheVariants.{Adjusting, Fixed}
 use Rattle.runs.specs.declared.rounds.Plan.{Plan}
+use Rattle.runs.specs.declared.rounds.Round.{Round}
+use Rattle.runs.specs.declared.rounds.Schedule.TheVariants.{Overlapped, Together}
 use Rattle.runs.specs.declared.rounds.RunFault.{RunFault}
 use Rattle.runs.specs.declared.rounds.RunFault.TheVariants.{Session as of_session}
 use Rattle.runs.specs.declared.tally.Tally.{Tally}
@@ -85,12 +88,32 @@ posts_more plan node ks is = (let post = post_more plan node in (post.0, one_pos
 pub takes_more : (node : ℕ) → Completes (λ taken. moves_of taken ≡ takes_of node) (λ taken. moves_of taken ≡ takes_of (node + 1))
 takes_more node ks is = (made_for (Take node ∷ []), one_take_more node ks (made_for (Take node ∷ [])) is refl)
 
-pub after_posts : (plan : Plan) → Completes (ArePosts plan plan.nodes) (AreAsked true plan)
-after_posts plan ks is = (made_for (takes_of plan.nodes), then_takes plan ks (made_for (takes_of plan.nodes)) is (same_moves (takes_of plan.nodes)))
+pub after_posts : (round : Round) (outstanding : List (Option ℕ)) → Completes (ArePosts round.plan round.plan.nodes) (AreAsked Together round outstanding)
+after_posts round outstanding ks is = (made_for (takes_of round.plan.nodes), then_takes round outstanding ks (made_for (takes_of round.plan.nodes)) is (same_moves (takes_of round.plan.nodes)))
 
-pub after_asked : (plan : Plan) (end : ℕ) (last : Bool) (reported commits : ℕ) → Completes (AreAsked plan.together plan) (IsRound plan end last reported commits)
-after_asked plan end last reported commits ks is =
-    let moves = closing_of plan end last (reported_since reported ks) (least_posted end ks) commits in
+some_post_if : (b : Bool) (plan : Plan) (node : ℕ) → (ls : List Made) × IsPostIf b plan node ls
+some_post_if true plan node = post_more plan node
+some_post_if false plan node = ([], refl)
+
+pub after_take : (round : Round) (node floor : ℕ) → Completes (λ taken. moves_of taken ≡ Take node ∷ []) (IsNext round node (Some floor))
+after_take round node floor ks take = (let post = some_post_if (goes_on round floor) round.plan node in (post.0, take_then_post round node floor ks post.0 take post.1))
+
+some_next : (round : Round) (node : ℕ) (floor : Option ℕ) → (ls : List Made) × IsNext round node floor ls
+some_next round node None = ([], refl)
+some_next round node (Some floor) = (let rest = after_take round node floor (made_for (Take node ∷ [])) refl in (made_for (Take node ∷ []) ++ rest.0, rest.1))
+
+pub next_more : (round : Round) (outstanding : List (Option ℕ)) (node : ℕ) → Completes (AreNext round outstanding node) (AreNext round outstanding (node + 1))
+next_more round outstanding node ks is = (let next = some_next round node (get_or (outstanding_after outstanding ks) node None) in (next.0, one_next_more round outstanding node ks next.0 is next.1))
+
+pub after_first : (round : Round) (outstanding : List (Option ℕ)) → Completes (AreFirst round.first round.plan) (AreAsked Overlapped round outstanding)
+after_first round outstanding ks is =
+    let now = outstanding_after outstanding ks in
+    let next = all_more (AreNext round now) (next_more round now) round.plan.nodes 0 round.plan.nodes (omega arith) [] refl in
+    (next.0, first_then_next round outstanding now ks next.0 refl is next.1)
+
+pub after_asked : (round : Round) (reported commits : ℕ) (outstanding : List (Option ℕ)) → Completes (AreAsked round.plan.schedule round outstanding) (IsRound round reported commits outstanding)
+after_asked round reported commits outstanding ks is =
+    let moves = closing_of round (reported_since reported ks) (least_answered round.end outstanding ks) commits in
     (made_for moves, (ks, made_for moves, is, same_moves moves, refl))
 
 -- 2. A fault that is passed on
@@ -144,10 +167,15 @@ module _ {M P D : Type 0} (meaning : M → Meaning) (state : P → PortState) (d
         shape = subst U (sym (append_assoc first.steps is.steps begun)) (both (is.steps ++ begun) is.shape);
       }
 
-  -- the same if the first steps are counted
+  -- the same if the first steps are counted; what follows may depend on the parcels outstanding after
+  -- them
+  pub refused_next : {every : ℕ} {t u : Tally} (S T U : List Made → Type 0) (old mid new : Session M P D) (fault : SessionFault) → ((ks ls : List Made) → u.outstanding.items ≡ outstanding_after t.outstanding.items ks → S ks → T ls → U (ks ++ ls))
+      → IsDrivenBy meaning state disk (Tallied every S t u) old mid → IsRefusedIn meaning state disk T mid new fault → IsRefusedIn meaning state disk U old new fault
+  refused_next {every} {t} {u} S T U old mid new fault both first is = refused_after (Tallied every S t u) T U old mid new fault first (λ ls rest. both first.steps ls first.shape.tally.outstanding first.shape.shape rest) is
+
   pub refused_then : {every : ℕ} {t u : Tally} (S T U : List Made → Type 0) (old mid new : Session M P D) (fault : SessionFault) → ((ks ls : List Made) → S ks → T ls → U (ks ++ ls)) → IsDrivenBy meaning state disk (Tallied every S t u) old mid
       → IsRefusedIn meaning state disk T mid new fault → IsRefusedIn meaning state disk U old new fault
-  refused_then {every} {t} {u} S T U old mid new fault both first is = refused_after (Tallied every S t u) T U old mid new fault first (λ ls rest. both first.steps ls first.shape.shape rest) is
+  refused_then {every} {t} {u} S T U old mid new fault both first is = refused_next {every = every} {t = t} {u = u} S T U old mid new fault (λ ks ls same. both ks ls) first is
 
   pub refused_so : (S T : List Made → Type 0) (old new : Session M P D) (fault : SessionFault) → ((ks : List Made) → S ks → T ks) → IsRefusedIn meaning state disk S old new fault → IsRefusedIn meaning state disk T old new fault
   refused_so S T old new fault so is =
@@ -156,7 +184,8 @@ module _ {M P D : Type 0} (meaning : M → Meaning) (state : P → PortState) (d
 
   -- while each node gets its turn
   pub refused_within : {every : ℕ} {t u : Tally} (F : ℕ → List Made → Type 0) (S : List Made → Type 0) (node nodes : ℕ) (old mid new : Session M P D) (fault : SessionFault) → node < nodes → ((i : ℕ) → Completes (F i) (F (i + 1)))
-      → ((ks ls : List Made) → F node ks → S ls → F (node + 1) (ks ++ ls)) → IsDrivenBy meaning state disk (Tallied every (F node) t u) old mid → IsRefusedIn meaning state disk S mid new fault → IsRefusedIn meaning state disk (F nodes) old new fault
-  refused_within F S node nodes old mid new fault l one both first is =
+      → ((ks ls : List Made) → u.outstanding.items ≡ outstanding_after t.outstanding.items ks → F node ks → S ls → F (node + 1) (ks ++ ls)) → IsDrivenBy meaning state disk (Tallied every (F node) t u) old mid → IsRefusedIn meaning state disk S mid new fault
+      → IsRefusedIn meaning state disk (F nodes) old new fault
+  refused_within {every} {t} {u} F S node nodes old mid new fault l one both first is =
       let left : nodes ≡ (node + 1) + (nodes - (node + 1)) = omega (arith, l) in
-      refused_first (F (node + 1)) (F nodes) old new fault (all_more F one (nodes - (node + 1)) (node + 1) nodes left) (refused_then (F node) S (F (node + 1)) old mid new fault both first is)
+      refused_first (F (node + 1)) (F nodes) old new fault (all_more F one (nodes - (node + 1)) (node + 1) nodes left) (refused_next {every = every} {t = t} {u = u} (F node) S (F (node + 1)) old mid new fault both first is)

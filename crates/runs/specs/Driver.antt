@@ -1,7 +1,7 @@
 -- What a driver does to a session: it makes steps of it, and nothing else.
 use Rattle.std.specs.Prelude.{Bool, true, false, ℕ, zero, suc, List, [], ◌∷◌, ◌++◌, ◌+◌, ◌%◌, ◌==◌}
 use Rattle.std.specs.Prelude.{◌-◌, ◌^◌, get_or, ◌&&◌, ◌||◌, nat_le, nat_lt, max, min, ◌<◌, ◌≤◌, if◌then◌else◌, ◌≡◌, length}
-use Rattle.std.specs.Prelude.{Err, map, Ok, Option, Some, unwrap_or, ◌⊎◌}
+use Rattle.std.specs.Prelude.{Err, map, None, not, Ok, Option, replicate, set, Some, unwrap_or, ◌⊎◌}
 use Rattle.coordinator.specs.Drives.{Goes, IsStep}
 use Rattle.coordinator.specs.Headline.{IsDriven as IsDrivenFrom}
 use Rattle.coordinator.specs.Opening.{OpeningIsRefused}
@@ -13,6 +13,9 @@ use Rattle.disk.specs.Disk.{DiskState}
 use Rattle.runs.specs.declared.rounds.Batch.{Batch}
 use Rattle.runs.specs.declared.rounds.Batch.TheVariants.{Adjusting, Fixed}
 use Rattle.runs.specs.declared.rounds.Plan.{Plan}
+use Rattle.runs.specs.declared.rounds.Round.{Round}
+use Rattle.runs.specs.declared.rounds.Schedule.{Schedule}
+use Rattle.runs.specs.declared.rounds.Schedule.TheVariants.{InTurn, Overlapped, Together}
 use Rattle.eventkey.specs.declared.Signed.{Signed}
 use Rattle.model.specs.Meaning.{Meaning}
 use Rattle.model.specs.World.{IsUpto, World}
@@ -58,18 +61,39 @@ abbrev pub reported_since : ℕ → List Made → ℕ
 reported_since reported [] = reported
 reported_since reported (k ∷ ks) = reported_since (reported_after reported (move_of k.step) k.answer) ks
 
--- the least of this time and of the floors of the parcels posted
-abbrev pub least_of : ℕ → Answer → ℕ
-least_of time (Posted floor) = min time floor
-least_of time answer = time
+-- the floor of the parcel that was posted
+abbrev pub floor_in : Answer → ℕ
+floor_in (Posted floor) = floor
+floor_in answer = 0
 
-abbrev pub least_by : ℕ → Move → Answer → ℕ
-least_by time (Post node picks budget) answer = least_of time answer
-least_by time move answer = time
+-- for each node the floor of the parcel that is outstanding there, after this step
+abbrev pub outstanding_by : List (Option ℕ) → Move → Answer → List (Option ℕ)
+outstanding_by outstanding (Post node picks budget) answer =
+    set outstanding node (Some (floor_in answer))
+outstanding_by outstanding (Take node) answer = set outstanding node None
+outstanding_by outstanding move answer = outstanding
 
-abbrev pub least_posted : ℕ → List Made → ℕ
-least_posted time [] = time
-least_posted time (k ∷ ks) = least_posted (least_by time (move_of k.step) k.answer) ks
+abbrev pub outstanding_after : List (Option ℕ) → List Made → List (Option ℕ)
+outstanding_after outstanding [] = outstanding
+outstanding_after outstanding (k ∷ ks) =
+    outstanding_after (outstanding_by outstanding (move_of k.step) k.answer) ks
+
+-- the least of this time and of a floor
+abbrev pub least_of : ℕ → Option ℕ → ℕ
+least_of time (Some floor) = min time floor
+least_of time None = time
+
+-- the least of this time and of the floors that nodes answered: of the parcels whose replies were
+-- taken
+abbrev pub least_by : ℕ → List (Option ℕ) → Move → ℕ
+least_by time outstanding (Take node) = least_of time (get_or outstanding node None)
+least_by time outstanding move = time
+
+abbrev pub least_answered : ℕ → List (Option ℕ) → List Made → ℕ
+least_answered time outstanding [] = time
+least_answered time outstanding (k ∷ ks) = least_answered
+    (least_by time outstanding (move_of k.step))
+    (outstanding_by outstanding (move_of k.step) k.answer) ks
 
 -- the number of commits made
 abbrev pub commits_by : Move → ℕ
@@ -141,13 +165,49 @@ abbrev pub takes_of : ℕ → List Move
 takes_of zero = []
 takes_of (suc node) = takes_of node ++ Take node ∷ []
 
--- What the nodes are asked in a round: one turn after another or, if they work together, all posts
--- before the first take.
-abbrev pub AreAsked : Bool → Plan → List Made → Type 0
-AreAsked false plan made = AreTurns plan plan.nodes made
-AreAsked true plan made = (posts : List Made) × (taken : List Made)
-    × ArePosts plan plan.nodes posts × (moves_of taken ≡ takes_of plan.nodes)
+-- in the first round of a run a parcel is posted to each node
+abbrev pub AreFirst : Bool → Plan → List Made → Type 0
+AreFirst true plan made = ArePosts plan plan.nodes made
+AreFirst false plan made = made ≡ []
+
+-- Whether a node that answered a parcel with this floor has another turn: that floor is below the
+-- end, and the round is not the last one of its run.
+abbrev pub goes_on : Round → ℕ → Bool
+goes_on round floor = nat_lt floor round.end && not round.last
+
+abbrev pub IsPostIf : Bool → Plan → ℕ → List Made → Type 0
+IsPostIf true plan node made = IsPost plan node made
+IsPostIf false plan node made = made ≡ []
+
+-- The reply to the parcel with this floor is taken, if one is outstanding at the node, and a parcel
+-- is posted again if the node goes on.
+abbrev pub IsNext : Round → ℕ → Option ℕ → List Made → Type 0
+IsNext round node None made = made ≡ []
+IsNext round node (Some floor) made = (taken : List Made) × (post : List Made)
+    × (moves_of taken ≡ Take node ∷ []) × IsPostIf (goes_on round floor) round.plan node post
+    × (made ≡ taken ++ post)
+
+-- that for each of this many nodes, from node 0 up, with these parcels outstanding before
+abbrev pub AreNext : Round → List (Option ℕ) → ℕ → List Made → Type 0
+AreNext round outstanding zero made = made ≡ []
+AreNext round outstanding (suc node) made = (before : List Made) × (next : List Made)
+    × AreNext round outstanding node before
+    × IsNext round node (get_or (outstanding_after outstanding before) node None) next
+    × (made ≡ before ++ next)
+
+-- What the nodes are asked in a round, with these parcels outstanding before: one turn after
+-- another; or, if they work together, all posts before the first take; or, if they overlap, each
+-- reply is taken and the next parcel posted to its node before the next reply is taken, so that the
+-- reply to a parcel is taken in the next round.
+abbrev pub AreAsked : Schedule → Round → List (Option ℕ) → List Made → Type 0
+AreAsked InTurn round outstanding made = AreTurns round.plan round.plan.nodes made
+AreAsked Together round outstanding made = (posts : List Made) × (taken : List Made)
+    × ArePosts round.plan round.plan.nodes posts × (moves_of taken ≡ takes_of round.plan.nodes)
     × (made ≡ posts ++ taken)
+AreAsked Overlapped round outstanding made = (posts : List Made) × (next : List Made)
+    × AreFirst round.first round.plan posts
+    × AreNext round (outstanding_after outstanding posts) round.plan.nodes next
+    × (made ≡ posts ++ next)
 
 -- How many events have to be reported since the last commit for a round to end with the next one:
 -- as many as the plan asks for, or any in the last round of a run. A plan that asks for none commits
@@ -155,10 +215,11 @@ AreAsked true plan made = (posts : List Made) × (taken : List Made)
 abbrev pub events_due : Plan → Bool → ℕ
 events_due plan last = if last then min plan.commit_every 1 else plan.commit_every
 
--- A round ends with a commit if at least so many were reported, or if no floor posted in it is below
--- the end, so that the commit reaches the end.
-abbrev pub is_due : Plan → ℕ → Bool → ℕ → ℕ → Bool
-is_due plan end last reported floor = nat_le (events_due plan last) reported || nat_le end floor
+-- A round ends with a commit if at least so many were reported, or if no floor answered in it is
+-- below the end, so that the commit reaches the end.
+abbrev pub is_due : Round → ℕ → ℕ → Bool
+is_due round reported floor =
+    nat_le (events_due round.plan round.last) reported || nat_le round.end floor
 
 -- a checkpoint follows each commit whose number is a multiple of `every`; 0 is for none
 abbrev pub is_kept : ℕ → ℕ → Bool
@@ -167,30 +228,40 @@ is_kept every number = nat_lt 0 every && number % every == 0
 abbrev pub kept_after : ℕ → ℕ → List Move
 kept_after every number = if is_kept every number then Checkpoint ∷ [] else []
 
--- the end of a round, the last of its run or not, with `reported` events reported since the last of
--- `commits` commits
-abbrev pub closing_of : Plan → ℕ → Bool → ℕ → ℕ → ℕ → List Move
-closing_of plan end last reported floor commits =
-    if is_due plan end last reported floor
-    then Commit ∷ kept_after plan.checkpoint_every (commits + 1) else []
+-- the end of a round, with `reported` events reported since the last of `commits` commits
+abbrev pub closing_of : Round → ℕ → ℕ → ℕ → List Move
+closing_of round reported floor commits =
+    if is_due round reported floor
+    then Commit ∷ kept_after round.plan.checkpoint_every (commits + 1) else []
 
--- A round, the last of its run or not, with `reported` events reported since the last of `commits`
--- commits before it: all nodes are asked, then a commit is made if one is due, and a checkpoint if
--- one is due after that.
-abbrev pub IsRound : Plan → ℕ → Bool → ℕ → ℕ → List Made → Type 0
-IsRound plan end last reported commits made = (asked : List Made) × (closing : List Made)
-    × AreAsked plan.together plan asked
-    × (moves_of closing
-    ≡ closing_of plan end last (reported_since reported asked) (least_posted end asked) commits)
+-- A round with `reported` events reported since the last of `commits` commits before it, and with
+-- these parcels outstanding: all nodes are asked, then a commit is made if one is due, and a
+-- checkpoint if one is due after that.
+abbrev pub IsRound : Round → ℕ → ℕ → List (Option ℕ) → List Made → Type 0
+IsRound round reported commits outstanding made = (asked : List Made) × (closing : List Made)
+    × AreAsked round.plan.schedule round outstanding asked
+    × (moves_of closing ≡ closing_of round (reported_since reported asked)
+    (least_answered round.end outstanding asked) commits)
     × (made ≡ asked ++ closing)
+
+-- the round after this many of a run whose last round has the number `last`
+abbrev pub round_after : Plan → ℕ → ℕ → ℕ → Round
+round_after plan end last rounds = record {
+  plan = plan;
+  end = end;
+  first = rounds == 0;
+  last = rounds + 1 == last;
+}
 
 -- The first so many rounds of a run whose last round has the number `last`, unless it reaches the
 -- end before. That is the number of rounds of the plan, or a lower one if the run was asked to stop.
+-- Before the first one no parcel is outstanding.
 abbrev pub AreRounds : Plan → ℕ → ℕ → ℕ → List Made → Type 0
 AreRounds plan end last zero made = made ≡ []
 AreRounds plan end last (suc rounds) made = (before : List Made) × (round : List Made)
     × AreRounds plan end last rounds before
-    × IsRound plan end (suc rounds == last) (reported_since 0 before) (commits_in before) round
+    × IsRound (round_after plan end last rounds) (reported_since 0 before) (commits_in before)
+    (outstanding_after (replicate plan.nodes None) before) round
     × (made ≡ before ++ round)
 
 -- 3. The session after the steps

@@ -1,7 +1,7 @@
 -- What a run counts, and how that follows from the steps that it made.
-use Rattle.std.specs.Prelude.{List, get_or, min, ℕ, ◌+◌, ◌-◌, ◌^◌, ◌≡◌}
-use Rattle.runs.specs.Driver.{AreCounts, Made, commits_in, handled_of, least_posted}
-use Rattle.runs.specs.Driver.{reported_since}
+use Rattle.std.specs.Prelude.{List, None, Option, get_or, length, min, replicate, ℕ, ◌+◌, ◌-◌, ◌^◌, ◌≡◌}
+use Rattle.runs.specs.Driver.{AreCounts, Made, commits_in, handled_of, least_answered}
+use Rattle.runs.specs.Driver.{outstanding_after, reported_since}
 use Rattle.runs.specs.declared.tally.Tally.{Tally}
 use Rattle.runs.specs.declared.tally.Turn.{Turn}
 use Rattle.protocol.specs.declared.Answer.{Answer}
@@ -17,33 +17,44 @@ abbrev pub AreCounted : List ℕ → List ℕ → List Made → Type 0
 AreCounted old new made = (node before : ℕ) → get_or old node 0 ≡ min before (2 ^ 64 - 1) →
     get_or new node 0 ≡ min (before + handled_of node made) (2 ^ 64 - 1)
 
+-- each list has an entry for each of this many nodes
+pub record IsSized (nodes : ℕ) (tally : Tally) : Type 0 where
+  pub budgets : length tally.budgets.items ≡ nodes
+  pub outstanding : length tally.outstanding.items ≡ nodes
+  pub turns : length tally.turns.items ≡ nodes
+  pub handled : length tally.handled_per_node.items ≡ nodes
+
 -- The count over these steps: the number of events still to be reported before a commit is due,
--- given how many were reported since the last one, the number of commits made, and the number of
--- messages that each node handled.
+-- given how many were reported since the last one, the number of commits made, the floors of the
+-- outstanding parcels, and the number of messages that each node handled.
 pub record IsTallied (every : ℕ) (old new : Tally) (made : List Made) : Type 0 where
   pub events_until_commit : (reported : ℕ) → old.events_until_commit ≡ every - reported →
       new.events_until_commit ≡ every - reported_since reported made
   pub commits : new.commits ≡ old.commits + commits_in made
+  pub outstanding : new.outstanding.items ≡ outstanding_after old.outstanding.items made
   pub handled : AreCounted old.handled_per_node.items new.handled_per_node.items made
 
--- these steps report no events, and none of them is a commit or the take of a node
+-- these steps report no events, and none of them is a commit, a post, or the take of a node
 pub record CountsNothing (made : List Made) : Type 0 where
   pub reported : (reported : ℕ) → reported_since reported made ≡ reported
   pub commits : commits_in made ≡ 0
+  pub outstanding : (outstanding : List (Option ℕ)) →
+      outstanding_after outstanding made ≡ outstanding
   pub handled : (node : ℕ) → handled_of node made ≡ 0
 
--- the count after these steps, if they are all that were made
-pub record IsTallyOf (every : ℕ) (tally : Tally) (made : List Made) : Type 0 where
+-- the count after these steps over this many nodes, if they are all that were made
+pub record IsTallyOf (every nodes : ℕ) (tally : Tally) (made : List Made) : Type 0 where
   pub events_until_commit : tally.events_until_commit ≡ every - reported_since 0 made
   pub commits : tally.commits ≡ commits_in made
+  pub outstanding : tally.outstanding.items ≡ outstanding_after (replicate nodes None) made
   pub handled : AreCounts tally.handled_per_node.items made
 
--- steps of this shape within a round, their count, and the least floor posted in it
+-- steps of this shape within a round, their count, and the least floor answered in it
 pub record Tallied (every : ℕ) (Shape : List Made → Type 0) (old new : Tally)
     (made : List Made) : Type 0 where
   pub shape : Shape made
   pub tally : IsTallied every old new made
-  pub floor : new.floor ≡ least_posted old.floor made
+  pub floor : new.floor ≡ least_answered old.floor old.outstanding.items made
 
 -- a turn with the answer to its take
 abbrev pub turn_answered : Turn → Answer → Turn

@@ -1,11 +1,12 @@
 // Rounds of steps.
 
 ghost use Rattle.std.specs.Prelude.{◌≡◌, ◌<◌, ◌≤◌, ◌+◌, ◌-◌, ◌^◌, [], ◌∷◌, ℕ, IfOk, OnOk};
-ghost use Rattle.std.specs.Prelude.{IsErrOf, length, if◌then◌else◌};
-ghost use Rattle.runs.specs.Driver.{AreAsked, AreCounts, ArePosts, AreRounds, AreTurns, IsDriven};
-ghost use Rattle.runs.specs.Driver.{IsDrivenBy, IsFinished, IsPost, IsRefusedIn, IsRound, IsTurn, is_kept};
-ghost use Rattle.runs.specs.Driver.{closing_of, kept_after, moves_of, takes_of};
-ghost use Rattle.runs.specs.Tallies.{CountsNothing, IsTallied, Tallied};
+ghost use Rattle.std.specs.Prelude.{IsErrOf, None, Option, get_or, length, if◌then◌else◌};
+ghost use Rattle.runs.specs.Driver.{AreAsked, AreCounts, AreFirst, AreNext, ArePosts, AreRounds};
+ghost use Rattle.runs.specs.Driver.{AreTurns, IsDriven, IsDrivenBy, IsFinished, IsNext, IsPost};
+ghost use Rattle.runs.specs.Driver.{IsPostIf, IsRefusedIn, IsRound, IsTurn, closing_of, goes_on, is_kept};
+ghost use Rattle.runs.specs.Driver.{kept_after, moves_of, takes_of};
+ghost use Rattle.runs.specs.Tallies.{CountsNothing, IsSized, IsTallied, Tallied};
 ghost use Rattle.protocol.specs.Moves.Move.{Commit as CommitMove, Take as TakeMove};
 ghost use Rattle.coordinator.specs.Crashes.{KeepsRepresentation};
 ghost use Rattle.coordinator.specs.declared.SessionFault.{SessionFault};
@@ -38,6 +39,21 @@ pub enum Batch {
     },
 }
 
+/// The order in which the nodes are posted to and their replies taken.
+#[derive(Clone, Copy, Debug, PartialEq, Eq)]
+pub enum Schedule {
+    /// One turn after another: a node is posted to and its reply taken, then the next node has its
+    /// turn.
+    InTurn,
+    /// All nodes are posted to before the first reply is taken, so that nodes that are programs of
+    /// their own work at the same time.
+    Together,
+    /// The reply of a node is taken and its next parcel posted before the next reply is taken, so
+    /// that each of the other nodes works meanwhile, and during a commit all of them do. The first
+    /// round begins with a post to each node; the last one posts nothing.
+    Overlapped,
+}
+
 /// How a session is driven.
 #[derive(Clone, Copy, Debug, PartialEq, Eq)]
 pub struct Plan {
@@ -47,16 +63,28 @@ pub struct Plan {
     pub batch: Batch,
     /// The most rounds that are made.
     pub rounds: u32,
-    /// Whether all nodes are posted to before the first reply is taken, so that nodes that are
-    /// programs of their own work at the same time.
-    pub together: bool,
+    /// The order in which the nodes are posted to and their replies taken.
+    pub schedule: Schedule,
     /// The number of commits after which a checkpoint follows; 0 for no checkpoints.
     pub checkpoint_every: u32,
     /// The number of events that have to be reported since the last commit before a round ends with
     /// the next one; 0 for a commit in each round. A round that reaches the end commits in any
-    /// case, and the last round of a run commits if any event was reported. A record holds at most 299,592 events, including those of the round that ends with the
-    /// commit.
+    /// case, and the last round of a run commits if any event was reported. A record holds at most
+    /// 299,592 events, including those of the round that ends with the commit.
     pub commit_every: u32,
+}
+
+/// A round of a run.
+#[derive(Clone, Copy)]
+pub(crate) struct Round {
+    /// How the session is driven.
+    plan: Plan,
+    /// The tick at which the run ends.
+    end: u64,
+    /// Whether it is the first one of its run.
+    first: bool,
+    /// Whether it is the last one of its run.
+    last: bool,
 }
 
 /// Why a run stopped before its end.
@@ -111,12 +139,15 @@ pub trait Watch {
 ///
 /// A round gives each node its turn, from node 0 up: everything in transit for it is posted, it
 /// handles at most its budget of messages, and its reply is taken. If the nodes work together, all
-/// are posted to before the first reply is taken. Then a commit follows if it is due: enough events
-/// were reported since the last one, any were in the last round, or the commit reaches the end. A
-/// checkpoint follows the commit if the plan has one after that many. The first refusal ends the
-/// run: a step (`Session`), no rounds left (`Rounds`), or a failed allocation (`NoMemory`). If
-/// `watch` asks for a stop, the run ends after the next round (`Stopped`), unless that reaches the
-/// end or is the plan's last one. What was committed stays committed. A turn costs one pass over transit and its two steps.
+/// are posted to before the first reply is taken. If they overlap, a node is posted to again as
+/// soon as its reply is taken, unless it has answered the end or the round is the last one; so its
+/// turn goes from one round to the next, and none is unfinished after the last round. Then a commit
+/// follows if it is due: enough events were reported since the last one, any were in the last
+/// round, or the commit reaches the end. A checkpoint follows the commit if the plan has one after
+/// that many. The first refusal ends the run: a step (`Session`), no rounds left (`Rounds`), or a
+/// failed allocation (`NoMemory`). If `watch` asks for a stop, the run ends after the next round
+/// (`Stopped`), unless that reaches the end or is the plan's last one. What was committed stays
+/// committed. A turn costs one pass over transit and its two steps.
 pub fn run_session<M: Simulated, P: Port, D: SectorDisk, W: Watch>(
     alloc: Global,
     session: &mut Session<'_, M, P, D>,
@@ -173,8 +204,14 @@ pub fn run_session<M: Simulated, P: Port, D: SectorDisk, W: Watch>(
             });
         }
         last = last_round(made, last, watch);
+        let next = Round {
+            plan,
+            end,
+            first: made == 0,
+            last: made + 1 == last,
+        };
         made += 1;
-        round(alloc, session, end, made == last, plan, &mut tally, watch)?;
+        make_round(alloc, session, next, &mut tally, watch)?;
     }
     Ok(tally.into_handled_per_node())
 }
@@ -199,69 +236,72 @@ fn last_round<W: Watch>(made: u32, last: u32, watch: &mut W) -> u32
     if watch.is_stopped() { made + 1 } else { last }
 }
 
-/// Makes a round, the last of its run or not: asks all nodes, and ends with a commit if one is due.
-fn round<M: Simulated, P: Port, D: SectorDisk, W: Watch>(
+impl Round {
+    /// Returns whether a node that answered a parcel with this floor, in ticks, has another turn.
+    fn goes_on(self, floor: u64) -> bool
+        ensures { result ≡ goes_on self floor }
+    {
+        floor < self.end && !self.last
+    }
+}
+
+/// Makes a round: asks all nodes, and ends with a commit if one is due.
+fn make_round<M: Simulated, P: Port, D: SectorDisk, W: Watch>(
     alloc: Global,
     session: &mut Session<'_, M, P, D>,
-    end: u64,
-    last: bool,
-    plan: Plan,
+    round: Round,
     tally: &mut Tally,
     watch: &mut W,
 ) -> Result<(), RunFault>
-    requires counts { length tally.old.handled_per_node.items ≡ plan.nodes }
-    requires budgets { length tally.old.budgets.items ≡ plan.nodes }
+    requires sized { IsSized round.plan.nodes tally.old }
     requires commits { tally.old.commits < 2 ^ 32 - 1 }
-    ensures driven { (reported : ℕ) → tally.old.events_until_commit ≡ plan.commit_every - reported →
+    ensures driven { (reported : ℕ) → tally.old.events_until_commit ≡ round.plan.commit_every - reported →
         OnOk result (IsDrivenBy M.meaning P.state D.state
-        (λ made. IsRound plan end last reported tally.old.commits made
-        × IsTallied plan.commit_every tally.old tally.new made) session.old session.new) }
+        (λ made. IsRound round reported tally.old.commits tally.old.outstanding.items made
+        × IsTallied round.plan.commit_every tally.old tally.new made) session.old session.new) }
     ensures commits { OnOk result (tally.new.commits ≤ tally.old.commits + 1) }
-    ensures budgets { length tally.new.budgets.items ≡ length tally.old.budgets.items }
-    ensures counts { length tally.new.handled_per_node.items
-        ≡ length tally.old.handled_per_node.items }
+    ensures sized { IsSized round.plan.nodes tally.new }
     ensures keeps { KeepsRepresentation M.meaning P.state D.state session.old session.new }
-    ensures refused { (reported : ℕ) → tally.old.events_until_commit ≡ plan.commit_every - reported →
+    ensures refused { (reported : ℕ) → tally.old.events_until_commit ≡ round.plan.commit_every - reported →
         (fault : SessionFault) → IsErrOf result (RunFault.Session fault) →
-        IsRefusedIn M.meaning P.state D.state (λ made. IsRound plan end last reported tally.old.commits made)
+        IsRefusedIn M.meaning P.state D.state
+        (λ made. IsRound round reported tally.old.commits tally.old.outstanding.items made)
         session.old session.new fault }
     ensures rounds { IsErrOf result RunFault.Rounds → ⊥ }
     ensures stopped { (time events : ℕ) → IsErrOf result (RunFault.Stopped time events) → ⊥ }
 {
-    tally.begin_round(end);
-    ask(alloc, session, plan, tally, watch)?;
-    close(session, end, last, plan, tally, watch)
+    tally.begin_round(round.end);
+    ask(alloc, session, round, tally, watch)?;
+    close(session, round, tally, watch)
 }
 
 /// Ends a round: if a commit is due, commits, makes a checkpoint if it is due, and reports the
 /// sectors in use.
 fn close<M: Simulated, P: Port, D: SectorDisk, W: Watch>(
     session: &mut Session<'_, M, P, D>,
-    end: u64,
-    last: bool,
-    plan: Plan,
+    round: Round,
     tally: &mut Tally,
     watch: &mut W,
 ) -> Result<(), RunFault>
-    requires { tally.old.commits < 2 ^ 32 - 1 }
-    ensures driven { (reported : ℕ) → tally.old.events_until_commit ≡ plan.commit_every - reported →
+    requires sized { IsSized round.plan.nodes tally.old }
+    requires commits { tally.old.commits < 2 ^ 32 - 1 }
+    ensures driven { (reported : ℕ) → tally.old.events_until_commit ≡ round.plan.commit_every - reported →
         OnOk result (IsDrivenBy M.meaning P.state D.state
-        (λ made. (moves_of made ≡ closing_of plan end last reported tally.old.floor tally.old.commits)
-        × IsTallied plan.commit_every tally.old tally.new made) session.old session.new) }
+        (λ made. (moves_of made ≡ closing_of round reported tally.old.floor tally.old.commits)
+        × IsTallied round.plan.commit_every tally.old tally.new made) session.old session.new) }
     ensures commits { OnOk result (tally.new.commits ≤ tally.old.commits + 1) }
-    ensures budgets { tally.new.budgets ≡ tally.old.budgets }
-    ensures counts { tally.new.handled_per_node.items ≡ tally.old.handled_per_node.items }
+    ensures sized { IsSized round.plan.nodes tally.new }
     ensures keeps { KeepsRepresentation M.meaning P.state D.state session.old session.new }
-    ensures refused { (reported : ℕ) → tally.old.events_until_commit ≡ plan.commit_every - reported →
+    ensures refused { (reported : ℕ) → tally.old.events_until_commit ≡ round.plan.commit_every - reported →
         (fault : SessionFault) → IsErrOf result (RunFault.Session fault) →
-        IsRefusedIn M.meaning P.state D.state (λ made. moves_of made ≡ closing_of plan end last reported tally.old.floor tally.old.commits)
+        IsRefusedIn M.meaning P.state D.state (λ made. moves_of made ≡ closing_of round reported tally.old.floor tally.old.commits)
         session.old session.new fault }
     ensures rounds { IsErrOf result RunFault.Rounds → ⊥ }
     ensures stopped { (time events : ℕ) → IsErrOf result (RunFault.Stopped time events) → ⊥ }
 {
-    let missing = missing_events(plan.commit_every, last);
-    if tally.is_due(end, missing) {
-        commit(session, plan, tally, watch)?;
+    let missing = missing_events(round.plan.commit_every, round.last);
+    if tally.is_due(round.end, missing) {
+        commit(session, round.plan, tally, watch)?;
         watch.stored(session.used(), session.sectors());
     }
     Ok(())
@@ -286,14 +326,14 @@ fn commit<M: Simulated, P: Port, D: SectorDisk, W: Watch>(
     tally: &mut Tally,
     watch: &mut W,
 ) -> Result<(), RunFault>
-    requires { tally.old.commits < 2 ^ 32 - 1 }
+    requires sized { IsSized plan.nodes tally.old }
+    requires commits { tally.old.commits < 2 ^ 32 - 1 }
     ensures driven { OnOk result (IsDrivenBy M.meaning P.state D.state
         (λ made. (moves_of made
         ≡ CommitMove ∷ kept_after plan.checkpoint_every (tally.old.commits + 1))
         × IsTallied plan.commit_every tally.old tally.new made) session.old session.new) }
     ensures commits { OnOk result (tally.new.commits ≤ tally.old.commits + 1) }
-    ensures budgets { tally.new.budgets ≡ tally.old.budgets }
-    ensures counts { tally.new.handled_per_node.items ≡ tally.old.handled_per_node.items }
+    ensures sized { IsSized plan.nodes tally.new }
     ensures keeps { KeepsRepresentation M.meaning P.state D.state session.old session.new }
     ensures refused { (fault : SessionFault) → IsErrOf result (RunFault.Session fault) →
         IsRefusedIn M.meaning P.state D.state (λ made. moves_of made
@@ -338,65 +378,220 @@ fn is_kept(every: u32, number: u32) -> bool
     every > 0 && number % every == 0
 }
 
-/// Asks all nodes, one after another or together.
+/// Asks all nodes, by the schedule of the plan.
 fn ask<M: Simulated, P: Port, D: SectorDisk, W: Watch>(
     alloc: Global,
     session: &mut Session<'_, M, P, D>,
-    plan: Plan,
+    round: Round,
     tally: &mut Tally,
     watch: &mut W,
 ) -> Result<(), RunFault>
-    requires counts { length tally.old.handled_per_node.items ≡ plan.nodes }
-    requires budgets { length tally.old.budgets.items ≡ plan.nodes }
+    requires sized { IsSized round.plan.nodes tally.old }
     ensures driven { OnOk result (IsDrivenBy M.meaning P.state D.state
-        (Tallied plan.commit_every (AreAsked plan.together plan) tally.old
-        tally.new)
+        (Tallied round.plan.commit_every (AreAsked round.plan.schedule round tally.old.outstanding.items) tally.old tally.new)
         session.old session.new) }
     ensures commits { tally.new.commits ≡ tally.old.commits }
-    ensures budgets { length tally.new.budgets.items ≡ length tally.old.budgets.items }
-    ensures counts { length tally.new.handled_per_node.items
-        ≡ length tally.old.handled_per_node.items }
+    ensures sized { IsSized round.plan.nodes tally.new }
     ensures keeps { KeepsRepresentation M.meaning P.state D.state session.old session.new }
     ensures refused { (fault : SessionFault) → IsErrOf result (RunFault.Session fault) →
-        IsRefusedIn M.meaning P.state D.state (AreAsked plan.together plan)
+        IsRefusedIn M.meaning P.state D.state (AreAsked round.plan.schedule round tally.old.outstanding.items)
         session.old session.new fault }
     ensures rounds { IsErrOf result RunFault.Rounds → ⊥ }
     ensures stopped { (time events : ℕ) → IsErrOf result (RunFault.Stopped time events) → ⊥ }
 {
-    if plan.together {
-        post_all(alloc, session, plan, tally)?;
-        take_all(session, plan, tally, watch)
-    } else {
-        turns(alloc, session, plan, tally, watch)
+    match round.plan.schedule {
+        Schedule::InTurn => turns(alloc, session, round, tally, watch),
+        Schedule::Together => together(alloc, session, round, tally, watch),
+        Schedule::Overlapped => overlapped(alloc, session, round, tally, watch),
     }
 }
 
-/// Gives each node its turn.
+/// Gives each node its turn, one after another.
 fn turns<M: Simulated, P: Port, D: SectorDisk, W: Watch>(
     alloc: Global,
     session: &mut Session<'_, M, P, D>,
-    plan: Plan,
+    round: Round,
     tally: &mut Tally,
     watch: &mut W,
 ) -> Result<(), RunFault>
-    requires counts { length tally.old.handled_per_node.items ≡ plan.nodes }
-    requires budgets { length tally.old.budgets.items ≡ plan.nodes }
+    requires sized { IsSized round.plan.nodes tally.old }
     ensures driven { OnOk result (IsDrivenBy M.meaning P.state D.state
-        (Tallied plan.commit_every (AreTurns plan plan.nodes) tally.old tally.new)
+        (Tallied round.plan.commit_every (AreTurns round.plan round.plan.nodes) tally.old tally.new)
         session.old session.new) }
     ensures commits { tally.new.commits ≡ tally.old.commits }
-    ensures budgets { length tally.new.budgets.items ≡ length tally.old.budgets.items }
-    ensures counts { length tally.new.handled_per_node.items
-        ≡ length tally.old.handled_per_node.items }
+    ensures sized { IsSized round.plan.nodes tally.new }
     ensures keeps { KeepsRepresentation M.meaning P.state D.state session.old session.new }
     ensures refused { (fault : SessionFault) → IsErrOf result (RunFault.Session fault) →
-        IsRefusedIn M.meaning P.state D.state (AreTurns plan plan.nodes)
+        IsRefusedIn M.meaning P.state D.state (AreTurns round.plan round.plan.nodes)
         session.old session.new fault }
     ensures rounds { IsErrOf result RunFault.Rounds → ⊥ }
     ensures stopped { (time events : ℕ) → IsErrOf result (RunFault.Stopped time events) → ⊥ }
 {
-    'nodes: for node in 0..plan.nodes {
-        turn(alloc, session, node, plan, tally, watch)?;
+    'nodes: for node in 0..round.plan.nodes {
+        turn(alloc, session, node, round, tally, watch)?;
+    }
+    Ok(())
+}
+
+/// Posts to all nodes, and then takes all replies.
+fn together<M: Simulated, P: Port, D: SectorDisk, W: Watch>(
+    alloc: Global,
+    session: &mut Session<'_, M, P, D>,
+    round: Round,
+    tally: &mut Tally,
+    watch: &mut W,
+) -> Result<(), RunFault>
+    requires sized { IsSized round.plan.nodes tally.old }
+    ensures driven { OnOk result (IsDrivenBy M.meaning P.state D.state
+        (Tallied round.plan.commit_every (AreAsked Schedule.Together round tally.old.outstanding.items) tally.old tally.new)
+        session.old session.new) }
+    ensures commits { tally.new.commits ≡ tally.old.commits }
+    ensures sized { IsSized round.plan.nodes tally.new }
+    ensures keeps { KeepsRepresentation M.meaning P.state D.state session.old session.new }
+    ensures refused { (fault : SessionFault) → IsErrOf result (RunFault.Session fault) →
+        IsRefusedIn M.meaning P.state D.state (AreAsked Schedule.Together round tally.old.outstanding.items)
+        session.old session.new fault }
+    ensures rounds { IsErrOf result RunFault.Rounds → ⊥ }
+    ensures stopped { (time events : ℕ) → IsErrOf result (RunFault.Stopped time events) → ⊥ }
+{
+    post_all(alloc, session, round, tally)?;
+    take_all(session, round, tally, watch)
+}
+
+/// Takes each reply and posts to its node again; posts to all nodes before, in the first round.
+fn overlapped<M: Simulated, P: Port, D: SectorDisk, W: Watch>(
+    alloc: Global,
+    session: &mut Session<'_, M, P, D>,
+    round: Round,
+    tally: &mut Tally,
+    watch: &mut W,
+) -> Result<(), RunFault>
+    requires sized { IsSized round.plan.nodes tally.old }
+    ensures driven { OnOk result (IsDrivenBy M.meaning P.state D.state
+        (Tallied round.plan.commit_every (AreAsked Schedule.Overlapped round tally.old.outstanding.items) tally.old tally.new)
+        session.old session.new) }
+    ensures commits { tally.new.commits ≡ tally.old.commits }
+    ensures sized { IsSized round.plan.nodes tally.new }
+    ensures keeps { KeepsRepresentation M.meaning P.state D.state session.old session.new }
+    ensures refused { (fault : SessionFault) → IsErrOf result (RunFault.Session fault) →
+        IsRefusedIn M.meaning P.state D.state (AreAsked Schedule.Overlapped round tally.old.outstanding.items)
+        session.old session.new fault }
+    ensures rounds { IsErrOf result RunFault.Rounds → ⊥ }
+    ensures stopped { (time events : ℕ) → IsErrOf result (RunFault.Stopped time events) → ⊥ }
+{
+    post_first(alloc, session, round, tally)?;
+    next_turns(alloc, session, round, tally, watch)
+}
+
+/// Posts to each node everything in transit for it, in the first round of a run.
+fn post_first<M: Simulated, P: Port, D: SectorDisk>(
+    alloc: Global,
+    session: &mut Session<'_, M, P, D>,
+    round: Round,
+    tally: &mut Tally,
+) -> Result<(), RunFault>
+    requires sized { IsSized round.plan.nodes tally.old }
+    ensures driven { OnOk result (IsDrivenBy M.meaning P.state D.state
+        (Tallied round.plan.commit_every (AreFirst round.first round.plan) tally.old tally.new)
+        session.old session.new) }
+    ensures commits { tally.new.commits ≡ tally.old.commits }
+    ensures sized { IsSized round.plan.nodes tally.new }
+    ensures keeps { KeepsRepresentation M.meaning P.state D.state session.old session.new }
+    ensures refused { (fault : SessionFault) → IsErrOf result (RunFault.Session fault) →
+        IsRefusedIn M.meaning P.state D.state (AreFirst round.first round.plan)
+        session.old session.new fault }
+    ensures rounds { IsErrOf result RunFault.Rounds → ⊥ }
+    ensures stopped { (time events : ℕ) → IsErrOf result (RunFault.Stopped time events) → ⊥ }
+{
+    if round.first {
+        post_all(alloc, session, round, tally)?;
+    }
+    Ok(())
+}
+
+/// Takes each reply and posts to its node again.
+fn next_turns<M: Simulated, P: Port, D: SectorDisk, W: Watch>(
+    alloc: Global,
+    session: &mut Session<'_, M, P, D>,
+    round: Round,
+    tally: &mut Tally,
+    watch: &mut W,
+) -> Result<(), RunFault>
+    requires sized { IsSized round.plan.nodes tally.old }
+    ensures driven { OnOk result (IsDrivenBy M.meaning P.state D.state
+        (Tallied round.plan.commit_every (AreNext round tally.old.outstanding.items round.plan.nodes) tally.old tally.new)
+        session.old session.new) }
+    ensures commits { tally.new.commits ≡ tally.old.commits }
+    ensures sized { IsSized round.plan.nodes tally.new }
+    ensures keeps { KeepsRepresentation M.meaning P.state D.state session.old session.new }
+    ensures refused { (fault : SessionFault) → IsErrOf result (RunFault.Session fault) →
+        IsRefusedIn M.meaning P.state D.state (AreNext round tally.old.outstanding.items round.plan.nodes)
+        session.old session.new fault }
+    ensures rounds { IsErrOf result RunFault.Rounds → ⊥ }
+    ensures stopped { (time events : ℕ) → IsErrOf result (RunFault.Stopped time events) → ⊥ }
+{
+    'nodes: for node in 0..round.plan.nodes {
+        next_turn(alloc, session, node, round, tally, watch)?;
+    }
+    Ok(())
+}
+
+/// Takes the reply to the outstanding parcel of a node, if it has one, and posts to it again if it
+/// goes on.
+fn next_turn<M: Simulated, P: Port, D: SectorDisk, W: Watch>(
+    alloc: Global,
+    session: &mut Session<'_, M, P, D>,
+    node: u32,
+    round: Round,
+    tally: &mut Tally,
+    watch: &mut W,
+) -> Result<(), RunFault>
+    requires node { node < round.plan.nodes }
+    requires sized { IsSized round.plan.nodes tally.old }
+    ensures driven { OnOk result (IsDrivenBy M.meaning P.state D.state
+        (Tallied round.plan.commit_every (IsNext round node (get_or tally.old.outstanding.items node Option.None)) tally.old tally.new)
+        session.old session.new) }
+    ensures commits { tally.new.commits ≡ tally.old.commits }
+    ensures sized { IsSized round.plan.nodes tally.new }
+    ensures keeps { KeepsRepresentation M.meaning P.state D.state session.old session.new }
+    ensures refused { (fault : SessionFault) → IsErrOf result (RunFault.Session fault) →
+        IsRefusedIn M.meaning P.state D.state (IsNext round node (get_or tally.old.outstanding.items node Option.None))
+        session.old session.new fault }
+    ensures rounds { IsErrOf result RunFault.Rounds → ⊥ }
+    ensures stopped { (time events : ℕ) → IsErrOf result (RunFault.Stopped time events) → ⊥ }
+{
+    let Some(floor) = tally.outstanding(node) else {
+        return Ok(());
+    };
+    take(session, node, round, tally, watch)?;
+    post_again(alloc, session, node, floor, round, tally)
+}
+
+/// Posts to a node that answered a parcel with this floor, in ticks, if it goes on.
+fn post_again<M: Simulated, P: Port, D: SectorDisk>(
+    alloc: Global,
+    session: &mut Session<'_, M, P, D>,
+    node: u32,
+    floor: u64,
+    round: Round,
+    tally: &mut Tally,
+) -> Result<(), RunFault>
+    requires node { node < round.plan.nodes }
+    requires sized { IsSized round.plan.nodes tally.old }
+    ensures driven { OnOk result (IsDrivenBy M.meaning P.state D.state
+        (Tallied round.plan.commit_every (IsPostIf (goes_on round floor) round.plan node) tally.old tally.new)
+        session.old session.new) }
+    ensures commits { tally.new.commits ≡ tally.old.commits }
+    ensures sized { IsSized round.plan.nodes tally.new }
+    ensures keeps { KeepsRepresentation M.meaning P.state D.state session.old session.new }
+    ensures refused { (fault : SessionFault) → IsErrOf result (RunFault.Session fault) →
+        IsRefusedIn M.meaning P.state D.state (IsPostIf (goes_on round floor) round.plan node)
+        session.old session.new fault }
+    ensures rounds { IsErrOf result RunFault.Rounds → ⊥ }
+    ensures stopped { (time events : ℕ) → IsErrOf result (RunFault.Stopped time events) → ⊥ }
+{
+    if round.goes_on(floor) {
+        post(alloc, session, node, round, tally)?;
     }
     Ok(())
 }
@@ -405,53 +600,50 @@ fn turns<M: Simulated, P: Port, D: SectorDisk, W: Watch>(
 fn post_all<M: Simulated, P: Port, D: SectorDisk>(
     alloc: Global,
     session: &mut Session<'_, M, P, D>,
-    plan: Plan,
+    round: Round,
     tally: &mut Tally,
 ) -> Result<(), RunFault>
-    requires { length tally.old.budgets.items ≡ plan.nodes }
+    requires sized { IsSized round.plan.nodes tally.old }
     ensures driven { OnOk result (IsDrivenBy M.meaning P.state D.state
-        (Tallied plan.commit_every (ArePosts plan plan.nodes) tally.old tally.new)
+        (Tallied round.plan.commit_every (ArePosts round.plan round.plan.nodes) tally.old tally.new)
         session.old session.new) }
     ensures commits { tally.new.commits ≡ tally.old.commits }
-    ensures budgets { tally.new.budgets ≡ tally.old.budgets }
-    ensures counts { tally.new.handled_per_node.items ≡ tally.old.handled_per_node.items }
+    ensures sized { IsSized round.plan.nodes tally.new }
     ensures keeps { KeepsRepresentation M.meaning P.state D.state session.old session.new }
     ensures refused { (fault : SessionFault) → IsErrOf result (RunFault.Session fault) →
-        IsRefusedIn M.meaning P.state D.state (ArePosts plan plan.nodes)
+        IsRefusedIn M.meaning P.state D.state (ArePosts round.plan round.plan.nodes)
         session.old session.new fault }
     ensures rounds { IsErrOf result RunFault.Rounds → ⊥ }
     ensures stopped { (time events : ℕ) → IsErrOf result (RunFault.Stopped time events) → ⊥ }
 {
-    'nodes: for node in 0..plan.nodes {
-        post(alloc, session, node, plan, tally)?;
+    'nodes: for node in 0..round.plan.nodes {
+        post(alloc, session, node, round, tally)?;
     }
     Ok(())
 }
 
+/// Takes the reply of each node.
 fn take_all<M: Simulated, P: Port, D: SectorDisk, W: Watch>(
     session: &mut Session<'_, M, P, D>,
-    plan: Plan,
+    round: Round,
     tally: &mut Tally,
     watch: &mut W,
 ) -> Result<(), RunFault>
-    requires counts { length tally.old.handled_per_node.items ≡ plan.nodes }
-    requires budgets { length tally.old.budgets.items ≡ plan.nodes }
+    requires sized { IsSized round.plan.nodes tally.old }
     ensures driven { OnOk result (IsDrivenBy M.meaning P.state D.state
-        (Tallied plan.commit_every (λ taken. moves_of taken ≡ takes_of plan.nodes) tally.old tally.new)
+        (Tallied round.plan.commit_every (λ taken. moves_of taken ≡ takes_of round.plan.nodes) tally.old tally.new)
         session.old session.new) }
     ensures commits { tally.new.commits ≡ tally.old.commits }
-    ensures budgets { length tally.new.budgets.items ≡ length tally.old.budgets.items }
-    ensures counts { length tally.new.handled_per_node.items
-        ≡ length tally.old.handled_per_node.items }
+    ensures sized { IsSized round.plan.nodes tally.new }
     ensures keeps { KeepsRepresentation M.meaning P.state D.state session.old session.new }
     ensures refused { (fault : SessionFault) → IsErrOf result (RunFault.Session fault) →
-        IsRefusedIn M.meaning P.state D.state (λ taken. moves_of taken ≡ takes_of plan.nodes)
+        IsRefusedIn M.meaning P.state D.state (λ taken. moves_of taken ≡ takes_of round.plan.nodes)
         session.old session.new fault }
     ensures rounds { IsErrOf result RunFault.Rounds → ⊥ }
     ensures stopped { (time events : ℕ) → IsErrOf result (RunFault.Stopped time events) → ⊥ }
 {
-    'nodes: for node in 0..plan.nodes {
-        take(session, node, tally, watch)?;
+    'nodes: for node in 0..round.plan.nodes {
+        take(session, node, round, tally, watch)?;
     }
     Ok(())
 }
@@ -461,29 +653,26 @@ fn turn<M: Simulated, P: Port, D: SectorDisk, W: Watch>(
     alloc: Global,
     session: &mut Session<'_, M, P, D>,
     node: u32,
-    plan: Plan,
+    round: Round,
     tally: &mut Tally,
     watch: &mut W,
 ) -> Result<(), RunFault>
-    requires node { node < plan.nodes }
-    requires counts { node < length tally.old.handled_per_node.items }
-    requires budgets { node < length tally.old.budgets.items }
+    requires node { node < round.plan.nodes }
+    requires sized { IsSized round.plan.nodes tally.old }
     ensures driven { OnOk result (IsDrivenBy M.meaning P.state D.state
-        (Tallied plan.commit_every (IsTurn plan node) tally.old tally.new) session.old
-        session.new) }
+        (Tallied round.plan.commit_every (IsTurn round.plan node) tally.old tally.new)
+        session.old session.new) }
     ensures commits { tally.new.commits ≡ tally.old.commits }
-    ensures budgets { length tally.new.budgets.items ≡ length tally.old.budgets.items }
-    ensures counts { length tally.new.handled_per_node.items
-        ≡ length tally.old.handled_per_node.items }
+    ensures sized { IsSized round.plan.nodes tally.new }
     ensures keeps { KeepsRepresentation M.meaning P.state D.state session.old session.new }
     ensures refused { (fault : SessionFault) → IsErrOf result (RunFault.Session fault) →
-        IsRefusedIn M.meaning P.state D.state (IsTurn plan node)
+        IsRefusedIn M.meaning P.state D.state (IsTurn round.plan node)
         session.old session.new fault }
     ensures rounds { IsErrOf result RunFault.Rounds → ⊥ }
     ensures stopped { (time events : ℕ) → IsErrOf result (RunFault.Stopped time events) → ⊥ }
 {
-    post(alloc, session, node, plan, tally)?;
-    take(session, node, tally, watch)
+    post(alloc, session, node, round, tally)?;
+    take(session, node, round, tally, watch)
 }
 
 /// Posts to a node everything in transit for it.
@@ -491,27 +680,26 @@ fn post<M: Simulated, P: Port, D: SectorDisk>(
     alloc: Global,
     session: &mut Session<'_, M, P, D>,
     node: u32,
-    plan: Plan,
+    round: Round,
     tally: &mut Tally,
 ) -> Result<(), RunFault>
-    requires node { node < plan.nodes }
-    requires budgets { node < length tally.old.budgets.items }
+    requires node { node < round.plan.nodes }
+    requires sized { IsSized round.plan.nodes tally.old }
     ensures driven { OnOk result (IsDrivenBy M.meaning P.state D.state
-        (Tallied plan.commit_every (IsPost plan node) tally.old tally.new) session.old
-        session.new) }
+        (Tallied round.plan.commit_every (IsPost round.plan node) tally.old tally.new)
+        session.old session.new) }
     ensures commits { tally.new.commits ≡ tally.old.commits }
-    ensures budgets { tally.new.budgets ≡ tally.old.budgets }
-    ensures counts { tally.new.handled_per_node.items ≡ tally.old.handled_per_node.items }
+    ensures sized { IsSized round.plan.nodes tally.new }
     ensures keeps { KeepsRepresentation M.meaning P.state D.state session.old session.new }
     ensures refused { (fault : SessionFault) → IsErrOf result (RunFault.Session fault) →
-        IsRefusedIn M.meaning P.state D.state (IsPost plan node)
+        IsRefusedIn M.meaning P.state D.state (IsPost round.plan node)
         session.old session.new fault }
     ensures rounds { IsErrOf result RunFault.Rounds → ⊥ }
     ensures stopped { (time events : ℕ) → IsErrOf result (RunFault.Stopped time events) → ⊥ }
 {
-    let picks = places(alloc, session.transit(), node, plan.nodes)?;
+    let picks = places(alloc, session.transit(), node, round.plan.nodes)?;
     let undone = antimessages(session.transit(), picks.as_slice());
-    let budget = tally.budget(plan.batch, node);
+    let budget = tally.budget(round.plan.batch, node);
     tally.asked(node, budget, picks.len(), undone);
     let post = Step::Post {
         node,
@@ -527,18 +715,17 @@ fn post<M: Simulated, P: Port, D: SectorDisk>(
 fn take<M: Simulated, P: Port, D: SectorDisk, W: Watch>(
     session: &mut Session<'_, M, P, D>,
     node: u32,
+    round: Round,
     tally: &mut Tally,
     watch: &mut W,
 ) -> Result<(), RunFault>
-    requires counts { node < length tally.old.handled_per_node.items }
-    requires budgets { node < length tally.old.budgets.items }
-    ensures driven { (every : ℕ) → OnOk result (IsDrivenBy M.meaning P.state D.state
-        (Tallied every (λ taken. moves_of taken ≡ TakeMove node ∷ []) tally.old tally.new)
+    requires node { node < round.plan.nodes }
+    requires sized { IsSized round.plan.nodes tally.old }
+    ensures driven { OnOk result (IsDrivenBy M.meaning P.state D.state
+        (Tallied round.plan.commit_every (λ taken. moves_of taken ≡ TakeMove node ∷ []) tally.old tally.new)
         session.old session.new) }
     ensures commits { tally.new.commits ≡ tally.old.commits }
-    ensures budgets { length tally.new.budgets.items ≡ length tally.old.budgets.items }
-    ensures counts { length tally.new.handled_per_node.items
-        ≡ length tally.old.handled_per_node.items }
+    ensures sized { IsSized round.plan.nodes tally.new }
     ensures keeps { KeepsRepresentation M.meaning P.state D.state session.old session.new }
     ensures refused { (fault : SessionFault) → IsErrOf result (RunFault.Session fault) →
         IsRefusedIn M.meaning P.state D.state (λ taken. moves_of taken ≡ TakeMove node ∷ [])

@@ -11,6 +11,7 @@ use std::time::{Clock, Duration};
 
 /// `listen SOCKET HEX..` waits for a node program, sends it these bytes and prints its answer.
 /// `leave SOCKET` connects to a run, waits until its socket refuses connections, and disconnects.
+/// `stay SOCKET` connects to a run and answers nothing, until the run disconnects.
 pub fn speak<R>(rt: &R, words: &[String]) -> io::Result<u8>
 where
     R: Files<File = File> + Net + Clock + Print + AllocGlobal,
@@ -18,6 +19,10 @@ where
     match words {
         [verb, path, frames @ ..] if verb.as_str() == "listen" => {
             listen(rt, path.as_str(), frames)?;
+            Ok(0)
+        }
+        [verb, path] if verb.as_str() == "stay" => {
+            stay(rt, path.as_str())?;
             Ok(0)
         }
         [verb, path] if verb.as_str() == "leave" => {
@@ -111,6 +116,20 @@ fn leave<R: Net + Clock>(rt: &R, path: &str) -> io::Result<()> {
             return Ok(());
         }
         thread::sleep(rt, Duration::from_millis(1));
+    }
+    Err(Error::from(ErrorKind::TimedOut))
+}
+
+/// Connects, and answers nothing to what it reads until the other end closes.
+fn stay<R: Net>(rt: &R, path: &str) -> io::Result<()> {
+    let stream = UnixStream::connect(rt, path)?;
+    let mut reader = &stream;
+    let mut bytes = [0; 512];
+    for _ in 0..10_000 {
+        match reader.read(&mut bytes) {
+            Ok(0) | Err(_) => return Ok(()),
+            Ok(_) => {}
+        }
     }
     Err(Error::from(ErrorKind::TimedOut))
 }

@@ -71,6 +71,9 @@ enum Reason {
     OldSocket { node: u32 },
     #[error("no socket is made in this folder, or no node program starts or connects")]
     NotMet,
+    #[error("no socket is made in this folder, or no node program starts or connects: with --bind each \
+         is started by taskset, of util-linux")]
+    NotBound,
     #[error("there is no such socket")]
     NoSocket,
     #[error("no run waits behind this socket")]
@@ -125,7 +128,7 @@ where
         Command::Status(args) => first_of_reader(rt, args),
         Command::Verify(args) => first_of_reader(rt, args),
         Command::Log(args) => first_of_reader(rt, args.on),
-        Command::Show(args) => first_of_reader(rt, args),
+        Command::Show(args) => first_of_reader(rt, args.on),
         Command::Stats(args) => first_of_source(rt, args.of),
         Command::Draw(args) => first_of_drawing(rt, args),
         Command::Seq(args) => first(rt, &[Step::ReadsModel(args.model)]),
@@ -259,8 +262,17 @@ where
             if args.attach || args.trace.is_some() {
                 return None;
             }
-            caused(folder, Some(Reason::NotMet))
+            caused(folder, Some(reason_of_start(args.bind)))
         }
+    }
+}
+
+/// Why node programs were not met, if nothing is wrong with the folder of their sockets.
+fn reason_of_start(is_bound: bool) -> Reason {
+    if is_bound {
+        Reason::NotBound
+    } else {
+        Reason::NotMet
     }
 }
 

@@ -43,6 +43,10 @@ pub trait Progress {
     /// A run has ended because this file is there; its output comes next.
     fn stopped(&mut self, _file: &str) {}
 
+    /// A run goes on after a fault: this line says after which, and how. It is for whoever reads
+    /// what the run printed, also where there is no terminal.
+    fn goes_on(&mut self, _line: &str) {}
+
     /// Whether a user sees what is shown.
     fn is_seen(&self) -> bool;
 
@@ -53,8 +57,8 @@ pub trait Progress {
 
 /// Shows on one line of a terminal which nodes a run waits for, and its progress, at most twice a
 /// second; then a summary of the run, and after a fault what to do about it. Where there is no
-/// terminal, it writes a line of progress each so many seconds if that is wanted, and which file
-/// ended a run.
+/// terminal, it writes a line of progress each so many seconds if that is wanted, after which faults
+/// a run goes on, and which file ended it.
 #[derive(Drop)]
 pub struct TerminalProgress<'c, C, T> {
     clock: &'c C,
@@ -408,6 +412,15 @@ impl<C: Clock, T: Write> Progress for TerminalProgress<'_, C, T> {
         let (used, sectors) = (self.used, self.sectors);
         if sectors > 0 {
             let _ = writeln!(terminal, "{used} of {sectors} sectors of the disk are used");
+        }
+    }
+
+    fn goes_on(&mut self, line: &str) {
+        self.clear();
+        if let Some(terminal) = &mut self.terminal {
+            let _ = writeln!(terminal, "{line}");
+        } else if let Some(lines) = &mut self.lines {
+            let _ = writeln!(lines, "{line}");
         }
     }
 

@@ -20,9 +20,11 @@ pub struct Traced<'p, P> {
     rows: BufWriter<File>,
     // The end of the trace that the file has, if it has one.
     earlier: Option<Earlier>,
+    // Whether the disk has been opened, as it is again where a run goes on after a fault.
+    is_begun: bool,
     // Whether a row could not be written. No other is tried after it.
     is_lost: bool,
-    // How many rounds earlier runs made, and the last round of this trace.
+    // How many rounds earlier runs and attempts made, and the last round of this trace.
     rounds: u64,
     round: u64,
     // The last commit's time in ticks, and the number of events in the log; and whether no row has
@@ -103,6 +105,7 @@ impl<'p, P: Progress> Traced<'p, P> {
             progress,
             rows,
             earlier,
+            is_begun: false,
             is_lost: false,
             rounds: 0,
             round: 0,
@@ -119,6 +122,23 @@ impl<'p, P: Progress> Traced<'p, P> {
         if file.set_len(bytes).is_ok() {
             self.is_lost = file.seek(SeekFrom::Start(bytes)).is_err();
         }
+    }
+
+    /// Begins the trace, or goes on behind that of earlier runs of the same disk.
+    fn begin_trace(&mut self, time: u64, events: usize) {
+        match self.earlier {
+            Some(earlier) if earlier.is_before(time, events) => {
+                self.rounds = earlier.row.round;
+                self.begin_behind(earlier.bytes);
+            }
+            _ => {
+                self.begin_behind(0);
+                if !self.is_lost {
+                    self.is_lost = write_names(&mut self.rows).is_err();
+                }
+            }
+        }
+        self.round = self.rounds;
     }
 
     /// Writes a row, if all before it are written.
@@ -182,19 +202,13 @@ impl<P: Progress> Progress for Traced<'_, P> {
     fn opened(&mut self, time: u64, events: usize) {
         self.time = time;
         self.events = events;
-        match self.earlier {
-            Some(earlier) if earlier.is_before(time, events) => {
-                self.rounds = earlier.row.round;
-                self.begin_behind(earlier.bytes);
-            }
-            _ => {
-                self.begin_behind(0);
-                if !self.is_lost {
-                    self.is_lost = write_names(&mut self.rows).is_err();
-                }
-            }
+        if self.is_begun {
+            // the run goes on after a fault: so do the rows
+            self.rounds = self.round;
+        } else {
+            self.is_begun = true;
+            self.begin_trace(time, events);
         }
-        self.round = self.rounds;
         self.progress.opened(time, events);
     }
 
@@ -229,6 +243,10 @@ impl<P: Progress> Progress for Traced<'_, P> {
 
     fn finished(&mut self) {
         self.progress.finished();
+    }
+
+    fn goes_on(&mut self, line: &str) {
+        self.progress.goes_on(line);
     }
 
     fn stopped(&mut self, file: &str) {

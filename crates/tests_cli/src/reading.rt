@@ -3,7 +3,8 @@
 use clap::error::ErrorKind;
 use cli::{
     BatchOption, Command, DiskArgs, DrawArgs, GrowArgs, Hint, LogArgs, MigrateArgs, ModelArgs,
-    NewArgs, NodeArgs, RunArgs, SourceArgs, StatsArgs, Texts, hint_of, read_command, says_advice,
+    NewArgs, NodeArgs, RunArgs, ShowArgs, SourceArgs, StatsArgs, Texts, hint_of, read_command,
+    says_advice,
 };
 use std::alloc::Global;
 
@@ -66,7 +67,14 @@ const RUN: RunArgs<'static> = RunArgs {
     sockets: None,
     cut: None,
     together: false,
+    overlap: false,
+    plain: false,
     attach: false,
+    bind: false,
+    judge: None,
+    silence: None,
+    retries: None,
+    grow_when_full: false,
     trace: None,
     stop_file: None,
     progress: None,
@@ -80,6 +88,7 @@ const LOG: LogArgs<'static> = LogArgs {
     from: None,
     to: None,
     process: None,
+    names: false,
 };
 
 /// `draw` without a disk and options.
@@ -93,7 +102,7 @@ const DRAW: DrawArgs<'static> = DrawArgs {
 };
 
 /// Words, and the command that they give.
-const READ: [(&[&str], Command<'static>); 46] = [
+const READ: [(&[&str], Command<'static>); 34] = [
     (
         &["timewarp", "draw", "a", "--load", "--from=5", "--to=5"],
         Command::Draw(DrawArgs {
@@ -113,22 +122,6 @@ const READ: [(&[&str], Command<'static>); 46] = [
             model: "a",
             socket: "b",
             parcels: 4_294_967_295,
-        }),
-    ),
-    (
-        &["timewarp", "run", "a", "b", "--attach", "--sockets", "c"],
-        Command::Run(RunArgs {
-            attach: true,
-            sockets: Some("c"),
-            ..RUN
-        }),
-    ),
-    // Without a folder of sockets there is no node program to cut short.
-    (
-        &["timewarp", "run", "a", "b", "--cut", "1"],
-        Command::Run(RunArgs {
-            cut: Some(1),
-            ..RUN
         }),
     ),
     (
@@ -166,13 +159,18 @@ const READ: [(&[&str], Command<'static>); 46] = [
     (&["timewarp", "verify", "a", "b"], Command::Verify(ON)),
     (
         &["timewarp", "stats", "a"],
-        Command::Stats(StatsArgs { of: OF, csv: false }),
+        Command::Stats(StatsArgs {
+            of: OF,
+            csv: false,
+            names: false,
+        }),
     ),
     (
-        &["timewarp", "stats", "a", "b", "--format=csv"],
+        &["timewarp", "stats", "a", "b", "--format=csv", "--names"],
         Command::Stats(StatsArgs {
             of: OF_DISK,
             csv: true,
+            names: true,
         }),
     ),
     (&["timewarp", "draw", "a"], Command::Draw(DRAW)),
@@ -198,7 +196,13 @@ const READ: [(&[&str], Command<'static>); 46] = [
             trace: Some("t"),
         }),
     ),
-    (&["timewarp", "show", "a", "b"], Command::Show(ON)),
+    (
+        &["timewarp", "show", "a", "--names", "b"],
+        Command::Show(ShowArgs {
+            on: ON,
+            names: true,
+        }),
+    ),
     (
         &["timewarp", "check", "a"],
         Command::Check(ModelArgs { model: "a" }),
@@ -216,6 +220,157 @@ const READ: [(&[&str], Command<'static>); 46] = [
         Command::New(NewArgs {
             on: ON,
             sectors: 131_072,
+        }),
+    ),
+    (&["timewarp", "extend", "a", "b"], Command::Extend(ON)),
+    (
+        &["timewarp", "migrate", "a", "b", "c"],
+        Command::Migrate(MigrateArgs {
+            model: "a",
+            old: "b",
+            new: "c",
+            sectors: 4096,
+            large: false,
+        }),
+    ),
+    (
+        &["timewarp", "migrate", "--sectors=8", "a", "b", "c"],
+        Command::Migrate(MigrateArgs {
+            model: "a",
+            old: "b",
+            new: "c",
+            sectors: 8,
+            large: false,
+        }),
+    ),
+    // `--large` allows more sectors, and `grow` then defaults to the most.
+    (
+        &[
+            "timewarp",
+            "new",
+            "--large",
+            "a",
+            "b",
+            "--sectors",
+            "16777216",
+        ],
+        Command::New(NewArgs {
+            on: LARGE,
+            sectors: 16_777_216,
+        }),
+    ),
+    (
+        &["timewarp", "new", "a", "b", "--large"],
+        Command::New(NewArgs {
+            on: LARGE,
+            sectors: 4096,
+        }),
+    ),
+    (
+        &["timewarp", "grow", "a", "b", "--large"],
+        Command::Grow(GrowArgs {
+            on: LARGE,
+            sectors: 16_777_216,
+        }),
+    ),
+    (
+        &[
+            "timewarp",
+            "migrate",
+            "a",
+            "b",
+            "c",
+            "--sectors=131073",
+            "--large",
+        ],
+        Command::Migrate(MigrateArgs {
+            model: "a",
+            old: "b",
+            new: "c",
+            sectors: 131_073,
+            large: true,
+        }),
+    ),
+    (
+        &["timewarp", "extend", "a", "--large", "b"],
+        Command::Extend(LARGE),
+    ),
+    (
+        &["timewarp", "status", "--large", "a", "b"],
+        Command::Status(LARGE),
+    ),
+    (
+        &["timewarp", "log", "a", "b", "--large"],
+        Command::Log(LogArgs { on: LARGE, ..LOG }),
+    ),
+    (
+        &["timewarp", "show", "a", "b", "--large"],
+        Command::Show(ShowArgs {
+            on: LARGE,
+            names: false,
+        }),
+    ),
+    // After `--` it is not an option.
+    (
+        &["timewarp", "show", "a", "--", "--large"],
+        Command::Show(ShowArgs {
+            on: DiskArgs {
+                model: "a",
+                disk: "--large",
+                large: false,
+            },
+            names: false,
+        }),
+    ),
+    (
+        &["timewarp", "stats", "a", "b", "--large"],
+        Command::Stats(StatsArgs {
+            of: OF_LARGE,
+            csv: false,
+            names: false,
+        }),
+    ),
+    (
+        &["timewarp", "draw", "a", "b", "--large"],
+        Command::Draw(DrawArgs {
+            of: OF_LARGE,
+            ..DRAW
+        }),
+    ),
+    (
+        &["timewarp", "node", "a", "b"],
+        Command::Node(NodeArgs {
+            model: "a",
+            socket: "b",
+            parcels: 4_294_967_295,
+        }),
+    ),
+    (
+        &["timewarp", "node", "--parcels", "1", "a", "b"],
+        Command::Node(NodeArgs {
+            model: "a",
+            socket: "b",
+            parcels: 1,
+        }),
+    ),
+];
+
+/// The same for the command `run`.
+const RUNS: [(&[&str], Command<'static>); 14] = [
+    (
+        &["timewarp", "run", "a", "b", "--attach", "--sockets", "c"],
+        Command::Run(RunArgs {
+            attach: true,
+            sockets: Some("c"),
+            ..RUN
+        }),
+    ),
+    // Without a folder of sockets there is no node program to cut short.
+    (
+        &["timewarp", "run", "a", "b", "--cut", "1"],
+        Command::Run(RunArgs {
+            cut: Some(1),
+            ..RUN
         }),
     ),
     (&["timewarp", "run", "a", "b"], Command::Run(RUN)),
@@ -256,6 +411,46 @@ const READ: [(&[&str], Command<'static>); 46] = [
             sockets: Some("c"),
             cut: Some(0),
             together: true,
+            ..RUN
+        }),
+    ),
+    (
+        &[
+            "timewarp",
+            "run",
+            "a",
+            "b",
+            "--plain",
+            "--grow-when-full",
+            "--commit-every=9",
+        ],
+        Command::Run(RunArgs {
+            plain: true,
+            grow_when_full: true,
+            commit_every: Some(9),
+            ..RUN
+        }),
+    ),
+    (
+        &[
+            "timewarp",
+            "run",
+            "a",
+            "b",
+            "--sockets=c",
+            "--overlap",
+            "--bind",
+            "--judge=0",
+            "--silence=86400",
+            "--retries=1000000",
+        ],
+        Command::Run(RunArgs {
+            sockets: Some("c"),
+            overlap: true,
+            bind: true,
+            judge: Some(0),
+            silence: Some(86_400),
+            retries: Some(1_000_000),
             ..RUN
         }),
     ),
@@ -343,136 +538,12 @@ const READ: [(&[&str], Command<'static>); 46] = [
             ..RUN
         }),
     ),
-    (&["timewarp", "extend", "a", "b"], Command::Extend(ON)),
-    (
-        &["timewarp", "migrate", "a", "b", "c"],
-        Command::Migrate(MigrateArgs {
-            model: "a",
-            old: "b",
-            new: "c",
-            sectors: 4096,
-            large: false,
-        }),
-    ),
-    (
-        &["timewarp", "migrate", "--sectors=8", "a", "b", "c"],
-        Command::Migrate(MigrateArgs {
-            model: "a",
-            old: "b",
-            new: "c",
-            sectors: 8,
-            large: false,
-        }),
-    ),
-    // `--large` allows more sectors, and `grow` then defaults to the most.
-    (
-        &[
-            "timewarp",
-            "new",
-            "--large",
-            "a",
-            "b",
-            "--sectors",
-            "16777216",
-        ],
-        Command::New(NewArgs {
-            on: LARGE,
-            sectors: 16_777_216,
-        }),
-    ),
-    (
-        &["timewarp", "new", "a", "b", "--large"],
-        Command::New(NewArgs {
-            on: LARGE,
-            sectors: 4096,
-        }),
-    ),
     (
         &["timewarp", "run", "a", "b", "--trace", "c", "--large"],
         Command::Run(RunArgs {
             on: LARGE,
             trace: Some("c"),
             ..RUN
-        }),
-    ),
-    (
-        &["timewarp", "grow", "a", "b", "--large"],
-        Command::Grow(GrowArgs {
-            on: LARGE,
-            sectors: 16_777_216,
-        }),
-    ),
-    (
-        &[
-            "timewarp",
-            "migrate",
-            "a",
-            "b",
-            "c",
-            "--sectors=131073",
-            "--large",
-        ],
-        Command::Migrate(MigrateArgs {
-            model: "a",
-            old: "b",
-            new: "c",
-            sectors: 131_073,
-            large: true,
-        }),
-    ),
-    (
-        &["timewarp", "extend", "a", "--large", "b"],
-        Command::Extend(LARGE),
-    ),
-    (
-        &["timewarp", "status", "--large", "a", "b"],
-        Command::Status(LARGE),
-    ),
-    (
-        &["timewarp", "log", "a", "b", "--large"],
-        Command::Log(LogArgs { on: LARGE, ..LOG }),
-    ),
-    (
-        &["timewarp", "show", "a", "b", "--large"],
-        Command::Show(LARGE),
-    ),
-    // After `--` it is not an option.
-    (
-        &["timewarp", "show", "a", "--", "--large"],
-        Command::Show(DiskArgs {
-            model: "a",
-            disk: "--large",
-            large: false,
-        }),
-    ),
-    (
-        &["timewarp", "stats", "a", "b", "--large"],
-        Command::Stats(StatsArgs {
-            of: OF_LARGE,
-            csv: false,
-        }),
-    ),
-    (
-        &["timewarp", "draw", "a", "b", "--large"],
-        Command::Draw(DrawArgs {
-            of: OF_LARGE,
-            ..DRAW
-        }),
-    ),
-    (
-        &["timewarp", "node", "a", "b"],
-        Command::Node(NodeArgs {
-            model: "a",
-            socket: "b",
-            parcels: 4_294_967_295,
-        }),
-    ),
-    (
-        &["timewarp", "node", "--parcels", "1", "a", "b"],
-        Command::Node(NodeArgs {
-            model: "a",
-            socket: "b",
-            parcels: 1,
         }),
     ),
 ];
@@ -484,8 +555,15 @@ fn words_give_a_command_and_its_values(rt: HostRuntime) {
     }
 }
 
+#[test]
+fn words_give_a_run_and_its_values(rt: HostRuntime) {
+    for (words, expected) in RUNS {
+        assert!(rt; is_read_as(rt.alloc(), words, expected), "{words:?}");
+    }
+}
+
 /// Words that are refused, and the kind of the error.
-const REFUSED: [(&[&str], ErrorKind); 69] = [
+const REFUSED: [(&[&str], ErrorKind); 85] = [
     // No path is empty.
     (&["timewarp", "seq", ""], ErrorKind::InvalidValue),
     (&["timewarp", "new", "a", ""], ErrorKind::InvalidValue),
@@ -507,6 +585,66 @@ const REFUSED: [(&[&str], ErrorKind); 69] = [
     (
         &["timewarp", "run", "a", "b", "--attach"],
         ErrorKind::MissingRequiredArgument,
+    ),
+    (
+        &["timewarp", "run", "a", "b", "--bind"],
+        ErrorKind::MissingRequiredArgument,
+    ),
+    (
+        &["timewarp", "run", "a", "b", "--judge=0"],
+        ErrorKind::MissingRequiredArgument,
+    ),
+    (
+        &["timewarp", "run", "a", "b", "--silence", "1"],
+        ErrorKind::MissingRequiredArgument,
+    ),
+    (
+        &["timewarp", "run", "a", "b", "--plain", "--retries=0"],
+        ErrorKind::MissingRequiredArgument,
+    ),
+    (
+        &["timewarp", "run", "a", "b", "--sectors=4096"],
+        ErrorKind::MissingRequiredArgument,
+    ),
+    (
+        &["timewarp", "run", "a", "b", "--together", "--overlap"],
+        ErrorKind::ArgumentConflict,
+    ),
+    (
+        &[
+            "timewarp",
+            "run",
+            "a",
+            "b",
+            "--sockets=s",
+            "--attach",
+            "--bind",
+        ],
+        ErrorKind::ArgumentConflict,
+    ),
+    (
+        &["timewarp", "run", "a", "b", "--plain", "--nodes=1"],
+        ErrorKind::ArgumentConflict,
+    ),
+    (
+        &["timewarp", "run", "a", "b", "--batch=auto", "--plain"],
+        ErrorKind::ArgumentConflict,
+    ),
+    (
+        &["timewarp", "run", "a", "b", "--plain", "--sockets=false"],
+        ErrorKind::ArgumentConflict,
+    ),
+    (
+        &["timewarp", "run", "a", "b", "--cut=0", "--plain"],
+        ErrorKind::ArgumentConflict,
+    ),
+    (
+        &["timewarp", "run", "a", "b", "--plain", "--together"],
+        ErrorKind::ArgumentConflict,
+    ),
+    (
+        &["timewarp", "run", "a", "b", "--overlap", "--plain"],
+        ErrorKind::ArgumentConflict,
     ),
     (
         &["timewarp", "draw", "a", "--load", "--trace", "t"],
@@ -565,6 +703,18 @@ const REFUSED: [(&[&str], ErrorKind); 69] = [
     ),
     (
         &["timewarp", "run", "a", "b", "--progress", "0"],
+        ErrorKind::ValueValidation,
+    ),
+    (
+        &["timewarp", "run", "a", "b", "--silence", "0"],
+        ErrorKind::ValueValidation,
+    ),
+    (
+        &["timewarp", "run", "a", "b", "--retries=1000001"],
+        ErrorKind::ValueValidation,
+    ),
+    (
+        &["timewarp", "run", "a", "b", "--nodes=0"],
         ErrorKind::ValueValidation,
     ),
     (

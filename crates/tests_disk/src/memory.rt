@@ -2,8 +2,11 @@
 
 ghost use Rattle.std.specs.Prelude.{◌≡◌, length, IfOk};
 
-use crate::shared::{are_filled, byte_of, bytes_of, fill, store};
-use disk::{DiskFault, GrowingDisk, GrowthFault, MOST_SECTORS, MemDisk, Plan, SectorDisk, Torn};
+use crate::shared::{NO_SECTOR, are_filled, byte_of, bytes_of, fill, store};
+use disk::{
+    DiskFault, GrowingDisk, GrowthFault, MOST_SECTORS, MemDisk, Plan, SectorDisk, Torn,
+    write_through,
+};
 use std::alloc::{AllocError, Global};
 use std::test::Fail;
 
@@ -19,6 +22,16 @@ fn is_read(alloc: Global) -> Result<(u32, bool, bool), Fail> {
 #[test]
 fn a_read_returns_what_was_written(rt: HostRuntime) -> Result<(), Fail> {
     assert_eq!(rt; is_read(rt.alloc())?, (8, true, true));
+    Ok(())
+}
+
+#[test]
+fn a_sector_that_is_written_through_survives_a_crash(rt: HostRuntime) -> Result<(), Fail> {
+    let mut disk = MemDisk::blank(rt.alloc(), 8)?;
+    assert!(rt; write_through(&mut disk, 3, &[7; 512]) == Ok(()));
+    assert!(rt; write_through(&mut disk, 8, &[7; 512]) == NO_SECTOR);
+    let image = disk.crash(rt.alloc(), Torn::Old)?;
+    assert!(rt; byte_of(&image, 3) == Some(7) && byte_of(&image, 2) == Some(0));
     Ok(())
 }
 

@@ -1,6 +1,6 @@
 // The cost of a rollback of a process, and of a report, in messages that the model of a node
-// handles again. A process keeps the state words of one handling in eight, and, for reports, of
-// those with fewer than 64 handlings before them.
+// handles again. A process keeps the state words of one handling in eight, and of those with fewer
+// than 64 handlings before them.
 
 ghost use Rattle.std.specs.Prelude.{◌≡◌, ◌<◌, ◌≤◌, ◌^◌, IfOk};
 ghost use Rattle.std.specs.List.{AllByRecursion as Every};
@@ -112,16 +112,18 @@ fn straggler(alloc: Global, time: u64) -> Result<Vec<Signed>, Fail> {
 }
 
 /// Stragglers undo one handling after the other, from the last to the first. To restore the state
-/// before a place, the node handles again from the last place that is a multiple of eight.
+/// before one of the first 64 places, the node handles nothing again; before a later one, it
+/// handles again from the last place that is a multiple of eight.
 #[test]
 fn a_rollback_starts_at_the_last_kept_state(rt: HostRuntime) -> Result<(), Fail> {
-    let parts = parts(rt.alloc(), even(rt.alloc(), 64)?)?;
+    let parts = parts(rt.alloc(), even(rt.alloc(), 130)?)?;
     let mut node = CountingNode::load(rt.alloc(), parts)?;
-    assert_eq!(rt; node.handle(Vec::new(rt.alloc()), 64, 0)?, 64);
-    for undone in 1..65u64 {
-        let place = 64 - undone;
+    assert_eq!(rt; node.handle(Vec::new(rt.alloc()), 130, 0)?, 130);
+    for undone in 1..131u64 {
+        let place = 130 - undone;
+        let again = if place < 64 { 0 } else { place % 8 };
         let deliver = straggler(rt.alloc(), 2 * place + 1)?;
-        assert_eq!(rt; node.handle(deliver, 0, 0)?, place % 8);
+        assert_eq!(rt; node.handle(deliver, 0, 0)?, again);
     }
     Ok(())
 }

@@ -9,7 +9,7 @@ use disk::{MemDisk, Plan as DiskPlan, Torn};
 use inspection::{Inspection, InspectionFault, inspect, write_inspection};
 use models::TokenRing;
 use recovery::{RecoveryFault, header};
-use runs::{Batch, Plan, Watch, run_local};
+use runs::{Batch, Plan, Schedule, Watch, run_local};
 use std::alloc::Global;
 use std::test::Fail;
 
@@ -40,7 +40,7 @@ fn run_on(alloc: Global, disk: MemDisk, every: u32) -> MemDisk {
         nodes: 3,
         batch: Batch::Fixed(16),
         rounds: 1_000_000,
-        together: false,
+        schedule: Schedule::InTurn,
         checkpoint_every: every,
         commit_every: 0,
     };
@@ -137,7 +137,7 @@ fn long_run(alloc: Global) -> Result<MemDisk, Fail> {
         nodes: 1,
         batch: Batch::Fixed(1),
         rounds: 1_000_000,
-        together: false,
+        schedule: Schedule::InTurn,
         checkpoint_every: 0,
         commit_every: 0,
     };

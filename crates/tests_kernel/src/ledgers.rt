@@ -76,6 +76,31 @@ fn an_unanswered_parcel_holds_the_floor(rt: HostRuntime) -> Result<(), Fail> {
 }
 
 #[test]
+fn an_antimessage_in_transit_holds_the_floor(rt: HostRuntime) -> Result<(), Fail> {
+    let mut ledger = two_nodes(rt.alloc(), 0, [Some(5), Some(5)])?;
+    let sent = [signed(Sign::Minus, 3, 0, 1)?];
+    sends(rt.alloc(), &mut ledger, 0, &sent, Some(5))?;
+    assert_eq!(rt; (ledger.transit().len(), ledger.floor()), (1, 3));
+    Ok(())
+}
+
+#[test]
+fn a_post_to_a_busy_node_changes_nothing(rt: HostRuntime) -> Result<(), Fail> {
+    let mut ledger = two_nodes(rt.alloc(), 0, [Some(6), Some(8)])?;
+    let sent = [plus(4, 0, 1)?];
+    sends(rt.alloc(), &mut ledger, 0, &sent, Some(6))?;
+    let _parcel = post(&mut ledger, 1, &[])?;
+    let before = memory::shown(&ledger);
+    let again = post(&mut ledger, 1, &[0]);
+    assert!(rt; again.err() == Some(LedgerFault::Busy));
+    assert!(rt; memory::shown(&ledger) == before);
+    take(rt.alloc(), &mut ledger, 1, &[], Some(8))?;
+    let parcel = post(&mut ledger, 1, &[0])?;
+    assert!(rt; parcel.deliver.as_slice() == sent.as_slice());
+    Ok(())
+}
+
+#[test]
 fn a_floor_is_answered_with_its_parcel(rt: HostRuntime) -> Result<(), Fail> {
     let mut ledger = two_nodes(rt.alloc(), 1, [Some(4), Some(6)])?;
     assert_eq!(rt; ledger.least_answered(), 1);

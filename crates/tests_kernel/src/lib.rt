@@ -1,5 +1,5 @@
 //! Tests of the simulation kernel through its public functions: messages, input queues, the plain
-//! runner, nodes with their processes, and the ledger. They have a crate of their own, since a
+//! runner, processes, nodes, and the ledger. They have a crate of their own, since a
 //! crate with tests is proved twice.
 #![tactic(auto)]
 
@@ -11,6 +11,8 @@ mod ledgers;
 mod messages;
 #[cfg(test)]
 mod nodes;
+#[cfg(test)]
+mod processes;
 #[cfg(test)]
 mod rows;
 #[cfg(test)]

@@ -69,6 +69,17 @@ fn bytes_that_encode_no_message_are_refused(rt: HostRuntime) -> Result<(), Fail>
     Ok(())
 }
 
+#[test]
+fn a_time_is_below_2_to_the_41(rt: HostRuntime) -> Result<(), Fail> {
+    for (time, fault) in [
+        (2_199_023_255_551, None),
+        (2_199_023_255_552, Some(KeyFault::TimeTooLarge)),
+    ] {
+        assert_eq!(rt; message((time, 0, 0, 0, 0, 0, 0, 0)).err(), fault);
+    }
+    Ok(())
+}
+
 fn is_later(later: &Message, earlier: &Message) -> bool {
     earlier < later
         && earlier.is_before(later)

@@ -100,13 +100,13 @@ type Posted<'a> = (&'a [(Sign, Row)], u32, u64);
 
 /// A row for a fossil: the message, the one message that its handling sent, the count in the state
 /// after it, and the number of the next send.
-type Fossil = (Row, Row, u64, u64);
+pub(crate) type Fossil = (Row, Row, u64, u64);
 
 /// A row for a reply: the messages it sends, the low in ticks, the number of handled messages, and
 /// the fossils.
 type Expected<'a> = (&'a [(Sign, Row)], Option<u64>, u32, &'a [Fossil]);
 
-fn is_fossil(fossil: &Done, expected: &Fossil) -> bool {
+pub(crate) fn is_fossil(fossil: &Done, expected: &Fossil) -> bool {
     let (handled, sent, count, number) = *expected;
     row(&fossil.message) == handled
         && are(fossil.sent.as_slice(), &[sent])
@@ -234,6 +234,19 @@ fn a_hundred_thousand_messages_are_handled_twice(rt: HostRuntime) -> Result<(), 
     let reported = handle_many(&mut node, straggler, 200_000, 2)?;
     assert_eq!(rt; reported, (100_001, 200_001, 100_001));
     Ok(())
+}
+
+// The earlier message of the parcel is below the floor. The node keeps nothing of the parcel, and
+// answers the next one.
+#[test]
+fn a_parcel_below_the_floor_leaves_the_node_unchanged(rt: HostRuntime) -> Result<(), Fail> {
+    let mut node = load(rt.alloc(), 0, 1, &[(0, 0, &[]), (1, 0, &[]), (2, 0, &[])])?;
+    let steps: [(Posted, Expected); 1] = [((&[], 16, 4), (&[], None, 0, &[]))];
+    play(&rt, rt.alloc(), &mut node, &steps)?;
+    let (late, early) = ((5, 0, 0, 0, 0, 0, 0, 0), (3, 0, 0, 1, 0, 0, 0, 0));
+    let refused = node.handle(parcel(rt.alloc(), &(&[plus(late), plus(early)], 16, 4))?);
+    assert_eq!(rt; refused.err(), Some(NodeFault::BelowFloor));
+    play(&rt, rt.alloc(), &mut node, &steps)
 }
 
 #[test]

@@ -5,6 +5,8 @@
 #[cfg(test)]
 mod beside;
 #[cfg(test)]
+mod judged;
+#[cfg(test)]
 mod ports;
 #[cfg(test)]
 mod sessions;

@@ -4,8 +4,8 @@ use crate::disks::{Nobody, Seen, disk_of, formatted, front_on, phold, plan, ring
 use coordinator::{Extended, NotOpened, extend};
 use disk::{MemDisk, Plan as DiskPlan, Torn};
 use model::Model;
-use plain::{PlainFault, Plan, run_plain};
-use runs::{Batch, Plan as RunPlan, RunFault, run_local};
+use plain::{PlainFault, Plan, Watch, run_plain};
+use runs::{Batch, Plan as RunPlan, RunFault, Schedule, run_local};
 use std::alloc::Global;
 use std::process::Abort;
 use std::test::Fail;
@@ -93,7 +93,7 @@ fn called<M: Model>(
                 nodes: nodes.clamp(1, 64),
                 batch: Batch::Fixed(7),
                 rounds,
-                together: false,
+                schedule: Schedule::InTurn,
                 checkpoint_every: 2,
                 commit_every: 0,
             };
@@ -293,5 +293,66 @@ fn a_disk_of_another_end_is_refused(rt: HostRuntime) -> Result<(), Fail> {
         ran.outcome.err(),
         Some(PlainFault::Recovery(recovery::RecoveryFault::OtherModel))
     );
+    Ok(())
+}
+
+/// Asks a run to stop before each commit from the one of the number `before` on.
+#[derive(Clone, Copy)]
+struct Asking {
+    before: u32,
+    opened: (u64, usize),
+    commits: u32,
+}
+
+impl Watch for Asking {
+    fn opened(&mut self, time: u64, events: usize) {
+        self.opened = (time, events);
+    }
+
+    fn committed(&mut self, _time: u64, _events: usize) {
+        self.commits = self.commits.saturating_add(1);
+    }
+
+    fn is_stopped(&mut self) -> bool {
+        self.before <= self.commits.saturating_add(1)
+    }
+}
+
+/// Before which commit a run of the ring is asked to stop, by commits of two events, and the most
+/// commits; why it stops, and what is then committed. The end is reached by the third commit.
+const STOPS: [(u32, u32, Option<PlainFault>, u64, usize); 5] = [
+    (1, 9, Some(PlainFault::Stopped { time: 5, events: 2 }), 5, 2),
+    (2, 9, Some(PlainFault::Stopped { time: 9, events: 4 }), 9, 4),
+    (2, 3, Some(PlainFault::Stopped { time: 9, events: 4 }), 9, 4),
+    (2, 2, Some(PlainFault::Commits), 9, 4),
+    (3, 9, None, 10, 5),
+];
+
+#[test]
+fn a_run_stops_after_the_next_commit(rt: HostRuntime) -> Result<(), Fail> {
+    let alloc = rt.alloc();
+    for (before, commits, fault, time, events) in STOPS {
+        let image = formatted(alloc, &ring(), 20, 10)?;
+        let disk = disk_of(alloc, image, DiskPlan::default())?;
+        let mut asking = Asking {
+            before,
+            opened: (1, 1),
+            commits: 0,
+        };
+        let plan = Plan {
+            commit_every: 2,
+            checkpoint_every: 0,
+            commits,
+        };
+        let ran = run_plain(alloc, &ring(), disk, 10, plan, &mut asking);
+        assert_eq!(rt; ran.outcome.err(), fault);
+        assert_eq!(rt; asking.opened, (0, 0));
+        let left = ran.disk.crash(alloc, Torn::Old)?;
+        let front = front_on(alloc, &ring(), left.clone()?, 10)?;
+        assert_eq!(rt; (front.g, front.log.as_slice().len()), (time, events));
+        let disk = disk_of(alloc, left, DiskPlan::default())?;
+        let _resumed = run_plain(alloc, &ring(), disk, 10, plan, &mut asking);
+        assert_eq!(rt; asking.opened, (time, events));
+    }
     Ok(())
 }

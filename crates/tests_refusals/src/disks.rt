@@ -1,6 +1,6 @@
 // Disks in memory. A setup that meets an allocation failure is repeated.
 
-use crate::plain::END;
+use crate::plain_runner::END;
 use commitlog::{LogFault, format};
 use disk::{MemDisk, Plan, Torn};
 use model::Model as Simulated;

@@ -2,7 +2,7 @@
 
 use crate::disks::{TEARINGS, crashed};
 use crate::openings::{is_of_memory, look_at_crashes};
-use crate::plain::END;
+use crate::plain_runner::END;
 use crate::running::{one_token, ran};
 use coordinator::{Extended, NotOpened, SessionFault, extend};
 use disk::MemDisk;

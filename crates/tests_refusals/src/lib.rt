@@ -13,7 +13,7 @@ mod extending;
 #[cfg(test)]
 mod openings;
 #[cfg(test)]
-mod plain;
+mod plain_runner;
 #[cfg(test)]
 mod running;
 #[cfg(test)]

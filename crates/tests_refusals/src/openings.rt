@@ -1,7 +1,7 @@
 // Openings with one allocation refused. The disk that they return must open.
 
 use crate::disks::{TEARINGS, crashed, formatted};
-use crate::plain::{END, is_plain};
+use crate::plain_runner::{END, is_plain};
 use crate::running::{one_token, ran};
 use commitlog::LogFault;
 use coordinator::{NotOpened, Session, SessionFault};

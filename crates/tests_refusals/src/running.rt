@@ -9,7 +9,7 @@ use commitlog::LogFault;
 use disk::MemDisk;
 use models::TokenRing;
 use recovery::RecoveryFault;
-use runs::{Batch, Plan, Watch};
+use runs::{Batch, Plan, Schedule, Watch};
 use std::alloc::Global;
 use std::process::Abort;
 use std::test::Fail;
@@ -41,15 +41,30 @@ pub fn one_token() -> Simulated<TokenRing>
     }
 }
 
-/// The time of the last commit that a run reported.
+/// The last commit that a run reported: its time and the number of events in the log. And the
+/// greatest number of events that one commit added.
 #[derive(Drop)]
 struct Last {
     time: u64,
+    events: usize,
+    most: usize,
+}
+
+impl Last {
+    fn nothing() -> Last {
+        Last {
+            time: 0,
+            events: 0,
+            most: 0,
+        }
+    }
 }
 
 impl Watch for Last {
-    fn committed(&mut self, time: u64, _events: usize) {
+    fn committed(&mut self, time: u64, events: usize) {
         self.time = time;
+        self.most = self.most.max(events.saturating_sub(self.events));
+        self.events = events;
     }
 }
 
@@ -85,7 +100,7 @@ fn run_once(
         nodes: 3,
         batch: Batch::Fixed(16),
         rounds: 100,
-        together: false,
+        schedule: Schedule::InTurn,
         checkpoint_every: every,
         commit_every: 0,
     };
@@ -97,7 +112,7 @@ fn run_once(
 pub fn ran(rt: &impl Abort, alloc: Global, sectors: u32, every: u32) -> Result<MemDisk, Fail> {
     let disk = formatted(alloc, &one_token().model, sectors)?;
     let mut out = room(alloc)?;
-    let mut last = Last { time: 0 };
+    let mut last = Last::nothing();
     let Ended { disk, outcome } = run_once(alloc, disk, every, &mut last, &mut out);
     let Err(fault) = outcome else {
         assert!(rt; last.time == 10 && out.as_slice() == RAN.as_bytes());
@@ -156,5 +171,51 @@ fn a_run_prints_everything_after_a_refusal(rt: HostRuntime) -> Result<(), Fail> 
         look_at_text(&rt, rt.alloc(), &disk, Printed::Log, LOG)?;
         look_at_text(&rt, rt.alloc(), &disk, Printed::World, WORLD)?;
     }
+    Ok(())
+}
+
+/// 64 tokens that go round eight processes, a tick at each, up to time 10.
+fn many_tokens() -> Simulated<TokenRing>
+    ensures { result.end ≡ 10 }
+{
+    Simulated {
+        model: TokenRing::new(8, 1, 64),
+        end: 10,
+    }
+}
+
+/// The last line of their run.
+const ALL_COMMITTED: &str = "committed 10 events 576\n";
+
+/// Runs them over one node. A commit takes at least 100 events, which are sorted by keys of their
+/// own.
+fn run_many(alloc: Global, disk: MemDisk, last: &mut Last, out: &mut Vec<u8>) -> Ended<MemDisk> {
+    let plan = Plan {
+        nodes: 1,
+        batch: Batch::Fixed(200),
+        rounds: 100,
+        schedule: Schedule::InTurn,
+        checkpoint_every: 0,
+        commit_every: 100,
+    };
+    run(alloc, &many_tokens(), disk, plan, last, out)
+}
+
+#[test]
+fn a_refused_commit_of_many_events_keeps_what_was_reported(rt: HostRuntime) -> Result<(), Fail> {
+    let model = many_tokens().model;
+    let disk = formatted(rt.alloc(), &model, 128)?;
+    let mut out = room(rt.alloc())?;
+    let mut last = Last::nothing();
+    let Ended { disk, outcome } = run_many(rt.alloc(), disk, &mut last, &mut out);
+    let Err(fault) = outcome else {
+        assert!(rt; last.most > 64 && out.as_slice().ends_with(ALL_COMMITTED.as_bytes()));
+        return Ok(());
+    };
+    assert!(rt; is_allocation_failure(&fault), "{fault}");
+    assert!(rt; out.is_empty());
+    look_at_crashes(&rt, rt.alloc(), &model, &disk, last.time)?;
+    let Ended { disk: _, outcome } = run_many(rt.alloc(), disk, &mut last, &mut out);
+    assert!(rt; outcome.is_ok() && out.as_slice().ends_with(ALL_COMMITTED.as_bytes()));
     Ok(())
 }

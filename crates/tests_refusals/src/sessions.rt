@@ -3,7 +3,7 @@
 
 use crate::disks::formatted;
 use crate::openings::{Far, Near, is_of_memory, look_at_crashes, opened_far, opened_near};
-use crate::plain::is_plain;
+use crate::plain_runner::is_plain;
 use coordinator::{DriveFault, Session, SessionFault, Step};
 use disk::{MemDisk, SectorDisk};
 use eventkey::Listed;

@@ -2,7 +2,7 @@
 
 use rule_files::FileModel;
 use std::test::Fail;
-use texts::{find_mistakes, read_model};
+use texts::{Described, Report, find_mistakes, read_model};
 
 /// The rest of a file after the keys of a row. A rule without statements does nothing.
 const RULES: &str = "[rules]\nstart = \"\"\nhandle = \"\"\n";
@@ -57,27 +57,66 @@ jobs = 3
 ticks = [1, 2]
 ";
 
+/// The same without tables, in as many lines.
+const FEW_KEYS: &str = "
+model = 'rules'
+lps = 2
+end = 9
+state = ['n', 'key', 'm']
+seed = 7
+message = ['job']
+
+
+
+
+";
+
 #[test]
 fn the_rules_of_a_file_are_read_or_its_mistakes_are_found(rt: HostRuntime) -> Result<(), Fail> {
     let alloc = rt.alloc();
-    let start = "  start: a string; expected a rule of at most 65536 bytes\n";
-    let handle = "  handle: a string; expected a rule of at most 65536 bytes\n";
-    let both = format!(in alloc; "{start}{handle}")?;
     let rows = [
         (
             "send to 1 - self after jobs with draw(2)",
             "n = job + b + c + d m = ticks[n]",
             "",
         ),
-        ("n = jobs # three", "repeat k jobs2 {}", handle),
-        ("n = ", "m = a", both.as_str()),
-        ("key = 1", "n = job", start),
-        ("n = x", "", start),
-        ("", "repeat i 9 { send to i after 1 }", handle),
+        (
+            "n = jobs # three",
+            "repeat k jobs2 {}",
+            "  handle, line 1, column 10: a number below 2^32 is wanted here\n",
+        ),
+        (
+            "n = ",
+            "m = a",
+            "  start, line 1, column 5: the text ends, but a value is wanted here\n  handle, line 1, column 5: there is nothing named \"a\"\n",
+        ),
+        (
+            "key = 1",
+            "n = job",
+            "  start, line 1, column 1: \"key\" is neither read nor set\n",
+        ),
+        (
+            "n = jobz",
+            "",
+            "  start, line 1, column 5: there is nothing named \"jobz\"; did you mean \"job\"?\n",
+        ),
+        (
+            "",
+            "repeat i 9 { send to i after 1 }",
+            "  handle, line 1, column 1: more than 8 sends on some way through it\n",
+        ),
         ("", "repeat i 8 { send to i after 1 }", ""),
-        ("repeat i 15 { n = draw(2) }", "", start),
+        (
+            "repeat i 15 { n = draw(2) }",
+            "",
+            "  start, line 1, column 1: more than 14 draws on some way through it\n",
+        ),
         ("repeat i 14 { n = draw(2) }", "", ""),
-        ("", "repeat i 65536 { n = n + 1 }", handle),
+        (
+            "",
+            "repeat i 65536 { n = n + 1 }",
+            "  handle, line 1, column 1: more than 65536 steps on some way through it\n",
+        ),
     ];
     for (first, second, mistakes) in rows {
         let text = format!(in alloc; "{KEYS}[rules]\nstart = '{first}'\nhandle = '{second}'\n")?;
@@ -86,5 +125,122 @@ fn the_rules_of_a_file_are_read_or_its_mistakes_are_found(rt: HostRuntime) -> Re
         let read = read_model::<FileModel>(alloc, text.as_str());
         assert!(rt; read.is_ok() == mistakes.is_empty());
     }
+    Ok(())
+}
+
+/// Tables of rules behind the keys, and their mistakes beside their lines.
+const REPORTED: [(&str, &str); 9] = [
+    // A line end behind the quotes does not belong to the text. The state word `start` has no text.
+    (
+        "[rules]\nhandle = '''\n# start = 'm'\nm = 1\n  n = m + jop # job\n'''\nstart = ''\n",
+        "  \
+m.toml:16:11: handle: there is nothing named \"jop\"; did you mean \"job\"?
+      n = m + jop # job
+              ^
+",
+    ),
+    (
+        "[rules]\nstart = \"\"\"m = 1\nn = \"\"\"\nhandle = '''send 1'''\n",
+        "  \
+m.toml:14:5: start: the text ends, but a value is wanted here
+    n = \"\"\"
+        ^
+  m.toml:15:18: handle: \"to\" is wanted here
+    handle = '''send 1'''
+                     ^
+",
+    ),
+    (
+        "rules.start = 'n = \u{e4}'\nrules.'handle' = \"m = 1 +\"\n",
+        "  \
+m.toml:12:20: start: a sign, a name of at most 64 letters or a number below 2^64 is wanted here
+    rules.start = 'n = \u{e4}'
+                       ^
+  m.toml:13:26: handle: the text ends, but a value is wanted here
+    rules.'handle' = \"m = 1 +\"
+                             ^
+",
+    ),
+    (
+        "rules = { start = '', handle = 'repeat i 9 { send to i after 1 }' }\n",
+        "  \
+m.toml:12:33: handle: more than 8 sends on some way through it
+    rules = { start = '', handle = 'repeat i 9 { send to i after 1 }' }
+                                    ^
+",
+    ),
+    // Carriage returns.
+    (
+        "[rules]\r\nstart = \"\"\"\r\nm = 1\r\nn = x\r\n\"\"\"\r\nhandle = ''\r\n",
+        "  \
+m.toml:15:5: start: there is nothing named \"x\"
+    n = x
+        ^
+",
+    ),
+    // With escapes the place is that in the text.
+    (
+        "[rules]\nstart = \"m = 1\\nn = (m\"\nhandle = \"\"\"\nm = 1 + \\\n  2 +\n\"\"\"\n",
+        "  \
+m.toml: start, line 2, column 7 of its text: the text ends, but \")\" is wanted here
+    n = (m
+          ^
+  m.toml: handle, line 2, column 1 of its text: the text ends, but a value is wanted here
+    
+    ^
+",
+    ),
+    // A long line is not shown.
+    (
+        "[rules]\nstart = 'm = 1 m = 1 m = 1 m = 1 m = 1 m = 1 m = 1 m = 1 m = 1 m = 1 m = 1 m = 1 m = 1 m = 1 m = 1 m = 1 m = 1 m = 1 m = 1 m = 1 m = 1 m = 1 m = 1 m = 1 m = 1 m = 1 m = x'\nhandle = ''\n",
+        "  m.toml:13:170: start: there is nothing named \"x\"\n",
+    ),
+    // What is no text has no place in it.
+    (
+        "[rules]\nstart = 1\nhandle = ''\n",
+        "  \
+m.toml:13:9: start: 1; expected a rule of at most 65536 bytes
+    start = 1
+            ^
+",
+    ),
+    ("[rules]\nstart = 'n = 1'\nhandle = ''\n", ""),
+];
+
+#[test]
+fn mistakes_in_rules_are_reported_at_their_places(rt: HostRuntime) -> Result<(), Fail> {
+    let alloc = rt.alloc();
+    for (rules, expected) in REPORTED {
+        let keys = if rules.starts_with("[") {
+            KEYS
+        } else {
+            FEW_KEYS
+        };
+        let text = format!(in alloc; "{keys}{rules}")?;
+        let mistakes = find_mistakes::<FileModel>(alloc, text.as_bytes())?;
+        let report = Report {
+            path: "m.toml",
+            text: text.as_bytes(),
+            mistakes: &mistakes,
+        };
+        assert_eq!(rt; format!(in alloc; "{report}")?.as_str(), expected);
+    }
+    Ok(())
+}
+
+#[test]
+fn a_model_has_the_names_of_its_words(rt: HostRuntime) -> Result<(), Fail> {
+    let alloc = rt.alloc();
+    let text = format!(in alloc; "{KEYS}[rules]\nstart = ''\nhandle = ''\n")?;
+    let (model, _end): (FileModel, u64) = read_model(alloc, text.as_str())?;
+    let mut names = String::new(alloc);
+    for name in model.state_names() {
+        names.push_str(name.as_str())?;
+        names.push_str(" ")?;
+    }
+    for name in model.content_names() {
+        names.push_str(name.as_str())?;
+    }
+    assert_eq!(rt; names.as_str(), "n key m job");
     Ok(())
 }

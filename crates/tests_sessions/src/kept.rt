@@ -8,7 +8,7 @@ use disk::{MemDisk, Plan as DiskPlan, Torn};
 use model::Model;
 use models::{Phold, TokenRing};
 use recovery::{Front, RecoveryFault, header, recover};
-use runs::{Batch, Plan, RunFault, Watch, local_ports, run_local};
+use runs::{Batch, Plan, RunFault, Schedule, Watch, local_ports, run_local};
 use std::alloc::Global;
 use std::test::Fail;
 
@@ -28,7 +28,7 @@ pub(crate) fn plan(nodes: u32, batch: u32, every: u32) -> Plan
         nodes,
         batch: Batch::Fixed(batch),
         rounds: 1_000_000,
-        together: false,
+        schedule: Schedule::InTurn,
         checkpoint_every: every,
         commit_every: 0,
     }
@@ -180,12 +180,28 @@ fn a_run_with_checkpoints_reaches_the_same_front(rt: HostRuntime) -> Result<(), 
     let model = Phold::new(16, 2, 20, 7);
     for (nodes, batch) in [(1, 1), (1, 7), (2, 1), (2, 7), (5, 1), (5, 7)] {
         let (plain, none) = left_by(alloc, &model, 16_384, 200, plan(nodes, batch, 0))?;
-        let (kept, fault) = left_by(alloc, &model, 16_384, 200, plan(nodes, batch, 1))?;
-        assert!(rt; none.is_none() && fault.is_none());
+        assert!(rt; none.is_none());
         let plain = front_of(alloc, &model, plain, 200)?;
-        let kept = front_of(alloc, &model, kept, 200)?;
-        assert!(rt; plain.is_same(&kept), "{nodes} nodes, batch {batch}");
-        assert!(rt; kept.g == 200 && kept.log.as_slice().len() == 562);
+        for (schedule, commit_every) in [
+            (Schedule::InTurn, 0),
+            (Schedule::Together, 0),
+            (Schedule::Overlapped, 0),
+            (Schedule::Overlapped, 100),
+        ] {
+            let keeping = Plan {
+                schedule,
+                commit_every,
+                ..plan(nodes, batch, 1)
+            };
+            let (kept, fault) = left_by(alloc, &model, 16_384, 200, keeping)?;
+            assert!(rt; fault.is_none());
+            let kept = front_of(alloc, &model, kept, 200)?;
+            assert!(rt;
+                plain.is_same(&kept),
+                "{schedule:?}, {nodes} nodes, batch {batch}"
+            );
+            assert!(rt; kept.g == 200 && kept.log.as_slice().len() == 562);
+        }
     }
     Ok(())
 }
@@ -197,14 +213,17 @@ fn a_run_with_adjusting_budgets_reaches_the_same_front(rt: HostRuntime) -> Resul
     let (plain, none) = left_by(alloc, &model, 16_384, 200, plan(1, 16, 0))?;
     assert!(rt; none.is_none());
     let plain = front_of(alloc, &model, plain, 200)?;
-    for (nodes, most, rounds_are_cheap, commit_every, every) in [
-        (1, 65_536, false, 0, 0),
-        (1, 0, true, 0, 0),
-        (2, 8, true, 100, 0),
-        (5, u32::MAX, true, 400_000, 0),
-        (5, 128, false, 100, 2),
+    for (schedule, nodes, most, rounds_are_cheap, commit_every, every) in [
+        (Schedule::InTurn, 1, 65_536, false, 0, 0),
+        (Schedule::InTurn, 1, 0, true, 0, 0),
+        (Schedule::InTurn, 2, 8, true, 100, 0),
+        (Schedule::InTurn, 5, u32::MAX, true, 400_000, 0),
+        (Schedule::InTurn, 5, 128, false, 100, 2),
+        (Schedule::Overlapped, 5, 128, true, 100, 2),
+        (Schedule::Overlapped, 5, 65_536, false, 0, 0),
     ] {
         let adjusting = Plan {
+            schedule,
             batch: Batch::Adjusting {
                 most,
                 rounds_are_cheap,

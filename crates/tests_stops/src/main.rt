@@ -10,12 +10,12 @@ mod world;
 
 use commands::{CommandFault, log, show};
 use commitlog::{LogFault, format};
-use coordinator::{Extended, NotOpened, Session, SessionFault, Step, extend};
+use coordinator::{Extended, FrontView, NotOpened, Session, SessionFault, Step, extend};
 use disk::{MemDisk, Plan as DiskPlan, Torn};
 use model::{World, WorldFault, WorldParts};
 use models::AnyModel;
 use recovery::{RecoveryFault, header};
-use runs::{Batch, Plan, RunFault, Watch, local_ports, run_session};
+use runs::{Batch, Plan, RunFault, Schedule, Watch, local_ports, run_session};
 use std::alloc::{AllocError, AllocFailed, Global};
 use std::{env, fs, io};
 use texts::{ModelFault, read_model, write_log, write_world};
@@ -45,6 +45,8 @@ enum Loss {
     Extending,
     #[error("what was acknowledged is lost")]
     Acknowledged,
+    #[error("what an opening finds is not the world of the plain run up to its time")]
+    Opened,
     #[error("the world at the end is not that of the plain run")]
     World,
     #[error("what is printed of the disk at the end is not what the plain run prints")]
@@ -54,7 +56,7 @@ enum Loss {
 /// Why the program stopped: a violation, or a failure of its own.
 #[derive(Debug, Drop, Error)]
 enum Failure {
-    #[error("usage: tests_stops [--all] MODEL SECTORS .., paths of model files and sizes of their disks")]
+    #[error("usage: tests_stops [--all | --stops] MODEL SECTORS .., paths of model files and sizes of their disks")]
     Usage,
     #[error("{0}")]
     Model(ModelFault),
@@ -153,13 +155,13 @@ const ROUNDS: u32 = 1 << 20;
 /// The largest disk, in bytes.
 const MOST: usize = 1 << 28;
 
-/// The world of the plain run at this end.
-fn plain_world(alloc: Global, model: &AnyModel, end: u64) -> Result<World, Failure>
+/// The world of the plain run of a model with this end, up to time `g`.
+fn plain_world(alloc: Global, model: &AnyModel, end: u64, g: u64) -> Result<World, Failure>
     requires some { 1 ≤ end }
     requires short { end ≤ 2 ^ 40 }
 {
     let mut world = World::open(alloc, model, end)?;
-    world.run_to(model, end)?;
+    world.run_to(model, g)?;
     Ok(world)
 }
 
@@ -337,9 +339,7 @@ fn resumed(
         Ok(session) => session,
         Err(_refused) => return Err(Failure::Lost(Loss::Disk)),
     };
-    if session.front().time < left.acknowledged {
-        return Err(Failure::Lost(Loss::Acknowledged));
-    }
+    look_at_front(alloc, of, left, session.front())?;
     let mut last = Acknowledged { time: 0 };
     run_session(
         alloc,
@@ -352,6 +352,27 @@ fn resumed(
         return Err(Failure::Lost(Loss::World));
     }
     look_at_texts(alloc, of, &session.into_disk())
+}
+
+/// Checks that an opening finds at least what was acknowledged, and the whole world of the plain run
+/// up to its time.
+fn look_at_front(
+    alloc: Global,
+    of: &ModelWithPlainRun,
+    left: &Left,
+    front: FrontView<'_>,
+) -> Result<(), Failure>
+    requires begun { 1 ≤ of.now.end }
+    requires short { of.now.end ≤ 2 ^ 40 }
+{
+    if front.time < left.acknowledged {
+        return Err(Failure::Lost(Loss::Acknowledged));
+    }
+    let plain = plain_world(alloc, &of.model, of.end, front.time)?.into_parts();
+    if !is_front(&plain, front) {
+        return Err(Failure::Lost(Loss::Opened));
+    }
+    Ok(())
 }
 
 /// A disk with this image, with the later end put in force if the first one still is. The image
@@ -456,7 +477,7 @@ fn plan_of(nodes: u32, way: Way) -> Plan
         nodes,
         batch: Batch::Fixed(way.batch),
         rounds: ROUNDS,
-        together: false,
+        schedule: Schedule::InTurn,
         checkpoint_every: way.checkpoint_every,
         commit_every: 0,
     }
@@ -473,7 +494,7 @@ enum At {
 
 /// What a crash leaves in each dirty sector: the synced content, the last written one, a fill, or
 /// the first bytes of what was written.
-const TEARINGS: [Torn; 6] = [
+const TEARINGS: &[Torn] = &[
     Torn::Old,
     Torn::New,
     Torn::Fill(0),
@@ -481,6 +502,9 @@ const TEARINGS: [Torn; 6] = [
     Torn::Cut(1),
     Torn::Cut(100),
 ];
+
+/// Some of them, for the stops of long runs.
+const SOME_TEARINGS: &[Torn] = &[Torn::Old, Torn::New, Torn::Fill(1)];
 
 /// How often disks failed, and from how many different images runs were resumed.
 #[derive(Clone, Copy, Default)]
@@ -498,8 +522,14 @@ impl Counts {
     }
 }
 
-/// Lets a disk fail at each of its writes or operations in turn.
-fn stops(alloc: Global, of: &ModelWithPlainRun, way: Way, at: At) -> Result<Counts, Failure>
+/// Lets a disk fail at each of its writes or operations in turn, and crashes it in these ways.
+fn stops(
+    alloc: Global,
+    of: &ModelWithPlainRun,
+    way: Way,
+    at: At,
+    tearings: &[Torn],
+) -> Result<Counts, Failure>
     requires some { 0 < way.nodes }
     requires few { way.nodes ≤ 64 }
     requires next { 0 < way.resumed }
@@ -521,7 +551,7 @@ fn stops(alloc: Global, of: &ModelWithPlainRun, way: Way, at: At) -> Result<Coun
             },
         };
         let left = left_by(alloc, of, way, plan)?;
-        let images = crashes(alloc, of, way, &left)?;
+        let images = crashes(alloc, of, way, &left, tearings)?;
         counts = counts.and(Counts { stops: 0, images });
         if left.ended {
             return Ok(counts);
@@ -536,7 +566,13 @@ fn stops(alloc: Global, of: &ModelWithPlainRun, way: Way, at: At) -> Result<Coun
 
 /// Crashes what a run left in each way, and resumes the run on each different image. Returns their
 /// number.
-fn crashes(alloc: Global, of: &ModelWithPlainRun, way: Way, left: &Left) -> Result<u64, Failure>
+fn crashes(
+    alloc: Global,
+    of: &ModelWithPlainRun,
+    way: Way,
+    left: &Left,
+    tearings: &[Torn],
+) -> Result<u64, Failure>
     requires next { 0 < way.resumed }
     requires next_few { way.resumed ≤ 64 }
     requires begun { 1 ≤ of.now.first }
@@ -544,8 +580,8 @@ fn crashes(alloc: Global, of: &ModelWithPlainRun, way: Way, left: &Left) -> Resu
     requires short { of.now.end ≤ 2 ^ 40 }
 {
     let mut images: Vec<Vec<u8>> = Vec::new(alloc);
-    for torn in TEARINGS {
-        let image = left.disk.crash(alloc, torn)?;
+    for torn in tearings {
+        let image = left.disk.crash(alloc, *torn)?;
         if !images.contains(&image) {
             resumed(alloc, of, way, left, &image)?;
             images.push(image)?;
@@ -567,6 +603,16 @@ const USUAL_WAYS: Ways<'static> = &[(16, 0), (16, 2)];
 const SOME_WAYS: Ways<'static> = &[(7, 1)];
 
 const SOME_USUAL_WAYS: Ways<'static> = &[(16, 0)];
+
+/// The nodes, the nodes of the resumed run, and the batch.
+const LONG_WAYS: [(u32, u32, u32); 6] = [
+    (1, 2, 1),
+    (1, 5, 7),
+    (2, 5, 1),
+    (2, 1, 7),
+    (5, 1, 1),
+    (5, 2, 7),
+];
 
 /// Lets disks of runs over this number of nodes fail, resumes the runs over the other number, in
 /// each of these ways, and prints the counts.
@@ -594,10 +640,32 @@ fn all_ways(
             batch: *batch,
             checkpoint_every: *checkpoint_every,
         };
-        let writes = stops(alloc, of, way, At::Write)?;
-        let operations = stops(alloc, of, way, At::Operation)?;
+        let writes = stops(alloc, of, way, At::Write, TEARINGS)?;
+        let operations = stops(alloc, of, way, At::Operation, TEARINGS)?;
         print_counts(rt, of, way, writes, operations)?;
         total = total.and(writes).and(operations);
+    }
+    Ok(total)
+}
+
+/// Lets disks of runs over 1, 2 and 5 nodes without checkpoints stop at each write, and resumes the
+/// runs over other numbers of nodes.
+fn long_stops(rt: &HostRuntime, alloc: Global, of: &ModelWithPlainRun) -> Result<Counts, Failure>
+    requires begun { 1 ≤ of.now.first }
+    requires order { of.now.first ≤ of.now.end }
+    requires short { of.now.end ≤ 2 ^ 40 }
+{
+    let mut total = Counts::default();
+    for (nodes, resumed, batch) in LONG_WAYS {
+        let way = Way {
+            nodes,
+            resumed,
+            batch,
+            checkpoint_every: 0,
+        };
+        let writes = stops(alloc, of, way, At::Write, SOME_TEARINGS)?;
+        print_counts(rt, of, way, writes, Counts::default())?;
+        total = total.and(writes);
     }
     Ok(total)
 }
@@ -645,7 +713,7 @@ fn read_simulation(
         Err(fault) => return Err(Failure::Model(fault)),
     };
     let first = if is_extended { (end / 2).max(1) } else { end };
-    let plain = plain_world(alloc, &model, end)?.into_parts();
+    let plain = plain_world(alloc, &model, end, end)?.into_parts();
     let text = text_of(alloc, &plain)?;
     let formatted = formatted(alloc, &model, first, sectors)?;
     Ok(ModelWithPlainRun {
@@ -680,19 +748,32 @@ fn try_model(
     Ok(total)
 }
 
-/// Tries the runs of a model file: on disks made for its end in all ways, and on disks that get a
-/// later end in all ways or in some.
-fn try_both(
+/// How much is tried of a model file.
+#[derive(Clone, Copy, PartialEq, Eq)]
+enum Extent {
+    /// Disks made for its end in all ways, and disks that get a later end in some.
+    Some,
+    /// Both in all ways.
+    All,
+    /// Only stops of long runs on disks made for its end.
+    Stops,
+}
+
+/// Tries the runs of a model file.
+fn try_file(
     rt: &HostRuntime,
     alloc: Global,
     path: &str,
     sectors: u32,
-    all: bool,
+    extent: Extent,
 ) -> Result<Counts, Failure> {
     let of = read_simulation(rt, alloc, path, sectors, false)?;
+    if extent == Extent::Stops {
+        return long_stops(rt, alloc, &of);
+    }
     let total = try_model(rt, alloc, &of, WAYS, USUAL_WAYS)?;
     let of = read_simulation(rt, alloc, path, sectors, true)?;
-    let (ways, usual_ways) = if all {
+    let (ways, usual_ways) = if extent == Extent::All {
         (WAYS, USUAL_WAYS)
     } else {
         (SOME_WAYS, SOME_USUAL_WAYS)
@@ -704,14 +785,18 @@ fn main(rt: HostRuntime) -> Result<(), Failure> {
     let alloc = rt.alloc();
     let mut words = env::args(&rt).map_err(|_| Failure::Usage)?;
     let _program = words.next();
-    let mut all = false;
+    let mut extent = Extent::Some;
     let mut total = Counts::default();
     for _ in 0..u64::MAX {
         let Some(path) = words.next() else {
             break;
         };
         if path.as_str() == "--all" {
-            all = true;
+            extent = Extent::All;
+            continue;
+        }
+        if path.as_str() == "--stops" {
+            extent = Extent::Stops;
             continue;
         }
         let Some(sectors) = words.next() else {
@@ -720,7 +805,7 @@ fn main(rt: HostRuntime) -> Result<(), Failure> {
         let Ok(sectors) = sectors.as_str().parse::<u32>() else {
             return Err(Failure::Usage);
         };
-        total = total.and(try_both(&rt, alloc, path.as_str(), sectors, all)?);
+        total = total.and(try_file(&rt, alloc, path.as_str(), sectors, extent)?);
     }
     let Counts { stops, images } = total;
     if stops == 0 {

@@ -1,10 +1,10 @@
 -- Tables of this project's models without mistakes.
-use Rattle.std.proofs.Common.{◌≡◌, ℕ, ◌*◌, ◌-◌, ◌^◌, List, [], ◌++◌, Bool, true, false, cond, Option, Some, None, codes, ◌≤◌, nat_eq, refl, ap, subst, ◌∙◌, arith, inl, inr}
+use Rattle.std.proofs.Common.{◌≡◌, ℕ, ◌*◌, List, [], ◌++◌, false, cond, Option, Some, None, codes, ◌≤◌, nat_eq, refl, ap, subst, ◌∙◌, arith, inl, inr}
 use Rattle.std.proofs.lemmas.Bool.{cases_Bool}
 use Rattle.std.specs.Cmp.Lexicographic.{bytes_decides, pointwise}
-use Rattle.models.specs.JobShop.{GoodShop, Shop}
-use Rattle.models.specs.Phold.{GoodHold, Hold}
-use Rattle.models.specs.Ring.{GoodRing, Ring}
+use Rattle.models.specs.JobShop.{Shop}
+use Rattle.models.specs.Phold.{Hold}
+use Rattle.models.specs.Ring.{Ring}
 use Rattle.models.specs.declared.any_model.AnyModel.{AnyModel}
 use Rattle.models.specs.declared.any_model.AnyModel.TheVariants.{JobShop, Phold, TokenRing}
 use Rattle.toml.specs.Data.{Members, get_member, string}

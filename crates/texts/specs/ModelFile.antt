@@ -1,9 +1,9 @@
 -- Model files of any kind of model: TOML tables that describe one. The mistakes in a table that
 -- does not, key by key.
-use Rattle.std.specs.Prelude.{◌≡◌, ℕ, List, [], ◌∷◌, ◌++◌, ◌&&◌, suc, nat_eq, nat_le, map, Option}
+use Rattle.std.specs.Prelude.{◌≡◌, ℕ, List, [], ◌∷◌, ◌++◌, ◌&&◌, nat_eq, nat_le, Option}
 use Rattle.std.specs.Prelude.{Some, None}
-use Rattle.std.specs.Prelude.{if◌then◌else◌, ℤ, pos, negsuc, option_and_then, unwrap_or, is_some}
-use Rattle.std.specs.Prelude.{Bool, true, false, codes, decimal, string_bytes}
+use Rattle.std.specs.Prelude.{if◌then◌else◌, ℤ, pos, negsuc, option_and_then, is_some}
+use Rattle.std.specs.Prelude.{Bool, codes, decimal, string_bytes}
 use Rattle.std.specs.Cmp.Lexicographic.{pointwise}
 use Rattle.std.specs.List.{list_any}
 use Rattle.texts.specs.declared.findings.Finding.{Finding}

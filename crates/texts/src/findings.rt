@@ -61,6 +61,21 @@ pub struct Finding {
     pub found: Found,
     /// The value that the key must have.
     pub expected: Expected,
+    /// The mistake inside the text at the key, if its place is known.
+    pub inside: Option<TextMistake>,
+}
+
+/// A mistake at a place of the text at a key.
+#[derive(Debug, PartialEq, Eq, Drop)]
+pub struct TextMistake {
+    /// The text.
+    pub text: String,
+    /// The line of the mistake in the text, counted from 1.
+    pub line: usize,
+    /// The column of the mistake on its line, in characters, counted from 1.
+    pub column: usize,
+    /// What is wrong there, in words.
+    pub why: String,
 }
 
 /// All mistakes in a table, in the order of the model's keys. The keys that the model does not have
@@ -120,13 +135,13 @@ impl Findings {
                     key,
                     found_at(table, key),
                     Expected::Number { least, most },
+                    None,
                 )?;
                 Ok(None)
             }
         }
     }
 
-    #[tactic(auto, unfolding(crate::specs::ModelFile::words_wrong))]
     /// Adds a finding for a key unless `right`. The words in `expected` describe what must be there.
     pub fn words_at(
         &mut self,
@@ -139,8 +154,27 @@ impl Findings {
         ensures { OnOk result (self.new
             ≡ self.old ++ words_wrong right key.now expected.now (table_view table.now)) }
     {
+        self.text_at(alloc, table, key, expected, right, None)
+    }
+
+    #[tactic(auto, unfolding(crate::specs::ModelFile::words_wrong))]
+    /// Adds a finding for a key unless `right`, as `words_at` does, with the mistake inside the text
+    /// at the key.
+    pub fn text_at(
+        &mut self,
+        alloc: Global,
+        table: &Table,
+        key: &str,
+        expected: &'static str,
+        right: bool,
+        inside: Option<TextMistake>,
+    ) -> Result<(), AllocError>
+        ensures { OnOk result (self.new
+            ≡ self.old ++ words_wrong right key.now expected.now (table_view table.now)) }
+    {
         if !right {
-            self.push(alloc, key, found_at(table, key), Expected::Words(expected))?;
+            let expected = Expected::Words(expected);
+            self.push(alloc, key, found_at(table, key), expected, inside)?;
         }
         Ok(())
     }
@@ -162,7 +196,8 @@ impl Findings {
     {
         if !right {
             let place = format!(in alloc; "{key}[{place}]")?;
-            self.push(alloc, place.as_str(), found, Expected::Words(expected))?;
+            let expected = Expected::Words(expected);
+            self.push(alloc, place.as_str(), found, expected, None)?;
         }
         Ok(())
     }
@@ -194,7 +229,7 @@ impl Findings {
             })) }
     {
         if !is_among(key, keys) {
-            self.push(alloc, key, found_in(value), Expected::Nothing)?;
+            self.push(alloc, key, found_in(value), Expected::Nothing, None)?;
         }
         Ok(())
     }
@@ -206,6 +241,7 @@ impl Findings {
         key: &str,
         found: Found,
         expected: Expected,
+        inside: Option<TextMistake>,
     ) -> Result<(), AllocError>
         ensures { OnOk result (self.new ≡ self.old
             ++ record { key = key.now; found = found; expected = expectation_of expected } ∷ []) }
@@ -215,6 +251,7 @@ impl Findings {
             key,
             found,
             expected,
+            inside,
         })?;
         Ok(())
     }
@@ -262,6 +299,11 @@ impl fmt::Display for Finding {
         let key = self.key.as_str();
         let found = self.found;
         let expected = self.expected;
+        if let Some(inside) = &self.inside {
+            let (line, column) = (inside.line, inside.column);
+            let why = inside.why.as_str();
+            return write!(f, "{key}, line {line}, column {column}: {why}");
+        }
         match (found, expected) {
             (_, Expected::Nothing) => write!(f, "{key:?}: the model has no such key"),
             (Found::Number(_), Expected::Number { least, most }) => {

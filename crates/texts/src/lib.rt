@@ -3,6 +3,7 @@
 
 mod any_model;
 mod findings;
+mod inside;
 mod mistakes;
 mod model_file;
 mod printable;
@@ -10,7 +11,7 @@ mod report;
 mod text;
 
 pub use any_model::ANY_MODEL_KEYS;
-pub use findings::{Expected, Finding, Findings, Found, found_in};
+pub use findings::{Expected, Finding, Findings, Found, TextMistake, found_in};
 pub use mistakes::{Mistakes, find_mistakes};
 pub use model_file::{
     Described, LONGEST_MODEL_FILE, Mistake, ModelFault, number_at, only, read_model, string_at,

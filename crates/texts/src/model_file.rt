@@ -101,6 +101,17 @@ pub trait Described: Simulated + Drop {
     /// for the end.
     fn values(&self, alloc: Global, end: u64) -> Result<String, AllocError>
         ensures { IfOk result (λ text. string_bytes text ≡ shows self.now end) };
+
+    /// Returns the names of the words of a state, by their places. The words behind them have none.
+    fn state_names(&self) -> &[String] {
+        &[]
+    }
+
+    /// Returns the names of the words of a message's content, by their places. The words behind
+    /// them have none.
+    fn content_names(&self) -> &[String] {
+        &[]
+    }
 }
 
 /// Returns the model that a model file describes, and the virtual time, in ticks, at which its run

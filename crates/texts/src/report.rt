@@ -1,6 +1,7 @@
 // The mistakes of a model file beside its lines.
 
 use crate::findings::{Expected, Finding, Findings, Found};
+use crate::inside::write_inside;
 use crate::mistakes::Mistakes;
 use crate::printable::Printable;
 use std::fmt;
@@ -9,7 +10,11 @@ use std::fmt;
 ///
 /// Its text has, for each mistake, a line with the file, the place and what is wrong there, indented
 /// by two blanks; then the line of the file, and a mark below the place. The place is a line and a
-/// column, both counted from 1. A missing key has none.
+/// column, both counted from 1. A missing key has none. The mistakes behind the first 100 have no
+/// place either, since finding one costs a pass over the file.
+///
+/// A mistake inside the text at a key has its place in the file if the file has the text as it is.
+/// If the file has it with escapes, the line and the column are those in the text.
 #[derive(Clone, Copy)]
 pub struct Report<'a> {
     /// The path of the file.
@@ -22,14 +27,17 @@ pub struct Report<'a> {
 
 /// A place in a text.
 #[derive(Clone, Copy)]
-struct Place<'a> {
+pub(crate) struct Place<'a> {
     /// The line's number, counted from 1.
-    line: usize,
+    pub(crate) line: usize,
     /// The column's number, counted from 1.
-    column: usize,
+    pub(crate) column: usize,
     /// The line.
-    content: &'a str,
+    pub(crate) content: &'a str,
 }
+
+/// The number of mistakes that are shown beside their lines.
+const PLACED: usize = 100;
 
 /// A key and its value in a line of a text.
 #[derive(Clone, Copy)]
@@ -52,8 +60,13 @@ impl fmt::Display for Report<'_> {
                 why.as_str(),
             ),
             Mistakes::Keys(found) => {
-                for finding in found.as_slice() {
-                    self.write_finding(f, found, finding)?;
+                for (index, finding) in found.as_slice().iter().enumerate() {
+                    if index < PLACED {
+                        self.write_finding(f, found, finding)?;
+                    } else {
+                        let path = Printable(self.path);
+                        writeln!(f, "  {path}: {finding}")?;
+                    }
                 }
                 Ok(())
             }
@@ -93,6 +106,9 @@ impl Report<'_> {
         finding: &Finding,
     ) -> fmt::Result {
         let path = Printable(self.path);
+        if let Some(inside) = &finding.inside {
+            return write_inside(f, self.path, self.text, finding.key.as_str(), inside);
+        }
         let Some(pair) = pair_of(self.text, finding.key.as_str()) else {
             return writeln!(f, "  {path}: {finding}");
         };
@@ -119,7 +135,10 @@ impl Report<'_> {
 const LONGEST: usize = 160;
 
 /// Writes the line of a place, and a mark below the place. Leaves both out if the line is long.
-fn write_line<W: fmt::Write>(f: &mut fmt::Formatter<W>, place: Place<'_>) -> fmt::Result {
+pub(crate) fn write_line<W: fmt::Write>(
+    f: &mut fmt::Formatter<W>,
+    place: Place<'_>,
+) -> fmt::Result {
     if place.content.len() > LONGEST {
         return Ok(());
     }
@@ -190,7 +209,7 @@ fn count_equal_from_end(one: &[u8], other: &[u8]) -> usize {
 }
 
 /// The line of this number, counted from 1, if there is one and it is UTF-8.
-fn line_at(text: &[u8], number: usize) -> Option<&str> {
+pub(crate) fn line_at(text: &[u8], number: usize) -> Option<&str> {
     let mut line = 1usize;
     for content in text.split(|byte| *byte == b'\n') {
         if line == number {
@@ -253,7 +272,7 @@ fn behind_key<'a>(text: &'a str, key: &str) -> Option<&'a str> {
 }
 
 /// The column, counted from 1, at which the end `rest` of a line begins.
-fn column_of(line: &str, rest: &str) -> usize {
+pub(crate) fn column_of(line: &str, rest: &str) -> usize {
     let before = line.chars().count().saturating_sub(rest.chars().count());
     before.saturating_add(1)
 }

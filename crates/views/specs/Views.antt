@@ -2,7 +2,7 @@
 use Rattle.std.specs.Io.KnownBytes.{Appends}
 use Rattle.std.specs.Prelude.{◌≡◌, ◌≤◌, ◌^◌, ◌+◌, ◌-◌, ◌&&◌, ℕ, Bool, true, false, List}
 use Rattle.std.specs.Prelude.{◌++◌, None, Option, Some, codes, decimal, filter, if◌then◌else◌}
-use Rattle.std.specs.Prelude.{is_none, min, unwrap_or}
+use Rattle.std.specs.Prelude.{is_none, min, unwrap_or, ⊤}
 use Rattle.disk.specs.declared.file.FileFault.{FileFault}
 use Rattle.disk.specs.declared.file.FileFault.TheVariants as opening
 use Rattle.eventkey.specs.Message.{Message}
@@ -59,6 +59,10 @@ Prints is old new = (text : List ℕ) × is text × Appends old new text
 -- the writer has taken a beginning of one of these texts
 abbrev pub Begins : (List ℕ → Type 0) → Option (List ℕ) → Option (List ℕ) → Type 0
 Begins is old new = (text : List ℕ) × is text × TakesBeginning old new text
+
+-- a text with the names that a model has for its words: any text, since scripts hold it
+abbrev pub IsNamed : List ℕ → Type 0
+IsNamed text = ⊤
 
 -- ---- faults
 

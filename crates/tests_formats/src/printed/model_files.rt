@@ -276,6 +276,7 @@ fn a_finding_has_what_was_found_and_what_was_expected(rt: HostRuntime) -> Result
             key: String::from_str(rt.alloc(), *key)?,
             found: *found,
             expected: *expected,
+            inside: None,
         };
         assert!(rt; *finding == expected);
     }

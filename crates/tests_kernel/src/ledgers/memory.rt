@@ -15,7 +15,7 @@ fn made(alloc: Global, lows: [Option<u64>; 2]) -> Result<Ledger, LedgerFault> {
 // the floor, and the least floor that a node answered.
 type Shown = (usize, Option<Signed>, Option<Signed>, u64, u64);
 
-fn shown(ledger: &Ledger) -> Shown {
+pub(super) fn shown(ledger: &Ledger) -> Shown {
     let transit = ledger.transit();
     (
         transit.len(),

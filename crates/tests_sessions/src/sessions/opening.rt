@@ -18,7 +18,7 @@ pub(super) fn failing(alloc: Global, image: Vec<u8>, fail: Option<u64>) -> Resul
 }
 
 /// Opens a disk for this end, which must be refused. Returns the fault and the disk.
-fn refused(
+pub(super) fn refused(
     alloc: Global,
     ring: &Ring,
     disk: MemDisk,

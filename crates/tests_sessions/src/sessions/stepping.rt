@@ -1,9 +1,12 @@
 ghost use Rattle.std.specs.Prelude.{◌<◌};
 
 use super::*;
-use crate::sessions::opening::failing;
+use crate::sessions::opening::{failing, refused};
+use commitlog::LogFault;
+use disk::DiskFault;
 use eventkey::Sign;
 use model::Model as Simulated;
+use recovery::RecoveryFault;
 use wire::Port;
 
 // Sessions that are driven step by step.
@@ -94,6 +97,17 @@ fn thirteen_steps_answer_as_in_the_table(rt: HostRuntime) -> Result<(), Fail> {
 }
 
 #[test]
+fn thirteen_steps_are_driven_as_in_the_table(rt: HostRuntime) -> Result<(), Fail> {
+    let alloc = rt.alloc();
+    let ring = Ring;
+    let mut session = opened(alloc, &ring, formatted(alloc, &ring)?)?;
+    let done = session.drive(steps(alloc, 13)?.as_slice());
+    assert!(rt; matches!(done, Ok(13)));
+    assert!(rt; is_at_three(&session) && travels(&session, TRANSIT[12]));
+    Ok(())
+}
+
+#[test]
 fn a_post_to_a_busy_node_is_refused(rt: HostRuntime) -> Result<(), Fail> {
     let alloc = rt.alloc();
     let ring = Ring;
@@ -122,11 +136,18 @@ fn a_failed_last_sync_of_a_commit_spends_the_session(rt: HostRuntime) -> Result<
     let again = stepped(&mut session, &Step::Commit);
     assert!(rt; again == Err(SessionFault::Spent));
     assert_eq!(rt; session.front().time, 0);
+    let disk = session.into_disk();
+    let written = disk.crash(alloc, Torn::New)?;
     // Opening the disk again syncs it, and later crashes keep the record.
-    let session = opened(alloc, &ring, session.into_disk())?;
+    let session = opened(alloc, &ring, disk)?;
     assert!(rt; is_at_three(&session));
     let image = session.into_disk().crash(alloc, Torn::Old)?;
     let kept = opened(alloc, &ring, failing(alloc, image, None)?)?;
     assert!(rt; is_at_three(&kept));
+    // An opening is refused whose sync fails.
+    let disk = failing(alloc, written, Some(0))?;
+    let (fault, _disk) = refused(alloc, &ring, disk, END)?;
+    let device = LogFault::Disk(DiskFault::Device);
+    assert!(rt; fault == SessionFault::Recovery(RecoveryFault::Log(device)));
     Ok(())
 }

@@ -1,6 +1,7 @@
-use Rattle.std.proofs.Common.{◌≡◌, ◌≤◌, ◌<◌, ◌+◌, ℕ, arith, subst, suc, sym}
+use Rattle.std.proofs.Common.{◌≡◌, ◌≤◌, ◌<◌, ◌+◌, ℕ, arith, refl, subst, suc, sym}
 use Rattle.plain.specs.Crashes.{KeepsRecovery}
-use Rattle.plain.specs.Runs.{AreRounds, IsRound, RoundIsRefused}
+use Rattle.plain.specs.Runs.{AreRounds, IsRound, RoundIsRefused, RoundsStop}
+use Rattle.plain.specs.declared.PlainFault.{PlainFault}
 use Rattle.plain.proofs.Recoveries.{stood-on}
 use Rattle.plain.proofs.Rounds.{stops-at}
 use Rattle.plain.proofs.whole.make_rounds.Goals as goal
@@ -38,4 +39,22 @@ returns-clause-stopped g c =
       why = (omega (arith, c.commits-test.false, c.commits.auto.number-end), c.into_disk.ensures);
       crashes = λ was recovers. subst (λ (d : g.row.D.Denot). KeepsRecovery m front.end front.world.time front.world.time (disk left) (disk d)) (sym c.into_disk.ensures)
           (stood-on m front.end front.world.time (disk left) recovers);
+    }
+
+pub returns-then-is_last-clause-stopped : goal.returns-then-is_last-clause-stopped
+returns-then-is_last-clause-stopped g c =
+    let m = g.M.Model.meaning c.commits.run.model in
+    let front = c.commits.run.front in
+    let disk = g.D.SectorDisk.state in
+    let last = c.commits.run in
+    let left = c.stop.result.disk in
+    record {
+      number = c.commits.number;
+      last = last;
+      made = c.commits.invariant;
+      early = omega (arith, c.if-end-time.false, c.end.ensures, c.time.ensures);
+      why = subst (λ (fault : PlainFault). RoundsStop g.M.Model.meaning disk c.args.plan c.commits.number last left fault) (sym c.stop.ensures.fault)
+          (omega (arith, c.commits-test.true), c.stop.ensures.disk, refl, refl);
+      crashes = λ was recovers. subst (λ (d : g.row.D.Denot). KeepsRecovery m front.end front.world.time front.world.time (disk last.log.disk) (disk d)) (sym c.stop.ensures.disk)
+          (stood-on m front.end front.world.time (disk last.log.disk) recovers);
     }

@@ -1,7 +1,8 @@
 use Rattle.std.proofs.Common.{◌≡◌, ◌≤◌, ◌<◌, ℕ, arith, inr, subst, sym}
 use Rattle.plain.specs.Crashes.{KeepsRecovery, KeepsUnderItsEnd, Recovers}
 use Rattle.plain.proofs.Recoveries.{back, back-under, earlier, goes-on, goes-under, recovers-genuine}
-use Rattle.plain.proofs.Rounds.{ends-early, ends-kept, ends-written, is_run, rounds-follow, stays-after}
+use Rattle.plain.proofs.Rounds.{ends-early, ends-kept, ends-written, is_run, opens-without-stop, rounds-follow, stays-after, stop-kept, stops-with}
+use Rattle.plain.specs.declared.PlainFault.TheVariants.{Stopped}
 use Rattle.plain.proofs.whole.run_plain.Goals as goal
 
 pub returns-in-Ok-make_rounds-clause-reached : goal.returns-in-Ok-make_rounds-clause-reached
@@ -115,3 +116,42 @@ returns-in-Err-make_rounds-clause-under_its_end g c = λ a recovers.
     let keeps = ends-early g.M.Model.meaning disk c.args.model.now end c.args.disk first c.in-Ok.ensures.begun left (stays-after g.M.Model.meaning disk first stopped.last left follow stopped.crashes) under.0 under.1 in
     back-under m a first.front.world.time (disk c.args.disk) (disk left)
     (goes-under m end a first.front.world.time first.front.world.time (disk c.args.disk) (disk first.log.disk) (disk left) under.2 keeps)
+
+pub returns-in-Err-clause-stopped_at : goal.returns-in-Err-clause-stopped_at
+returns-in-Err-clause-stopped_at g c = λ genuine time events is.
+    let cause : c.in-Err.field-0.fault ≡ Stopped time events = cc in
+    absurd (opens-without-stop (g.M.Model.meaning c.args.model.now) c.args.end (g.D.SectorDisk.state c.args.disk).reads ((g.D.SectorDisk.state c.args.disk).failures < (g.D.SectorDisk.state c.in-Err.field-0.disk).failures) c.in-Err.field-0.fault time events c.in-Err.ensures.refused cause)
+
+pub returns-in-Err-clause-stop_acknowledged : goal.returns-in-Err-clause-stop_acknowledged
+returns-in-Err-clause-stop_acknowledged g c = λ a recovers time events is.
+    let cause : c.in-Err.field-0.fault ≡ Stopped time events = cc in
+    absurd (opens-without-stop (g.M.Model.meaning c.args.model.now) c.args.end (g.D.SectorDisk.state c.args.disk).reads ((g.D.SectorDisk.state c.args.disk).failures < (g.D.SectorDisk.state c.in-Err.field-0.disk).failures) c.in-Err.field-0.fault time events c.in-Err.ensures.refused cause)
+
+pub returns-in-Err-make_rounds-clause-stopped_at : goal.returns-in-Err-make_rounds-clause-stopped_at
+returns-in-Err-make_rounds-clause-stopped_at g c = λ genuine time events is.
+    let disk = g.D.SectorDisk.state in
+    let meaning = g.M.Model.meaning in
+    let stopped = c.in-Err-make_rounds.ensures.stopped in
+    let left = c.in-Err-make_rounds.field-0.disk in
+    let fault = c.in-Err-make_rounds.field-0.fault in
+    let cause : fault ≡ Stopped time events = cc in
+    let written = c.in-Ok.ensures.written genuine in (
+      stops-with meaning disk c.args.plan c.in-Ok.run' left fault stopped time events cause c.args.model.now c.args.end c.args.disk c.in-Ok.ensures.begun written.0,
+      (stop-kept meaning disk c.args.plan c.in-Ok.run' left fault stopped time events cause c.args.model.now c.args.end c.args.disk c.in-Ok.ensures.begun written.0 written.1).now_on,
+    )
+
+pub returns-in-Err-make_rounds-clause-stop_acknowledged : goal.returns-in-Err-make_rounds-clause-stop_acknowledged
+returns-in-Err-make_rounds-clause-stop_acknowledged g c = λ a recovers time events is.
+    let disk = g.D.SectorDisk.state in
+    let meaning = g.M.Model.meaning in
+    let m = meaning c.args.model.now in
+    let first = c.in-Ok.run' in
+    let stopped = c.in-Err-make_rounds.ensures.stopped in
+    let left = c.in-Err-make_rounds.field-0.disk in
+    let fault = c.in-Err-make_rounds.field-0.fault in
+    let cause : fault ≡ Stopped time events = cc in
+    let under = c.in-Ok.ensures.under_its_end a recovers in (
+      stops-with meaning disk c.args.plan first left fault stopped time events cause c.args.model.now c.args.end c.args.disk c.in-Ok.ensures.begun under.0,
+      goes-under m c.args.end a first.front.world.time time (disk c.args.disk) (disk first.log.disk) (disk left) under.2
+          (stop-kept meaning disk c.args.plan first left fault stopped time events cause c.args.model.now c.args.end c.args.disk c.in-Ok.ensures.begun under.0 under.1),
+    )

@@ -1,29 +1,25 @@
-use Rattle.std.proofs.Common.{ℕ, ◌⊎◌, ◌≡◌, subst}
-use Rattle.std.specs.Prelude.{OnErr, OnOk, is_some}
-use Rattle.program.specs.Command.{IsRunBehind, IsRunHere}
-use Rattle.views.specs.Views.{Begins, Prints}
+use Rattle.std.proofs.Common.{ap, ◌≡◌, ◌∙◌}
+use Rattle.std.specs.Prelude.{is_some}
+use Rattle.program.specs.Command.{IsRanBy, IsStoppedBy}
+use Rattle.program.proofs.Printed.{ended_begun, ended_printed}
 use Rattle.program.proofs.running.run_with.Goals as goal
 
-pub returns-in-None-clause-ok : goal.returns-in-None-clause-ok
-returns-in-None-clause-ok g c =
-    let old = g.O.Write.contents c.args.out.now in
-    let new = g.O.Write.contents c.run_on.new.out in
-    rw c.in-None.is (subst (λ (n : ℕ). OnOk c.run_on.result (Prints (IsRunHere g.M.Model.meaning g.M.Described.says n (is_some c.args.args.stop_file)) old new)) c.plan_of-plan.ensures.nodes c.run_on.ensures.ok)
+pub returns-clause-ok : goal.returns-clause-ok
+returns-clause-ok g c =
+    let tried = c.in_ok-ended.ensures.tried in
+    ended_printed (IsRanBy g.M.Model.meaning g.M.Described.says c.args.args) (IsStoppedBy g.M.Model.meaning g.M.Described.says c.args.args) _ _ _ c.in_ok-ended.ended.outcome c.end_run.result (is_some c.args.args.stop_file)
+    tried.printed
+    (λ f e n. ap g.O.Write.contents (tried.unwritten f e n))
+    tried.stopped
+    c.end_run.ensures.ok
 
-pub returns-in-None-clause-err : goal.returns-in-None-clause-err
-returns-in-None-clause-err g c =
-    let old = g.O.Write.contents c.args.out.now in
-    let new = g.O.Write.contents c.run_on.new.out in
-    rw c.in-None.is (subst (λ (n : ℕ). OnErr c.run_on.result ((c.run_on.new.out ≡ c.args.out.now) ⊎ Begins (IsRunHere g.M.Model.meaning g.M.Described.says n (is_some c.args.args.stop_file)) old new)) c.plan_of-plan.ensures.nodes c.run_on.ensures.err)
-
-pub returns-in-Some-clause-ok : goal.returns-in-Some-clause-ok
-returns-in-Some-clause-ok g c =
-    let old = g.O.Write.contents c.args.out.now in
-    let new = g.O.Write.contents c.run_behind.new.out in
-    rw c.in-Some.is (subst (λ (n : ℕ). OnOk c.run_behind.result (Prints (IsRunBehind g.M.Described.says n (is_some c.args.args.stop_file)) old new)) c.plan_of-plan.ensures.nodes c.run_behind.ensures.ok)
-
-pub returns-in-Some-clause-err : goal.returns-in-Some-clause-err
-returns-in-Some-clause-err g c =
-    let old = g.O.Write.contents c.args.out.now in
-    let new = g.O.Write.contents c.run_behind.new.out in
-    rw c.in-Some.is (subst (λ (n : ℕ). OnErr c.run_behind.result ((c.run_behind.new.out ≡ c.args.out.now) ⊎ Begins (IsRunBehind g.M.Described.says n (is_some c.args.args.stop_file)) old new)) c.plan_of-plan.ensures.nodes c.run_behind.ensures.err)
+pub returns-clause-err : goal.returns-clause-err
+returns-clause-err g c =
+    let tried = c.in_ok-ended.ensures.tried in
+    ended_begun (IsRanBy g.M.Model.meaning g.M.Described.says c.args.args) (IsStoppedBy g.M.Model.meaning g.M.Described.says c.args.args) _ _ _ c.in_ok-ended.ended.outcome c.end_run.result (is_some c.args.args.stop_file) (c.end_run.new.out ≡ c.run_attempts.new.out) (c.end_run.new.out ≡ c.args.out.now)
+    tried.output
+    (λ f e n. ap g.O.Write.contents (tried.unwritten f e n))
+    tried.stopped
+    (λ same. ap g.O.Write.contents same)
+    (λ f e n same. same ∙ tried.unwritten f e n)
+    c.end_run.ensures.err

@@ -20,7 +20,7 @@ returns-clause-driven g c =
     c.args.session.now c.step.new.self c.keep.new.session
     (λ ks ls. commit_kept c.args.plan.commit_every c.args.plan.checkpoint_every c.commits.result c.args.tally.now c.committed.new.self ks ls (c.commits.ensures ∙ c.committed.ensures.commits))
     (one_step_by g.M.Model.meaning g.P.Port.state g.D.SectorDisk.state _ _ c.in_ok-step.field-0 c.args.session.now c.step.new.self
-    (refl, record { events_until_commit = λ reported is. omega (arith, c.committed.ensures.events_until_commit); commits = c.committed.ensures.commits; handled = not_counted c.args.tally.now.handled_per_node.items c.committed.new.self.handled_per_node.items c.committed.ensures.handled }) c.in_ok-step.ensures)) c.keep.ensures.driven
+    (refl, record { events_until_commit = λ reported is. omega (arith, c.committed.ensures.events_until_commit); commits = c.committed.ensures.commits; outstanding = c.committed.ensures.outstanding; handled = not_counted c.args.tally.now.handled_per_node.items c.committed.new.self.handled_per_node.items c.committed.ensures.handled }) c.in_ok-step.ensures)) c.keep.ensures.driven
 
 pub returns-clause-keeps : goal.returns-clause-keeps
 returns-clause-keeps g c =

@@ -1,7 +1,8 @@
-use Rattle.std.proofs.Common.{◌≡◌, ◌+◌, ◌==◌, ℕ, List, refl, ap, arith, subst, sym, length, ◌∙◌}
+use Rattle.std.proofs.Common.{◌≡◌, ◌+◌, ℕ, List, refl, ap, arith, subst, sym, length, ◌∙◌}
 use Rattle.std.proofs.lemmas.List.{length-replicate}
 use Rattle.model.specs.World.{World}
-use Rattle.runs.specs.Driver.{AreCounts, AreRounds, IsDrivenBy, IsRound, reported_since}
+use Rattle.std.specs.Prelude.{None, Option}
+use Rattle.runs.specs.Driver.{AreCounts, AreRounds, IsRound, commits_in, reported_since, round_after}
 use Rattle.runs.specs.Tallies.{IsTallied, IsTallyOf}
 use Rattle.runs.proofs.Counts.{none_handled, round_more}
 use Rattle.runs.proofs.Drives.{all_made, driven_so, driven_represents, finished, shaped_by, stood_by, then_after, then_represents}
@@ -12,14 +13,18 @@ use Rattle.runs.proofs.rounds.run_session.Goals as goal
 pub rounds-init : goal.rounds-init
 rounds-init g c = record {
   made = (omega arith, omega arith);
-  driven = stood_by g.M.Model.meaning g.P.Port.state g.D.SectorDisk.state (λ made. AreRounds c.args.plan c.args.end c.args.plan.rounds 0 made × IsTallyOf c.args.plan.commit_every c.in_ok-tally.tally made) c.args.session.now (refl, record { events_until_commit = omega (arith, c.in_ok-tally.ensures.events_until_commit); commits = c.in_ok-tally.ensures.commits; handled = none_handled c.args.plan.nodes c.in_ok-tally.tally.handled_per_node.items c.in_ok-tally.ensures.handled });
+  driven = stood_by g.M.Model.meaning g.P.Port.state g.D.SectorDisk.state (λ made. AreRounds c.args.plan c.args.end c.args.plan.rounds 0 made × IsTallyOf c.args.plan.commit_every c.args.plan.nodes c.in_ok-tally.tally made) c.args.session.now (refl, record { events_until_commit = omega (arith, c.in_ok-tally.ensures.events_until_commit); commits = c.in_ok-tally.ensures.commits; outstanding = c.in_ok-tally.ensures.outstanding; handled = none_handled c.args.plan.nodes c.in_ok-tally.tally.handled_per_node.items c.in_ok-tally.ensures.handled });
   commits = omega (arith, c.in_ok-tally.ensures.commits);
-  budgets = c.in_ok-tally.ensures.budgets;
-  counts = ap length c.in_ok-tally.ensures.handled ∙ length-replicate {A = ℕ} c.args.plan.nodes 0;
+  sized = record {
+    budgets = c.in_ok-tally.ensures.budgets;
+    outstanding = ap length c.in_ok-tally.ensures.outstanding ∙ length-replicate {A = Option ℕ} c.args.plan.nodes None;
+    turns = c.in_ok-tally.ensures.turns;
+    handled = ap length c.in_ok-tally.ensures.handled ∙ length-replicate {A = ℕ} c.args.plan.nodes 0;
+  };
 }
 
-pub returns-in_err-round-clause-keeps : goal.returns-in_err-round-clause-keeps
-returns-in_err-round-clause-keeps g c = then_represents g.M.Model.meaning g.P.Port.state g.D.SectorDisk.state c.args.session.now c.rounds.session c.round.new.session (driven_so g.M.Model.meaning g.P.Port.state g.D.SectorDisk.state _ c.args.session.now c.rounds.session c.rounds.invariant.driven) c.in_err-round.ensures.keeps
+pub returns-in_err-make_round-clause-keeps : goal.returns-in_err-make_round-clause-keeps
+returns-in_err-make_round-clause-keeps g c = then_represents g.M.Model.meaning g.P.Port.state g.D.SectorDisk.state c.args.session.now c.rounds.session c.make_round.new.session (driven_so g.M.Model.meaning g.P.Port.state g.D.SectorDisk.state _ c.args.session.now c.rounds.session c.rounds.invariant.driven) c.in_err-make_round.ensures.keeps
 
 pub rounds-preserved : goal.rounds-preserved
 rounds-preserved g c =
@@ -28,14 +33,13 @@ rounds-preserved g c =
     let now = rounds_before c.args.plan c.args.end c.rounds.last last c.rounds.made before.steps (omega (arith, c.if-made-last.false)) c.last_round-last.ensures.later before.shape.0 in
     record {
       made = (omega (arith, c.last_round-last.ensures.later), omega (arith, c.last_round-last.ensures.none_more, c.rounds.invariant.made.1));
-      driven = then_after g.M.Model.meaning g.P.Port.state g.D.SectorDisk.state _ (λ made. IsRound c.args.plan c.args.end (c.rounds.made + 1 == last) (reported_since 0 before.steps) c.rounds.tally.commits made × IsTallied c.args.plan.commit_every c.rounds.tally c.round.new.tally made)
-          (λ made. AreRounds c.args.plan c.args.end last (c.rounds.made + 1) made × IsTallyOf c.args.plan.commit_every c.round.new.tally made)
-          c.args.session.now c.rounds.session c.round.new.session before
-          (λ ls round. round_more c.args.plan c.args.end last c.rounds.made c.rounds.tally c.round.new.tally before.steps ls (now, before.shape.1) round)
-          (c.in_ok-round.ensures.driven (reported_since 0 before.steps) before.shape.1.events_until_commit);
-      commits = omega (arith, c.in_ok-round.ensures.commits, c.rounds.invariant.commits);
-      budgets = c.round.ensures.budgets ∙ c.rounds.invariant.budgets;
-      counts = c.round.ensures.counts ∙ c.rounds.invariant.counts;
+      driven = then_after g.M.Model.meaning g.P.Port.state g.D.SectorDisk.state _ (λ made. IsRound (round_after c.args.plan c.args.end last c.rounds.made) (reported_since 0 before.steps) c.rounds.tally.commits c.rounds.tally.outstanding.items made × IsTallied c.args.plan.commit_every c.rounds.tally c.make_round.new.tally made)
+          (λ made. AreRounds c.args.plan c.args.end last (c.rounds.made + 1) made × IsTallyOf c.args.plan.commit_every c.args.plan.nodes c.make_round.new.tally made)
+          c.args.session.now c.rounds.session c.make_round.new.session before
+          (λ ls round. round_more c.args.plan c.args.end last c.rounds.made c.rounds.tally c.make_round.new.tally before.steps ls (now, before.shape.1) round)
+          (c.in_ok-make_round.ensures.driven (reported_since 0 before.steps) before.shape.1.events_until_commit);
+      commits = omega (arith, c.in_ok-make_round.ensures.commits, c.rounds.invariant.commits);
+      sized = c.make_round.ensures.sized;
     }
 
 pub returns-clause-finished : goal.returns-clause-finished
@@ -88,15 +92,19 @@ returns-then-made-last-clause-stopped g c = λ time events is.
       ),
     )
 
-pub returns-in_err-round-clause-refused : goal.returns-in_err-round-clause-refused
-returns-in_err-round-clause-refused g c = λ fault e.
+pub returns-in_err-make_round-clause-refused : goal.returns-in_err-make_round-clause-refused
+returns-in_err-make_round-clause-refused g c = λ fault e.
     let before = c.rounds.invariant.driven in
     let last = c.last_round-last.result in
     let now = rounds_before c.args.plan c.args.end c.rounds.last last c.rounds.made before.steps (omega (arith, c.if-made-last.false)) c.last_round-last.ensures.later before.shape.0 in (
       c.rounds.made + 1,
       last,
       (omega (arith, c.last_round-last.ensures.later), omega (arith, c.last_round-last.ensures.none_more, c.rounds.invariant.made.1)),
-      refused_after g.M.Model.meaning g.P.Port.state g.D.SectorDisk.state _ (IsRound c.args.plan c.args.end (c.rounds.made + 1 == last) (reported_since 0 before.steps) c.rounds.tally.commits) (AreRounds c.args.plan c.args.end last (c.rounds.made + 1)) c.args.session.now c.rounds.session c.round.new.session fault before
-          (λ ls round. one_round_more c.args.plan c.args.end last c.rounds.made before.steps ls now (subst (λ (n : ℕ). IsRound c.args.plan c.args.end (c.rounds.made + 1 == last) (reported_since 0 before.steps) n ls) before.shape.1.commits round))
-          (c.in_err-round.ensures.refused (reported_since 0 before.steps) before.shape.1.events_until_commit fault (passed_on c.from_residual-in_err-round.result c.in_err-round.field-0.0 fault c.from_residual-in_err-round.ensures.1 e)),
+      refused_after g.M.Model.meaning g.P.Port.state g.D.SectorDisk.state _ (IsRound (round_after c.args.plan c.args.end last c.rounds.made) (reported_since 0 before.steps) c.rounds.tally.commits c.rounds.tally.outstanding.items) (AreRounds c.args.plan c.args.end last (c.rounds.made + 1)) c.args.session.now c.rounds.session c.make_round.new.session fault before
+          (λ ls round. one_round_more c.args.plan c.args.end last c.rounds.made before.steps ls now (subst (λ (o : List (Option ℕ)). IsRound (round_after c.args.plan c.args.end last c.rounds.made) (reported_since 0 before.steps) (commits_in before.steps) o ls) before.shape.1.outstanding
+          (subst (λ (n : ℕ). IsRound (round_after c.args.plan c.args.end last c.rounds.made) (reported_since 0 before.steps) n c.rounds.tally.outstanding.items ls) before.shape.1.commits round)))
+          (c.in_err-make_round.ensures.refused (reported_since 0 before.steps) before.shape.1.events_until_commit fault (passed_on c.from_residual-in_err-make_round.result c.in_err-make_round.field-0.0 fault c.from_residual-in_err-make_round.ensures.1 e)),
     )
+
+pub returns-clause-count : goal.returns-clause-count
+returns-clause-count g c = ap length c.into_handled_per_node.ensures ∙ c.rounds.invariant.sized.handled

@@ -1,15 +1,14 @@
-use Rattle.std.proofs.Common.{◌≡◌, ◌≤◌, ◌-◌, length}
+use Rattle.std.proofs.Common.{◌≤◌, ◌-◌}
 use Rattle.runs.specs.Driver.{AreRounds, IsDrivenBy}
-use Rattle.runs.specs.Tallies.{IsTallyOf}
+use Rattle.runs.specs.Tallies.{IsSized, IsTallyOf}
 use Rattle.runs.proofs.rounds.run_session.Given as goal
 
 abbrev pub invariant-rounds : goal.invariant-rounds
 invariant-rounds g l = record {
   made : (l.made ≤ l.last) × (l.last ≤ l.plan.rounds);
-  driven : IsDrivenBy g.M.Model.meaning g.P.Port.state g.D.SectorDisk.state (λ made. AreRounds l.plan l.end l.last l.made made × IsTallyOf l.plan.commit_every l.tally made) l.fn.session l.session;
+  driven : IsDrivenBy g.M.Model.meaning g.P.Port.state g.D.SectorDisk.state (λ made. AreRounds l.plan l.end l.last l.made made × IsTallyOf l.plan.commit_every l.plan.nodes l.tally made) l.fn.session l.session;
   commits : l.tally.commits ≤ l.made;
-  budgets : length l.tally.budgets.items ≡ l.plan.nodes;
-  counts : length l.tally.handled_per_node.items ≡ l.plan.nodes;
+  sized : IsSized l.plan.nodes l.tally;
 }
 
 abbrev pub decreases-rounds : goal.decreases-rounds

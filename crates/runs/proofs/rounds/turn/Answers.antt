@@ -11,8 +11,8 @@ pub returns-clause-driven : goal.returns-clause-driven
 returns-clause-driven g c =
     on_ok c.take.result
     (then_by g.M.Model.meaning g.P.Port.state g.D.SectorDisk.state _ _ _ c.args.session.now c.post.new.session c.take.new.session
-    (both_tallied c.args.plan.commit_every (IsPost c.args.plan c.args.node) (λ taken. moves_of taken ≡ Take c.args.node ∷ []) (IsTurn c.args.plan c.args.node) c.args.tally.now c.post.new.tally c.take.new.tally
-    (post_then_take c.args.plan c.args.node)) c.in_ok-post.ensures.driven) (c.take.ensures.driven c.args.plan.commit_every)
+    (both_tallied c.args.round.plan.commit_every (IsPost c.args.round.plan c.args.node) (λ taken. moves_of taken ≡ Take c.args.node ∷ []) (IsTurn c.args.round.plan c.args.node) c.args.tally.now c.post.new.tally c.take.new.tally
+    (post_then_take c.args.round.plan c.args.node)) c.in_ok-post.ensures.driven) c.take.ensures.driven
 
 pub returns-clause-keeps : goal.returns-clause-keeps
 returns-clause-keeps g c =
@@ -20,9 +20,9 @@ returns-clause-keeps g c =
     (driven_so g.M.Model.meaning g.P.Port.state g.D.SectorDisk.state _ c.args.session.now c.post.new.session c.in_ok-post.ensures.driven) c.take.ensures.keeps
 
 pub returns-in_err-post-clause-refused : goal.returns-in_err-post-clause-refused
-returns-in_err-post-clause-refused g c = λ fault is. refused_first g.M.Model.meaning g.P.Port.state g.D.SectorDisk.state (IsPost c.args.plan c.args.node) (IsTurn c.args.plan c.args.node) c.args.session.now c.post.new.session fault (after_post c.args.plan c.args.node) (c.in_err-post.ensures.refused fault (passed_on c.from_residual.result c.in_err-post.field-0.0 fault c.from_residual.ensures.1 is))
+returns-in_err-post-clause-refused g c = λ fault is. refused_first g.M.Model.meaning g.P.Port.state g.D.SectorDisk.state (IsPost c.args.round.plan c.args.node) (IsTurn c.args.round.plan c.args.node) c.args.session.now c.post.new.session fault (after_post c.args.round.plan c.args.node) (c.in_err-post.ensures.refused fault (passed_on c.from_residual.result c.in_err-post.field-0.0 fault c.from_residual.ensures.1 is))
 
 pub returns-clause-refused : goal.returns-clause-refused
 returns-clause-refused g c = λ fault is.
-    refused_then g.M.Model.meaning g.P.Port.state g.D.SectorDisk.state (IsPost c.args.plan c.args.node) (λ taken. moves_of taken ≡ Take c.args.node ∷ []) (IsTurn c.args.plan c.args.node) c.args.session.now c.post.new.session c.take.new.session fault (post_then_take c.args.plan c.args.node) c.in_ok-post.ensures.driven
+    refused_then g.M.Model.meaning g.P.Port.state g.D.SectorDisk.state (IsPost c.args.round.plan c.args.node) (λ taken. moves_of taken ≡ Take c.args.node ∷ []) (IsTurn c.args.round.plan c.args.node) c.args.session.now c.post.new.session c.take.new.session fault (post_then_take c.args.round.plan c.args.node) c.in_ok-post.ensures.driven
     (c.take.ensures.refused fault is)

@@ -1,4 +1,4 @@
-use Rattle.std.proofs.Common.{◌≡◌, ◌∙◌, ◌+◌, arith, refl, subst}
+use Rattle.std.proofs.Common.{◌≡◌, ◌+◌, arith, refl, subst}
 use Rattle.runs.specs.Driver.{IsDrivenBy, AreTurns, IsTurn}
 use Rattle.runs.specs.Tallies.{Tallied}
 use Rattle.runs.proofs.Counts.{both_tallied, no_move}
@@ -9,10 +9,9 @@ use Rattle.runs.proofs.rounds.turns.Goals as goal
 
 pub nodes-init : goal.nodes-init
 nodes-init g c = record {
-  driven = stood_by g.M.Model.meaning g.P.Port.state g.D.SectorDisk.state _ c.args.session.now (no_move c.args.plan.commit_every (AreTurns c.args.plan 0) c.args.tally.now refl);
+  driven = stood_by g.M.Model.meaning g.P.Port.state g.D.SectorDisk.state _ c.args.session.now (no_move c.args.round.plan.commit_every (AreTurns c.args.round.plan 0) c.args.tally.now refl);
   commits = refl;
-  budgets = refl;
-  counts = refl;
+  sized = c.requires.sized;
 }
 
 pub returns-in_err-turn-clause-keeps : goal.returns-in_err-turn-clause-keeps
@@ -23,21 +22,20 @@ returns-in_err-turn-clause-keeps g c =
 pub nodes-preserved : goal.nodes-preserved
 nodes-preserved g c = record {
   driven = then_by g.M.Model.meaning g.P.Port.state g.D.SectorDisk.state _ _ _ c.args.session.now c.nodes.session c.turn.new.session
-      (both_tallied c.args.plan.commit_every (AreTurns c.args.plan c.nodes.node) (IsTurn c.args.plan c.nodes.node) (AreTurns c.args.plan (c.nodes.node + 1)) c.args.tally.now c.nodes.tally c.turn.new.tally (one_turn_more c.args.plan c.nodes.node))
+      (both_tallied c.args.round.plan.commit_every (AreTurns c.args.round.plan c.nodes.node) (IsTurn c.args.round.plan c.nodes.node) (AreTurns c.args.round.plan (c.nodes.node + 1)) c.args.tally.now c.nodes.tally c.turn.new.tally (one_turn_more c.args.round.plan c.nodes.node))
       c.nodes.invariant.driven c.in_ok-turn.ensures.driven;
   commits = omega (arith, c.turn.ensures.commits, c.nodes.invariant.commits);
-  budgets = c.turn.ensures.budgets ∙ c.nodes.invariant.budgets;
-  counts = c.turn.ensures.counts ∙ c.nodes.invariant.counts;
+  sized = c.turn.ensures.sized;
 }
 
 pub returns-clause-driven : goal.returns-clause-driven
 returns-clause-driven g c =
-    let whole : c.nodes.node ≡ c.args.plan.nodes = omega (arith, c.nodes-test.false, c.nodes.auto.node-end) in
-    subst (λ n. IsDrivenBy g.M.Model.meaning g.P.Port.state g.D.SectorDisk.state (Tallied c.args.plan.commit_every (AreTurns c.args.plan n) c.args.tally.now c.nodes.tally) c.args.session.now c.nodes.session) whole c.nodes.invariant.driven
+    let whole : c.nodes.node ≡ c.args.round.plan.nodes = omega (arith, c.nodes-test.false, c.nodes.auto.node-end) in
+    subst (λ n. IsDrivenBy g.M.Model.meaning g.P.Port.state g.D.SectorDisk.state (Tallied c.args.round.plan.commit_every (AreTurns c.args.round.plan n) c.args.tally.now c.nodes.tally) c.args.session.now c.nodes.session) whole c.nodes.invariant.driven
 
 pub returns-clause-keeps : goal.returns-clause-keeps
 returns-clause-keeps g c = driven_represents g.M.Model.meaning g.P.Port.state g.D.SectorDisk.state c.args.session.now c.nodes.session (driven_so g.M.Model.meaning g.P.Port.state g.D.SectorDisk.state _ c.args.session.now c.nodes.session c.nodes.invariant.driven)
 
 pub returns-in_err-turn-clause-refused : goal.returns-in_err-turn-clause-refused
 returns-in_err-turn-clause-refused g c = λ fault is.
-    refused_within g.M.Model.meaning g.P.Port.state g.D.SectorDisk.state (AreTurns c.args.plan) (IsTurn c.args.plan c.nodes.node) c.nodes.node c.args.plan.nodes c.args.session.now c.nodes.session c.turn.new.session fault c.nodes-test.true (turns_more c.args.plan) (one_turn_more c.args.plan c.nodes.node) c.nodes.invariant.driven (c.in_err-turn.ensures.refused fault (passed_on c.from_residual.result c.in_err-turn.field-0.0 fault c.from_residual.ensures.1 is))
+    refused_within g.M.Model.meaning g.P.Port.state g.D.SectorDisk.state (AreTurns c.args.round.plan) (IsTurn c.args.round.plan c.nodes.node) c.nodes.node c.args.round.plan.nodes c.args.session.now c.nodes.session c.turn.new.session fault c.nodes-test.true (turns_more c.args.round.plan) (λ ks ls same. one_turn_more c.args.round.plan c.nodes.node ks ls) c.nodes.invariant.driven (c.in_err-turn.ensures.refused fault (passed_on c.from_residual.result c.in_err-turn.field-0.0 fault c.from_residual.ensures.1 is))

@@ -12,7 +12,7 @@ returns-in-Ok-clause-reported c =
     c.new.ensures ∙ sym (file_right (table_view c.args.table.now) c.in-Ok._file.0 c.in-Ok._file.1 c.in-Ok.ensures.ok)
 
 pub returns-in-Ok-clause-none : goal.returns-in-Ok-clause-none
-returns-in-Ok-clause-none c = λ e. (Rules c.in-Ok._file.0, c.in-Ok._file.1, c.in-Ok.ensures.ok)
+returns-in-Ok-clause-none c = λ e. (Rules c.in-Ok._file.0 c.in-Ok._file.2, c.in-Ok._file.1, c.in-Ok.ensures.ok)
 
 pub returns-in-Err-BadModel-clause-some : goal.returns-in-Err-BadModel-clause-some
 returns-in-Err-BadModel-clause-some c =

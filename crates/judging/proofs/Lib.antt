@@ -1,0 +1,4 @@
+pub mod Accepted
+pub mod Alike
+mod Handlings
+mod Sending

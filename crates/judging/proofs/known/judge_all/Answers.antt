@@ -1,0 +1,8 @@
+use Rattle.std.proofs.Common.{refl}
+use Rattle.judging.proofs.Accepted.{judged_more}
+use Rattle.judging.proofs.known.judge_all.Goals as goal
+
+pub reports-preserved : goal.reports-preserved
+reports-preserved g c =
+    judged_more (g.M.Model.meaning c.args.model.now) c.args.every c.args.nodes c.args.known.now.items c.args.reports.now c.reports.done-index c.done-item.result c.reports.known.items c.judge_one.new.known.items c.reports-test.true c.done-item.is
+    (c.if-not-judge_one.ensures.accepted.0 refl) (c.if-not-judge_one.ensures.moved refl) c.reports.invariant

@@ -1,0 +1,5 @@
+use Rattle.judging.proofs.Accepted.{IsJudgedSoFar}
+use Rattle.judging.proofs.known.judge_all.Given as goal
+
+abbrev pub invariant-reports : goal.invariant-reports
+invariant-reports g l = IsJudgedSoFar (g.M.Model.meaning l.model) l.every l.nodes l.initial.known.items l.reports l.done-index l.known.items

@@ -1,0 +1,54 @@
+-- A port that judges the reports of its node, as contracts see it.
+use Rattle.std.specs.Prelude.{Bool, Err, IfErr, List, Result, false, if◌then◌else◌, true, ℕ, ◌≡◌}
+use Rattle.model.specs.Meaning.{Meaning}
+use Rattle.node.specs.declared.Parcel.{Parcel}
+use Rattle.node.specs.declared.Reply.{Reply}
+use Rattle.judging.specs.Judging.{AreJudged, Known}
+use Rattle.wire.specs.Port.{IsTakeFault, IsTaken, PortState, Stage}
+use Rattle.wire.specs.Port.Stage.{Ended, Idle, Posted}
+use Rattle.wire.specs.declared.port.PortFault.{PortFault}
+use Rattle.wire.specs.declared.port.PortFault.TheVariants.{BadReply}
+
+-- the model by which it judges, the port to the node, how often it judges, the number of nodes, what
+-- is known of the node's processes, and whether it refused a reply or a load
+pub record Judged (M P : Type 0) : Type 0 where
+  pub model : M
+  pub port : P
+  pub every : ℕ
+  pub nodes : ℕ
+  pub known : List Known
+  pub ended : Bool
+
+-- The state of a port that judges over a port in this state. It makes no promise of a faithful port,
+-- since it can refuse a reply.
+abbrev pub judged_state : Bool → PortState → PortState
+judged_state ended s = record {
+  stage = if ended then Ended else s.stage;
+  faithful = false;
+  meaning = s.meaning;
+  node = s.node;
+}
+
+abbrev pub state_by : {M P : Type 0} → (P → PortState) → Judged M P → PortState
+state_by state j = judged_state j.ended (state j.port)
+
+-- this reply is one that the port below can have returned
+abbrev pub IsTakenBelow : PortState → PortState → Reply → Type 0
+IsTakenBelow old new reply = (parcel : Parcel) → old.stage ≡ Posted parcel → old.faithful ≡ true →
+    IsTaken parcel old new reply
+
+-- The judge passes this reply on: the port below returned it, and its reports are judged by what was
+-- known.
+pub record IsPassed {M P : Type 0} (meaning : M → Meaning) (state : P → PortState)
+    (old new : Judged M P) (reply : Reply) : Type 0 where
+  pub taken : IsTakenBelow (state old.port) (state new.port) reply
+  pub judged : AreJudged (meaning old.model) old.every old.nodes old.known reply.fossils new.known
+
+-- The judge refuses a reply that the port below returned: its reports are not all accepted.
+pub record IsRefused {M P : Type 0} (meaning : M → Meaning) (state : P → PortState)
+    (old new : Judged M P) (fault : PortFault) : Type 0 where
+  pub fault_is : fault ≡ BadReply
+  pub reply : Reply
+  pub taken : IsTakenBelow (state old.port) (state new.port) reply
+  pub differs : (ks : List Known) →
+      AreJudged (meaning old.model) old.every old.nodes old.known reply.fossils ks → ⊥

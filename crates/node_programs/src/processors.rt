@@ -1,0 +1,79 @@
+// The processors on which this program may run, for node programs that have one each.
+
+use crate::fault::{NodesFault, unreadable};
+use std::alloc::{AllocError, Global};
+use std::fs::{self, File};
+use std::process::Command;
+use std::rt::Files;
+
+/// The maximum number of processors that are listed: a run has at most this many nodes.
+const MOST: usize = 64;
+
+/// The processors on which the system lets this program run, at most 64 of them.
+///
+/// Fails with `File` if the system does not say so, and with `NoMemory`.
+pub(crate) fn processors<R>(rt: &R) -> Result<Vec<u32>, NodesFault>
+where
+    R: Files<File = File> + AllocGlobal,
+{
+    let status = fs::read_to_string(rt, "/proc/self/status").map_err(unreadable)?;
+    for line in status.as_str().split('\n') {
+        if let Some(list) = line.strip_prefix("Cpus_allowed_list:") {
+            return listed(rt.alloc(), list.trim());
+        }
+    }
+    Err(NodesFault::File)
+}
+
+/// The numbers of a list such as `0-3,8`, at most 64 of them. Fails with `File` if it is none.
+fn listed(alloc: Global, list: &str) -> Result<Vec<u32>, NodesFault> {
+    let mut processors = Vec::with_capacity(alloc, MOST)?;
+    for part in list.split(',') {
+        let Some((first, last)) = span_of(part) else {
+            return Err(NodesFault::File);
+        };
+        append_span(first, last, &mut processors)?;
+    }
+    Ok(processors)
+}
+
+/// The first and the last number of a text such as `0-3` or `8`.
+fn span_of(text: &str) -> Option<(u32, u32)> {
+    let (first, last) = match text.split_once('-') {
+        Some(parts) => parts,
+        None => (text, text),
+    };
+    Some((first.parse::<u32>().ok()?, last.parse::<u32>().ok()?))
+}
+
+/// Appends the numbers from the first to the last, until there are 64.
+fn append_span(first: u32, last: u32, processors: &mut Vec<u32>) -> Result<(), NodesFault> {
+    for processor in first..=last {
+        if processors.len() >= MOST {
+            return Ok(());
+        }
+        processors.push(processor)?;
+    }
+    Ok(())
+}
+
+/// The processor of a node: its own if there are as many as nodes, and otherwise they are shared in
+/// turn.
+pub(crate) fn processor_of(processors: &[u32], node: usize) -> Option<u32> {
+    if processors.is_empty() {
+        return None;
+    }
+    processors.get(node % processors.len()).copied()
+}
+
+/// The command that starts a program on a processor.
+pub(crate) fn command_on(
+    alloc: Global,
+    processor: u32,
+    program: &str,
+) -> Result<Command, AllocError> {
+    let number = format!(in alloc; "{processor}")?;
+    let mut command = Command::new(alloc, "taskset")?;
+    command.arg("-c")?.arg(number.as_str())?.arg(program)?;
+    Ok(command)
+}

@@ -1,0 +1,56 @@
+// Attempts of runs without nodes.
+
+ghost use Rattle.std.specs.Prelude.{◌≡◌, ◌≤◌, ◌^◌, ℕ, List};
+ghost use Rattle.program.specs.Command.{plain_plan_of, IsRan, IsStoppedText, IsTried};
+ghost use Rattle.texts.specs.ModelFile.{IsModelFile};
+
+use crate::watching::Watching;
+use cli::RunArgs;
+use commands::{Ended, Simulated};
+use disk::FileDisk;
+use plain::Plan;
+use std::alloc::Global;
+use std::fs::File;
+use std::io::Write;
+use std::rt::Files;
+use std::time::Clock;
+use terminal::Progress;
+use texts::Described;
+
+/// Returns the plan of a run without nodes by the options of its command. A commit has room for
+/// 299,592 events, and takes all those of a virtual time at once, so one is due at 250,000 at the
+/// latest.
+fn plain_plan_of(args: &RunArgs<'_>) -> Plan
+    ensures { result ≡ plain_plan_of args.now }
+{
+    Plan {
+        commit_every: args.commit_every.unwrap_or(4096).min(250_000),
+        checkpoint_every: args.checkpoint.unwrap_or(0),
+        commits: args.rounds,
+    }
+}
+
+/// Makes an attempt of a run one event at a time and without nodes.
+pub(crate) fn attempt_plainly<M, R, P, O>(
+    alloc: Global,
+    of: &Simulated<M>,
+    disk: FileDisk,
+    args: &RunArgs<'_>,
+    watch: &mut Watching<'_, R, P>,
+    out: &mut O,
+) -> Ended<FileDisk>
+where
+    M: Described,
+    R: Files<File = File> + Clock,
+    P: Progress,
+    O: Write,
+    requires file { (text : List ℕ) × IsModelFile M.says text of.now.model of.now.end }
+    requires some { 1 ≤ of.now.end }
+    requires short { of.now.end ≤ 2 ^ 40 }
+    ensures { IsTried (IsRan M.meaning M.says 0) (IsStoppedText M.meaning M.says)
+        result.outcome (out.new ≡ out.old) (O.contents out.old) (O.contents out.new) }
+{
+    let plan = plain_plan_of(args);
+    watch.commit_every = plan.commit_every;
+    commands::run_plain(alloc, of, disk, plan, watch, out)
+}
