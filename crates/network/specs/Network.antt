@@ -22,7 +22,8 @@ pub record Torus : Type 0 where
   pub seed : ℕ  -- the key of the first words
   pub work : ℕ  -- the number of unused words that each handling draws
 
--- The number of switches. Row 0 begins with switch 0, and row 1 with switch `width`.
+-- The number of switches, counted row by row: the first row begins with switch 0, the second with
+-- switch `width`.
 abbrev pub switches : Torus → ℕ
 switches n = n.height * n.width
 
