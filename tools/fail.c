@@ -105,6 +105,7 @@ ON_PATH(unlink)
 int stat(const char *path, struct stat *more) { FAILS(stat, -1); return REAL(stat)(path, more); }
 int stat64(const char *path, struct stat64 *more) { FAILS(stat64, -1); return REAL(stat64)(path, more); }
 int rename(const char *from, const char *to) { FAILS(rename, -1); return REAL(rename)(from, to); }
+int link(const char *from, const char *to) { FAILS(link, -1); return REAL(link)(from, to); }
 int statx(int folder, const char *restrict path, int flags, unsigned mask, struct statx *restrict more) {
     FAILS(statx, -1);
     return REAL(statx)(folder, path, flags, mask, more);

@@ -1,3 +1,3 @@
-mod Autos
+mod Flags
 mod Lines
 mod Readings

@@ -22,21 +22,15 @@ use Rattle.clap.specs.declared.error.Error.{Error}
 use Rattle.clap.specs.declared.builder.value_parser.ValueParser.TheVariants.{Unsigned}
 use Rattle.clap.specs.declared.parser.matches.ArgMatches.{ArgMatches}
 use Rattle.clap.specs.declared.parser.matches.ArgMatches.TheViews.{out-ArgMatches, out-SubCommand}
-use Rattle.cli.specs.Command.{AddsArgument, AddsCommand, IsApp, grammar_of, IsNamed, number_of, program_by, refusal_of, unread_fault, value_fault}
+use Rattle.cli.specs.Command.{AddsArgument, AddsCommand, IsApp, IsNamed, number_of, program_of, refusal_of, unread_fault, value_fault}
 
-pub program_is_simple : (word large : Bool) (called : Text) → is_simple (program_by word large called) ≡ true
+pub program_is_simple : (called : Text) → is_simple (program_of called) ≡ true
 unfolding clap_on_literals
-program_is_simple false false called = refl
-program_is_simple false true called = refl
-program_is_simple true false called = refl
-program_is_simple true true called = refl
+program_is_simple called = refl
 
-pub program_is_free : (word large : Bool) (called : Text) → is_simple_and_free (program_by word large called) ≡ true
+pub program_is_free : (called : Text) → is_simple_and_free (program_of called) ≡ true
 unfolding clap_on_literals
-program_is_free false false called = refl
-program_is_free false true called = refl
-program_is_free true false called = refl
-program_is_free true true called = refl
+program_is_free called = refl
 
 module _ {X N R : Type 0} (f : X → N) (g : X → R) where
   -- a name and rows that are found separately are found together
@@ -66,9 +60,9 @@ found_among test f (x ∷ xs) y h = elim (cases_Bool (test x)) [
 ]
 
 -- there are no other commands
-entered_named : (word large : Bool) (called : Text) (stop : Option (Text × List Text)) (found : Text × List Row) → entered (built (program_by word large called)) stop ≡ Some found → IsNamed found.0
-entered_named word large called None found h = cc
-entered_named word large called (Some p) found h = elim (found_among (λ s. answers_to p.0 (label_of s)) (λ s. rows_at s p.1) (built (program_by word large called)).subs found h) [
+entered_named : (called : Text) (stop : Option (Text × List Text)) (found : Text × List Row) → entered (built (program_of called)) stop ≡ Some found → IsNamed found.0
+entered_named called None found h = cc
+entered_named called (Some p) found h = elim (found_among (λ s. answers_to p.0 (label_of s)) (λ s. rows_at s p.1) (built (program_of called)).subs found h) [
   | inl e ↦ inl (sym (ap (λ r. r.0) e))
   | inr (inl e) ↦ inr (inl (sym (ap (λ r. r.0) e)))
   | inr (inr (inl e)) ↦ inr (inr (inl (sym (ap (λ r. r.0) e))))
@@ -87,9 +81,9 @@ entered_named word large called (Some p) found h = elim (found_among (λ s. answ
   | inr (inr (inr (inr (inr (inr (inr (inr (inr (inr (inr (inr (inr (inr (inr e)))))))))))))) ↦ absurd e
 ]
 
-pub only_named : (word large : Bool) (called : Text) (words : List Text) (name : Text) (rows : List Row) → subcommand_of (program_by word large called) words ≡ Some (name, rows) → IsNamed name
-only_named word large called words name rows h =
-    entered_named word large called (stop_after (built (program_by word large called)).top.rules (names_of (built (program_by word large called))) (argument_words (program_by word large called) words)) (name, rows) h
+pub only_named : (called : Text) (words : List Text) (name : Text) (rows : List Row) → subcommand_of (program_of called) words ≡ Some (name, rows) → IsNamed name
+only_named called words name rows h =
+    entered_named called (stop_after (built (program_of called)).top.rules (names_of (built (program_of called))) (argument_words (program_of called) words)) (name, rows) h
 
 pub now_or : (o : Option (Bor (List ℕ))) (d : Bor (List ℕ)) → (unwrap_or o d).now ≡ unwrap_or (option_map (λ s. s.now) o) d.now
 now_or None d = refl
@@ -197,6 +191,6 @@ refused_first [] next (Err f) e same fails = elim fails [
 ]
 
 -- if clap does not refuse the words, the values that it found decide
-pub refused_then : (called : Text) (words : List Text) (name : Text) (rows : List Row) → fault_of (grammar_of called words) words ≡ [] → subcommand_of (grammar_of called words) words ≡ Some (name, rows)
+pub refused_then : (called : Text) (words : List Text) (name : Text) (rows : List Row) → fault_of (program_of called) words ≡ [] → subcommand_of (program_of called) words ≡ Some (name, rows)
     → refusal_of called words ≡ unread_fault rows
 refused_then called words name rows passes found = ap₂ (λ (ks : Kinds) (s : Option (Text × List Row)). or_else ks (value_fault s)) passes found

@@ -1,10 +1,9 @@
 -- The command line of a program (this project's profile), in the terms of clap: its commands, and
 -- the meaning of a parsed command.
 use Rattle.std.specs.Prelude.{◌≡◌, ◌⊎◌, ◌≤◌, ◌==◌, ◌&&◌, ◌||◌, ℕ, List, [], ◌∷◌, Option, Some, None}
-use Rattle.std.specs.Prelude.{Bool, true, false, not, drop, nat_le, nat_lt, is_some, codes, option_map}
+use Rattle.std.specs.Prelude.{Bool, true, false, not, nat_le, nat_lt, is_some, codes, option_map}
 use Rattle.std.specs.Prelude.{unwrap_or, option_and_then, if◌then◌else◌, IfSome, IsOkAnd, Result, ⊤}
 use Rattle.std.specs.List.{after_first, before_first}
-use Rattle.std.specs.Option.{option_map_or}
 use Rattle.std.specs.Str.{bytes_eq}
 use Rattle.std.specs.Str.Parse.{digits_value, without_leading_plus}
 use Rattle.clap.specs.Kinds.{or_else}
@@ -100,10 +99,6 @@ abbrev pub most_sectors : Bool → ℕ
 most_sectors false = 131072
 most_sectors true = 16777216
 
--- the number of sectors of a disk, at least 8
-abbrev pub sectors_option : Bool → Text → Rule
-sectors_option large default = number_option (codes "sectors") 8 (most_sectors large) default
-
 -- an option without a value
 abbrev pub flag : Text → Rule
 flag name = record (new_rule name) { long = Some name; action = Some SetTrue }
@@ -132,28 +127,21 @@ abbrev pub on_any_disk : Text → App
 on_any_disk name = with_rule (on_disk name) large_option
 
 -- a disk with its number of sectors; it may be a large one
-abbrev pub new_command : Bool → App
-new_command large = with_rule (with_rule (on_disk (codes "new"))
-    (sectors_option large (codes "4096")))
+abbrev pub new_command : App
+new_command = with_rule (with_rule (on_disk (codes "new"))
+    (text_option (codes "sectors") (codes "4096")))
     large_option
 
--- a batch: a number of messages, 1 to 2^32 - 1; or, if it is given as a word, any text
-abbrev pub batch_option : Bool → Rule
-batch_option false = optional_number (codes "batch") 1 4294967295
-batch_option true = any_text (codes "batch")
-
 -- the number of sectors of a disk that a run makes
-abbrev pub created_option : Bool → Rule
-created_option large = record (optional_number (codes "created") 8 (most_sectors large)) {
-  long = Some (codes "sectors");
-}
+abbrev pub created_option : Rule
+created_option = record (any_text (codes "created")) { long = Some (codes "sectors") }
 
 -- how a run is made: 1 to 64 nodes; a batch; 1 to 2^32 - 1 rounds; a checkpoint every 1 to 1,000,000
 -- commits; a commit for 1 to 400,000 events; without nodes
-abbrev pub run_made : Bool → App
-run_made word = with_rule (with_rule (with_rule (with_rule (with_rule (with_rule
+abbrev pub run_made : App
+run_made = with_rule (with_rule (with_rule (with_rule (with_rule (with_rule
     (on_disk (codes "run")) (optional_number (codes "nodes") 1 64))
-    (batch_option word))
+    (any_text (codes "batch")))
     (number_option (codes "rounds") 1 4294967295 (codes "1000000")))
     (optional_number (codes "checkpoint") 1 1000000))
     (optional_number (codes "commit-every") 1 400000))
@@ -163,9 +151,9 @@ run_made word = with_rule (with_rule (with_rule (with_rule (with_rule (with_rule
 -- work at the same time, or also while replies are taken; programs that are awaited instead of
 -- started, or have a processor each; which of their reports are judged; after how many seconds of
 -- silence they are lost; and how often the run is then begun again
-abbrev pub run_apart : Bool → App
-run_apart word = with_rule (with_rule (with_rule (with_rule (with_rule (with_rule (with_rule
-    (with_rule (with_rule (run_made word) (optional_text (codes "sockets")))
+abbrev pub run_apart : App
+run_apart = with_rule (with_rule (with_rule (with_rule (with_rule (with_rule (with_rule
+    (with_rule (with_rule run_made (optional_text (codes "sockets")))
     (optional_number (codes "cut") 0 4294967295))
     (flag (codes "together")))
     (flag (codes "overlap")))
@@ -178,33 +166,27 @@ run_apart word = with_rule (with_rule (with_rule (with_rule (with_rule (with_rul
 -- and with what beside it: the file of a trace; the file that ends the run; a line of progress every
 -- 1 to 86,400 seconds; a disk that is made longer where it is full, or made if it is not there, and
 -- its number of sectors; and the disk may be a large one
-abbrev pub run_command : Bool → Bool → App
-run_command word large = with_rule (with_rule (with_rule (with_rule (with_rule (with_rule
-    (with_rule (run_apart word) (optional_text (codes "trace")))
+abbrev pub run_command : App
+run_command = with_rule (with_rule (with_rule (with_rule (with_rule (with_rule
+    (with_rule run_apart (optional_text (codes "trace")))
     (optional_text (codes "stop-file")))
     (optional_number (codes "progress") 1 86400))
     (flag (codes "grow-when-full")))
     (flag (codes "create")))
-    (created_option large))
+    created_option)
     large_option
 
--- the maximum number of sectors, as the default of an option
-abbrev pub most_text : Bool → Text
-most_text false = codes "131072"
-most_text true = codes "16777216"
-
 -- a disk with the number of sectors that it then has; it may be a large one
-abbrev pub grow_command : Bool → App
-grow_command large = with_rule (with_rule (on_disk (codes "grow"))
-    (sectors_option large (most_text large)))
+abbrev pub grow_command : App
+grow_command = with_rule (with_rule (on_disk (codes "grow")) (any_text (codes "sectors")))
     large_option
 
 -- a disk of format 1, and a disk of format 2 with its number of sectors; both may be large ones
-abbrev pub migrate_command : Bool → App
-migrate_command large = with_rule (with_rule (with_rule (with_rule (on_model (codes "migrate"))
+abbrev pub migrate_command : App
+migrate_command = with_rule (with_rule (with_rule (with_rule (on_model (codes "migrate"))
     (path_argument (codes "OLD")))
     (path_argument (codes "NEW")))
-    (sectors_option large (codes "4096")))
+    (text_option (codes "sectors") (codes "4096")))
     large_option
 
 -- the model's names are printed
@@ -263,15 +245,14 @@ without_commands called = record (new_app called) {
   };
 }
 
--- the program of this name; the batch is given as a word or as a number, and disks are asked for as
--- large ones or not
-abbrev pub program_by : Bool → Bool → Text → App
-program_by word large called = with_subcommand (with_subcommand (with_subcommand (with_subcommand
+-- the program of this name
+abbrev pub program_of : Text → App
+program_of called = with_subcommand (with_subcommand (with_subcommand (with_subcommand
     (with_subcommand (with_subcommand
     (with_subcommand (with_subcommand (with_subcommand (with_subcommand (with_subcommand
     (with_subcommand (with_subcommand (with_subcommand (with_subcommand (without_commands called)
-    (new_command large).top) (run_command word large).top) (on_any_disk (codes "extend")).top)
-    (grow_command large).top) (migrate_command large).top)
+    new_command.top) run_command.top) (on_any_disk (codes "extend")).top)
+    grow_command.top) migrate_command.top)
     (on_any_disk (codes "reopen")).top) (on_any_disk (codes "status")).top)
     (on_any_disk (codes "verify")).top) log_command.top) show_command.top)
     stats_command.top) draw_command.top) (on_model (codes "seq")).top)
@@ -281,24 +262,9 @@ program_by word large called = with_subcommand (with_subcommand (with_subcommand
 abbrev pub refusing : Text → ValueParser → Text → App
 refusing option parser text = with_rule (new_app option) (choice_option option parser text)
 
--- ---- the batch as a word
+-- ---- flags among words that need not name a command
 
--- the next word is `auto`
-abbrev pub begins_auto : List Text → Bool
-begins_auto [] = false
-begins_auto (word ∷ rest) = bytes_eq word (codes "auto")
-
--- the batch is given as the word `auto`: as `--batch` directly followed by `auto`, or as
--- `--batch=auto`, before any word `--`, which ends the options
-unfoldable pub says_auto : List Text → Bool
-says_auto [] = false
-says_auto (word ∷ rest) = not (bytes_eq word (codes "--"))
-    && (bytes_eq word (codes "--batch=auto")
-    || (bytes_eq word (codes "--batch") && begins_auto rest) || says_auto rest)
-
--- ---- large disks, and advice
-
--- this flag is among the words, before any word `--`
+-- this flag is among the words, before any word `--`, which ends the options
 unfoldable pub says_flag : Text → List Text → Bool
 says_flag flag [] = false
 says_flag flag (word ∷ rest) = not (bytes_eq word (codes "--"))
@@ -311,10 +277,6 @@ says_large = says_flag (codes "--large")
 -- advice is asked for
 abbrev pub says_advice : List Text → Bool
 says_advice = says_flag (codes "--advice")
-
--- the program of this name that reads these words; the first word is the program's own name
-abbrev pub grammar_of : Text → List Text → App
-grammar_of called words = program_by (says_auto (drop 1 words)) (says_large (drop 1 words)) called
 
 -- ---- building them
 
@@ -391,14 +353,19 @@ range_of text = range_between (before_first (λ b. b == 46) text) (after_first (
 
 -- ---- invalid values
 
--- the text is a number of at least 1
-abbrev pub is_positive : Text → Bool
-is_positive text = option_map_or (λ n. nat_le 1 n) (written_number text) false
+-- the text is a number from `least` to `most`
+abbrev pub is_number : ℕ → ℕ → Text → Bool
+is_number least most text = accepts true (Unsigned least most) text
 
--- a batch that is neither `auto` nor a number of at least 1
+-- a batch that is neither `auto` nor a number from 1 to 2^32 - 1
 abbrev pub is_no_batch : Option Text → Bool
 is_no_batch None = false
-is_no_batch (Some text) = not (bytes_eq text (codes "auto") || is_positive text)
+is_no_batch (Some text) = not (bytes_eq text (codes "auto") || is_number 1 4294967295 text)
+
+-- a number of sectors that no disk has, large or not
+abbrev pub is_no_size : Bool → Option Text → Bool
+is_no_size large None = false
+is_no_size large (Some text) = not (is_number 8 (most_sectors large) text)
 
 -- processes that are not a range
 abbrev pub is_no_range : Option Text → Bool
@@ -410,15 +377,28 @@ abbrev pub is_no_format : Option Text → Bool
 is_no_format None = false
 is_no_format (Some text) = not (bytes_eq text (codes "text") || bytes_eq text (codes "csv"))
 
--- the errors for the values of these rows that clap takes as any text
-abbrev pub text_fault : List Row → Kinds
-text_fault rows = if is_no_batch (first_of (codes "batch") rows)
-    || (is_no_range (first_of (codes "processes") rows)
-    || is_no_format (first_of (codes "format") rows)) then InvalidValue ∷ [] else []
-
 -- an option without a value is used
 abbrev pub is_used : Text → List Row → Bool
 is_used id rows = is_text (first_of id rows) (codes "true")
+
+-- a number of sectors that no disk has is given, for a disk or for one that a run makes
+abbrev pub has_no_size : List Row → Bool
+has_no_size rows = is_no_size (is_used (codes "large") rows) (first_of (codes "sectors") rows)
+    || is_no_size (is_used (codes "large") rows) (first_of (codes "created") rows)
+
+-- the errors for a batch or a number of sectors, which clap takes as any text
+abbrev pub number_fault : List Row → Kinds
+number_fault rows = if is_no_batch (first_of (codes "batch") rows) || has_no_size rows
+    then ValueValidation ∷ [] else []
+
+-- the errors for a range or a format, which clap takes as any text too
+abbrev pub form_fault : List Row → Kinds
+form_fault rows = if is_no_range (first_of (codes "processes") rows)
+    || is_no_format (first_of (codes "format") rows) then InvalidValue ∷ [] else []
+
+-- the errors for the values of these rows that clap takes as any text
+abbrev pub text_fault : List Row → Kinds
+text_fault rows = or_else (number_fault rows) (form_fault rows)
 
 -- an option with a value, and without a default, is used
 abbrev pub is_there : Text → List Row → Bool
@@ -494,8 +474,8 @@ value_fault (Some found) = unread_fault found.1
 
 -- the errors for these words: those of clap, or else those of such rows
 abbrev pub refusal_of : Text → List Text → Kinds
-refusal_of called words = or_else (fault_of (grammar_of called words) words)
-    (value_fault (subcommand_of (grammar_of called words) words))
+refusal_of called words = or_else (fault_of (program_of called) words)
+    (value_fault (subcommand_of (program_of called) words))
 
 -- ---- the values of a command
 
@@ -521,9 +501,7 @@ SaysSource args rows = (args.model.now ≡ text_in (codes "MODEL") rows)
     × (option_map (λ path. path.now) args.disk ≡ first_of (codes "DISK") rows)
     × IsFlagIn (codes "large") rows args.large
 
--- The number of sectors of a disk, large or not. The range follows what clap read for the flag, not
--- the words by which it was chosen, so this holds for each command, whatever words clap takes as
--- another option's value.
+-- the number of sectors of a disk, large or not
 abbrev pub SaysSectors : ℕ → Bool → List Row → Type 0
 SaysSectors sectors large rows = sectors ≡ number_in (codes "sectors") 8 (most_sectors large) rows
 
@@ -560,7 +538,8 @@ SaysRun args rows = SaysDisk args.on rows
     × (args.sectors ≡ number_or (codes "created") 8 (most_sectors args.on.large) 4096 rows)
 
 abbrev pub SaysGrow : GrowArgs → List Row → Type 0
-SaysGrow args rows = SaysDisk args.on rows × SaysSectors args.sectors args.on.large rows
+SaysGrow args rows = SaysDisk args.on rows × (args.sectors ≡ number_or (codes "sectors") 8
+    (most_sectors args.on.large) (most_sectors args.on.large) rows)
 
 abbrev pub SaysMigrate : MigrateArgs → List Row → Type 0
 SaysMigrate args rows = (args.model.now ≡ text_in (codes "MODEL") rows)
@@ -618,7 +597,7 @@ SaysRows (Node args) name rows = (name ≡ codes "node") × SaysNode args rows
 pub record Says (called : Text) (words : List Text) (command : Command) : Type 0 where
   pub name : Text
   pub rows : List Row
-  pub found : subcommand_of (grammar_of called words) words ≡ Some (name, rows)
+  pub found : subcommand_of (program_of called) words ≡ Some (name, rows)
   pub values : SaysRows command name rows
 
 -- a batch that is a number is at least 1

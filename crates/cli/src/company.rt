@@ -8,7 +8,7 @@ ghost use Rattle.cli.specs.Command.{is_excluded, is_lonely, is_no_span, is_over_
 ghost use Rattle.cli.specs.Command.{is_used, is_without_create, is_without_sockets, lonely_fault};
 ghost use Rattle.cli.specs.Command.{looking_fault, span_fault, together_fault};
 
-use crate::values::{is_text, optional_number, optional_text};
+use crate::values::{is_used, optional_number, optional_text};
 use clap::error::ErrorKind;
 use clap::{ArgMatches, Command as ClapCommand, Error};
 use std::alloc::Global;
@@ -205,13 +205,6 @@ fn is_there(values: &ArgMatches<'_>, id: &str) -> bool
     ensures { result ≡ is_there id.now (rows_of (found_of values.now)) }
 {
     optional_text(values, id).is_some()
-}
-
-/// Whether an option without a value is used.
-fn is_used(values: &ArgMatches<'_>, id: &str) -> bool
-    ensures { result ≡ is_used id.now (rows_of (found_of values.now)) }
-{
-    is_text(optional_text(values, id), "true")
 }
 
 /// An error of this kind in `clap`'s form, which names the program.

@@ -3,17 +3,18 @@
 ghost use Rattle.std.specs.Prelude.{◌≡◌, ◌≤◌, false, true, IfOk};
 ghost use Rattle.clap.specs.Words.{app_of, rule_of};
 ghost use Rattle.clap.specs.declared.builder.command.Command.TheViews.{out-Command as fields_of};
-ghost use Rattle.clap.specs.declared.builder.value_parser.ValueParser.TheVariants.{Names};
-ghost use Rattle.cli.specs.Command.{advice_option, any_text, batch_option, choice_option};
+ghost use Rattle.cli.specs.Command.{advice_option, any_text, choice_option};
 ghost use Rattle.cli.specs.Command.{created_option, draw_command, flag, log_command};
 ghost use Rattle.cli.specs.Command.{grow_command, large_option, migrate_command, refusing};
-ghost use Rattle.cli.specs.Command.{most_sectors, most_text, on_any_disk};
+ghost use Rattle.cli.specs.Command.{most_sectors, on_any_disk};
 ghost use Rattle.cli.specs.Command.{new_command, node_command, number_option, on_disk, on_model};
 ghost use Rattle.cli.specs.Command.{optional_argument, optional_number, optional_text};
-ghost use Rattle.cli.specs.Command.{path_argument, program_by, run_apart, run_command, run_made};
-ghost use Rattle.cli.specs.Command.{sectors_option, show_command, stats_command, text_option, time_option, without_commands};
+ghost use Rattle.cli.specs.Command.{path_argument, program_of, run_apart, run_command, run_made};
+ghost use Rattle.cli.specs.Command.{show_command, stats_command, text_option, time_option};
+ghost use Rattle.cli.specs.Command.{without_commands};
 ghost use Rattle.cli.specs.Command.{AddsArgument, AddsCommand, IsApp};
 
+use crate::company::LAST_TIME;
 use clap::builder::ValueParser;
 use clap::{Arg, ArgAction, Command as ClapCommand};
 use std::alloc::{AllocError, Global};
@@ -31,15 +32,9 @@ pub struct Texts<'a> {
     pub seq_help: &'a str,
 }
 
-/// The program with all commands. With `word`, the batch of `run` is any text instead of a number;
-/// with `large`, disks may have the sectors of large ones.
-pub fn program<'a>(
-    alloc: Global,
-    texts: Texts<'a>,
-    word: bool,
-    large: bool,
-) -> Result<ClapCommand<'a>, AllocError>
-    ensures is { IfOk result (IsApp (program_by word large texts.entry.name.now)) }
+/// The program with all commands.
+pub fn program<'a>(alloc: Global, texts: Texts<'a>) -> Result<ClapCommand<'a>, AllocError>
+    ensures is { IfOk result (IsApp (program_of texts.entry.name.now)) }
     ensures required { IfOk result (λ c. (fields_of c).subcommand_required ≡ true) }
 {
     let Texts {
@@ -48,17 +43,14 @@ pub fn program<'a>(
         help,
         seq_help,
     } = texts;
-    let program = with_command(
-        Ok(without_commands(alloc, name, version, help)),
-        new(alloc, large),
-    );
-    let program = with_command(program, run(alloc, word, large));
+    let program = with_command(Ok(without_commands(alloc, name, version, help)), new(alloc));
+    let program = with_command(program, run(alloc));
     let program = with_command(
         program,
         on_any_disk(alloc, "extend", EXTEND_ABOUT, EXTEND_HELP),
     );
-    let program = with_command(program, grow(alloc, large));
-    let program = with_command(program, migrate(alloc, large));
+    let program = with_command(program, grow(alloc));
+    let program = with_command(program, migrate(alloc));
     let program = with_command(
         program,
         on_any_disk(alloc, "reopen", REOPEN_ABOUT, REOPEN_HELP),
@@ -147,11 +139,12 @@ as it always does on a terminal."
 }
 
 /// The command `new`.
-fn new<'a>(alloc: Global, large: bool) -> Result<ClapCommand<'a>, AllocError>
-    ensures { IfOk result (IsApp (new_command large)) }
+fn new<'a>(alloc: Global) -> Result<ClapCommand<'a>, AllocError>
+    ensures { IfOk result (IsApp new_command) }
 {
     let command = on_disk(alloc, "new", NEW_ABOUT, NEW_HELP);
-    let command = with_argument(command, sectors(alloc, large, "4096", SECTORS_HELP));
+    let sectors = text_option(alloc, "sectors", "N", "4096", SECTORS_HELP);
+    let command = with_argument(command, sectors);
     with_argument(command, large_option(alloc))
 }
 
@@ -177,27 +170,27 @@ Output:
   formatted N sectors";
 
 /// The command `run`.
-fn run<'a>(alloc: Global, word: bool, large: bool) -> Result<ClapCommand<'a>, AllocError>
-    ensures { IfOk result (IsApp (run_command word large)) }
+fn run<'a>(alloc: Global) -> Result<ClapCommand<'a>, AllocError>
+    ensures { IfOk result (IsApp run_command) }
 {
     let trace = optional_text(alloc, "trace", "FILE", TRACE_HELP);
     let stop = optional_text(alloc, "stop-file", "FILE", STOP_HELP);
     let progress = optional_number(alloc, "progress", "SECONDS", 1, 86_400, PROGRESS_HELP);
-    let command = with_argument(with_argument(run_apart(alloc, word), trace), stop);
+    let command = with_argument(with_argument(run_apart(alloc), trace), stop);
     let command = with_argument(command, progress);
     let command = with_argument(command, flag(alloc, "grow-when-full", GROW_WHEN_FULL_HELP));
     let command = with_argument(command, flag(alloc, "create", CREATE_HELP));
-    let command = with_argument(command, created_option(alloc, large));
+    let command = with_argument(command, created_option(alloc));
     with_argument(command, large_option(alloc))
 }
 
 /// The command `run` with the options for how it is made and over which node programs.
-fn run_apart<'a>(alloc: Global, word: bool) -> Result<ClapCommand<'a>, AllocError>
-    ensures { IfOk result (IsApp (run_apart word)) }
+fn run_apart<'a>(alloc: Global) -> Result<ClapCommand<'a>, AllocError>
+    ensures { IfOk result (IsApp run_apart) }
 {
     let sockets = optional_text(alloc, "sockets", "DIR", SOCKETS_HELP);
     let cut = optional_number(alloc, "cut", "I", 0, 4_294_967_295, CUT_HELP);
-    let command = with_argument(with_argument(run_made(alloc, word), sockets), cut);
+    let command = with_argument(with_argument(run_made(alloc), sockets), cut);
     let command = with_argument(command, flag(alloc, "together", TOGETHER_HELP));
     let command = with_argument(command, flag(alloc, "overlap", OVERLAP_HELP));
     let command = with_argument(command, flag(alloc, "attach", ATTACH_HELP));
@@ -212,11 +205,11 @@ fn run_apart<'a>(alloc: Global, word: bool) -> Result<ClapCommand<'a>, AllocErro
 }
 
 /// The command `run` with the options for how it is made.
-fn run_made<'a>(alloc: Global, word: bool) -> Result<ClapCommand<'a>, AllocError>
-    ensures { IfOk result (IsApp (run_made word)) }
+fn run_made<'a>(alloc: Global) -> Result<ClapCommand<'a>, AllocError>
+    ensures { IfOk result (IsApp run_made) }
 {
     let nodes = optional_number(alloc, "nodes", "N", 1, 64, NODES_HELP);
-    let batch = batch_option(alloc, word);
+    let batch = any_text(alloc, "batch", "N", BATCH_HELP);
     let rounds = number_option(alloc, "rounds", "1000000", 1, 4_294_967_295, ROUNDS_HELP);
     let command = with_argument(on_disk(alloc, "run", RUN_ABOUT, RUN_HELP), nodes);
     let command = with_argument(with_argument(command, batch), rounds);
@@ -226,26 +219,13 @@ fn run_made<'a>(alloc: Global, word: bool) -> Result<ClapCommand<'a>, AllocError
     with_argument(command, flag(alloc, "plain", PLAIN_HELP))
 }
 
-/// The option for how many messages a node handles at a turn: a number, or any text.
-fn batch_option<'a>(alloc: Global, word: bool) -> Arg<'a>
-    ensures rule { rule_of result ≡ batch_option word }
-    ensures local { result.global ≡ false }
-{
-    if word {
-        any_text(alloc, "batch", "N", BATCH_HELP)
-    } else {
-        optional_number(alloc, "batch", "N", 1, 4_294_967_295, BATCH_HELP)
-    }
-}
-
 /// The option for the number of sectors of a disk that a run makes. It is `--sectors`, but has
 /// a name of its own for the other commands' option, which has a default.
-fn created_option<'a>(alloc: Global, large: bool) -> Arg<'a>
-    ensures rule { rule_of result ≡ created_option large }
+fn created_option<'a>(alloc: Global) -> Arg<'a>
+    ensures rule { rule_of result ≡ created_option }
     ensures local { result.global ≡ false }
 {
-    let most = u64::from(most_sectors(large));
-    optional_number(alloc, "created", "N", 8, most, CREATED_HELP).long("sectors")
+    any_text(alloc, "created", "N", CREATED_HELP).long("sectors")
 }
 
 const RUN_ABOUT: &str = "Runs a model on its disk, from the last commit to its end";
@@ -318,6 +298,11 @@ committed at a time, 4096 unless --commit-every says otherwise; with --rounds it
 disk may be run so now and over nodes later. On one core, or where an event takes less than some
 microseconds, this is the fastest way.
 
+Once a run has taken a second, it says on a terminal, or with --advice, if another way would be
+faster: --plain for a run over nodes in one process; --sockets with --overlap for one with --plain
+and without --checkpoint of which an event takes 10 microseconds or more, if it commits 1024 events
+or more at a time, and there are several processors.
+
 With --batch auto each node has its own batch, which grows and shrinks with the share of its handled
 messages that is committed.
 
@@ -370,25 +355,18 @@ Output:
   extended E0 to E1   the end before and this one, in ticks";
 
 /// The command `grow`.
-fn grow<'a>(alloc: Global, large: bool) -> Result<ClapCommand<'a>, AllocError>
-    ensures { IfOk result (IsApp (grow_command large)) }
+fn grow<'a>(alloc: Global) -> Result<ClapCommand<'a>, AllocError>
+    ensures { IfOk result (IsApp grow_command) }
 {
     let command = on_disk(alloc, "grow", GROW_ABOUT, GROW_HELP);
-    let command = with_argument(command, sectors(alloc, large, most_text(large), GROWN_HELP));
+    let command = with_argument(command, any_text(alloc, "sectors", "N", GROWN_HELP));
     with_argument(command, large_option(alloc))
-}
-
-/// The maximum number of sectors of a disk, as a text.
-fn most_text<'a>(large: bool) -> &'a str
-    ensures { result.now ≡ most_text large }
-{
-    if large { "16777216" } else { "131072" }
 }
 
 const GROW_ABOUT: &str = "Makes a disk longer, so that its run has room again";
 
 const GROWN_HELP: &str =
-    "How many sectors of 512 bytes the disk has then, 8 to 131072, or with --large to 16777216";
+    "How many sectors of 512 bytes the disk has then, 8 to 131072, or with --large to 16777216 [default: the most]";
 
 const GROW_HELP: &str = "\
 Adds sectors of zeros behind those that the disk has; what is committed stays, whenever the power
@@ -398,8 +376,8 @@ Output:
   grown S0 to S1 sectors   how many it had, and has now";
 
 /// The command `migrate`.
-fn migrate<'a>(alloc: Global, large: bool) -> Result<ClapCommand<'a>, AllocError>
-    ensures { IfOk result (IsApp (migrate_command large)) }
+fn migrate<'a>(alloc: Global) -> Result<ClapCommand<'a>, AllocError>
+    ensures { IfOk result (IsApp migrate_command) }
 {
     let command = on_model(alloc, "migrate", MIGRATE_ABOUT, MIGRATE_HELP);
     let command = with_argument(
@@ -410,7 +388,8 @@ fn migrate<'a>(alloc: Global, large: bool) -> Result<ClapCommand<'a>, AllocError
         command,
         path(alloc, "NEW", "The file of the disk of format 2"),
     );
-    let command = with_argument(command, sectors(alloc, large, "4096", NEW_SECTORS_HELP));
+    let sectors = text_option(alloc, "sectors", "N", "4096", NEW_SECTORS_HELP);
+    let command = with_argument(command, sectors);
     with_argument(command, large_option(alloc))
 }
 
@@ -672,19 +651,19 @@ fn on_model<'a>(
 const MODEL_HELP: &str =
     "The model file: TOML with exactly the keys of its model (see 'seq --help')";
 
-/// A program with a single option, which takes only these names and has this text as its default.
+/// A program with a single option, whose value passes this parser, and whose default is this text.
 pub fn refusing<'a>(
     alloc: Global,
     option: &'a str,
     value: &'a str,
-    names: &'a [&'a str],
+    parser: ValueParser<'a>,
     text: &'a str,
 ) -> Result<ClapCommand<'a>, AllocError>
-    ensures { IfOk result
-        (IsApp (refusing option.entry.now (Names names.entry) text.entry.now)) }
+    ensures { IfOk result (IsApp (refusing option.entry.now parser.entry text.entry.now)) }
 {
     let program = ClapCommand::new(alloc, option);
-    with_argument(Ok(program), names_option(alloc, option, value, names, text))
+    let argument = choice_option(alloc, option, value, parser, text);
+    with_argument(Ok(program), argument)
 }
 
 /// Adds a command to a program, if both are there.
@@ -738,15 +717,6 @@ fn optional_argument<'a>(alloc: Global, id: &'a str, help: &'a str) -> Arg<'a>
     Arg::new(alloc, id)
         .value_parser(ValueParser::NonEmptyString)
         .help(help)
-}
-
-/// The option for a disk's number of sectors.
-fn sectors<'a>(alloc: Global, large: bool, default: &'a str, help: &'a str) -> Arg<'a>
-    ensures rule { rule_of result ≡ sectors_option large default.entry.now }
-    ensures local { result.global ≡ false }
-{
-    let most = u64::from(most_sectors(large));
-    number_option(alloc, "sectors", default, 8, most, help)
 }
 
 /// The flag that allows large disks.
@@ -809,7 +779,7 @@ fn time_option<'a>(alloc: Global, name: &'a str, help: &'a str) -> Arg<'a>
     ensures rule { rule_of result ≡ time_option name.entry.now }
     ensures local { result.global ≡ false }
 {
-    optional_number(alloc, name, "T", 0, 1_099_511_627_776, help)
+    optional_number(alloc, name, "T", 0, LAST_TIME, help)
 }
 
 /// An option whose value is any text, with a default.
@@ -841,22 +811,21 @@ fn any_text<'a>(alloc: Global, name: &'a str, value: &'a str, help: &'a str) -> 
         .help(help)
 }
 
-/// An option whose value is one of these names, with a default.
-fn names_option<'a>(
+/// An option whose value passes this parser, with a default.
+fn choice_option<'a>(
     alloc: Global,
     name: &'a str,
     value: &'a str,
-    names: &'a [&'a str],
+    parser: ValueParser<'a>,
     default: &'a str,
 ) -> Arg<'a>
-    ensures rule { rule_of result
-        ≡ choice_option name.entry.now (Names names.entry) default.entry.now }
+    ensures rule { rule_of result ≡ choice_option name.entry.now parser.entry default.entry.now }
     ensures local { result.global ≡ false }
 {
     Arg::new(alloc, name)
         .long(name)
         .value_name(value)
-        .value_parser(ValueParser::Names(names))
+        .value_parser(parser)
         .default_value(default)
 }
 

@@ -17,7 +17,6 @@ use crate::values::{
     batch, is_flagged, is_text, optional_number, optional_small_number, optional_text, range,
     refusal, small_number, small_number_or, text,
 };
-use crate::words::{says_auto, says_large};
 use clap::{ArgMatches, Error};
 use std::alloc::Global;
 use std::convert::AsStr;
@@ -26,14 +25,14 @@ use std::convert::AsStr;
 /// name, and `texts` are the texts of its help.
 ///
 /// If they name none, returns `clap`'s error: its text says what is wrong, or is the help or the
-/// version that was asked for (of the kinds `DisplayHelp` and `DisplayVersion`). An invalid batch,
-/// an invalid range of processes and an unknown format are errors of the kind `InvalidValue`, in
-/// `clap`'s words; then come options that do not go together, each in `clap`'s form: options of node
-/// programs without `--sockets`, and `run --sectors` without `--create` (`MissingRequiredArgument`);
-/// `--overlap` with `--together`, `--bind` with `--attach`, `--plain` with an option of nodes, and
-/// `--load` with `--trace` (`ArgumentConflict`); and a time of `--to` before that of `--from`
-/// (`ValueValidation`). If an allocation failed,
-/// the result is an error of `clap` too.
+/// version that was asked for (of the kinds `DisplayHelp` and `DisplayVersion`). Then come an invalid
+/// batch and an invalid number of sectors (`ValueValidation`), and an invalid range of processes and
+/// an unknown format (`InvalidValue`), in `clap`'s words; then options that do not go together, each
+/// in `clap`'s form: options of node programs without `--sockets`, and `run --sectors` without
+/// `--create` (`MissingRequiredArgument`); `--overlap` with `--together`, `--bind` with `--attach`,
+/// `--plain` with an option of nodes, and `--load` with `--trace` (`ArgumentConflict`); and a time of
+/// `--to` before that of `--from` (`ValueValidation`). If an allocation failed, the result is an
+/// error of `clap` too.
 pub fn read_command<'a, S: AsStr>(
     alloc: Global,
     texts: Texts<'a>,
@@ -44,9 +43,7 @@ pub fn read_command<'a, S: AsStr>(
     ensures refused { FailsBy (refusal_of texts.entry.name.now (map S.text words.entry.now))
         result }
 {
-    let word = says_auto(words);
-    let large = says_large(words);
-    let matches = program(alloc, texts, word, large)?.try_get_matches_from(words)?;
+    let matches = program(alloc, texts)?.try_get_matches_from(words)?;
     match matches.subcommand() {
         Some((name, values)) => match refusal(alloc, texts.name, values) {
             Some(error) => Err(error),
@@ -160,7 +157,8 @@ fn grow_args<'a>(values: &ArgMatches<'a>) -> GrowArgs<'a>
     ensures ranged { IsSized result.sectors result.on.large }
 {
     let on = disk_args(values);
-    let sectors = small_number(values, "sectors", 8, most_sectors(on.large));
+    let most = most_sectors(on.large);
+    let sectors = small_number_or(values, "sectors", 8, most, most);
     GrowArgs { on, sectors }
 }
 

@@ -2,19 +2,22 @@
 
 ghost use Rattle.std.specs.Prelude.{◌≡◌, ◌≤◌, ◌∷◌, [], option_and_then, option_map};
 ghost use Rattle.std.specs.Prelude.{codes, false, true, IfSome, MatchOption};
-ghost use Rattle.std.specs.List.{list_any};
-ghost use Rattle.std.specs.Str.{bytes_eq};
+ghost use Rattle.clap.specs.Values.{refused_kind};
+ghost use Rattle.clap.specs.ValueTests.{accepts};
 ghost use Rattle.clap.specs.Words.{first_of, found_of, rows_of, HasKind};
 ghost use Rattle.clap.specs.declared.error.kind.ErrorKind.TheVariants.{InvalidValue};
-ghost use Rattle.cli.specs.Command.{batch_in, is_no_batch, is_no_format, is_no_range, is_positive};
-ghost use Rattle.cli.specs.Command.{is_text, number_in, number_or, optional_number_in, range_of};
-ghost use Rattle.cli.specs.Command.{text_in};
+ghost use Rattle.clap.specs.declared.error.kind.ErrorKind.TheVariants.{ValueValidation};
+ghost use Rattle.cli.specs.Command.{batch_in, form_fault, has_no_size, is_no_batch, is_no_format};
+ghost use Rattle.cli.specs.Command.{is_no_range, is_no_size, is_number, is_text, is_used};
+ghost use Rattle.cli.specs.Command.{number_fault, number_in, number_or, optional_number_in};
+ghost use Rattle.cli.specs.Command.{range_of, text_in};
 ghost use Rattle.cli.specs.Command.{text_fault, unread_fault, written_number};
 ghost use Rattle.cli.specs.Command.{IsBatchRanged, IsFlagIn, IsWithin};
 
 use crate::command::BatchOption;
 use crate::company::refused_company;
-use crate::grammar::refusing;
+use crate::grammar::{most_sectors, refusing};
+use clap::builder::ValueParser;
 use clap::{ArgMatches, Error};
 use std::alloc::Global;
 
@@ -43,6 +46,13 @@ pub fn is_text(text: Option<&str>, word: &str) -> bool
     }
 }
 
+/// Whether an option without a value is used, by its text.
+pub fn is_used(values: &ArgMatches<'_>, id: &str) -> bool
+    ensures { result ≡ is_used id.now (rows_of (found_of values.now)) }
+{
+    is_text(optional_text(values, id), "true")
+}
+
 /// Whether an option without a value is used.
 pub fn is_flagged(values: &ArgMatches<'_>, id: &str) -> bool
     ensures { IsFlagIn id.now (rows_of (found_of values.now)) result }
@@ -50,8 +60,8 @@ pub fn is_flagged(values: &ArgMatches<'_>, id: &str) -> bool
     values.get_flag(id)
 }
 
-/// The number of an option that takes one from `least` to `most`. Unparseable text yields `least`;
-/// `clap` makes this unreachable.
+/// The number of an option that takes one from `least` to `most`. Other text yields `least`, but
+/// `clap` or `refusal` refuses it.
 pub fn number(values: &ArgMatches<'_>, id: &str, least: u64, most: u64) -> u64
     requires { least ≤ most }
     ensures value { result ≡ number_in id.now least most (rows_of (found_of values.now)) }
@@ -174,13 +184,13 @@ fn written_number(text: &str) -> Option<u32>
     }
 }
 
-/// Whether a text is a number of at least 1.
-fn is_positive(text: &str) -> bool
-    ensures { result ≡ is_positive text.now }
+/// Whether a text is a number from `least` to `most`.
+fn is_number(text: &str, least: u64, most: u64) -> bool
+    ensures { result ≡ is_number least most text.now }
 {
-    match written_number(text) {
-        Some(number) => 1 <= number,
-        None => false,
+    match text.parse::<u64>() {
+        Ok(number) => least <= number && number <= most,
+        Err(_) => false,
     }
 }
 
@@ -199,15 +209,47 @@ pub fn refusal(alloc: Global, name: &str, values: &ArgMatches<'_>) -> Option<Err
 /// The error for invalid values among those that `clap` takes as any text.
 fn refused_text(alloc: Global, values: &ArgMatches<'_>) -> Option<Error>
     ensures { MatchOption result (text_fault (rows_of (found_of values.now)) ≡ [])
-        (λ e. (text_fault (rows_of (found_of values.now)) ≡ InvalidValue ∷ [])
-        × HasKind (InvalidValue ∷ []) e) }
+        (λ e. HasKind (text_fault (rows_of (found_of values.now))) e) }
+{
+    match refused_number(alloc, values) {
+        Some(error) => Some(error),
+        None => refused_form(alloc, values),
+    }
+}
+
+/// The error for an invalid batch or number of sectors.
+fn refused_number(alloc: Global, values: &ArgMatches<'_>) -> Option<Error>
+    ensures { MatchOption result (number_fault (rows_of (found_of values.now)) ≡ [])
+        (λ e. HasKind (number_fault (rows_of (found_of values.now))) e) }
 {
     match refused_batch(alloc, optional_text(values, "batch")) {
         Some(error) => Some(error),
-        None => match refused_range(alloc, optional_text(values, "processes")) {
-            Some(error) => Some(error),
-            None => refused_format(alloc, optional_text(values, "format")),
-        },
+        None => refused_sizes(alloc, values),
+    }
+}
+
+/// The error for an invalid number of sectors, of a disk that is made, or made longer, or that a
+/// run makes.
+fn refused_sizes(alloc: Global, values: &ArgMatches<'_>) -> Option<Error>
+    ensures { MatchOption result (has_no_size (rows_of (found_of values.now)) ≡ false)
+        (λ e. (has_no_size (rows_of (found_of values.now)) ≡ true)
+        × HasKind (ValueValidation ∷ []) e) }
+{
+    let large = is_used(values, "large");
+    match refused_size(alloc, large, optional_text(values, "sectors")) {
+        Some(error) => Some(error),
+        None => refused_size(alloc, large, optional_text(values, "created")),
+    }
+}
+
+/// The error for an invalid range or format.
+fn refused_form(alloc: Global, values: &ArgMatches<'_>) -> Option<Error>
+    ensures { MatchOption result (form_fault (rows_of (found_of values.now)) ≡ [])
+        (λ e. HasKind (form_fault (rows_of (found_of values.now))) e) }
+{
+    match refused_range(alloc, optional_text(values, "processes")) {
+        Some(error) => Some(error),
+        None => refused_format(alloc, optional_text(values, "format")),
     }
 }
 
@@ -215,11 +257,29 @@ fn refused_text(alloc: Global, values: &ArgMatches<'_>) -> Option<Error>
 fn refused_batch(alloc: Global, text: Option<&str>) -> Option<Error>
     ensures { MatchOption result (is_no_batch (option_map (λ text. text.now) text.entry) ≡ false)
         (λ e. (is_no_batch (option_map (λ text. text.now) text.entry) ≡ true)
-        × HasKind (InvalidValue ∷ []) e) }
+        × HasKind (ValueValidation ∷ []) e) }
 {
     match text {
-        Some(text) if text != "auto" && !is_positive(text) => {
-            Some(no_value(alloc, "batch", "N", NO_NAMES, text))
+        Some(text) if text != "auto" && !is_number(text, 1, 4_294_967_295) => {
+            let numbers = ValueParser::unsigned(1, 4_294_967_295);
+            Some(no_value(alloc, "batch", "N", numbers, text))
+        }
+        _ => None,
+    }
+}
+
+/// The error for an invalid number of sectors of a disk, large or not.
+fn refused_size(alloc: Global, large: bool, text: Option<&str>) -> Option<Error>
+    ensures { MatchOption result
+        (is_no_size large (option_map (λ text. text.now) text.entry) ≡ false)
+        (λ e. (is_no_size large (option_map (λ text. text.now) text.entry) ≡ true)
+        × HasKind (ValueValidation ∷ []) e) }
+{
+    let most = u64::from(most_sectors(large));
+    match text {
+        Some(text) if !is_number(text, 8, most) => {
+            let numbers = ValueParser::unsigned(8, most);
+            Some(no_value(alloc, "sectors", "N", numbers, text))
         }
         _ => None,
     }
@@ -233,7 +293,8 @@ fn refused_range(alloc: Global, text: Option<&str>) -> Option<Error>
 {
     match text {
         Some(text) if range_of(text).is_none() => {
-            Some(no_value(alloc, "processes", "A..B", NO_NAMES, text))
+            let names = ValueParser::Names(NO_NAMES);
+            Some(no_value(alloc, "processes", "A..B", names, text))
         }
         _ => None,
     }
@@ -247,7 +308,8 @@ fn refused_format(alloc: Global, text: Option<&str>) -> Option<Error>
 {
     match text {
         Some(text) if text != "text" && text != "csv" => {
-            Some(no_value(alloc, "format", "F", FORMATS, text))
+            let names = ValueParser::Names(FORMATS);
+            Some(no_value(alloc, "format", "F", names, text))
         }
         _ => None,
     }
@@ -257,18 +319,18 @@ const NO_NAMES: &[&str] = &[];
 
 const FORMATS: &[&str] = &["text", "csv"];
 
-/// `clap`'s error for a text of an option that takes only certain names, which do not include it.
+/// `clap`'s error for a text of an option whose values pass this parser, which refuses the text.
 fn no_value<'a>(
     alloc: Global,
     option: &'a str,
     value: &'a str,
-    names: &'a [&'a str],
+    parser: ValueParser<'a>,
     text: &'a str,
 ) -> Error
-    requires { list_any (λ name. bytes_eq name.now text.now) names.now ≡ false }
-    ensures { HasKind (InvalidValue ∷ []) result }
+    requires { accepts false parser text.now ≡ false }
+    ensures { HasKind (refused_kind parser.entry ∷ []) result }
 {
-    let command = match refusing(alloc, option, value, names, text) {
+    let command = match refusing(alloc, option, value, parser, text) {
         Ok(command) => command,
         Err(error) => return Error::from(error),
     };

@@ -1,46 +1,10 @@
-// Finds in the words whether the batch is `auto`, and whether large disks or advice are asked for.
+// Finds flags in the words, also in words that name no command.
 
 ghost use Rattle.std.specs.Prelude.{◌≡◌, ◌&&◌, ◌||◌, codes, drop, map};
 ghost use Rattle.std.specs.Str.{bytes_eq};
-ghost use Rattle.cli.specs.Command.{says_advice, says_auto, says_flag, says_large};
+ghost use Rattle.cli.specs.Command.{says_advice, says_flag, says_large};
 
 use std::convert::AsStr;
-
-/// Whether the batch is given as the word `auto`. The first word is the program's own name.
-pub fn says_auto<S: AsStr>(words: &[S]) -> bool
-    ensures { result ≡ says_auto (drop 1 (map S.text words.now)) }
-{
-    if words.is_empty() {
-        return false;
-    }
-    options_say_auto(&words[1..])
-}
-
-/// Whether these words give the batch as the word `auto`, before any word `--`.
-fn options_say_auto<S: AsStr>(words: &[S]) -> bool
-    ensures { result ≡ says_auto (map S.text words.now) }
-{
-    let mut after_batch = false;
-    for word in words {
-        let word = word.as_str();
-        if word == "--" {
-            return false;
-        }
-        if is_auto(after_batch, word) {
-            return true;
-        }
-        after_batch = word == "--batch";
-    }
-    false
-}
-
-/// Whether this word gives it. `after_batch` says whether the word before it is `--batch`.
-fn is_auto(after_batch: bool, word: &str) -> bool
-    ensures { result ≡ (bytes_eq word.now (codes "--batch=auto")
-        || (after_batch && bytes_eq word.now (codes "auto"))) }
-{
-    word == "--batch=auto" || (after_batch && word == "auto")
-}
 
 /// Whether there is a word `--large` before any word `--`. The first word is the program's own
 /// name.

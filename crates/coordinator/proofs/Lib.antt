@@ -4,6 +4,7 @@ mod Places
 mod Committing
 mod Keeping
 mod PortStates
+pub mod PortFaults
 mod Posting
 mod Taking
 pub mod Driving
@@ -11,6 +12,7 @@ mod GoingOn
 mod Refusals
 mod Logging
 mod Loading
+mod Parting
 pub mod Begun
 pub mod Extensions
 mod Histories

@@ -6,6 +6,7 @@ pub mod Drives
 pub mod Opening
 pub mod Extending
 pub mod Headline
+pub mod PortFaults
 pub mod Pending
 pub mod Keys
 -- For tests.

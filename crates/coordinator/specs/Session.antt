@@ -11,7 +11,7 @@ use Rattle.model.specs.World.{World}
 use Rattle.node.specs.declared.Parcel.{Parcel}
 use Rattle.process.specs.declared.Done.{Done}
 use Rattle.protocol.specs.System.{System, lows_of}
-use Rattle.wire.specs.Port.{PortState, Stage, nobody}
+use Rattle.wire.specs.Port.{PortState, Stage, no_faults, nobody}
 use Rattle.wire.specs.Port.Stage.{Fresh, Idle, Posted}
 use Rattle.protocol.specs.Sound.{IsSystem}
 use Rattle.protocol.specs.Views.{node_view}
@@ -69,6 +69,7 @@ abbrev pub no_port : PortState
 no_port = record {
   stage = Fresh;
   faithful = false;
+  resource_faults = no_faults;
   meaning = record {
     lps = 0;
     identity = [];

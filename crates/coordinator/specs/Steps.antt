@@ -21,7 +21,8 @@ use Rattle.recovery.specs.Checkpoints.{checkpoint_body, checkpoint_of}
 use Rattle.wire.specs.Port.{IsResourceFault, PortState}
 use Rattle.wire.specs.declared.port.PortFault.{PortFault}
 use Rattle.wire.specs.declared.port.PortFault.TheVariants.{Peer}
-use Rattle.coordinator.specs.Session.{IsConsistentSession, Running, Session, system_of, running}
+use Rattle.coordinator.specs.Session.{IsConsistentSession, Running, Session, no_port, port_at}
+use Rattle.coordinator.specs.Session.{running, system_of}
 use Rattle.protocol.specs.declared.Answer.{Answer}
 use Rattle.protocol.specs.declared.Answer.TheVariants.{Taken}
 use Rattle.coordinator.specs.declared.SessionFault.{SessionFault}
@@ -83,10 +84,16 @@ first_refusal end CommitMove p =
 first_refusal end CheckpointMove p =
     if nat_lt (2 ^ 24) (5 + length (kept_body p)) then Some TooLong else None
 
--- A fault of a faithful port: an allocation failed, the bytes were too many, or a handling of the
--- parcel would pass the number limit.
+-- the port that a move calls
+abbrev pub port_called : Move → List PortState → PortState
+port_called (PostMove node picks budget) ports = port_at ports node
+port_called (TakeMove node) ports = port_at ports node
+port_called k ports = no_port
+
+-- A fault of a faithful port: one of its resource faults, or a handling of the parcel would pass the
+-- number limit.
 abbrev pub IsPortFault : Move → Running → PortFault → Type 0
-IsPortFault k old fault = IsResourceFault fault
+IsPortFault k old fault = IsResourceFault (port_called k old.ports) fault
     ⊎ ((fault ≡ Peer node.NumberLimit)
     × (refusal old.meaning old.end k (system_of old) ≡ Some NumberLimitRefusal))
 

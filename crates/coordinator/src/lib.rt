@@ -16,7 +16,7 @@ pub use opening::NotOpened;
 pub use protocol::Answer;
 use recovery::RecoveryFault;
 pub use session::{FrontView, Session};
-pub use sessions::{Resumed, headline, law_of_sessions, resume};
+pub use sessions::{Resumed, headline, law_of_local_sessions, law_of_sessions, resume};
 use thiserror::Error;
 use wire::PortFault;
 

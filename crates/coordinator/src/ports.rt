@@ -36,7 +36,7 @@ pub(crate) fn post<P: Port>(
         ((port_at (map P.state ports.new.items) node).node
         ≡ (port_at (map P.state ports.old.items) node).node) }
     ensures err { (port_at (map P.state ports.old.items) node).faithful ≡ true → IfErr result
-        (λ fault. IsResourceFault fault) }
+        (λ fault. IsResourceFault (port_at (map P.state ports.old.items) node) fault) }
 {
     let port = &mut ports[node];
     port.post(parcel)

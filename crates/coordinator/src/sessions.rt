@@ -6,6 +6,7 @@ ghost use Rattle.coordinator.specs.Headline.{Headline, IsResumed, SessionsGoOn};
 ghost use Rattle.coordinator.specs.Crashes.{Recovers};
 ghost use Rattle.coordinator.specs.Opening.{AllFresh, AllFaithful, IsResourceFaultAtOpening};
 ghost use Rattle.coordinator.specs.Opening.{OpeningIsRefused};
+ghost use Rattle.coordinator.specs.PortFaults.{LocalSessionsHaveNoFrames};
 ghost use Rattle.coordinator.specs.Steps.{move_of};
 ghost use Rattle.model.specs.World.{World};
 
@@ -61,7 +62,8 @@ pub fn resume<M: Simulated, P: Port + Drop, D: SectorDisk>(
         ((D.state disk).failures < (D.state result.disk).failures) fault) }
     ensures resources { (a : ℕ) → Recovers (M.meaning model.now) end a (D.state disk) →
         AllFaithful (M.meaning model.now) (map P.state ports.items) → result.time ≡ None →
-        IfSome result.fault (λ fault. IsResourceFaultAtOpening fault
+        IfSome result.fault (λ fault. IsResourceFaultAtOpening
+        (map P.state ports.items) fault
         ((D.state disk).failures < (D.state result.disk).failures)) }
 {
     let mut session = match Session::open(alloc, model, ports, disk, end) {
@@ -123,4 +125,13 @@ pub fn headline()
 /// [`Session::open`] and [`Session::drive`]; a step is a list of one.
 pub fn law_of_sessions<M: Simulated, P: Port, D: SectorDisk>()
     ensures { SessionsGoOn M.meaning P.state D.state }
+{}
+
+/// In a session over nodes in this program (`LocalPort`) a fault of a port is that of a node: its
+/// memory is exhausted, or a handling would pass the number limit. No fault is that of a frame.
+///
+/// The function has no effect. Its contract is the law that follows from the contracts of
+/// [`Session::open`] and [`Session::step`].
+pub fn law_of_local_sessions<M: Simulated, D: SectorDisk>()
+    ensures { LocalSessionsHaveNoFrames D M.meaning D.state }
 {}

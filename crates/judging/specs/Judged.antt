@@ -7,7 +7,8 @@ use Rattle.judging.specs.Judging.{AreJudged, Known}
 use Rattle.wire.specs.Port.{IsTakeFault, IsTaken, PortState, Stage}
 use Rattle.wire.specs.Port.Stage.{Ended, Idle, Posted}
 use Rattle.wire.specs.declared.port.PortFault.{PortFault}
-use Rattle.wire.specs.declared.port.PortFault.TheVariants.{BadReply}
+use Rattle.wire.specs.declared.port.PortFault.TheVariants.{BadReply, Wire}
+use Rattle.wire.specs.declared.port.WireFault.TheVariants.{NoMemory}
 
 -- the model by which it judges, the port to the node, how often it judges, the number of nodes, what
 -- is known of the node's processes, and whether it refused a reply or a load
@@ -19,12 +20,19 @@ pub record Judged (M P : Type 0) : Type 0 where
   pub known : List Known
   pub ended : Bool
 
+-- the resource faults of a port that judges: an allocation of its own may fail, or the port below has
+-- one
+abbrev pub judged_faults : (PortFault → Bool) → PortFault → Bool
+judged_faults below (Wire NoMemory) = true
+judged_faults below fault = below fault
+
 -- The state of a port that judges over a port in this state. It makes no promise of a faithful port,
 -- since it can refuse a reply.
 abbrev pub judged_state : Bool → PortState → PortState
 judged_state ended s = record {
   stage = if ended then Ended else s.stage;
   faithful = false;
+  resource_faults = judged_faults s.resource_faults;
   meaning = s.meaning;
   node = s.node;
 }

@@ -9,6 +9,7 @@ ghost use Rattle.node.specs.Handling.{IsInRange};
 ghost use Rattle.judging.specs.Judging.{AreAccepted, IsAccepted, IsOfModel, IsOneAccepted};
 ghost use Rattle.judging.specs.Judging.{Known as KnownProcess, loaded_known, moved};
 
+use crate::differences::{Differences, note};
 use crate::sends::are_sent;
 use model::{Model as Simulated, Outgoing, Sends, Words};
 use node::Part;
@@ -168,12 +169,14 @@ pub(crate) fn known_of(alloc: Global, every: u32, parts: &[Part]) -> Result<Vec<
 }
 
 /// Judges the reports of a reply, one in `every` of each process, at least 1, in their order.
-/// Process lp is at place lp / `nodes`. Returns whether all are accepted.
+/// Process lp is at place lp / `nodes`. Returns whether all are accepted. If one is not,
+/// `differences` gets its event.
 pub(crate) fn judge_all<M: Simulated>(
     model: &M,
     every: u32,
     nodes: u32,
     known: &mut Vec<Known>,
+    differences: Option<&Differences>,
     reports: &[Done],
 ) -> bool
     requires nodes { 0 < nodes }
@@ -184,6 +187,7 @@ pub(crate) fn judge_all<M: Simulated>(
 {
     'reports: for done in reports {
         if !judge_one(model, every, nodes, known, done) {
+            note(differences, done);
             return false;
         }
     }

@@ -8,6 +8,7 @@ ghost use Rattle.wire.specs.Port.{IsLoadFault, IsLoadInRange, IsLoaded, IsResour
 ghost use Rattle.wire.specs.Port.{IsTakeFault, IsTaken};
 ghost use Rattle.wire.specs.Port.Stage.{Ended, Fresh, Idle, Posted};
 
+use crate::differences::Differences;
 use crate::known::{Known, judge_all, known_of};
 use model::Model as Simulated;
 use node::{Load, Parcel, Reply};
@@ -37,6 +38,7 @@ pub struct Judged<'m, M: Simulated, P: Port> {
     nodes: u32,
     known: Vec<Known>,
     ended: bool,
+    differences: Option<&'m Differences>,
 }
 
 // Not derived, since each caller that drops a port would then prove again how its parts are
@@ -51,6 +53,7 @@ impl<M: Simulated, P: Port + Drop> Drop for Judged<'_, M, P> {
             nodes: _,
             known: _,
             ended: _,
+            differences: _,
         } = self;
     }
 }
@@ -94,7 +97,17 @@ impl<'m, M: Simulated, P: Port> Judged<'m, M, P> {
             nodes: 1,
             known: Vec::new(alloc),
             ended: false,
+            differences: None,
         }
+    }
+
+    /// This port, which then keeps there of which event the report is that it refuses.
+    pub(crate) fn noting(self, differences: Option<&'m Differences>) -> Judged<'m, M, P>
+        ensures { result ≡ self.entry }
+    {
+        let mut noting = self;
+        noting.differences = differences;
+        noting
     }
 }
 
@@ -112,11 +125,12 @@ impl<'m, M: Simulated, P: Port> Port for Judged<'m, M, P> {
         ensures err { (state_by P.state self.old).faithful ≡ true →
             IfErr result (λ fault. IsLoadFault load (state_by P.state self.old) fault) }
 
-        // The port below is loaded with this load, and the judge knows its processes.
+        // The port below is loaded with this load, and the judge knows its processes. A fault is that
+        // of the port below, or an allocation of the judge failed.
         ensures loaded { (P.state self.old.port).faithful ≡ true →
             OnOk result (IsLoaded load (P.state self.old.port) (P.state self.new.port)) }
         ensures refused { (P.state self.old.port).faithful ≡ true →
-            IfErr result (λ fault. IsLoadFault load (P.state self.old.port) fault) }
+            IfErr result (λ fault. IsLoadFault load (state_by P.state self.old) fault) }
         ensures known { OnOk result (self.new ≡ record self.old {
           port = self.new.port;
           nodes = load.nodes;
@@ -146,13 +160,13 @@ impl<'m, M: Simulated, P: Port> Port for Judged<'m, M, P> {
         ensures ok { (state_by P.state self.old).faithful ≡ true →
             OnOk result ((state_by P.state self.new).node ≡ (state_by P.state self.old).node) }
         ensures err { (state_by P.state self.old).faithful ≡ true →
-            IfErr result (λ fault. IsResourceFault fault) }
+            IfErr result (λ fault. IsResourceFault (state_by P.state self.old) fault) }
 
         // The parcel is posted through the port below, and nothing else changes.
         ensures below { (P.state self.old.port).faithful ≡ true →
             OnOk result ((P.state self.new.port).node ≡ (P.state self.old.port).node) }
         ensures refused { (P.state self.old.port).faithful ≡ true →
-            IfErr result (λ fault. IsResourceFault fault) }
+            IfErr result (λ fault. IsResourceFault (P.state self.old.port) fault) }
         ensures unchanged { self.new ≡ record self.old { port = self.new.port } }
     {
         self.port.post(parcel)
@@ -184,8 +198,16 @@ impl<'m, M: Simulated, P: Port> Port for Judged<'m, M, P> {
     {
         let reply = self.port.take()?;
         let reports = reply.fossils.as_slice();
+        let differences = self.differences;
         if self.every > 0
-            && !judge_all(self.model, self.every, self.nodes, &mut self.known, reports)
+            && !judge_all(
+                self.model,
+                self.every,
+                self.nodes,
+                &mut self.known,
+                differences,
+                reports,
+            )
         {
             self.ended = true;
             return Err(PortFault::BadReply);

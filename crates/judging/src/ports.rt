@@ -3,17 +3,20 @@
 ghost use Rattle.std.specs.Prelude.{◌≡◌, IfOk, false, map};
 ghost use Rattle.judging.specs.Judged.{judged_state, state_by};
 
+use crate::differences::Differences;
 use crate::port::Judged;
 use model::Model as Simulated;
 use std::alloc::{AllocError, Global};
 use wire::Port;
 
 /// Returns ports that judge by this model what the nodes behind these ports report, one report in
-/// `every` of each process, or none if `every` is 0.
+/// `every` of each process, or none if `every` is 0. `differences`, if it is given, keeps of which
+/// event the first report is that one of them refuses.
 pub fn judged_ports<'m, M: Simulated, P: Port + Drop>(
     alloc: Global,
     model: &'m M,
     every: u32,
+    differences: Option<&'m Differences>,
     ports: Vec<P>,
 ) -> Result<Vec<Judged<'m, M, P>>, AllocError>
     ensures { IfOk result (λ judged. map (λ j. state_by P.state j) judged.items
@@ -21,7 +24,7 @@ pub fn judged_ports<'m, M: Simulated, P: Port + Drop>(
 {
     let mut judged = Vec::with_capacity(alloc, ports.len())?;
     'ports: for port in ports {
-        judged.push(Judged::new(alloc, model, port, every))?;
+        judged.push(Judged::new(alloc, model, port, every).noting(differences))?;
     }
     Ok(judged)
 }

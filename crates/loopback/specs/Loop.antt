@@ -8,7 +8,7 @@ use Rattle.frames.specs.Cutting.{frame_cut}
 use Rattle.frames.specs.Laws.{IsEncoded}
 use Rattle.frames.specs.declared.Frame.{Frame}
 use Rattle.frames.specs.declared.Frame.TheVariants as frame
-use Rattle.wire.specs.Port.{PortState, Stage, nobody}
+use Rattle.wire.specs.Port.{PortState, Stage, all_faults, nobody}
 use Rattle.wire.specs.Port.Stage.{Ended as AtEnd, Fresh as AtFirst}
 use Rattle.wire.specs.Port.Stage.{Idle as AtRest, Posted as AtWork}
 use Rattle.wire.specs.declared.port.WireFault.{WireFault}
@@ -45,8 +45,13 @@ loopback_node (Posted node bytes) = node
 loopback_node Ended = nobody
 
 abbrev pub state_of : Meaning → Held → PortState
-state_of m held =
-    record { stage = stage_of held; faithful = true; meaning = m; node = loopback_node held }
+state_of m held = record {
+  stage = stage_of held;
+  faithful = true;
+  resource_faults = all_faults;
+  meaning = m;
+  node = loopback_node held;
+}
 
 -- the same for a `Loop`
 abbrev pub state_by : {M : Type 0} → (M → Meaning) → Loop M → PortState

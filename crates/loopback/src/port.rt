@@ -118,7 +118,7 @@ impl<'m, M: Simulated> Port for LoopPort<'m, M> {
         ensures ok { (state_by M.meaning self.old).faithful ≡ true →
             OnOk result ((state_by M.meaning self.new).node ≡ (state_by M.meaning self.old).node) }
         ensures err { (state_by M.meaning self.old).faithful ≡ true →
-            IfErr result (λ fault. IsResourceFault fault) }
+            IfErr result (λ fault. IsResourceFault (state_by M.meaning self.old) fault) }
 
         // `TooLong` comes only if the body is too long, and `Ok` only if it is not. The other cause
         // is a failed allocation.

@@ -52,7 +52,8 @@ pub fn resume_behind_bytes<M: Simulated, D: SectorDisk + Drop>(
         (replicate nodes (state_of (M.meaning model.now) Fresh))
         ((D.state disk).failures < (D.state left.disk).failures))) }
     ensures resources { (a : ℕ) → Recovers (M.meaning model.now) end a (D.state disk) →
-        IfOk result (λ left. left.time ≡ None → IfSome left.fault (λ fault. IsResourceFaultAtOpening fault
+        IfOk result (λ left. left.time ≡ None → IfSome left.fault (λ fault. IsResourceFaultAtOpening
+        (replicate nodes (state_of (M.meaning model.now) Fresh)) fault
         ((D.state disk).failures < (D.state left.disk).failures))) }
 {
     match loop_ports(alloc, model, nodes) {

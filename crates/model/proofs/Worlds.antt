@@ -9,7 +9,7 @@ use Rattle.eventkey.proofs.Bags.{IsAscending-add_all}
 use Rattle.eventkey.proofs.Lists.{Every-add_all, Every-append, Every-flat_map, Every-get_or-default, Every-left, Every-map, Every-right, Every-set, Every-weaker}
 use Rattle.eventkey.specs.Bag.{IsAscending}
 use Rattle.eventkey.specs.Message.{Message}
-use Rattle.model.specs.Meaning.{IsAddressed, IsLawful, IsSend, IsWords, Meaning, stamp}
+use Rattle.model.specs.Meaning.{IsAddressed, IsLawful, IsSend, IsWords, Meaning, most_lps, stamp}
 use Rattle.model.specs.Sequential.{UptoGoesOn, UptoIsOne}
 use Rattle.model.specs.World.{IsUpto, IsWorld, Reaches, World, at_time, below, can_handle, handled, number_of, opening, state_of, step, step_from}
 use Rattle.model.specs.declared.Outgoing.{Outgoing}
@@ -24,7 +24,7 @@ pub stamp_later : (lps lp t k : ℕ) (os : List Outgoing) → Every (IsSend lps)
 stamp_later lps lp t k [] h = tt
 stamp_later lps lp t k (o ∷ os) h = (let d = h.0.delay in omega arith, stamp_later lps lp t (k + 1) os h.1)
 
-pub stamp_addressed : (lps lp t k : ℕ) (os : List Outgoing) → lps ≤ 1024 → lp < lps → t < 2 ^ 40 → k + length os ≤ 2 ^ 63 → Every (IsSend lps) os → Every (IsAddressed lps) (stamp lp t k os)
+pub stamp_addressed : (lps lp t k : ℕ) (os : List Outgoing) → lps ≤ most_lps → lp < lps → t < 2 ^ 40 → k + length os ≤ 2 ^ 63 → Every (IsSend lps) os → Every (IsAddressed lps) (stamp lp t k os)
 stamp_addressed lps lp t k [] few l early fits h = tt
 stamp_addressed lps lp t k (o ∷ os) few l early fits h = (
   record {

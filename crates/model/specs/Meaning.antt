@@ -50,10 +50,14 @@ pub record IsSend (lps : ℕ) (o : Outgoing) : Type 0 where
   pub c : o.c < 2 ^ 64
   pub d : o.d < 2 ^ 64
 
+-- the most processes that a model has
+abbrev pub most_lps : ℕ
+most_lps = 2 ^ 16
+
 -- the laws of a model, for states and messages whose numbers are in their ranges
 pub record IsLawful (m : Meaning) : Type 0 where
   pub some : 1 ≤ m.lps
-  pub few_lps : m.lps ≤ 1024
+  pub few_lps : m.lps ≤ most_lps
   pub identity_few : length m.identity ≤ 8
   pub identity_words : Every (λ (word : ℕ). word < 2 ^ 64) m.identity
   pub start_words : (lp : ℕ) → lp < m.lps → IsWords (m.start_state lp)

@@ -31,7 +31,7 @@ first_lawful h good lp l k b =
 pub hold_lawful : (h : GoodHold) → IsLawful (hold_meaning h.hold)
 hold_lawful h = record {
   some = h.good.some;
-  few_lps = h.good.few;
+  few_lps = omega (arith, h.good.few);
   identity_few = lit≤ tt;
   identity_words = (
     lit< tt,

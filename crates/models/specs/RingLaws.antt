@@ -121,7 +121,7 @@ few_first r h lp l =
 pub ring_lawful : (r : GoodRing) → IsLawful (ring_meaning r.ring)
 ring_lawful r = record {
   some = r.good.some;
-  few_lps = r.good.few;
+  few_lps = omega (arith, r.good.few);
   identity_few = lit≤ tt;
   identity_words = (
     lit< tt,

@@ -1,7 +1,7 @@
 -- Every job shop obeys the laws of a model.
 use Rattle.std.specs.List.{AllByRecursion as Every}
 use Rattle.std.specs.Prelude.{◌≡◌, ℕ, ◌+◌, ◌-◌, ◌*◌, ◌^◌, ◌<◌, ◌≤◌, List, [], ◌∷◌, false, length}
-use Rattle.std.specs.Prelude.{if◌then◌else◌, slice_index}
+use Rattle.std.specs.Prelude.{if◌then◌else◌}
 use Rattle.std.proofs.Common.{arith, lit<, lit≤, inl, inr}
 use Rattle.std.proofs.Math.Nat.{mod-lt, mul-le-mul_left}
 use Rattle.std.proofs.lemmas.Bool.{cases_Bool, ltb-false}
@@ -98,7 +98,7 @@ module _ (s : Shop) (good : IsShop s) (lp : ℕ) (state : List ℕ) (x : Message
 pub shop_lawful : (s : GoodShop) → IsLawful (shop_meaning s.shop)
 shop_lawful s = record {
   some = s.good.some;
-  few_lps = s.good.few;
+  few_lps = omega (arith, s.good.few);
   identity_few = lit≤ tt;
   identity_words = (
     lit< tt,

@@ -3,6 +3,7 @@
 ghost use Rattle.std.specs.Prelude.{◌≡◌, ◌<◌, ◌≤◌, ◌^◌, ◌↔◌, ◌⊎◌, ◌==◌, Some, None, Err, IfOk};
 ghost use Rattle.std.specs.Prelude.{IfErr, IsTrue, length, map, nat_lt, not, true, false};
 ghost use Rattle.std.specs.List.{AllByRecursion as Every};
+ghost use Rattle.model.specs.Meaning.{most_lps};
 ghost use Rattle.node.specs.Handling.{IsInRange, own_lps};
 ghost use Rattle.node.specs.Kept.{HasHistories};
 ghost use Rattle.node.specs.Seats.{seat_of, standings_of};
@@ -149,7 +150,7 @@ impl Node {
 fn are_own(parts: &[Part], node: u32, nodes: u32, lps: u32) -> bool
     requires node { node < nodes }
     requires nodes { nodes ≤ 64 }
-    requires lps { lps ≤ 1024 }
+    requires lps { lps ≤ most_lps }
     ensures { IsTrue result ↔ (map (λ p. p.lp) parts.now ≡ own_lps nodes node lps) }
 {
     let mut next = node;

@@ -11,3 +11,4 @@ mod processors;
 pub use calls::{Call, CallEnd, Calls, NodeStream};
 pub use fault::NodesFault;
 pub use nodes::{Behind, Met, clear, meet, serve_on};
+pub use processors::count_processors;

@@ -25,6 +25,18 @@ where
     Err(NodesFault::File)
 }
 
+/// How many processors the system lets this program run on, at most 64; 1 if the system does not
+/// say, or an allocation failed.
+pub fn count_processors<R>(rt: &R) -> u32
+where
+    R: Files<File = File> + AllocGlobal,
+{
+    match processors(rt) {
+        Ok(processors) => u32::try_from(processors.len()).unwrap_or(1).max(1),
+        Err(_) => 1,
+    }
+}
+
 /// The numbers of a list such as `0-3,8`, at most 64 of them. Fails with `File` if it is none.
 fn listed(alloc: Global, list: &str) -> Result<Vec<u32>, NodesFault> {
     let mut processors = Vec::with_capacity(alloc, MOST)?;

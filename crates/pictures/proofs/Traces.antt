@@ -2,7 +2,7 @@
 use Rattle.std.specs.List.{AllByRecursion as Every}
 use Rattle.std.proofs.Common.{◌≡◌, ℕ, ◌≤◌, ◌^◌, List, [], ◌∷◌, length, max, min, refl, ap, ◌∙◌, sym, subst, suc, arith, set, get_or}
 use Rattle.eventkey.specs.Message.{Message}
-use Rattle.model.specs.Meaning.{IsAddressed, IsLawful, Meaning}
+use Rattle.model.specs.Meaning.{IsAddressed, IsLawful, Meaning, most_lps}
 use Rattle.model.specs.Runner.{IsReached, Simulation}
 use Rattle.model.specs.World.{IsUpto, World, opening}
 use Rattle.model.proofs.Steps.{IsUpto_IsReached, opening_is_upto}
@@ -40,7 +40,7 @@ run_whole m w r law is early events pending first states sends =
     let lps = length-opening m law r.first first in
     record {
       time = early;
-      few = subst (λ n. n ≤ 1024) (sym lps) law.few_lps;
+      few = subst (λ n. n ≤ most_lps) (sym lps) law.few_lps;
       sends = ap length sends ∙ length-sends_of m states r.events;
       events = subst (λ n. Every (IsAddressed n) r.events) (sym lps) (run_addressed m w r.events is events);
       pending = subst (λ n. Every (IsAddressed n) r.pending) (sym lps) (subst (Every (IsAddressed m.lps)) (sym pending) is.world.addressed);

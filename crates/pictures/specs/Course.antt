@@ -3,12 +3,15 @@
 -- and other numbers and sums above 2^56 as 2^56.
 use Rattle.std.specs.List.{filter}
 use Rattle.std.specs.Prelude.{ℕ, ◌+◌, ◌-◌, ◌*◌, ◌/◌, ◌^◌, ◌&&◌, ◌==◌, Bool, suc, zero, List, []}
-use Rattle.std.specs.Prelude.{◌∷◌, ◌++◌, flat_map, if◌then◌else◌, length, max, min, nat_le, nat_lt}
+use Rattle.std.specs.Prelude.{◌∷◌, ◌++◌, codes, flat_map, if◌then◌else◌, length, max, min, nat_le, nat_lt}
 use Rattle.model.specs.World.{below}
 use Rattle.pictures.specs.Filled.{filled}
+use Rattle.pictures.specs.declared.courses.Bar.{Bar}
+use Rattle.pictures.specs.declared.courses.Bars.{Bars}
 use Rattle.pictures.specs.declared.courses.Slice.{Slice}
 use Rattle.pictures.specs.declared.courses.Window.{Window}
-use Rattle.pictures.specs.declared.courses.TheConstants.{COLUMN, COURSE_FOOT, COURSE_HEAD}
+use Rattle.pictures.specs.declared.courses.TheConstants.{BAR_CLASS, BAR_EDGES, COURSE_FOOT}
+use Rattle.pictures.specs.declared.courses.TheConstants.{COURSE_HEAD, TITLE}
 use Rattle.pictures.specs.declared.drawn.TheConstants.{STYLE}
 use Rattle.pictures.specs.declared.turns.Row.{Row}
 
@@ -118,17 +121,50 @@ column_left w k = 60 + k * 900 / w.columns
 abbrev pub column_width : Window → ℕ → ℕ
 column_width w k = (k + 1) * 900 / w.columns - k * 900 / w.columns
 
--- a column with its title; `gvt` and `antimessages` are the greatest numbers of their scales
-abbrev pub slice_text : Window → ℕ → ℕ → ℕ → Slice → List ℕ
-slice_text w gvt antimessages k s = filled COLUMN.now
+-- the bar of the whole column
+abbrev pub column_bar : Window → ℕ → Bar
+column_bar w k = record { x = column_left w k; y = 40; width = column_width w k; height = 420 }
+
+-- a column's bar of this height, whose upper edge is at `y`
+abbrev pub bar_within : Bar → ℕ → ℕ → Bar
+bar_within column y height =
+    record { x = column.x; y = y; width = column.width; height = height }
+
+-- a column's bar of this height, which stands on the line at `foot`
+abbrev pub standing_on : Bar → ℕ → ℕ → Bar
+standing_on column foot height = bar_within column (foot - height) height
+
+-- the bars of a column; `gvt` and `antimessages` are the greatest numbers of their scales
+abbrev pub bars_of : Window → ℕ → ℕ → ℕ → Slice → Bars
+bars_of w gvt antimessages k s = record {
+  slice = column_bar w k;
+  gvt = standing_on (column_bar w k) 160 (pixels_of s.gvt gvt);
+  efficiency = standing_on (column_bar w k) 300 (efficiency_of s);
+  antimessages = standing_on (column_bar w k) 440 (pixels_of s.antimessages antimessages);
+  commit = bar_within (column_bar w k) 450 (8 * min 1 s.commits);
+}
+
+-- the words that a browser shows for a slice
+abbrev pub title_text : Slice → List ℕ
+title_text s = filled TITLE.now
     (s.from ∷ (s.to - 1) ∷ s.gvt ∷ s.handled ∷ s.events ∷ efficiency_of s ∷ s.antimessages
-    ∷ s.commits
-    ∷ column_left w k ∷ column_width w k
-    ∷ column_left w k ∷ (160 - pixels_of s.gvt gvt) ∷ column_width w k ∷ pixels_of s.gvt gvt
-    ∷ column_left w k ∷ (300 - efficiency_of s) ∷ column_width w k ∷ efficiency_of s
-    ∷ column_left w k ∷ (440 - pixels_of s.antimessages antimessages) ∷ column_width w k
-    ∷ pixels_of s.antimessages antimessages
-    ∷ column_left w k ∷ column_width w k ∷ (8 * min 1 s.commits) ∷ [])
+    ∷ s.commits ∷ [])
+
+-- a bar of this class
+abbrev pub bar_text : List ℕ → Bar → List ℕ
+bar_text class bar = BAR_CLASS.now ++ class
+    ++ filled BAR_EDGES.now (bar.x ∷ bar.y ∷ bar.width ∷ bar.height ∷ [])
+
+abbrev pub bars_text : Bars → List ℕ
+bars_text bars = bar_text (codes "slice") bars.slice ++ bar_text (codes "gvt") bars.gvt
+    ++ bar_text (codes "efficiency") bars.efficiency
+    ++ bar_text (codes "antimessages") bars.antimessages
+    ++ bar_text (codes "commit") bars.commit
+
+-- a column
+abbrev pub slice_text : Window → ℕ → ℕ → ℕ → Slice → List ℕ
+slice_text w gvt antimessages k s =
+    title_text s ++ bars_text (bars_of w gvt antimessages k s) ++ codes "</g>\n"
 
 abbrev pub column_text : List Row → Window → ℕ → ℕ → ℕ → List ℕ
 column_text rows w gvt antimessages k =

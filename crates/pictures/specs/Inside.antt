@@ -3,7 +3,7 @@ use Rattle.std.specs.List.{AllByRecursion as Every}
 use Rattle.std.specs.Prelude.{ℕ, ◌≡◌, ◌≤◌, ◌^◌, List, [], get_or, length, map}
 use Rattle.std.specs.declared.vec.Vec.{Vec}
 use Rattle.std.specs.declared.alloc.Global.{Global}
-use Rattle.model.specs.Meaning.{IsAddressed}
+use Rattle.model.specs.Meaning.{IsAddressed, most_lps}
 use Rattle.pictures.specs.Run.{Run, sending_times}
 use Rattle.pictures.specs.declared.traced.Trace.TheInside.{Inside}
 
@@ -22,7 +22,7 @@ lists rows = map (λ (row : Vec ℕ Global). row.items) rows
 -- the ranges of a run: its time, the number of its processes, and its messages
 pub record IsWholeRun (r : Run) : Type 0 where
   pub time : r.time ≤ 2 ^ 40
-  pub few : length r.first ≤ 1024
+  pub few : length r.first ≤ most_lps
   pub sends : length r.sends ≡ length r.events
   pub events : Every (IsAddressed (length r.first)) r.events
   pub pending : Every (IsAddressed (length r.first)) r.pending

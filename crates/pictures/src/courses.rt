@@ -6,13 +6,14 @@ ghost use Rattle.std.specs.Prelude.{flat_map, length, not};
 ghost use Rattle.eventkey.specs.Writing.{Writes};
 ghost use Rattle.model.specs.World.{below};
 ghost use Rattle.pictures.specs.Course.{at_first, capped, column_of, column_start, column_text};
-ghost use Rattle.pictures.specs.Course.{column_left, column_width, slice_text};
+ghost use Rattle.pictures.specs.Course.{bar_text, bar_within, bars_of, bars_text, column_bar};
+ghost use Rattle.pictures.specs.Course.{column_left, column_width, slice_text, standing_on};
 ghost use Rattle.pictures.specs.Course.{columns_text, committing, course_text, efficiency_of};
 ghost use Rattle.pictures.specs.Course.{events_before, foot_text, is_between as is_within};
 ghost use Rattle.pictures.specs.Course.{last_round as last_of, least_round as least_of};
 ghost use Rattle.pictures.specs.Course.{most_antimessages as most_of, picture_text, pixels_of};
 ghost use Rattle.pictures.specs.Course.{reached, round_of as round_at, slice_of as slice_from};
-ghost use Rattle.pictures.specs.Course.{sum_between, window_of as window_from};
+ghost use Rattle.pictures.specs.Course.{sum_between, title_text, window_of as window_from};
 ghost use Rattle.pictures.specs.declared.turns.Row.{Row};
 
 use crate::drawn::STYLE;
@@ -62,6 +63,28 @@ struct Work {
     antimessages: u64,
 }
 
+/// A bar of a column, in pixels.
+#[derive(Clone, Copy)]
+struct Bar {
+    /// Its left edge.
+    x: u64,
+    /// Its upper edge.
+    y: u64,
+    width: u64,
+    height: u64,
+}
+
+/// The bars of a column.
+#[derive(Clone, Copy)]
+struct Bars {
+    /// The whole column: it is seen while a pointer is over it.
+    slice: Bar,
+    gvt: Bar,
+    efficiency: Bar,
+    antimessages: Bar,
+    commit: Bar,
+}
+
 /// The cap of numbers and sums, so that no calculation overflows.
 const MOST: u64 = 1 << 56;
 
@@ -76,14 +99,13 @@ const COURSE_HEAD: &str = "\
 </style>
 ";
 
-const COLUMN: &str = "\
+const TITLE: &str = "\
 <g><title>rounds $ to $: GVT $, $ handled, $ events committed, efficiency $ %, $ antimessages, $ commits</title>
-<rect class=\"slice\" x=\"$\" y=\"40\" width=\"$\" height=\"420\"/>\
-<rect class=\"gvt\" x=\"$\" y=\"$\" width=\"$\" height=\"$\"/>\
-<rect class=\"efficiency\" x=\"$\" y=\"$\" width=\"$\" height=\"$\"/>\
-<rect class=\"antimessages\" x=\"$\" y=\"$\" width=\"$\" height=\"$\"/>\
-<rect class=\"commit\" x=\"$\" y=\"450\" width=\"$\" height=\"$\"/></g>
 ";
+
+const BAR_CLASS: &str = "<rect class=\"";
+
+const BAR_EDGES: &str = "\" x=\"$\" y=\"$\" width=\"$\" height=\"$\"/>";
 
 const COURSE_FOOT: &str = "\
 <line class=\"row\" x1=\"60\" y1=\"160\" x2=\"960\" y2=\"160\"/><text x=\"60\" y=\"50\">GVT, 0 to $ ticks</text>
@@ -191,39 +213,99 @@ fn write_slice<W: Write>(
     ensures { Writes (W.contents out.old) (W.contents out.new) result
         (slice_text window.now gvt most place slice.now) }
 {
-    let x = left(window, place);
-    let width = width(window, place);
-    let efficiency = efficiency(slice);
-    let far = pixels(slice.gvt, gvt);
-    let back = pixels(slice.antimessages, most);
+    let bars = bars_at(window, gvt, most, place, slice);
+    write_title(slice, out)?;
+    write_bars(&bars, out)?;
+    write_text("</g>\n", out)
+}
+
+/// Writes the words that a browser shows for a slice.
+fn write_title<W: Write>(slice: &Slice, out: &mut W) -> Result<()>
+    requires { slice.now.events ≤ 2 ^ 56 }
+    ensures { Writes (W.contents out.old) (W.contents out.new) result (title_text slice.now) }
+{
     let numbers = [
         slice.from,
         slice.to.saturating_sub(1),
         slice.gvt,
         slice.handled,
         slice.events,
-        efficiency,
+        efficiency(slice),
         slice.antimessages,
         slice.commits,
-        x,
-        width,
-        x,
-        160u64.saturating_sub(far),
-        width,
-        far,
-        x,
-        300u64.saturating_sub(efficiency),
-        width,
-        efficiency,
-        x,
-        440u64.saturating_sub(back),
-        width,
-        back,
-        x,
-        width,
-        8 * slice.commits.min(1),
     ];
-    write_filled(COLUMN, &numbers, out)
+    write_filled(TITLE, &numbers, out)
+}
+
+fn write_bars<W: Write>(bars: &Bars, out: &mut W) -> Result<()>
+    ensures { Writes (W.contents out.old) (W.contents out.new) result (bars_text bars.now) }
+{
+    write_bar("slice", &bars.slice, out)?;
+    write_bar("gvt", &bars.gvt, out)?;
+    write_bar("efficiency", &bars.efficiency, out)?;
+    write_bar("antimessages", &bars.antimessages, out)?;
+    write_bar("commit", &bars.commit, out)
+}
+
+fn write_bar<W: Write>(class: &str, bar: &Bar, out: &mut W) -> Result<()>
+    ensures { Writes (W.contents out.old) (W.contents out.new) result
+        (bar_text class.now bar.now) }
+{
+    write_text(BAR_CLASS, out)?;
+    write_text(class, out)?;
+    write_filled(BAR_EDGES, &[bar.x, bar.y, bar.width, bar.height], out)
+}
+
+/// Returns the bars of the column at a place, which shows this slice.
+fn bars_at(window: &Window, gvt: u64, most: u64, place: u64, slice: &Slice) -> Bars
+    requires columns { window.now.columns ≤ 90 }
+    requires place { place < window.now.columns }
+    requires gvt { slice.now.gvt ≤ 2 ^ 56 }
+    requires events { slice.now.events ≤ 2 ^ 56 }
+    requires antimessages { slice.now.antimessages ≤ 2 ^ 56 }
+    ensures { result ≡ bars_of window.now gvt most place slice.now }
+{
+    let column = column_bar(window, place);
+    Bars {
+        slice: column,
+        gvt: standing(&column, 160, pixels(slice.gvt, gvt)),
+        efficiency: standing(&column, 300, efficiency(slice)),
+        antimessages: standing(&column, 440, pixels(slice.antimessages, most)),
+        commit: within(&column, 450, 8 * slice.commits.min(1)),
+    }
+}
+
+/// Returns the bar of the whole column at a place.
+fn column_bar(window: &Window, place: u64) -> Bar
+    requires columns { window.now.columns ≤ 90 }
+    requires place { place < window.now.columns }
+    ensures { result ≡ column_bar window.now place }
+{
+    Bar {
+        x: left(window, place),
+        y: 40,
+        width: width(window, place),
+        height: 420,
+    }
+}
+
+/// Returns a column's bar of this height, which stands on the line at `foot`.
+fn standing(column: &Bar, foot: u64, height: u64) -> Bar
+    ensures { result ≡ standing_on column.now foot height }
+{
+    within(column, foot.saturating_sub(height), height)
+}
+
+/// Returns a column's bar of this height, whose upper edge is at `y`.
+fn within(column: &Bar, y: u64, height: u64) -> Bar
+    ensures { result ≡ bar_within column.now y height }
+{
+    Bar {
+        x: column.x,
+        y,
+        width: column.width,
+        height,
+    }
 }
 
 /// Returns the left edge of a column in pixels.

@@ -25,7 +25,7 @@ pub struct Trace {
     times: Vec<Vec<u64>>,
 }
 
-// Not derived: the proof of each caller that drops a trace would have to go through its parts.
+// Not derived, so that callers drop a trace as one value, and not part by part.
 impl Drop for Trace {
     fn drop(self) {
         let Trace {

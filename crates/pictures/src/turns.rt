@@ -39,7 +39,7 @@ pub struct Row {
     pub events: u64,
 }
 
-/// The reason why a trace can't be read.
+/// The reason why a trace cannot be read.
 #[derive(Clone, Copy, Debug, PartialEq, Eq, Error)]
 pub enum NotRead {
     /// An allocation failed.

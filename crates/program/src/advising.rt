@@ -4,6 +4,7 @@ use crate::fault::Fault;
 use cli::{Command, most_sectors};
 use commitlog::LogFault;
 use coordinator::SessionFault;
+use judging::Difference;
 use migration::MigrateFault;
 use node_programs::{Call, CallEnd};
 use recovery::RecoveryFault;
@@ -15,17 +16,26 @@ use texts::{Described, Printable, Report};
 use views::{committed_on, difference_of, mistakes_of};
 use wire::{PortFault, WireFault};
 
+/// What was noted of node programs before a fault.
+#[derive(Clone, Copy)]
+pub(crate) struct Noted {
+    /// The last call on the connection of one.
+    pub last: Option<Call>,
+    /// The event of the first report that is not what the model does.
+    pub refused: Option<Difference>,
+}
+
 /// Passes the advice for the fault of a command to `progress`, and the cause of a `File` if
 /// `progress` is seen. If `progress` is not seen but advice is asked for, both are printed on `err`.
 ///
 /// In both cases `err` gets what the files of the command say about the fault, if they say
-/// something, in place of the advice; and which node failed in a run over node programs, by the last
-/// call on the connection of one.
+/// something, in place of the advice; and which node failed in a run over node programs, and how,
+/// by what was noted of them.
 pub(crate) fn advise<M, R, P, E>(
     rt: &R,
     command: Command<'_>,
     fault: Fault,
-    last: Option<Call>,
+    noted: Noted,
     is_asked: bool,
     progress: &mut P,
     err: &mut E,
@@ -40,7 +50,7 @@ where
     let is_wanted = is_seen || is_asked;
     let is_explained = is_wanted && explain::<M, R, E>(rt, command, fault, err);
     if is_wanted {
-        print_node(command, fault, last, err);
+        print_node(command, fault, noted, err);
     }
     if is_wanted && stops_a_run(command, fault) {
         print_committed::<M, R, E>(rt, paths_of(command), err);
@@ -71,9 +81,9 @@ fn stops_a_run(command: Command<'_>, fault: Fault) -> bool {
 }
 
 /// Prints which node program failed, where its socket was, and how.
-fn print_node<E: Write>(command: Command<'_>, fault: Fault, last: Option<Call>, err: &mut E) {
+fn print_node<E: Write>(command: Command<'_>, fault: Fault, noted: Noted, err: &mut E) {
     let (Command::Run(args), Fault::Session(SessionFault::Port(fault)), Some(call)) = (
-        command, fault, last,
+        command, fault, noted.last,
     ) else {
         return;
     };
@@ -82,8 +92,13 @@ fn print_node<E: Write>(command: Command<'_>, fault: Fault, last: Option<Call>, 
     };
     let (node, folder) = (call.node, Printable(folder));
     let how = how_it_failed(fault, call.end);
-    let _ = match (args.silence, call.end) {
-        (Some(seconds), CallEnd::Silent) => writeln!(
+    let _ = match (args.silence, call.end, noted.refused) {
+        (_, _, Some(Difference { process, time })) => writeln!(
+            err,
+            "node {node} ({folder}/node{node}) reports what the model does not do: \
+             process {process} at {time} ticks"
+        ),
+        (Some(seconds), CallEnd::Silent, _) => writeln!(
             err,
             "node {node} ({folder}/node{node}) was silent for {seconds} s"
         ),

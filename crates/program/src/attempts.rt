@@ -17,7 +17,7 @@ use commands::{CommandFault, Ended, Simulated};
 use coordinator::SessionFault;
 use disk::{FileDisk, SectorDisk};
 use growing::{Grown, NotGrown, grow};
-use judging::judged_ports;
+use judging::{Differences, judged_ports};
 use node_programs::{Behind, Calls, NodeStream, clear, meet};
 use runs::Plan;
 use sockets::SocketPort;
@@ -32,11 +32,13 @@ use terminal::Progress;
 use texts::Described;
 use wire::{PortFault, WireFault};
 
-/// The program that a run starts for each node, and the calls on the connections to them.
+/// The program that a run starts for each node, the calls on the connections to them, and what they
+/// reported that the model does not do.
 #[derive(Clone, Copy)]
 pub(crate) struct NodePrograms<'a> {
     pub program: &'a str,
     pub calls: &'a Calls,
+    pub differences: &'a Differences,
 }
 
 /// After which faults a run goes on.
@@ -149,7 +151,10 @@ where
                 silence: args.silence,
                 calls: nodes.calls,
             };
-            let judge = args.judge.unwrap_or(JUDGED);
+            let judge = Judge {
+                every: args.judge.unwrap_or(JUDGED),
+                differences: nodes.differences,
+            };
             attempt_behind::<M, R, P, O>(rt, behind, of, disk, plan, judge, watch, out)
         }
     }
@@ -184,8 +189,16 @@ where
 /// otherwise.
 const JUDGED: u32 = 64;
 
-/// Makes an attempt over node programs, and judges one in `judge` reports of each of their processes,
-/// or none for 0.
+/// How reports of node programs are judged.
+#[derive(Clone, Copy)]
+struct Judge<'a> {
+    /// One in this many reports of each process is judged, or none for 0.
+    every: u32,
+    /// Of which event the first report is that is refused.
+    differences: &'a Differences,
+}
+
+/// Makes an attempt over node programs, and judges their reports.
 ///
 /// Returns `File` if a socket is not made, a program does not start, or one ends before it connects,
 /// or `NoMemory`. At every exit it then closes the connections, waits for each program that it
@@ -199,7 +212,7 @@ fn attempt_behind<M, R, P, O>(
     of: &Simulated<M>,
     disk: FileDisk,
     plan: Plan,
-    judge: u32,
+    judge: Judge<'_>,
     watch: &mut Watching<'_, R, P>,
     out: &mut O,
 ) -> Result<Ended<FileDisk>, Fault>
@@ -237,15 +250,15 @@ where
     tried
 }
 
-/// Makes an attempt over connected node programs, and judges one in `judge` of their reports. All
-/// connections are closed when it returns.
+/// Makes an attempt over connected node programs, and judges their reports. All connections are
+/// closed when it returns.
 fn attempt_over<M, R, P, O>(
     alloc: Global,
     of: &Simulated<M>,
     ports: Vec<SocketPort<NodeStream<'_>>>,
     disk: FileDisk,
     plan: Plan,
-    judge: u32,
+    judge: Judge<'_>,
     watch: &mut Watching<'_, R, P>,
     out: &mut O,
 ) -> Result<Ended<FileDisk>, Fault>
@@ -266,7 +279,8 @@ where
         (O.contents out.new)) }
     ensures unmet { OnErr result (out.new ≡ out.old) }
 {
-    let judged = judged_ports(alloc, &of.model, judge, ports)?;
+    let Judge { every, differences } = judge;
+    let judged = judged_ports(alloc, &of.model, every, Some(differences), ports)?;
     Ok(commands::run_over(alloc, of, judged, disk, plan, watch, out))
 }
 

@@ -19,5 +19,5 @@ pub use described::simulated;
 pub use fault::Fault;
 pub use starting::start;
 pub use status::{About, answer, command, print_fault, refuse_words, words};
-pub use terminal::{Progress, TerminalProgress, Traced};
+pub use terminal::{Progress, TerminalProgress, Traced, Way};
 pub use views::{ViewFault, check, seq};

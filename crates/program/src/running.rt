@@ -14,6 +14,7 @@ use crate::fault::Fault;
 use crate::watching::Watching;
 use cli::{BatchOption, NodeArgs, RunArgs};
 use commands::Simulated;
+use node_programs::count_processors;
 use runs::{Batch as DriverBatch, Plan, Schedule};
 use std::fs::{File, OpenOptions};
 use std::io::{BufWriter, Error as IoError, Write};
@@ -21,7 +22,7 @@ use std::net::Net;
 use std::process::Processes;
 use std::rt::Files;
 use std::time::Clock;
-use terminal::{Earlier, Progress, Traced, are_one_file};
+use terminal::{Earlier, Progress, Traced, Way, are_one_file};
 use texts::Described;
 use views::unreadable;
 
@@ -118,6 +119,23 @@ pub(crate) fn create_of(args: &RunArgs<'_>) -> Option<u32> {
     }
 }
 
+/// Returns how the options of a run say that it is made. Node programs could use as many processors
+/// as this program may, and at most one for each process of the model.
+fn way_of<R>(rt: &R, args: &RunArgs<'_>, processes: u32) -> Way
+where
+    R: Files<File = File> + AllocGlobal,
+{
+    if args.sockets.is_some() || (args.plain && args.checkpoint.is_some()) {
+        Way::Other
+    } else if args.plain {
+        Way::Plain {
+            processors: count_processors(rt).min(processes),
+        }
+    } else {
+        Way::OneProcess
+    }
+}
+
 /// Runs the model of a file on its disk, which is made first if that is asked for and it is not
 /// there.
 ///
@@ -146,6 +164,7 @@ where
     let of: Simulated<M> = simulated(rt, args.on.model)?;
     let disk = disk_of(rt, &of, args.on, create_of(&args))?;
     progress.begin(of.end);
+    progress.takes(way_of(rt, &args, of.model.lps()));
     let mut watch = Watching::new(rt, progress, args.stop_file);
     let ended = run_attempts::<M, R, P, O>(rt, nodes, &of, disk, args, &mut watch, out)?;
     end_run(ended.outcome, args.stop_file, watch.progress, out)

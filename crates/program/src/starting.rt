@@ -12,7 +12,7 @@ use std::net::Net;
 use std::os::fd::AsRawFd;
 use std::process::Processes;
 use std::rt::{Env, Files};
-use std::time::Clock;
+use std::time::{Clock, CpuClock};
 use terminal::TerminalProgress;
 use texts::Described;
 
@@ -20,12 +20,13 @@ use texts::Described;
 /// the exit status. A program's `main` only needs this call.
 ///
 /// Results are printed on standard output. Faults are printed on `err`, and the progress of a run
-/// and advice after a fault if `err` is a terminal, or lines of progress if these are asked for. If
-/// the environment has `TIMEWARP_ADVICE` as `1`, each command has the option `--advice`.
+/// and advice, after a fault or to run another way, if `err` is a terminal, or lines of progress if
+/// these are asked for. If the environment has `TIMEWARP_ADVICE` as `1`, each command has the
+/// option `--advice`.
 pub fn start<M, R, E>(rt: &R, about: About<'_>, mut err: E) -> u8
 where
     M: Described,
-    R: Env + Files<File = File> + Net + Processes + Clock + Print + AllocGlobal,
+    R: Env + Files<File = File> + Net + Processes + Clock + CpuClock + Print + AllocGlobal,
     E: Write + IsTerminal + Copy,
     ensures { result ≤ 2 }
 {
@@ -33,11 +34,12 @@ where
     let Ok(mut out) = BufWriter::new(rt.alloc(), io::writer(rt)) else {
         return print_fault(about.name, Fault::NoMemory, &mut err);
     };
-    let mut progress = if err.is_terminal() {
+    let progress = if err.is_terminal() {
         TerminalProgress::on(rt, Some(err))
     } else {
         TerminalProgress::in_lines(rt, err)
     };
+    let mut progress = progress.named(about.name);
     let status = answer::<M, _, _, _, _>(rt, about, asked(rt), &mut progress, &mut out, &mut err);
     // each command flushes what it writes: what is left was refused, and is not tried again
     let (_writer, _left) = out.into_parts();

@@ -7,7 +7,7 @@ ghost use Rattle.cli.specs.Command.{refusal_of, IsRanged};
 ghost use Rattle.program.specs.Command.{BeginsSaid, IsOutput, PrintsSaid};
 ghost use Rattle.views.specs.Views.{Begins, Prints};
 
-use crate::advising::advise;
+use crate::advising::{Noted, advise};
 use crate::attempts::NodePrograms;
 use crate::disks::{extend_on, grow_on, migrate_on, new_on, reopen_on, show_on};
 use crate::fault::Fault;
@@ -15,6 +15,7 @@ use crate::looking::{draw_on, log_on, stats_on, status_on, verify_on};
 use crate::running::{run_as, serve_on};
 use clap::error::{Error as LineError, ErrorKind as LineFault};
 use cli::{Command, Hint, Texts, hint_of, program_help, read_command, says_advice, seq_help};
+use judging::Differences;
 use node_programs::Calls;
 use std::convert::AsStr;
 use std::env;
@@ -55,7 +56,7 @@ pub fn words<R: Env + AllocGlobal>(rt: &R) -> IoResult<Vec<String>> {
 /// program's name, `: ` and its text; and 2 if the words are no command or ask for help, with
 /// `clap`'s text on `err`. Below a mistake that `check` finds all mistakes of the model file are
 /// printed, each beside its line. With `--advice`, or if `progress` is seen, what to do about a fault
-/// follows it.
+/// follows it, and `progress` gets a hint during a run that another way would be faster.
 ///
 /// The command writes its results to `out`, which is flushed at the end. A run reports its progress
 /// to `progress`, and each command its fault, after that is printed.
@@ -113,10 +114,16 @@ where
         }
     };
     let program = words.first().map(AsStr::as_str).unwrap_or("");
+    let is_asked = says_advice(words);
+    if is_asked {
+        progress.with_advice();
+    }
     let calls = Calls::none();
+    let differences = Differences::none();
     let nodes = NodePrograms {
         program,
         calls: &calls,
+        differences: &differences,
     };
     let mut found = None;
     match run::<M, R, P, O>(rt, nodes, command, progress, out, &mut found) {
@@ -125,9 +132,11 @@ where
             progress.clear();
             let status = print_fault(about.name, fault, err);
             print_mistakes(command, &found, err);
-            let is_asked = says_advice(words);
-            let last = calls.last();
-            advise::<M, R, P, E>(rt, command, fault, last, is_asked, progress, err);
+            let noted = Noted {
+                last: calls.last(),
+                refused: differences.first(),
+            };
+            advise::<M, R, P, E>(rt, command, fault, noted, is_asked, progress, err);
             status
         }
     }

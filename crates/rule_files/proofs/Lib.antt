@@ -3,3 +3,4 @@ pub mod Seam
 pub mod Names
 pub mod Right
 pub mod BothKinds
+pub mod Rows

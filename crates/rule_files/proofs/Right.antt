@@ -31,18 +31,18 @@ right_words right key text t e = ap (λ r. words_wrong r key text t) e ∙ words
 -- 1. The head
 
 abbrev head_numbers : Members → List Wrong
-head_numbers t = numbers_wrong (number_key (codes "lps") 1 1024 ∷ number_key (codes "end") 1 (2 ^ 40) ∷ []) t
+head_numbers t = numbers_wrong (number_key (codes "lps") 1 65536 ∷ number_key (codes "end") 1 (2 ^ 40) ∷ []) t
 
 module _ (t : Members) (none : head_wrong t ≡ []) where
-  pub lps_there : number_at (codes "lps") 1 1024 t ≡ None → ⊥
+  pub lps_there : number_at (codes "lps") 1 65536 t ≡ None → ⊥
   lps_there missing =
       let ((lps, lps_is, _, _), ((end, end_is, _, _), all))
-      = numbers_there (number_key (codes "lps") 1 1024 ∷ number_key (codes "end") 1 (2 ^ 40) ∷ []) t (none_before (head_numbers t) (unknown_wrong rules_keys t) none) in cc
+      = numbers_there (number_key (codes "lps") 1 65536 ∷ number_key (codes "end") 1 (2 ^ 40) ∷ []) t (none_before (head_numbers t) (unknown_wrong rules_keys t) none) in cc
 
   pub end_there : number_at (codes "end") 1 (2 ^ 40) t ≡ None → ⊥
   end_there missing =
       let ((lps, lps_is, _, _), ((end, end_is, _, _), all))
-      = numbers_there (number_key (codes "lps") 1 1024 ∷ number_key (codes "end") 1 (2 ^ 40) ∷ []) t (none_before (head_numbers t) (unknown_wrong rules_keys t) none) in cc
+      = numbers_there (number_key (codes "lps") 1 65536 ∷ number_key (codes "end") 1 (2 ^ 40) ∷ []) t (none_before (head_numbers t) (unknown_wrong rules_keys t) none) in cc
 
   pub only_there : unknown_wrong rules_keys t ≡ []
   only_there = none_behind (head_numbers t) (unknown_wrong rules_keys t) none
@@ -97,7 +97,7 @@ module _ (t : Members) (d : Description) (b : IsBody t d) (s : IsWithin d.start)
 
 module _ (t : Members) (d : Description) (end : ℕ) (is : IsRulesTable t d end) where
   numbers_none : head_numbers t ≡ []
-  numbers_none = numbers_right (number_key (codes "lps") 1 1024 ∷ number_key (codes "end") 1 (2 ^ 40) ∷ []) t ((d.lps, is.lps), ((end, is.last), tt))
+  numbers_none = numbers_right (number_key (codes "lps") 1 65536 ∷ number_key (codes "end") 1 (2 ^ 40) ∷ []) t ((d.lps, is.lps), ((end, is.last), tt))
 
   pub head_right : head_wrong t ≡ []
   head_right = nils (head_numbers t) (unknown_wrong rules_keys t) numbers_none is.only
@@ -124,10 +124,10 @@ module _ (t : Members) where
   content_part = words_wrong (is_some (content_of t)) (codes "message") (codes "a list of at most 4 names") t
 
   abbrev numbers_part : List Wrong
-  numbers_part = words_wrong (is_some (numbers_of t)) (codes "numbers") (codes "names with numbers from 0 to 9223372036854775807") t
+  numbers_part = words_wrong (is_some (numbers_of t)) (codes "numbers") (codes "at most 1024 names with numbers from 0 to 9223372036854775807") t
 
   abbrev tables_part : List Wrong
-  tables_part = words_wrong (is_some (tables_of t)) (codes "tables") (codes "names with lists of one or more numbers, at most 1048576 in all") t
+  tables_part = words_wrong (is_some (tables_of t)) (codes "tables") (codes "at most 1024 names with lists of one or more numbers, at most 1048576 in all") t
 
   abbrev names_part : List Wrong
   names_part = words_wrong (names_fit t) (codes "state") (codes "names that are nowhere else in state, message, numbers and tables") t

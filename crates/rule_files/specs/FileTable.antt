@@ -5,9 +5,11 @@ use Rattle.std.specs.Prelude.{Bool, true, false, Option, Some, None, codes, if�
 use Rattle.std.specs.Prelude.{length, map, nat_eq, nat_le, not, option_and_then}
 use Rattle.std.specs.Cmp.Lexicographic.{pointwise}
 use Rattle.rule_files.specs.Names.{is_key}
+use Rattle.rule_files.specs.Printed.{with_model}
 use Rattle.rule_files.specs.Reading.{Spells, is_rule}
 use Rattle.rule_files.specs.RuleFile.{Parts, content_of, numbers_of, parts_of, tables_of, words_of}
 use Rattle.rule_files.specs.declared.file_model.FileModel.{FileModel}
+use Rattle.rule_files.specs.declared.file_model.FileNames.{FileNames}
 use Rattle.rule_files.specs.declared.file_model.FileModel.TheVariants.{BuiltIn, Rules}
 use Rattle.rules.specs.Rules.{Description}
 use Rattle.rules.specs.declared.tree.Statement.{Statement}
@@ -81,7 +83,7 @@ is_rules t = is_rules_kind (kind_of t)
 -- the table describes this model by rules and a run to this end
 pub record IsRulesTable (table : Members) (d : Description) (end : ℕ) : Type 0 where
   pub kind : is_rules table ≡ true
-  pub lps : number_at (codes "lps") 1 1024 table ≡ Some d.lps
+  pub lps : number_at (codes "lps") 1 65536 table ≡ Some d.lps
   pub last : number_at (codes "end") 1 (2 ^ 40) table ≡ Some end
   pub body : IsBody table d
   pub only : unknown_wrong rules_keys table ≡ []
@@ -122,7 +124,7 @@ body_fits t = parts_fit (parts_of t) (rules_of t) t
 
 abbrev pub head_wrong : Members → List Wrong
 head_wrong t =
-    numbers_wrong (number_key (codes "lps") 1 1024 ∷ number_key (codes "end") 1 (2 ^ 40) ∷ []) t
+    numbers_wrong (number_key (codes "lps") 1 65536 ∷ number_key (codes "end") 1 (2 ^ 40) ∷ []) t
     ++ unknown_wrong rules_keys t
 
 abbrev pub names_wrong : Members → List Wrong
@@ -130,9 +132,9 @@ names_wrong t =
     words_wrong (is_some (words_of t)) (codes "state") (codes "a list of at most 16 names") t
     ++ words_wrong (is_some (content_of t)) (codes "message") (codes "a list of at most 4 names") t
     ++ words_wrong (is_some (numbers_of t)) (codes "numbers")
-    (codes "names with numbers from 0 to 9223372036854775807") t
+    (codes "at most 1024 names with numbers from 0 to 9223372036854775807") t
     ++ words_wrong (is_some (tables_of t)) (codes "tables")
-    (codes "names with lists of one or more numbers, at most 1048576 in all") t
+    (codes "at most 1024 names with lists of one or more numbers, at most 1048576 in all") t
     ++ words_wrong (names_fit t) (codes "state")
     (codes "names that are nowhere else in state, message, numbers and tables") t
 
@@ -165,7 +167,7 @@ rest_wrong t = rest_of (parts_of t) (rules_of t) t
 
 abbrev pub rules_table_wrong : Members → List Wrong
 rules_table_wrong t =
-    numbers_wrong (number_key (codes "lps") 1 1024 ∷ number_key (codes "end") 1 (2 ^ 40) ∷ []) t
+    numbers_wrong (number_key (codes "lps") 1 65536 ∷ number_key (codes "end") 1 (2 ^ 40) ∷ []) t
     ++ names_wrong t ++ rest_wrong t ++ unknown_wrong rules_keys t
 
 -- the mistakes in the table of a model file
@@ -174,13 +176,17 @@ file_wrong t = if is_rules t then rules_table_wrong t else any_wrong t
 
 -- 3. What `check` prints
 
--- the lines of a model by rules and its end
-abbrev pub rules_text : Description → ℕ → List ℕ
-rules_text d end =
+-- the first lines of a model by rules and its end
+abbrev pub head_text : Description → ℕ → List ℕ
+head_text d end =
     codes "model: rules\n" ++ line_then (codes "lps") d.lps (line_then (codes "end") end
     (line_then (codes "words of state") d.width
     (line_then (codes "tables") (length d.tables) [])))
 
+-- these, and then its names, its tables and its rules
+abbrev pub rules_text : Description → FileNames → ℕ → List ℕ
+rules_text d names end = with_model names d (head_text d end)
+
 abbrev pub file_text : FileModel → ℕ → List ℕ
 file_text (BuiltIn m) end = model_text m end
-file_text (Rules r names) end = rules_text r.description end
+file_text (Rules r names) end = rules_text r.description names end

@@ -69,9 +69,11 @@ named_in is_table (member key d others) =
     (named_in is_table others)) (numbers_in is_table d)
     else None
 
+-- at most 1,024 names with their numbers
 abbrev pub named_or_none : Bool → Option Data → Option (List (List ℕ × List ℕ))
 named_or_none is_table None = Some []
-named_or_none is_table (Some d) = option_and_then (named_in is_table) (as_table d)
+named_or_none is_table (Some d) =
+    option_and_then (at_most 1024) (option_and_then (named_in is_table) (as_table d))
 
 -- the named numbers
 unfoldable pub numbers_of : Members → Option (List (List ℕ × List ℕ))

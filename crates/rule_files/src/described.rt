@@ -5,7 +5,8 @@ ghost use Rattle.std.specs.Prelude.{◌<◌, ◌==◌, true, is_ok, option_and_t
 ghost use Rattle.std.specs.Prelude.{IsNone, OnOk, Err, None, Some, codes, false, length, map};
 ghost use Rattle.std.specs.Prelude.{option_map, string_bytes, nat_lt};
 ghost use Rattle.rule_files.specs.FileTable.{IsBody, IsFileTable, IsRuleAt, IsRulesTable};
-ghost use Rattle.rule_files.specs.FileTable.{body_fits, file_text, file_wrong, head_wrong};
+ghost use Rattle.rule_files.specs.FileTable.{body_fits, file_text, file_wrong, head_text};
+ghost use Rattle.rule_files.specs.FileTable.{head_wrong};
 ghost use Rattle.rule_files.specs.FileTable.{fits_names, is_rules, key_from, rest_of, rest_wrong};
 ghost use Rattle.rule_files.specs.FileTable.{rule_wrong};
 ghost use Rattle.rule_files.specs.FileTable.{names_wrong, rule_fits, rule_keys, rules_keys};
@@ -24,7 +25,9 @@ use crate::entries::{
     CONTENT, NUMBERS, TABLES, TWICE, WORDS, has_content, has_numbers, has_scope, has_tables,
     has_words, scope_of, value_at,
 };
-use crate::file_model::{FileModel, WordNames};
+use crate::file_model::{FileModel, FileNames};
+use crate::given::given_names;
+use crate::printed::put_model;
 use crate::reading::{RuleMistake, read_rule};
 use crate::scope::{Named, Scope, is_key};
 use model::Model as Simulated;
@@ -38,18 +41,18 @@ use toml::Table;
 /// The part of a program's help about the keys of the file of a model by rules.
 pub const RULES_KEYS: &str = "\
 A model by rules (model = \"rules\") has these keys:
-  lps         processes, 1 to 1024
+  lps         processes, 1 to 65536
   end         ticks at which the run ends, 1 to 1099511627776
   state       names of the words of a state, at most 16; key is the key of drawn words
   seed        the first key, 0 to 9223372036854775807, if the state has the word key
   message     names of the words of a message, at most 4; the others are a, b, c and d
-  numbers     a table of named numbers, 0 to 9223372036854775807
-  tables      a table of named lists of such numbers
+  numbers     a table of at most 1024 named numbers, 0 to 9223372036854775807
+  tables      a table of at most 1024 named lists of such numbers
   rules       a table of two texts: start, what a process does when it starts, and handle,
               what it does with a message";
 
 /// A model file is TOML with the keys of its model. The files of this project's models are those of
-/// `AnyModel`. The file of a model by rules has `model = "rules"`, `lps` (1 to 1,024 processes),
+/// `AnyModel`. The file of a model by rules has `model = "rules"`, `lps` (1 to 65,536 processes),
 /// `end` (1 to 2^40 ticks), `state` (at most 16 names), `seed` (0 to 2^63 - 1) if the state has the
 /// word `key`, `rules` with the texts `start` and `handle`, and maybe `message` (at most 4 names),
 /// `numbers` and `tables`. No name may be there twice.
@@ -89,7 +92,7 @@ impl Described for FileModel {
     fn values(&self, alloc: Global, end: u64) -> Result<String, AllocError> {
         match self {
             FileModel::BuiltIn(model) => model.values(alloc, end),
-            FileModel::Rules(rules, _) => rules_values(alloc, rules, end),
+            FileModel::Rules(rules, names) => rules_values(alloc, rules, names, end),
         }
     }
 
@@ -119,9 +122,24 @@ fn is_rules(table: &Table) -> bool
     }
 }
 
-/// Returns the lines of a model by rules.
-fn rules_values(alloc: Global, rules: &Rules, end: u64) -> Result<String, AllocError>
-    ensures { IfOk result (λ text. string_bytes text ≡ rules_text rules.now.description end) }
+/// Returns what is printed of a model by rules.
+fn rules_values(
+    alloc: Global,
+    rules: &Rules,
+    names: &FileNames,
+    end: u64,
+) -> Result<String, AllocError>
+    ensures { IfOk result (λ text. string_bytes text
+        ≡ rules_text rules.now.description names.now end) }
+{
+    let mut text = head_values(alloc, rules, end)?;
+    put_model(names, rules, &mut text)?;
+    Ok(text)
+}
+
+/// Returns the first lines of a model by rules.
+fn head_values(alloc: Global, rules: &Rules, end: u64) -> Result<String, AllocError>
+    ensures { IfOk result (λ text. string_bytes text ≡ head_text rules.now.description end) }
 {
     let lps = rules.lps();
     let words = rules.width();
@@ -138,7 +156,7 @@ const KEYS: [&str; 9] = [
 
 /// Returns the model by rules that a table describes, the tick at which its run ends, and the names
 /// of its words.
-fn rules_model_of(alloc: Global, table: &Table) -> Result<(Rules, u64, WordNames), ModelFault>
+fn rules_model_of(alloc: Global, table: &Table) -> Result<(Rules, u64, FileNames), ModelFault>
     requires { is_rules (table_view table.now) ≡ true }
     ensures ok { IfOk result (λ file.
         IsRulesTable (table_view table.now) file.0.description file.1) }
@@ -188,12 +206,12 @@ fn rules_model_of(alloc: Global, table: &Table) -> Result<(Rules, u64, WordNames
 /// Returns the number of processes and the end of a table without unknown keys.
 fn head_of(table: &Table) -> Result<(u64, u64), Mistake>
     ensures lps { IfOk result (λ head.
-        number_at (codes "lps") 1 1024 (table_view table.now) ≡ Some head.0) }
+        number_at (codes "lps") 1 65536 (table_view table.now) ≡ Some head.0) }
     ensures last { IfOk result (λ head.
         number_at (codes "end") 1 (2 ^ 40) (table_view table.now) ≡ Some head.1) }
     ensures only { IfOk result (λ _. unknown_wrong rules_keys (table_view table.now) ≡ []) }
     ensures some { IfOk result (λ head. (1 ≤ head.0) × (1 ≤ head.1)) }
-    ensures within { IfOk result (λ head. (head.0 ≤ 1024) × (head.1 ≤ 2 ^ 40)) }
+    ensures within { IfOk result (λ head. (head.0 ≤ 65536) × (head.1 ≤ 2 ^ 40)) }
     ensures bad { IsErr result → head_wrong (table_view table.now) ≢ [] }
 {
     let lps = number_at(table, "lps", 1, u64::from(MAX_LPS))?;
@@ -212,7 +230,7 @@ struct Body {
     tables: Vec<Numbers>,
     start: Vec<Statement>,
     handle: Vec<Statement>,
-    names: WordNames,
+    names: FileNames,
 }
 
 /// Reads the names and the rules of a table.
@@ -261,7 +279,7 @@ fn body_of(alloc: Global, table: &Table) -> Result<Result<Body, Mistake>, AllocE
         handle.as_slice(),
     );
     let width = scope.words.len() as u8;
-    let Scope { words, content, .. } = scope;
+    let names = names_of(alloc, scope, rules)?;
     Ok(Ok(Body {
         width,
         key,
@@ -270,8 +288,30 @@ fn body_of(alloc: Global, table: &Table) -> Result<Result<Body, Mistake>, AllocE
         tables,
         start,
         handle,
-        names: WordNames { words, content },
+        names,
     }))
+}
+
+/// Returns the names of a model.
+fn names_of(alloc: Global, scope: Scope, rules: &Table) -> Result<FileNames, AllocError> {
+    let Scope {
+        words,
+        content,
+        numbers,
+        tables,
+    } = scope;
+    let mut table_names = Vec::new(alloc);
+    for table in tables.iter() {
+        table_names.push(String::from_str(alloc, table.name.as_str())?)?;
+    }
+    Ok(FileNames {
+        words,
+        content,
+        numbers,
+        tables: table_names,
+        start: given_names(alloc, text_at(rules, "start").unwrap_or(""))?,
+        handle: given_names(alloc, text_at(rules, "handle").unwrap_or(""))?,
+    })
 }
 
 const NO_SEED: Mistake = Mistake::Not {

@@ -123,7 +123,7 @@ fn add_numbers(alloc: Global, names: &mut Dictionary, more: &[Named]) -> Result<
 }
 
 /// Returns the one number of a name.
-fn value_of(numbers: &[u64]) -> u64
+pub(crate) fn value_of(numbers: &[u64]) -> u64
     ensures { result ≡ value_of numbers.now }
 {
     match numbers.first() {

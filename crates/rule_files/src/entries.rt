@@ -53,9 +53,10 @@ pub(crate) const WORDS: &str = "a list of at most 16 names";
 
 pub(crate) const CONTENT: &str = "a list of at most 4 names";
 
-pub(crate) const NUMBERS: &str = "names with numbers from 0 to 9223372036854775807";
+pub(crate) const NUMBERS: &str = "at most 1024 names with numbers from 0 to 9223372036854775807";
 
-pub(crate) const TABLES: &str = "names with lists of one or more numbers, at most 1048576 in all";
+pub(crate) const TABLES: &str =
+    "at most 1024 names with lists of one or more numbers, at most 1048576 in all";
 
 pub(crate) const TWICE: &str = "names that are nowhere else in state, message, numbers and tables";
 
@@ -174,7 +175,7 @@ fn fits_word(word: &str, is_state: bool) -> bool
 }
 
 #[tactic(auto, unfolding(crate::specs::RuleFile::numbers_of))]
-/// Reads the named numbers.
+/// Reads the named numbers, at most 1,024.
 pub(crate) fn numbers_of(alloc: Global, table: &Table) -> Result<Option<Vec<Named>>, AllocError>
     ensures { IfOk result (λ found. option_map (λ v. map named_view v.items) found
         ≡ numbers_of (table_view table.now)) }
@@ -183,7 +184,7 @@ pub(crate) fn numbers_of(alloc: Global, table: &Table) -> Result<Option<Vec<Name
 }
 
 #[tactic(auto, unfolding(crate::specs::RuleFile::tables_of))]
-/// Reads the tables: together at most 2^20 numbers.
+/// Reads the tables, at most 1,024: together at most 2^20 numbers.
 pub(crate) fn tables_of(alloc: Global, table: &Table) -> Result<Option<Vec<Named>>, AllocError>
     ensures { IfOk result (λ found. option_map (λ v. map named_view v.items) found
         ≡ tables_of (table_view table.now)) }
@@ -209,7 +210,8 @@ fn all_numbers(named: &[Named]) -> usize
     count
 }
 
-/// Reads the numbers of each name in the table at a key, or nothing if the key is missing.
+/// Reads the numbers of each name in the table at a key, at most `MAX_NAMED` names, or nothing if
+/// the key is missing.
 fn named_at(
     alloc: Global,
     table: &Table,
@@ -221,10 +223,32 @@ fn named_at(
 {
     match value_at(table, key) {
         Some(value) => match value.as_table() {
-            Some(table) => named_in(alloc, table, is_table),
+            Some(table) => few_named_in(alloc, table, is_table),
             None => Ok(None),
         },
         None => Ok(Some(Vec::new(alloc))),
+    }
+}
+
+/// The most named numbers of a model, and the most tables.
+const MAX_NAMED: usize = 1024;
+
+/// Reads the numbers of each name in a table of at most `MAX_NAMED` names.
+fn few_named_in(
+    alloc: Global,
+    table: &Table,
+    is_table: bool,
+) -> Result<Option<Vec<Named>>, AllocError>
+    ensures { IfOk result (λ found. option_map (λ v. map named_view v.items) found
+        ≡ option_and_then (at_most 1024) (named_in is_table (table_view table.now))) }
+{
+    let Some(named) = named_in(alloc, table, is_table)? else {
+        return Ok(None);
+    };
+    if named.len() <= MAX_NAMED {
+        Ok(Some(named))
+    } else {
+        Ok(None)
     }
 }
 

@@ -1,5 +1,6 @@
 // The models that a model file can describe.
 
+use crate::scope::Named;
 use eventkey::Message;
 use model::{Model as Simulated, Sends, Words};
 use models::AnyModel;
@@ -13,17 +14,25 @@ pub enum FileModel {
     /// One of the models of this project.
     BuiltIn(AnyModel),
     /// A model that is described by rules.
-    Rules(Rules, WordNames),
+    Rules(Rules, FileNames),
 }
 
-/// The names of the words of a model that is described by rules, for its users. They do not change
-/// what the model does.
+/// The names that the file of a model by rules gives, for its users. They do not change what the
+/// model does.
 #[derive(Debug, Drop)]
-pub struct WordNames {
+pub struct FileNames {
     /// The names of the words of a state, by their places.
     pub words: Vec<String>,
     /// The names of the words of a message's content, by their places.
     pub content: Vec<String>,
+    /// The named numbers, in the order of the bytes of their names.
+    pub numbers: Vec<Named>,
+    /// The names of the tables, by their places.
+    pub tables: Vec<String>,
+    /// The names that `let` and `repeat` give in the rule for the start, in the order of its text.
+    pub start: Vec<String>,
+    /// The names that `let` and `repeat` give in the rule for a message, in the order of its text.
+    pub handle: Vec<String>,
 }
 
 impl Simulated for FileModel {

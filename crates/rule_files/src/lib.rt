@@ -6,10 +6,12 @@ mod dictionary;
 mod digest;
 mod entries;
 mod file_model;
+mod given;
+mod printed;
 mod reading;
 mod scope;
 
 pub use described::RULES_KEYS;
-pub use file_model::{FileModel, WordNames};
+pub use file_model::{FileModel, FileNames};
 pub use reading::RuleMistake;
 pub use scope::{Named, Scope};

@@ -10,7 +10,7 @@ use std::fmt;
 use thiserror::Error;
 
 /// The most processes of a model that is described by rules.
-pub const MAX_LPS: u32 = 1024;
+pub const MAX_LPS: u32 = 65_536;
 
 /// The most sends on any way through a rule.
 pub const MAX_SENDS: u64 = 8;

@@ -11,6 +11,7 @@ use crate::evaluate::{Context, put, run_all};
 use crate::limits::{MAX_LPS, RulesFault, exceeded};
 use crate::parts::RulesParts;
 use crate::tables::Table;
+use crate::tree::Statement;
 use eventkey::Message;
 use model::{Model as Simulated, Sends, Words, ranged};
 use models::next_key;
@@ -77,6 +78,20 @@ impl Rules {
         ensures { result.now ≡ self.now.description.tables }
     {
         self.parts.tables.as_slice()
+    }
+
+    /// Returns what a process does when it starts.
+    pub fn start_rule(&self) -> &[Statement]
+        ensures { result.now ≡ self.now.description.start }
+    {
+        self.parts.start.as_slice()
+    }
+
+    /// Returns what a process does with a message.
+    pub fn handle_rule(&self) -> &[Statement]
+        ensures { result.now ≡ self.now.description.handle }
+    {
+        self.parts.handle.as_slice()
     }
 
     /// Returns what a rule can read before its first statement.

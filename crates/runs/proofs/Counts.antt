@@ -5,7 +5,10 @@ use Rattle.std.proofs.lemmas.List.{get_or-replicate, get_or-set_other, get_or-se
 use Rattle.std.specs.Prelude.{None, Option, replicate, if◌then◌else◌}
 use Rattle.coordinator.specs.Steps.{move_of}
 use Rattle.runs.proofs.Shapes.{one_round_more}
-use Rattle.runs.specs.Driver.{AreAsked, AreCounts, AreRounds, IsRound, Made, closing_of, commits_in, events_due, handled_by, handled_in, handled_of, kept_after, least_answered, least_by, moves_of, outstanding_after, outstanding_by, reported_after, reported_since, round_after}
+use Rattle.runs.specs.Budgets.{first_budget}
+use Rattle.runs.specs.declared.budgets.NodeBudget.{NodeBudget}
+use Rattle.runs.specs.declared.rounds.Batch.{Batch}
+use Rattle.runs.specs.Driver.{AreAsked, AreBudgeted, AreCounts, AreRounds, IsRound, Made, budgets_after, budgets_by, closing_of, commits_in, events_due, handled_by, handled_in, handled_of, kept_after, least_answered, least_by, moves_of, outstanding_after, outstanding_by, reported_after, reported_since, round_after}
 use Rattle.runs.specs.Tallies.{AreCounted, CountsNothing, IsSized, IsTallied, IsTallyOf, Tallied, handled_after}
 use Rattle.runs.specs.declared.rounds.Plan.{Plan}
 use Rattle.runs.specs.declared.rounds.Round.{Round}
@@ -46,6 +49,14 @@ still_sized nodes old new budgets outstanding turns handled is =
 
 capped : (a b : ℕ) → a ≡ b → min a (2 ^ 64 - 1) ≡ min b (2 ^ 64 - 1)
 capped a b is = ap (λ (n : ℕ). min n (2 ^ 64 - 1)) is
+
+budgets_more : (budgets : List NodeBudget) (ks ls : List Made) → budgets_after budgets (ks ++ ls) ≡ budgets_after (budgets_after budgets ks) ls
+budgets_more budgets [] ls = refl
+budgets_more budgets (k ∷ ks) ls = budgets_more (budgets_by budgets (move_of k.step) k.answer) ks ls
+
+budgeted_more : (batch : Batch) (budgets : List NodeBudget) (ks ls : List Made) → AreBudgeted batch budgets ks → AreBudgeted batch (budgets_after budgets ks) ls → AreBudgeted batch budgets (ks ++ ls)
+budgeted_more batch budgets [] ls first second = second
+budgeted_more batch budgets (k ∷ ks) ls first second = (first.0, budgeted_more batch (budgets_by budgets (move_of k.step) k.answer) ks ls first.1 second)
 
 counted_more : (old mid new : List ℕ) (ks ls : List Made) → AreCounted old mid ks → AreCounted mid new ls → AreCounted old new (ks ++ ls)
 counted_more old mid new ks ls first second node before is =
@@ -98,50 +109,54 @@ none_handled nodes counts is node =
     ] in
     ap (λ (c : List ℕ). get_or c node 0) is ∙ (first ∙ omega arith)
 
-module _ (every : ℕ) where
-  pub tallied_more : (old mid new : Tally) (ks ls : List Made) → IsTallied every old mid ks → IsTallied every mid new ls → IsTallied every old new (ks ++ ls)
+module _ (plan : Plan) where
+  pub tallied_more : (old mid new : Tally) (ks ls : List Made) → IsTallied plan old mid ks → IsTallied plan mid new ls → IsTallied plan old new (ks ++ ls)
   tallied_more old mid new ks ls first second = record {
     handled = counted_more old.handled_per_node.items mid.handled_per_node.items new.handled_per_node.items ks ls first.handled second.handled;
-    events_until_commit = λ reported is. second.events_until_commit (reported_since reported ks) (first.events_until_commit reported is) ∙ ap (λ (n : ℕ). every - n) (sym (reported_more reported ks ls));
+    events_until_commit = λ reported is. second.events_until_commit (reported_since reported ks) (first.events_until_commit reported is) ∙ ap (λ (n : ℕ). plan.commit_every - n) (sym (reported_more reported ks ls));
     commits = (let more = commits_more ks ls in omega (arith, more, first.commits, second.commits));
     outstanding = second.outstanding ∙ ap (λ (o : List (Option ℕ)). outstanding_after o ls) first.outstanding ∙ sym (outstanding_more old.outstanding.items ks ls);
+    budgets = second.budgets ∙ ap (λ (b : List NodeBudget). budgets_after b ls) first.budgets ∙ sym (budgets_more old.budgets.items ks ls);
+    budgeted = budgeted_more plan.batch old.budgets.items ks ls first.budgeted (subst (λ (b : List NodeBudget). AreBudgeted plan.batch b ls) first.budgets second.budgeted);
   }
 
-  pub none_tallied : (t : Tally) → IsTallied every t t []
-  none_tallied t = record { events_until_commit = λ reported is. is; commits = omega arith; outstanding = refl; handled = none_counted t.handled_per_node.items t.handled_per_node.items [] refl (λ node. refl) }
+  pub none_tallied : (t : Tally) → IsTallied plan t t []
+  none_tallied t = record { events_until_commit = λ reported is. is; commits = omega arith; outstanding = refl; budgets = refl; budgeted = tt; handled = none_counted t.handled_per_node.items t.handled_per_node.items [] refl (λ node. refl) }
 
-  pub no_move : (S : List Made → Type 0) (t : Tally) → S [] → Tallied every S t t []
+  pub no_move : (S : List Made → Type 0) (t : Tally) → S [] → Tallied plan S t t []
   no_move S t none = record { shape = none; tally = none_tallied t; floor = refl }
 
   -- the shape of the later steps may depend on the parcels outstanding after the earlier ones
-  pub both_after : (S T U : List Made → Type 0) (old mid new : Tally) → ((ks ls : List Made) → mid.outstanding.items ≡ outstanding_after old.outstanding.items ks → S ks → T ls → U (ks ++ ls)) → (ks ls : List Made) → Tallied every S old mid ks → Tallied every T mid new ls
-      → Tallied every U old new (ks ++ ls)
+  pub both_after : (S T U : List Made → Type 0) (old mid new : Tally) → ((ks ls : List Made) → mid.outstanding.items ≡ outstanding_after old.outstanding.items ks → S ks → T ls → U (ks ++ ls)) → (ks ls : List Made) → Tallied plan S old mid ks → Tallied plan T mid new ls
+      → Tallied plan U old new (ks ++ ls)
   both_after S T U old mid new both ks ls first second = record {
     shape = both ks ls first.tally.outstanding first.shape second.shape;
     tally = tallied_more old mid new ks ls first.tally second.tally;
     floor = second.floor ∙ ap₂ (λ (n : ℕ) (o : List (Option ℕ)). least_answered n o ls) first.floor first.tally.outstanding ∙ sym (least_more old.floor old.outstanding.items ks ls);
   }
 
-  pub both_tallied : (S T U : List Made → Type 0) (old mid new : Tally) → ((ks ls : List Made) → S ks → T ls → U (ks ++ ls)) → (ks ls : List Made) → Tallied every S old mid ks → Tallied every T mid new ls
-      → Tallied every U old new (ks ++ ls)
+  pub both_tallied : (S T U : List Made → Type 0) (old mid new : Tally) → ((ks ls : List Made) → S ks → T ls → U (ks ++ ls)) → (ks ls : List Made) → Tallied plan S old mid ks → Tallied plan T mid new ls
+      → Tallied plan U old new (ks ++ ls)
   both_tallied S T U old mid new both = both_after S T U old mid new (λ ks ls same. both ks ls)
 
   -- a commit, and a checkpoint if one is due
-  pub commit_kept : (kept number : ℕ) (old new : Tally) (ks ls : List Made) → number ≡ old.commits + 1 → (moves_of ks ≡ Commit ∷ []) × IsTallied every old new ks → (moves_of ls ≡ kept_after kept number) × CountsNothing ls
-      → (moves_of (ks ++ ls) ≡ Commit ∷ kept_after kept (old.commits + 1)) × IsTallied every old new (ks ++ ls)
+  pub commit_kept : (kept number : ℕ) (old new : Tally) (ks ls : List Made) → number ≡ old.commits + 1 → (moves_of ks ≡ Commit ∷ []) × IsTallied plan old new ks → (moves_of ls ≡ kept_after kept number) × CountsNothing ls
+      → (moves_of (ks ++ ls) ≡ Commit ∷ kept_after kept (old.commits + 1)) × IsTallied plan old new (ks ++ ls)
   commit_kept kept number old new ks ls is first second =
       let same : moves_of ls ≡ kept_after kept (old.commits + 1) = second.0 ∙ ap (kept_after kept) is in
-      let rest : IsTallied every new new ls = record {
-        events_until_commit = λ reported e. e ∙ ap (λ (n : ℕ). every - n) (sym (second.1.reported reported));
+      let rest : IsTallied plan new new ls = record {
+        events_until_commit = λ reported e. e ∙ ap (λ (n : ℕ). plan.commit_every - n) (sym (second.1.reported reported));
         commits = (let none = second.1.commits in omega (arith, none));
         outstanding = sym (second.1.outstanding new.outstanding.items);
+        budgets = sym (second.1.budgets new.budgets.items);
+        budgeted = second.1.budgeted plan.batch new.budgets.items;
         handled = none_counted new.handled_per_node.items new.handled_per_node.items ls refl second.1.handled;
       } in
       (moves_more ks ls ∙ ap₂ (λ (a b : List Move). a ++ b) first.0 same, tallied_more old new new ks ls first.1 rest)
 
 module _ (round : Round) where
   pub round_shape : (reported : ℕ) (old begun asked : Tally) (ks ls : List Made) → begun.floor ≡ round.end → begun.commits ≡ old.commits → begun.outstanding.items ≡ old.outstanding.items → asked.commits ≡ begun.commits
-      → Tallied round.plan.commit_every (AreAsked round.plan.schedule round begun.outstanding.items) begun asked ks → moves_of ls ≡ closing_of round (reported_since reported ks) asked.floor asked.commits
+      → Tallied round.plan (AreAsked round.plan.schedule round begun.outstanding.items) begun asked ks → moves_of ls ≡ closing_of round (reported_since reported ks) asked.floor asked.commits
       → IsRound round reported old.commits old.outstanding.items (ks ++ ls)
   round_shape reported old begun asked ks ls floor commits outstanding same first second =
       let least : asked.floor ≡ least_answered round.end old.outstanding.items ks = first.floor ∙ ap₂ (λ (n : ℕ) (o : List (Option ℕ)). least_answered n o ks) floor outstanding in
@@ -150,21 +165,22 @@ module _ (round : Round) where
       (ks, ls, subst (λ (o : List (Option ℕ)). AreAsked round.plan.schedule round o ks) outstanding first.shape, closing, refl)
 
   -- all nodes are asked, and then the round ends
-  pub round_made : (reported : ℕ) (old begun asked closed : Tally) (ks ls : List Made) → begun.floor ≡ round.end → begun.events_until_commit ≡ old.events_until_commit → begun.commits ≡ old.commits → begun.outstanding.items ≡ old.outstanding.items → begun.handled_per_node.items ≡ old.handled_per_node.items → asked.commits ≡ begun.commits
-      → Tallied round.plan.commit_every (AreAsked round.plan.schedule round begun.outstanding.items) begun asked ks → (moves_of ls ≡ closing_of round (reported_since reported ks) asked.floor asked.commits) × IsTallied round.plan.commit_every asked closed ls
-      → IsRound round reported old.commits old.outstanding.items (ks ++ ls) × IsTallied round.plan.commit_every old closed (ks ++ ls)
-  round_made reported old begun asked closed ks ls floor events_until_commit commits outstanding handled same first second =
-      let start : IsTallied round.plan.commit_every old begun [] = record { events_until_commit = λ t is. events_until_commit ∙ is; commits = omega (arith, commits); outstanding = outstanding; handled = none_counted old.handled_per_node.items begun.handled_per_node.items [] handled (λ node. refl) } in
-      (round_shape reported old begun asked ks ls floor commits outstanding same first second.0, tallied_more round.plan.commit_every old begun closed [] (ks ++ ls) start (tallied_more round.plan.commit_every begun asked closed ks ls first.tally second.1))
+  pub round_made : (reported : ℕ) (old begun asked closed : Tally) (ks ls : List Made) → begun.floor ≡ round.end → begun.events_until_commit ≡ old.events_until_commit → begun.commits ≡ old.commits → begun.outstanding.items ≡ old.outstanding.items → begun.budgets.items ≡ old.budgets.items → begun.handled_per_node.items ≡ old.handled_per_node.items → asked.commits ≡ begun.commits
+      → Tallied round.plan (AreAsked round.plan.schedule round begun.outstanding.items) begun asked ks → (moves_of ls ≡ closing_of round (reported_since reported ks) asked.floor asked.commits) × IsTallied round.plan asked closed ls
+      → IsRound round reported old.commits old.outstanding.items (ks ++ ls) × IsTallied round.plan old closed (ks ++ ls)
+  round_made reported old begun asked closed ks ls floor events_until_commit commits outstanding budgets handled same first second =
+      let start : IsTallied round.plan old begun [] = record { events_until_commit = λ t is. events_until_commit ∙ is; commits = omega (arith, commits); outstanding = outstanding; budgets = budgets; budgeted = tt; handled = none_counted old.handled_per_node.items begun.handled_per_node.items [] handled (λ node. refl) } in
+      (round_shape reported old begun asked ks ls floor commits outstanding same first second.0, tallied_more round.plan old begun closed [] (ks ++ ls) start (tallied_more round.plan begun asked closed ks ls first.tally second.1))
 
 -- one more round
-pub round_more : (plan : Plan) (end last rounds : ℕ) (old new : Tally) (ks ls : List Made) → AreRounds plan end last rounds ks × IsTallyOf plan.commit_every plan.nodes old ks → IsRound (round_after plan end last rounds) (reported_since 0 ks) old.commits old.outstanding.items ls × IsTallied plan.commit_every old new ls
-    → AreRounds plan end last (rounds + 1) (ks ++ ls) × IsTallyOf plan.commit_every plan.nodes new (ks ++ ls)
+pub round_more : (plan : Plan) (end last rounds : ℕ) (old new : Tally) (ks ls : List Made) → AreRounds plan end last rounds ks × IsTallyOf plan old ks → IsRound (round_after plan end last rounds) (reported_since 0 ks) old.commits old.outstanding.items ls × IsTallied plan old new ls
+    → AreRounds plan end last (rounds + 1) (ks ++ ls) × IsTallyOf plan new (ks ++ ls)
 round_more plan end last rounds old new ks ls before round =
     let counted = before.1.commits in
     let more = round.1.commits in
     let all = commits_more ks ls in
-    let first : List (Option ℕ) = replicate plan.nodes None in (
+    let first : List (Option ℕ) = replicate plan.nodes None in
+    let begun : List NodeBudget = replicate plan.nodes first_budget in (
       one_round_more plan end last rounds ks ls before.0
           (subst (λ (o : List (Option ℕ)). IsRound (round_after plan end last rounds) (reported_since 0 ks) (commits_in ks) o ls) before.1.outstanding
           (subst (λ (n : ℕ). IsRound (round_after plan end last rounds) (reported_since 0 ks) n old.outstanding.items ls) counted round.0)),
@@ -172,6 +188,8 @@ round_more plan end last rounds old new ks ls before round =
         events_until_commit = round.1.events_until_commit (reported_since 0 ks) before.1.events_until_commit ∙ ap (λ (n : ℕ). plan.commit_every - n) (sym (reported_more 0 ks ls));
         commits = omega (arith, more, all, counted);
         outstanding = round.1.outstanding ∙ ap (λ (o : List (Option ℕ)). outstanding_after o ls) before.1.outstanding ∙ sym (outstanding_more first ks ls);
+        budgets = round.1.budgets ∙ ap (λ (b : List NodeBudget). budgets_after b ls) before.1.budgets ∙ sym (budgets_more begun ks ls);
+        budgeted = budgeted_more plan.batch begun ks ls before.1.budgeted (subst (λ (b : List NodeBudget). AreBudgeted plan.batch b ls) before.1.budgets round.1.budgeted);
         handled = λ node. round.1.handled node (handled_of node ks) (before.1.handled node) ∙ capped (handled_of node ks + handled_of node ls) (handled_of node (ks ++ ls)) (sym (handled_more node ks ls));
       },
     )

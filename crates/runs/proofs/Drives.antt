@@ -8,7 +8,7 @@ use Rattle.coordinator.specs.Session.{IsConsistentSession, Session, system_of, r
 use Rattle.coordinator.specs.Steps.{move_of}
 use Rattle.coordinator.specs.declared.Step.{Step}
 use Rattle.disk.specs.Disk.{DiskState}
-use Rattle.runs.specs.Driver.{AreMade, AreRounds, IsDriven, IsDrivenBy, IsFinished, Made, answers_of, moves_of, transits_of}
+use Rattle.runs.specs.Driver.{AreMade, AreRoundsOfRun, IsDriven, IsDrivenBy, IsFinished, Made, answers_of, moves_of, transits_of}
 use Rattle.runs.specs.declared.rounds.Plan.{Plan}
 use Rattle.eventkey.specs.declared.Signed.{Signed}
 use Rattle.model.specs.Meaning.{Meaning}
@@ -95,11 +95,11 @@ module _ {M P D : Type 0} (meaning : M → Meaning) (state : P → PortState) (d
   driven_so S old new is = record { moves = moves_of is.steps; made = goes_by is.steps old new is.made }
 
   -- rounds that are all of their run
-  pub all_made : (plan : Plan) (end last made rounds : ℕ) (old new : Session M P D) → last ≡ rounds → made ≡ rounds → IsDrivenBy meaning state disk (AreRounds plan end last made) old new
-      → IsDrivenBy meaning state disk (AreRounds plan end rounds rounds) old new
+  pub all_made : (plan : Plan) (end last made rounds : ℕ) (old new : Session M P D) → last ≡ rounds → made ≡ rounds → IsDrivenBy meaning state disk (AreRoundsOfRun plan end last made) old new
+      → IsDrivenBy meaning state disk (AreRoundsOfRun plan end rounds rounds) old new
   all_made plan end last made rounds old new last_is made_is by =
-      subst (λ (n : ℕ). IsDrivenBy meaning state disk (AreRounds plan end n rounds) old new) last_is
-      (subst (λ (n : ℕ). IsDrivenBy meaning state disk (AreRounds plan end last n) old new) made_is by)
+      subst (λ (n : ℕ). IsDrivenBy meaning state disk (AreRoundsOfRun plan end n rounds) old new) last_is
+      (subst (λ (n : ℕ). IsDrivenBy meaning state disk (AreRoundsOfRun plan end last n) old new) made_is by)
 
   -- over faithful ports the front is the sequential simulation up to its time
   pub front_upto : (S : List Made → Type 0) (old new : Session M P D) → IsDrivenBy meaning state disk S old new → IsConsistentSession (running meaning state old) → IsUpto (meaning old.model) old.end new.front.time new.front

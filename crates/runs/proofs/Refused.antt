@@ -169,13 +169,13 @@ module _ {M P D : Type 0} (meaning : M → Meaning) (state : P → PortState) (d
 
   -- the same if the first steps are counted; what follows may depend on the parcels outstanding after
   -- them
-  pub refused_next : {every : ℕ} {t u : Tally} (S T U : List Made → Type 0) (old mid new : Session M P D) (fault : SessionFault) → ((ks ls : List Made) → u.outstanding.items ≡ outstanding_after t.outstanding.items ks → S ks → T ls → U (ks ++ ls))
-      → IsDrivenBy meaning state disk (Tallied every S t u) old mid → IsRefusedIn meaning state disk T mid new fault → IsRefusedIn meaning state disk U old new fault
-  refused_next {every} {t} {u} S T U old mid new fault both first is = refused_after (Tallied every S t u) T U old mid new fault first (λ ls rest. both first.steps ls first.shape.tally.outstanding first.shape.shape rest) is
+  pub refused_next : {plan : Plan} {t u : Tally} (S T U : List Made → Type 0) (old mid new : Session M P D) (fault : SessionFault) → ((ks ls : List Made) → u.outstanding.items ≡ outstanding_after t.outstanding.items ks → S ks → T ls → U (ks ++ ls))
+      → IsDrivenBy meaning state disk (Tallied plan S t u) old mid → IsRefusedIn meaning state disk T mid new fault → IsRefusedIn meaning state disk U old new fault
+  refused_next {plan} {t} {u} S T U old mid new fault both first is = refused_after (Tallied plan S t u) T U old mid new fault first (λ ls rest. both first.steps ls first.shape.tally.outstanding first.shape.shape rest) is
 
-  pub refused_then : {every : ℕ} {t u : Tally} (S T U : List Made → Type 0) (old mid new : Session M P D) (fault : SessionFault) → ((ks ls : List Made) → S ks → T ls → U (ks ++ ls)) → IsDrivenBy meaning state disk (Tallied every S t u) old mid
+  pub refused_then : {plan : Plan} {t u : Tally} (S T U : List Made → Type 0) (old mid new : Session M P D) (fault : SessionFault) → ((ks ls : List Made) → S ks → T ls → U (ks ++ ls)) → IsDrivenBy meaning state disk (Tallied plan S t u) old mid
       → IsRefusedIn meaning state disk T mid new fault → IsRefusedIn meaning state disk U old new fault
-  refused_then {every} {t} {u} S T U old mid new fault both first is = refused_next {every = every} {t = t} {u = u} S T U old mid new fault (λ ks ls same. both ks ls) first is
+  refused_then {plan} {t} {u} S T U old mid new fault both first is = refused_next {plan = plan} {t = t} {u = u} S T U old mid new fault (λ ks ls same. both ks ls) first is
 
   pub refused_so : (S T : List Made → Type 0) (old new : Session M P D) (fault : SessionFault) → ((ks : List Made) → S ks → T ks) → IsRefusedIn meaning state disk S old new fault → IsRefusedIn meaning state disk T old new fault
   refused_so S T old new fault so is =
@@ -183,9 +183,9 @@ module _ {M P D : Type 0} (meaning : M → Meaning) (state : P → PortState) (d
       record { steps = is.steps; mid = is.mid; made = is.made; next = is.next; refused = is.refused; answer = is.answer; more = is.more; shape = so (is.steps ++ begun) is.shape }
 
   -- while each node gets its turn
-  pub refused_within : {every : ℕ} {t u : Tally} (F : ℕ → List Made → Type 0) (S : List Made → Type 0) (node nodes : ℕ) (old mid new : Session M P D) (fault : SessionFault) → node < nodes → ((i : ℕ) → Completes (F i) (F (i + 1)))
-      → ((ks ls : List Made) → u.outstanding.items ≡ outstanding_after t.outstanding.items ks → F node ks → S ls → F (node + 1) (ks ++ ls)) → IsDrivenBy meaning state disk (Tallied every (F node) t u) old mid → IsRefusedIn meaning state disk S mid new fault
+  pub refused_within : {plan : Plan} {t u : Tally} (F : ℕ → List Made → Type 0) (S : List Made → Type 0) (node nodes : ℕ) (old mid new : Session M P D) (fault : SessionFault) → node < nodes → ((i : ℕ) → Completes (F i) (F (i + 1)))
+      → ((ks ls : List Made) → u.outstanding.items ≡ outstanding_after t.outstanding.items ks → F node ks → S ls → F (node + 1) (ks ++ ls)) → IsDrivenBy meaning state disk (Tallied plan (F node) t u) old mid → IsRefusedIn meaning state disk S mid new fault
       → IsRefusedIn meaning state disk (F nodes) old new fault
-  refused_within {every} {t} {u} F S node nodes old mid new fault l one both first is =
+  refused_within {plan} {t} {u} F S node nodes old mid new fault l one both first is =
       let left : nodes ≡ (node + 1) + (nodes - (node + 1)) = omega (arith, l) in
-      refused_first (F (node + 1)) (F nodes) old new fault (all_more F one (nodes - (node + 1)) (node + 1) nodes left) (refused_next {every = every} {t = t} {u = u} (F node) S (F (node + 1)) old mid new fault both first is)
+      refused_first (F (node + 1)) (F nodes) old new fault (all_more F one (nodes - (node + 1)) (node + 1) nodes left) (refused_next {plan = plan} {t = t} {u = u} (F node) S (F (node + 1)) old mid new fault both first is)

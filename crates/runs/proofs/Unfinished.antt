@@ -2,7 +2,7 @@
 use Rattle.std.proofs.Common.{◌≡◌, ◌<◌, ℕ, List, Some, map, refl, subst}
 use Rattle.coordinator.specs.Drives.{StepsAreMade}
 use Rattle.coordinator.specs.Session.{Running, system_of}
-use Rattle.runs.specs.Driver.{AreRounds, IsUnfinished, Made, answers_of, moves_of, transits_of}
+use Rattle.runs.specs.Driver.{AreRoundsOfRun, IsUnfinished, Made, answers_of, moves_of, transits_of}
 use Rattle.runs.specs.declared.rounds.Plan.{Plan}
 use Rattle.model.specs.Meaning.{Meaning}
 use Rattle.model.specs.World.{World}
@@ -11,7 +11,7 @@ use Rattle.protocol.specs.System.{System, opened}
 use Rattle.recovery.specs.Replay.{IsReplayedTo}
 
 pub unfinished : (m : Meaning) (end : ℕ) (plan : Plan) (image : List (List ℕ)) (first : World) (begun made : Running) (steps : List Made) → IsReplayedTo m end image first → begun.meaning ≡ m → begun.end ≡ end
-    → system_of begun ≡ opened m.lps plan.nodes first → AreRounds plan end plan.rounds plan.rounds steps → StepsAreMade (moves_of steps) begun made
+    → system_of begun ≡ opened m.lps plan.nodes first → AreRoundsOfRun plan end plan.rounds plan.rounds steps → StepsAreMade (moves_of steps) begun made
     → map (λ (k : Made). Some k.answer) steps ≡ answers_of begun.meaning begun.end (moves_of steps) (system_of begun) → map (λ (k : Made). k.transit) steps ≡ transits_of begun.meaning begun.end (moves_of steps) (system_of begun) → made.front.time < end → IsUnfinished m end plan image
 unfinished m end plan image first begun made steps replayed model_is end_is system_is are by answers transits early =
     let moved : moves_made m end (moves_of steps) (opened m.lps plan.nodes first) ≡ Some (system_of made) =

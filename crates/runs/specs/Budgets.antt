@@ -1,7 +1,9 @@
 -- Budgets that follow what nodes report: if a node handles much more than is committed of it, most
 -- of that is rolled back.
-use Rattle.std.specs.Prelude.{Bool, ℕ, if◌then◌else◌, min, nat_le, ◌+◌, ◌-◌, ◌*◌, ◌/◌, ◌^◌}
+use Rattle.std.specs.Prelude.{Bool, ℕ, if◌then◌else◌, max, min, nat_le, ◌+◌, ◌-◌, ◌*◌, ◌/◌, ◌^◌}
 use Rattle.runs.specs.declared.budgets.NodeBudget.{NodeBudget}
+use Rattle.runs.specs.declared.rounds.Batch.{Batch}
+use Rattle.runs.specs.declared.rounds.Batch.TheVariants.{Adjusting, Fixed}
 use Rattle.protocol.specs.declared.Answer.{Answer}
 use Rattle.protocol.specs.declared.Answer.TheVariants.{Taken}
 
@@ -46,6 +48,13 @@ careful_messages b =
 abbrev pub messages_of : Bool → NodeBudget → ℕ
 messages_of rounds_are_cheap b =
     min (if rounds_are_cheap then careful_messages b else eager_messages b) 65536
+
+-- how many messages a parcel lets its node handle: the fixed batch, or by the node's budget, but at
+-- most the largest of the batch, and that is at least one
+abbrev pub messages_for : Batch → NodeBudget → ℕ
+messages_for (Fixed messages) b = messages
+messages_for (Adjusting most rounds_are_cheap) b =
+    min (messages_of rounds_are_cheap b) (max most 1)
 
 -- after this answer to a take
 abbrev pub budget_answered : NodeBudget → Answer → NodeBudget

@@ -1,7 +1,7 @@
 -- What a driver does to a session: it makes steps of it, and nothing else.
 use Rattle.std.specs.Prelude.{Bool, true, false, ℕ, zero, suc, List, [], ◌∷◌, ◌++◌, ◌+◌, ◌%◌, ◌==◌}
 use Rattle.std.specs.Prelude.{◌-◌, ◌^◌, get_or, ◌&&◌, ◌||◌, nat_le, nat_lt, max, min, ◌<◌, ◌≤◌, if◌then◌else◌, ◌≡◌, length}
-use Rattle.std.specs.Prelude.{Err, map, None, not, Ok, Option, replicate, set, Some, unwrap_or, ◌⊎◌}
+use Rattle.std.specs.Prelude.{Err, map, None, not, Ok, Option, replicate, set, Some, unwrap_or, ◌⊎◌, ⊤}
 use Rattle.coordinator.specs.Drives.{Goes, IsStep}
 use Rattle.coordinator.specs.Headline.{IsDriven as IsDrivenFrom}
 use Rattle.coordinator.specs.Opening.{OpeningIsRefused}
@@ -10,6 +10,8 @@ use Rattle.coordinator.specs.Session.{IsConsistentSession, Session, running}
 use Rattle.coordinator.specs.Steps.{move_of}
 use Rattle.coordinator.specs.declared.Step.{Step}
 use Rattle.disk.specs.Disk.{DiskState}
+use Rattle.runs.specs.Budgets.{budget_answered, first_budget, messages_for}
+use Rattle.runs.specs.declared.budgets.NodeBudget.{NodeBudget}
 use Rattle.runs.specs.declared.rounds.Batch.{Batch}
 use Rattle.runs.specs.declared.rounds.Batch.TheVariants.{Adjusting, Fixed}
 use Rattle.runs.specs.declared.rounds.Plan.{Plan}
@@ -123,6 +125,29 @@ handled_of node (k ∷ ks) = handled_by node (move_of k.step) k.answer + handled
 abbrev pub AreCounts : List ℕ → List Made → Type 0
 AreCounts counts made =
     (node : ℕ) → get_or counts node 0 ≡ min (handled_of node made) (2 ^ 64 - 1)
+
+-- for each node its budget after this step, which follows the answers to the takes of that node
+abbrev pub budgets_by : List NodeBudget → Move → Answer → List NodeBudget
+budgets_by budgets (Take node) answer =
+    set budgets node (budget_answered (get_or budgets node first_budget) answer)
+budgets_by budgets move answer = budgets
+
+abbrev pub budgets_after : List NodeBudget → List Made → List NodeBudget
+budgets_after budgets [] = budgets
+budgets_after budgets (k ∷ ks) =
+    budgets_after (budgets_by budgets (move_of k.step) k.answer) ks
+
+-- a parcel lets its node handle as many messages as the budget of that node says
+abbrev pub IsBudgeted : Batch → List NodeBudget → Move → Type 0
+IsBudgeted batch budgets (Post node picks budget) =
+    budget ≡ messages_for batch (get_or budgets node first_budget)
+IsBudgeted batch budgets move = ⊤
+
+-- that for each of these steps, with these budgets of the nodes before the first
+abbrev pub AreBudgeted : Batch → List NodeBudget → List Made → Type 0
+AreBudgeted batch budgets [] = ⊤
+AreBudgeted batch budgets (k ∷ ks) = IsBudgeted batch budgets (move_of k.step)
+    × AreBudgeted batch (budgets_by budgets (move_of k.step) k.answer) ks
 
 -- 2. Rounds
 
@@ -264,6 +289,12 @@ AreRounds plan end last (suc rounds) made = (before : List Made) × (round : Lis
     (outstanding_after (replicate plan.nodes None) before) round
     × (made ≡ before ++ round)
 
+-- The first so many rounds of such a run, in which each parcel has the budget that its node's own
+-- replies gave since the run began.
+abbrev pub AreRoundsOfRun : Plan → ℕ → ℕ → ℕ → List Made → Type 0
+AreRoundsOfRun plan end last rounds made = AreRounds plan end last rounds made
+    × AreBudgeted plan.batch (replicate plan.nodes first_budget) made
+
 -- 3. The session after the steps
 
 module _ {M P D : Type 0} (meaning : M → Meaning) (state : P → PortState) where
@@ -319,7 +350,7 @@ module _ {M P D : Type 0} (meaning : M → Meaning) (state : P → PortState) wh
   -- the steps are the first so many rounds of a run to the round with the number `last`
   abbrev pub HasRun : (D → DiskState) → M → ℕ → Plan → ℕ → ℕ → D → D → World → Type 0
   HasRun disk model end plan last rounds old new front =
-      HasMade disk model end (AreRounds plan end last rounds) old new front
+      HasMade disk model end (AreRoundsOfRun plan end last rounds) old new front
 
   -- the result of a run that reached its end, over any ports
   pub record IsRunOver (disk : D → DiskState) (model : M) (end : ℕ) (plan : Plan) (old new : D)
@@ -341,7 +372,7 @@ module _ {M P D : Type 0} (meaning : M → Meaning) (state : P → PortState) wh
     pub front : World
     pub some : (rounds ≤ last) × (last ≤ plan.rounds)
     pub run : HasMade disk model end
-        (λ made. AreRounds plan end last rounds made × AreCounts counts made) old new front
+        (λ made. AreRoundsOfRun plan end last rounds made × AreCounts counts made) old new front
 
   -- all rounds of a run were made, and its front has not reached the end, over any ports
   pub record IsShortOver (disk : D → DiskState) (model : M) (end : ℕ) (plan : Plan)
@@ -418,7 +449,7 @@ transits_of m end (k ∷ ks) p = p.transit ∷ transits_of m end ks (unwrap_or (
 -- transit, and its front has not reached the end
 pub record IsUnfinished (m : Meaning) (end : ℕ) (plan : Plan) (image : List (List ℕ)) : Type 0 where
   pub made : List Made
-  pub rounds_are : AreRounds plan end plan.rounds plan.rounds made
+  pub rounds_are : AreRoundsOfRun plan end plan.rounds plan.rounds made
   pub front : World
   pub driven : IsDrivenFrom m end plan.nodes image (moves_of made) front
   pub answers_are : map (λ (k : Made). Some k.answer) made

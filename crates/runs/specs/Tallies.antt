@@ -1,7 +1,11 @@
 -- What a run counts, and how that follows from the steps that it made.
 use Rattle.std.specs.Prelude.{List, None, Option, get_or, length, min, replicate, ℕ, ◌+◌, ◌-◌, ◌^◌, ◌≡◌}
-use Rattle.runs.specs.Driver.{AreCounts, Made, commits_in, handled_of, least_answered}
-use Rattle.runs.specs.Driver.{outstanding_after, reported_since}
+use Rattle.runs.specs.Budgets.{first_budget}
+use Rattle.runs.specs.Driver.{AreBudgeted, AreCounts, Made, budgets_after, commits_in, handled_of}
+use Rattle.runs.specs.Driver.{least_answered, outstanding_after, reported_since}
+use Rattle.runs.specs.declared.budgets.NodeBudget.{NodeBudget}
+use Rattle.runs.specs.declared.rounds.Batch.{Batch}
+use Rattle.runs.specs.declared.rounds.Plan.{Plan}
 use Rattle.runs.specs.declared.tally.Tally.{Tally}
 use Rattle.runs.specs.declared.tally.Turn.{Turn}
 use Rattle.protocol.specs.declared.Answer.{Answer}
@@ -26,12 +30,15 @@ pub record IsSized (nodes : ℕ) (tally : Tally) : Type 0 where
 
 -- The count over these steps: the number of events still to be reported before a commit is due,
 -- given how many were reported since the last one, the number of commits made, the floors of the
--- outstanding parcels, and the number of messages that each node handled.
-pub record IsTallied (every : ℕ) (old new : Tally) (made : List Made) : Type 0 where
-  pub events_until_commit : (reported : ℕ) → old.events_until_commit ≡ every - reported →
-      new.events_until_commit ≡ every - reported_since reported made
+-- outstanding parcels, the budget of each node, which each parcel to it has, and the number of
+-- messages that each node handled.
+pub record IsTallied (plan : Plan) (old new : Tally) (made : List Made) : Type 0 where
+  pub events_until_commit : (reported : ℕ) → old.events_until_commit ≡ plan.commit_every - reported →
+      new.events_until_commit ≡ plan.commit_every - reported_since reported made
   pub commits : new.commits ≡ old.commits + commits_in made
   pub outstanding : new.outstanding.items ≡ outstanding_after old.outstanding.items made
+  pub budgets : new.budgets.items ≡ budgets_after old.budgets.items made
+  pub budgeted : AreBudgeted plan.batch old.budgets.items made
   pub handled : AreCounted old.handled_per_node.items new.handled_per_node.items made
 
 -- these steps report no events, and none of them is a commit, a post, or the take of a node
@@ -40,20 +47,25 @@ pub record CountsNothing (made : List Made) : Type 0 where
   pub commits : commits_in made ≡ 0
   pub outstanding : (outstanding : List (Option ℕ)) →
       outstanding_after outstanding made ≡ outstanding
+  pub budgets : (budgets : List NodeBudget) → budgets_after budgets made ≡ budgets
+  pub budgeted : (batch : Batch) (budgets : List NodeBudget) → AreBudgeted batch budgets made
   pub handled : (node : ℕ) → handled_of node made ≡ 0
 
--- the count after these steps over this many nodes, if they are all that were made
-pub record IsTallyOf (every nodes : ℕ) (tally : Tally) (made : List Made) : Type 0 where
-  pub events_until_commit : tally.events_until_commit ≡ every - reported_since 0 made
+-- the count after these steps, if they are all that were made
+pub record IsTallyOf (plan : Plan) (tally : Tally) (made : List Made) : Type 0 where
+  pub events_until_commit : tally.events_until_commit
+      ≡ plan.commit_every - reported_since 0 made
   pub commits : tally.commits ≡ commits_in made
-  pub outstanding : tally.outstanding.items ≡ outstanding_after (replicate nodes None) made
+  pub outstanding : tally.outstanding.items ≡ outstanding_after (replicate plan.nodes None) made
+  pub budgets : tally.budgets.items ≡ budgets_after (replicate plan.nodes first_budget) made
+  pub budgeted : AreBudgeted plan.batch (replicate plan.nodes first_budget) made
   pub handled : AreCounts tally.handled_per_node.items made
 
 -- steps of this shape within a round, their count, and the least floor answered in it
-pub record Tallied (every : ℕ) (Shape : List Made → Type 0) (old new : Tally)
+pub record Tallied (plan : Plan) (Shape : List Made → Type 0) (old new : Tally)
     (made : List Made) : Type 0 where
   pub shape : Shape made
-  pub tally : IsTallied every old new made
+  pub tally : IsTallied plan old new made
   pub floor : new.floor ≡ least_answered old.floor old.outstanding.items made
 
 -- a turn with the answer to its take

@@ -3,7 +3,7 @@
 ghost use Rattle.std.specs.Prelude.{◌≡◌, ◌<◌, ◌≤◌, ◌+◌, ◌-◌, ◌^◌, [], ◌∷◌, ℕ, IfOk, OnOk};
 ghost use Rattle.std.specs.Prelude.{IsErrOf, None, Option, get_or, length, if◌then◌else◌};
 ghost use Rattle.runs.specs.Driver.{AreAsked, AreCounts, AreFirst, AreNext, ArePosts, AreRounds};
-ghost use Rattle.runs.specs.Driver.{AreTurns, IsDriven, IsDrivenBy, IsFinished, IsNext, IsPost};
+ghost use Rattle.runs.specs.Driver.{AreRoundsOfRun, AreTurns, IsDriven, IsDrivenBy, IsFinished, IsNext, IsPost};
 ghost use Rattle.runs.specs.Driver.{IsPostIf, IsRefusedIn, IsRound, IsTurn, closing_of, goes_on, is_kept};
 ghost use Rattle.runs.specs.Driver.{kept_after, moves_of, takes_of};
 ghost use Rattle.runs.specs.Tallies.{CountsNothing, IsSized, IsTallied, Tallied};
@@ -159,11 +159,11 @@ pub fn run_session<M: Simulated, P: Port, D: SectorDisk, W: Watch>(
     // Everything is committed, by steps of the session alone.
     ensures ended { OnOk result (end ≤ session.new.front.time) }
     ensures driven { OnOk result (IsDriven M.meaning P.state D.state session.old session.new) }
-    // The steps are rounds, and each count is what the replies of its node said in them. The run was
-    // to end after `last` rounds.
+    // The steps are rounds, each parcel has its own node's budget, and each count is what the
+    // replies of its node said in them. The run was to end after `last` rounds.
     ensures in_rounds { IfOk result (λ handled_per_node. (rounds last : ℕ)
         × ((rounds ≤ last) × (last ≤ plan.rounds)) × IsDrivenBy M.meaning P.state D.state
-        (λ made. AreRounds plan end last rounds made × AreCounts handled_per_node.items made)
+        (λ made. AreRoundsOfRun plan end last rounds made × AreCounts handled_per_node.items made)
         session.old session.new) }
     ensures finished { session.old.end ≡ end →
         OnOk result (IsFinished M.meaning P.state end session.old session.new) }
@@ -171,7 +171,7 @@ pub fn run_session<M: Simulated, P: Port, D: SectorDisk, W: Watch>(
     ensures keeps { KeepsRepresentation M.meaning P.state D.state session.old session.new }
     ensures rounds { IsErrOf result RunFault.Rounds → session.new.front.time < end }
     ensures all_rounds { IsErrOf result RunFault.Rounds →
-        IsDrivenBy M.meaning P.state D.state (AreRounds plan end plan.rounds plan.rounds)
+        IsDrivenBy M.meaning P.state D.state (AreRoundsOfRun plan end plan.rounds plan.rounds)
         session.old session.new }
     // After a stop some of the plan's rounds were made, and the last of them ended like the last
     // round of a plan.
@@ -179,7 +179,7 @@ pub fn run_session<M: Simulated, P: Port, D: SectorDisk, W: Watch>(
         (session.new.front.time < end) × (time ≡ session.new.front.time)
         × (events ≡ length session.new.front.log)
         × ((last : ℕ) × (last < plan.rounds)
-        × IsDrivenBy M.meaning P.state D.state (AreRounds plan end last last)
+        × IsDrivenBy M.meaning P.state D.state (AreRoundsOfRun plan end last last)
         session.old session.new) }
     // A fault of the session is that of a step which the plan makes next.
     ensures refused { (fault : SessionFault) → IsErrOf result (RunFault.Session fault) →
@@ -258,7 +258,7 @@ fn make_round<M: Simulated, P: Port, D: SectorDisk, W: Watch>(
     ensures driven { (reported : ℕ) → tally.old.events_until_commit ≡ round.plan.commit_every - reported →
         OnOk result (IsDrivenBy M.meaning P.state D.state
         (λ made. IsRound round reported tally.old.commits tally.old.outstanding.items made
-        × IsTallied round.plan.commit_every tally.old tally.new made) session.old session.new) }
+        × IsTallied round.plan tally.old tally.new made) session.old session.new) }
     ensures commits { OnOk result (tally.new.commits ≤ tally.old.commits + 1) }
     ensures sized { IsSized round.plan.nodes tally.new }
     ensures keeps { KeepsRepresentation M.meaning P.state D.state session.old session.new }
@@ -288,7 +288,7 @@ fn close<M: Simulated, P: Port, D: SectorDisk, W: Watch>(
     ensures driven { (reported : ℕ) → tally.old.events_until_commit ≡ round.plan.commit_every - reported →
         OnOk result (IsDrivenBy M.meaning P.state D.state
         (λ made. (moves_of made ≡ closing_of round reported tally.old.floor tally.old.commits)
-        × IsTallied round.plan.commit_every tally.old tally.new made) session.old session.new) }
+        × IsTallied round.plan tally.old tally.new made) session.old session.new) }
     ensures commits { OnOk result (tally.new.commits ≤ tally.old.commits + 1) }
     ensures sized { IsSized round.plan.nodes tally.new }
     ensures keeps { KeepsRepresentation M.meaning P.state D.state session.old session.new }
@@ -331,7 +331,7 @@ fn commit<M: Simulated, P: Port, D: SectorDisk, W: Watch>(
     ensures driven { OnOk result (IsDrivenBy M.meaning P.state D.state
         (λ made. (moves_of made
         ≡ CommitMove ∷ kept_after plan.checkpoint_every (tally.old.commits + 1))
-        × IsTallied plan.commit_every tally.old tally.new made) session.old session.new) }
+        × IsTallied plan tally.old tally.new made) session.old session.new) }
     ensures commits { OnOk result (tally.new.commits ≤ tally.old.commits + 1) }
     ensures sized { IsSized plan.nodes tally.new }
     ensures keeps { KeepsRepresentation M.meaning P.state D.state session.old session.new }
@@ -388,7 +388,7 @@ fn ask<M: Simulated, P: Port, D: SectorDisk, W: Watch>(
 ) -> Result<(), RunFault>
     requires sized { IsSized round.plan.nodes tally.old }
     ensures driven { OnOk result (IsDrivenBy M.meaning P.state D.state
-        (Tallied round.plan.commit_every (AreAsked round.plan.schedule round tally.old.outstanding.items) tally.old tally.new)
+        (Tallied round.plan (AreAsked round.plan.schedule round tally.old.outstanding.items) tally.old tally.new)
         session.old session.new) }
     ensures commits { tally.new.commits ≡ tally.old.commits }
     ensures sized { IsSized round.plan.nodes tally.new }
@@ -416,7 +416,7 @@ fn turns<M: Simulated, P: Port, D: SectorDisk, W: Watch>(
 ) -> Result<(), RunFault>
     requires sized { IsSized round.plan.nodes tally.old }
     ensures driven { OnOk result (IsDrivenBy M.meaning P.state D.state
-        (Tallied round.plan.commit_every (AreTurns round.plan round.plan.nodes) tally.old tally.new)
+        (Tallied round.plan (AreTurns round.plan round.plan.nodes) tally.old tally.new)
         session.old session.new) }
     ensures commits { tally.new.commits ≡ tally.old.commits }
     ensures sized { IsSized round.plan.nodes tally.new }
@@ -443,7 +443,7 @@ fn together<M: Simulated, P: Port, D: SectorDisk, W: Watch>(
 ) -> Result<(), RunFault>
     requires sized { IsSized round.plan.nodes tally.old }
     ensures driven { OnOk result (IsDrivenBy M.meaning P.state D.state
-        (Tallied round.plan.commit_every (AreAsked Schedule.Together round tally.old.outstanding.items) tally.old tally.new)
+        (Tallied round.plan (AreAsked Schedule.Together round tally.old.outstanding.items) tally.old tally.new)
         session.old session.new) }
     ensures commits { tally.new.commits ≡ tally.old.commits }
     ensures sized { IsSized round.plan.nodes tally.new }
@@ -468,7 +468,7 @@ fn overlapped<M: Simulated, P: Port, D: SectorDisk, W: Watch>(
 ) -> Result<(), RunFault>
     requires sized { IsSized round.plan.nodes tally.old }
     ensures driven { OnOk result (IsDrivenBy M.meaning P.state D.state
-        (Tallied round.plan.commit_every (AreAsked Schedule.Overlapped round tally.old.outstanding.items) tally.old tally.new)
+        (Tallied round.plan (AreAsked Schedule.Overlapped round tally.old.outstanding.items) tally.old tally.new)
         session.old session.new) }
     ensures commits { tally.new.commits ≡ tally.old.commits }
     ensures sized { IsSized round.plan.nodes tally.new }
@@ -492,7 +492,7 @@ fn post_first<M: Simulated, P: Port, D: SectorDisk>(
 ) -> Result<(), RunFault>
     requires sized { IsSized round.plan.nodes tally.old }
     ensures driven { OnOk result (IsDrivenBy M.meaning P.state D.state
-        (Tallied round.plan.commit_every (AreFirst round.first round.plan) tally.old tally.new)
+        (Tallied round.plan (AreFirst round.first round.plan) tally.old tally.new)
         session.old session.new) }
     ensures commits { tally.new.commits ≡ tally.old.commits }
     ensures sized { IsSized round.plan.nodes tally.new }
@@ -519,7 +519,7 @@ fn next_turns<M: Simulated, P: Port, D: SectorDisk, W: Watch>(
 ) -> Result<(), RunFault>
     requires sized { IsSized round.plan.nodes tally.old }
     ensures driven { OnOk result (IsDrivenBy M.meaning P.state D.state
-        (Tallied round.plan.commit_every (AreNext round tally.old.outstanding.items round.plan.nodes) tally.old tally.new)
+        (Tallied round.plan (AreNext round tally.old.outstanding.items round.plan.nodes) tally.old tally.new)
         session.old session.new) }
     ensures commits { tally.new.commits ≡ tally.old.commits }
     ensures sized { IsSized round.plan.nodes tally.new }
@@ -549,7 +549,7 @@ fn next_turn<M: Simulated, P: Port, D: SectorDisk, W: Watch>(
     requires node { node < round.plan.nodes }
     requires sized { IsSized round.plan.nodes tally.old }
     ensures driven { OnOk result (IsDrivenBy M.meaning P.state D.state
-        (Tallied round.plan.commit_every (IsNext round node (get_or tally.old.outstanding.items node Option.None)) tally.old tally.new)
+        (Tallied round.plan (IsNext round node (get_or tally.old.outstanding.items node Option.None)) tally.old tally.new)
         session.old session.new) }
     ensures commits { tally.new.commits ≡ tally.old.commits }
     ensures sized { IsSized round.plan.nodes tally.new }
@@ -579,7 +579,7 @@ fn post_again<M: Simulated, P: Port, D: SectorDisk>(
     requires node { node < round.plan.nodes }
     requires sized { IsSized round.plan.nodes tally.old }
     ensures driven { OnOk result (IsDrivenBy M.meaning P.state D.state
-        (Tallied round.plan.commit_every (IsPostIf (goes_on round floor) round.plan node) tally.old tally.new)
+        (Tallied round.plan (IsPostIf (goes_on round floor) round.plan node) tally.old tally.new)
         session.old session.new) }
     ensures commits { tally.new.commits ≡ tally.old.commits }
     ensures sized { IsSized round.plan.nodes tally.new }
@@ -605,7 +605,7 @@ fn post_all<M: Simulated, P: Port, D: SectorDisk>(
 ) -> Result<(), RunFault>
     requires sized { IsSized round.plan.nodes tally.old }
     ensures driven { OnOk result (IsDrivenBy M.meaning P.state D.state
-        (Tallied round.plan.commit_every (ArePosts round.plan round.plan.nodes) tally.old tally.new)
+        (Tallied round.plan (ArePosts round.plan round.plan.nodes) tally.old tally.new)
         session.old session.new) }
     ensures commits { tally.new.commits ≡ tally.old.commits }
     ensures sized { IsSized round.plan.nodes tally.new }
@@ -631,7 +631,7 @@ fn take_all<M: Simulated, P: Port, D: SectorDisk, W: Watch>(
 ) -> Result<(), RunFault>
     requires sized { IsSized round.plan.nodes tally.old }
     ensures driven { OnOk result (IsDrivenBy M.meaning P.state D.state
-        (Tallied round.plan.commit_every (λ taken. moves_of taken ≡ takes_of round.plan.nodes) tally.old tally.new)
+        (Tallied round.plan (λ taken. moves_of taken ≡ takes_of round.plan.nodes) tally.old tally.new)
         session.old session.new) }
     ensures commits { tally.new.commits ≡ tally.old.commits }
     ensures sized { IsSized round.plan.nodes tally.new }
@@ -660,7 +660,7 @@ fn turn<M: Simulated, P: Port, D: SectorDisk, W: Watch>(
     requires node { node < round.plan.nodes }
     requires sized { IsSized round.plan.nodes tally.old }
     ensures driven { OnOk result (IsDrivenBy M.meaning P.state D.state
-        (Tallied round.plan.commit_every (IsTurn round.plan node) tally.old tally.new)
+        (Tallied round.plan (IsTurn round.plan node) tally.old tally.new)
         session.old session.new) }
     ensures commits { tally.new.commits ≡ tally.old.commits }
     ensures sized { IsSized round.plan.nodes tally.new }
@@ -686,7 +686,7 @@ fn post<M: Simulated, P: Port, D: SectorDisk>(
     requires node { node < round.plan.nodes }
     requires sized { IsSized round.plan.nodes tally.old }
     ensures driven { OnOk result (IsDrivenBy M.meaning P.state D.state
-        (Tallied round.plan.commit_every (IsPost round.plan node) tally.old tally.new)
+        (Tallied round.plan (IsPost round.plan node) tally.old tally.new)
         session.old session.new) }
     ensures commits { tally.new.commits ≡ tally.old.commits }
     ensures sized { IsSized round.plan.nodes tally.new }
@@ -722,7 +722,7 @@ fn take<M: Simulated, P: Port, D: SectorDisk, W: Watch>(
     requires node { node < round.plan.nodes }
     requires sized { IsSized round.plan.nodes tally.old }
     ensures driven { OnOk result (IsDrivenBy M.meaning P.state D.state
-        (Tallied round.plan.commit_every (λ taken. moves_of taken ≡ TakeMove node ∷ []) tally.old tally.new)
+        (Tallied round.plan (λ taken. moves_of taken ≡ TakeMove node ∷ []) tally.old tally.new)
         session.old session.new) }
     ensures commits { tally.new.commits ≡ tally.old.commits }
     ensures sized { IsSized round.plan.nodes tally.new }

@@ -2,7 +2,7 @@
 
 ghost use Rattle.std.specs.Prelude.{◌≡◌, ◌<◌, ◌≤◌, ◌+◌, ◌-◌, ◌^◌, ◌||◌, IfOk, get_or, length};
 ghost use Rattle.std.specs.Prelude.{None, Option, Some, nat_le, replicate, set};
-ghost use Rattle.runs.specs.Budgets.{budget_answered, first_budget};
+ghost use Rattle.runs.specs.Budgets.{budget_answered, first_budget, messages_for};
 ghost use Rattle.runs.specs.Driver.{IsBudget, floor_in, least_of, reported_in};
 ghost use Rattle.runs.specs.Tallies.{handled_after, turn_answered};
 
@@ -59,7 +59,7 @@ pub(crate) struct Tally {
 impl Tally {
     /// Returns the tally before the first round.
     pub(crate) fn new(alloc: Global, plan: Plan) -> Result<Tally, AllocError>
-        ensures budgets { IfOk result (λ tally. length tally.budgets.items ≡ plan.nodes) }
+        ensures budgets { IfOk result (λ tally. tally.budgets.items ≡ replicate plan.nodes first_budget) }
         ensures events_until_commit { IfOk result (λ tally. tally.events_until_commit ≡ plan.commit_every) }
         ensures commits { IfOk result (λ tally. tally.commits ≡ 0) }
         ensures outstanding { IfOk result (λ tally. tally.outstanding.items ≡ replicate plan.nodes Option.None) }
@@ -86,10 +86,11 @@ impl Tally {
         })
     }
 
-    /// Returns how many messages a node may handle in its next turn.
+    /// Returns how many messages a node may handle in its next turn, by its own budget.
     pub(crate) fn budget(&self, batch: Batch, node: u32) -> u32
         requires { node < length self.now.budgets.items }
-        ensures { IsBudget batch result }
+        ensures own { result ≡ messages_for batch (get_or self.now.budgets.items node first_budget) }
+        ensures allowed { IsBudget batch result }
     {
         match batch {
             Batch::Fixed(messages) => messages,

@@ -121,7 +121,7 @@ impl<S: Read + Write> Port for SocketPort<S> {
         ensures ok { (state_of self.old.held).faithful ≡ true →
             OnOk result ((state_of self.new.held).node ≡ (state_of self.old.held).node) }
         ensures err { (state_of self.old.held).faithful ≡ true →
-            IfErr result (λ fault. IsResourceFault fault) }
+            IfErr result (λ fault. IsResourceFault (state_of self.old.held) fault) }
         ensures written { OnOk result (Appends (S.contents self.old.stream)
             (S.contents self.new.stream) (frame_bytes (frame.Parcel parcel))) }
         ensures fits { OnOk result (length (parcel_bytes parcel) ≤ 2 ^ 24) }

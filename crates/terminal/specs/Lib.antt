@@ -1,2 +1,3 @@
 -- For callers
+pub mod Hints  -- which other way to run a model would be faster
 pub mod Trace  -- the trace of a run

@@ -3,11 +3,13 @@
 #![tactic(auto)]
 
 mod cause;
+mod hints;
 mod paths;
 mod progress;
 mod tracing;
 
 pub use cause::{Cause, cause_of};
+pub use hints::{Hint, Way, Work, hint_of};
 pub use paths::are_one_file;
 pub use progress::{Progress, TerminalProgress};
 pub use tracing::{Earlier, Traced};

@@ -1,18 +1,26 @@
 // The progress of a run, as a terminal shows it.
 
 use crate::cause::Cause;
+use crate::hints::{Hint, Way, Work, hint_of};
 use pictures::Row;
-use std::io::Write;
-use std::time::{Clock, Duration};
+use std::fmt;
+use std::io::{Result as IoResult, Write};
+use std::time::{Clock, CpuClock, Duration};
 
 /// Receives the course of a run: the tick at which it ends, its progress, and what went wrong.
 pub trait Progress {
     /// A run begins. It ends at this tick.
     fn begin(&mut self, end: u64);
 
-    /// Called once before a run: a line of progress is wanted each so many seconds, at least 1, also
-    /// where there is no terminal.
+    /// Called once before a run: a line of progress is wanted every `seconds` seconds, at least 1,
+    /// also where there is no terminal.
     fn every(&mut self, _seconds: u32) {}
+
+    /// Called once before a command: its line asks for advice, also where there is no terminal.
+    fn with_advice(&mut self) {}
+
+    /// A run is made this way. Called once, before its disk is opened.
+    fn takes(&mut self, _way: Way) {}
 
     /// What the disk of a run has at its beginning: all events before this virtual time, in ticks,
     /// `events` in all.
@@ -56,16 +64,26 @@ pub trait Progress {
 }
 
 /// Shows on one line of a terminal which nodes a run waits for, and its progress, at most twice a
-/// second; then a summary of the run, and after a fault what to do about it. Where there is no
-/// terminal, it writes a line of progress each so many seconds if that is wanted, after which faults
-/// a run goes on, and which file ended it.
+/// second; then a summary of the run, and after a fault what to do about it. Once a run has taken a
+/// second, and a tenth of one of the processor, a line says at its next commit which other way
+/// would be faster, if one would, by what was measured until then. Where there is no terminal, it
+/// writes a line of progress at the interval that is asked for, after which faults a run goes on,
+/// which file ended it, and with advice the faster way.
 #[derive(Drop)]
 pub struct TerminalProgress<'c, C, T> {
     clock: &'c C,
+    // The name of the program, before a line that is not about the run itself.
+    name: &'c str,
     terminal: Option<T>,
     // What gets whole lines instead of the terminal, and the time between two of progress.
     lines: Option<T>,
     every: Option<Duration>,
+    // Whether advice is wanted where there is no terminal.
+    is_advised: bool,
+    // How the run is made, until it is known whether another way would be faster, and the first
+    // opening of its disk.
+    way: Option<Way>,
+    begun: Option<Moment>,
     end: u64,
     // The virtual time of the last commit, in ticks.
     time: u64,
@@ -88,6 +106,13 @@ struct Mark {
     time: u64,
     events: usize,
     antimessages: u64,
+}
+
+/// A moment by two clocks: the time, and the processor time that the process has used.
+#[derive(Clone, Copy)]
+struct Moment {
+    at: Duration,
+    used: Duration,
 }
 
 /// Totals over the turns and commits of a run.
@@ -123,7 +148,7 @@ impl Totals {
     }
 }
 
-impl<'c, C: Clock, T: Write> TerminalProgress<'c, C, T> {
+impl<'c, C: Clock + CpuClock, T: Write> TerminalProgress<'c, C, T> {
     /// Shows progress on this terminal, if there is one.
     pub fn on(clock: &'c C, terminal: Option<T>) -> TerminalProgress<'c, C, T> {
         TerminalProgress::to(clock, terminal, None)
@@ -134,12 +159,23 @@ impl<'c, C: Clock, T: Write> TerminalProgress<'c, C, T> {
         TerminalProgress::to(clock, None, Some(lines))
     }
 
+    /// The same for the program of this name, which is `timewarp` otherwise.
+    pub fn named(self, name: &'c str) -> TerminalProgress<'c, C, T> {
+        let mut named = self;
+        named.name = name;
+        named
+    }
+
     fn to(clock: &'c C, terminal: Option<T>, lines: Option<T>) -> TerminalProgress<'c, C, T> {
         TerminalProgress {
             clock,
+            name: "timewarp",
             terminal,
             lines,
             every: None,
+            is_advised: false,
+            way: None,
+            begun: None,
             end: 0,
             time: 0,
             first: None,
@@ -212,7 +248,61 @@ impl<'c, C: Clock, T: Write> TerminalProgress<'c, C, T> {
             let _ = lines.flush();
         }
     }
+
+    /// Notes when a run begins for which there may be a hint. One that goes on after a fault began
+    /// earlier.
+    fn begin_measuring(&mut self) {
+        if self.way.is_none() || self.begun.is_some() {
+            return;
+        }
+        if let (Ok(at), Ok(used)) = (self.clock.monotonic(), self.clock.process_cpu_time()) {
+            self.begun = Some(Moment { at, used });
+        }
+    }
+
+    /// Says which way would be faster, once the run has been measured for a second.
+    fn hint(&mut self) {
+        let (Some(way), Some(begun)) = (self.way, self.begun) else {
+            return;
+        };
+        let Ok(at) = self.clock.monotonic() else {
+            return;
+        };
+        if at.saturating_sub(begun.at) < Duration::from_secs(1) {
+            return;
+        }
+        let Ok(used) = self.clock.process_cpu_time() else {
+            return;
+        };
+        let taken = used.saturating_sub(begun.used).as_nanos();
+        if taken < LEAST {
+            return;
+        }
+        self.way = None;
+        let work = Work {
+            nanoseconds: u64::try_from(taken).unwrap_or(u64::MAX),
+            handled: self.totals.handled,
+            commits: self.totals.commits,
+        };
+        if let Some(hint) = hint_of(way, work) {
+            self.write_hint(hint);
+        }
+    }
+
+    fn write_hint(&mut self, hint: Hint) {
+        self.clear();
+        let name = self.name;
+        if let Some(terminal) = &mut self.terminal {
+            let _ = writeln!(terminal, "{name}: {hint}");
+        } else if let Some(lines) = &mut self.lines {
+            let _ = writeln!(lines, "{name}: {hint}");
+        }
+    }
 }
+
+/// The least processor time that says something of a handling, in nanoseconds. A run that has taken
+/// less has mostly waited for its disk.
+const LEAST: u128 = 100_000_000;
 
 /// What a line of progress says.
 #[derive(Clone, Copy)]
@@ -227,7 +317,8 @@ struct Line {
 }
 
 impl Line {
-    /// Writes the line without its end. Leaves out what does not fit in `most` columns.
+    /// Writes the line without its end. Leaves out the first part that does not fit in `most`
+    /// columns, and what follows it.
     fn write<T: Write>(&self, most: usize, out: &mut T) {
         let Line {
             first,
@@ -242,38 +333,88 @@ impl Line {
         let percent = u128::from(now.time) * 100 / u128::from(end.max(1));
         let events = now.events;
         let rate = per_second(events.saturating_sub(last.events) as u128, past);
-        let mut columns = 15usize;
-        for number in [percent, events as u128, rate] {
-            columns = columns.saturating_add(digits(number));
-        }
-        let _ = write!(out, "{percent}%, {events} events ({rate}/s)");
-        if let Some(left) = seconds_left(first, now, end) {
-            columns = columns.saturating_add(10).saturating_add(digits(left));
-            if columns <= most {
-                let _ = write!(out, ", {left} s to go");
-            }
-        }
-        if let Some(efficiency) = totals.efficiency() {
-            columns = columns
-                .saturating_add(14)
-                .saturating_add(digits(efficiency));
-            if columns <= most {
-                let _ = write!(out, ", efficiency {efficiency}%");
-            }
-        }
-        if sectors > 0 {
-            let full = u128::from(used) * 100 / u128::from(sectors);
-            columns = columns.saturating_add(13).saturating_add(digits(full));
-            if columns <= most {
-                let _ = write!(out, ", disk {full}% full");
-            }
-        }
+        let begin = Part::Committed {
+            percent,
+            events,
+            rate,
+        };
+        let mut columns = begin.columns();
+        let _ = write!(out, "{begin}");
         let undone = now.antimessages.saturating_sub(last.antimessages);
-        let undone = per_second(u128::from(undone), past);
-        columns = columns.saturating_add(17).saturating_add(digits(undone));
-        if columns <= most {
-            let _ = write!(out, ", {undone} antimessages/s");
+        for part in [
+            seconds_left(first, now, end).map(Part::Left),
+            totals.efficiency().map(Part::Efficiency),
+            percent_of(used, sectors).map(Part::Disk),
+            Some(Part::Undone(per_second(u128::from(undone), past))),
+        ] {
+            if let Some(part) = part {
+                columns = columns.saturating_add(part.columns());
+                if columns <= most {
+                    let _ = write!(out, "{part}");
+                }
+            }
         }
+    }
+}
+
+/// A part of a line of progress.
+#[derive(Clone, Copy)]
+enum Part {
+    /// What is committed, as a percentage of the virtual time and in events, and events per second.
+    Committed {
+        percent: u128,
+        events: usize,
+        rate: u128,
+    },
+    /// The seconds to the end.
+    Left(u128),
+    /// Reported records as a percentage of handled messages.
+    Efficiency(u128),
+    /// The sectors in use as a percentage of all.
+    Disk(u128),
+    /// Antimessages per second.
+    Undone(u128),
+}
+
+impl Part {
+    /// The number of columns that it takes: it has ASCII characters alone.
+    fn columns(&self) -> usize {
+        let mut counted = Counted { bytes: 0 };
+        let _ = write!(counted, "{self}");
+        counted.bytes
+    }
+}
+
+impl fmt::Display for Part {
+    fn fmt<W: fmt::Write>(&self, f: &mut fmt::Formatter<W>) -> fmt::Result {
+        match *self {
+            Part::Committed {
+                percent,
+                events,
+                rate,
+            } => write!(f, "{percent}%, {events} events ({rate}/s)"),
+            Part::Left(seconds) => write!(f, ", {seconds} s to go"),
+            Part::Efficiency(percent) => write!(f, ", efficiency {percent}%"),
+            Part::Disk(percent) => write!(f, ", disk {percent}% full"),
+            Part::Undone(rate) => write!(f, ", {rate} antimessages/s"),
+        }
+    }
+}
+
+/// Counts the bytes that are written to it.
+#[derive(Drop)]
+struct Counted {
+    bytes: usize,
+}
+
+impl Write for Counted {
+    fn write(&mut self, buf: &[u8]) -> IoResult<usize> {
+        self.bytes = self.bytes.saturating_add(buf.len());
+        Ok(buf.len())
+    }
+
+    fn flush(&mut self) -> IoResult<()> {
+        Ok(())
     }
 }
 
@@ -285,18 +426,12 @@ fn per_second(count: u128, milliseconds: u128) -> u128 {
     count.saturating_mul(1000) / milliseconds.max(1)
 }
 
-/// The number of decimal digits of a number.
-fn digits(number: u128) -> usize {
-    let mut count = 1usize;
-    let mut rest = number;
-    for _ in 0..38 {
-        rest /= 10;
-        if rest == 0 {
-            return count;
-        }
-        count = count.saturating_add(1);
+/// The sectors in use as a percentage of all; `None` if their number is unknown.
+fn percent_of(used: u64, sectors: u64) -> Option<u128> {
+    if sectors == 0 {
+        return None;
     }
-    count
+    Some(u128::from(used) * 100 / u128::from(sectors))
 }
 
 /// The seconds left until `end` by the pace since the first commit; `None` without progress since.
@@ -313,7 +448,7 @@ fn seconds_left(first: Mark, now: Mark, end: u64) -> Option<u128> {
 /// The maximum number of awaited nodes that are named, so that the line fits most terminals.
 const NAMED: usize = 4;
 
-impl<C: Clock, T: Write> Progress for TerminalProgress<'_, C, T> {
+impl<C: Clock + CpuClock, T: Write> Progress for TerminalProgress<'_, C, T> {
     fn begin(&mut self, end: u64) {
         self.end = end;
     }
@@ -322,9 +457,20 @@ impl<C: Clock, T: Write> Progress for TerminalProgress<'_, C, T> {
         self.every = Some(Duration::from_secs(u64::from(seconds)));
     }
 
+    fn with_advice(&mut self) {
+        self.is_advised = true;
+    }
+
+    fn takes(&mut self, way: Way) {
+        if self.is_advised || self.is_seen() {
+            self.way = Some(way);
+        }
+    }
+
     fn opened(&mut self, time: u64, events: usize) {
         self.time = time;
         self.totals.events = events;
+        self.begin_measuring();
         if self.terminal.is_none() {
             self.note(false);
         }
@@ -357,6 +503,7 @@ impl<C: Clock, T: Write> Progress for TerminalProgress<'_, C, T> {
         self.totals.events = events;
         self.time = time;
         self.note(time >= self.end);
+        self.hint();
     }
 
     fn stored(&mut self, used: u32, sectors: u32) {

@@ -4,6 +4,7 @@ ghost use Rattle.std.specs.Prelude.{◌≡◌};
 ghost use Rattle.terminal.specs.Trace.{row_behind};
 
 use crate::cause::Cause;
+use crate::hints::Way;
 use crate::progress::Progress;
 use pictures::{Row, read_rows, write_names, write_turn};
 use std::alloc::Global;
@@ -197,6 +198,14 @@ impl<P: Progress> Progress for Traced<'_, P> {
 
     fn every(&mut self, seconds: u32) {
         self.progress.every(seconds);
+    }
+
+    fn with_advice(&mut self) {
+        self.progress.with_advice();
+    }
+
+    fn takes(&mut self, way: Way) {
+        self.progress.takes(way);
     }
 
     fn opened(&mut self, time: u64, events: usize) {

@@ -4,7 +4,6 @@
 
 use circuit::Circuit;
 use models::AnyModel;
-use network::Network;
 use recovery::header;
 use std::alloc::Global;
 use std::test::Fail;
@@ -107,28 +106,6 @@ const SHOPS: Changes<'static> = &[
     (5, "seed = 8"),
 ];
 
-const NETWORK: Lines<'static> = &[
-    "end = 30",
-    "width = 4",
-    "height = 3",
-    "service = 3",
-    "wire = 2",
-    "gap = 16",
-    "seed = 11",
-    "work = 0",
-];
-
-const NETWORKS: Changes<'static> = &[
-    (0, "end = 31"),
-    (1, "width = 5"),
-    (2, "height = 4"),
-    (3, "service = 4"),
-    (4, "wire = 3"),
-    (5, "gap = 17"),
-    (6, "seed = 12"),
-    (7, "work = 1"),
-];
-
 const CIRCUIT: Lines<'static> = &[
     "end = 12",
     "gates = [",
@@ -166,7 +143,6 @@ fn each_key_of_a_model_file_tells_its_disk_apart(rt: HostRuntime) -> Result<(), 
             lines[0]
         );
     }
-    assert!(rt; alike::<Network>(alloc, NETWORK, NETWORKS)?.is_empty());
     assert!(rt; alike::<Circuit>(alloc, CIRCUIT, CIRCUITS)?.is_empty());
     Ok(())
 }

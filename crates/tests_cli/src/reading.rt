@@ -563,7 +563,7 @@ fn words_give_a_run_and_its_values(rt: HostRuntime) {
 }
 
 /// Words that are refused, and the kind of the error.
-const REFUSED: [(&[&str], ErrorKind); 85] = [
+const REFUSED: [(&[&str], ErrorKind); 89] = [
     // No path is empty.
     (&["timewarp", "seq", ""], ErrorKind::InvalidValue),
     (&["timewarp", "new", "a", ""], ErrorKind::InvalidValue),
@@ -801,6 +801,23 @@ const REFUSED: [(&[&str], ErrorKind); 85] = [
         ErrorKind::ValueValidation,
     ),
     (
+        &["timewarp", "new", "a", "b", "--sectors="],
+        ErrorKind::ValueValidation,
+    ),
+    (
+        &["timewarp", "run", "a", "b", "--create", "--sectors=few"],
+        ErrorKind::ValueValidation,
+    ),
+    (
+        &["timewarp", "run", "a", "b", "--batch="],
+        ErrorKind::ValueValidation,
+    ),
+    // What `clap` refuses comes first.
+    (
+        &["timewarp", "new", "a", "--sectors=7"],
+        ErrorKind::MissingRequiredArgument,
+    ),
+    (
         &["timewarp", "new", "a", "--sectors=131073", "--", "--large"],
         ErrorKind::ValueValidation,
     ),
@@ -920,6 +937,51 @@ const REFUSED: [(&[&str], ErrorKind); 85] = [
 fn wrong_words_are_refused_with_the_kind_of_mistake(rt: HostRuntime) {
     for (words, kind) in REFUSED {
         assert!(rt; is_refused_as(rt.alloc(), words, kind), "{words:?}");
+    }
+}
+
+/// Words with an invalid value, and the first line of `clap`'s text.
+const INVALID: [(&[&str], &str); 6] = [
+    (
+        &["timewarp", "run", "a", "b", "--batch=0"],
+        "error: invalid value '0' for '--batch <N>': 0 is not in 1..=4294967295\n",
+    ),
+    (
+        &["timewarp", "run", "a", "b", "--batch", "atuo"],
+        "error: invalid value 'atuo' for '--batch <N>': invalid digit found in string\n",
+    ),
+    (
+        &["timewarp", "run", "a", "b", "--batch="],
+        "error: invalid value '' for '--batch <N>': cannot parse integer from empty string\n",
+    ),
+    (
+        &["timewarp", "new", "a", "b", "--sectors", "7"],
+        "error: invalid value '7' for '--sectors <N>': 7 is not in 8..=131072\n",
+    ),
+    (
+        &["timewarp", "run", "a", "b", "--create", "--sectors=131073"],
+        "error: invalid value '131073' for '--sectors <N>': 131073 is not in 8..=131072\n",
+    ),
+    (
+        &["timewarp", "grow", "a", "b", "--sectors=4", "--large"],
+        "error: invalid value '4' for '--sectors <N>': 4 is not in 8..=16777216\n",
+    ),
+];
+
+fn is_told(alloc: Global, words: &[&str], line: &str) -> bool {
+    match read_command(alloc, TEXTS, words) {
+        Ok(_) => false,
+        Err(error) => match format!(in alloc; "{error}") {
+            Ok(text) => text.as_str().starts_with(line),
+            Err(_) => false,
+        },
+    }
+}
+
+#[test]
+fn invalid_values_are_refused_in_the_words_of_clap(rt: HostRuntime) {
+    for (words, line) in INVALID {
+        assert!(rt; is_told(rt.alloc(), words, line), "{words:?}");
     }
 }
 

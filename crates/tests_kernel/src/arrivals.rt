@@ -186,7 +186,7 @@ fn messages_and_antimessages_annihilate(rt: HostRuntime) -> Result<(), Fail> {
     let minus = Call::Arrives(signed(Sign::Minus, A)?);
     let other = Call::Arrives(signed(Sign::Plus, OTHER)?);
     let take = Call::Taken(10);
-    let scripts: [(&str, &[Step]); 6] = [
+    let scripts: [(&str, &[Step]); 3] = [
         (
             "an antimessage comes first",
             &[(minus, WAITS, (0, 0, 1)), (plus, annihilated(0), (0, 0, 0))],
@@ -209,6 +209,19 @@ fn messages_and_antimessages_annihilate(rt: HostRuntime) -> Result<(), Fail> {
                 (take, taken(5), (1, 0, 0)),
             ],
         ),
+    ];
+    for (name, steps) in scripts {
+        play(&rt, &mut InputQueue::new(rt.alloc()), steps, name)?;
+    }
+    Ok(())
+}
+
+#[test]
+fn equal_messages_annihilate_one_by_one(rt: HostRuntime) -> Result<(), Fail> {
+    let plus = Call::Arrives(signed(Sign::Plus, A)?);
+    let minus = Call::Arrives(signed(Sign::Minus, A)?);
+    let take = Call::Taken(10);
+    let scripts: [(&str, &[Step]); 3] = [
         (
             "copies that wait are counted",
             &[

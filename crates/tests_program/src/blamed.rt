@@ -9,7 +9,7 @@ use std::fs::{self, File, Permissions};
 use std::net::Net;
 use std::os::unix::fs::PermissionsExt;
 use std::process::{Abort, Processes};
-use std::rt::{Clock, Files};
+use std::rt::{Clock, CpuClock, Files};
 use std::test::Fail;
 
 /// Commands that end with `File`, and the end of what the terminal shows then. `@` at the start of
@@ -170,7 +170,7 @@ fn words_of(alloc: Global, line: &str, folder: &str) -> Result<Vec<String>, Allo
 /// terminal shows.
 fn shown<R>(rt: &R, words: &[String]) -> (u8, Vec<u8>, Vec<u8>)
 where
-    R: Files<File = File> + Net + Processes + Clock + AllocGlobal,
+    R: Files<File = File> + Net + Processes + Clock + CpuClock + AllocGlobal,
 {
     let mut out = Vec::new(rt.alloc());
     let mut err = Vec::new(rt.alloc());
@@ -190,7 +190,7 @@ where
 /// Checks that a command ends with `File`, and that the terminal shows this cause.
 fn look_at_cause<R>(rt: &R, line: &str, cause: &str, folder: &str) -> Result<(), Fail>
 where
-    R: Files<File = File> + Net + Processes + Clock + Abort + AllocGlobal,
+    R: Files<File = File> + Net + Processes + Clock + CpuClock + Abort + AllocGlobal,
 {
     let words = words_of(rt.alloc(), line, folder)?;
     let cause = filled(rt.alloc(), cause, folder)?;
@@ -224,7 +224,7 @@ fn begin(rt: &HostRuntime) -> Result<String, Fail> {
 /// Makes files that are no disks of the ring, and a disk of the ring.
 fn make_disks<R>(rt: &R, folder: &str) -> Result<(), Fail>
 where
-    R: Files<File = File> + Net + Processes + Clock + Abort + AllocGlobal,
+    R: Files<File = File> + Net + Processes + Clock + CpuClock + Abort + AllocGlobal,
 {
     for (name, bytes) in [
         ("@/short", 100),

@@ -10,7 +10,7 @@ use std::fs::{self, File};
 use std::io::{self, Error, ErrorKind, Write};
 use std::net::Net;
 use std::process::{Abort, Processes};
-use std::rt::{Clock, Env, Files};
+use std::rt::{Clock, CpuClock, Env, Files};
 use std::test::Fail;
 use terminal::Cause;
 
@@ -100,7 +100,7 @@ fn words_of<'a>(
 /// Runs a command whose last flush may be refused, and checks its result. Returns what it wrote.
 fn taken_of<R>(rt: &R, stage: &Stage, line: &str, refuses: bool) -> Result<Vec<u8>, Fail>
 where
-    R: Files<File = File> + Net + Processes + Clock + Abort + AllocGlobal,
+    R: Files<File = File> + Net + Processes + Clock + CpuClock + Abort + AllocGlobal,
 {
     let words = words_of(rt.alloc(), line, stage)?;
     let mut out = CountingWriter {
@@ -126,7 +126,7 @@ where
 /// Runs all commands. Returns what they wrote.
 fn all_taken<R>(rt: &R, refuses: bool) -> Result<Vec<u8>, Fail>
 where
-    R: Files<File = File> + Net + Processes + Clock + Env + Abort + AllocGlobal,
+    R: Files<File = File> + Net + Processes + Clock + CpuClock + Env + Abort + AllocGlobal,
 {
     let stage = begin(rt)?;
     let mut all = Vec::new(rt.alloc());
@@ -305,7 +305,7 @@ finished
 /// Runs on a new disk. Returns what it reports.
 fn course_of<R>(rt: &R, stage: &Stage, line: &str) -> Result<Vec<u8>, Fail>
 where
-    R: Files<File = File> + Net + Processes + Clock + Abort + AllocGlobal,
+    R: Files<File = File> + Net + Processes + Clock + CpuClock + Abort + AllocGlobal,
 {
     let _ = taken_of(rt, stage, LINES[0], false)?;
     let mut course = Course {

@@ -9,6 +9,8 @@ mod buffered;
 #[cfg(test)]
 mod flushing;
 #[cfg(test)]
+mod hints;
+#[cfg(test)]
 mod memory;
 #[cfg(test)]
 mod names;
@@ -16,6 +18,8 @@ mod names;
 mod running;
 #[cfg(test)]
 mod shown;
+#[cfg(test)]
+mod verified;
 #[cfg(test)]
 mod words;
 #[cfg(test)]

@@ -9,7 +9,7 @@ use std::alloc::Global;
 use std::fs::{self, File};
 use std::net::Net;
 use std::process::Processes;
-use std::rt::{Clock, Files};
+use std::rt::{Clock, CpuClock, Files};
 use std::test::Fail;
 
 /// Runs the ring by `seq`.
@@ -39,7 +39,7 @@ fn is_short(outcome: &Printed) -> bool {
 }
 
 /// Runs a command, and once more if it ran out of memory.
-fn run_again<R: Files<File = File> + Net + Processes + Clock + AllocGlobal>(
+fn run_again<R: Files<File = File> + Net + Processes + Clock + CpuClock + AllocGlobal>(
     rt: &R,
     words: &[&str],
 ) -> Result<Printed, Fail> {

@@ -140,6 +140,11 @@ fn disk_and_log_faults_have_names(rt: HostRuntime) -> Result<(), Fail> {
         NoMemory => "NoMemory",
         Spent => "Spent",
     });
+    Ok(())
+}
+
+#[test]
+fn recovery_and_upkeep_faults_have_names(rt: HostRuntime) -> Result<(), Fail> {
     check_names!(rt; RecoveryFault {
         OtherModel => "OtherModel",
         BadRecord => "BadRecord",

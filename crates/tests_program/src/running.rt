@@ -9,7 +9,7 @@ use std::io::Write;
 use std::net::Net;
 use std::path::PathBuf;
 use std::process::Processes;
-use std::rt::{Clock, Env, Files};
+use std::rt::{Clock, CpuClock, Env, Files};
 use std::test::Fail;
 use texts::ANY_MODEL_KEYS;
 
@@ -45,7 +45,7 @@ pub struct Printed {
 /// Runs a command with these writers and without a terminal. Returns the exit status.
 pub fn run_to<R, O, E>(rt: &R, words: &[&str], out: &mut O, err: &mut E) -> u8
 where
-    R: Files<File = File> + Net + Processes + Clock + AllocGlobal,
+    R: Files<File = File> + Net + Processes + Clock + CpuClock + AllocGlobal,
     O: Write,
     E: Write,
 {
@@ -56,7 +56,7 @@ where
 /// Runs a command with two writers that need no further memory.
 pub fn run<R>(rt: &R, words: &[&str]) -> Result<Printed, Fail>
 where
-    R: Files<File = File> + Net + Processes + Clock + AllocGlobal,
+    R: Files<File = File> + Net + Processes + Clock + CpuClock + AllocGlobal,
 {
     let mut out = Vec::with_capacity(rt.alloc(), 8192)?;
     let mut err = Vec::with_capacity(rt.alloc(), 8192)?;

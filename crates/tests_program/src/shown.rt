@@ -10,7 +10,7 @@ use program::{Fault, Progress, TerminalProgress};
 use recovery::RecoveryFault;
 use std::io::Result as IoResult;
 use std::test::Fail;
-use std::time::{Clock, Duration};
+use std::time::{Clock, CpuClock, Duration};
 use texts::Mistake;
 use wire::{PortFault, WireFault};
 
@@ -32,6 +32,17 @@ impl Clock for Ticking {
         let looks = self.looks.get();
         self.looks.set(looks.saturating_add(1));
         Ok(Duration::from_secs(1_000_000_u64.saturating_sub(u64::from(looks))))
+    }
+}
+
+// A program that only waits.
+impl CpuClock for Ticking {
+    fn thread_cpu_time(&self) -> IoResult<Duration> {
+        Ok(Duration::ZERO)
+    }
+
+    fn process_cpu_time(&self) -> IoResult<Duration> {
+        Ok(Duration::ZERO)
     }
 }
 

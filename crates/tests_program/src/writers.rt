@@ -8,7 +8,7 @@ use std::fs::{self, File};
 use std::io::{self, Error, ErrorKind, Write};
 use std::net::Net;
 use std::process::Processes;
-use std::rt::{Clock, Files};
+use std::rt::{Clock, CpuClock, Files};
 use std::test::Fail;
 
 /// A writer that refuses the call number `fail`; flushes count too.
@@ -79,7 +79,7 @@ enum Source<'a> {
 /// Runs a model sequentially with these writers. Returns the exit status.
 fn seq_to<R, O>(rt: &R, source: Source<'_>, out: &mut O, err: &mut Vec<u8>) -> u8
 where
-    R: Files<File = File> + Net + Processes + Clock + AllocGlobal,
+    R: Files<File = File> + Net + Processes + Clock + CpuClock + AllocGlobal,
     O: Write,
 {
     match source {
@@ -95,7 +95,7 @@ where
 /// and the result.
 fn seq_refused<R>(rt: &R, source: Source<'_>, fail: usize) -> Result<(bool, Printed), Fail>
 where
-    R: Files<File = File> + Net + Processes + Clock + AllocGlobal,
+    R: Files<File = File> + Net + Processes + Clock + CpuClock + AllocGlobal,
 {
     let mut out = Refusing::at(rt.alloc(), fail)?;
     let mut err = Vec::with_capacity(rt.alloc(), 512)?;

@@ -1,5 +1,6 @@
 // Model files of models by rules.
 
+use model::Model as Simulated;
 use rule_files::FileModel;
 use std::test::Fail;
 use texts::{Described, Report, find_mistakes, read_model};
@@ -30,7 +31,7 @@ fn a_file_is_read_or_its_mistakes_are_found(rt: HostRuntime) -> Result<(), Fail>
         ),
         (
             "model = 'rules'\nlps = 2\nend = 9\nstate = []\n[tables]\nt = []\n",
-            "  tables: a table; expected names with lists of one or more numbers, at most 1048576 in all\n",
+            "  tables: a table; expected at most 1024 names with lists of one or more numbers, at most 1048576 in all\n",
         ),
     ];
     for (keys, mistakes) in rows {
@@ -244,3 +245,108 @@ fn a_model_has_the_names_of_its_words(rt: HostRuntime) -> Result<(), Fail> {
     assert_eq!(rt; names.as_str(), "n key m job");
     Ok(())
 }
+
+/// Rules, and how they are laid out.
+const LAID_OUT: [(&str, &str); 11] = [
+    ("", ""),
+    ("n=(1+2)+3*(4*5)", "    n = 1 + 2 + 3 * (4 * 5)\n"),
+    ("n = 1+(2+3)-(4-5-6)", "    n = 1 + (2 + 3) - (4 - 5 - 6)\n"),
+    ("n = (1 < 2) == (3 != 4)", "    n = (1 < 2) == (3 != 4)\n"),
+    (
+        "n = ((1 | 2) ^ (3 & 4)) << (m >> 1) >> 2 || (1 && (2 || 3))",
+        "    n = ((1 | 2) ^ 3 & 4) << (m >> 1) >> 2 || 1 && (2 || 3)\n",
+    ),
+    (
+        "n = !!(m) + !(m + 1) * min((1), max(2 || 3, 4)) % (5 / 6)",
+        "    n = !!m + !(m + 1) * min(1, max(2 || 3, 4)) % (5 / 6)\n",
+    ),
+    (
+        "n = (ticks[(job)])>=draw(jobs)&&(n<=self)&&(sender>now)",
+        "    n = ticks[job] >= draw(3) && n <= self && sender > now\n",
+    ),
+    (
+        "send to b after c with 0, d, 0, 0 send to 1 after lps send to 1 after 2 with 0, 0, 0, n",
+        "    \
+send to b after c with 0, d
+    send to 1 after lps
+    send to 1 after 2 with 0, 0, 0, n
+",
+    ),
+    (
+        "if n { let x = 1 m = x } let y = 2 let x = y repeat k 3 { let z = k + x n = z } repeat z 2 { n = z + y }",
+        "    \
+if n {
+        let x = 1
+        m = x
+    }
+    let y = 2
+    let x = y
+    repeat k 3 {
+        let z = k + x
+        n = z
+    }
+    repeat z 2 {
+        n = z + y
+    }
+",
+    ),
+    (
+        "if n { if m {} else { n = 1 } } else { if m { n = 2 } else { if n { } } }",
+        "    \
+if n {
+        if m {
+        } else {
+            n = 1
+        }
+    } else if m {
+        n = 2
+    } else if n {
+    }
+",
+    ),
+    (
+        "if n { } else { if m { let x = 2 } m = 3 } let x = 4",
+        "    \
+if n {
+    } else {
+        if m {
+            let x = 2
+        }
+        m = 3
+    }
+    let x = 4
+",
+    ),
+];
+
+#[test]
+fn a_rule_is_laid_out_and_reads_again_as_the_same_model(rt: HostRuntime) -> Result<(), Fail> {
+    let alloc = rt.alloc();
+    for (rule, laid_out) in LAID_OUT {
+        let text = format!(in alloc; "{KEYS}[rules]\nstart = '{rule}'\nhandle = '{rule}'\n")?;
+        let (model, end): (FileModel, u64) = read_model(alloc, text.as_str())?;
+        let expected = format!(in alloc; "{KEYS_PRINTED}start:\n{laid_out}handle:\n{laid_out}")?;
+        assert_eq!(rt; model.values(alloc, end)?.as_str(), expected.as_str());
+        let again = format!(in alloc;
+            "{KEYS}[rules]\nstart = '''{laid_out}'''\nhandle = '''\n{laid_out}'''\n"
+        )?;
+        let (other, _end): (FileModel, u64) = read_model(alloc, again.as_str())?;
+        assert_eq!(rt; other.values(alloc, end)?.as_str(), expected.as_str());
+        let same = model.identity(alloc).as_slice() == other.identity(alloc).as_slice();
+        assert!(rt; same);
+    }
+    Ok(())
+}
+
+/// What is printed of `KEYS`.
+const KEYS_PRINTED: &str = "\
+model: rules
+lps: 2
+end: 9
+words of state: 3
+tables: 1
+state: n key m
+message: job b c d
+number jobs: 3
+table ticks (2): 1 2
+";

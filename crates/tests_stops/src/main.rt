@@ -6,6 +6,8 @@
 
 ghost use Rattle.std.specs.Prelude.{◌≡◌, ◌≤◌, ◌<◌, ◌^◌, IfOk};
 
+#[cfg(test)]
+mod long;
 mod world;
 
 use commands::{CommandFault, log, show};
@@ -56,7 +58,7 @@ enum Loss {
 /// Why the program stopped: a violation, or a failure of its own.
 #[derive(Debug, Drop, Error)]
 enum Failure {
-    #[error("usage: tests_stops [--all | --stops] MODEL SECTORS .., paths of model files and sizes of their disks")]
+    #[error("usage: tests_stops [--all] MODEL SECTORS .., paths of model files and sizes of their disks")]
     Usage,
     #[error("{0}")]
     Model(ModelFault),
@@ -492,6 +494,26 @@ enum At {
     Operation,
 }
 
+impl At {
+    /// Every one of them.
+    fn each(self) -> Failures {
+        Failures {
+            at: self,
+            first: 0,
+            step: 1,
+        }
+    }
+}
+
+/// The operations at which a disk fails, one in each run: this one, and each that is `step` after
+/// the one before.
+#[derive(Clone, Copy)]
+struct Failures {
+    at: At,
+    first: u64,
+    step: u64,
+}
+
 /// What a crash leaves in each dirty sector: the synced content, the last written one, a fill, or
 /// the first bytes of what was written.
 const TEARINGS: &[Torn] = &[
@@ -502,9 +524,6 @@ const TEARINGS: &[Torn] = &[
     Torn::Cut(1),
     Torn::Cut(100),
 ];
-
-/// Some of them, for the stops of long runs.
-const SOME_TEARINGS: &[Torn] = &[Torn::Old, Torn::New, Torn::Fill(1)];
 
 /// How often disks failed, and from how many different images runs were resumed.
 #[derive(Clone, Copy, Default)]
@@ -522,12 +541,12 @@ impl Counts {
     }
 }
 
-/// Lets a disk fail at each of its writes or operations in turn, and crashes it in these ways.
+/// Lets a disk fail at each of these writes or operations in turn, and crashes it in these ways.
 fn stops(
     alloc: Global,
     of: &ModelWithPlainRun,
     way: Way,
-    at: At,
+    failures: Failures,
     tearings: &[Torn],
 ) -> Result<Counts, Failure>
     requires some { 0 < way.nodes }
@@ -539,8 +558,11 @@ fn stops(
     requires short { of.now.end ≤ 2 ^ 40 }
 {
     let mut counts = Counts::default();
-    for number in 0..u64::MAX {
-        let plan = match at {
+    for turn in 0..u64::MAX {
+        let number = failures
+            .first
+            .saturating_add(turn.saturating_mul(failures.step));
+        let plan = match failures.at {
             At::Write => DiskPlan {
                 fail: None,
                 stop: Some(number),
@@ -604,16 +626,6 @@ const SOME_WAYS: Ways<'static> = &[(7, 1)];
 
 const SOME_USUAL_WAYS: Ways<'static> = &[(16, 0)];
 
-/// The nodes, the nodes of the resumed run, and the batch.
-const LONG_WAYS: [(u32, u32, u32); 6] = [
-    (1, 2, 1),
-    (1, 5, 7),
-    (2, 5, 1),
-    (2, 1, 7),
-    (5, 1, 1),
-    (5, 2, 7),
-];
-
 /// Lets disks of runs over this number of nodes fail, resumes the runs over the other number, in
 /// each of these ways, and prints the counts.
 fn all_ways(
@@ -640,32 +652,10 @@ fn all_ways(
             batch: *batch,
             checkpoint_every: *checkpoint_every,
         };
-        let writes = stops(alloc, of, way, At::Write, TEARINGS)?;
-        let operations = stops(alloc, of, way, At::Operation, TEARINGS)?;
+        let writes = stops(alloc, of, way, At::Write.each(), TEARINGS)?;
+        let operations = stops(alloc, of, way, At::Operation.each(), TEARINGS)?;
         print_counts(rt, of, way, writes, operations)?;
         total = total.and(writes).and(operations);
-    }
-    Ok(total)
-}
-
-/// Lets disks of runs over 1, 2 and 5 nodes without checkpoints stop at each write, and resumes the
-/// runs over other numbers of nodes.
-fn long_stops(rt: &HostRuntime, alloc: Global, of: &ModelWithPlainRun) -> Result<Counts, Failure>
-    requires begun { 1 ≤ of.now.first }
-    requires order { of.now.first ≤ of.now.end }
-    requires short { of.now.end ≤ 2 ^ 40 }
-{
-    let mut total = Counts::default();
-    for (nodes, resumed, batch) in LONG_WAYS {
-        let way = Way {
-            nodes,
-            resumed,
-            batch,
-            checkpoint_every: 0,
-        };
-        let writes = stops(alloc, of, way, At::Write, SOME_TEARINGS)?;
-        print_counts(rt, of, way, writes, Counts::default())?;
-        total = total.and(writes);
     }
     Ok(total)
 }
@@ -708,6 +698,20 @@ fn read_simulation(
 {
     let bytes = fs::read(rt, path).map_err(|_| Failure::Usage)?;
     let text = str::from_utf8(bytes.as_slice()).map_err(|_| Failure::Usage)?;
+    simulation_of(alloc, text, sectors, is_extended)
+}
+
+/// The simulation of a model file's text, and a disk of this size for its end or for half of it.
+fn simulation_of(
+    alloc: Global,
+    text: &str,
+    sectors: u32,
+    is_extended: bool,
+) -> Result<ModelWithPlainRun, Failure>
+    ensures begun { IfOk result (λ of. 1 ≤ of.first) }
+    ensures order { IfOk result (λ of. of.first ≤ of.end) }
+    ensures short { IfOk result (λ of. of.end ≤ 2 ^ 40) }
+{
     let (model, end) = match read_model::<AnyModel>(alloc, text) {
         Ok(file) => file,
         Err(fault) => return Err(Failure::Model(fault)),
@@ -755,8 +759,6 @@ enum Extent {
     Some,
     /// Both in all ways.
     All,
-    /// Only stops of long runs on disks made for its end.
-    Stops,
 }
 
 /// Tries the runs of a model file.
@@ -768,9 +770,6 @@ fn try_file(
     extent: Extent,
 ) -> Result<Counts, Failure> {
     let of = read_simulation(rt, alloc, path, sectors, false)?;
-    if extent == Extent::Stops {
-        return long_stops(rt, alloc, &of);
-    }
     let total = try_model(rt, alloc, &of, WAYS, USUAL_WAYS)?;
     let of = read_simulation(rt, alloc, path, sectors, true)?;
     let (ways, usual_ways) = if extent == Extent::All {
@@ -793,10 +792,6 @@ fn main(rt: HostRuntime) -> Result<(), Failure> {
         };
         if path.as_str() == "--all" {
             extent = Extent::All;
-            continue;
-        }
-        if path.as_str() == "--stops" {
-            extent = Extent::Stops;
             continue;
         }
         let Some(sectors) = words.next() else {

@@ -6,7 +6,7 @@ use Rattle.node.specs.Kept.{HasHistories}
 use Rattle.node.specs.declared.Load.{Load}
 use Rattle.node.specs.declared.NodeFault.TheVariants as node
 use Rattle.node.specs.declared.Parcel.{Parcel}
-use Rattle.wire.specs.Port.{PortState, Stage, nobody}
+use Rattle.wire.specs.Port.{PortState, Stage, faults_of_node, nobody}
 use Rattle.wire.specs.Port.Stage.{Ended as AtEnd, Fresh as AtFirst, Idle as AtRest}
 use Rattle.wire.specs.Port.Stage.{Posted as AtWork}
 use Rattle.wire.specs.declared.local.Held.{Held}
@@ -32,8 +32,13 @@ local_node (Posted node parcel) = node
 local_node Ended = nobody
 
 abbrev pub state_of : Meaning → Held → PortState
-state_of m held =
-    record { stage = stage_of held; faithful = true; meaning = m; node = local_node held }
+state_of m held = record {
+  stage = stage_of held;
+  faithful = true;
+  resource_faults = faults_of_node;
+  meaning = m;
+  node = local_node held;
+}
 
 -- the same, with the meaning of the port's model
 abbrev pub state_by : {M : Type 0} → (M → Meaning) → Local M → PortState

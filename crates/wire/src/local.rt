@@ -106,7 +106,7 @@ impl<'m, M: Simulated> Port for LocalPort<'m, M> {
         ensures ok { (state_by M.meaning self.old).faithful ≡ true →
             OnOk result ((state_by M.meaning self.new).node ≡ (state_by M.meaning self.old).node) }
         ensures err { (state_by M.meaning self.old).faithful ≡ true →
-            IfErr result (λ fault. IsResourceFault fault) }
+            IfErr result (λ fault. IsResourceFault (state_by M.meaning self.old) fault) }
 
         // A parcel is never refused.
         ensures always { IsOk result }

@@ -83,7 +83,8 @@ pub enum PortFault {
 
 /// The way to one node. `load` comes first and once; then `post` and `take` alternate.
 pub trait Port {
-    /// Its stage, whether it is faithful (`faithful`), the model of its node, and the node.
+    /// Its stage, whether it is faithful (`faithful`), which resource faults its calls can have
+    /// (`resource_faults`), the model of its node, and the node.
     ghost state: { Self → PortState };
 
     /// Makes the node from a load.
@@ -107,7 +108,8 @@ pub trait Port {
         ensures same { IsSamePort (state self.old) (state self.new) }
         ensures ok { (state self.old).faithful ≡ true →
             OnOk result ((state self.new).node ≡ (state self.old).node) }
-        ensures err { (state self.old).faithful ≡ true → IfErr result (λ fault. IsResourceFault fault) };
+        ensures err { (state self.old).faithful ≡ true → IfErr result
+            (λ fault. IsResourceFault (state self.old) fault) };
 
     /// Returns the reply to the parcel. A faithful port returns what its node computes.
     fn take(&mut self) -> Result<Reply, PortFault>

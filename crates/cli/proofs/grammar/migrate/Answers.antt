@@ -8,5 +8,5 @@ returns c =
     (argument_added _ _ _ _ _ c.with_argument-command-2.ensures
     (argument_added _ _ _ _ _ c.with_argument-command.ensures c.on_model-command.ensures c.path.ensures.rule c.path.ensures.local)
     c.path-2.ensures.rule c.path-2.ensures.local)
-    c.sectors.ensures.rule c.sectors.ensures.local)
+    c.text_option-sectors.ensures.rule c.text_option-sectors.ensures.local)
     c.large_option.ensures.rule c.large_option.ensures.local

@@ -4,5 +4,5 @@ use Rattle.cli.proofs.grammar.new.Goals as goal
 pub returns : goal.returns
 returns c =
     argument_added _ _ _ _ _ c.with_argument.ensures
-    (argument_added _ _ _ _ _ c.with_argument-command.ensures c.on_disk-command.ensures c.sectors.ensures.rule c.sectors.ensures.local)
+    (argument_added _ _ _ _ _ c.with_argument-command.ensures c.on_disk-command.ensures c.text_option-sectors.ensures.rule c.text_option-sectors.ensures.local)
     c.large_option.ensures.rule c.large_option.ensures.local

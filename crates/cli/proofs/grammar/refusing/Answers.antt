@@ -6,4 +6,4 @@ use Rattle.cli.proofs.grammar.refusing.Goals as goal
 pub returns : goal.returns
 returns c =
     argument_added (Ok c.new-program.result) _ _ (new_app c.args.option.now) _ c.with_argument.ensures
-    (c.new-program.ensures.app, c.new-program.ensures.local) c.names_option.ensures.rule c.names_option.ensures.local
+    (c.new-program.ensures.app, c.new-program.ensures.local) c.choice_option-argument.ensures.rule c.choice_option-argument.ensures.local

@@ -1,7 +1,7 @@
 use Rattle.std.proofs.Common.{ap, map, drop, sym, ◌+◌, ◌∷◌, ◌≡◌, ◌∙◌}
 use Rattle.std.proofs.lemmas.List.{at_drop_all, at_drop_more}
 use Rattle.cli.specs.Command.{says_flag}
-use Rattle.cli.proofs.Autos.{flag_met, flag_more, flag_none}
+use Rattle.cli.proofs.Flags.{flag_met, flag_more, flag_none}
 use Rattle.cli.proofs.words.options_say.Goals as goal
 
 pub returns-then-decides : goal.returns-then-decides

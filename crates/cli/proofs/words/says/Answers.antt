@@ -1,6 +1,6 @@
 use Rattle.std.proofs.Common.{ap, sym, ◌∙◌}
 use Rattle.cli.specs.Command.{says_flag}
-use Rattle.cli.proofs.Autos.{behind_first, flag_none, none_behind}
+use Rattle.cli.proofs.Flags.{behind_first, flag_none, none_behind}
 use Rattle.cli.proofs.words.says.Goals as goal
 
 pub returns-then-is_empty : goal.returns-then-is_empty

@@ -1,5 +1,5 @@
-use Rattle.std.proofs.Common.{◌≡◌, ◌≤◌, ◌^◌, drop, max}
-use Rattle.pictures.specs.Course.{at_first, capped, events_before, reached}
+use Rattle.std.proofs.Common.{◌≡◌, drop, max}
+use Rattle.pictures.specs.Course.{events_before, reached}
 use Rattle.pictures.specs.declared.turns.Row.{Row}
 use Rattle.pictures.proofs.courses.reached_before.Given as goal
 

@@ -1,13 +1,20 @@
-use Rattle.std.proofs.Common.{◌*◌, arith}
-use Rattle.eventkey.proofs.Writers.{writes_as}
-use Rattle.pictures.proofs.Rounds.{slice_is}
+use Rattle.std.proofs.Common.{ap, codes}
+use Rattle.eventkey.proofs.Writers.{writes_as, writes_failed, writes_no_more, writes_then}
+use Rattle.pictures.specs.Course.{bars_of, bars_text}
 use Rattle.pictures.proofs.courses.write_slice.Goals as goal
+
+pub returns-in_err-write_title : goal.returns-in_err-write_title
+returns-in_err-write_title g c =
+    let failed = c.from_residual.ensures.0 in
+    writes_no_more (codes "</g>\n") (writes_failed c.from_residual.result (bars_text (bars_of c.args.window.now c.args.gvt c.args.most c.args.place c.args.slice.now)) c.write_title.ensures c.in_err-write_title.was failed) failed
+
+pub returns-in_err-write_bars : goal.returns-in_err-write_bars
+returns-in_err-write_bars g c =
+    let failed = c.from_residual-in_err-write_bars.ensures.0 in
+    let bars = writes_as c.write_bars.ensures (ap bars_text c.bars_at-bars.ensures) in
+    writes_failed c.from_residual-in_err-write_bars.result (codes "</g>\n") (writes_then c.write_title.ensures c.in_ok-write_title.was bars) c.in_err-write_bars.was failed
 
 pub returns : goal.returns
 returns g c =
-    writes_as c.write_filled.ensures
-    (slice_is c.args.window.now c.args.gvt c.args.most c.args.place c.args.slice.now
-    c.saturating_sub.result c.left-x.result c.width-width.result c.efficiency-efficiency.result c.pixels-far.result c.pixels-back.result
-    c.saturating_sub-2.result c.saturating_sub-3.result c.saturating_sub-4.result (8 * c.min.result)
-    (omega (arith, c.saturating_sub.ensures)) c.left-x.ensures c.width-width.ensures c.efficiency-efficiency.ensures c.pixels-far.ensures c.pixels-back.ensures
-    (omega (arith, c.saturating_sub-2.ensures)) (omega (arith, c.saturating_sub-3.ensures)) (omega (arith, c.saturating_sub-4.ensures)) (omega (arith, c.min.ensures)))
+    let bars = writes_as c.write_bars.ensures (ap bars_text c.bars_at-bars.ensures) in
+    writes_then (writes_then c.write_title.ensures c.in_ok-write_title.was bars) c.in_ok-write_bars.was c.write_text.ensures

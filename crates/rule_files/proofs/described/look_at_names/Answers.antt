@@ -14,6 +14,6 @@ returns c =
     put5 c.args.found.now c.words_at.new.self c.words_at-2.new.self c.words_at-3.new.self c.words_at-4.new.self c.words_at-5.new.self _ _ _ _ _
     (c.in_ok-words_at.ensures ∙ ap (λ r. c.args.found.now ++ words_wrong r (codes "state") (codes "a list of at most 16 names") t) c.in_ok-words.ensures)
     (c.in_ok-words_at-2.ensures ∙ ap (λ r. c.words_at.new.self ++ words_wrong r (codes "message") (codes "a list of at most 4 names") t) c.in_ok-content.ensures)
-    (c.in_ok-words_at-3.ensures ∙ ap (λ r. c.words_at-2.new.self ++ words_wrong r (codes "numbers") (codes "names with numbers from 0 to 9223372036854775807") t) c.in_ok-numbers.ensures)
-    (c.in_ok-words_at-4.ensures ∙ ap (λ r. c.words_at-3.new.self ++ words_wrong r (codes "tables") (codes "names with lists of one or more numbers, at most 1048576 in all") t) c.in_ok-tables.ensures)
+    (c.in_ok-words_at-3.ensures ∙ ap (λ r. c.words_at-2.new.self ++ words_wrong r (codes "numbers") (codes "at most 1024 names with numbers from 0 to 9223372036854775807") t) c.in_ok-numbers.ensures)
+    (c.in_ok-words_at-4.ensures ∙ ap (λ r. c.words_at-3.new.self ++ words_wrong r (codes "tables") (codes "at most 1024 names with lists of one or more numbers, at most 1048576 in all") t) c.in_ok-tables.ensures)
     (last ∙ ap (λ r. c.words_at-4.new.self ++ words_wrong r (codes "state") (codes "names that are nowhere else in state, message, numbers and tables") t) fit))

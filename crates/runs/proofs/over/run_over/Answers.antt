@@ -3,7 +3,7 @@ use Rattle.coordinator.proofs.Resuming.{driven-on}
 use Rattle.coordinator.proofs.Begun.{recovers-genuine}
 use Rattle.coordinator.specs.Session.{system_of, running}
 use Rattle.runs.proofs.Drives.{answered, front_upto, goes_by, in_transit, shaped_by}
-use Rattle.runs.specs.Driver.{AreRounds}
+use Rattle.runs.specs.Driver.{AreRoundsOfRun}
 use Rattle.runs.proofs.Kept.{comes_to, keeps, stopped_at}
 use Rattle.runs.proofs.Unfinished.{unfinished}
 use Rattle.runs.specs.declared.rounds.RunFault.TheVariants.{Rounds, Session, Stopped}
@@ -27,7 +27,7 @@ returns-clause-over g c = elim c.match-run_session.branch [
           last = c.run_session.new.session;
           same = (c.in-Ok.ensures.same.0, c.in-Ok.ensures.same.1);
           replayed = c.in-Ok.ensures.replayed;
-          driven = shaped_by g.M.Model.meaning g.P.Port.state g.D.SectorDisk.state _ (AreRounds c.args.plan c.args.end w.in-Ok-run_session.ensures.in_rounds.1 w.in-Ok-run_session.ensures.in_rounds.0) c.in-Ok.session c.run_session.new.session (λ ks is. is.0) w.in-Ok-run_session.ensures.in_rounds.3;
+          driven = shaped_by g.M.Model.meaning g.P.Port.state g.D.SectorDisk.state _ (AreRoundsOfRun c.args.plan c.args.end w.in-Ok-run_session.ensures.in_rounds.1 w.in-Ok-run_session.ensures.in_rounds.0) c.in-Ok.session c.run_session.new.session (λ ks is. is.0) w.in-Ok-run_session.ensures.in_rounds.3;
           front_is = refl;
           left = c.into_disk.ensures;
         };

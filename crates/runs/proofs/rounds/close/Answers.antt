@@ -11,8 +11,8 @@ pub returns-in_ok-commit-clause-driven : goal.returns-in_ok-commit-clause-driven
 returns-in_ok-commit-clause-driven g c = λ reported is.
     let due = c.if-is_due.ensures ∙ due_so c.args.round.plan c.args.round.end c.args.round.last reported c.args.tally.now.floor c.args.tally.now.events_until_commit c.missing_events-missing.result is c.missing_events-missing.ensures in
     shaped_by g.M.Model.meaning g.P.Port.state g.D.SectorDisk.state
-    (λ (made : List Made). (moves_of made ≡ Commit ∷ kept_after c.args.round.plan.checkpoint_every (c.args.tally.now.commits + 1)) × IsTallied c.args.round.plan.commit_every c.args.tally.now c.commit.new.tally made)
-    (λ (made : List Made). (moves_of made ≡ closing_of c.args.round reported c.args.tally.now.floor c.args.tally.now.commits) × IsTallied c.args.round.plan.commit_every c.args.tally.now c.commit.new.tally made)
+    (λ (made : List Made). (moves_of made ≡ Commit ∷ kept_after c.args.round.plan.checkpoint_every (c.args.tally.now.commits + 1)) × IsTallied c.args.round.plan c.args.tally.now c.commit.new.tally made)
+    (λ (made : List Made). (moves_of made ≡ closing_of c.args.round reported c.args.tally.now.floor c.args.tally.now.commits) × IsTallied c.args.round.plan c.args.tally.now c.commit.new.tally made)
     c.args.session.now c.commit.new.session
     (λ ks h. (h.0 ∙ ap (λ (b : Bool). cond b (Commit ∷ kept_after c.args.round.plan.checkpoint_every (c.args.tally.now.commits + 1)) []) due, h.1))
     c.in_ok-commit.ensures.driven
@@ -21,7 +21,7 @@ pub returns-else-is_due-clause-driven : goal.returns-else-is_due-clause-driven
 returns-else-is_due-clause-driven g c = λ reported is.
     let due = c.if-is_due.ensures ∙ due_so c.args.round.plan c.args.round.end c.args.round.last reported c.args.tally.now.floor c.args.tally.now.events_until_commit c.missing_events-missing.result is c.missing_events-missing.ensures in
     stood_by g.M.Model.meaning g.P.Port.state g.D.SectorDisk.state _ c.args.session.now
-    (ap (λ (b : Bool). cond b (Commit ∷ kept_after c.args.round.plan.checkpoint_every (c.args.tally.now.commits + 1)) []) due, none_tallied c.args.round.plan.commit_every c.args.tally.now)
+    (ap (λ (b : Bool). cond b (Commit ∷ kept_after c.args.round.plan.checkpoint_every (c.args.tally.now.commits + 1)) []) due, none_tallied c.args.round.plan c.args.tally.now)
 
 pub returns-in_err-commit-clause-refused : goal.returns-in_err-commit-clause-refused
 returns-in_err-commit-clause-refused g c = λ reported is fault e.

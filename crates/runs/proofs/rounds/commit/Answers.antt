@@ -14,13 +14,13 @@ use Rattle.runs.proofs.rounds.commit.Goals as goal
 pub returns-clause-driven : goal.returns-clause-driven
 returns-clause-driven g c =
     on_ok c.keep.result
-    (then_by g.M.Model.meaning g.P.Port.state g.D.SectorDisk.state (λ (made : List Made). (moves_of made ≡ Commit ∷ []) × IsTallied c.args.plan.commit_every c.args.tally.now c.committed.new.self made)
+    (then_by g.M.Model.meaning g.P.Port.state g.D.SectorDisk.state (λ (made : List Made). (moves_of made ≡ Commit ∷ []) × IsTallied c.args.plan c.args.tally.now c.committed.new.self made)
     (λ (made : List Made). (moves_of made ≡ kept_after c.args.plan.checkpoint_every c.commits.result) × CountsNothing made)
-    (λ (made : List Made). (moves_of made ≡ Commit ∷ kept_after c.args.plan.checkpoint_every (c.args.tally.now.commits + 1)) × IsTallied c.args.plan.commit_every c.args.tally.now c.committed.new.self made)
+    (λ (made : List Made). (moves_of made ≡ Commit ∷ kept_after c.args.plan.checkpoint_every (c.args.tally.now.commits + 1)) × IsTallied c.args.plan c.args.tally.now c.committed.new.self made)
     c.args.session.now c.step.new.self c.keep.new.session
-    (λ ks ls. commit_kept c.args.plan.commit_every c.args.plan.checkpoint_every c.commits.result c.args.tally.now c.committed.new.self ks ls (c.commits.ensures ∙ c.committed.ensures.commits))
+    (λ ks ls. commit_kept c.args.plan c.args.plan.checkpoint_every c.commits.result c.args.tally.now c.committed.new.self ks ls (c.commits.ensures ∙ c.committed.ensures.commits))
     (one_step_by g.M.Model.meaning g.P.Port.state g.D.SectorDisk.state _ _ c.in_ok-step.field-0 c.args.session.now c.step.new.self
-    (refl, record { events_until_commit = λ reported is. omega (arith, c.committed.ensures.events_until_commit); commits = c.committed.ensures.commits; outstanding = c.committed.ensures.outstanding; handled = not_counted c.args.tally.now.handled_per_node.items c.committed.new.self.handled_per_node.items c.committed.ensures.handled }) c.in_ok-step.ensures)) c.keep.ensures.driven
+    (refl, record { events_until_commit = λ reported is. omega (arith, c.committed.ensures.events_until_commit); commits = c.committed.ensures.commits; outstanding = c.committed.ensures.outstanding; budgets = c.committed.ensures.budgets; budgeted = (tt, tt); handled = not_counted c.args.tally.now.handled_per_node.items c.committed.new.self.handled_per_node.items c.committed.ensures.handled }) c.in_ok-step.ensures)) c.keep.ensures.driven
 
 pub returns-clause-keeps : goal.returns-clause-keeps
 returns-clause-keeps g c =

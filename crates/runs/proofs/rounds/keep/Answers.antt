@@ -10,7 +10,7 @@ use Rattle.runs.proofs.rounds.keep.Goals as goal
 pub returns-in_ok-step-clause-driven : goal.returns-in_ok-step-clause-driven
 returns-in_ok-step-clause-driven g c =
     one_step_by g.M.Model.meaning g.P.Port.state g.D.SectorDisk.state (λ (made : List Made). (moves_of made ≡ kept_after c.args.every c.args.number) × CountsNothing made) _ c.in_ok-step.field-0 c.args.session.now c.step.new.self
-    (ap (λ (b : Bool). cond b (Checkpoint ∷ []) []) c.if-is_kept.ensures, record { reported = λ reported. refl; commits = refl; outstanding = λ outstanding. refl; handled = λ node. refl }) c.in_ok-step.ensures
+    (ap (λ (b : Bool). cond b (Checkpoint ∷ []) []) c.if-is_kept.ensures, record { reported = λ reported. refl; commits = refl; outstanding = λ outstanding. refl; budgets = λ budgets. refl; budgeted = λ batch budgets. (tt, tt); handled = λ node. refl }) c.in_ok-step.ensures
 
 pub returns-in_err-step-clause-refused : goal.returns-in_err-step-clause-refused
 returns-in_err-step-clause-refused g c = λ fault is.

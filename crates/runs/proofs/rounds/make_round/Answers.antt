@@ -14,11 +14,11 @@ returns-clause-driven g c = λ reported is.
     let asked = c.in_ok-ask.ensures.driven in
     on_ok c.close.result
     (then_after g.M.Model.meaning g.P.Port.state g.D.SectorDisk.state _
-    (λ (made : List Made). (moves_of made ≡ closing_of c.args.round (reported_since reported asked.steps) c.ask.new.tally.floor c.ask.new.tally.commits) × IsTallied c.args.round.plan.commit_every c.ask.new.tally c.close.new.tally made)
-    (λ (made : List Made). IsRound c.args.round reported c.args.tally.now.commits c.args.tally.now.outstanding.items made × IsTallied c.args.round.plan.commit_every c.args.tally.now c.close.new.tally made)
+    (λ (made : List Made). (moves_of made ≡ closing_of c.args.round (reported_since reported asked.steps) c.ask.new.tally.floor c.ask.new.tally.commits) × IsTallied c.args.round.plan c.ask.new.tally c.close.new.tally made)
+    (λ (made : List Made). IsRound c.args.round reported c.args.tally.now.commits c.args.tally.now.outstanding.items made × IsTallied c.args.round.plan c.args.tally.now c.close.new.tally made)
     c.args.session.now c.ask.new.session c.close.new.session asked
     (λ ls closed. round_made c.args.round reported c.args.tally.now c.begin_round.new.self c.ask.new.tally c.close.new.tally asked.steps ls
-    c.begin_round.ensures.floor c.begin_round.ensures.events_until_commit c.begin_round.ensures.commits c.begin_round.ensures.outstanding c.begin_round.ensures.handled c.ask.ensures.commits asked.shape closed))
+    c.begin_round.ensures.floor c.begin_round.ensures.events_until_commit c.begin_round.ensures.commits c.begin_round.ensures.outstanding c.begin_round.ensures.budgets c.begin_round.ensures.handled c.ask.ensures.commits asked.shape closed))
     (c.close.ensures.driven (reported_since reported asked.steps) (asked.shape.tally.events_until_commit reported (c.begin_round.ensures.events_until_commit ∙ is)))
 
 pub returns-clause-keeps : goal.returns-clause-keeps

@@ -10,7 +10,7 @@ use Rattle.runs.proofs.rounds.next_turns.Goals as goal
 
 pub nodes-init : goal.nodes-init
 nodes-init g c = record {
-  driven = stood_by g.M.Model.meaning g.P.Port.state g.D.SectorDisk.state _ c.args.session.now (no_move c.args.round.plan.commit_every (AreNext c.args.round c.args.tally.now.outstanding.items 0) c.args.tally.now refl);
+  driven = stood_by g.M.Model.meaning g.P.Port.state g.D.SectorDisk.state _ c.args.session.now (no_move c.args.round.plan (AreNext c.args.round c.args.tally.now.outstanding.items 0) c.args.tally.now refl);
   commits = refl;
   sized = c.requires.sized;
 }
@@ -23,7 +23,7 @@ returns-in_err-next_turn-clause-keeps g c =
 pub nodes-preserved : goal.nodes-preserved
 nodes-preserved g c = record {
   driven = then_by g.M.Model.meaning g.P.Port.state g.D.SectorDisk.state _ _ _ c.args.session.now c.nodes.session c.next_turn.new.session
-      (both_after c.args.round.plan.commit_every (AreNext c.args.round c.args.tally.now.outstanding.items c.nodes.node) (IsNext c.args.round c.nodes.node (get_or c.nodes.tally.outstanding.items c.nodes.node None)) (AreNext c.args.round c.args.tally.now.outstanding.items (c.nodes.node + 1)) c.args.tally.now c.nodes.tally c.next_turn.new.tally (one_next_so c.args.round c.args.tally.now.outstanding.items c.nodes.tally.outstanding.items c.nodes.node))
+      (both_after c.args.round.plan (AreNext c.args.round c.args.tally.now.outstanding.items c.nodes.node) (IsNext c.args.round c.nodes.node (get_or c.nodes.tally.outstanding.items c.nodes.node None)) (AreNext c.args.round c.args.tally.now.outstanding.items (c.nodes.node + 1)) c.args.tally.now c.nodes.tally c.next_turn.new.tally (one_next_so c.args.round c.args.tally.now.outstanding.items c.nodes.tally.outstanding.items c.nodes.node))
       c.nodes.invariant.driven c.in_ok-next_turn.ensures.driven;
   commits = omega (arith, c.next_turn.ensures.commits, c.nodes.invariant.commits);
   sized = c.next_turn.ensures.sized;
@@ -32,7 +32,7 @@ nodes-preserved g c = record {
 pub returns-clause-driven : goal.returns-clause-driven
 returns-clause-driven g c =
     let whole : c.nodes.node ≡ c.args.round.plan.nodes = omega (arith, c.nodes-test.false, c.nodes.auto.node-end) in
-    subst (λ n. IsDrivenBy g.M.Model.meaning g.P.Port.state g.D.SectorDisk.state (Tallied c.args.round.plan.commit_every (AreNext c.args.round c.args.tally.now.outstanding.items n) c.args.tally.now c.nodes.tally) c.args.session.now c.nodes.session) whole c.nodes.invariant.driven
+    subst (λ n. IsDrivenBy g.M.Model.meaning g.P.Port.state g.D.SectorDisk.state (Tallied c.args.round.plan (AreNext c.args.round c.args.tally.now.outstanding.items n) c.args.tally.now c.nodes.tally) c.args.session.now c.nodes.session) whole c.nodes.invariant.driven
 
 pub returns-clause-keeps : goal.returns-clause-keeps
 returns-clause-keeps g c = driven_represents g.M.Model.meaning g.P.Port.state g.D.SectorDisk.state c.args.session.now c.nodes.session (driven_so g.M.Model.meaning g.P.Port.state g.D.SectorDisk.state _ c.args.session.now c.nodes.session c.nodes.invariant.driven)

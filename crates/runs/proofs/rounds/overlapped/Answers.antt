@@ -12,7 +12,7 @@ returns-clause-driven g c =
     let now = c.post_first.new.tally.outstanding.items in
     on_ok c.next_turns.result
     (then_by g.M.Model.meaning g.P.Port.state g.D.SectorDisk.state _ _ _ c.args.session.now c.post_first.new.session c.next_turns.new.session
-    (both_after c.args.round.plan.commit_every (AreFirst c.args.round.first c.args.round.plan) (AreNext c.args.round now c.args.round.plan.nodes) (AreAsked Overlapped c.args.round outstanding) c.args.tally.now c.post_first.new.tally c.next_turns.new.tally
+    (both_after c.args.round.plan (AreFirst c.args.round.first c.args.round.plan) (AreNext c.args.round now c.args.round.plan.nodes) (AreAsked Overlapped c.args.round outstanding) c.args.tally.now c.post_first.new.tally c.next_turns.new.tally
     (first_then_next c.args.round outstanding now)) c.in_ok-post_first.ensures.driven) c.next_turns.ensures.driven
 
 pub returns-clause-keeps : goal.returns-clause-keeps

@@ -11,11 +11,11 @@ use Rattle.runs.proofs.rounds.post.Goals as goal
 
 pub returns-clause-driven : goal.returns-clause-driven
 returns-clause-driven g c =
-    one_step_by g.M.Model.meaning g.P.Port.state g.D.SectorDisk.state (Tallied c.args.round.plan.commit_every (IsPost c.args.round.plan c.args.node) c.args.tally.now c.posted.new.self) _ c.in_ok-answer.answer c.args.session.now c.step.new.self
+    one_step_by g.M.Model.meaning g.P.Port.state g.D.SectorDisk.state (Tallied c.args.round.plan (IsPost c.args.round.plan c.args.node) c.args.tally.now c.posted.new.self) _ c.in_ok-answer.answer c.args.session.now c.step.new.self
     (record {
       shape = is_post c.args.round.plan c.args.node c.budget-budget.result c.from_vec.result _ refl
-          (all_picked c.args.round.plan.nodes c.args.node c.transit.result.now c.args.session.now.ledger.transit c.from_vec.result c.in_ok-picks.picks.items c.transit.ensures.value c.from_vec.ensures c.in_ok-picks.ensures) c.budget-budget.ensures;
-      tally = record { events_until_commit = λ reported is. c.posted.ensures.events_until_commit ∙ (c.asked.ensures.events_until_commit ∙ is); commits = omega (arith, c.posted.ensures.commits, c.asked.ensures.commits); outstanding = c.posted.ensures.outstanding ∙ ap (λ (o : List (Option ℕ)). set o c.args.node (Some (floor_in c.in_ok-answer.answer))) c.asked.ensures.outstanding; handled = not_counted c.args.tally.now.handled_per_node.items c.posted.new.self.handled_per_node.items (c.posted.ensures.handled ∙ c.asked.ensures.handled) };
+          (all_picked c.args.round.plan.nodes c.args.node c.transit.result.now c.args.session.now.ledger.transit c.from_vec.result c.in_ok-picks.picks.items c.transit.ensures.value c.from_vec.ensures c.in_ok-picks.ensures) c.budget-budget.ensures.allowed;
+      tally = record { events_until_commit = λ reported is. c.posted.ensures.events_until_commit ∙ (c.asked.ensures.events_until_commit ∙ is); commits = omega (arith, c.posted.ensures.commits, c.asked.ensures.commits); outstanding = c.posted.ensures.outstanding ∙ ap (λ (o : List (Option ℕ)). set o c.args.node (Some (floor_in c.in_ok-answer.answer))) c.asked.ensures.outstanding; budgets = c.posted.ensures.budgets ∙ c.asked.ensures.budgets; budgeted = (c.budget-budget.ensures.own, tt); handled = not_counted c.args.tally.now.handled_per_node.items c.posted.new.self.handled_per_node.items (c.posted.ensures.handled ∙ c.asked.ensures.handled) };
       floor = c.posted.ensures.floor ∙ c.asked.ensures.floor;
     }) c.in_ok-answer.ensures
 
@@ -23,4 +23,4 @@ pub returns-in_err-answer-clause-refused : goal.returns-in_err-answer-clause-ref
 returns-in_err-answer-clause-refused g c = λ fault is.
     refused_at_once g.M.Model.meaning g.P.Port.state g.D.SectorDisk.state (IsPost c.args.round.plan c.args.node) _ (AlreadyAt 0) [] c.args.session.now c.step.new.self c.in_err-answer.field-0.0 fault
     (is_post c.args.round.plan c.args.node c.budget-budget.result c.from_vec.result _ refl
-    (all_picked c.args.round.plan.nodes c.args.node c.transit.result.now c.args.session.now.ledger.transit c.from_vec.result c.in_ok-picks.picks.items c.transit.ensures.value c.from_vec.ensures c.in_ok-picks.ensures) c.budget-budget.ensures) (of_step c.from_residual-in_err-answer.result c.in_err-answer.field-0.0 fault c.from_residual-in_err-answer.ensures.1 is) c.in_err-answer.ensures
+    (all_picked c.args.round.plan.nodes c.args.node c.transit.result.now c.args.session.now.ledger.transit c.from_vec.result c.in_ok-picks.picks.items c.transit.ensures.value c.from_vec.ensures c.in_ok-picks.ensures) c.budget-budget.ensures.allowed) (of_step c.from_residual-in_err-answer.result c.in_err-answer.field-0.0 fault c.from_residual-in_err-answer.ensures.1 is) c.in_err-answer.ensures

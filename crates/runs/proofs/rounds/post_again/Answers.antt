@@ -8,12 +8,12 @@ use Rattle.runs.proofs.rounds.post_again.Goals as goal
 
 pub returns-in_ok-post-clause-driven : goal.returns-in_ok-post-clause-driven
 returns-in_ok-post-clause-driven g c =
-    subst (λ (b : Bool). IsDrivenBy g.M.Model.meaning g.P.Port.state g.D.SectorDisk.state (Tallied c.args.round.plan.commit_every (IsPostIf b c.args.round.plan c.args.node) c.args.tally.now c.post.new.tally) c.args.session.now c.post.new.session) c.if-goes_on.ensures c.in_ok-post.ensures.driven
+    subst (λ (b : Bool). IsDrivenBy g.M.Model.meaning g.P.Port.state g.D.SectorDisk.state (Tallied c.args.round.plan (IsPostIf b c.args.round.plan c.args.node) c.args.tally.now c.post.new.tally) c.args.session.now c.post.new.session) c.if-goes_on.ensures c.in_ok-post.ensures.driven
 
 pub returns-else-goes_on-clause-driven : goal.returns-else-goes_on-clause-driven
 returns-else-goes_on-clause-driven g c =
     stood_by g.M.Model.meaning g.P.Port.state g.D.SectorDisk.state _ c.args.session.now
-    (subst (λ (b : Bool). Tallied c.args.round.plan.commit_every (IsPostIf b c.args.round.plan c.args.node) c.args.tally.now c.args.tally.now []) c.if-goes_on.ensures (no_move c.args.round.plan.commit_every (IsPostIf false c.args.round.plan c.args.node) c.args.tally.now refl))
+    (subst (λ (b : Bool). Tallied c.args.round.plan (IsPostIf b c.args.round.plan c.args.node) c.args.tally.now c.args.tally.now []) c.if-goes_on.ensures (no_move c.args.round.plan (IsPostIf false c.args.round.plan c.args.node) c.args.tally.now refl))
 
 pub returns-in_err-post-clause-refused : goal.returns-in_err-post-clause-refused
 returns-in_err-post-clause-refused g c = λ fault is.

@@ -8,12 +8,12 @@ use Rattle.runs.proofs.rounds.post_first.Goals as goal
 
 pub returns-in_ok-post_all-clause-driven : goal.returns-in_ok-post_all-clause-driven
 returns-in_ok-post_all-clause-driven g c =
-    subst (λ (b : Bool). IsDrivenBy g.M.Model.meaning g.P.Port.state g.D.SectorDisk.state (Tallied c.args.round.plan.commit_every (AreFirst b c.args.round.plan) c.args.tally.now c.post_all.new.tally) c.args.session.now c.post_all.new.session) (sym c.if-round.true) c.in_ok-post_all.ensures.driven
+    subst (λ (b : Bool). IsDrivenBy g.M.Model.meaning g.P.Port.state g.D.SectorDisk.state (Tallied c.args.round.plan (AreFirst b c.args.round.plan) c.args.tally.now c.post_all.new.tally) c.args.session.now c.post_all.new.session) (sym c.if-round.true) c.in_ok-post_all.ensures.driven
 
 pub returns-else-round-clause-driven : goal.returns-else-round-clause-driven
 returns-else-round-clause-driven g c =
     stood_by g.M.Model.meaning g.P.Port.state g.D.SectorDisk.state _ c.args.session.now
-    (subst (λ (b : Bool). Tallied c.args.round.plan.commit_every (AreFirst b c.args.round.plan) c.args.tally.now c.args.tally.now []) (sym c.if-round.false) (no_move c.args.round.plan.commit_every (AreFirst false c.args.round.plan) c.args.tally.now refl))
+    (subst (λ (b : Bool). Tallied c.args.round.plan (AreFirst b c.args.round.plan) c.args.tally.now c.args.tally.now []) (sym c.if-round.false) (no_move c.args.round.plan (AreFirst false c.args.round.plan) c.args.tally.now refl))
 
 pub returns-in_err-post_all-clause-refused : goal.returns-in_err-post_all-clause-refused
 returns-in_err-post_all-clause-refused g c = λ fault is.

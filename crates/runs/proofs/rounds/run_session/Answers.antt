@@ -2,7 +2,9 @@ use Rattle.std.proofs.Common.{◌≡◌, ◌+◌, ℕ, List, refl, ap, arith, su
 use Rattle.std.proofs.lemmas.List.{length-replicate}
 use Rattle.model.specs.World.{World}
 use Rattle.std.specs.Prelude.{None, Option}
-use Rattle.runs.specs.Driver.{AreCounts, AreRounds, IsRound, commits_in, reported_since, round_after}
+use Rattle.runs.specs.Driver.{AreCounts, AreRounds, AreRoundsOfRun, IsRound, commits_in, reported_since, round_after}
+use Rattle.runs.specs.Budgets.{first_budget}
+use Rattle.runs.specs.declared.budgets.NodeBudget.{NodeBudget}
 use Rattle.runs.specs.Tallies.{IsTallied, IsTallyOf}
 use Rattle.runs.proofs.Counts.{none_handled, round_more}
 use Rattle.runs.proofs.Drives.{all_made, driven_so, driven_represents, finished, shaped_by, stood_by, then_after, then_represents}
@@ -13,10 +15,10 @@ use Rattle.runs.proofs.rounds.run_session.Goals as goal
 pub rounds-init : goal.rounds-init
 rounds-init g c = record {
   made = (omega arith, omega arith);
-  driven = stood_by g.M.Model.meaning g.P.Port.state g.D.SectorDisk.state (λ made. AreRounds c.args.plan c.args.end c.args.plan.rounds 0 made × IsTallyOf c.args.plan.commit_every c.args.plan.nodes c.in_ok-tally.tally made) c.args.session.now (refl, record { events_until_commit = omega (arith, c.in_ok-tally.ensures.events_until_commit); commits = c.in_ok-tally.ensures.commits; outstanding = c.in_ok-tally.ensures.outstanding; handled = none_handled c.args.plan.nodes c.in_ok-tally.tally.handled_per_node.items c.in_ok-tally.ensures.handled });
+  driven = stood_by g.M.Model.meaning g.P.Port.state g.D.SectorDisk.state (λ made. AreRounds c.args.plan c.args.end c.args.plan.rounds 0 made × IsTallyOf c.args.plan c.in_ok-tally.tally made) c.args.session.now (refl, record { events_until_commit = omega (arith, c.in_ok-tally.ensures.events_until_commit); commits = c.in_ok-tally.ensures.commits; outstanding = c.in_ok-tally.ensures.outstanding; budgets = c.in_ok-tally.ensures.budgets; budgeted = tt; handled = none_handled c.args.plan.nodes c.in_ok-tally.tally.handled_per_node.items c.in_ok-tally.ensures.handled });
   commits = omega (arith, c.in_ok-tally.ensures.commits);
   sized = record {
-    budgets = c.in_ok-tally.ensures.budgets;
+    budgets = ap length c.in_ok-tally.ensures.budgets ∙ length-replicate {A = NodeBudget} c.args.plan.nodes first_budget;
     outstanding = ap length c.in_ok-tally.ensures.outstanding ∙ length-replicate {A = Option ℕ} c.args.plan.nodes None;
     turns = c.in_ok-tally.ensures.turns;
     handled = ap length c.in_ok-tally.ensures.handled ∙ length-replicate {A = ℕ} c.args.plan.nodes 0;
@@ -33,8 +35,8 @@ rounds-preserved g c =
     let now = rounds_before c.args.plan c.args.end c.rounds.last last c.rounds.made before.steps (omega (arith, c.if-made-last.false)) c.last_round-last.ensures.later before.shape.0 in
     record {
       made = (omega (arith, c.last_round-last.ensures.later), omega (arith, c.last_round-last.ensures.none_more, c.rounds.invariant.made.1));
-      driven = then_after g.M.Model.meaning g.P.Port.state g.D.SectorDisk.state _ (λ made. IsRound (round_after c.args.plan c.args.end last c.rounds.made) (reported_since 0 before.steps) c.rounds.tally.commits c.rounds.tally.outstanding.items made × IsTallied c.args.plan.commit_every c.rounds.tally c.make_round.new.tally made)
-          (λ made. AreRounds c.args.plan c.args.end last (c.rounds.made + 1) made × IsTallyOf c.args.plan.commit_every c.args.plan.nodes c.make_round.new.tally made)
+      driven = then_after g.M.Model.meaning g.P.Port.state g.D.SectorDisk.state _ (λ made. IsRound (round_after c.args.plan c.args.end last c.rounds.made) (reported_since 0 before.steps) c.rounds.tally.commits c.rounds.tally.outstanding.items made × IsTallied c.args.plan c.rounds.tally c.make_round.new.tally made)
+          (λ made. AreRounds c.args.plan c.args.end last (c.rounds.made + 1) made × IsTallyOf c.args.plan c.make_round.new.tally made)
           c.args.session.now c.rounds.session c.make_round.new.session before
           (λ ls round. round_more c.args.plan c.args.end last c.rounds.made c.rounds.tally c.make_round.new.tally before.steps ls (now, before.shape.1) round)
           (c.in_ok-make_round.ensures.driven (reported_since 0 before.steps) before.shape.1.events_until_commit);
@@ -53,8 +55,8 @@ returns-clause-in_rounds g c = (
   c.rounds.made,
   c.rounds.last,
   c.rounds.invariant.made,
-  shaped_by g.M.Model.meaning g.P.Port.state g.D.SectorDisk.state _ (λ made. AreRounds c.args.plan c.args.end c.rounds.last c.rounds.made made × AreCounts c.into_handled_per_node.result.items made) c.args.session.now c.rounds.session
-      (λ ks is. (is.0, subst (λ (counts : List ℕ). AreCounts counts ks) (sym c.into_handled_per_node.ensures) is.1.handled)) c.rounds.invariant.driven,
+  shaped_by g.M.Model.meaning g.P.Port.state g.D.SectorDisk.state _ (λ made. AreRoundsOfRun c.args.plan c.args.end c.rounds.last c.rounds.made made × AreCounts c.into_handled_per_node.result.items made) c.args.session.now c.rounds.session
+      (λ ks is. ((is.0, is.1.budgeted), subst (λ (counts : List ℕ). AreCounts counts ks) (sym c.into_handled_per_node.ensures) is.1.handled)) c.rounds.invariant.driven,
 )
 
 pub returns-then-made-plan-clause-keeps : goal.returns-then-made-plan-clause-keeps
@@ -68,7 +70,7 @@ returns-then-made-plan-clause-all_rounds g c = λ is.
     let all : c.rounds.made ≡ c.args.plan.rounds = omega (arith, c.if-made-plan.true, c.rounds.invariant.made.0, c.rounds.invariant.made.1) in
     let last : c.rounds.last ≡ c.args.plan.rounds = omega (arith, c.if-made-plan.true, c.rounds.invariant.made.0, c.rounds.invariant.made.1) in
     all_made g.M.Model.meaning g.P.Port.state g.D.SectorDisk.state c.args.plan c.args.end c.rounds.last c.rounds.made c.args.plan.rounds c.args.session.now c.rounds.session last all
-    (shaped_by g.M.Model.meaning g.P.Port.state g.D.SectorDisk.state _ (AreRounds c.args.plan c.args.end c.rounds.last c.rounds.made) c.args.session.now c.rounds.session (λ ks h. h.0) c.rounds.invariant.driven)
+    (shaped_by g.M.Model.meaning g.P.Port.state g.D.SectorDisk.state _ (AreRoundsOfRun c.args.plan c.args.end c.rounds.last c.rounds.made) c.args.session.now c.rounds.session (λ ks h. (h.0, h.1.budgeted)) c.rounds.invariant.driven)
 
 pub returns-then-made-last-clause-keeps : goal.returns-then-made-last-clause-keeps
 returns-then-made-last-clause-keeps g c = driven_represents g.M.Model.meaning g.P.Port.state g.D.SectorDisk.state c.args.session.now c.rounds.session (driven_so g.M.Model.meaning g.P.Port.state g.D.SectorDisk.state _ c.args.session.now c.rounds.session c.rounds.invariant.driven)
@@ -88,7 +90,7 @@ returns-then-made-last-clause-stopped g c = λ time events is.
         c.rounds.last,
         omega (arith, c.if-made-plan.false, c.if-made-last.true),
         all_made g.M.Model.meaning g.P.Port.state g.D.SectorDisk.state c.args.plan c.args.end c.rounds.last c.rounds.made c.rounds.last c.args.session.now c.rounds.session refl all
-            (shaped_by g.M.Model.meaning g.P.Port.state g.D.SectorDisk.state _ (AreRounds c.args.plan c.args.end c.rounds.last c.rounds.made) c.args.session.now c.rounds.session (λ ks h. h.0) c.rounds.invariant.driven),
+            (shaped_by g.M.Model.meaning g.P.Port.state g.D.SectorDisk.state _ (AreRoundsOfRun c.args.plan c.args.end c.rounds.last c.rounds.made) c.args.session.now c.rounds.session (λ ks h. (h.0, h.1.budgeted)) c.rounds.invariant.driven),
       ),
     )
 

@@ -10,13 +10,15 @@ use Rattle.runs.proofs.rounds.take.Goals as goal
 
 pub returns-clause-driven : goal.returns-clause-driven
 returns-clause-driven g c =
-    one_step_by g.M.Model.meaning g.P.Port.state g.D.SectorDisk.state (Tallied c.args.round.plan.commit_every (λ taken. moves_of taken ≡ Take c.args.node ∷ []) c.args.tally.now c.taken.new.self) _ c.in_ok-answer.answer c.args.session.now c.step.new.self
+    one_step_by g.M.Model.meaning g.P.Port.state g.D.SectorDisk.state (Tallied c.args.round.plan (λ taken. moves_of taken ≡ Take c.args.node ∷ []) c.args.tally.now c.taken.new.self) _ c.in_ok-answer.answer c.args.session.now c.step.new.self
     (record {
       shape = refl;
       tally = record {
         events_until_commit = λ reported is. omega (arith, c.taken.ensures.events_until_commit, is);
         commits = omega (arith, c.taken.ensures.commits);
         outstanding = c.taken.ensures.outstanding;
+        budgets = c.taken.ensures.budgets;
+        budgeted = (tt, tt);
         handled = take_counted c.args.node c.args.tally.now.handled_per_node.items c.taken.new.self.handled_per_node.items c.in_ok-answer.answer (omega (arith, c.requires.node, c.requires.sized.handled)) c.taken.ensures.handled;
       };
       floor = c.taken.ensures.floor;

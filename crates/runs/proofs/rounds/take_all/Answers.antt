@@ -10,7 +10,7 @@ use Rattle.runs.proofs.rounds.take_all.Goals as goal
 
 pub nodes-init : goal.nodes-init
 nodes-init g c = record {
-  driven = stood_by g.M.Model.meaning g.P.Port.state g.D.SectorDisk.state _ c.args.session.now (no_move c.args.round.plan.commit_every (λ taken. moves_of taken ≡ takes_of 0) c.args.tally.now refl);
+  driven = stood_by g.M.Model.meaning g.P.Port.state g.D.SectorDisk.state _ c.args.session.now (no_move c.args.round.plan (λ taken. moves_of taken ≡ takes_of 0) c.args.tally.now refl);
   commits = refl;
   sized = c.requires.sized;
 }
@@ -23,7 +23,7 @@ returns-in_err-take-clause-keeps g c =
 pub nodes-preserved : goal.nodes-preserved
 nodes-preserved g c = record {
   driven = then_by g.M.Model.meaning g.P.Port.state g.D.SectorDisk.state _ _ _ c.args.session.now c.nodes.session c.take.new.session
-      (both_tallied c.args.round.plan.commit_every (λ taken. moves_of taken ≡ takes_of c.nodes.node) (λ taken. moves_of taken ≡ Take c.nodes.node ∷ []) (λ taken. moves_of taken ≡ takes_of (c.nodes.node + 1)) c.args.tally.now c.nodes.tally c.take.new.tally (one_take_more c.nodes.node))
+      (both_tallied c.args.round.plan (λ taken. moves_of taken ≡ takes_of c.nodes.node) (λ taken. moves_of taken ≡ Take c.nodes.node ∷ []) (λ taken. moves_of taken ≡ takes_of (c.nodes.node + 1)) c.args.tally.now c.nodes.tally c.take.new.tally (one_take_more c.nodes.node))
       c.nodes.invariant.driven c.in_ok-take.ensures.driven;
   commits = omega (arith, c.take.ensures.commits, c.nodes.invariant.commits);
   sized = c.take.ensures.sized;
@@ -32,7 +32,7 @@ nodes-preserved g c = record {
 pub returns-clause-driven : goal.returns-clause-driven
 returns-clause-driven g c =
     let whole : c.nodes.node ≡ c.args.round.plan.nodes = omega (arith, c.nodes-test.false, c.nodes.auto.node-end) in
-    subst (λ n. IsDrivenBy g.M.Model.meaning g.P.Port.state g.D.SectorDisk.state (Tallied c.args.round.plan.commit_every (λ taken. moves_of taken ≡ takes_of n) c.args.tally.now c.nodes.tally) c.args.session.now c.nodes.session) whole c.nodes.invariant.driven
+    subst (λ n. IsDrivenBy g.M.Model.meaning g.P.Port.state g.D.SectorDisk.state (Tallied c.args.round.plan (λ taken. moves_of taken ≡ takes_of n) c.args.tally.now c.nodes.tally) c.args.session.now c.nodes.session) whole c.nodes.invariant.driven
 
 pub returns-clause-keeps : goal.returns-clause-keeps
 returns-clause-keeps g c = driven_represents g.M.Model.meaning g.P.Port.state g.D.SectorDisk.state c.args.session.now c.nodes.session (driven_so g.M.Model.meaning g.P.Port.state g.D.SectorDisk.state _ c.args.session.now c.nodes.session c.nodes.invariant.driven)

@@ -11,7 +11,7 @@ pub returns-clause-driven : goal.returns-clause-driven
 returns-clause-driven g c =
     on_ok c.take_all.result
     (then_by g.M.Model.meaning g.P.Port.state g.D.SectorDisk.state _ _ _ c.args.session.now c.post_all.new.session c.take_all.new.session
-    (both_tallied c.args.round.plan.commit_every (ArePosts c.args.round.plan c.args.round.plan.nodes) (λ taken. moves_of taken ≡ takes_of c.args.round.plan.nodes) (AreAsked Together c.args.round c.args.tally.now.outstanding.items) c.args.tally.now c.post_all.new.tally c.take_all.new.tally
+    (both_tallied c.args.round.plan (ArePosts c.args.round.plan c.args.round.plan.nodes) (λ taken. moves_of taken ≡ takes_of c.args.round.plan.nodes) (AreAsked Together c.args.round c.args.tally.now.outstanding.items) c.args.tally.now c.post_all.new.tally c.take_all.new.tally
     (then_takes c.args.round c.args.tally.now.outstanding.items)) c.in_ok-post_all.ensures.driven) c.take_all.ensures.driven
 
 pub returns-clause-keeps : goal.returns-clause-keeps

@@ -11,7 +11,7 @@ pub returns-clause-driven : goal.returns-clause-driven
 returns-clause-driven g c =
     on_ok c.take.result
     (then_by g.M.Model.meaning g.P.Port.state g.D.SectorDisk.state _ _ _ c.args.session.now c.post.new.session c.take.new.session
-    (both_tallied c.args.round.plan.commit_every (IsPost c.args.round.plan c.args.node) (λ taken. moves_of taken ≡ Take c.args.node ∷ []) (IsTurn c.args.round.plan c.args.node) c.args.tally.now c.post.new.tally c.take.new.tally
+    (both_tallied c.args.round.plan (IsPost c.args.round.plan c.args.node) (λ taken. moves_of taken ≡ Take c.args.node ∷ []) (IsTurn c.args.round.plan c.args.node) c.args.tally.now c.post.new.tally c.take.new.tally
     (post_then_take c.args.round.plan c.args.node)) c.in_ok-post.ensures.driven) c.take.ensures.driven
 
 pub returns-clause-keeps : goal.returns-clause-keeps

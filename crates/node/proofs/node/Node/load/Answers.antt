@@ -2,6 +2,7 @@ use Rattle.std.proofs.Common.{◌≤◌, ◌∙◌, length, sym, rules, refl, ap
 use Rattle.std.specs.List.{AllByRecursion as Every}
 use Rattle.std.proofs.lemmas.List.{length-map}
 use Rattle.eventkey.specs.Message.{Message}
+use Rattle.model.specs.Meaning.{most_lps}
 use Rattle.std.proofs.lemmas.Result.{err_from_is_err_and}
 use Rattle.node.proofs.Histories.{histories_begin}
 use Rattle.node.specs.Kept.{HasHistories}
@@ -17,7 +18,7 @@ seat_all-requires-clause-few g c =
     let own = ap length (c.if-not-are_own.ensures.0 refl) in
     let size = length-map c.as_slice-parts.result.now (λ (q : Part). q.lp) in
     let few = own_few c.args.load.node c.args.load.nodes c.lps-lps.result c.requires.node in
-    let limit : c.lps-lps.result ≤ 1024 = search rules in
+    let limit : c.lps-lps.result ≤ most_lps = search rules in
     let moved = ap length (c.into_vec.ensures ∙ sym c.as_slice-parts.ensures) in
     omega arith
 
