@@ -111,6 +111,10 @@ advice_option = flag (codes "advice")
 abbrev pub large_option : Rule
 large_option = flag (codes "large")
 
+-- the file of a disk gets its whole room at once
+abbrev pub reserve_option : Rule
+reserve_option = flag (codes "reserve")
+
 -- ---- the commands
 
 -- a command on a model file, with or without advice
@@ -126,15 +130,20 @@ on_disk name = with_rule (on_model name) (path_argument (codes "DISK"))
 abbrev pub on_any_disk : Text → App
 on_any_disk name = with_rule (on_disk name) large_option
 
--- a disk with its number of sectors; it may be a large one
+-- a disk with its number of sectors, whose file may get its whole room; it may be a large one
 abbrev pub new_command : App
-new_command = with_rule (with_rule (on_disk (codes "new"))
+new_command = with_rule (with_rule (with_rule (on_disk (codes "new"))
     (text_option (codes "sectors") (codes "4096")))
+    reserve_option)
     large_option
 
 -- the number of sectors of a disk that a run makes
 abbrev pub created_option : Rule
 created_option = record (any_text (codes "created")) { long = Some (codes "sectors") }
+
+-- the file of a disk that a run makes gets its whole room at once
+abbrev pub reserved_option : Rule
+reserved_option = record (flag (codes "reserved")) { long = Some (codes "reserve") }
 
 -- how a run is made: 1 to 64 nodes; a batch; 1 to 2^32 - 1 rounds; a checkpoint every 1 to 1,000,000
 -- commits; a commit for 1 to 400,000 events; without nodes
@@ -164,16 +173,17 @@ run_apart = with_rule (with_rule (with_rule (with_rule (with_rule (with_rule (wi
     (optional_number (codes "retries") 0 1000000)
 
 -- and with what beside it: the file of a trace; the file that ends the run; a line of progress every
--- 1 to 86,400 seconds; a disk that is made longer where it is full, or made if it is not there, and
--- its number of sectors; and the disk may be a large one
+-- 1 to 86,400 seconds; a disk that is made longer where it is full, or made if it is not there, its
+-- number of sectors, and whether its file gets its whole room; and the disk may be a large one
 abbrev pub run_command : App
-run_command = with_rule (with_rule (with_rule (with_rule (with_rule (with_rule
+run_command = with_rule (with_rule (with_rule (with_rule (with_rule (with_rule (with_rule
     (with_rule run_apart (optional_text (codes "trace")))
     (optional_text (codes "stop-file")))
     (optional_number (codes "progress") 1 86400))
     (flag (codes "grow-when-full")))
     (flag (codes "create")))
     created_option)
+    reserved_option)
     large_option
 
 -- a disk with the number of sectors that it then has; it may be a large one
@@ -181,12 +191,15 @@ abbrev pub grow_command : App
 grow_command = with_rule (with_rule (on_disk (codes "grow")) (any_text (codes "sectors")))
     large_option
 
--- a disk of format 1, and a disk of format 2 with its number of sectors; both may be large ones
+-- a disk of format 1, and a disk of format 2 with its number of sectors, whose file may get its
+-- whole room; both may be large ones
 abbrev pub migrate_command : App
-migrate_command = with_rule (with_rule (with_rule (with_rule (on_model (codes "migrate"))
+migrate_command = with_rule (with_rule (with_rule (with_rule (with_rule
+    (on_model (codes "migrate"))
     (path_argument (codes "OLD")))
     (path_argument (codes "NEW")))
     (text_option (codes "sectors") (codes "4096")))
+    reserve_option)
     large_option
 
 -- the model's names are printed
@@ -410,9 +423,10 @@ is_without_sockets rows = not (is_there (codes "sockets") rows) && (is_used (cod
     || (is_used (codes "bind") rows || (is_there (codes "judge") rows
     || (is_there (codes "silence") rows || is_there (codes "retries") rows))))
 
--- a disk that is not made has a number of sectors
+-- something is said of a disk that a run makes, but it makes none
 abbrev pub is_without_create : List Row → Bool
-is_without_create rows = is_there (codes "created") rows && not (is_used (codes "create") rows)
+is_without_create rows = not (is_used (codes "create") rows)
+    && (is_there (codes "created") rows || is_used (codes "reserved") rows)
 
 -- an option says nothing without another one
 abbrev pub is_lonely : List Row → Bool
@@ -512,6 +526,7 @@ SaysTimes from to rows = (from ≡ optional_number_in (codes "from") 0 109951162
 
 abbrev pub SaysNew : NewArgs → List Row → Type 0
 SaysNew args rows = SaysDisk args.on rows × SaysSectors args.sectors args.on.large rows
+    × IsFlagIn (codes "reserve") rows args.reserve
 
 abbrev pub SaysRun : RunArgs → List Row → Type 0
 SaysRun args rows = SaysDisk args.on rows
@@ -536,6 +551,7 @@ SaysRun args rows = SaysDisk args.on rows
     × (args.progress ≡ optional_number_in (codes "progress") 1 86400 rows)
     × IsFlagIn (codes "create") rows args.create
     × (args.sectors ≡ number_or (codes "created") 8 (most_sectors args.on.large) 4096 rows)
+    × IsFlagIn (codes "reserved") rows args.reserve
 
 abbrev pub SaysGrow : GrowArgs → List Row → Type 0
 SaysGrow args rows = SaysDisk args.on rows × (args.sectors ≡ number_or (codes "sectors") 8
@@ -546,6 +562,7 @@ SaysMigrate args rows = (args.model.now ≡ text_in (codes "MODEL") rows)
     × (args.old.now ≡ text_in (codes "OLD") rows)
     × (args.new.now ≡ text_in (codes "NEW") rows)
     × SaysSectors args.sectors args.large rows
+    × IsFlagIn (codes "reserve") rows args.reserve
     × IsFlagIn (codes "large") rows args.large
 
 abbrev pub SaysLog : LogArgs → List Row → Type 0

@@ -71,6 +71,8 @@ pub struct NewArgs<'a> {
     pub on: DiskArgs<'a>,
     /// The disk's number of sectors: 8 to 131,072, or to 16,777,216 for a large one.
     pub sectors: u32,
+    /// Whether the disk's file gets its whole room on the device at once.
+    pub reserve: bool,
 }
 
 /// The arguments of `run`.
@@ -128,6 +130,8 @@ pub struct RunArgs<'a> {
     /// The number of sectors of a disk that is made: 8 to 131,072, or to 16,777,216 for a large
     /// one; 4,096 if none is given.
     pub sectors: u32,
+    /// Whether the file of a disk that is made gets its whole room on the device at once.
+    pub reserve: bool,
 }
 
 /// How many messages a node may handle at a turn.
@@ -161,6 +165,8 @@ pub struct MigrateArgs<'a> {
     /// The number of sectors of the disk of format 2: 8 to 131,072, or to 16,777,216 for a large
     /// one.
     pub sectors: u32,
+    /// Whether the file of the disk of format 2 gets its whole room on the device at once.
+    pub reserve: bool,
     /// Whether each disk may have up to 16,777,216 sectors instead of 131,072.
     pub large: bool,
 }

@@ -95,12 +95,16 @@ fn without_sockets(values: &ArgMatches<'_>) -> Option<&'static str>
     }
 }
 
-/// What is wrong with a number of sectors of a disk that is not made.
+/// What is wrong with an option for a disk that a run makes, if it makes none.
 fn without_create(values: &ArgMatches<'_>) -> Option<&'static str>
     ensures { is_some result ≡ is_without_create (rows_of (found_of values.now)) }
 {
-    if is_there(values, "created") && !is_used(values, "create") {
+    if is_used(values, "create") {
+        None
+    } else if is_there(values, "created") {
         Some("the argument '--sectors <N>' needs '--create', which makes the disk")
+    } else if is_used(values, "reserved") {
+        Some("the argument '--reserve' needs '--create', which makes the disk")
     } else {
         None
     }

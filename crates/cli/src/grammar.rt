@@ -9,6 +9,7 @@ ghost use Rattle.cli.specs.Command.{grow_command, large_option, migrate_command,
 ghost use Rattle.cli.specs.Command.{most_sectors, on_any_disk};
 ghost use Rattle.cli.specs.Command.{new_command, node_command, number_option, on_disk, on_model};
 ghost use Rattle.cli.specs.Command.{optional_argument, optional_number, optional_text};
+ghost use Rattle.cli.specs.Command.{reserve_option, reserved_option};
 ghost use Rattle.cli.specs.Command.{path_argument, program_of, run_apart, run_command, run_made};
 ghost use Rattle.cli.specs.Command.{show_command, stats_command, text_option, time_option};
 ghost use Rattle.cli.specs.Command.{without_commands};
@@ -145,6 +146,7 @@ fn new<'a>(alloc: Global) -> Result<ClapCommand<'a>, AllocError>
     let command = on_disk(alloc, "new", NEW_ABOUT, NEW_HELP);
     let sectors = text_option(alloc, "sectors", "N", "4096", SECTORS_HELP);
     let command = with_argument(command, sectors);
+    let command = with_argument(command, reserve_option(alloc));
     with_argument(command, large_option(alloc))
 }
 
@@ -152,6 +154,8 @@ const NEW_ABOUT: &str = "Makes a disk with an empty log for a model";
 
 const SECTORS_HELP: &str =
     "How many sectors of 512 bytes the disk has, 8 to 131072, or with --large to 16777216";
+
+const RESERVE_HELP: &str = "Gives the file all its room on the device at once, by writing zeros";
 
 const LARGE_HELP: &str = "Allows up to 16777216 sectors instead of 131072";
 
@@ -161,7 +165,8 @@ If the file exists, it must have the size that is asked for, and no log.
 Each commit takes at least 2 sectors, and 9 events take about 1. The default has room for at most
 2,000 commits, so a run of more rounds fills it (Session Full), and 'grow' makes it longer. For a
 model that you do not know use --sectors 131072, and 'run' with --batch auto --commit-every 4096.
-The file takes room on its device only as sectors are written.
+The file takes room on its device only as sectors are written. With --reserve it gets all its room
+at once: 'new' fails where the device has less (File), and commits take less time.
 
 In memory a disk takes 512 bytes for each sector that is used, and a byte for each that it has.
 The commands take a disk of more than 131072 sectors only with --large.
@@ -181,6 +186,7 @@ fn run<'a>(alloc: Global) -> Result<ClapCommand<'a>, AllocError>
     let command = with_argument(command, flag(alloc, "grow-when-full", GROW_WHEN_FULL_HELP));
     let command = with_argument(command, flag(alloc, "create", CREATE_HELP));
     let command = with_argument(command, created_option(alloc));
+    let command = with_argument(command, reserved_option(alloc));
     with_argument(command, large_option(alloc))
 }
 
@@ -226,6 +232,15 @@ fn created_option<'a>(alloc: Global) -> Arg<'a>
     ensures local { result.global ≡ false }
 {
     any_text(alloc, "created", "N", CREATED_HELP).long("sectors")
+}
+
+/// The flag for the room of a disk that a run makes. It is `--reserve`, but has a name of its own
+/// for the other commands' flag, which needs no other option.
+fn reserved_option<'a>(alloc: Global) -> Arg<'a>
+    ensures rule { rule_of result ≡ reserved_option }
+    ensures local { result.global ≡ false }
+{
+    flag(alloc, "reserved", RESERVED_HELP).long("reserve")
 }
 
 const RUN_ABOUT: &str = "Runs a model on its disk, from the last commit to its end";
@@ -282,6 +297,9 @@ const CREATE_HELP: &str = "Makes the disk first, as 'new' does, if its file is n
 
 const CREATED_HELP: &str =
     "With --create: how many sectors a new disk has, 8 to 131072, or with --large to 16777216 [default: 4096]";
+
+const RESERVED_HELP: &str =
+    "With --create: gives the file of a new disk all its room at once, by writing zeros";
 
 const RUN_HELP: &str = "\
 In a round each node has its turn, and what no rollback can reach any more is committed.
@@ -390,6 +408,7 @@ fn migrate<'a>(alloc: Global) -> Result<ClapCommand<'a>, AllocError>
     );
     let sectors = text_option(alloc, "sectors", "N", "4096", NEW_SECTORS_HELP);
     let command = with_argument(command, sectors);
+    let command = with_argument(command, reserve_option(alloc));
     with_argument(command, large_option(alloc))
 }
 
@@ -717,6 +736,14 @@ fn optional_argument<'a>(alloc: Global, id: &'a str, help: &'a str) -> Arg<'a>
     Arg::new(alloc, id)
         .value_parser(ValueParser::NonEmptyString)
         .help(help)
+}
+
+/// The flag for a disk whose file gets its whole room on the device at once.
+fn reserve_option<'a>(alloc: Global) -> Arg<'a>
+    ensures rule { rule_of result ≡ reserve_option }
+    ensures local { result.global ≡ false }
+{
+    flag(alloc, "reserve", RESERVE_HELP)
 }
 
 /// The flag that allows large disks.

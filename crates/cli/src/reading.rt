@@ -28,8 +28,8 @@ use std::convert::AsStr;
 /// version that was asked for (of the kinds `DisplayHelp` and `DisplayVersion`). Then come an invalid
 /// batch and an invalid number of sectors (`ValueValidation`), and an invalid range of processes and
 /// an unknown format (`InvalidValue`), in `clap`'s words; then options that do not go together, each
-/// in `clap`'s form: options of node programs without `--sockets`, and `run --sectors` without
-/// `--create` (`MissingRequiredArgument`); `--overlap` with `--together`, `--bind` with `--attach`,
+/// in `clap`'s form: options of node programs without `--sockets`, and `--sectors` or `--reserve` of
+/// `run` without `--create` (`MissingRequiredArgument`); `--overlap` with `--together`, `--bind` with `--attach`,
 /// `--plain` with an option of nodes, and `--load` with `--trace` (`ArgumentConflict`); and a time of
 /// `--to` before that of `--from` (`ValueValidation`). If an allocation failed, the result is an
 /// error of `clap` too.
@@ -116,7 +116,11 @@ fn new_args<'a>(values: &ArgMatches<'a>) -> NewArgs<'a>
 {
     let on = disk_args(values);
     let sectors = small_number(values, "sectors", 8, most_sectors(on.large));
-    NewArgs { on, sectors }
+    NewArgs {
+        on,
+        sectors,
+        reserve: is_flagged(values, "reserve"),
+    }
 }
 
 /// The arguments of `run`.
@@ -148,6 +152,7 @@ fn run_args<'a>(values: &ArgMatches<'a>) -> RunArgs<'a>
         progress: optional_small_number(values, "progress", 1, 86_400),
         create: is_flagged(values, "create"),
         sectors: small_number_or(values, "created", 8, most_sectors(on.large), 4_096),
+        reserve: is_flagged(values, "reserved"),
     }
 }
 
@@ -173,6 +178,7 @@ fn migrate_args<'a>(values: &ArgMatches<'a>) -> MigrateArgs<'a>
         old: text(values, "OLD"),
         new: text(values, "NEW"),
         sectors: small_number(values, "sectors", 8, most_sectors(large)),
+        reserve: is_flagged(values, "reserve"),
         large,
     }
 }

@@ -1,4 +1,5 @@
 mod Batches
+mod Applying
 mod Sorting
 mod Places
 mod Committing

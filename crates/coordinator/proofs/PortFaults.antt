@@ -1,5 +1,5 @@
 -- The faults of a session's ports, by the type of the ports.
-use Rattle.std.proofs.Common.{Err, List, [], false, inl, inr, map, refl, suc, true, zero, ℕ, ◌∷◌, ◌≡◌, ⊎_elim}
+use Rattle.std.proofs.Common.{List, [], inl, inr, map, refl, suc, zero, ℕ, ◌∷◌, ◌≡◌}
 use Rattle.std.proofs.lemmas.Bool.{cases_Bool}
 use Rattle.disk.specs.Disk.{DiskState}
 use Rattle.model.specs.Meaning.{Meaning}
@@ -11,13 +11,9 @@ use Rattle.wire.specs.Port.{IsResourceFault, PortState}
 use Rattle.wire.specs.declared.port.PortFault.{PortFault}
 use Rattle.wire.specs.declared.port.PortFault.TheVariants.{Peer, Wire}
 use Rattle.wire.specs.declared.port.WireFault.TheVariants as wire
-use Rattle.coordinator.specs.Drives.{IsStep}
-use Rattle.coordinator.specs.Opening.{IsResourceFaultOfOne}
 use Rattle.coordinator.specs.PortFaults.{IsFaultInProgram, IsFaultOfPorts, LocalSessionsHaveNoFrames, StepsHaveFaultsOfPorts}
-use Rattle.coordinator.specs.Session.{IsConsistentSession, Session, no_port, port_at, running}
-use Rattle.coordinator.specs.Steps.{IsPortFault, move_of, port_called}
-use Rattle.coordinator.specs.declared.SessionFault.TheVariants.{Port, Spent}
-use Rattle.coordinator.specs.declared.Step.{Step}
+use Rattle.coordinator.specs.Session.{no_port, port_at}
+use Rattle.coordinator.specs.Steps.{move_of, port_called}
 
 -- a port that does not exist has no fault
 none-nobody : (fault : PortFault) → IsResourceFault no_port fault → ⊥

@@ -7,7 +7,10 @@ pub mod Opening
 pub mod Extending
 pub mod Headline
 pub mod PortFaults
+-- Internal.
 pub mod Pending
 pub mod Keys
+pub mod Ports
+pub mod Inside
 -- For tests.
 pub mod Ring

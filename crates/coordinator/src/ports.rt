@@ -1,14 +1,13 @@
 // The ports of a session, one per node.
 
-ghost use Rattle.std.specs.Prelude.{◌≡◌, ◌<◌, ◌≤◌, ◌^◌, ◌&&◌, true, map, set, length, nat_lt, OnOk};
-ghost use Rattle.std.specs.Prelude.{OnErr, IfOk, IfErr};
+ghost use Rattle.std.specs.Prelude.{◌≡◌, ◌<◌, ◌≤◌, ◌^◌, map, length, nat_lt};
 ghost use Rattle.std.specs.List.{list_all};
 ghost use Rattle.node.specs.declared.Parcel.{Parcel};
-ghost use Rattle.wire.specs.Port.{IsResourceFault, IsSamePort, IsTakeFault, IsTaken};
 ghost use Rattle.wire.specs.Port.Stage.{Idle, Posted};
 ghost use Rattle.protocol.specs.Replies.{is_reported_there, names_there};
 ghost use Rattle.eventkey.specs.Message.{Message};
 ghost use Rattle.eventkey.specs.declared.Signed.{Signed};
+ghost use Rattle.coordinator.specs.Ports.{IsPost, IsTake, PortChanges};
 ghost use Rattle.coordinator.specs.Session.{port_at};
 
 use eventkey::{Message, Signed};
@@ -26,17 +25,8 @@ pub(crate) fn post<P: Port>(
     requires idle { (port_at (map P.state ports.old.items) node).stage ≡ Idle }
     requires range { parcel.floor ≤ 2 ^ 40 }
     ensures many { length ports.new.items ≡ length ports.old.items }
-    ensures others { map P.state ports.new.items ≡ set (map P.state ports.old.items) node
-        (port_at (map P.state ports.new.items) node) }
-    ensures posted { OnOk result ((port_at (map P.state ports.new.items) node).stage
-        ≡ Posted parcel) }
-    ensures same { IsSamePort (port_at (map P.state ports.old.items) node)
-        (port_at (map P.state ports.new.items) node) }
-    ensures ok { (port_at (map P.state ports.old.items) node).faithful ≡ true → OnOk result
-        ((port_at (map P.state ports.new.items) node).node
-        ≡ (port_at (map P.state ports.old.items) node).node) }
-    ensures err { (port_at (map P.state ports.old.items) node).faithful ≡ true → IfErr result
-        (λ fault. IsResourceFault (port_at (map P.state ports.old.items) node) fault) }
+    ensures changes { PortChanges (IsPost parcel result) (map P.state ports.old.items)
+        (map P.state ports.new.items) node }
 {
     let port = &mut ports[node];
     port.post(parcel)
@@ -48,18 +38,8 @@ pub(crate) fn take<P: Port>(ports: &mut Vec<P>, node: usize) -> Result<Reply, Po
     requires posted { (parcel : Parcel) × ((port_at (map P.state ports.old.items) node).stage
         ≡ Posted parcel) }
     ensures many { length ports.new.items ≡ length ports.old.items }
-    ensures others { map P.state ports.new.items ≡ set (map P.state ports.old.items) node
-        (port_at (map P.state ports.new.items) node) }
-    ensures idle { OnOk result ((port_at (map P.state ports.new.items) node).stage ≡ Idle) }
-    ensures same { IsSamePort (port_at (map P.state ports.old.items) node)
-        (port_at (map P.state ports.new.items) node) }
-    ensures ok { (parcel : Parcel) → (port_at (map P.state ports.old.items) node).stage
-        ≡ Posted parcel → (port_at (map P.state ports.old.items) node).faithful ≡ true → IfOk result
-        (λ reply. IsTaken parcel (port_at (map P.state ports.old.items) node)
-        (port_at (map P.state ports.new.items) node) reply) }
-    ensures err { (parcel : Parcel) → (port_at (map P.state ports.old.items) node).stage
-        ≡ Posted parcel → (port_at (map P.state ports.old.items) node).faithful ≡ true → IfErr result
-        (λ fault. IsTakeFault parcel (port_at (map P.state ports.old.items) node) fault) }
+    ensures changes { PortChanges (IsTake result) (map P.state ports.old.items)
+        (map P.state ports.new.items) node }
 {
     let port = &mut ports[node];
     port.take()

@@ -11,10 +11,12 @@ mod memory;
 pub mod parts;
 mod plan;
 mod storing;
+mod system;
 mod tally;
 
 pub use disk::{DiskFault, SectorDisk, write_through};
-pub use file::{FileDisk, FileFault};
+pub use file::{FileDisk, FileError, FileFault, Room};
 pub use growing::{GrowingDisk, GrowthFault, MOST_SECTORS, MOST_SECTORS_OF_LARGE};
 pub use memory::{MemDisk, Torn};
 pub use plan::Plan;
+pub use system::SystemError;

@@ -2,4 +2,4 @@
 
 pub use crate::file::load_from;
 pub use crate::image::Image;
-pub use crate::storing::{Stored, lengthen, shorten, store};
+pub use crate::storing::{Stored, lengthen, reserve, shorten, store};

@@ -53,6 +53,19 @@ pub fn shorten<F: FileExt + OpenFile>(file: &F, image: &Image, longer: bool) -> 
     store(file, image)
 }
 
+/// How many sectors of zeros one system call writes: 64 KiB.
+const PIECE: u32 = 128;
+
+/// Writes `count` sectors of zeros to the file, from its beginning.
+pub fn reserve<F: FileExt>(file: &F, count: u32) -> io::Result<()> {
+    let zeros = [[0; 512]; PIECE as usize];
+    for piece in 0..count / PIECE {
+        store_run(file, &zeros, piece * PIECE)?;
+    }
+    let rest = count % PIECE;
+    store_run(file, &zeros[..rest as usize], count - rest)
+}
+
 /// Writes adjacent sectors by one system call, and makes no call if there are none.
 fn store_run<F: FileExt>(file: &F, sectors: &[[u8; 512]], first: u32) -> io::Result<()> {
     if sectors.is_empty() {

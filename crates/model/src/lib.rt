@@ -66,7 +66,7 @@ pub enum WorldFault {
 pub trait Model {
     ghost meaning: { Self → Meaning };
 
-    /// Returns the number of logical processes, 1 to 1,024.
+    /// Returns the number of logical processes, 1 to 65,536.
     fn lps(&self) -> u32
         ensures { result ≡ (meaning self.now).lps };
 

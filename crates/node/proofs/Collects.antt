@@ -1,5 +1,5 @@
 -- A node releases the handlings below the floor, at the processes that have some.
-use Rattle.std.proofs.Common.{◌≡◌, ℕ, zero, suc, ◌+◌, ◌<◌, ◌≤◌, Bool, true, false, List, [], ◌∷◌, ◌++◌, length, get_or, map, set, append_assoc, refl, sym, inl, inr, subst, ◌∙◌, ap, arith}
+use Rattle.std.proofs.Common.{◌≡◌, ℕ, zero, suc, ◌+◌, ◌<◌, ◌≤◌, Bool, true, false, List, [], ◌∷◌, ◌++◌, length, get_or, map, set, append_assoc, refl, sym, inl, inr, subst, ◌∙◌, ap, arith, Option}
 use Rattle.std.specs.Prelude.{flat_map, nat_lt}
 use Rattle.std.proofs.lemmas.Bool.{cases_eq, cases_lt, cond-false, cond_both}
 use Rattle.std.proofs.lemmas.List.{append-nil, get_or-map, get_or-set_other, get_or-set_same, length-map, map-set}
@@ -13,7 +13,7 @@ use Rattle.queues.specs.declared.Record.{Record}
 use Rattle.node.proofs.Owns.{release_done}
 use Rattle.node.proofs.Seats.{length-summaries, staffed_again}
 use Rattle.node.proofs.Deliveries.{node_at, working}
-use Rattle.node.specs.Blocks.{IsQuietFrom}
+use Rattle.node.specs.Blocks.{IsQuietFrom, with_oldest}
 use Rattle.node.specs.Handling.{after}
 use Rattle.node.specs.Roster.{IsSeated, IsStaffed, Place, at_floor, processes_of}
 use Rattle.node.specs.Seats.{is_due, represented_of, standings_of}
@@ -190,6 +190,13 @@ module _ (p : Place) (seats : List ProcessView) (summaries : List Summary) (plac
   pub staffed_then : (r : ProcessView) (summary : Summary) → r ≡ collected p.floor q → summary ≡ represented_of p.end r → IsStaffed p (set seats place r) (set summaries place summary)
   staffed_then r summary is known =
       staffed_again p seats summaries place q r summary h read (ap (λ (v : ProcessView). v.lp) is) (subst (IsSeated p.floor) (sym is) (seated_collected p.floor q seated_at)) known
+
+  -- only the oldest time of its summary can change
+  pub summary_then : (r : ProcessView) (oldest : Option ℕ) → r ≡ collected p.floor q → oldest ≡ first_handled r.process.done → with_oldest oldest (get_or summaries place absent) ≡ represented_of p.end r
+  summary_then r oldest is time =
+      ap (with_oldest oldest) (ap (λ (xs : List Summary). get_or xs place absent) h.known ∙ get_or-map (λ (v : ProcessView). represented_of p.end v) seats place q absent there ∙ ap (represented_of p.end) (sym read))
+      ∙ ap (λ (t : Option ℕ). with_oldest t (represented_of p.end q)) (time ∙ ap (λ (v : ProcessView). first_handled v.process.done) is)
+      ∙ sym (ap (represented_of p.end) is)
 
   pub processes_then : (r : ProcessView) → r ≡ collected p.floor q → processes_of (set seats place r) ≡ set (processes_of seats) place (release p.floor (get_or (processes_of seats) place nobody))
   processes_then r is =

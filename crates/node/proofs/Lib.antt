@@ -1,4 +1,5 @@
 pub mod Bounds
+pub mod Summaries
 pub mod Deliveries
 pub mod Lesser
 pub mod Owns

@@ -1,13 +1,13 @@
 -- The winner at the root of a tournament has the least message, and replaying the matches above a
 -- leaf keeps it so.
-use Rattle.std.proofs.Common.{◌≡◌, ◌≢◌, ◌⊎◌, ℕ, zero, suc, ◌+◌, ◌*◌, ◌/◌, ◌<◌, ◌≤◌, ◌^◌, List, [], ◌∷◌, length, get_or, set, ◌++◌, ◌-◌, take, replicate, refl, sym, subst, ◌∙◌, ap, arith, inl, inr, Option, Some, None, IfSome}
+use Rattle.std.proofs.Common.{◌≡◌, ◌≢◌, ◌⊎◌, ℕ, zero, suc, ◌+◌, ◌*◌, ◌/◌, ◌<◌, ◌≤◌, ◌^◌, List, [], ◌∷◌, length, get_or, set, ◌++◌, ◌-◌, take, replicate, refl, sym, subst, ◌∙◌, ap, arith, inl, inr, Option, None}
 use Rattle.std.proofs.lemmas.Bool.{cases_eq}
 use Rattle.std.proofs.lemmas.List.{get_or-set_other, get_or-set_same, length-set, get_or_default, length-replicate}
 use Rattle.std.proofs.Math.Seq.{take-nil}
 use Rattle.eventkey.specs.Message.{Message}
-use Rattle.node.specs.Node.{earliest, lesser}
+use Rattle.node.specs.Node.{lesser}
 use Rattle.node.specs.declared.summary.Summary.{Summary}
-use Rattle.node.specs.Tournament.{HasWon, IsBelow, IsLowInRange, IsTournament, absent, least_among, next_at, up, winner_next}
+use Rattle.node.specs.Tournament.{HasWon, IsBelow, IsTournament, absent, least_among, next_at, up, winner_next}
 use Rattle.node.proofs.Lesser.{lesser_assoc, lesser_comm, lesser_none}
 
 -- 1. The root
@@ -92,14 +92,6 @@ pub record IsReplaying (leaves : List Summary) (winners : List ℕ) (cell : ℕ)
   pub inside : cell < 2 * length leaves
   pub below : (k : ℕ) → 1 ≤ k → k < 2 * length leaves → IsBelow (length leaves) (get_or winners k 0) k
   pub won : (k : ℕ) → 1 ≤ k → k < length leaves → ((levels : ℕ) → up (suc levels) cell ≢ k) → HasWon leaves winners k
-  pub lows : (k : ℕ) → IsLowInRange (get_or leaves k absent)
-
-pub lows_set : (leaves : List Summary) (i : ℕ) (x : Summary) → IsLowInRange x → ((k : ℕ) → IsLowInRange (get_or leaves k absent)) → (k : ℕ) → IsLowInRange (get_or (set leaves i x) k absent)
-lows_set [] i x h f k = f k
-lows_set (c ∷ cs) zero x h f zero = h
-lows_set (c ∷ cs) zero x h f (suc k) = f (suc k)
-lows_set (c ∷ cs) (suc i) x h f zero = f zero
-lows_set (c ∷ cs) (suc i) x h f (suc k) = lows_set cs i x h (λ j. f (suc j)) k
 
 -- a changed leaf is the winner only at cells above it
 not_there : (leaves leaf place cell : ℕ) → IsBelow leaves place cell → ((levels : ℕ) → up levels (leaves + leaf) ≢ cell) → place ≢ leaf
@@ -108,9 +100,9 @@ not_there leaves leaf place cell h none e = none h.levels (ap (λ (p : ℕ). up 
 other_next : (leaves : List Summary) (leaf place : ℕ) (x : Summary) → place ≢ leaf → next_at (set leaves leaf x) place ≡ next_at leaves place
 other_next leaves leaf place x other = ap (λ (s : Summary). s.next) (get_or-set_other leaves leaf place x absent other)
 
-pub replay_begins : (leaves : List Summary) (winners : List ℕ) (leaf : ℕ) (x : Summary) → IsTournament leaves winners → leaf < length leaves → IsLowInRange x →
+pub replay_begins : (leaves : List Summary) (winners : List ℕ) (leaf : ℕ) (x : Summary) → IsTournament leaves winners → leaf < length leaves →
     IsReplaying (set leaves leaf x) winners (length leaves + leaf)
-replay_begins leaves winners leaf x h l fits =
+replay_begins leaves winners leaf x h l =
     let n : ℕ = length leaves in
     let same : length (set leaves leaf x) ≡ n = length-set leaves leaf x in
     let size = h.size in
@@ -129,7 +121,6 @@ replay_begins leaves winners leaf x h l fits =
           ∙ h.won k a (omega arith)
           ∙ sym (ap (λ (m : Option Message). lesser m (winner_next (set leaves leaf x) winners (2 * k + 1))) (still (2 * k) (omega arith) (omega arith) (λ levels e. none levels (let two = e in omega arith)))
           ∙ ap (lesser (winner_next leaves winners (2 * k))) (still (2 * k + 1) (omega arith) (omega arith) (λ levels e. none levels (let two = e in omega arith))));
-      lows = lows_set leaves leaf x fits h.lows;
     }
   where
     not_at : (n leaf k levels : ℕ) → ((j : ℕ) → up (suc j) (n + leaf) ≢ k) → k < n → up levels (n + leaf) ≢ k
@@ -175,7 +166,6 @@ replay_goes_on leaves winners cell place many h either first =
         | inl e ↦ (let P : ℕ → Type 0 = λ j. HasWon leaves (set winners c place) j in subst P (sym e) (match c one (λ f. omega arith) (λ f. omega arith) (here ∙ first)))
         | inr e ↦ match k a (λ f. none 0 (omega arith)) (λ f. none 0 (omega arith)) (still k e ∙ h.won k a b (λ levels f. not_above cell k levels none e f))
       ];
-      lows = h.lows;
     }
   where
     not_above : (cell k levels : ℕ) → ((j : ℕ) → up (suc j) (cell / 2) ≢ k) → k ≢ cell / 2 → up (suc levels) cell ≢ k
@@ -194,13 +184,12 @@ replay_ends leaves winners cell last h =
       few = h.few;
       below = h.below;
       won = λ k a b. h.won k a b (λ levels e. let none = none_above_root levels in let same = ap (λ (c : ℕ). up (suc levels) c) root ∙ none in omega arith);
-      lows = h.lows;
     }
 
 -- a leaf changes, but its next message does not
-pub same_matches : (leaves : List Summary) (winners : List ℕ) (leaf : ℕ) (x : Summary) → IsTournament leaves winners → leaf < length leaves → IsLowInRange x → x.next ≡ next_at leaves leaf →
+pub same_matches : (leaves : List Summary) (winners : List ℕ) (leaf : ℕ) (x : Summary) → IsTournament leaves winners → leaf < length leaves → x.next ≡ next_at leaves leaf →
     IsTournament (set leaves leaf x) winners
-same_matches leaves winners leaf x h l fits keeps =
+same_matches leaves winners leaf x h l keeps =
     let same : length (set leaves leaf x) ≡ length leaves = length-set leaves leaf x in
     let size = h.size in
     let few = h.few in
@@ -217,7 +206,6 @@ same_matches leaves winners leaf x h l fits keeps =
           ∙ h.won k a (omega arith)
           ∙ sym (ap (λ (m : Option Message). lesser m (winner_next (set leaves leaf x) winners (2 * k + 1))) (still (get_or winners (2 * k) 0))
           ∙ ap (lesser (winner_next leaves winners (2 * k))) (still (get_or winners (2 * k + 1) 0)));
-      lows = lows_set leaves leaf x fits h.lows;
     }
 
 -- for an element that is there, the default of an index does not matter
@@ -226,16 +214,6 @@ leaf_at leaves k x e h = e ∙ get_or_default leaves k x absent h
 
 pub place_at : (winners : List ℕ) (k x : ℕ) → x ≡ get_or winners k x → k < length winners → x ≡ get_or winners k 0
 place_at winners k x e h = e ∙ get_or_default winners k x 0 h
-
-earliest_in_range : (one other : Option ℕ) → IfSome one (λ time. time < 2 ^ 41) → IfSome other (λ time. time < 2 ^ 41) → IfSome (earliest one other) (λ time. time < 2 ^ 41)
-earliest_in_range None other h k = k
-earliest_in_range (Some x) None h k = h
-earliest_in_range (Some x) (Some y) h k = omega arith
-
--- the least time lies in its range
-pub least_in_range : (leaves : List Summary) → ((k : ℕ) → IsLowInRange (get_or leaves k absent)) → IsLowInRange (least_among leaves)
-least_in_range [] h = tt
-least_in_range (x ∷ xs) h = earliest_in_range x.low (least_among xs).low (h zero) (least_in_range xs (λ k. h (suc k)))
 
 -- 3. A tournament of empty summaries
 
@@ -285,7 +263,6 @@ seeded_is_tournament leaves cell summaries winners few last is h =
       won = λ k a b.
           none (get_or winners k 0)
           ∙ sym (ap (λ (m : Option Message). lesser m (winner_next (replicate leaves absent) winners (2 * k + 1))) (none (get_or winners (2 * k) 0)) ∙ none (get_or winners (2 * k + 1) 0));
-      lows = λ k. subst IsLowInRange (sym (none_at leaves k)) tt;
     })
 
 -- an empty vector grown to `count` elements

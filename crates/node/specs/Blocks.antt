@@ -1,35 +1,25 @@
--- Summaries of processes in blocks of 32, and a bound for each block: two times that no time there
--- is before.
-use Rattle.std.specs.Prelude.{ℕ, List, false, length, get_or, take, drop, ◌+◌, ◌*◌, ◌/◌, ◌≡◌, ◌≤◌}
-use Rattle.std.specs.Prelude.{◌<◌, None}
-use Rattle.node.specs.Node.{earliest}
+-- Summaries of processes, and their times in lists beside them.
+use Rattle.std.specs.Prelude.{ℕ, List, Option, false, get_or, map, ◌≡◌, ◌≤◌, ◌<◌}
 use Rattle.node.specs.Seats.{is_due}
-use Rattle.node.specs.Tournament.{absent}
-use Rattle.node.specs.declared.blocks.Bound.{Bound}
+use Rattle.node.specs.Times.{ticks_of}
+use Rattle.node.specs.Tournament.{IsLowInRange, absent}
 use Rattle.node.specs.declared.summary.Summary.{Summary}
 
--- the bound of empty summaries
-abbrev pub unbounded : Bound
-unbounded = record { low = None; oldest = None }
+abbrev pub lows_of : List Summary → List ℕ
+lows_of summaries = map (λ (s : Summary). ticks_of s.low) summaries
 
--- the bound lowered to the times of a summary
-abbrev pub lowered : Bound → Summary → Bound
-lowered b s = record { low = earliest b.low s.low; oldest = earliest b.oldest s.oldest }
+abbrev pub oldest_of : List Summary → List ℕ
+oldest_of summaries = map (λ (s : Summary). ticks_of s.oldest) summaries
 
--- no time of this summary is before the bound
-pub record IsBounded (b : Bound) (s : Summary) : Type 0 where
-  pub low_is : earliest b.low s.low ≡ b.low
-  pub oldest_is : earliest b.oldest s.oldest ≡ b.oldest
+-- these are the times of these summaries
+pub record AreBlocks (summaries : List Summary) (lows oldest : List ℕ) : Type 0 where
+  pub lows_are : lows ≡ lows_of summaries
+  pub oldest_are : oldest ≡ oldest_of summaries
+  pub ranged : (k : ℕ) → IsLowInRange (get_or summaries k absent)
 
--- the summaries of a block
-abbrev pub block_at : ℕ → List Summary → List Summary
-block_at block summaries = take 32 (drop (32 * block) summaries)
-
--- each summary has the bound of its block
-pub record AreBlocks (summaries : List Summary) (bounds : List Bound) : Type 0 where
-  pub size : length bounds ≡ length summaries / 32 + 1
-  pub bounded :
-      (k : ℕ) → IsBounded (get_or bounds (k / 32) unbounded) (get_or summaries k absent)
+-- the summary with another oldest time
+abbrev pub with_oldest : Option ℕ → Summary → Summary
+with_oldest oldest s = record s { oldest = oldest }
 
 -- no place, from one on and before another, has a handling below the floor
 abbrev pub IsQuietFrom : ℕ → List Summary → ℕ → ℕ → Type 0

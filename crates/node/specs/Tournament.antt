@@ -60,4 +60,3 @@ pub record IsTournament (leaves : List Summary) (winners : List ℕ) : Type 0 wh
   pub below :
       (k : ℕ) → 1 ≤ k → k < 2 * length leaves → IsBelow (length leaves) (get_or winners k 0) k
   pub won : (k : ℕ) → 1 ≤ k → k < length leaves → HasWon leaves winners k
-  pub lows : (k : ℕ) → IsLowInRange (get_or leaves k absent)

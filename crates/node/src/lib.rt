@@ -10,6 +10,7 @@ mod blocks;
 mod node;
 mod roster;
 mod summary;
+mod times;
 mod tournament;
 
 use eventkey::{Listed, Message, Signed};

@@ -110,7 +110,7 @@ impl Node {
     ///
     /// The cost is that of the deliveries and handlings, each with the logarithm of the number of
     /// processes of the node, and of the released handlings; one step for each 32 processes; and a
-    /// scan of the summaries of those 32 if one of them may have a handling below the floor or the
+    /// scan of the times of those 32 if one of them may have a handling below the floor or the
     /// least waiting time.
     pub fn handle<M: Simulated>(&mut self, model: &M, parcel: Parcel) -> Result<Reply, NodeFault>
         requires lps { self.old.spent ≡ false → (M.meaning model.now).lps ≡ self.old.lps }

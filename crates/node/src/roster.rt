@@ -209,8 +209,9 @@ impl Roster {
     {
         let process = &mut self.processes[place];
         process.collect_into(model, floor, fossils)?;
-        let summary = Summary::of(process, self.end);
-        self.summaries.set(place, summary);
+        // What waits stays.
+        let oldest = process.oldest();
+        self.summaries.set_oldest(place, oldest);
         Ok(())
     }
 

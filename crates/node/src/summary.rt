@@ -2,8 +2,7 @@
 // do.
 
 ghost use Rattle.std.specs.Prelude.{◌≡◌, ◌<◌, ◌^◌, ◌↔◌, IfSome, IsTrue};
-ghost use Rattle.node.specs.Node.{earliest};
-ghost use Rattle.node.specs.Seats.{is_due, represented_of};
+ghost use Rattle.node.specs.Seats.{represented_of};
 ghost use Rattle.node.specs.Tournament.{IsLowInRange};
 
 use eventkey::Message;
@@ -48,26 +47,5 @@ impl Summary {
         ensures { IsTrue result ↔ (self.now.next ≡ other.now.next) }
     {
         self.next == other.next
-    }
-}
-
-/// Returns the lesser of two times, either of which can be missing.
-pub(crate) fn earliest(one: Option<u64>, other: Option<u64>) -> Option<u64>
-    ensures { result ≡ earliest one other }
-{
-    match (one, other) {
-        (Some(x), Some(y)) => Some(x.min(y)),
-        (Some(x), None) => Some(x),
-        (None, rest) => rest,
-    }
-}
-
-/// Returns whether there is a time and it is below `floor`, in ticks.
-pub(crate) fn is_due(time: Option<u64>, floor: u64) -> bool
-    ensures { result ≡ is_due floor time }
-{
-    match time {
-        Some(time) => time < floor,
-        None => false,
     }
 }

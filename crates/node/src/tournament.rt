@@ -3,7 +3,7 @@
 
 ghost use Rattle.std.specs.Prelude.{◌≡◌, ◌<◌, ◌≤◌, ◌^◌, ◌⊎◌, ℕ, length, set, get_or, replicate};
 ghost use Rattle.std.specs.Prelude.{IfOk, IfSome, true};
-ghost use Rattle.node.specs.Blocks.{IsQuietFrom};
+ghost use Rattle.node.specs.Blocks.{IsQuietFrom, with_oldest};
 ghost use Rattle.node.specs.Node.{lesser};
 ghost use Rattle.node.specs.Seats.{is_due};
 ghost use Rattle.node.specs.Tournament.{next_at};
@@ -85,6 +85,16 @@ impl Tournament {
             let (left, right) = (self.winners[2 * cell], self.winners[2 * cell + 1]);
             self.winners[cell] = winner(self.leaves.as_slice(), left, right);
         }
+    }
+
+    /// Replaces the oldest time of a leaf. Allocates nothing; takes constant time, since no match
+    /// depends on it.
+    #[inline(always)]
+    pub(crate) fn set_oldest(&mut self, leaf: usize, oldest: Option<u64>)
+        requires { leaf < length self.old }
+        ensures { self.new ≡ set self.old leaf (with_oldest oldest (get_or self.old leaf absent)) }
+    {
+        self.leaves.set_oldest(leaf, oldest);
     }
 
     /// Returns the least next message of all leaves. Allocates nothing; takes constant time.

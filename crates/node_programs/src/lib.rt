@@ -1,6 +1,5 @@
 //! Nodes that are programs of their own, behind Unix sockets: starting or awaiting them,
-//! connecting, serving, and clearing up. Nothing here needs a session, so this crate is proved in
-//! parallel with the crates that `program` waits for.
+//! connecting, serving, and clearing up. Nothing here needs a session.
 #![tactic(auto)]
 
 mod calls;

@@ -3,7 +3,7 @@ use Rattle.std.specs.Io.KnownBytes.{Appends}
 use Rattle.std.specs.Prelude.{◌≡◌, ◌≤◌, ◌*◌, ◌&&◌, ℕ, Bool, List, [], ◌++◌, nat_le, not}
 use Rattle.std.specs.Prelude.{Err, None, Ok, Option, Result, Some, codes, decimal, false, true}
 use Rattle.std.specs.Prelude.{if◌then◌else◌, ◌<◌, ◌⊎◌, ◌≢◌}
-use Rattle.std.specs.Prelude.{OnOk, is_some, length, min, unwrap_or}
+use Rattle.std.specs.Prelude.{OnOk, is_some, length, min, replicate, slice_index_or, unwrap_or}
 use Rattle.commands.specs.Commands.{extended_text, formatted_text, ran_text, stopped_text}
 use Rattle.commands.specs.Migrating.{migrated_text}
 use Rattle.commands.specs.declared.fault.CommandFault.{CommandFault}
@@ -113,6 +113,11 @@ pub record IsRan {M : Type 0} (meaning : M → Meaning) (says : Describes M)
   pub reached : end ≤ time
   pub genuine : IsGenuine (meaning model) end image → IsRunOf (meaning model) end time events
   pub is : text ≡ ran_text ran time events
+
+-- the sectors from this number on have only zeros
+abbrev pub IsZeroFrom : ℕ → List (List ℕ) → Type 0
+IsZeroFrom first image = (n : ℕ) → first ≤ n → n < length image →
+    slice_index_or image n [] ≡ replicate 512 0
 
 -- the time and the number of events of the world that a reopened disk represents
 abbrev pub reopened_text : Verified → List ℕ

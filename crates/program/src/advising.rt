@@ -4,6 +4,7 @@ use crate::fault::Fault;
 use cli::{Command, most_sectors};
 use commitlog::LogFault;
 use coordinator::SessionFault;
+use disk::{GrowthFault, SystemError};
 use judging::Difference;
 use migration::MigrateFault;
 use node_programs::{Call, CallEnd};
@@ -11,26 +12,28 @@ use recovery::RecoveryFault;
 use std::fs::File;
 use std::io::Write;
 use std::rt::Files;
-use terminal::{Cause, Progress, cause_of};
+use terminal::{Cause, Progress, cause_of, cause_of_device};
 use texts::{Described, Printable, Report};
 use views::{committed_on, difference_of, mistakes_of};
 use wire::{PortFault, WireFault};
 
-/// What was noted of node programs before a fault.
+/// What was noted of node programs and of the disk before a fault.
 #[derive(Clone, Copy)]
 pub(crate) struct Noted {
     /// The last call on the connection of one.
     pub last: Option<Call>,
     /// The event of the first report that is not what the model does.
     pub refused: Option<Difference>,
+    /// The system's error of the last failed call on the disk.
+    pub system: Option<SystemError>,
 }
 
 /// Passes the advice for the fault of a command to `progress`, and the cause of a `File` if
 /// `progress` is seen. If `progress` is not seen but advice is asked for, both are printed on `err`.
 ///
 /// In both cases `err` gets what the files of the command say about the fault, if they say
-/// something, in place of the advice; and which node failed in a run over node programs, and how,
-/// by what was noted of them.
+/// something, in place of the advice; which node failed in a run over node programs, and how, by
+/// what was noted of them; and what the system says of a disk that could not be written.
 pub(crate) fn advise<M, R, P, E>(
     rt: &R,
     command: Command<'_>,
@@ -51,12 +54,13 @@ where
     let is_explained = is_wanted && explain::<M, R, E>(rt, command, fault, err);
     if is_wanted {
         print_node(command, fault, noted, err);
+        print_system(command, fault, noted, err);
     }
     if is_wanted && stops_a_run(command, fault) {
         print_committed::<M, R, E>(rt, paths_of(command), err);
     }
     let cause = if is_wanted && matches!(fault, Fault::File) {
-        cause_of(rt, command)
+        cause_of(rt, command, noted.system)
     } else {
         None
     };
@@ -104,6 +108,28 @@ fn print_node<E: Write>(command: Command<'_>, fault: Fault, noted: Noted, err: &
         ),
         _ => writeln!(err, "node {node} ({folder}/node{node}) {how}"),
     };
+}
+
+/// Prints what the system says of the disk that could not be written.
+fn print_system<E: Write>(command: Command<'_>, fault: Fault, noted: Noted, err: &mut E) {
+    if let (true, Some(error)) = (is_of_device(fault), noted.system) {
+        if let Some(cause) = cause_of_device(command, error) {
+            let _ = writeln!(err, "{cause}");
+        }
+    }
+}
+
+/// Whether the disk of a command could not be written.
+fn is_of_device(fault: Fault) -> bool {
+    matches!(
+        fault,
+        Fault::Log(LogFault::Disk(_))
+            | Fault::Recovery(RecoveryFault::Log(LogFault::Disk(_)))
+            | Fault::Session(SessionFault::Disk)
+            | Fault::Session(SessionFault::Recovery(RecoveryFault::Log(LogFault::Disk(_))))
+            | Fault::Migrate(MigrateFault::New(LogFault::Disk(_)))
+            | Fault::Grow(GrowthFault::Device)
+    )
 }
 
 /// How a node program failed, by the fault of its port and the last call on its connection.

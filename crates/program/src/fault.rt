@@ -166,7 +166,9 @@ fn of_world(fault: WorldFault) -> Option<&'static str> {
 fn of_log(fault: LogFault) -> Option<&'static str> {
     match fault {
         LogFault::NotBlank => Some("the disk has a log already, which `new` keeps"),
-        LogFault::NotFormatted => Some("`new` makes a log on a disk"),
+        LogFault::NotFormatted => {
+            Some("`new` makes a log on a disk; if this disk had one, `reopen` opens it again")
+        }
         LogFault::Corrupt => Some(CUT_OFF),
         LogFault::Disk(_) => Some(NO_DEVICE),
         LogFault::NoMemory => Some(NO_MEMORY),

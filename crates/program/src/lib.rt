@@ -11,6 +11,7 @@ mod fault;
 mod looking;
 mod plainly;
 mod running;
+mod said;
 mod starting;
 mod status;
 mod watching;

@@ -8,9 +8,10 @@ ghost use Rattle.views.specs.Views.{Begins, Prints};
 
 use crate::attempts::{NodePrograms, run_attempts};
 use crate::described::simulated;
-use crate::disks::disk_of;
+use crate::disks::{NewFile, disk_of};
 use crate::ending::end_run;
 use crate::fault::Fault;
+use crate::said::SystemErrors;
 use crate::watching::Watching;
 use cli::{BatchOption, NodeArgs, RunArgs};
 use commands::Simulated;
@@ -85,6 +86,7 @@ pub(crate) fn run_as<M, R, P, O>(
     rt: &R,
     nodes: NodePrograms<'_>,
     args: RunArgs<'_>,
+    said: &SystemErrors,
     progress: &mut P,
     out: &mut O,
 ) -> Result<(), Fault>
@@ -105,15 +107,15 @@ where
         progress.every(seconds);
     }
     match args.trace {
-        None => run_with::<M, R, P, O>(rt, nodes, args, progress, out),
-        Some(trace) => run_traced::<M, R, P, O>(rt, nodes, args, trace, progress, out),
+        None => run_with::<M, R, P, O>(rt, nodes, args, said, progress, out),
+        Some(trace) => run_traced::<M, R, P, O>(rt, nodes, args, trace, said, progress, out),
     }
 }
 
-/// Returns the number of sectors of the disk that a run makes if there is none.
-pub(crate) fn create_of(args: &RunArgs<'_>) -> Option<u32> {
+/// Returns the file of the disk that a run makes if there is none.
+fn create_of(args: &RunArgs<'_>) -> Option<NewFile> {
     if args.create {
-        Some(args.sectors)
+        Some(NewFile::of(args.sectors, args.reserve))
     } else {
         None
     }
@@ -145,6 +147,7 @@ fn run_with<M, R, P, O>(
     rt: &R,
     nodes: NodePrograms<'_>,
     args: RunArgs<'_>,
+    said: &SystemErrors,
     progress: &mut P,
     out: &mut O,
 ) -> Result<(), Fault>
@@ -162,11 +165,12 @@ where
         (O.contents out.old) (O.contents out.new)) }
 {
     let of: Simulated<M> = simulated(rt, args.on.model)?;
-    let disk = disk_of(rt, &of, args.on, create_of(&args))?;
+    let disk = disk_of(rt, &of, args.on, create_of(&args), said)?;
     progress.begin(of.end);
     progress.takes(way_of(rt, &args, of.model.lps()));
     let mut watch = Watching::new(rt, progress, args.stop_file);
     let ended = run_attempts::<M, R, P, O>(rt, nodes, &of, disk, args, &mut watch, out)?;
+    said.note(ended.disk.last_error());
     end_run(ended.outcome, args.stop_file, watch.progress, out)
 }
 
@@ -180,6 +184,7 @@ fn run_traced<M, R, P, O>(
     nodes: NodePrograms<'_>,
     args: RunArgs<'_>,
     trace: &str,
+    said: &SystemErrors,
     progress: &mut P,
     out: &mut O,
 ) -> Result<(), Fault>
@@ -204,7 +209,7 @@ where
     let file = opened.map_err(unwritable)?;
     let rows = BufWriter::new(rt.alloc(), file).map_err(unwritable)?;
     let mut traced = Traced::to(progress, rows, earlier);
-    let outcome = run_with::<M, R, _, O>(rt, nodes, args, &mut traced, out);
+    let outcome = run_with::<M, R, _, O>(rt, nodes, args, said, &mut traced, out);
     let is_whole = traced.is_whole();
     outcome?;
     if is_whole { Ok(()) } else { Err(Fault::File) }

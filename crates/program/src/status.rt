@@ -13,6 +13,7 @@ use crate::disks::{extend_on, grow_on, migrate_on, new_on, reopen_on, show_on};
 use crate::fault::Fault;
 use crate::looking::{draw_on, log_on, stats_on, status_on, verify_on};
 use crate::running::{run_as, serve_on};
+use crate::said::SystemErrors;
 use clap::error::{Error as LineError, ErrorKind as LineFault};
 use cli::{Command, Hint, Texts, hint_of, program_help, read_command, says_advice, seq_help};
 use judging::Differences;
@@ -125,8 +126,9 @@ where
         calls: &calls,
         differences: &differences,
     };
+    let said = SystemErrors::none();
     let mut found = None;
-    match run::<M, R, P, O>(rt, nodes, command, progress, out, &mut found) {
+    match run::<M, R, P, O>(rt, nodes, command, &said, progress, out, &mut found) {
         Ok(()) => 0,
         Err(fault) => {
             progress.clear();
@@ -135,6 +137,7 @@ where
             let noted = Noted {
                 last: calls.last(),
                 refused: differences.first(),
+                system: said.last(),
             };
             advise::<M, R, P, E>(rt, command, fault, noted, is_asked, progress, err);
             status
@@ -179,6 +182,7 @@ fn run<M, R, P, O>(
     rt: &R,
     nodes: NodePrograms<'_>,
     command: Command<'_>,
+    said: &SystemErrors,
     progress: &mut P,
     out: &mut O,
     found: &mut Option<Wrong>,
@@ -196,11 +200,11 @@ where
         (O.contents out.old) (O.contents out.new)) }
 {
     match command {
-        Command::New(args) => new_on::<M, R, O>(rt, args, out),
-        Command::Run(args) => run_as::<M, R, P, O>(rt, nodes, args, progress, out),
-        Command::Extend(args) => extend_on::<M, R, O>(rt, args, out),
-        Command::Grow(args) => grow_on::<M, R, O>(rt, args, out),
-        Command::Migrate(args) => migrate_on::<M, R, O>(rt, args, out),
+        Command::New(args) => new_on::<M, R, O>(rt, args, said, out),
+        Command::Run(args) => run_as::<M, R, P, O>(rt, nodes, args, said, progress, out),
+        Command::Extend(args) => extend_on::<M, R, O>(rt, args, said, out),
+        Command::Grow(args) => grow_on::<M, R, O>(rt, args, said, out),
+        Command::Migrate(args) => migrate_on::<M, R, O>(rt, args, said, out),
         Command::Reopen(args) => reopen_on::<M, R, P, O>(rt, args, progress, out),
         Command::Status(args) => status_on::<M, R, O>(rt, args, out),
         Command::Verify(args) => verify_on::<M, R, P, O>(rt, args, progress, out),

@@ -1,5 +1,6 @@
 mod Counts
 mod Drives
+mod Faults
 mod Kept
 mod Left
 pub mod Ports

@@ -240,8 +240,8 @@ AreAsked Overlapped round outstanding made = (posts : List Made) × (next : List
 abbrev pub events_due : Plan → Bool → ℕ
 events_due plan last = if last then min plan.commit_every 1 else plan.commit_every
 
--- A round ends with a commit if at least so many were reported, or if no floor answered in it is
--- below the end, so that the commit reaches the end.
+-- A round ends with a commit if at least `events_due` events were reported since the last commit, or
+-- if no floor answered in it is below the end, so that the commit reaches the end.
 abbrev pub is_due : Round → ℕ → ℕ → Bool
 is_due round reported floor =
     nat_le (events_due round.plan round.last) reported || nat_le round.end floor
@@ -278,9 +278,9 @@ round_after plan end last rounds = record {
   last = rounds + 1 == last;
 }
 
--- The first so many rounds of a run whose last round has the number `last`, unless it reaches the
--- end before. That is the number of rounds of the plan, or a lower one if the run was asked to stop.
--- Before the first one no parcel is outstanding.
+-- The first `rounds` rounds of a run whose last round has the number `last`, unless the run reaches
+-- the end before. `last` is the number of rounds of the plan, or a lower one if the run was asked to
+-- stop. Before the first round no parcel is outstanding.
 abbrev pub AreRounds : Plan → ℕ → ℕ → ℕ → List Made → Type 0
 AreRounds plan end last zero made = made ≡ []
 AreRounds plan end last (suc rounds) made = (before : List Made) × (round : List Made)
@@ -289,7 +289,7 @@ AreRounds plan end last (suc rounds) made = (before : List Made) × (round : Lis
     (outstanding_after (replicate plan.nodes None) before) round
     × (made ≡ before ++ round)
 
--- The first so many rounds of such a run, in which each parcel has the budget that its node's own
+-- The first `rounds` rounds of such a run, in which each parcel has the budget that its node's own
 -- replies gave since the run began.
 abbrev pub AreRoundsOfRun : Plan → ℕ → ℕ → ℕ → List Made → Type 0
 AreRoundsOfRun plan end last rounds made = AreRounds plan end last rounds made
@@ -347,7 +347,7 @@ module _ {M P D : Type 0} (meaning : M → Meaning) (state : P → PortState) wh
     pub front_is : front ≡ last.front
     pub left : new ≡ last.log.disk
 
-  -- the steps are the first so many rounds of a run to the round with the number `last`
+  -- the steps are the first `rounds` rounds of a run to the round with the number `last`
   abbrev pub HasRun : (D → DiskState) → M → ℕ → Plan → ℕ → ℕ → D → D → World → Type 0
   HasRun disk model end plan last rounds old new front =
       HasMade disk model end (AreRoundsOfRun plan end last rounds) old new front

@@ -3,11 +3,14 @@
 ghost use Rattle.std.specs.Prelude.{◌≡◌, ◌<◌, ◌≤◌, ◌^◌, ℕ, IfErr, IfOk, IsErrOf, OnOk, length};
 ghost use Rattle.std.specs.Prelude.{map, replicate};
 ghost use Rattle.coordinator.specs.declared.SessionFault.{SessionFault};
+ghost use Rattle.coordinator.specs.declared.SessionFault.TheVariants.{Port as OfPort};
 ghost use Rattle.coordinator.specs.Crashes.{KeepsRecovery, Recovers};
+ghost use Rattle.coordinator.specs.PortFaults.{IsFaultInProgram};
 ghost use Rattle.recovery.specs.Represents.{IsGenuine};
 ghost use Rattle.runs.specs.Driver.{HasCounted, IsRunOf, IsStoppedAt, IsUnfinished, SessionRefused};
 ghost use Rattle.wire.specs.Local.{state_by, state_of};
 ghost use Rattle.wire.specs.declared.local.Held.TheVariants.{Fresh};
+ghost use Rattle.wire.specs.declared.port.PortFault.{PortFault};
 
 use crate::over::{Ran, run_over};
 use crate::rounds::{Plan, RunFault, Watch};
@@ -46,6 +49,11 @@ pub fn run_local<M: Simulated, D: SectorDisk + Drop, W: Watch>(
     ensures refused { (fault : SessionFault) → IsErrOf result.outcome (RunFault.Session fault) →
         SessionRefused M.meaning (state_by M.meaning) D.state model.now end plan
         (replicate plan.nodes (state_of (M.meaning model.now) Fresh)) disk result.disk fault }
+    // On a disk whose records are genuine, a fault of a port is that of a node: its memory is
+    // exhausted, or a handling would pass the number limit.
+    ensures faults { IsGenuine (M.meaning model.now) end (D.state disk).reads →
+        (fault : PortFault) → IsErrOf result.outcome (RunFault.Session (OfPort fault)) →
+        IsFaultInProgram fault }
     ensures count { IfOk result.outcome (λ outcome. length outcome.ran.items ≡ plan.nodes) }
     // The fault is `Rounds` only if all rounds were made and the end was not reached.
     ensures rounds { IsGenuine (M.meaning model.now) end (D.state disk).reads →

@@ -2,11 +2,14 @@
 
 ghost use Rattle.std.specs.Prelude.{◌≡◌, ◌<◌, ◌≤◌, ◌^◌, ℕ, IfOk, IsErrOf, OnOk, length, map};
 ghost use Rattle.coordinator.specs.declared.SessionFault.{SessionFault};
+ghost use Rattle.coordinator.specs.declared.SessionFault.TheVariants.{Port as OfPort};
 ghost use Rattle.coordinator.specs.Crashes.{KeepsRecovery, Recovers};
 ghost use Rattle.recovery.specs.Represents.{IsGenuine};
 ghost use Rattle.coordinator.specs.Opening.{AllFresh, AllFaithful};
+ghost use Rattle.coordinator.specs.PortFaults.{IsFaultOfPorts};
 ghost use Rattle.runs.specs.Driver.{HasCounted, IsRunOf, IsRunOver, IsShortOver, IsStoppedAt};
 ghost use Rattle.runs.specs.Driver.{IsStoppedOver, IsUnfinished, SessionRefused};
+ghost use Rattle.wire.specs.declared.port.PortFault.{PortFault};
 
 use crate::rounds::{Plan, RunFault, Watch, run_session};
 use coordinator::{NotOpened, Session};
@@ -76,6 +79,11 @@ pub fn run_over<M: Simulated, P: Port + Drop, D: SectorDisk + Drop, W: Watch>(
     ensures refused { (fault : SessionFault) → IsErrOf result.outcome (RunFault.Session fault) →
         SessionRefused M.meaning P.state D.state model.now end plan (map P.state ports.items)
         disk result.disk fault }
+    // Over faithful ports, and on a disk whose records are genuine, a fault of a port is a resource
+    // fault that ports of this type can have, or a handling would pass the number limit.
+    ensures faults { AllFaithful (M.meaning model.now) (map P.state ports.items) →
+        IsGenuine (M.meaning model.now) end (D.state disk).reads → (fault : PortFault) →
+        IsErrOf result.outcome (RunFault.Session (OfPort fault)) → IsFaultOfPorts P.state fault }
     ensures count { IfOk result.outcome (λ outcome. length outcome.ran.items ≡ plan.nodes) }
     // Over faithful ports, and on a disk whose records are genuine, the result is that of the
     // sequential simulation up to the end.

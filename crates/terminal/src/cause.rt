@@ -3,7 +3,7 @@
 
 use crate::paths::are_one_file;
 use cli::{Command, DiskArgs, DrawArgs, MigrateArgs, NewArgs, RunArgs, SourceArgs, most_sectors};
-use disk::{MOST_SECTORS, MOST_SECTORS_OF_LARGE};
+use disk::{MOST_SECTORS, MOST_SECTORS_OF_LARGE, SystemError};
 use std::fmt;
 use std::fs::{self, File, Metadata, OpenOptions, TryLockError};
 use std::io::{Error as IoError, ErrorKind};
@@ -12,7 +12,7 @@ use std::rt::Files;
 use texts::{LONGEST_MODEL_FILE, Printable};
 use thiserror::Error;
 
-/// A file or a folder of a command, and what is wrong with it. Its text can't control a terminal.
+/// A file or a folder of a command, and what is wrong with it. Its text cannot control a terminal.
 #[derive(Clone, Copy, Debug, PartialEq, Eq)]
 pub struct Cause<'a> {
     path: &'a str,
@@ -80,17 +80,6 @@ enum Reason {
     NotHeard,
 }
 
-/// The number of an error of the system. Its text is the system's.
-#[derive(Clone, Copy, Debug, PartialEq, Eq)]
-struct SystemError(i32);
-
-impl fmt::Display for SystemError {
-    fn fmt<W: fmt::Write>(&self, f: &mut fmt::Formatter<W>) -> fmt::Result {
-        let error = IoError::from_raw_os_error(self.0);
-        write!(f, "{error}")
-    }
-}
-
 /// What a command does with a path.
 #[derive(Clone, Copy)]
 enum Step<'a> {
@@ -114,7 +103,55 @@ enum Step<'a> {
 
 /// The cause of the fault `File` with which this command ended, if one is found: the first in the
 /// order in which the command takes its paths.
-pub fn cause_of<'a, R>(rt: &R, command: Command<'a>) -> Option<Cause<'a>>
+///
+/// `noted` is the system's error at the opening of the disk that the command writes. It is the cause
+/// if no other one is found, or if the disk could not be made for lack of room.
+pub fn cause_of<'a, R>(
+    rt: &R,
+    command: Command<'a>,
+    noted: Option<SystemError>,
+) -> Option<Cause<'a>>
+where
+    R: Files<File = File> + AllocGlobal,
+{
+    let seen = seen_cause(rt, command);
+    match (seen, noted) {
+        (None, Some(error)) => cause_of_device(command, error),
+        (Some(cause), Some(error)) if cause.reason == Reason::NotMade && is_of_room(error) => {
+            cause_of_device(command, error)
+        }
+        _ => seen,
+    }
+}
+
+/// The disk that a command writes, with what the system says of it. Returns none for a command that
+/// writes no disk.
+pub fn cause_of_device<'a>(command: Command<'a>, error: SystemError) -> Option<Cause<'a>> {
+    caused(written_disk(command)?, Some(Reason::System(error)))
+}
+
+/// The path of the disk that a command writes.
+fn written_disk<'a>(command: Command<'a>) -> Option<&'a str> {
+    match command {
+        Command::New(args) => Some(args.on.disk),
+        Command::Run(args) => Some(args.on.disk),
+        Command::Extend(args) | Command::Reopen(args) => Some(args.disk),
+        Command::Grow(args) => Some(args.on.disk),
+        Command::Migrate(args) => Some(args.new),
+        _ => None,
+    }
+}
+
+/// Whether the system says that a file has no room, or may not have its size.
+fn is_of_room(error: SystemError) -> bool {
+    matches!(
+        error.kind(),
+        ErrorKind::StorageFull | ErrorKind::QuotaExceeded | ErrorKind::FileTooLarge
+    )
+}
+
+/// The first cause that the paths of a command show.
+fn seen_cause<'a, R>(rt: &R, command: Command<'a>) -> Option<Cause<'a>>
 where
     R: Files<File = File> + AllocGlobal,
 {
@@ -310,10 +347,7 @@ fn reason_of_error(error: IoError, missing: Reason) -> Option<Reason> {
 
 /// What the system says of an error, if it is one of the system.
 fn reason_of_system(error: IoError) -> Option<Reason> {
-    match error.raw_os_error() {
-        Some(number) => Some(Reason::System(SystemError(number))),
-        None => None,
-    }
+    Some(Reason::System(SystemError::of(&error)?))
 }
 
 /// What is wrong with a model file.

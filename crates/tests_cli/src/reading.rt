@@ -80,6 +80,7 @@ const RUN: RunArgs<'static> = RunArgs {
     progress: None,
     create: false,
     sectors: 4096,
+    reserve: false,
 };
 
 /// `log` without options.
@@ -102,7 +103,7 @@ const DRAW: DrawArgs<'static> = DrawArgs {
 };
 
 /// Words, and the command that they give.
-const READ: [(&[&str], Command<'static>); 34] = [
+const READ: [(&[&str], Command<'static>); 36] = [
     (
         &["timewarp", "draw", "a", "--load", "--from=5", "--to=5"],
         Command::Draw(DrawArgs {
@@ -213,6 +214,7 @@ const READ: [(&[&str], Command<'static>); 34] = [
         Command::New(NewArgs {
             on: ON,
             sectors: 4096,
+            reserve: false,
         }),
     ),
     (
@@ -220,6 +222,26 @@ const READ: [(&[&str], Command<'static>); 34] = [
         Command::New(NewArgs {
             on: ON,
             sectors: 131_072,
+            reserve: false,
+        }),
+    ),
+    (
+        &["timewarp", "new", "a", "--reserve", "b"],
+        Command::New(NewArgs {
+            on: ON,
+            sectors: 4096,
+            reserve: true,
+        }),
+    ),
+    (
+        &["timewarp", "migrate", "a", "b", "c", "--reserve"],
+        Command::Migrate(MigrateArgs {
+            model: "a",
+            old: "b",
+            new: "c",
+            sectors: 4096,
+            reserve: true,
+            large: false,
         }),
     ),
     (&["timewarp", "extend", "a", "b"], Command::Extend(ON)),
@@ -230,6 +252,7 @@ const READ: [(&[&str], Command<'static>); 34] = [
             old: "b",
             new: "c",
             sectors: 4096,
+            reserve: false,
             large: false,
         }),
     ),
@@ -240,6 +263,7 @@ const READ: [(&[&str], Command<'static>); 34] = [
             old: "b",
             new: "c",
             sectors: 8,
+            reserve: false,
             large: false,
         }),
     ),
@@ -257,6 +281,7 @@ const READ: [(&[&str], Command<'static>); 34] = [
         Command::New(NewArgs {
             on: LARGE,
             sectors: 16_777_216,
+            reserve: false,
         }),
     ),
     (
@@ -264,6 +289,7 @@ const READ: [(&[&str], Command<'static>); 34] = [
         Command::New(NewArgs {
             on: LARGE,
             sectors: 4096,
+            reserve: false,
         }),
     ),
     (
@@ -288,6 +314,7 @@ const READ: [(&[&str], Command<'static>); 34] = [
             old: "b",
             new: "c",
             sectors: 131_073,
+            reserve: false,
             large: true,
         }),
     ),
@@ -356,7 +383,7 @@ const READ: [(&[&str], Command<'static>); 34] = [
 ];
 
 /// The same for the command `run`.
-const RUNS: [(&[&str], Command<'static>); 14] = [
+const RUNS: [(&[&str], Command<'static>); 15] = [
     (
         &["timewarp", "run", "a", "b", "--attach", "--sockets", "c"],
         Command::Run(RunArgs {
@@ -502,6 +529,14 @@ const RUNS: [(&[&str], Command<'static>); 14] = [
         }),
     ),
     (
+        &["timewarp", "run", "a", "b", "--create", "--reserve"],
+        Command::Run(RunArgs {
+            create: true,
+            reserve: true,
+            ..RUN
+        }),
+    ),
+    (
         &[
             "timewarp",
             "run",
@@ -563,7 +598,7 @@ fn words_give_a_run_and_its_values(rt: HostRuntime) {
 }
 
 /// Words that are refused, and the kind of the error.
-const REFUSED: [(&[&str], ErrorKind); 89] = [
+const REFUSED: [(&[&str], ErrorKind); 90] = [
     // No path is empty.
     (&["timewarp", "seq", ""], ErrorKind::InvalidValue),
     (&["timewarp", "new", "a", ""], ErrorKind::InvalidValue),
@@ -604,6 +639,10 @@ const REFUSED: [(&[&str], ErrorKind); 89] = [
     ),
     (
         &["timewarp", "run", "a", "b", "--sectors=4096"],
+        ErrorKind::MissingRequiredArgument,
+    ),
+    (
+        &["timewarp", "run", "a", "b", "--reserve"],
         ErrorKind::MissingRequiredArgument,
     ),
     (

@@ -1,14 +1,13 @@
 // Disks over real files: which files are disks, what they keep, and how they grow.
 use crate::shared::{
     NO_SECTOR, are_filled, fill, found, free_path, is_seen, make_file, open_to_read, opened,
-    refusal, remove, size_of, store, unfinished_path,
+    refusal, remove, size_of, store,
 };
 use disk::{
-    DiskFault, FileDisk, FileFault, GrowingDisk, GrowthFault, MOST_SECTORS, MOST_SECTORS_OF_LARGE,
-    SectorDisk,
+    DiskFault, FileDisk, FileError, FileFault, GrowingDisk, GrowthFault, MOST_SECTORS,
+    MOST_SECTORS_OF_LARGE, Room, SectorDisk,
 };
-use std::fs::{File, Permissions};
-use std::os::unix::fs::{MetadataExt, PermissionsExt, symlink};
+use std::os::unix::fs::MetadataExt;
 use std::path::PathBuf;
 use std::test::Fail;
 use std::{fs, io};
@@ -33,6 +32,49 @@ fn a_file_keeps_synced_sectors(rt: HostRuntime) -> Result<(), Fail> {
     for sectors in [None, Some(300)] {
         assert_eq!(rt; found(&rt, &path, sectors, &KEPT)?, (300, true));
     }
+    remove(&rt, &path)?;
+    Ok(())
+}
+
+/// Opens a disk of this many sectors, whose file gets its whole room on the device.
+fn reserved(rt: &HostRuntime, path: &PathBuf, sectors: u32) -> Result<FileDisk, FileError> {
+    FileDisk::open_with(
+        rt,
+        rt.alloc(),
+        path.as_str(),
+        Some(sectors),
+        MOST_SECTORS,
+        Room::Reserved,
+    )
+}
+
+/// Whether such a disk is blank, and its file has room for all its sectors, of 512 bytes.
+fn has_room(rt: &HostRuntime, path: &PathBuf, sectors: u32) -> Result<bool, Fail> {
+    let mut disk = reserved(rt, path, sectors)?;
+    let blocks = fs::metadata(rt, path.as_path())?.blocks();
+    let ends = [(0, 0), (sectors.saturating_sub(1), 0)];
+    Ok(blocks >= u64::from(sectors) && are_filled(&mut disk, &ends)?)
+}
+
+#[test]
+fn a_disk_gets_its_whole_room(rt: HostRuntime) -> Result<(), Fail> {
+    let path = free_path(&rt, "room")?;
+    for sectors in [8, 300] {
+        // a new file, and one of zeros that has no room yet
+        assert!(rt; has_room(&rt, &path, sectors)?, "{sectors}");
+        make_file(&rt, &path, u64::from(sectors) * 512)?;
+        assert!(rt; has_room(&rt, &path, sectors)?, "{sectors}");
+        remove(&rt, &path)?;
+    }
+    Ok(())
+}
+
+#[test]
+fn a_disk_that_is_written_keeps_its_sectors(rt: HostRuntime) -> Result<(), Fail> {
+    let path = free_path(&rt, "written")?;
+    store(&mut opened(&rt, &path, Some(300))?, &[(200, 1)])?;
+    let mut disk = reserved(&rt, &path, 300)?;
+    assert!(rt; are_filled(&mut disk, &[(199, 0), (200, 1), (201, 0)])?);
     remove(&rt, &path)?;
     Ok(())
 }
@@ -110,171 +152,6 @@ fn fill_most(rt: &HostRuntime, path: &PathBuf) -> Result<(u32, Result<(), DiskFa
     Ok((disk.sectors(), disk.write(131_072, &[1; 512])))
 }
 
-fn allow(rt: &HostRuntime, path: &PathBuf, mode: u32) -> io::Result<()> {
-    fs::set_permissions(rt, path.as_path(), Permissions::from_mode(mode))
-}
-
-/// Why a read-only file is not opened.
-fn refused_readonly(rt: &HostRuntime, path: &PathBuf) -> io::Result<Option<FileFault>> {
-    allow(rt, path, 0o444)?;
-    let refused = refusal(rt, path, None);
-    allow(rt, path, 0o644)?;
-    Ok(refused)
-}
-
-#[test]
-fn a_read_only_file_is_not_opened_for_writing(rt: HostRuntime) -> Result<(), Fail> {
-    let path = free_path(&rt, "readonly")?;
-    make_file(&rt, &path, 8 * 512)?;
-    assert_eq!(rt; refused_readonly(&rt, &path)?, Some(FileFault::File));
-    assert_eq!(rt; refusal(&rt, &path, None), None);
-    remove(&rt, &path)?;
-    assert_eq!(rt; refused_folder(&rt)?, Some(FileFault::File));
-    Ok(())
-}
-
-/// Why a folder is not opened as a disk.
-fn refused_folder(rt: &HostRuntime) -> io::Result<Option<FileFault>> {
-    Ok(refusal(rt, &std::env::temp_dir(rt)?, Some(8)))
-}
-
-/// Leaves an unfinished file of zeros of this size, and makes the disk. Returns whether the disk is
-/// blank, and whether the unfinished file still exists.
-fn made_after(rt: &HostRuntime, path: &PathBuf, left: u64) -> Result<(bool, bool), Fail> {
-    let unfinished = unfinished_path(rt, path)?;
-    make_file(rt, &unfinished, left)?;
-    let (_sectors, blank) = found(rt, path, Some(8), &[(0, 0), (7, 0)])?;
-    Ok((blank, fs::exists(rt, unfinished.as_path())?))
-}
-
-#[test]
-fn an_unfinished_disk_of_a_killed_program_is_taken_over(rt: HostRuntime) -> Result<(), Fail> {
-    let path = free_path(&rt, "unfinished")?;
-    for left in [0, 512, 9 * 512] {
-        assert_eq!(rt; made_after(&rt, &path, left)?, (true, false));
-        remove(&rt, &path)?;
-    }
-    Ok(())
-}
-
-/// A file that has the name of an unfinished one, and is none.
-#[derive(Clone, Copy)]
-enum Taken {
-    /// It has 512 bytes, this one first, and zeros.
-    Bytes(u8),
-    /// It has so many zeros.
-    Zeros(u64),
-    /// It is a second name of a file of zeros.
-    Linked,
-    /// It is a symbolic link to a file of zeros.
-    LinkedByName,
-    /// It is a folder.
-    Folder,
-}
-
-const TAKEN: [Taken; 5] = [
-    Taken::Bytes(7),
-    Taken::Zeros(700),
-    Taken::Linked,
-    Taken::LinkedByName,
-    Taken::Folder,
-];
-
-/// Makes such a file at the path. What it is another name of is at `other`.
-fn take_name(rt: &HostRuntime, path: &str, other: &PathBuf, taken: Taken) -> io::Result<()> {
-    make_file(rt, other, 512)?;
-    match taken {
-        Taken::Bytes(byte) => {
-            let mut sector = [0; 512];
-            sector[0] = byte;
-            fs::write(rt, path, sector.as_slice())
-        }
-        Taken::Zeros(bytes) => File::create(rt, path)?.set_len(bytes),
-        Taken::Linked => fs::hard_link(rt, other.as_path(), path),
-        Taken::LinkedByName => symlink(rt, other.as_path(), path),
-        Taken::Folder => fs::create_dir(rt, path),
-    }
-}
-
-/// What the name of the unfinished file has: its size, its names, and whether it is a link.
-fn held(rt: &HostRuntime, path: &str) -> io::Result<(u64, u64, bool)> {
-    let found = fs::symlink_metadata(rt, path)?;
-    Ok((found.len(), found.nlink(), found.is_symlink()))
-}
-
-/// Why no disk is made while the name of its unfinished file is taken, and whether the file that
-/// has it stays as it is, the disk does not exist, and the other file has its size.
-fn refused_beside(
-    rt: &HostRuntime,
-    path: &PathBuf,
-    other: &PathBuf,
-    taken: Taken,
-) -> Result<(Option<FileFault>, [bool; 3]), Fail> {
-    let unfinished = unfinished_path(rt, path)?;
-    take_name(rt, unfinished.as_str(), other, taken)?;
-    let before = held(rt, unfinished.as_str())?;
-    let fault = refusal(rt, path, Some(8));
-    let same = before == held(rt, unfinished.as_str())?;
-    let kept = [
-        same,
-        !fs::exists(rt, path.as_path())?,
-        size_of(rt, other)? == 512,
-    ];
-    if matches!(taken, Taken::Folder) {
-        fs::remove_dir(rt, unfinished.as_path())?;
-    } else {
-        remove(rt, &unfinished)?;
-    }
-    Ok((fault, kept))
-}
-
-#[test]
-fn a_file_of_somebody_else_is_never_taken_over(rt: HostRuntime) -> Result<(), Fail> {
-    let path = free_path(&rt, "taken")?;
-    let other = free_path(&rt, "precious")?;
-    for taken in TAKEN {
-        let met = refused_beside(&rt, &path, &other, taken)?;
-        assert_eq!(rt; met, (Some(FileFault::File), [true; 3]));
-    }
-    remove(&rt, &other)?;
-    Ok(())
-}
-
-/// Gives a disk the name of its unfinished file too, as a program leaves it that is killed between
-/// two calls, and opens it. Returns whether it is as before, and whether it still has that name.
-fn found_twice(rt: &HostRuntime, path: &PathBuf) -> Result<(bool, bool), Fail> {
-    let unfinished = unfinished_path(rt, path)?;
-    store(&mut opened(rt, path, Some(8))?, &[(3, 3)])?;
-    fs::hard_link(rt, path.as_path(), unfinished.as_path())?;
-    let (_sectors, same) = found(rt, path, Some(8), &[(0, 0), (3, 3)])?;
-    Ok((same, fs::exists(rt, unfinished.as_path())?))
-}
-
-#[test]
-fn a_disk_keeps_no_second_name(rt: HostRuntime) -> Result<(), Fail> {
-    let path = free_path(&rt, "twice")?;
-    assert_eq!(rt; found_twice(&rt, &path)?, (true, false));
-    remove(&rt, &path)?;
-    Ok(())
-}
-
-/// Why no disk is made where a link leads to no file, and whether the link is still there.
-fn refused_dangling(rt: &HostRuntime, path: &PathBuf) -> Result<(Option<FileFault>, bool), Fail> {
-    symlink(rt, "nothing-of-this-name", path.as_path())?;
-    let fault = refusal(rt, path, Some(8));
-    let kept = fs::symlink_metadata(rt, path.as_path())?.is_symlink();
-    remove(rt, path)?;
-    Ok((fault, kept))
-}
-
-#[test]
-fn a_link_that_leads_nowhere_stays(rt: HostRuntime) -> Result<(), Fail> {
-    let path = free_path(&rt, "dangling")?;
-    let refused = (Some(FileFault::File), true);
-    assert_eq!(rt; refused_dangling(&rt, &path)?, refused);
-    Ok(())
-}
-
 /// What other programs get while one has the disk: why writers are refused, whether a reader sees
 /// none of the dirty sectors, and whether it sees all synced ones.
 fn met_beside(
@@ -306,25 +183,6 @@ fn a_disk_has_one_writer(rt: HostRuntime) -> Result<(), Fail> {
     assert_eq!(rt; met_beside(&rt, &path)?, (refused, [true, true]));
     assert_eq!(rt; looked(&rt, &path)?, [Ok(()), Err(DiskFault::Device)]);
     assert_eq!(rt; found(&rt, &path, None, &[(3, 3)])?, (8, true));
-    remove(&rt, &path)?;
-    Ok(())
-}
-
-/// The number of sectors of a disk whose file is read-only.
-fn seen_readonly(rt: &HostRuntime, path: &PathBuf) -> Result<u32, Fail> {
-    drop(opened(rt, path, Some(8))?);
-    allow(rt, path, 0o444)?;
-    let seen = open_to_read(rt, path)?.sectors();
-    allow(rt, path, 0o644)?;
-    Ok(seen)
-}
-
-#[test]
-fn a_read_only_file_is_opened_for_reading(rt: HostRuntime) -> Result<(), Fail> {
-    let path = free_path(&rt, "looked-at")?;
-    assert_eq!(rt; seen_readonly(&rt, &path)?, 8);
-    make_file(&rt, &path, 8 * 512 + 1)?;
-    assert_eq!(rt; open_to_read(&rt, &path).err(), Some(FileFault::File));
     remove(&rt, &path)?;
     Ok(())
 }

@@ -2,7 +2,7 @@
 use crate::doubles::{Call, Calls, Partial};
 use crate::shared::{are_filled, free_path, opened, read, remove};
 use disk::FileFault;
-use disk::parts::{Image, lengthen, load_from, shorten, store};
+use disk::parts::{Image, lengthen, load_from, reserve, shorten, store};
 use std::alloc::{AllocError, Global};
 use std::fs::File;
 use std::io;
@@ -149,6 +149,34 @@ fn a_possibly_longer_file_is_truncated_first(rt: HostRuntime) -> Result<(), Fail
     let expected = (true, 3, first(LENGTHENED, 3));
     assert_eq!(rt; resized(rt.alloc(), Change::Shortened(false), 9)?, expected);
     Ok(())
+}
+
+/// Writes zeros to a file of this many sectors, whose call number `fail` fails. Returns whether it
+/// succeeds, and the calls.
+fn reserved(sectors: u32, fail: usize) -> (bool, usize, [Call; 6]) {
+    let file = Calls::new(fail);
+    let done = reserve(&file, sectors).is_ok();
+    let (count, calls) = file.noted();
+    (done, count, calls)
+}
+
+const PIECES: [Call; 6] = [
+    Call::Write(0, 65_536),
+    Call::Write(65_536, 65_536),
+    Call::Write(131_072, 44 * 512),
+    Call::Nothing,
+    Call::Nothing,
+    Call::Nothing,
+];
+
+#[test]
+fn the_room_of_a_file_is_written_in_pieces(rt: HostRuntime) {
+    assert_eq!(rt; reserved(300, 9), (true, 3, PIECES));
+    assert_eq!(rt; reserved(256, 9), (true, 2, first(PIECES, 2)));
+    // an error is returned, and no call follows it
+    for fail in 0..3 {
+        assert_eq!(rt; reserved(300, fail), (false, fail + 1, first(PIECES, fail)));
+    }
 }
 
 // A read may fail after some bytes, and the file may have become shorter.

@@ -1,8 +1,9 @@
 // What a store puts into a real file, and the fault when the file refuses.
 
 use crate::shared::free_path;
-use disk::{DiskFault, FileDisk, SectorDisk};
+use disk::{DiskFault, FileDisk, SectorDisk, SystemError};
 use std::fs;
+use std::io::Error as IoError;
 use std::test::Fail;
 
 /// A sector that starts with its number.
@@ -47,9 +48,13 @@ fn a_sync_fails_if_the_file_refuses_it(rt: HostRuntime) -> Result<(), Fail> {
     drop(disk);
     let mut disk = FileDisk::open_to_read(&rt, rt.alloc(), path.as_str())?;
     disk.write(3, &sector_of(4))?;
+    assert_eq!(rt; disk.last_error(), None);
     for _ in 0..2 {
         assert_eq!(rt; disk.sync(), Err(DiskFault::Device));
     }
+    // the system's words are kept
+    let error = disk.last_error();
+    assert_eq!(rt; error, SystemError::of(&IoError::from_raw_os_error(9)));
     drop(disk);
     let bytes = fs::read(&rt, path.as_path())?;
     assert!(rt; bytes.get(1536..2048) == Some(sector_of(3).as_slice()));

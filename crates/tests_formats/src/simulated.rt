@@ -1,5 +1,4 @@
-// The models: single calls of their handlers, and whole runs.
+// The models: single calls of their handlers.
 
-mod plain;
 mod rings;
 mod rows;

@@ -1,6 +1,6 @@
 // Worked frames, byte for byte, and bytes that are no frames.
 
-use eventkey::{Listed, Message, Sign, Signed};
+use eventkey::{KeyFault, Listed, Message, Sign, Signed};
 use frames::{
     Frame, Kind, encode_fault, encode_load, encode_parcel, encode_reply, read_frame, read_raw,
     read_whole_frame, read_whole_raw,
@@ -8,7 +8,7 @@ use frames::{
 use model::{SavedState, Sent, State, Words, append_words, read_words};
 use node::{Load, NodeFault, Parcel, Part, Reply};
 use process::Done;
-use std::alloc::Global;
+use std::alloc::{AllocError, Global};
 use std::io::{self, Error, ErrorKind, Read};
 use std::process::Abort;
 use std::test::Fail;
@@ -22,9 +22,24 @@ const LOAD: [u8; 58] = [
     0, 1, 0, 0, 0, 1, 0, 0, 0, 0, 0, 0, 0, 0, 1, 0, 0, 0, 0, 0, 0, 0, 0, 0, 0, 0, 0,
 ];
 
+/// The load of node 0 of three, whose process has a pending message.
+const LOAD_0: [u8; 114] = [
+    0, 0, 0, 109, 1, 0, 0, 0, 0, 0, 0, 0, 3, 0, 0, 0, 0, 0, 0, 0, 10, 0, 0, 0, 0, 0, 0, 0, 0, 0, 0,
+    0, 1, 0, 0, 0, 0, 0, 0, 0, 0, 0, 0, 0, 1, 1, 0, 0, 0, 0, 0, 0, 0, 0, 0, 0, 0, 1, 0, 0, 0, 0, 0,
+    0, 0, 1, 0, 0, 0, 0, 0, 0, 0, 0, 0, 0, 0, 0, 0, 0, 0, 0, 0, 0, 0, 0, 0, 0, 0, 0, 0, 0, 0, 0, 0,
+    0, 0, 0, 0, 0, 0, 0, 0, 0, 0, 0, 0, 0, 0, 0, 0, 0, 0, 0,
+];
+
 /// A parcel without deliveries: budget 16, floor 1.
 const PARCEL: [u8; 21] = [
     0, 0, 0, 16, 2, 0, 0, 0, 0, 0, 0, 0, 16, 0, 0, 0, 0, 0, 0, 0, 1,
+];
+
+/// A parcel that delivers a message of time 0: budget 0, floor 1.
+const LATE: [u8; 78] = [
+    0, 0, 0, 73, 2, 0, 0, 0, 1, 0, 0, 0, 0, 0, 0, 0, 0, 0, 0, 0, 0, 0, 0, 0, 0, 0, 0, 0, 0, 0, 0,
+    0, 0, 0, 0, 0, 0, 0, 0, 0, 0, 0, 0, 0, 0, 0, 0, 0, 0, 0, 0, 0, 0, 0, 0, 0, 0, 0, 0, 0, 0, 0, 0,
+    0, 0, 0, 0, 0, 0, 0, 0, 0, 0, 0, 0, 0, 0, 1,
 ];
 
 /// A reply that sends one message.
@@ -47,6 +62,16 @@ const LADEN: [u8; 213] = [
 
 /// The fault BelowFloor.
 const FAULT: [u8; 6] = [0, 0, 0, 1, 4, 2];
+
+const FRAMES: [(&[u8], Kind); 7] = [
+    (&LOAD, Kind::Load),
+    (&LOAD_0, Kind::Load),
+    (&PARCEL, Kind::Parcel),
+    (&LATE, Kind::Parcel),
+    (&REPLY, Kind::Reply),
+    (&LADEN, Kind::Reply),
+    (&FAULT, Kind::Fault),
+];
 
 /// A reader that returns at most `size` bytes per call, and refuses the call number `fail`.
 #[derive(Drop)]
@@ -85,8 +110,20 @@ impl<'a> Read for Pieces<'a> {
     }
 }
 
-fn message() -> Result<Message, Fail> {
-    Ok(Message::new(3, 0, 1, 1, 0, 1, 0, 0)?)
+/// A message: its time, sender, number, receiver and content.
+type Row = (u64, u32, u64, u32, u64, u64, u64, u64);
+
+const TOKEN: Row = (1, 0, 0, 0, 0, 0, 0, 0);
+
+const LATE_ONE: Row = (0, 0, 0, 0, 0, 0, 0, 0);
+
+const HANDLED: Row = (1, 0, 0, 0, 0, 0, 6, 7);
+
+const SENT: Row = (3, 0, 1, 1, 0, 1, 0, 0);
+
+fn message(row: Row) -> Result<Message, KeyFault> {
+    let (time, from, number, to, a, b, c, d) = row;
+    Message::new(time, from, number, to, a, b, c, d)
 }
 
 fn words(alloc: Global, word: u64) -> State {
@@ -95,17 +132,16 @@ fn words(alloc: Global, word: u64) -> State {
     State::from_words(words)
 }
 
-fn load(alloc: Global) -> Result<Load, Fail> {
-    let part = Part {
-        lp: 1,
-        number: 0,
-        words: words(alloc, 0),
-        pending: Listed::from_vec(Vec::new(alloc)),
-    };
+fn load(alloc: Global, node: u32, number: u64, pending: &[Message]) -> Result<Load, AllocError> {
     let mut parts = Vec::new(alloc);
-    parts.push(part)?;
+    parts.push(Part {
+        lp: node,
+        number,
+        words: words(alloc, 0),
+        pending: Listed::from_vec(pending.to_vec(alloc)?),
+    })?;
     Ok(Load {
-        node: 1,
+        node,
         nodes: 3,
         end: 10,
         floor: 0,
@@ -113,61 +149,73 @@ fn load(alloc: Global) -> Result<Load, Fail> {
     })
 }
 
-fn signed(alloc: Global, sign: Sign) -> Result<Listed<Signed>, Fail> {
-    let message = message()?;
-    let mut out = Vec::new(alloc);
-    out.push(Signed { sign, message })?;
-    Ok(Listed::from_vec(out))
+fn parcel(alloc: Global, deliver: &[Signed], budget: u32) -> Result<Parcel, AllocError> {
+    Ok(Parcel {
+        deliver: Listed::from_vec(deliver.to_vec(alloc)?),
+        budget,
+        floor: 1,
+    })
 }
 
-fn laden(alloc: Global) -> Result<Reply, Fail> {
-    let done = Done {
-        message: Message::new(1, 0, 0, 0, 0, 0, 6, 7)?,
-        sent: Sent::from_slice(alloc, &[message()?])?,
+fn reply(alloc: Global, out: Signed) -> Result<Reply, AllocError> {
+    Ok(Reply {
+        out: Listed::from_vec([out].to_vec(alloc)?),
+        low: None,
+        fossils: Listed::from_vec(Vec::new(alloc)),
+        ran: 1,
+    })
+}
+
+fn done(alloc: Global, message: Message, sent: Message) -> Result<Done, AllocError> {
+    Ok(Done {
+        message,
+        sent: Sent::from_slice(alloc, &[sent])?,
         after: SavedState::from_slice(alloc, &[1])?,
         number_after: 2,
-    };
+    })
+}
+
+fn laden(alloc: Global, handled: Message, message: Message) -> Result<Reply, AllocError> {
+    let sign = Sign::Minus;
     let mut fossils = Vec::new(alloc);
-    fossils.push(done)?;
+    fossils.push(done(alloc, handled, message)?)?;
     Ok(Reply {
-        out: signed(alloc, Sign::Minus)?,
+        out: Listed::from_vec([Signed { sign, message }].to_vec(alloc)?),
         low: Some(9),
         fossils: Listed::from_vec(fossils),
         ran: 3,
     })
 }
 
+/// The frame with the bytes of this place in `FRAMES`.
+fn frame(alloc: Global, place: usize) -> Result<Frame, Fail> {
+    let sign = Sign::Plus;
+    Ok(match place {
+        0 => Frame::Load(load(alloc, 1, 0, &[])?),
+        1 => Frame::Load(load(alloc, 0, 1, &[message(TOKEN)?])?),
+        2 => Frame::Parcel(parcel(alloc, &[], 16)?),
+        3 => {
+            let message = message(LATE_ONE)?;
+            Frame::Parcel(parcel(alloc, &[Signed { sign, message }], 0)?)
+        }
+        4 => {
+            let message = message(SENT)?;
+            Frame::Reply(reply(alloc, Signed { sign, message })?)
+        }
+        5 => Frame::Reply(laden(alloc, message(HANDLED)?, message(SENT)?)?),
+        _ => Frame::Fault(NodeFault::BelowFloor),
+    })
+}
+
 #[test]
 fn frames_are_encoded(rt: HostRuntime) -> Result<(), Fail> {
-    let alloc = rt.alloc();
-    assert_eq!(rt;
-        encode_load(alloc, &load(alloc)?)?.as_slice(),
-        LOAD.as_slice()
-    );
-    let parcel = Parcel {
-        deliver: Listed::from_vec(Vec::new(alloc)),
-        budget: 16,
-        floor: 1,
-    };
-    assert_eq!(rt;
-        encode_parcel(alloc, &parcel)?.as_slice(),
-        PARCEL.as_slice()
-    );
-    let reply = Reply {
-        out: signed(alloc, Sign::Plus)?,
-        low: None,
-        fossils: Listed::from_vec(Vec::new(alloc)),
-        ran: 1,
-    };
-    assert_eq!(rt; encode_reply(alloc, &reply)?.as_slice(), REPLY.as_slice());
-    assert_eq!(rt;
-        encode_reply(alloc, &laden(alloc)?)?.as_slice(),
-        LADEN.as_slice()
-    );
-    assert_eq!(rt;
-        encode_fault(alloc, NodeFault::BelowFloor)?.as_slice(),
-        FAULT.as_slice()
-    );
+    for (place, (bytes, _kind)) in FRAMES.iter().enumerate() {
+        let frame = frame(rt.alloc(), place)?;
+        assert!(rt;
+            encoded(rt.alloc(), &frame)?.as_slice() == *bytes,
+            "{place}"
+        );
+    }
     Ok(())
 }
 
@@ -176,31 +224,37 @@ const WORDS: [u8; 18] = [0, 2, 0, 0, 0, 0, 0, 0, 1, 2, 128, 0, 0, 0, 0, 0, 0, 0]
 
 #[test]
 fn state_words_are_encoded(rt: HostRuntime) -> Result<(), Fail> {
-    let alloc = rt.alloc();
-    let mut bytes = Vec::new(alloc);
+    let mut bytes = Vec::new(rt.alloc());
     append_words(&mut bytes, &[])?;
     append_words(&mut bytes, &[258, 1 << 63])?;
     assert_eq!(rt; bytes.as_slice(), WORDS.as_slice());
-    let none = read_words(alloc, &WORDS)?;
-    assert_eq!(rt;
-        none.map(|(state, rest)| (state.words().len(), rest.len())),
-        Some((0, 17))
-    );
-    let two = read_words(alloc, &WORDS[1..])?;
-    assert_eq!(rt;
-        two.map(|(state, _)| state.words().as_slice() == [258, 1 << 63].as_slice()),
-        Some(true)
-    );
     Ok(())
 }
 
+/// The number of words that are read, the first and the last of them, and the number of bytes behind
+/// them.
+fn words_in(alloc: Global, bytes: &[u8]) -> Result<Option<(usize, [u64; 2], usize)>, AllocError> {
+    let Some((state, rest)) = read_words(alloc, bytes)? else {
+        return Ok(None);
+    };
+    let words = state.words().as_slice();
+    let ends = [words.first(), words.last()].map(|word| word.copied().unwrap_or(0));
+    Ok(Some((words.len(), ends, rest.len())))
+}
+
 #[test]
-fn bytes_that_are_no_state_words_are_refused(rt: HostRuntime) -> Result<(), Fail> {
-    let alloc = rt.alloc();
-    assert!(rt; read_words(alloc, &[])?.is_none());
-    assert!(rt; read_words(alloc, &WORDS[1..17])?.is_none());
-    assert!(rt; read_words(alloc, &[16; 129])?.is_some());
-    assert!(rt; read_words(alloc, &[17; 137])?.is_none());
+fn state_words_are_read(rt: HostRuntime) -> Result<(), Fail> {
+    let rows: [(&[u8], Option<(usize, [u64; 2], usize)>); 6] = [
+        (&WORDS, Some((0, [0, 0], 17))),
+        (&WORDS[1..], Some((2, [258, 1 << 63], 0))),
+        (&[], None),
+        (&WORDS[1..17], None),
+        (&[16; 129], Some((16, [0x1010_1010_1010_1010; 2], 0))),
+        (&[17; 137], None),
+    ];
+    for (bytes, expected) in rows {
+        assert_eq!(rt; words_in(rt.alloc(), bytes)?, expected);
+    }
     Ok(())
 }
 
@@ -235,18 +289,21 @@ fn encoded(alloc: Global, frame: &Frame) -> Result<Vec<u8>, WireFault> {
     }
 }
 
+/// Whether the next frame has these bytes.
+fn reads(alloc: Global, reader: &mut Pieces<'_>, frame: &[u8]) -> Result<bool, WireFault> {
+    match read_frame(alloc, reader)? {
+        Some(read) => Ok(encoded(alloc, &read)?.as_slice() == frame),
+        None => Ok(false),
+    }
+}
+
 /// Reads a frame twice from two copies of its bytes, each to its last byte, in pieces of at most
 /// `size` bytes.
 fn read_twice(rt: &impl Abort, alloc: Global, frame: &[u8], size: usize) -> Result<(), Fail> {
-    let mut bytes = Vec::new(alloc);
-    bytes.extend_from_slice(frame)?;
-    bytes.extend_from_slice(frame)?;
+    let bytes = [frame, frame].concat(alloc)?;
     let mut reader = Pieces::of(bytes.as_slice(), size);
     for left in [frame.len(), 0] {
-        let Some(read) = read_frame(alloc, &mut reader)? else {
-            return Err(Fail::new("a frame was read"));
-        };
-        assert_eq!(rt; encoded(alloc, &read)?.as_slice(), frame);
+        assert!(rt; reads(alloc, &mut reader, frame)?);
         assert_eq!(rt; reader.rest.len(), left);
     }
     assert!(rt; read_frame(alloc, &mut reader)?.is_none());
@@ -255,8 +312,7 @@ fn read_twice(rt: &impl Abort, alloc: Global, frame: &[u8], size: usize) -> Resu
 
 #[test]
 fn frames_are_read_to_their_last_byte(rt: HostRuntime) -> Result<(), Fail> {
-    let frames: [&[u8]; 5] = [&LOAD, &PARCEL, &REPLY, &LADEN, &FAULT];
-    for frame in frames {
+    for (frame, _kind) in FRAMES {
         for size in [1, 7, 4096] {
             read_twice(&rt, rt.alloc(), frame, size)?;
         }
@@ -264,39 +320,36 @@ fn frames_are_read_to_their_last_byte(rt: HostRuntime) -> Result<(), Fail> {
     Ok(())
 }
 
+/// Whether these bytes are one whole frame of this kind, and read as such.
+fn is_whole(alloc: Global, frame: &[u8], kind: Kind) -> Result<bool, Fail> {
+    let is_raw = match read_whole_raw(alloc, frame)? {
+        Some(raw) => raw.kind == kind && Some(raw.body.as_slice()) == frame.get(5..),
+        None => false,
+    };
+    Ok(match read_whole_frame(alloc, frame)? {
+        Some(read) => is_raw && encoded(alloc, &read)?.as_slice() == frame,
+        None => false,
+    })
+}
+
+/// Whether these bytes are neither read as one whole frame nor as a raw one.
+fn is_no_whole(alloc: Global, bytes: &[u8]) -> Result<bool, Fail> {
+    Ok(read_whole_raw(alloc, bytes)?.is_none() && read_whole_frame(alloc, bytes)?.is_none())
+}
+
 /// Reads these bytes as one whole frame of this kind. They are no frame without their last byte, or
 /// with one more.
 fn read_whole(rt: &impl Abort, alloc: Global, frame: &[u8], kind: Kind) -> Result<(), Fail> {
-    let Some(raw) = read_whole_raw(alloc, frame)? else {
-        return Err(Fail::new("the bytes are a frame"));
-    };
-    assert_eq!(rt; raw.kind, kind);
-    assert_eq!(rt; Some(raw.body.as_slice()), frame.get(5..));
-    let Some(read) = read_whole_frame(alloc, frame)? else {
-        return Err(Fail::new("the bytes are a frame"));
-    };
-    assert_eq!(rt; encoded(alloc, &read)?.as_slice(), frame);
-    let mut longer = Vec::new(alloc);
-    longer.extend_from_slice(frame)?;
-    longer.push(0)?;
+    assert!(rt; is_whole(alloc, frame, kind)?);
+    let longer = [frame, &[0]].concat(alloc)?;
     let shorter = frame.split_at(frame.len().saturating_sub(1)).0;
-    for bytes in [shorter, longer.as_slice()] {
-        assert!(rt; read_whole_raw(alloc, bytes)?.is_none());
-        assert!(rt; read_whole_frame(alloc, bytes)?.is_none());
-    }
+    assert!(rt; is_no_whole(alloc, shorter)? && is_no_whole(alloc, longer.as_slice())?);
     Ok(())
 }
 
 #[test]
 fn a_whole_frame_has_exactly_its_bytes(rt: HostRuntime) -> Result<(), Fail> {
-    let frames: [(&[u8], Kind); 5] = [
-        (&LOAD, Kind::Load),
-        (&PARCEL, Kind::Parcel),
-        (&REPLY, Kind::Reply),
-        (&LADEN, Kind::Reply),
-        (&FAULT, Kind::Fault),
-    ];
-    for (frame, kind) in frames {
+    for (frame, kind) in FRAMES {
         read_whole(&rt, rt.alloc(), frame, kind)?;
     }
     Ok(())

@@ -186,16 +186,3 @@ fn a_claimed_count_takes_no_memory(rt: HostRuntime) -> Result<(), Fail> {
     assert!(rt; read_signed_list(rt.alloc(), u32::MAX, &ENCODED)?.is_none());
     Ok(())
 }
-
-#[test]
-fn faults_are_printed_by_name(rt: HostRuntime) -> Result<(), Fail> {
-    for (fault, name) in [
-        (KeyFault::Short, "Short"),
-        (KeyFault::TimeTooLarge, "TimeTooLarge"),
-        (KeyFault::BadSign, "BadSign"),
-    ] {
-        let reported = format!(in rt.alloc(); "{fault}")?;
-        assert_eq!(rt; reported.as_str(), name);
-    }
-    Ok(())
-}

@@ -3,8 +3,6 @@
 #![tactic(auto)]
 
 #[cfg(test)]
-mod blamed;
-#[cfg(test)]
 mod buffered;
 #[cfg(test)]
 mod flushing;

@@ -278,7 +278,7 @@ const ADVICE: [(Fault, &str); 23] = [
     (Fault::Log(LogFault::NotBlank), "which `new` keeps\n"),
     (
         Fault::Log(LogFault::NotFormatted),
-        "`new` makes a log on a disk\n",
+        "`new` makes a log on a disk; if this disk had one, `reopen` opens it again\n",
     ),
     (Fault::Log(LogFault::Disk(DiskFault::Device)), DEVICE),
     (Fault::Recovery(RecoveryFault::BadRecord), DAMAGED),
@@ -288,7 +288,7 @@ const ADVICE: [(Fault, &str); 23] = [
     ),
     (
         Fault::Session(SessionFault::Recovery(RecoveryFault::Log(LogFault::NotFormatted))),
-        "`new` makes a log on a disk\n",
+        "`new` makes a log on a disk; if this disk had one, `reopen` opens it again\n",
     ),
     (
         Fault::Session(SessionFault::Full),

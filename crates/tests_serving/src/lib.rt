@@ -3,8 +3,6 @@
 #![tactic(auto)]
 
 #[cfg(test)]
-mod encoding;
-#[cfg(test)]
 mod errors;
 #[cfg(test)]
 mod frames_of_ring;

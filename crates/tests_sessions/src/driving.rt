@@ -82,38 +82,6 @@ fn run_on(
     Ok(run_local(alloc, &ring, disk, 10, plan, outcome).outcome)
 }
 
-#[test]
-fn a_ring_runs_on_three_nodes(rt: HostRuntime) -> Result<(), Fail> {
-    let mut outcome = Seen::nothing();
-    let ended = run_on(rt.alloc(), 64, PLAN, &mut outcome)?;
-    let Ok(Finished { ran, time, events }) = ended else {
-        return Err(Fail::from("the run was refused"));
-    };
-    assert!(rt; ran.as_slice() == [2, 2, 1].as_slice());
-    assert!(rt; time == 10 && events == 5);
-    assert!(rt; outcome.time == 10 && outcome.events == 5);
-    Ok(())
-}
-
-#[test]
-fn a_full_disk_ends_a_run(rt: HostRuntime) -> Result<(), Fail> {
-    let mut outcome = Seen::nothing();
-    let ended = run_on(rt.alloc(), 8, PLAN, &mut outcome)?;
-    assert!(rt; ended.err() == Some(RunFault::Session(SessionFault::Full)));
-    assert!(rt; outcome.time == 7 && outcome.events == 3);
-    Ok(())
-}
-
-#[test]
-fn a_run_ends_after_its_rounds(rt: HostRuntime) -> Result<(), Fail> {
-    let mut outcome = Seen::nothing();
-    let one = Plan { rounds: 1, ..PLAN };
-    let ended = run_on(rt.alloc(), 64, one, &mut outcome)?;
-    assert!(rt; ended.err() == Some(RunFault::Rounds));
-    assert!(rt; outcome.time == 1 && outcome.events == 0);
-    Ok(())
-}
-
 /// A commit comes once this many events are gathered, and at the end. One turn after another: three
 /// are reported in the second round, and the other two in the third, which reaches the end. With
 /// overlap: one in the second, third, fourth, sixth and seventh round each, and the eighth reaches
@@ -147,38 +115,6 @@ fn a_run_commits_after_a_number_of_events(rt: HostRuntime) -> Result<(), Fail> {
         assert!(rt; time == 10 && events == 5);
         assert!(rt; outcome.time == 10 && outcome.events == 5);
         assert!(rt; outcome.commits == commits, "{schedule:?} {commit_every}");
-    }
-    Ok(())
-}
-
-/// The last round of a plan commits if any event was reported, however many a commit waits for. In
-/// the first round none is reported, and in the second one three; one if the nodes overlap.
-#[test]
-fn the_last_round_commits_what_was_reported(rt: HostRuntime) -> Result<(), Fail> {
-    for (schedule, rounds, commit_every, commits, time, events) in [
-        (Schedule::InTurn, 1, 0, 1, 1, 0),
-        (Schedule::InTurn, 1, 1, 0, 0, 0),
-        (Schedule::InTurn, 1, 400_000, 0, 0, 0),
-        (Schedule::InTurn, 2, 0, 2, 7, 3),
-        (Schedule::InTurn, 2, 3, 1, 7, 3),
-        (Schedule::InTurn, 2, 4, 1, 7, 3),
-        (Schedule::InTurn, 2, 400_000, 1, 7, 3),
-        (Schedule::Overlapped, 1, 0, 1, 1, 0),
-        (Schedule::Overlapped, 1, 1, 0, 0, 0),
-        (Schedule::Overlapped, 2, 400_000, 1, 3, 1),
-        (Schedule::Overlapped, 4, 400_000, 1, 5, 2),
-    ] {
-        let mut outcome = Seen::nothing();
-        let plan = Plan {
-            schedule,
-            rounds,
-            commit_every,
-            ..PLAN
-        };
-        let ended = run_on(rt.alloc(), 64, plan, &mut outcome)?;
-        assert!(rt; ended.err() == Some(RunFault::Rounds));
-        assert!(rt; outcome.commits == commits, "{rounds} {commit_every}");
-        assert!(rt; outcome.time == time && outcome.events == events);
     }
     Ok(())
 }

@@ -118,37 +118,6 @@ fn each_history_reaches_the_last_end(rt: HostRuntime) -> Result<(), Fail> {
     Ok(())
 }
 
-/// The record of the end 20: its kind, the length of its body, and the body.
-const RECORD: [u8; 13] = [3, 0, 0, 0, 8, 0, 0, 0, 0, 0, 0, 0, 20];
-
-#[test]
-fn the_record_of_an_end_follows_the_others(rt: HostRuntime) -> Result<(), Fail> {
-    let alloc = rt.alloc();
-    let (image, _fault) = left_by(alloc, &ring(), 14, 10, plan(3, 16, 0))?;
-    let Ok(
-        Extended {
-            front,
-            before,
-            disk,
-        },
-    ) = extend(alloc, &ring(), disk_of(alloc, image)?, 20)
-    else {
-        return Err(Fail::from("the end is refused"));
-    };
-    assert!(rt; before == 10 && front.g == 10 && front.log.as_slice().len() == 5);
-    let image = disk.crash(alloc, Torn::Old)?;
-    let bytes = image.as_slice();
-    assert!(rt;
-        bytes.get(8 * 512) == Some(&1) && bytes.get(10 * 512) == Some(&0),
-        "the gates"
-    );
-    assert!(rt;
-        bytes.get(9 * 512..9 * 512 + 13) == Some(RECORD.as_slice()),
-        "the record"
-    );
-    Ok(())
-}
-
 #[test]
 fn an_end_that_is_not_later_writes_nothing(rt: HostRuntime) -> Result<(), Fail> {
     let alloc = rt.alloc();

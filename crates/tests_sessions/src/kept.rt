@@ -3,12 +3,11 @@
 ghost use Rattle.std.specs.Prelude.{◌≡◌, ◌<◌, ◌≤◌};
 
 use commitlog::{Log, format};
-use coordinator::{NotOpened, Session, SessionFault};
 use disk::{MemDisk, Plan as DiskPlan, Torn};
 use model::Model;
 use models::{Phold, TokenRing};
-use recovery::{Front, RecoveryFault, header, recover};
-use runs::{Batch, Plan, RunFault, Schedule, Watch, local_ports, run_local};
+use recovery::{Front, header, recover};
+use runs::{Batch, Plan, RunFault, Schedule, Watch, run_local};
 use std::alloc::Global;
 use std::test::Fail;
 
@@ -90,88 +89,6 @@ pub(crate) fn front_of<M: Model>(
 /// One token that goes round three processes, two ticks at each.
 pub(crate) fn ring() -> TokenRing {
     TokenRing::new(3, 2, 1)
-}
-
-/// The record of a checkpoint of the ring at time 10: the kind, the length of the body, and the
-/// body.
-const RECORD: [u8; 124] = [
-    2, 0, 0, 0, 119, 0, 0, 0, 0, 0, 0, 0, 10, //
-    0, 0, 0, 0, 0, 0, 0, 3, 1, 0, 0, 0, 0, 0, 0, 0, 2, //
-    0, 0, 0, 0, 0, 0, 0, 2, 1, 0, 0, 0, 0, 0, 0, 0, 2, //
-    0, 0, 0, 0, 0, 0, 0, 1, 1, 0, 0, 0, 0, 0, 0, 0, 1, //
-    0, 0, 0, 1, 0, 0, 0, 0, 0, 0, 0, 11, 0, 0, 0, 1, //
-    0, 0, 0, 0, 0, 0, 0, 1, 0, 0, 0, 2, //
-    0, 0, 0, 0, 0, 0, 0, 0, 0, 0, 0, 0, 0, 0, 0, 5, //
-    0, 0, 0, 0, 0, 0, 0, 0, 0, 0, 0, 0, 0, 0, 0, 0,
-];
-
-#[test]
-fn a_run_writes_its_front_to_a_checkpoint(rt: HostRuntime) -> Result<(), Fail> {
-    let alloc = rt.alloc();
-    let (image, fault) = left_by(alloc, &ring(), 11, 10, plan(3, 16, 3))?;
-    assert!(rt; fault.is_none());
-    let bytes = image.as_slice();
-    assert!(rt; bytes.get(8 * 512) == Some(&1), "the gate of sector 8");
-    assert!(rt;
-        bytes.get(9 * 512..9 * 512 + 124) == Some(RECORD.as_slice()),
-        "the record"
-    );
-    assert!(rt;
-        bytes
-            .get(9 * 512 + 124..11 * 512)
-            .is_some_and(|rest| rest.iter().all(|byte| *byte == 0))
-    );
-    let front = front_of(alloc, &ring(), image, 10)?;
-    assert!(rt; front.g == 10 && front.log.as_slice().len() == 5);
-    assert!(rt; front.numbers.as_slice() == [3, 2, 1].as_slice());
-    Ok(())
-}
-
-#[test]
-fn a_checkpoint_that_has_no_room_keeps_what_was_committed(rt: HostRuntime) -> Result<(), Fail> {
-    let alloc = rt.alloc();
-    let (image, fault) = left_by(alloc, &ring(), 10, 10, plan(3, 16, 3))?;
-    assert!(rt; fault == Some(RunFault::Session(SessionFault::Full)));
-    let front = front_of(alloc, &ring(), image, 10)?;
-    assert!(rt; front.g == 10 && front.log.as_slice().len() == 5);
-    Ok(())
-}
-
-/// Why a session is not opened on this image of the ring.
-pub(crate) fn refusal(alloc: Global, image: Vec<u8>) -> Result<Option<SessionFault>, Fail> {
-    let ring = ring();
-    let ports = local_ports(alloc, &ring, 3)?;
-    Ok(
-        match Session::open(alloc, &ring, ports, disk_of(alloc, image)?, 10) {
-            Ok(_session) => None,
-            Err(NotOpened { fault, disk: _disk }) => Some(fault),
-        },
-    )
-}
-
-/// The image with one byte changed.
-pub(crate) fn with_byte(image: Vec<u8>, place: usize, byte: u8) -> Vec<u8> {
-    let mut image = image;
-    if let Some(there) = image.get_mut(place) {
-        *there = byte;
-    }
-    image
-}
-
-#[test]
-fn an_inconsistent_checkpoint_is_refused(rt: HostRuntime) -> Result<(), Fail> {
-    let alloc = rt.alloc();
-    let bad = SessionFault::Recovery(RecoveryFault::BadCheckpoint);
-    // The time is not that of the record before; a pending message is before it; a process has too
-    // many words; a message is for no process; the count of messages does not match the bytes.
-    for (place, byte) in [(12, 9), (75, 9), (21, 17), (91, 3), (64, 2)] {
-        let (image, _fault) = left_by(alloc, &ring(), 11, 10, plan(3, 16, 3))?;
-        let damaged = with_byte(image, 9 * 512 + place, byte);
-        assert!(rt; refusal(alloc, damaged)? == Some(bad), "byte {place}");
-    }
-    let (image, _fault) = left_by(alloc, &ring(), 11, 10, plan(3, 16, 3))?;
-    assert!(rt; refusal(alloc, image)?.is_none());
-    Ok(())
 }
 
 #[test]

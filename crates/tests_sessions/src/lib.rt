@@ -3,8 +3,6 @@
 #![tactic(auto)]
 
 #[cfg(test)]
-mod damage;
-#[cfg(test)]
 mod driving;
 #[cfg(test)]
 mod extended;

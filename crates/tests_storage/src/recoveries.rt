@@ -1,7 +1,7 @@
 // Recovery of a token ring of three processes that hold the token for two ticks, up to time 10.
 
 use commitlog::{Log, LogFault, format};
-use disk::{DiskFault, MemDisk, Plan, SectorDisk, Torn};
+use disk::{DiskFault, MemDisk, Plan, Torn};
 use eventkey::{Listed, Message};
 use model::{SavedState, WorldFault};
 use models::TokenRing;

@@ -100,8 +100,8 @@ fn check_bytes<M: Described, O: Write>(
     }
 }
 
-/// A file that is not a model file, with all its mistakes; `None` if it cannot be read, or again, or
-/// is a model file.
+/// Reads a file again that is not a model file, and returns its text with all its mistakes. Returns
+/// `None` if it cannot be read, or is a model file now.
 pub fn mistakes_of<M, R>(rt: &R, path: &str) -> Option<Wrong>
 where
     M: Described,

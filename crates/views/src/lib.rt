@@ -1,6 +1,5 @@
 //! The read-only commands, over any files and writers: on a model file, on what is committed on a
-//! disk, for the figures and the picture of a run, and on its trace. None of them needs a session,
-//! so this crate is proved beside the crates that `program` waits for.
+//! disk, for the figures and the picture of a run, and on its trace. None of them needs a session.
 #![tactic(auto)]
 
 mod differing;

@@ -1,82 +1,10 @@
-// Worked examples of PHOLD and the job shop, calculated by hand.
+// Worked handlings, calculated by hand.
 
 use eventkey::Message;
-use model::{Model, Outgoing, World};
-use models::{AnyModel, JobShop, Phold, Relay, TokenRing};
+use model::{Model, Outgoing};
+use models::{JobShop, Phold, Relay, TokenRing};
 use smallvec::SmallVec;
 use std::test::Fail;
-
-/// A message's time, sender, number, receiver and content.
-fn row(x: &Message) -> [u64; 8] {
-    [
-        x.time(),
-        u64::from(x.from()),
-        x.number(),
-        u64::from(x.to()),
-        x.a(),
-        x.b(),
-        x.c(),
-        x.d(),
-    ]
-}
-
-fn are(messages: &[Message], rows: &[[u64; 8]]) -> bool {
-    messages.len() == rows.len()
-        && messages
-            .iter()
-            .zip(rows)
-            .all(|(x, expected)| row(x) == *expected)
-}
-
-#[test]
-fn phold_handles_its_only_message_each_tick(rt: HostRuntime) -> Result<(), Fail> {
-    for seed in [0, 7, (1 << 63) - 1] {
-        let model = AnyModel::Phold(Phold::new(1, 1, 1, seed));
-        let mut world = World::open(rt.alloc(), &model, 4)?;
-        world.run_to(&model, 4)?;
-        let log = [
-            [1, 0, 0, 0, 0, 0, 0, 0],
-            [2, 0, 1, 0, 0, 1, 0, 0],
-            [3, 0, 2, 0, 0, 2, 0, 0],
-        ];
-        assert!(rt; are(world.log(), &log));
-        assert!(rt; are(world.pending(), &[[4, 0, 3, 0, 0, 3, 0, 0]]));
-        assert_eq!(rt;
-            model.identity(rt.alloc()).as_slice(),
-            [2, 1, 1, seed].as_slice()
-        );
-    }
-    Ok(())
-}
-
-#[test]
-fn one_machine_serves_one_job_per_tick(rt: HostRuntime) -> Result<(), Fail> {
-    for seed in [0, 7, (1 << 63) - 1] {
-        let model = AnyModel::JobShop(JobShop::new(1, 2, 1, seed));
-        let mut world = World::open(rt.alloc(), &model, 3)?;
-        world.run_to(&model, 3)?;
-        let log = [
-            [1, 0, 0, 0, 0, 0, 0, 0],
-            [2, 0, 1, 0, 1, 0, 0, 0],
-            [2, 0, 2, 0, 0, 1, 0, 0],
-        ];
-        assert!(rt; are(world.log(), &log));
-        assert!(rt;
-            are(
-                world.pending(),
-                &[[3, 0, 3, 0, 1, 1, 0, 0], [4, 0, 4, 0, 0, 2, 0, 0]]
-            )
-        );
-        let state = world.states().first().ok_or("a machine")?.as_slice();
-        assert_eq!(rt; state.len(), 5);
-        assert!(rt; state.starts_with(&[4, 3, 1, 0]));
-        assert_eq!(rt;
-            model.identity(rt.alloc()).as_slice(),
-            [3, 2, 1, seed].as_slice()
-        );
-    }
-    Ok(())
-}
 
 /// A send with the last two words of the handled message.
 fn sent_on(to: u32, delay: u32, a: u64, b: u64) -> Outgoing {

@@ -1,37 +1,5 @@
 use super::*;
 
-#[test]
-fn a_header_has_the_bytes_of_its_format(rt: HostRuntime) -> Result<(), Fail> {
-    let bytes = header(rt.alloc(), &ring(), END);
-    let start = [
-        0x54, 0x49, 0x4d, 0x45, 0x57, 0x41, 0x52, 0x50, 0, 0, 0, 2, 0, 0, 0, 3, 0, 0, 0, 0, 0, 0,
-        0, 10, 0, 0, 0, 3, 0, 0, 0, 0, 0, 0, 0, 1, 0, 0, 0, 0, 0, 0, 0, 2, 0, 0, 0, 0, 0, 0, 0, 1,
-    ];
-    assert!(rt; bytes.starts_with(&start));
-    assert!(rt; bytes.iter().skip(52).all(|byte| *byte == 0));
-    Ok(())
-}
-
-/// Sector `n` of a log with two records, the first without events, the second with three.
-fn sector_of(alloc: Global, n: u32) -> Result<[u8; 512], Fail> {
-    let log = log_with(alloc, &[(1, &[]), (7, &EVENTS[..3])], None)?;
-    let mut sector = [9; 512];
-    log.into_disk().read(n, &mut sector)?;
-    Ok(sector)
-}
-
-#[test]
-fn records_of_events_have_the_bytes_of_their_format(rt: HostRuntime) -> Result<(), Fail> {
-    let sector = sector_of(rt.alloc(), 3)?;
-    let empty = [1, 0, 0, 0, 12, 0, 0, 0, 0, 0, 0, 0, 1, 0, 0, 0, 0];
-    assert!(rt; sector.starts_with(&empty) && are_zeros(sector.get(17..)));
-    let sector = sector_of(rt.alloc(), 5)?;
-    let three = [1, 0, 0, 0, 0xb4, 0, 0, 0, 0, 0, 0, 0, 7, 0, 0, 0, 3];
-    assert!(rt; sector.starts_with(&three));
-    assert_eq!(rt; events_length(3), 0xb4);
-    Ok(())
-}
-
 const NINE: [[u64; 8]; 9] = [[1, 2, 3, 4, 5, 6, 7, 8]; 9];
 
 /// The image of a log with two records: one of these events, and one without events.

@@ -1,18 +1,8 @@
-use Rattle.coordinator.proofs.PortStates.{at-read, at-set, others}
+use Rattle.coordinator.proofs.PortStates.{port-changes}
+use Rattle.coordinator.specs.Ports.{IsTake}
 use Rattle.coordinator.proofs.ports.take.Goals as goal
 
-pub returns-clause-others : goal.returns-clause-others
-returns-clause-others g c = others g.P.Port.state c.args.ports.now.items c.args.node c.take.new.self c.requires.there
-
-pub returns-clause-idle : goal.returns-clause-idle
-returns-clause-idle g c = rw (at-set g.P.Port.state c.args.ports.now.items c.args.node c.take.new.self c.requires.there) c.take.ensures.idle
-
-pub returns-clause-same : goal.returns-clause-same
-returns-clause-same g c =
-    rw (at-set g.P.Port.state c.args.ports.now.items c.args.node c.take.new.self c.requires.there, at-read g.P.Port.state c.args.ports.now.items c.args.node c.index_mut-port.result.now c.requires.there c.index_mut-port.ensures.value)
-    c.take.ensures.same
-
-pub returns-clause-ok : goal.returns-clause-ok
-returns-clause-ok g c =
-    rw (at-set g.P.Port.state c.args.ports.now.items c.args.node c.take.new.self c.requires.there, at-read g.P.Port.state c.args.ports.now.items c.args.node c.index_mut-port.result.now c.requires.there c.index_mut-port.ensures.value)
-    c.take.ensures.ok
+pub returns-clause-changes : goal.returns-clause-changes
+returns-clause-changes g c =
+    let says : IsTake c.take.result (g.P.Port.state c.index_mut-port.result.now) (g.P.Port.state c.take.new.self) = record { idle = c.take.ensures.idle; ok = c.take.ensures.ok; err = c.take.ensures.err } in
+    port-changes g.P.Port.state (IsTake c.take.result) c.args.ports.now.items c.args.node c.index_mut-port.result.now c.take.new.self c.requires.there c.index_mut-port.ensures.value c.take.ensures.same says

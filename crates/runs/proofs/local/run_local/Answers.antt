@@ -1,6 +1,7 @@
 use Rattle.std.proofs.Common.{List, refl, subst, sym, ◌∙◌}
 use Rattle.std.proofs.lemmas.List.{length-map}
 use Rattle.std.proofs.lemmas.Result.{IfOk-weaker}
+use Rattle.coordinator.proofs.PortFaults.{local-faults}
 use Rattle.runs.proofs.Ports.{all_fresh, all_faithful, so_many}
 use Rattle.wire.specs.Local.{state_by, state_of}
 use Rattle.wire.specs.Port.{PortState}
@@ -40,3 +41,7 @@ returns-clause-reached g c = IfOk-weaker c.run_over.result.outcome _ _ (λ outco
 pub returns-clause-refused : goal.returns-clause-refused
 returns-clause-refused g c = λ fault is.
     subst (λ (ports : List PortState). SessionRefused g.M.Model.meaning (state_by g.M.Model.meaning) g.D.SectorDisk.state c.args.model.now c.args.end c.args.plan ports c.args.disk c.run_over.result.disk fault) c.in-Ok.ensures.ports (c.run_over.ensures.refused fault is)
+
+pub returns-clause-faults : goal.returns-clause-faults
+returns-clause-faults g c = λ genuine fault is.
+    local-faults g.M.Model.meaning fault (c.run_over.ensures.faults (all_faithful c.args.plan.nodes (state_of (g.M.Model.meaning c.args.model.now) Fresh) _ c.in-Ok.ensures.ports (g.M.Model.meaning c.args.model.now) refl refl) genuine fault is)

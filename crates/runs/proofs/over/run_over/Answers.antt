@@ -1,9 +1,11 @@
-use Rattle.std.proofs.Common.{inr, ℕ, Err, ap, arith, length, refl, subst, sym, ◌≡◌, ◌∙◌}
+use Rattle.std.proofs.Common.{inr, ℕ, ◌<◌, Err, ap, arith, length, refl, subst, sym, ◌≡◌, ◌∙◌}
 use Rattle.coordinator.proofs.Resuming.{driven-on}
 use Rattle.coordinator.proofs.Begun.{recovers-genuine}
 use Rattle.coordinator.specs.Session.{system_of, running}
+use Rattle.coordinator.specs.declared.SessionFault.TheVariants.{Port}
+use Rattle.runs.proofs.Faults.{opening_faults, step_faults}
 use Rattle.runs.proofs.Drives.{answered, front_upto, goes_by, in_transit, shaped_by}
-use Rattle.runs.specs.Driver.{AreRoundsOfRun}
+use Rattle.runs.specs.Driver.{AreRounds, AreRoundsOfRun}
 use Rattle.runs.proofs.Kept.{comes_to, keeps, stopped_at}
 use Rattle.runs.proofs.Unfinished.{unfinished}
 use Rattle.runs.specs.declared.rounds.RunFault.TheVariants.{Rounds, Session, Stopped}
@@ -214,4 +216,23 @@ returns-clause-refused g c = elim c.match-run_session.branch [
         refused = stop.3;
         left = c.into_disk.ensures;
       }))
+]
+
+pub returns-in-Err-clause-faults : goal.returns-in-Err-clause-faults
+returns-in-Err-clause-faults g c = λ are_faithful genuine fault is.
+    let not_opened = c.in-Err.field-0 in
+    let cause : not_opened.fault ≡ Port fault = cc in
+    let failed = (g.D.SectorDisk.state c.args.disk).failures < (g.D.SectorDisk.state not_opened.disk).failures in
+    opening_faults g.P.Port.state (g.M.Model.meaning c.args.model.now) c.args.end (g.D.SectorDisk.state c.args.disk).reads c.args.ports.items failed not_opened.fault fault cause are_faithful c.in-Err.ensures.refused
+
+pub returns-clause-faults : goal.returns-clause-faults
+returns-clause-faults g c = λ are_faithful genuine. elim c.match-run_session.branch [
+  | in-Ok-run_session w ↦ rw w.outcome-is (λ fault is. absurd (cc))
+  | in-Err-run_session w ↦
+      let consistent = (c.in-Ok.ensures.consistent genuine are_faithful).0 in
+      rw w.outcome-is
+      (λ fault is.
+      let cause : w.in-Err-run_session.fault ≡ Session (Port fault) = cc in
+      let stop = w.in-Err-run_session.ensures.refused (Port fault) (ap Err cause) in
+      step_faults g.P.Port.state g.M.Model.meaning g.D.SectorDisk.state (AreRounds c.args.plan c.args.end stop.1 stop.0) c.in-Ok.session c.run_session.new.session fault consistent stop.3)
 ]

@@ -1,4 +1,7 @@
-use Rattle.std.proofs.Common.{◌≤◌, List, ℕ, subst, sym}
+use Rattle.std.proofs.Common.{◌≡◌, ◌≤◌, ◌∙◌, Err, List, ℕ, ap, subst, sym}
+use Rattle.coordinator.specs.declared.SessionFault.TheVariants.{Port}
+use Rattle.runs.specs.declared.fault.SimulationFault.TheVariants.{Session}
+use Rattle.runs.proofs.Faults.{not_of_preparing, not_of_reading}
 use Rattle.recovery.specs.Front.{world_of}
 use Rattle.coordinator.proofs.Begun.{recovers-genuine, looked-keeps}
 use Rattle.recovery.specs.Represents.{Represents}
@@ -105,3 +108,17 @@ returns-in-Err-outcome-2-clause-any_moment g c = λ in_sync blank.
     then_so m c.args.end old ran new
     (then_so m c.args.end old made ran (made_so m c.args.end old made (c.prepare.ensures.any_moment in_sync blank (record { some = c.requires.begun; within = c.requires.short }))) runs)
     (looked-keeps m c.args.end 0 ran new c.committed-disk.ensures.looks runs.now_on)
+
+pub returns-in-Err-clause-faults : goal.returns-in-Err-clause-faults
+returns-in-Err-clause-faults g c = λ genuine fault is. absurd (not_of_preparing _ _ c.in-Err.fault (Port fault) (cc) c.in-Err.ensures.refused)
+
+pub returns-in-Err-outcome-clause-faults : goal.returns-in-Err-outcome-clause-faults
+returns-in-Err-outcome-clause-faults g c = λ genuine fault is.
+    let m = g.M.Model.meaning c.args.model.now in
+    let made = g.D.SectorDisk.state c.prepare.new.disk in
+    let begun = prepared_genuine m c.args.end (g.D.SectorDisk.state c.args.disk) made (g.met.M.Model.lawful c.args.model.now) c.requires.short (g.met.D.SectorDisk.sound c.prepare.new.disk) (λ blank. c.in_default.ensures.made blank (record { some = c.requires.begun; within = c.requires.short })) c.prepare.ensures.looks genuine in
+    let cause : c.in-Err-outcome.fault ≡ Session (Port fault) = cc in
+    c.run-disk.ensures.faults begun fault (c.in-Err-outcome.is ∙ ap Err cause)
+
+pub returns-in-Err-outcome-2-clause-faults : goal.returns-in-Err-outcome-2-clause-faults
+returns-in-Err-outcome-2-clause-faults g c = λ genuine fault is. absurd (not_of_reading _ _ _ _ c.in-Err-outcome-2.fault (Port fault) (cc) (rw c.in-Err-outcome-2.is at c.committed-disk.ensures.refused))

@@ -1,17 +1,21 @@
-use Rattle.std.proofs.Common.{◌++◌, ◌∙◌, ap, subst, sym}
+use Rattle.std.proofs.Common.{◌++◌, ◌∙◌, ap, get_or, subst, sym}
 use Rattle.std.specs.List.{AllByRecursion as Every}
 use Rattle.eventkey.proofs.Lists.{Every-append}
 use Rattle.process.specs.Process.{Process, fossils_of}
 use Rattle.process.specs.View.{IsDoneInRange, ProcessView}
-use Rattle.node.proofs.Collects.{process_at, processes_then, seated_at, staffed_then}
+use Rattle.node.proofs.Collects.{process_at, processes_then, seated_at, staffed_then, summary_then}
 use Rattle.node.proofs.Histories.{modelled_again, modelled_at}
+use Rattle.node.specs.Blocks.{with_oldest}
 use Rattle.node.specs.Roster.{at_floor, place_of}
+use Rattle.node.specs.Tournament.{absent}
 use Rattle.node.proofs.roster.Roster.collect_at.Goals as goal
 
 pub returns-clause-staffed : goal.returns-clause-staffed
-returns-clause-staffed g c = rw c.set.ensures
+returns-clause-staffed g c = rw c.set_oldest.ensures
     (staffed_then (at_floor c.args.floor (place_of c.args.self.now)) c.args.self.now.processes.items c.args.self.now.summaries c.args.place c.index_mut-process.result.now c.requires.staffed c.requires.there c.index_mut-process.ensures.value
-    c.collect_into.new.self c.of-summary.result c.in_ok-collect_into.ensures.collected c.of-summary.ensures.summary)
+    c.collect_into.new.self (with_oldest c.oldest-oldest.result (get_or c.args.self.now.summaries c.args.place absent)) c.in_ok-collect_into.ensures.collected
+    (summary_then (at_floor c.args.floor (place_of c.args.self.now)) c.args.self.now.processes.items c.args.self.now.summaries c.args.place c.index_mut-process.result.now c.requires.staffed c.requires.there c.index_mut-process.ensures.value
+    c.collect_into.new.self c.oldest-oldest.result c.in_ok-collect_into.ensures.collected c.oldest-oldest.ensures))
 
 pub returns-clause-processes : goal.returns-clause-processes
 returns-clause-processes g c =

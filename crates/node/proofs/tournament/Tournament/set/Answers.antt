@@ -18,7 +18,7 @@ loop-cell-init c =
       leaves_are = c.set.ensures ∙ ap (λ (xs : List Summary). set xs c.args.leaf c.args.summary) c.self.view_is;
       replaying = subst (λ (xs : List Summary). IsReplaying xs winners (length c.as_slice-2.result.now + c.args.leaf)) (sym c.set.ensures)
           (subst (IsReplaying (set leaves c.args.leaf c.args.summary) winners) same
-          (replay_begins leaves winners c.args.leaf c.args.summary c.self.invariant there c.requires.range));
+          (replay_begins leaves winners c.args.leaf c.args.summary c.self.invariant there));
     }
 
 pub invariant_of-self-in-loop-cell : goal.invariant_of-self-in-loop-cell

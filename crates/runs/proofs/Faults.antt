@@ -1,0 +1,47 @@
+-- Which faults the ports of a run can have.
+use Rattle.std.proofs.Common.{◌≡◌, ℕ, List, inl, map, subst}
+use Rattle.coordinator.proofs.PortFaults.{some-port, steps-faults}
+use Rattle.coordinator.specs.Opening.{AllFaithful, OpeningIsRefused}
+use Rattle.coordinator.specs.PortFaults.{IsFaultOfPorts}
+use Rattle.coordinator.specs.Session.{IsConsistentSession, Session, running}
+use Rattle.coordinator.specs.declared.SessionFault.{SessionFault}
+use Rattle.coordinator.specs.declared.SessionFault.TheVariants.{Port}
+use Rattle.disk.specs.Disk.{DiskState}
+use Rattle.model.specs.Meaning.{Meaning}
+use Rattle.runs.proofs.Drives.{goes_by}
+use Rattle.runs.specs.Driver.{IsRefusedIn, Made}
+use Rattle.runs.specs.Simulation.{PreparingIsRefused, ReadingIsRefused, of_run}
+use Rattle.runs.specs.declared.fault.SimulationFault.{SimulationFault}
+use Rattle.runs.specs.declared.fault.SimulationFault.TheVariants.{Session as OfSession}
+use Rattle.runs.specs.declared.rounds.RunFault.{RunFault}
+use Rattle.runs.specs.declared.rounds.RunFault.TheVariants.{NoMemory, Rounds, Session as OfRun, Stopped}
+use Rattle.wire.specs.Port.{PortState}
+use Rattle.wire.specs.declared.port.PortFault.{PortFault}
+
+module _ {P : Type 0} (state : P → PortState) where
+  -- the fault of an opening that was refused
+  pub opening_faults : (m : Meaning) (end : ℕ) (image : List (List ℕ)) (ports : List P) (failed : Type 0) (cause : SessionFault) (fault : PortFault) → cause ≡ Port fault → AllFaithful m (map state ports) → OpeningIsRefused m end image (map state ports) failed cause → IsFaultOfPorts state fault
+  opening_faults m end image ports failed cause fault is faithful refused =
+      let found = (subst (λ (f : SessionFault). OpeningIsRefused m end image (map state ports) failed f) is refused).2 faithful in
+      inl (some-port state ports found.0 fault found.2)
+
+  module _ {M D : Type 0} (meaning : M → Meaning) (disk : D → DiskState) where
+    -- the fault of a step that was refused, after steps of a consistent session
+    pub step_faults : (S : List Made → Type 0) (old new : Session M P D) (fault : PortFault) → IsConsistentSession (running meaning state old) → IsRefusedIn meaning state disk S old new (Port fault) → IsFaultOfPorts state fault
+    step_faults S old new fault consistent is =
+        let before = (goes_by meaning state disk is.steps old is.mid is.made).made consistent in
+        steps-faults state meaning disk is.next is.mid new fault before.consistent is.refused
+
+-- A simulation has the faults of sessions from its run alone.
+
+pub run_fault : (fault : RunFault) (cause : SessionFault) → of_run fault ≡ OfSession cause → fault ≡ OfRun cause
+run_fault (OfRun fault) cause is = cc
+run_fault Rounds cause is = absurd (cc)
+run_fault (Stopped time events) cause is = absurd (cc)
+run_fault NoMemory cause is = absurd (cc)
+
+pub not_of_preparing : (image : List (List ℕ)) (failed : Type 0) (fault : SimulationFault) (cause : SessionFault) → fault ≡ OfSession cause → PreparingIsRefused fault image failed → ⊥
+not_of_preparing image failed fault cause is refused = subst (λ (f : SimulationFault). PreparingIsRefused f image failed) is refused
+
+pub not_of_reading : (m : Meaning) (end : ℕ) (image : List (List ℕ)) (failed : Type 0) (fault : SimulationFault) (cause : SessionFault) → fault ≡ OfSession cause → ReadingIsRefused m end fault image failed → ⊥
+not_of_reading m end image failed fault cause is refused = subst (λ (f : SimulationFault). ReadingIsRefused m end f image failed) is refused
