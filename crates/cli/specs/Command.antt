@@ -146,13 +146,14 @@ abbrev pub reserved_option : Rule
 reserved_option = record (flag (codes "reserved")) { long = Some (codes "reserve") }
 
 -- how a run is made: 1 to 64 nodes; a batch; 1 to 2^32 - 1 rounds; a checkpoint every 1 to 1,000,000
--- commits; a commit for 1 to 400,000 events; without nodes
+-- commits, with a seal or not; a commit for 1 to 400,000 events; without nodes
 abbrev pub run_made : App
-run_made = with_rule (with_rule (with_rule (with_rule (with_rule (with_rule
+run_made = with_rule (with_rule (with_rule (with_rule (with_rule (with_rule (with_rule
     (on_disk (codes "run")) (optional_number (codes "nodes") 1 64))
     (any_text (codes "batch")))
     (number_option (codes "rounds") 1 4294967295 (codes "1000000")))
     (optional_number (codes "checkpoint") 1 1000000))
+    (flag (codes "seal")))
     (optional_number (codes "commit-every") 1 400000))
     (flag (codes "plain"))
 
@@ -428,9 +429,18 @@ abbrev pub is_without_create : List Row → Bool
 is_without_create rows = not (is_used (codes "create") rows)
     && (is_there (codes "created") rows || is_used (codes "reserved") rows)
 
+-- seals are asked for, but no checkpoints
+abbrev pub is_without_checkpoint : List Row → Bool
+is_without_checkpoint rows = not (is_there (codes "checkpoint") rows)
+    && is_used (codes "seal") rows
+
+-- an option, apart from those of node programs, says nothing without another one
+abbrev pub is_without_another : List Row → Bool
+is_without_another rows = is_without_create rows || is_without_checkpoint rows
+
 -- an option says nothing without another one
 abbrev pub is_lonely : List Row → Bool
-is_lonely rows = is_without_sockets rows || is_without_create rows
+is_lonely rows = is_without_sockets rows || is_without_another rows
 
 abbrev pub lonely_fault : List Row → Kinds
 lonely_fault rows = if is_lonely rows then MissingRequiredArgument ∷ [] else []
@@ -534,6 +544,7 @@ SaysRun args rows = SaysDisk args.on rows
     × (args.batch ≡ batch_in rows)
     × (args.rounds ≡ number_in (codes "rounds") 1 4294967295 rows)
     × (args.checkpoint ≡ optional_number_in (codes "checkpoint") 1 1000000 rows)
+    × IsFlagIn (codes "seal") rows args.seal
     × (args.commit_every ≡ optional_number_in (codes "commit-every") 1 400000 rows)
     × (option_map (λ path. path.now) args.sockets ≡ first_of (codes "sockets") rows)
     × (args.cut ≡ optional_number_in (codes "cut") 0 4294967295 rows)

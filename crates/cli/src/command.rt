@@ -89,6 +89,8 @@ pub struct RunArgs<'a> {
     /// A checkpoint follows each time this many commits are made, at least 1; none for no
     /// checkpoints.
     pub checkpoint: Option<u32>,
+    /// Whether a seal follows each checkpoint: the SHA-256 of the records since the last seal.
+    pub seal: bool,
     /// A round commits once this many more events can be committed, 1 to 400,000; none for a
     /// commit in each round.
     pub commit_every: Option<u32>,

@@ -5,7 +5,8 @@ ghost use Rattle.std.specs.Prelude.{◌≡◌, ◌∷◌, [], is_some, MatchOpti
 ghost use Rattle.clap.specs.Words.{found_of, rows_of, HasKind};
 ghost use Rattle.cli.specs.Command.{company_fault, drawn_fault, excluded_fault, is_drawn_twice};
 ghost use Rattle.cli.specs.Command.{is_excluded, is_lonely, is_no_span, is_over_nodes, is_there};
-ghost use Rattle.cli.specs.Command.{is_used, is_without_create, is_without_sockets, lonely_fault};
+ghost use Rattle.cli.specs.Command.{is_used, is_without_another, is_without_checkpoint};
+ghost use Rattle.cli.specs.Command.{is_without_create, is_without_sockets, lonely_fault};
 ghost use Rattle.cli.specs.Command.{looking_fault, span_fault, together_fault};
 
 use crate::values::{is_used, optional_number, optional_text};
@@ -66,7 +67,18 @@ fn lonely(values: &ArgMatches<'_>) -> Option<&'static str>
 {
     match without_sockets(values) {
         Some(message) => Some(message),
-        None => without_create(values),
+        None => without_another(values),
+    }
+}
+
+/// What is wrong with an option that says nothing without another one, apart from those of node
+/// programs.
+fn without_another(values: &ArgMatches<'_>) -> Option<&'static str>
+    ensures { is_some result ≡ is_without_another (rows_of (found_of values.now)) }
+{
+    match without_create(values) {
+        Some(message) => Some(message),
+        None => without_checkpoint(values),
     }
 }
 
@@ -105,6 +117,19 @@ fn without_create(values: &ArgMatches<'_>) -> Option<&'static str>
         Some("the argument '--sectors <N>' needs '--create', which makes the disk")
     } else if is_used(values, "reserved") {
         Some("the argument '--reserve' needs '--create', which makes the disk")
+    } else {
+        None
+    }
+}
+
+/// What is wrong with an option for seals, if a run makes no checkpoints.
+fn without_checkpoint(values: &ArgMatches<'_>) -> Option<&'static str>
+    ensures { is_some result ≡ is_without_checkpoint (rows_of (found_of values.now)) }
+{
+    if is_there(values, "checkpoint") {
+        None
+    } else if is_used(values, "seal") {
+        Some("the argument '--seal' needs '--checkpoint <E>': a seal follows a checkpoint")
     } else {
         None
     }

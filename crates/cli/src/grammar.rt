@@ -221,7 +221,9 @@ fn run_made<'a>(alloc: Global) -> Result<ClapCommand<'a>, AllocError>
     let command = with_argument(with_argument(command, batch), rounds);
     let checkpoint = optional_number(alloc, "checkpoint", "E", 1, 1_000_000, CHECKPOINT_HELP);
     let commit = optional_number(alloc, "commit-every", "E", 1, 400_000, COMMIT_HELP);
-    let command = with_argument(with_argument(command, checkpoint), commit);
+    let seal = flag(alloc, "seal", SEAL_HELP);
+    let sealed = with_argument(with_argument(command, checkpoint), seal);
+    let command = with_argument(sealed, commit);
     with_argument(command, flag(alloc, "plain", PLAIN_HELP))
 }
 
@@ -256,6 +258,9 @@ const ROUNDS_HELP: &str =
     "Stops after N rounds, 1 to 4294967295; with 1 a run makes no progress (see below)";
 
 const CHECKPOINT_HELP: &str = "Keeps the state in a record after each E-th commit, 1 to 1000000";
+
+const SEAL_HELP: &str =
+    "With --checkpoint: a seal follows each one, so that a changed file is refused";
 
 const COMMIT_HELP: &str =
     "Commits once nodes have reported E more events, 1 to 400000, and at the end (see below)";
@@ -330,7 +335,12 @@ often a few less than E. A power cut can cost the work since the last commit. Ro
 commit do not count for --checkpoint, so with both, checkpoints are far apart.
 
 A checkpoint is one record on the disk, as long as the states of all processes and the pending
-messages. The next opening begins at the last one, and replays only the events after it.
+messages. The next opening begins at the last one, and replays only the events after it. It believes
+what the checkpoint holds; 'verify' compares it.
+
+With --seal a seal follows each checkpoint: the SHA-256 of the records since the last seal. Every
+command that opens the disk compares all seals, and refuses a file that was changed before the last
+one (Log Corrupt). A seal takes 2 sectors. If it has no room it is left out, and the next covers more.
 
 A disk of format 1 fails with Session Recovery OtherModel; only 'migrate' reads it.
 
@@ -445,6 +455,7 @@ Output, all numbers decimal:
   virtual time G of E ticks, P percent      what is committed, and the disk's end
   events N, B bytes of disk an event        B is '-' where there is no event
   records R, of them C checkpoints (the last at T ticks) and K ends
+  seals S, compared with the records before them      if there are any
   sectors U used of S, F free
   full at about T ticks at the pace of the last L commits
 

@@ -28,11 +28,11 @@ use std::convert::AsStr;
 /// version that was asked for (of the kinds `DisplayHelp` and `DisplayVersion`). Then come an invalid
 /// batch and an invalid number of sectors (`ValueValidation`), and an invalid range of processes and
 /// an unknown format (`InvalidValue`), in `clap`'s words; then options that do not go together, each
-/// in `clap`'s form: options of node programs without `--sockets`, and `--sectors` or `--reserve` of
-/// `run` without `--create` (`MissingRequiredArgument`); `--overlap` with `--together`, `--bind` with `--attach`,
-/// `--plain` with an option of nodes, and `--load` with `--trace` (`ArgumentConflict`); and a time of
-/// `--to` before that of `--from` (`ValueValidation`). If an allocation failed, the result is an
-/// error of `clap` too.
+/// in `clap`'s form: options of node programs without `--sockets`, `--sectors` or `--reserve` of
+/// `run` without `--create`, and `--seal` without `--checkpoint` (`MissingRequiredArgument`);
+/// `--overlap` with `--together`, `--bind` with `--attach`, `--plain` with an option of nodes, and
+/// `--load` with `--trace` (`ArgumentConflict`); and a time of `--to` before that of `--from`
+/// (`ValueValidation`). If an allocation failed, the result is an error of `clap` too.
 pub fn read_command<'a, S: AsStr>(
     alloc: Global,
     texts: Texts<'a>,
@@ -135,6 +135,7 @@ fn run_args<'a>(values: &ArgMatches<'a>) -> RunArgs<'a>
         batch: batch(values),
         rounds: small_number(values, "rounds", 1, u32::MAX),
         checkpoint: optional_small_number(values, "checkpoint", 1, 1_000_000),
+        seal: is_flagged(values, "seal"),
         commit_every: optional_small_number(values, "commit-every", 1, 400_000),
         sockets: optional_text(values, "sockets"),
         cut: optional_small_number(values, "cut", 0, u32::MAX),

@@ -1,5 +1,5 @@
 -- A step, and lists of steps, one after another.
-use Rattle.std.proofs.Common.{Err, IfErr, IfOk, IsErrOf, inl, inr, List, Ok, OnOk, Result, [], ◌∷◌, ◌++◌, ◌+◌, ◌<◌, Some, ap, arith, false, get_or, length, map, refl, suc, subst, sym, take, true, ℕ, ◌≡◌, ◌≤◌, ◌∙◌}
+use Rattle.std.proofs.Common.{Bool, Err, IfErr, IfOk, IsErrOf, inl, inr, List, Ok, OnOk, Result, [], ◌∷◌, ◌++◌, ◌+◌, ◌<◌, Some, ap, arith, false, get_or, length, map, refl, suc, subst, sym, take, true, ℕ, ◌≡◌, ◌≤◌, ◌∙◌}
 use Rattle.std.proofs.Math.Seq.{take-suc}
 use Rattle.std.proofs.lemmas.Bool.{cases_Bool}
 use Rattle.std.proofs.lemmas.List.{map-append}
@@ -19,7 +19,7 @@ use Rattle.coordinator.proofs.Committing.{stays}
 use Rattle.coordinator.specs.Crashes.{IsWritten, KeepsRecovery, KeepsRepresentation, Recovers, StaysWritten, SurvivesCrashes}
 use Rattle.coordinator.specs.Drives.{AreSteps, Goes, IsStep, StepsAreMade}
 use Rattle.coordinator.specs.Session.{HasSameNodes, IsConsistentSession, Running, Session, system_of, running}
-use Rattle.coordinator.specs.Steps.{Appends, HasCause, IsLogged, IsMade, IsReplyTaken, IsStepped, leaves_all, move_of, next_time}
+use Rattle.coordinator.specs.Steps.{Appends, HasCause, IsLogged, IsMade, IsReplyTaken, IsStepped, leaves_all, move_of, next_time, seals}
 use Rattle.coordinator.specs.declared.SessionFault.{SessionFault}
 use Rattle.coordinator.specs.declared.SessionFault.TheVariants.{Disk, Full, Spent}
 use Rattle.coordinator.specs.declared.Step.{Step}
@@ -50,6 +50,9 @@ commit_appends k is = subst Appends (sym is) tt
 checkpoint_appends : (k : Move) → k ≡ CheckpointMove → Appends k
 checkpoint_appends k is = subst Appends (sym is) tt
 
+pub one-move : (k : Move) (old new : Running) (answer : Answer) → IsMade k old new answer → StepsAreMade (k ∷ []) old new
+one-move k old new answer made = record { moves_are = rw (made.move_is) refl; consistent = made.consistent }
+
 module _ {M P D : Type 0} (meaning : M → Meaning) (state : P → PortState) (disk : D → DiskState) where
   -- what holds by a session's model and end holds by equal ones
   pub carry : (Q : M → ℕ → Type 0) (x y : M) (e f : ℕ) → y ≡ x → f ≡ e → Q y f → Q x e
@@ -73,6 +76,19 @@ module _ {M P D : Type 0} (meaning : M → Meaning) (state : P → PortState) (d
       (second (first.made consistent).consistent
       (carry (λ (x : M) (e : ℕ). IsWritten (meaning x) e mid.front mid.log) mid.model old.model mid.end old.end (sym first.model_is) (sym first.end_is) (first.written consistent is))
       (carry (λ (x : M) (e : ℕ). Recovers (meaning x) e mid.front.time (disk mid.log.disk)) mid.model old.model mid.end old.end (sym first.model_is) (sym first.end_is) before.now_on)))
+
+  -- a move that was made, and then a call that keeps the disk recovering
+  pub crashed-after : (k : Move) (old mid new : Session M P D) (answer : Answer) → IsStepped k (running meaning state old) (running meaning state mid) mid.spent (Ok answer) → StaysWritten meaning state old mid → SurvivesCrashes meaning state disk old mid
+      → (mid.model ≡ old.model) × (mid.end ≡ old.end) → SurvivesCrashes meaning state disk mid new → SurvivesCrashes meaning state disk old new
+  crashed-after k old mid new answer stepped written crashes same second =
+      let goes : Goes meaning state disk (k ∷ []) old mid = record {
+        model_is = same.0;
+        end_is = same.1;
+        made = λ consistent. one-move k (running meaning state old) (running meaning state mid) answer (stepped.made consistent);
+        written = written;
+        crashes = crashes;
+      } in
+      crashed (k ∷ []) old mid new goes second
 
   then_written : (ks : List Move) (old mid new : Session M P D) → Goes meaning state disk ks old mid → StaysWritten meaning state mid new → StaysWritten meaning state old new
   then_written ks old mid new first second consistent is =
@@ -112,7 +128,7 @@ module _ {M P D : Type 0} (meaning : M → Meaning) (state : P → PortState) (d
   one_made step answer old new is = record {
     model_is = is.same.0;
     end_is = is.same.1;
-    made = λ consistent. let made = is.made consistent in record { moves_are = rw (made.move_is) refl; consistent = made.consistent };
+    made = λ consistent. one-move (move_of step) (running meaning state old) (running meaning state new) answer (is.made consistent);
     written = is.keeps.written is.usable;
     crashes = is.keeps.crashes;
   }
@@ -150,7 +166,7 @@ module _ {M P D : Type 0} (meaning : M → Meaning) (state : P → PortState) (d
       → IsStepped (move_of step) (running meaning state old) (running meaning state new) new.spent result
       → IfErr result (λ fault. leaves_all fault ≡ true → new ≡ old)
       → (move_of step ≡ CommitMove → next_time old.end (system_of (running meaning state old)) ≤ old.front.time → (result ≡ Ok (AlreadyAt old.front.time)) × (new ≡ old))
-      → IsLogged meaning state disk (move_of step) old new result → OnOk result (StaysWritten meaning state old new) → SurvivesCrashes meaning state disk old new
+      → IsLogged meaning state disk (move_of step) (seals step) old new result → OnOk result (StaysWritten meaning state old new) → SurvivesCrashes meaning state disk old new
       → (new.model ≡ old.model) × (new.end ≡ old.end) → HasSameNodes old new → Takes step old new result → IsStep meaning state disk step old new result
   is_step step old new result unspent stepped unchanged already logged written crashes same nodes taken = record {
     made = stepped.made;
@@ -170,9 +186,9 @@ module _ {M P D : Type 0} (meaning : M → Meaning) (state : P → PortState) (d
   }
 
   -- a step that does not touch the log meets `IsLogged`
-  untouched : (k : Move) (old new : Session M P D) (result : Result Answer SessionFault) → (Appends k → ⊥) → new.log ≡ old.log → IfErr result (λ fault. HasCause k (running meaning state old) fault)
-      → IsLogged meaning state disk k old new result
-  untouched k old new (Ok answer) other log cause = record {
+  untouched : (k : Move) (sealed : Bool) (old new : Session M P D) (result : Result Answer SessionFault) → (Appends k → ⊥) → new.log ≡ old.log → IfErr result (λ fault. HasCause k (running meaning state old) fault)
+      → IsLogged meaning state disk k sealed old new result
+  untouched k sealed old new (Ok answer) other log cause = record {
     stays = λ o. log;
     appended = λ is less. absurd (other (commit_appends k is));
     kept = λ is. absurd (other (checkpoint_appends k is));
@@ -181,7 +197,7 @@ module _ {M P D : Type 0} (meaning : M → Meaning) (state : P → PortState) (d
     no_failure = λ less. (let same = ap (λ l. (disk l.disk).failures) log in absurd (omega (arith, less, same)));
     failures = (let same = ap (λ l. (disk l.disk).failures) log in omega (arith, same));
   }
-  untouched k old new (Err fault) other log cause = record {
+  untouched k sealed old new (Err fault) other log cause = record {
     stays = λ o. log;
     appended = λ is less. absurd (other (commit_appends k is));
     kept = λ is. absurd (other (checkpoint_appends k is));
@@ -201,7 +217,7 @@ module _ {M P D : Type 0} (meaning : M → Meaning) (state : P → PortState) (d
       → IfErr result (λ fault. leaves_all fault ≡ true → new ≡ old)
       → new.log ≡ old.log → new.front ≡ old.front → (new.model ≡ old.model) × (new.end ≡ old.end) → HasSameNodes old new → Takes step old new result → IsStep meaning state disk step old new result
   aside step old new result unspent other stepped unchanged log front same nodes taken =
-      is_step step old new result unspent stepped unchanged (λ is. absurd (other (commit_appends (move_of step) is))) (untouched (move_of step) old new result other log stepped.cause)
+      is_step step old new result unspent stepped unchanged (λ is. absurd (other (commit_appends (move_of step) is))) (untouched (move_of step) (seals step) old new result other log stepped.cause)
       (stays-written old new result log front)
       (λ consistent is recovers. rw (log, front) (stays (meaning old.model) old.end old.front.time (disk old.log.disk) recovers))
       same nodes taken

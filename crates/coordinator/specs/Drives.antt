@@ -10,7 +10,7 @@ use Rattle.coordinator.specs.Crashes.{KeepsRepresentation, StaysWritten, Survive
 use Rattle.coordinator.specs.Session.{HasSameNodes, IsConsistentSession, Running, Session}
 use Rattle.coordinator.specs.Session.{system_of, running}
 use Rattle.coordinator.specs.Steps.{HasCause, IsLogged, IsMade, IsReplyTaken, first_refusal}
-use Rattle.coordinator.specs.Steps.{leaves_all, move_of, next_time}
+use Rattle.coordinator.specs.Steps.{leaves_all, move_of, next_time, seals}
 use Rattle.coordinator.specs.declared.DriveFault.{DriveFault}
 use Rattle.coordinator.specs.declared.SessionFault.{SessionFault}
 use Rattle.coordinator.specs.declared.SessionFault.TheVariants.{Disk, Spent}
@@ -61,9 +61,10 @@ module _ {M P D : Type 0} (meaning : M → Meaning) (state : P → PortState) (d
     -- processes.
     pub taken : (node : ℕ) → move_of step ≡ TakeMove node → IfOk result (λ answer.
         IsReplyTaken node (running meaning state old) (running meaning state new) answer)
-    -- A commit that moves the front and a checkpoint append one record; every other step leaves the
-    -- log. `Full` comes only if there is no room, `Disk` exactly if the device has failed.
-    pub logged : IsLogged meaning state disk (move_of step) old new result
+    -- A commit that moves the front and a checkpoint append one record, and a sealed checkpoint a
+    -- seal behind it, if there is room for that; every other step leaves the log. `Full` comes only
+    -- if there is no room for the first record, `Disk` exactly if the device has failed.
+    pub logged : IsLogged meaning state disk (move_of step) (seals step) old new result
     -- The records go on representing the front, whatever crashes.
     pub keeps : KeepsRepresentation meaning state disk old new
     -- After a fault of a port or of the disk, or an allocation failure, the session is spent and

@@ -1,8 +1,8 @@
 -- What a step does, returns and appends, and why it is refused.
-use Rattle.std.specs.Prelude.{Bool, IfErr, IfOk, IsErrOf, List, None, OnOk, Option, Result, Some}
+use Rattle.std.specs.Prelude.{Bool, IfErr, IfOk, IsErrOf, List, None, OnErr, OnOk, Option, Result, Some}
 use Rattle.std.specs.Prelude.{Err, [], false, if◌then◌else◌, length, nat_lt, not, true, ℕ, ◌&&◌}
 use Rattle.std.specs.Prelude.{◌*◌, ◌++◌, ◌+◌, ◌<◌, ◌^◌, ◌∷◌, ◌≡◌, ◌≤◌, ◌⊎◌}
-use Rattle.commitlog.specs.Records.{HasRoom, entry_with}
+use Rattle.commitlog.specs.Records.{HasRoom, entry_with, seal_of}
 use Rattle.commitlog.specs.declared.records.Entry.{Entry}
 use Rattle.disk.specs.Disk.{DiskState}
 use Rattle.gvt.specs.Ledger.{least_floor}
@@ -30,7 +30,8 @@ use Rattle.coordinator.specs.declared.SessionFault.TheVariants.{Busy, Disk, Full
 use Rattle.coordinator.specs.declared.SessionFault.TheVariants.{NoSuchNode, NoSuchPick, NumberLimit}
 use Rattle.coordinator.specs.declared.SessionFault.TheVariants.{Port, Recovery, Spent, TooLong}
 use Rattle.coordinator.specs.declared.Step.{Step}
-use Rattle.coordinator.specs.declared.Step.TheVariants.{Checkpoint, Commit, Post, Take}
+use Rattle.coordinator.specs.declared.Step.TheVariants.{Checkpoint, Commit, Post, SealedCheckpoint}
+use Rattle.coordinator.specs.declared.Step.TheVariants.{Take}
 
 -- the move of the system state that a step makes
 abbrev pub move_of : Step → Move
@@ -38,6 +39,12 @@ move_of (Post node picks budget) = PostMove node picks budget
 move_of (Take node) = TakeMove node
 move_of Commit = CommitMove
 move_of Checkpoint = CheckpointMove
+move_of SealedCheckpoint = CheckpointMove
+
+-- whether a step appends a seal behind its record
+abbrev pub seals : Step → Bool
+seals SealedCheckpoint = true
+seals step = false
 
 -- the moves that append a record
 abbrev pub Appends : Move → Type 0
@@ -60,6 +67,14 @@ next_record end p =
 -- the body of the record that a checkpoint would append: the front without its log
 abbrev pub kept_body : System → List ℕ
 kept_body p = checkpoint_body (checkpoint_of p.front)
+
+-- The records of a log to which a checkpoint was appended, which has them up to that checkpoint:
+-- these alone; or, if it is sealed, these and their seal, which is left out only if a disk of this
+-- many sectors has no room for it.
+abbrev pub AreKept : Bool → List Entry → ℕ → List Entry → Type 0
+AreKept false records sectors now = now ≡ records
+AreKept true records sectors now = (now ≡ records ++ seal_of records ∷ [])
+    ⊎ ((now ≡ records) × (HasRoom records 32 sectors → ⊥))
 
 -- The step is the move of the system state, leads to a consistent session, and returns the move's
 -- numbers.
@@ -169,8 +184,9 @@ module _ {M P D : Type 0} (meaning : M → Meaning) (state : P → PortState) (d
   HasRoomFor k s = Unit {0}
 
   -- What a step does to the log and its disk: a commit that moves the front and a checkpoint append
-  -- exactly one record, if there is room, and no other step touches the log.
-  pub record IsLogged (k : Move) (old new : Session M P D)
+  -- exactly one record, if there is room, and a checkpoint that is sealed also a seal, if there is
+  -- room for that. No other step touches the log.
+  pub record IsLogged (k : Move) (sealed : Bool) (old new : Session M P D)
       (result : Result Answer SessionFault) : Type 0 where
     pub stays : (Appends k → ⊥) → new.log ≡ old.log
     pub appended : k ≡ CommitMove →
@@ -178,8 +194,9 @@ module _ {M P D : Type 0} (meaning : M → Meaning) (state : P → PortState) (d
         OnOk result ((new.log.records ≡
         old.log.records ++ next_record old.end (system_of (running meaning state old)) ∷ [])
         × HasRoomToCommit old)
-    pub kept : k ≡ CheckpointMove → OnOk result ((new.log.records ≡
-        old.log.records ++ entry_with 2 (kept_body (system_of (running meaning state old))) ∷ [])
+    pub kept : k ≡ CheckpointMove → OnOk result (AreKept sealed
+        (old.log.records ++ entry_with 2 (kept_body (system_of (running meaning state old))) ∷ [])
+        (length (disk new.log.disk).reads) new.log.records
         × HasRoomToKeep old)
     pub full : IsErrOf result Full → HasRoomFor k old → ⊥
     pub failed : IsErrOf result Disk → HasRoomFor k old
@@ -187,3 +204,19 @@ module _ {M P D : Type 0} (meaning : M → Meaning) (state : P → PortState) (d
     pub no_failure : (disk old.log.disk).failures < (disk new.log.disk).failures →
         IsErrOf result Disk
     pub failures : (disk old.log.disk).failures ≤ (disk new.log.disk).failures
+
+  -- What a seal behind the last record does to a session: to the log alone, and to no more than the
+  -- seal has room for. A fault leaves the session spent.
+  pub record IsSealed (old new : Session M P D) (result : Result (Unit {0}) SessionFault) : Type 0
+    where
+      pub records : OnOk result (AreKept true old.log.records (length (disk new.log.disk).reads)
+          new.log.records)
+      pub cause : IfErr result (λ fault. (fault ≡ Disk) ⊎ (fault ≡ NoMemory))
+      pub failed : IsErrOf result Disk →
+          (disk old.log.disk).failures < (disk new.log.disk).failures
+      pub no_failure : (disk old.log.disk).failures < (disk new.log.disk).failures →
+          IsErrOf result Disk
+      pub failures : (disk old.log.disk).failures ≤ (disk new.log.disk).failures
+      pub system : running meaning state new ≡ running meaning state old
+      pub usable : OnOk result (new.spent ≡ false)
+      pub spends : OnErr result (new.spent ≡ true)

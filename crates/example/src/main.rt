@@ -20,6 +20,7 @@ const PLAN: Plan = Plan {
     rounds: 1000,
     schedule: Schedule::InTurn,
     checkpoint_every: 0,
+    seals: false,
     commit_every: 0,
 };
 

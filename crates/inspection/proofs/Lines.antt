@@ -7,7 +7,7 @@ use Rattle.std.proofs.lemmas.Option.{none-some, same_Some}
 use Rattle.eventkey.proofs.Writers.{HasWritten, writes_broken, writes_end, written_next}
 use Rattle.eventkey.specs.Writing.{Writes}
 use Rattle.inspection.specs.declared.inspecting.Inspection.{Inspection}
-use Rattle.inspection.specs.Text.{bytes_each, events_text, full_at, line, pace_text}
+use Rattle.inspection.specs.Text.{bytes_each, events_text, full_at, line, pace_text, seals_text}
 
 -- 1. One line
 
@@ -42,6 +42,12 @@ module _ (i : Inspection) where
   some_event each some is =
       ap (λ (n : ℕ). line ((codes "events ", i.events) ∷ (codes ", ", n) ∷ []) (codes " bytes of disk an event\n")) is
       ∙ sym (cond-false (i.events == 0) _ _ (ne_eqb i.events 0 some))
+
+  pub no_seal : i.seals ≡ 0 → [] ≡ seals_text i
+  no_seal none = sym (cond-true (i.seals == 0) _ _ (eq-eqb i.seals 0 none))
+
+  pub some_seal : (i.seals ≡ 0 → ⊥) → line ((codes "seals ", i.seals) ∷ []) (codes ", compared with the records before them\n") ≡ seals_text i
+  some_seal some = sym (cond-false (i.seals == 0) _ _ (ne_eqb i.seals 0 some))
 
   abbrev is_room : Bool
   is_room = i.pace.sectors == 0 || nat_le i.end (full_at i)

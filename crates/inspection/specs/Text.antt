@@ -51,8 +51,17 @@ checkpoints_text (Some time) records checkpoints ends =
     ∷ (codes " checkpoints (the last at ", time) ∷ (codes " ticks) and ", ends) ∷ [])
     (codes " ends\n")
 
+abbrev pub kinds_text : Inspection → List ℕ
+kinds_text i = checkpoints_text i.last_checkpoint i.records i.checkpoints i.ends
+
+-- left out if there is no seal
+abbrev pub seals_text : Inspection → List ℕ
+seals_text i =
+    if i.seals == 0 then []
+    else line ((codes "seals ", i.seals) ∷ []) (codes ", compared with the records before them\n")
+
 abbrev pub records_text : Inspection → List ℕ
-records_text i = checkpoints_text i.last_checkpoint i.records i.checkpoints i.ends
+records_text i = kinds_text i ++ seals_text i
 
 abbrev pub sectors_text : Inspection → List ℕ
 sectors_text i =

@@ -4,9 +4,8 @@ ghost use Rattle.std.specs.Prelude.{◌≡◌, ◌<◌, ◌-◌, ◌^◌, ◌==�
 ghost use Rattle.std.specs.Prelude.{if◌then◌else◌, Option, Some, None};
 ghost use Rattle.eventkey.specs.Writing.{Writes};
 ghost use Rattle.inspection.specs.Text.{bytes_each, events_text, full_at};
-ghost use Rattle.inspection.specs.Text.{inspection_text, line, pace_text, percent, records_text};
-ghost use Rattle.inspection.specs.Text.{rest_text};
-ghost use Rattle.inspection.specs.Text.{sectors_text, time_text};
+ghost use Rattle.inspection.specs.Text.{inspection_text, kinds_text, line, pace_text, percent};
+ghost use Rattle.inspection.specs.Text.{records_text, rest_text, seals_text, sectors_text, time_text};
 
 use crate::inspecting::Inspection;
 use std::io::{Result, Write};
@@ -63,6 +62,14 @@ fn write_events<W: Write>(shown: &Inspection, out: &mut W) -> Result<()>
 fn write_records<W: Write>(shown: &Inspection, out: &mut W) -> Result<()>
     ensures { Writes (W.contents out.old) (W.contents out.new) result (records_text shown.now) }
 {
+    write_kinds(shown, out)?;
+    write_seals(shown, out)
+}
+
+/// Writes how many records there are, and how many of them are checkpoints and ends.
+fn write_kinds<W: Write>(shown: &Inspection, out: &mut W) -> Result<()>
+    ensures { Writes (W.contents out.old) (W.contents out.new) result (kinds_text shown.now) }
+{
     match shown.last_checkpoint {
         None => write_line(
             &[
@@ -84,6 +91,20 @@ fn write_records<W: Write>(shown: &Inspection, out: &mut W) -> Result<()>
             out,
         ),
     }
+}
+
+/// Writes how many seals there are, if there are any.
+fn write_seals<W: Write>(shown: &Inspection, out: &mut W) -> Result<()>
+    ensures { Writes (W.contents out.old) (W.contents out.new) result (seals_text shown.now) }
+{
+    if shown.seals == 0 {
+        return Ok(());
+    }
+    write_line(
+        &[("seals ", shown.seals)],
+        ", compared with the records before them\n",
+        out,
+    )
 }
 
 /// Writes how many sectors are in use.

@@ -1,15 +1,16 @@
 -- Reports that are accepted one after another.
-use Rattle.std.proofs.Common.{◌≡◌, ◌∙◌, ℕ, ◌+◌, ◌/◌, ◌<◌, ◌≤◌, List, [], ◌∷◌, Some, ap, arith, drop, get_or, length, refl, set, subst, sym, inl, inr}
+use Rattle.std.proofs.Common.{◌≡◌, ◌∙◌, ℕ, ◌+◌, ◌/◌, ◌<◌, ◌≤◌, List, [], ◌++◌, ◌∷◌, Some, ap, arith, drop, get_or, length, refl, set, subst, sym, take, inl, inr}
 use Rattle.std.specs.List.{slice_get}
-use Rattle.std.specs.Prelude.{Option, None, filter, nat_eq, true, false}
+use Rattle.std.specs.Prelude.{IsTrue, Option, None, filter, nat_eq, true, false, ◌↔◌}
 use Rattle.std.proofs.lemmas.Bool.{cases_Bool, cases_eq, eqb-true, eqb-false, leb-true, le-leb}
 use Rattle.std.proofs.lemmas.Option.{get_or_from_slice_get, slice_get_within, slice_get-get_or}
-use Rattle.std.proofs.lemmas.List.{get_or-set_same, get_or-set_other, length-set, drop_all}
+use Rattle.std.proofs.lemmas.List.{get_or-set_same, get_or-set_other, length-set, take-append-drop, take_all, take_more}
 use Rattle.eventkey.proofs.Lists.{drop_here}
 use Rattle.model.specs.Meaning.{Meaning}
 use Rattle.process.specs.Consistent.{AreConsistent}
 use Rattle.process.specs.declared.Done.{Done}
-use Rattle.judging.specs.Judging.{AreAccepted, AreOfModel, IsAccepted, IsOneAccepted, Known, is_due, moved, reports_of}
+use Rattle.judging.specs.Judging.{AreAccepted, AreOfModel, IsAccepted, IsFirstRefused, IsOneAccepted, Known, event_of, is_due, moved, reports_of}
+use Rattle.judging.specs.declared.differences.Difference.{Difference}
 
 -- 1. What is known at one place
 
@@ -29,41 +30,61 @@ set_there ks i j k l apart a =
 
 -- 2. One report after another
 
--- the reports from place i on are accepted by what is known now just as all were at first
+module _ (m : Meaning) (every nodes : ℕ) where
+  accepted_more : (ds : List Done) (d : Done) (ks now new : List Known) → AreAccepted m every nodes ks ds now → (one : IsOneAccepted m every nodes now d) →
+      new ≡ set now (d.message.to / nodes) (moved every d one.0) → AreAccepted m every nodes ks (ds ++ d ∷ []) new
+  accepted_more [] d ks now new so_far one is =
+      subst (λ (x : List Known). AreAccepted m every nodes x (d ∷ []) new) so_far (one.0, one.1, one.2, is)
+  accepted_more (x ∷ xs) d ks now new so_far one is =
+      (so_far.0, so_far.1, so_far.2, accepted_more xs d (set ks (x.message.to / nodes) (moved every x so_far.0)) now new so_far.3 one is)
+
+  -- where all are accepted, each one is by what is known after those before it
+  accepted_there : (ds rest : List Done) (d : Done) (ks now ks' : List Known) → AreAccepted m every nodes ks ds now →
+      AreAccepted m every nodes ks (ds ++ d ∷ rest) ks' → IsOneAccepted m every nodes now d
+  accepted_there [] rest d ks now ks' so_far all =
+      subst (λ (x : List Known). IsOneAccepted m every nodes x d) (sym so_far) (all.0, all.1, all.2)
+  accepted_there (x ∷ xs) rest d ks now ks' so_far all =
+      let same : all.0 ≡ so_far.0 = same_known ks (x.message.to / nodes) so_far.0 all.0 so_far.1 all.1 in
+      accepted_there xs rest d (set ks (x.message.to / nodes) (moved every x so_far.0)) now ks' so_far.3
+      (subst (λ (k : Known). AreAccepted m every nodes (set ks (x.message.to / nodes) (moved every x k)) (xs ++ d ∷ rest) ks') same all.3)
+
+-- the reports before place i are accepted, and this is known after them
 abbrev pub IsJudgedSoFar : Meaning → ℕ → ℕ → List Known → List Done → ℕ → List Known → Type 0
-IsJudgedSoFar m every nodes ks ds i now = (ks' : List Known) →
-    (AreAccepted m every nodes ks ds ks' → AreAccepted m every nodes now (drop i ds) ks')
-    × (AreAccepted m every nodes now (drop i ds) ks' → AreAccepted m every nodes ks ds ks')
+IsJudgedSoFar m every nodes ks ds i now = AreAccepted m every nodes ks (take i ds) now
 
 module _ (m : Meaning) (every nodes : ℕ) (ks : List Known) (ds : List Done) where
   pub judged_more : (i : ℕ) (d : Done) (now new : List Known) → i < length ds → d ≡ get_or ds i d →
       IsOneAccepted m every nodes now d →
       ((k : Known) → slice_get now (d.message.to / nodes) ≡ Some k → new ≡ set now (d.message.to / nodes) (moved every d k)) →
       IsJudgedSoFar m every nodes ks ds i now → IsJudgedSoFar m every nodes ks ds (i + 1) new
-  judged_more i d now new l is one to so_far ks' =
-      let k = one.0 in
-      let here = drop_here ds i d l is in
-      let new_is = to k one.1 in (
-        λ all. (
-            let r = subst (λ xs. AreAccepted m every nodes now xs ks') here ((so_far ks').0 all) in
-            let same : r.0 ≡ k = same_known now (d.message.to / nodes) k r.0 one.1 r.1 in
-            subst (λ x. AreAccepted m every nodes x (drop (i + 1) ds) ks') (sym (to r.0 r.1)) r.3),
-        λ rest. (so_far ks').1
-            (subst (λ xs. AreAccepted m every nodes now xs ks') (sym here)
-            (k, one.1, one.2, subst (λ x. AreAccepted m every nodes x (drop (i + 1) ds) ks') new_is rest)),
-      )
+  judged_more i d now new l is one to so_far =
+      let more : take (i + 1) ds ≡ take i ds ++ d ∷ [] = take_more ds i d l ∙ ap (λ (x : Done). take i ds ++ x ∷ []) (sym is) in
+      subst (λ (xs : List Done). AreAccepted m every nodes ks xs new) (sym more)
+      (accepted_more m every nodes (take i ds) d ks now new so_far one (to one.0 one.1))
 
-  pub judged_refused : (i : ℕ) (d : Done) (now : List Known) → i < length ds → d ≡ get_or ds i d →
-      (IsOneAccepted m every nodes now d → ⊥) → IsJudgedSoFar m every nodes ks ds i now →
-      (ks' : List Known) → AreAccepted m every nodes ks ds ks' → ⊥
-  judged_refused i d now l is not_one so_far ks' all =
-      let r = subst (λ xs. AreAccepted m every nodes now xs ks') (drop_here ds i d l is) ((so_far ks').0 all) in
-      not_one (r.0, r.1, r.2)
+  pub judged_refused : (i : ℕ) (d : Done) (now : List Known) (event : Difference) → i < length ds → d ≡ get_or ds i d →
+      (IsTrue false ↔ IsOneAccepted m every nodes now d) → event ≡ event_of d →
+      IsJudgedSoFar m every nodes ks ds i now → IsFirstRefused m every nodes ks ds event
+  judged_refused i d now event l is decided event_is so_far = record {
+    before = take i ds;
+    report = d;
+    after = drop (i + 1) ds;
+    known = now;
+    split = sym (take-append-drop i ds) ∙ ap (λ (xs : List Done). take i ds ++ xs) (drop_here ds i d l is);
+    accepted = so_far;
+    differs = λ one. (let wrong : false ≡ true = decided.1 one in cc);
+    event_is = event_is;
+  }
+
+  pub none_accepted : (event : Difference) → IsFirstRefused m every nodes ks ds event → (ks' : List Known) → AreAccepted m every nodes ks ds ks' → ⊥
+  none_accepted event first ks' all =
+      first.differs (accepted_there m every nodes first.before first.after first.report ks first.known ks' first.accepted
+      (subst (λ (xs : List Done). AreAccepted m every nodes ks xs ks') first.split all))
 
   pub judged_all : (i : ℕ) (now : List Known) → length ds ≤ i → IsJudgedSoFar m every nodes ks ds i now →
       AreAccepted m every nodes ks ds now
   judged_all i now l so_far =
-      (so_far now).1 (subst (λ xs. AreAccepted m every nodes now xs now) (sym (drop_all i ds l)) refl)
+      subst (λ (xs : List Done). AreAccepted m every nodes ks xs now) (take_all i ds l) so_far
 
 -- 3. Where all reports are judged
 

@@ -1,5 +1,6 @@
 -- The states of ports that judge.
-use Rattle.std.proofs.Common.{◌≡◌, ◌∙◌, ℕ, List, [], ◌∷◌, ap, map, refl, replicate, sym, zero, suc}
+use Rattle.std.proofs.Common.{◌≡◌, ◌∙◌, ℕ, List, [], ◌++◌, ◌∷◌, ap, arith, length, map, refl, replicate, sym, zero, suc}
+use Rattle.std.proofs.lemmas.List.{append-nil, map-append}
 use Rattle.std.specs.Prelude.{false}
 use Rattle.std.proofs.lemmas.Simd.{map-map}
 use Rattle.judging.specs.Judged.{Judged, judged_state, state_by}
@@ -15,3 +16,19 @@ pub judged_alike : {M P : Type 0} (state : P → PortState) (js : List (Judged M
     map (λ j. state_by state j) js ≡ replicate n (judged_state false s)
 judged_alike state js ps n s over are =
     over ∙ sym (map-map (judged_state false) state ps) ∙ ap (map (judged_state false)) are ∙ map-replicate (judged_state false) n s
+
+-- one port more that judges
+pub judged_port_more : {M P : Type 0} (state : P → PortState) (js js' : List (Judged M P)) (j : Judged M P) (ps : List P) (p : P) →
+    map (λ j. state_by state j) js ≡ map (λ p. judged_state false (state p)) ps → js' ≡ js ++ j ∷ [] → state_by state j ≡ judged_state false (state p) →
+    map (λ j. state_by state j) js' ≡ map (λ p. judged_state false (state p)) (ps ++ p ∷ [])
+judged_port_more {M} {P} state js js' j ps p so_far more is =
+    ap (map (λ j. state_by state j)) more
+    ∙ map-append (λ j. state_by state j) js (j ∷ [])
+    ∙ ap (λ (xs : List PortState). xs ++ state_by state j ∷ []) so_far
+    ∙ ap (λ (x : PortState). map (λ p. judged_state false (state p)) ps ++ x ∷ []) is
+    ∙ sym (map-append (λ p. judged_state false (state p)) ps (p ∷ []))
+
+-- where none is left, all are there
+pub none_left : {X : Type 0} (done rest xs : List X) → done ++ rest ≡ xs → length rest ≡ 0 → done ≡ xs
+none_left done [] xs all none = sym (append-nil done) ∙ all
+none_left done (x ∷ rest) xs all none = absurd (omega arith)

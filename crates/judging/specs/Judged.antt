@@ -1,9 +1,10 @@
 -- A port that judges the reports of its node, as contracts see it.
-use Rattle.std.specs.Prelude.{Bool, Err, IfErr, List, Result, false, if◌then◌else◌, true, ℕ, ◌≡◌}
+use Rattle.std.specs.Prelude.{Bool, Err, IfErr, List, Option, Result, Some, false, if◌then◌else◌, true, ℕ, ◌≡◌}
 use Rattle.model.specs.Meaning.{Meaning}
 use Rattle.node.specs.declared.Parcel.{Parcel}
 use Rattle.node.specs.declared.Reply.{Reply}
-use Rattle.judging.specs.Judging.{AreJudged, Known}
+use Rattle.judging.specs.Judging.{AreJudged, IsFirstRefused, Known}
+use Rattle.judging.specs.declared.differences.Difference.{Difference}
 use Rattle.wire.specs.Port.{IsTakeFault, IsTaken, PortState, Stage}
 use Rattle.wire.specs.Port.Stage.{Ended, Idle, Posted}
 use Rattle.wire.specs.declared.port.PortFault.{PortFault}
@@ -11,7 +12,8 @@ use Rattle.wire.specs.declared.port.PortFault.TheVariants.{BadReply, Wire}
 use Rattle.wire.specs.declared.port.WireFault.TheVariants.{NoMemory}
 
 -- the model by which it judges, the port to the node, how often it judges, the number of nodes, what
--- is known of the node's processes, and whether it refused a reply or a load
+-- is known of the node's processes, whether it refused a reply or a load, and the event of the report
+-- that it refused
 pub record Judged (M P : Type 0) : Type 0 where
   pub model : M
   pub port : P
@@ -19,6 +21,7 @@ pub record Judged (M P : Type 0) : Type 0 where
   pub nodes : ℕ
   pub known : List Known
   pub ended : Bool
+  pub refused : Option Difference
 
 -- the resource faults of a port that judges: an allocation of its own may fail, or the port below has
 -- one
@@ -51,8 +54,10 @@ pub record IsPassed {M P : Type 0} (meaning : M → Meaning) (state : P → Port
     (old new : Judged M P) (reply : Reply) : Type 0 where
   pub taken : IsTakenBelow (state old.port) (state new.port) reply
   pub judged : AreJudged (meaning old.model) old.every old.nodes old.known reply.fossils new.known
+  pub same_event : new.refused ≡ old.refused
 
--- The judge refuses a reply that the port below returned: its reports are not all accepted.
+-- The judge refuses a reply that the port below returned: its reports are not all accepted, and the
+-- judge keeps the event of the first that is not.
 pub record IsRefused {M P : Type 0} (meaning : M → Meaning) (state : P → PortState)
     (old new : Judged M P) (fault : PortFault) : Type 0 where
   pub fault_is : fault ≡ BadReply
@@ -60,3 +65,6 @@ pub record IsRefused {M P : Type 0} (meaning : M → Meaning) (state : P → Por
   pub taken : IsTakenBelow (state old.port) (state new.port) reply
   pub differs : (ks : List Known) →
       AreJudged (meaning old.model) old.every old.nodes old.known reply.fossils ks → ⊥
+  pub event : Difference
+  pub first : IsFirstRefused (meaning old.model) old.every old.nodes old.known reply.fossils event
+  pub kept : new.refused ≡ Some event

@@ -1,10 +1,11 @@
 -- A judge of a node's reports: what it knows of each process, and which reports it accepts (this
 -- project's profile).
 use Rattle.std.specs.List.{slice_get}
-use Rattle.std.specs.Prelude.{Bool, List, Some, [], ◌∷◌, filter, if◌then◌else◌, length, nat_eq, nat_le}
+use Rattle.std.specs.Prelude.{Bool, List, Some, [], ◌++◌, ◌∷◌, filter, if◌then◌else◌, length, nat_eq, nat_le}
 use Rattle.std.specs.Prelude.{set, suc, true, zero, ℕ, ◌+◌, ◌/◌, ◌<◌, ◌≡◌, ◌≤◌, ◌^◌}
 use Rattle.model.specs.Meaning.{Meaning}
 use Rattle.node.specs.declared.Part.{Part}
+use Rattle.judging.specs.declared.differences.Difference.{Difference}
 use Rattle.process.specs.Consistent.{AreConsistent}
 use Rattle.process.specs.declared.Done.{Done}
 
@@ -64,7 +65,24 @@ AreAccepted m every nodes ks (d ∷ ds) ks' =
     (k : Known) × (slice_get ks (d.message.to / nodes) ≡ Some k) × IsAccepted m every k d
     × AreAccepted m every nodes (set ks (d.message.to / nodes) (moved every d k)) ds ks'
 
--- the same, where 0 judges nothing
+-- the event of a report
+abbrev pub event_of : Done → Difference
+event_of d = record { process = d.message.to; time = d.message.time }
+
+-- The first of these reports that is not accepted is one of this event: those before it are accepted,
+-- and it is not accepted by what is then known.
+pub record IsFirstRefused (m : Meaning) (every nodes : ℕ) (ks : List Known) (ds : List Done)
+    (event : Difference) : Type 0 where
+  pub before : List Done
+  pub report : Done
+  pub after : List Done
+  pub known : List Known
+  pub split : ds ≡ before ++ report ∷ after
+  pub accepted : AreAccepted m every nodes ks before known
+  pub differs : IsOneAccepted m every nodes known report → ⊥
+  pub event_is : event ≡ event_of report
+
+-- reports that are accepted, where 0 judges nothing
 abbrev pub AreJudged : Meaning → ℕ → ℕ → List Known → List Done → List Known → Type 0
 AreJudged m zero nodes ks ds ks' = ks' ≡ ks
 AreJudged m (suc gap) nodes ks ds ks' = AreAccepted m (suc gap) nodes ks ds ks'

@@ -1,5 +1,8 @@
 // What was noted of the reports that ports refused: of which event the first one is.
 
+ghost use Rattle.std.specs.Prelude.{◌≡◌, IsSome, None, Some};
+ghost use Rattle.judging.specs.Judging.{event_of};
+
 use process::Done;
 use std::cell::Cell;
 
@@ -12,8 +15,22 @@ pub struct Difference {
     pub time: u64,
 }
 
+impl Difference {
+    /// The event of this report.
+    pub(crate) fn of_report(report: &Done) -> Difference
+        ensures { result ≡ event_of report.now }
+    {
+        Difference {
+            process: report.message.to(),
+            time: report.message.time(),
+        }
+    }
+}
+
 /// Keeps which report was refused first by the ports that share it. A run ends at the first reply
 /// that is refused, and drops its ports, so a caller that wants to know the event keeps this.
+///
+/// A port that refuses a report knows its event too: `Judged::refused`.
 #[derive(Drop)]
 pub struct Differences {
     first: Cell<Option<Difference>>,
@@ -32,20 +49,17 @@ impl Differences {
         self.first.get()
     }
 
-    /// Keeps the event of a refused report, if none was refused before.
-    pub(crate) fn note(&self, done: &Done) {
-        if self.first.get().is_none() {
-            self.first.set(Some(Difference {
-                process: done.message.to(),
-                time: done.message.time(),
-            }));
-        }
+    /// Keeps the event of a refused report, if none was refused before. No clause sees what a cell
+    /// holds, so `first_of` decides what it holds next.
+    pub(crate) fn note(&self, event: Difference) {
+        self.first.set(first_of(self.first.get(), event));
     }
 }
 
-/// Keeps the event of a refused report, where a caller wants to know it.
-pub(crate) fn note(differences: Option<&Differences>, done: &Done) {
-    if let Some(differences) = differences {
-        differences.note(done);
-    }
+/// The event that was refused first, once this one is refused after those that were noted.
+fn first_of(noted: Option<Difference>, event: Difference) -> Option<Difference>
+    ensures empty { noted ≡ None → result ≡ Some event }
+    ensures stays { IsSome noted → result ≡ noted }
+{
+    noted.or(Some(event))
 }

@@ -1,15 +1,16 @@
 // What is known of the processes of a node, and the judgement of their reports.
 
 ghost use Rattle.std.specs.List.{slice_get};
-ghost use Rattle.std.specs.Prelude.{◌≡◌, ◌<◌, ◌≤◌, ◌+◌, ◌/◌, ◌^◌, ◌↔◌, IsTrue, IfOk, Some, true};
-ghost use Rattle.std.specs.Prelude.{List, false, length, map, set};
+ghost use Rattle.std.specs.Prelude.{◌≡◌, ◌<◌, ◌≤◌, ◌+◌, ◌/◌, ◌^◌, ◌↔◌, IsTrue, IfErr, IfOk, OnErr};
+ghost use Rattle.std.specs.Prelude.{List, OnOk, Some, length, map, set};
 ghost use Rattle.std.specs.List.{AllByRecursion as Every};
 ghost use Rattle.model.specs.Meaning.{stamp};
 ghost use Rattle.node.specs.Handling.{IsInRange};
-ghost use Rattle.judging.specs.Judging.{AreAccepted, IsAccepted, IsOfModel, IsOneAccepted};
+ghost use Rattle.judging.specs.Judging.{AreAccepted, IsAccepted, IsFirstRefused, IsOfModel};
+ghost use Rattle.judging.specs.Judging.{IsOneAccepted};
 ghost use Rattle.judging.specs.Judging.{Known as KnownProcess, loaded_known, moved};
 
-use crate::differences::{Differences, note};
+use crate::differences::Difference;
 use crate::sends::are_sent;
 use model::{Model as Simulated, Outgoing, Sends, Words};
 use node::Part;
@@ -169,29 +170,29 @@ pub(crate) fn known_of(alloc: Global, every: u32, parts: &[Part]) -> Result<Vec<
 }
 
 /// Judges the reports of a reply, one in `every` of each process, at least 1, in their order.
-/// Process lp is at place lp / `nodes`. Returns whether all are accepted. If one is not,
-/// `differences` gets its event.
+/// Process lp is at place lp / `nodes`. The error is the event of the first report that is not
+/// accepted.
 pub(crate) fn judge_all<M: Simulated>(
     model: &M,
     every: u32,
     nodes: u32,
     known: &mut Vec<Known>,
-    differences: Option<&Differences>,
     reports: &[Done],
-) -> bool
+) -> Result<(), Difference>
     requires nodes { 0 < nodes }
-    ensures accepted { IsTrue result → AreAccepted (M.meaning model.now) every nodes
-        known.old.items reports.now known.new.items }
-    ensures refused { result ≡ false → (ks : List KnownProcess) →
-        AreAccepted (M.meaning model.now) every nodes known.old.items reports.now ks → ⊥ }
+    ensures accepted { OnOk result (AreAccepted (M.meaning model.now) every nodes
+        known.old.items reports.now known.new.items) }
+    ensures refused { OnErr result ((ks : List KnownProcess) →
+        AreAccepted (M.meaning model.now) every nodes known.old.items reports.now ks → ⊥) }
+    ensures first { IfErr result (λ event. IsFirstRefused (M.meaning model.now) every nodes
+        known.old.items reports.now event) }
 {
     'reports: for done in reports {
         if !judge_one(model, every, nodes, known, done) {
-            note(differences, done);
-            return false;
+            return Err(Difference::of_report(done));
         }
     }
-    true
+    Ok(())
 }
 
 /// Judges one report.

@@ -1,6 +1,7 @@
 // A port that judges what its node reports.
 
-ghost use Rattle.std.specs.Prelude.{◌≡◌, ◌≤◌, ◌<◌, ◌^◌, [], IfErr, IfOk, OnErr, OnOk, false, map, true};
+ghost use Rattle.std.specs.Prelude.{◌≡◌, ◌≤◌, ◌<◌, ◌^◌, [], IfErr, IfOk, None, OnErr, OnOk, Some};
+ghost use Rattle.std.specs.Prelude.{false, map, true};
 ghost use Rattle.judging.specs.Judged.{IsPassed, IsRefused, state_by};
 ghost use Rattle.judging.specs.Judging.{AreOfModel, loaded_known};
 ghost use Rattle.node.specs.declared.Parcel.{Parcel};
@@ -8,7 +9,7 @@ ghost use Rattle.wire.specs.Port.{IsLoadFault, IsLoadInRange, IsLoaded, IsResour
 ghost use Rattle.wire.specs.Port.{IsTakeFault, IsTaken};
 ghost use Rattle.wire.specs.Port.Stage.{Ended, Fresh, Idle, Posted};
 
-use crate::differences::Differences;
+use crate::differences::{Difference, Differences};
 use crate::known::{Known, judge_all, known_of};
 use model::Model as Simulated;
 use node::{Load, Parcel, Reply};
@@ -26,7 +27,8 @@ use wire::{Port, PortFault, WireFault};
 ///
 /// A call fails as it does at the port below. In addition `take` fails with `BadReply` if a report
 /// differs from the model, names no process of the node, or has numbers out of their ranges; and
-/// `load` with `Wire(NoMemory)` if an allocation failed. After any failure the port has ended.
+/// `load` with `Wire(NoMemory)` if an allocation failed. After any failure the port has ended. After
+/// a `BadReply` of its own it knows the event of the first report that is not accepted: `refused`.
 ///
 /// It holds one state for each process of the node. A judged report costs one handling, any other
 /// one a copy of its state words.
@@ -38,6 +40,7 @@ pub struct Judged<'m, M: Simulated, P: Port> {
     nodes: u32,
     known: Vec<Known>,
     ended: bool,
+    refused: Option<Difference>,
     differences: Option<&'m Differences>,
 }
 
@@ -53,6 +56,7 @@ impl<M: Simulated, P: Port + Drop> Drop for Judged<'_, M, P> {
             nodes: _,
             known: _,
             ended: _,
+            refused: _,
             differences: _,
         } = self;
     }
@@ -71,6 +75,7 @@ impl<'m, M: Simulated, P: Port> Model for Judged<'m, M, P> {
       nodes = j.nodes;
       known = j.known.items;
       ended = j.ended;
+      refused = j.refused;
     } };
 
     ghost invariant = { λ j. 0 < j.nodes };
@@ -87,6 +92,7 @@ impl<'m, M: Simulated, P: Port> Judged<'m, M, P> {
           nodes = 1;
           known = [];
           ended = false;
+          refused = None;
         } }
     {
         Judged {
@@ -97,17 +103,37 @@ impl<'m, M: Simulated, P: Port> Judged<'m, M, P> {
             nodes: 1,
             known: Vec::new(alloc),
             ended: false,
+            refused: None,
             differences: None,
         }
     }
 
-    /// This port, which then keeps there of which event the report is that it refuses.
+    /// This port, which then also notes there the event of the report that it refuses.
     pub(crate) fn noting(self, differences: Option<&'m Differences>) -> Judged<'m, M, P>
         ensures { result ≡ self.entry }
     {
         let mut noting = self;
         noting.differences = differences;
         noting
+    }
+
+    /// The event of the report that this port refused, if it refused one.
+    pub fn refused(&self) -> Option<Difference>
+        ensures { result ≡ self.now.refused }
+    {
+        self.refused
+    }
+
+    /// Ends this port, which refuses the report of this event, and notes the event where the ports
+    /// of a run share a note.
+    fn refuse(&mut self, event: Difference)
+        ensures { self.new ≡ record self.old { ended = true; refused = Some event } }
+    {
+        self.ended = true;
+        self.refused = Some(event);
+        if let Some(differences) = self.differences {
+            differences.note(event);
+        }
     }
 }
 
@@ -136,6 +162,7 @@ impl<'m, M: Simulated, P: Port> Port for Judged<'m, M, P> {
           nodes = load.nodes;
           known = map (loaded_known self.old.every) load.parts;
         }) }
+        ensures same_event { self.new.refused ≡ self.old.refused }
     {
         let (every, nodes) = (self.every, load.nodes);
         match known_of(self.alloc, every, load.parts.as_slice()) {
@@ -192,26 +219,24 @@ impl<'m, M: Simulated, P: Port> Port for Judged<'m, M, P> {
         // A fault is that of the port below, which has then ended, or a reply is refused.
         ensures refused { IfErr result (λ fault. (P.state self.new.port).stage ≡ Idle →
             IsRefused M.meaning P.state self.old self.new fault) }
+        ensures same_event { OnErr result ((P.state self.new.port).stage ≡ Ended →
+            self.new.refused ≡ self.old.refused) }
         ensures below { (parcel : Parcel) → (P.state self.old.port).stage ≡ Posted parcel →
             (P.state self.old.port).faithful ≡ true → IfErr result (λ fault.
             (P.state self.new.port).stage ≡ Ended → IsTakeFault parcel (P.state self.old.port) fault) }
     {
         let reply = self.port.take()?;
-        let reports = reply.fossils.as_slice();
-        let differences = self.differences;
-        if self.every > 0
-            && !judge_all(
-                self.model,
-                self.every,
-                self.nodes,
-                &mut self.known,
-                differences,
-                reports,
-            )
-        {
-            self.ended = true;
-            return Err(PortFault::BadReply);
+        if self.every == 0 {
+            return Ok(reply);
         }
-        Ok(reply)
+        let reports = reply.fossils.as_slice();
+        let judged = judge_all(self.model, self.every, self.nodes, &mut self.known, reports);
+        match judged {
+            Ok(()) => Ok(reply),
+            Err(event) => {
+                self.refuse(event);
+                Err(PortFault::BadReply)
+            }
+        }
     }
 }

@@ -2,3 +2,4 @@ pub mod Ways
 pub mod Appends
 pub mod Recoveries
 pub mod Rounds
+pub mod Sealing

@@ -23,6 +23,9 @@ pub struct Plan {
     pub commit_every: u32,
     /// The number of commits after which a checkpoint follows; 0 for no checkpoints.
     pub checkpoint_every: u32,
+    /// Whether a seal follows each checkpoint: a record of the SHA-256 of the records since the last
+    /// seal, which an opening compares. It is left out where the disk has no room for it.
+    pub seals: bool,
     /// The most commits that are made.
     pub commits: u32,
 }
@@ -91,7 +94,7 @@ pub fn run_plain<M: Simulated, D: SectorDisk + Drop, W: Watch>(
     ensures finished { IsGenuine (M.meaning model.now) end (D.state disk).reads →
         IfOk result.outcome (λ done. IsRunOf (M.meaning model.now) end done.time done.events) }
     ensures reached { IfOk result.outcome (λ done. end ≤ done.time) }
-    // The run made the plan's commits and checkpoints, and wrote nothing else.
+    // The run made the plan's commits, checkpoints and seals, and wrote nothing else.
     ensures over { IfOk result.outcome (λ done. IsRunOver M.meaning D.state model.now end plan disk
         result.disk done.time done.events) }
     ensures refused { IfErr result.outcome (λ fault. RunIsRefused M.meaning D.state model.now end
@@ -218,7 +221,7 @@ fn make_round<'m, M: Simulated, D: SectorDisk, W: Watch>(
         Err(stopped) => return Err(stopped),
     };
     watch.committed(run.time(), run.events());
-    let run = match save_if(run, is_kept(plan.checkpoint_every, number)) {
+    let run = match save_if(run, is_kept(plan.checkpoint_every, number), plan.seals) {
         Ok(run) => run,
         Err(stopped) => return Err(stopped),
     };
@@ -226,18 +229,19 @@ fn make_round<'m, M: Simulated, D: SectorDisk, W: Watch>(
     Ok(run)
 }
 
-/// Makes a checkpoint if one is due.
+/// Makes a checkpoint if one is due, and with `seal` a seal behind it.
 fn save_if<'m, M: Simulated, D: SectorDisk>(
     run: PlainRun<'m, M, D>,
     due: bool,
+    seal: bool,
 ) -> Result<PlainRun<'m, M, D>, Stopped<D>>
-    ensures saved { IfOk result (λ next. IsSavedIf M.meaning D.state due run.entry next) }
+    ensures saved { IfOk result (λ next. IsSavedIf M.meaning D.state due seal run.entry next) }
     ensures refused { IfErr result (λ e. (due ≡ true) × SavingIsRefused run.entry.front.world
         run.entry.log.records (length (D.state run.entry.log.disk).reads)
         ((D.state run.entry.log.disk).failures < (D.state e.disk).failures) e.fault) }
     ensures crashes_err { IfErr result (λ e. StaysRecoverable M.meaning D.state run.entry e.disk) }
 {
-    if due { run.checkpoint() } else { Ok(run) }
+    if due { run.checkpoint(seal) } else { Ok(run) }
 }
 
 /// Returns whether a checkpoint follows the commit of this number.

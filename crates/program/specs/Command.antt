@@ -313,6 +313,7 @@ plan_of args = record {
   rounds = args.rounds;
   schedule = schedule_of args.together args.overlap;
   checkpoint_every = unwrap_or args.checkpoint 0;
+  seals = args.seal;
   commit_every = min (unwrap_or args.commit_every 0) 250000;
 }
 
@@ -322,6 +323,7 @@ abbrev pub plain_plan_of : RunArgs → PlainPlan
 plain_plan_of args = record {
   commit_every = min (unwrap_or args.commit_every 4096) 250000;
   checkpoint_every = unwrap_or args.checkpoint 0;
+  seals = args.seal;
   commits = args.rounds;
 }
 

@@ -149,10 +149,11 @@ const NO_DEVICE: &str = "the disk's file could not be written: see that its devi
 /// Advice if a record of a disk is at fault.
 const DAMAGED: &str = "the disk is damaged: `status` says at which record";
 
-/// Advice if a log is cut off.
-const CUT_OFF: &str =
-    "the disk is damaged at the beginning of a record: go on with a copy that was \
-                       made before, or begin anew on another disk";
+/// Advice if a log is cut off, or a seal is not that of the records before it.
+const CHANGED: &str =
+    "the disk is damaged at the beginning of a record, or a seal differs from the \
+                       records before it: the file was changed after it was written; restore a \
+                       copy, or begin anew on another disk";
 
 /// Advice for a fault of the plain runner.
 fn of_world(fault: WorldFault) -> Option<&'static str> {
@@ -169,7 +170,7 @@ fn of_log(fault: LogFault) -> Option<&'static str> {
         LogFault::NotFormatted => {
             Some("`new` makes a log on a disk; if this disk had one, `reopen` opens it again")
         }
-        LogFault::Corrupt => Some(CUT_OFF),
+        LogFault::Corrupt => Some(CHANGED),
         LogFault::Disk(_) => Some(NO_DEVICE),
         LogFault::NoMemory => Some(NO_MEMORY),
         LogFault::Full | LogFault::TooLong | LogFault::Spent => None,

@@ -26,6 +26,7 @@ fn plain_plan_of(args: &RunArgs<'_>) -> Plan
     Plan {
         commit_every: args.commit_every.unwrap_or(4096).min(250_000),
         checkpoint_every: args.checkpoint.unwrap_or(0),
+        seals: args.seal,
         commits: args.rounds,
     }
 }

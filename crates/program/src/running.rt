@@ -77,6 +77,7 @@ pub(crate) fn plan_of(args: &RunArgs<'_>) -> Plan
         rounds: args.rounds,
         schedule: schedule_of(args.together, args.overlap),
         checkpoint_every: args.checkpoint.unwrap_or(0),
+        seals: args.seal,
         commit_every: args.commit_every.unwrap_or(0).min(250_000),
     }
 }

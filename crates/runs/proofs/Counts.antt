@@ -4,6 +4,9 @@ use Rattle.std.proofs.lemmas.Bool.{cases_Bool, cases_lt, eq-eqb, eqb-true, le-le
 use Rattle.std.proofs.lemmas.List.{get_or-replicate, get_or-set_other, get_or-set_same, get_or_past, length-replicate, map-append}
 use Rattle.std.specs.Prelude.{None, Option, replicate, if◌then◌else◌}
 use Rattle.coordinator.specs.Steps.{move_of}
+use Rattle.coordinator.specs.declared.Step.{Step}
+use Rattle.coordinator.specs.declared.Step.TheVariants.{Checkpoint as CheckpointStep, Commit as CommitStep, Post as PostStep, SealedCheckpoint, Take as TakeStep}
+use Rattle.eventkey.specs.declared.Signed.{Signed}
 use Rattle.runs.proofs.Shapes.{one_round_more}
 use Rattle.runs.specs.Budgets.{first_budget}
 use Rattle.runs.specs.declared.budgets.NodeBudget.{NodeBudget}
@@ -14,7 +17,7 @@ use Rattle.runs.specs.declared.rounds.Plan.{Plan}
 use Rattle.runs.specs.declared.rounds.Round.{Round}
 use Rattle.runs.specs.declared.tally.Tally.{Tally}
 use Rattle.protocol.specs.Moves.{Move}
-use Rattle.protocol.specs.Moves.Move.{Commit, Take}
+use Rattle.protocol.specs.Moves.Move.{Checkpoint, Commit, Take}
 use Rattle.protocol.specs.declared.Answer.{Answer}
 use Rattle.protocol.specs.declared.Answer.TheVariants.{AlreadyAt, Checkpointed, Committed, Posted, Taken}
 
@@ -77,6 +80,14 @@ handled_after_is count before (Posted floor) is = is ∙ capped before (before +
 handled_after_is count before (Committed time events) is = is ∙ capped before (before + 0) (omega arith)
 handled_after_is count before (AlreadyAt time) is = is ∙ capped before (before + 0) (omega arith)
 handled_after_is count before (Checkpointed time) is = is ∙ capped before (before + 0) (omega arith)
+
+-- a step that makes a checkpoint
+pub checkpoint_counts : (step : Step) (transit : List Signed) (answer : Answer) → move_of step ≡ Checkpoint → CountsNothing (record { step = step; transit = transit; answer = answer } ∷ [])
+checkpoint_counts CheckpointStep transit answer is = record { reported = λ reported. refl; commits = refl; outstanding = λ outstanding. refl; budgets = λ budgets. refl; budgeted = λ batch budgets. (tt, tt); handled = λ node. refl }
+checkpoint_counts SealedCheckpoint transit answer is = record { reported = λ reported. refl; commits = refl; outstanding = λ outstanding. refl; budgets = λ budgets. refl; budgeted = λ batch budgets. (tt, tt); handled = λ node. refl }
+checkpoint_counts CommitStep transit answer is = absurd (cc)
+checkpoint_counts (TakeStep node) transit answer is = absurd (cc)
+checkpoint_counts (PostStep node picks budget) transit answer is = absurd (cc)
 
 -- a step that is not the take of a node
 pub not_counted : (old new : List ℕ) → new ≡ old → (node before : ℕ) → get_or old node 0 ≡ min before (2 ^ 64 - 1) → get_or new node 0 ≡ min (before + (0 + 0)) (2 ^ 64 - 1)

@@ -7,8 +7,10 @@ ghost use Rattle.runs.specs.Driver.{AreRoundsOfRun, AreTurns, IsDriven, IsDriven
 ghost use Rattle.runs.specs.Driver.{IsPostIf, IsRefusedIn, IsRound, IsTurn, closing_of, goes_on, is_kept};
 ghost use Rattle.runs.specs.Driver.{kept_after, moves_of, takes_of};
 ghost use Rattle.runs.specs.Tallies.{CountsNothing, IsSized, IsTallied, Tallied};
-ghost use Rattle.protocol.specs.Moves.Move.{Commit as CommitMove, Take as TakeMove};
+ghost use Rattle.protocol.specs.Moves.Move.{Checkpoint as CheckpointMove, Commit as CommitMove};
+ghost use Rattle.protocol.specs.Moves.Move.{Take as TakeMove};
 ghost use Rattle.coordinator.specs.Crashes.{KeepsRepresentation};
+ghost use Rattle.coordinator.specs.Steps.{move_of, seals};
 ghost use Rattle.coordinator.specs.declared.SessionFault.{SessionFault};
 
 use crate::picks::places;
@@ -67,6 +69,9 @@ pub struct Plan {
     pub schedule: Schedule,
     /// The number of commits after which a checkpoint follows; 0 for no checkpoints.
     pub checkpoint_every: u32,
+    /// Whether a seal follows each checkpoint: a record of the SHA-256 of the records since the last
+    /// seal, which an opening compares. It is left out where the disk has no room for it.
+    pub seals: bool,
     /// The number of events that have to be reported since the last commit before a round ends with
     /// the next one; 0 for a commit in each round. A round that reaches the end commits in any
     /// case, and the last round of a run commits if any event was reported. A record holds at most
@@ -346,14 +351,15 @@ fn commit<M: Simulated, P: Port, D: SectorDisk, W: Watch>(
     tally.committed(plan.commit_every);
     let front = session.front();
     watch.committed(front.time, front.log.len());
-    keep(session, plan.checkpoint_every, tally.commits())
+    keep(session, plan.checkpoint_every, tally.commits(), plan.seals)
 }
 
-/// Makes a checkpoint if one is due after the commit of this number.
+/// Makes a checkpoint if one is due after the commit of this number, and with `seal` a sealed one.
 fn keep<M: Simulated, P: Port, D: SectorDisk>(
     session: &mut Session<'_, M, P, D>,
     every: u32,
     number: u32,
+    seal: bool,
 ) -> Result<(), RunFault>
     ensures driven { OnOk result (IsDrivenBy M.meaning P.state D.state
         (λ made. (moves_of made ≡ kept_after every number) × CountsNothing made)
@@ -366,9 +372,21 @@ fn keep<M: Simulated, P: Port, D: SectorDisk>(
     ensures stopped { (time events : ℕ) → IsErrOf result (RunFault.Stopped time events) → ⊥ }
 {
     if is_kept(every, number) {
-        session.step(&Step::Checkpoint)?;
+        session.step(&checkpoint_step(seal))?;
     }
     Ok(())
+}
+
+/// Returns the step that makes a checkpoint.
+fn checkpoint_step(seal: bool) -> Step
+    ensures checkpoint { move_of result ≡ CheckpointMove }
+    ensures seals { seals result ≡ seal }
+{
+    if seal {
+        Step::SealedCheckpoint
+    } else {
+        Step::Checkpoint
+    }
 }
 
 /// Returns whether a checkpoint follows the commit of this number.

@@ -262,11 +262,25 @@ where
     if early.is_some() {
         return early;
     }
-    let cause = first_of_writer(rt, args.on);
+    let cause = first_of_begun(rt, args);
     if cause.is_some() {
         return cause;
     }
     last_of_run(rt, args)
+}
+
+/// The first cause among the files with which a run begins. It makes its disk if it is told to and
+/// the disk's file is not there.
+fn first_of_begun<'a, R: Files<File = File>>(rt: &R, args: RunArgs<'a>) -> Option<Cause<'a>> {
+    let DiskArgs { model, disk, .. } = args.on;
+    if args.create && !fs::exists(rt, disk).unwrap_or(true) {
+        first(
+            rt,
+            &[Step::ReadsModel(model), Step::Makes(disk, args.sectors)],
+        )
+    } else {
+        first_of_writer(rt, args.on)
+    }
 }
 
 /// The first cause among a run's steps for its trace, which come before all others.

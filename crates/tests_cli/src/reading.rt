@@ -63,6 +63,7 @@ const RUN: RunArgs<'static> = RunArgs {
     batch: BatchOption::Fixed(16),
     rounds: 1_000_000,
     checkpoint: None,
+    seal: false,
     commit_every: None,
     sockets: None,
     cut: None,
@@ -430,11 +431,13 @@ const RUNS: [(&[&str], Command<'static>); 15] = [
             "a",
             "b",
             "--cut=0",
+            "--seal",
             "--checkpoint",
             "3",
         ],
         Command::Run(RunArgs {
             checkpoint: Some(3),
+            seal: true,
             sockets: Some("c"),
             cut: Some(0),
             together: true,
@@ -598,7 +601,7 @@ fn words_give_a_run_and_its_values(rt: HostRuntime) {
 }
 
 /// Words that are refused, and the kind of the error.
-const REFUSED: [(&[&str], ErrorKind); 90] = [
+const REFUSED: [(&[&str], ErrorKind); 91] = [
     // No path is empty.
     (&["timewarp", "seq", ""], ErrorKind::InvalidValue),
     (&["timewarp", "new", "a", ""], ErrorKind::InvalidValue),
@@ -643,6 +646,10 @@ const REFUSED: [(&[&str], ErrorKind); 90] = [
     ),
     (
         &["timewarp", "run", "a", "b", "--reserve"],
+        ErrorKind::MissingRequiredArgument,
+    ),
+    (
+        &["timewarp", "run", "a", "b", "--seal", "--plain"],
         ErrorKind::MissingRequiredArgument,
     ),
     (

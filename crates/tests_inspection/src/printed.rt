@@ -13,6 +13,7 @@ fn shown() -> Inspection {
         checkpoints: 2,
         last_checkpoint: Some(90),
         ends: 1,
+        seals: 0,
         sectors: 100,
         used: 61,
         pace: Pace {
@@ -38,6 +39,20 @@ fn an_inspection_estimates_when_a_disk_is_full(rt: HostRuntime) -> Result<(), Fa
         sectors 61 used of 100, 39 free\n\
         full at about 178 ticks at the pace of the last 10 commits\n";
     assert!(rt; is_written(rt.alloc(), &shown(), text)?);
+    Ok(())
+}
+
+#[test]
+fn seals_have_a_line_if_there_are_any(rt: HostRuntime) -> Result<(), Fail> {
+    let mut shown = shown();
+    shown.seals = 2;
+    shown.pace.commits = 0;
+    let text = "virtual time 100 of 1000 ticks, 10 percent\n\
+        events 7, 4462 bytes of disk an event\n\
+        records 31, of them 2 checkpoints (the last at 90 ticks) and 1 ends\n\
+        seals 2, compared with the records before them\n\
+        sectors 61 used of 100, 39 free\n";
+    assert!(rt; is_written(rt.alloc(), &shown, text)?);
     Ok(())
 }
 

@@ -83,6 +83,7 @@ const PLAN: Plan = Plan {
     rounds: 100,
     schedule: Schedule::InTurn,
     checkpoint_every: 0,
+    seals: false,
     commit_every: 0,
 };
 

@@ -47,6 +47,7 @@ pub(crate) fn plan(commit_every: u32, checkpoint_every: u32) -> Plan {
     Plan {
         commit_every,
         checkpoint_every,
+        seals: false,
         commits: u32::MAX,
     }
 }

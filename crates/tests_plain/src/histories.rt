@@ -10,7 +10,7 @@ use std::alloc::Global;
 use std::process::Abort;
 use std::test::Fail;
 
-/// A call on a disk; each opens it.
+/// A call on a disk; each opens it. A seal follows each checkpoint.
 #[derive(Clone, Copy)]
 enum Call {
     /// Runs plainly: events between commits, commits between checkpoints, and a limit of commits.
@@ -77,6 +77,7 @@ fn called<M: Model>(
             let plan = Plan {
                 commit_every,
                 checkpoint_every,
+                seals: true,
                 commits,
             };
             let mut seen = Seen::default();
@@ -95,6 +96,7 @@ fn called<M: Model>(
                 rounds,
                 schedule: Schedule::InTurn,
                 checkpoint_every: 2,
+                seals: true,
                 commit_every: 0,
             };
             let ran = run_local(alloc, model, disk, end, plan, &mut Nobody);
@@ -146,12 +148,14 @@ fn ring_run(
 
 /// The plan of a run of the ring, which has events at 1, 3, 5, 7 and 9, and the sectors of its
 /// disk; the fault; and the commits, the time of the last one, its events, and the sectors in use.
-/// A commit of one or two events takes two sectors, and so does a checkpoint.
-const ROWS: [(Plan, u32, Option<PlainFault>, u32, u64, usize, u32); 9] = [
+/// A commit of one or two events takes two sectors, and so do a checkpoint and a seal. A seal
+/// without room is left out.
+const ROWS: [(Plan, u32, Option<PlainFault>, u32, u64, usize, u32); 11] = [
     (
         Plan {
             commit_every: 0,
             checkpoint_every: 0,
+            seals: false,
             commits: 9,
         },
         20,
@@ -165,6 +169,7 @@ const ROWS: [(Plan, u32, Option<PlainFault>, u32, u64, usize, u32); 9] = [
         Plan {
             commit_every: 1,
             checkpoint_every: 0,
+            seals: false,
             commits: 9,
         },
         20,
@@ -178,6 +183,7 @@ const ROWS: [(Plan, u32, Option<PlainFault>, u32, u64, usize, u32); 9] = [
         Plan {
             commit_every: 2,
             checkpoint_every: 0,
+            seals: false,
             commits: 9,
         },
         20,
@@ -191,6 +197,7 @@ const ROWS: [(Plan, u32, Option<PlainFault>, u32, u64, usize, u32); 9] = [
         Plan {
             commit_every: 2,
             checkpoint_every: 2,
+            seals: false,
             commits: 9,
         },
         20,
@@ -202,8 +209,37 @@ const ROWS: [(Plan, u32, Option<PlainFault>, u32, u64, usize, u32); 9] = [
     ),
     (
         Plan {
+            commit_every: 2,
+            checkpoint_every: 3,
+            seals: true,
+            commits: 9,
+        },
+        13,
+        None,
+        3,
+        10,
+        5,
+        12,
+    ),
+    (
+        Plan {
+            commit_every: 2,
+            checkpoint_every: 3,
+            seals: true,
+            commits: 9,
+        },
+        11,
+        None,
+        3,
+        10,
+        5,
+        10,
+    ),
+    (
+        Plan {
             commit_every: 9,
             checkpoint_every: 1,
+            seals: false,
             commits: 1,
         },
         20,
@@ -217,6 +253,7 @@ const ROWS: [(Plan, u32, Option<PlainFault>, u32, u64, usize, u32); 9] = [
         Plan {
             commit_every: 2,
             checkpoint_every: 1,
+            seals: false,
             commits: 2,
         },
         20,
@@ -230,6 +267,7 @@ const ROWS: [(Plan, u32, Option<PlainFault>, u32, u64, usize, u32); 9] = [
         Plan {
             commit_every: 1,
             checkpoint_every: 0,
+            seals: false,
             commits: 0,
         },
         20,
@@ -243,6 +281,7 @@ const ROWS: [(Plan, u32, Option<PlainFault>, u32, u64, usize, u32); 9] = [
         Plan {
             commit_every: 2,
             checkpoint_every: 0,
+            seals: false,
             commits: 9,
         },
         7,
@@ -256,6 +295,7 @@ const ROWS: [(Plan, u32, Option<PlainFault>, u32, u64, usize, u32); 9] = [
         Plan {
             commit_every: 2,
             checkpoint_every: 1,
+            seals: false,
             commits: 9,
         },
         5,
@@ -342,6 +382,7 @@ fn a_run_stops_after_the_next_commit(rt: HostRuntime) -> Result<(), Fail> {
         let plan = Plan {
             commit_every: 2,
             checkpoint_every: 0,
+            seals: false,
             commits,
         };
         let ran = run_plain(alloc, &ring(), disk, 10, plan, &mut asking);

@@ -102,6 +102,7 @@ fn run_once(
         rounds: 100,
         schedule: Schedule::InTurn,
         checkpoint_every: every,
+        seals: false,
         commit_every: 0,
     };
     run(alloc, &one_token(), disk, plan, last, out)
@@ -196,6 +197,7 @@ fn run_many(alloc: Global, disk: MemDisk, last: &mut Last, out: &mut Vec<u8>) ->
         rounds: 100,
         schedule: Schedule::InTurn,
         checkpoint_every: 0,
+        seals: false,
         commit_every: 100,
     };
     run(alloc, &many_tokens(), disk, plan, last, out)

@@ -29,6 +29,7 @@ pub(crate) fn plan(nodes: u32, batch: u32, every: u32) -> Plan
         rounds: 1_000_000,
         schedule: Schedule::InTurn,
         checkpoint_every: every,
+        seals: false,
         commit_every: 0,
     }
 }
@@ -108,6 +109,7 @@ fn a_run_with_checkpoints_reaches_the_same_front(rt: HostRuntime) -> Result<(), 
             let keeping = Plan {
                 schedule,
                 commit_every,
+                seals: batch == 7,
                 ..plan(nodes, batch, 1)
             };
             let (kept, fault) = left_by(alloc, &model, 16_384, 200, keeping)?;

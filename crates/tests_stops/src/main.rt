@@ -481,6 +481,7 @@ fn plan_of(nodes: u32, way: Way) -> Plan
         rounds: ROUNDS,
         schedule: Schedule::InTurn,
         checkpoint_every: way.checkpoint_every,
+        seals: false,
         commit_every: 0,
     }
 }

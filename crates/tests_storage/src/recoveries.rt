@@ -1,5 +1,6 @@
 // Recovery of a token ring of three processes that hold the token for two ticks, up to time 10.
 
+use crate::logs::add;
 use commitlog::{Log, LogFault, format};
 use disk::{DiskFault, MemDisk, Plan, Torn};
 use eventkey::{Listed, Message};
@@ -84,7 +85,7 @@ fn log_with(
         log.append(1, body(alloc, *g, numbers)?.as_slice())?;
     }
     if let Some((kind, body)) = last {
-        log.append(kind, body)?;
+        add(&mut log, kind, body)?;
     }
     Ok(open(alloc, log.into_disk())?)
 }

@@ -5,7 +5,10 @@ use recovery::{Stop, behind_checkpoints, front_of, replay_log};
 /// commits.
 fn stop_at(alloc: Global, kind: u8) -> Result<Option<Stop>, Fail> {
     let mut log = log_of_all(alloc)?;
-    log.append(kind, &[])?;
+    add(&mut log, kind, &[])?;
+    if log.is_spent() {
+        return Err(Fail::new("the log is spent"));
+    }
     Ok(replay_log(alloc, &ring(), &mut log, END).err())
 }
 

@@ -1,4 +1,4 @@
-use Rattle.std.proofs.Common.{◌≡◌, ◌≤◌, ◌<◌, ◌+◌, ◌∙◌, ◌⊎◌, ℕ, List, ap, arith, inl, inr, length, max, refl, subst, sym, ⊎_elim}
+use Rattle.std.proofs.Common.{◌∙◌, ℕ, ap, arith, inl, inr, length, subst, sym, ⊎_elim}
 use Rattle.std.proofs.lemmas.List.{length-append}
 use Rattle.model.specs.Runner.{IsIdle}
 use Rattle.model.specs.World.{IsUpto, World}

@@ -1,7 +1,7 @@
-use Rattle.std.proofs.Common.{◌≤◌, ℕ, arith, min, subst}
+use Rattle.std.proofs.Common.{ℕ, arith, min, subst}
 use Rattle.std.proofs.lemmas.Result.{on_ok_weaker}
-use Rattle.model.specs.Runner.{IsIdle, RunsTo}
-use Rattle.plain.proofs.Ways.{at_limit, same-log, went_on}
+use Rattle.model.specs.Runner.{IsIdle}
+use Rattle.plain.proofs.Ways.{same-log, went_on}
 use Rattle.plain.proofs.advancing.finish.Goals as goal
 
 pub returns-clause-on : goal.returns-clause-on

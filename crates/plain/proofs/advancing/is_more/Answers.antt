@@ -1,4 +1,4 @@
-use Rattle.std.proofs.Common.{◌≤◌, arith, inr}
+use Rattle.std.proofs.Common.{arith, inr}
 use Rattle.std.proofs.lemmas.Bool.{ltb-false}
 use Rattle.plain.proofs.Ways.{idle-before}
 use Rattle.plain.proofs.advancing.is_more.Goals as goal

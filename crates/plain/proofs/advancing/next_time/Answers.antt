@@ -1,4 +1,4 @@
-use Rattle.std.proofs.Common.{◌≤◌, arith}
+use Rattle.std.proofs.Common.{arith}
 use Rattle.plain.proofs.Ways.{before-it, idle-before}
 use Rattle.plain.proofs.advancing.next_time.Goals as goal
 

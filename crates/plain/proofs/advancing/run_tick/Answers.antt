@@ -1,4 +1,4 @@
-use Rattle.std.proofs.Common.{◌+◌, ◌≤◌, ◌<◌, ◌≡◌, arith, min, ℕ}
+use Rattle.std.proofs.Common.{◌+◌, arith, min}
 use Rattle.std.proofs.lemmas.Result.{on_ok_weaker}
 use Rattle.model.specs.declared.WorldFault.TheVariants.{NumberLimit}
 use Rattle.plain.proofs.Ways.{at_limit, on_err_of, before-it, early, idle-before, went_on}

@@ -17,5 +17,5 @@ pub returns-clause-made : goal.returns-clause-made
 returns-clause-made g c = (
   c.in-Ok.run',
   c.in-Ok.ensures.committed,
-  subst (λ (b : Bool). IsSavedIf g.M.Model.meaning g.D.SectorDisk.state b c.in-Ok.run' c.in-Ok-save_if.run') c.is_kept.ensures c.in-Ok-save_if.ensures.saved,
+  subst (λ (b : Bool). IsSavedIf g.M.Model.meaning g.D.SectorDisk.state b c.args.plan.seals c.in-Ok.run' c.in-Ok-save_if.run') c.is_kept.ensures c.in-Ok-save_if.ensures.saved,
 )

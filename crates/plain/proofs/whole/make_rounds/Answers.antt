@@ -1,4 +1,4 @@
-use Rattle.std.proofs.Common.{◌≡◌, ◌≤◌, ◌<◌, ◌+◌, ℕ, arith, refl, subst, suc, sym}
+use Rattle.std.proofs.Common.{◌≡◌, ◌+◌, ℕ, arith, refl, subst, suc, sym}
 use Rattle.plain.specs.Crashes.{KeepsRecovery}
 use Rattle.plain.specs.Runs.{AreRounds, IsRound, RoundIsRefused, RoundsStop}
 use Rattle.plain.specs.declared.PlainFault.{PlainFault}

@@ -1,4 +1,4 @@
-use Rattle.std.proofs.Common.{◌≡◌, ◌≤◌, ◌<◌, ℕ, arith, inr, subst, sym}
+use Rattle.std.proofs.Common.{◌≡◌, ◌<◌, ℕ, arith, inr, subst, sym}
 use Rattle.plain.specs.Crashes.{KeepsRecovery, KeepsUnderItsEnd, Recovers}
 use Rattle.plain.proofs.Recoveries.{back, back-under, earlier, goes-on, goes-under, recovers-genuine}
 use Rattle.plain.proofs.Rounds.{ends-early, ends-kept, ends-written, is_run, opens-without-stop, rounds-follow, stays-after, stop-kept, stops-with}
