@@ -5,7 +5,7 @@
 
 ghost use Rattle.std.specs.Prelude.{◌≤◌, ◌^◌, IfOk};
 
-use eventkey::Message;
+use eventkey::{MOST_END, Message};
 use model::{Model as Simulated, World, WorldFault};
 use models::{JobShop, Phold, TokenRing};
 use rules::RulesFault;
@@ -103,7 +103,7 @@ fn end_of(word: &str) -> Result<u64, Failure>
     ensures range { IfOk result (λ end. (1 ≤ end) × (end ≤ 2 ^ 40)) }
 {
     match word.parse::<u64>() {
-        Ok(end) if 1 <= end && end <= 1 << 40 => Ok(end),
+        Ok(end) if 1 <= end && end <= MOST_END => Ok(end),
         _ => Err(Failure::Usage),
     }
 }

@@ -1,7 +1,7 @@
 -- One text appended to another, and events one after another.
-use Rattle.std.specs.Prelude.{◌≡◌, ◌+◌, ◌<◌, ◌≤◌, ◌&&◌, ℕ, zero, suc, List, [], ◌∷◌, ◌++◌, Bool, true, Result, Ok, Err, OnOk}
+use Rattle.std.specs.Prelude.{◌≡◌, ◌+◌, ◌<◌, ◌≤◌, ℕ, zero, suc, List, [], ◌∷◌, ◌++◌, Result, Ok, Err, OnOk}
 use Rattle.std.specs.Prelude.{drop, get_or, length, map, nat_lt, set}
-use Rattle.std.specs.List.{list_all, AllByRecursion as Every}
+use Rattle.std.specs.List.{AllByRecursion as Every}
 use Rattle.std.proofs.Common.{ap, ap₂, append_assoc, arith, lit≤, subst, sym, ◌∙◌}
 use Rattle.std.proofs.lemmas.Bool.{cond-true, lt-ltb}
 use Rattle.std.proofs.lemmas.List.{drop_all, drop_more, length-append, length-map, length-set, map-set, get_or-map}
@@ -16,10 +16,6 @@ more old a b h k = k ∙ ap (λ s. s ++ b) h ∙ append_assoc old a b
 pub then_more : (old a b new : List ℕ) {mid : List ℕ} {T E : Type 0} (r : Result T E) → mid ≡ old ++ a → OnOk r (new ≡ mid ++ b) → OnOk r (new ≡ old ++ (a ++ b))
 then_more old a b new (Ok x) h k = more old a b h k
 then_more old a b new (Err e) h k = tt
-
-module _ {X : Type 0} (p : X → Bool) (xs : List X) (i : ℕ) (d : X) (inside : i < length xs) where
-  pub passes_on : p (get_or xs i d) ≡ true → list_all p (drop i xs) ≡ list_all p xs → list_all p (drop (i + 1) xs) ≡ list_all p xs
-  passes_on passed so_far = sym (ap (list_all p) (drop_more xs i d inside) ∙ ap (λ b. b && list_all p (drop (i + 1) xs)) passed) ∙ so_far
 
 -- 2. The states
 

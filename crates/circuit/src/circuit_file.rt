@@ -15,6 +15,7 @@ ghost use Rattle.toml.specs.View.{array_view, items_view, table_view, view};
 
 use crate::circuit::{Circuit, is_gate, is_wire};
 use crate::parts::{Gate, Wire};
+use eventkey::MOST_END;
 use std::alloc::{AllocError, Global};
 use texts::{Described, Findings, Found, Mistake, ModelFault, found_in, number_at, only};
 use toml::{Table, Value};
@@ -64,7 +65,7 @@ fn circuit_of(alloc: Global, table: &Table) -> Result<(Circuit, u64), ModelFault
     ensures some { IfOk result (λ file. 1 ≤ file.1) }
     ensures end { IfOk result (λ file. file.1 ≤ 2 ^ 40) }
 {
-    let end = match number_at(table, "end", 1, 1 << 40) {
+    let end = match number_at(table, "end", 1, MOST_END) {
         Ok(end) => end,
         Err(mistake) => return Err(ModelFault::BadModel(mistake)),
     };
@@ -119,7 +120,7 @@ fn mistakes_of(alloc: Global, table: &Table) -> Result<Findings, AllocError>
     ensures { IfOk result (λ found. found ≡ circuit_wrong (table_view table.now)) }
 {
     let mut found = Findings::new(alloc);
-    found.number_at(alloc, table, "end", 1, 1 << 40)?;
+    found.number_at(alloc, table, "end", 1, MOST_END)?;
     look_at_gates(alloc, table, &mut found)?;
     look_at_wires(alloc, table, &mut found)?;
     look_at_parts(alloc, table, &mut found)?;

@@ -309,6 +309,8 @@ const RESERVED_HELP: &str =
 const RUN_HELP: &str = "\
 In a round each node has its turn, and what no rollback can reach any more is committed.
 However a run ends, what was committed stays on the disk, and the next run goes on from there.
+A signal (Ctrl-C, SIGTERM) ends it at once: the line of progress on a terminal says up to which time
+all is committed, and the same command goes on from there; --stop-file lets it commit first.
 
 One command at a time writes to a disk: another is refused at once (File). 'log', 'show', 'status',
 'stats' and 'draw' can run beside it, and print what was committed when they read the disk.
@@ -346,7 +348,8 @@ A disk of format 1 fails with Session Recovery OtherModel; only 'migrate' reads 
 
 With --sockets the run starts this program as 'node' for each node, waits for it at the end, and
 removes its socket. DIR must be a folder of your own (mode 700): anyone who can write to it can
-answer in a node's place. Sockets that a killed run left there are removed.
+answer in a node's place. A line on standard error warns of one that every user can write to.
+Sockets that a killed run left there are removed.
 
 With --overlap nodes work while the run takes the replies of others and commits. It pays where node
 programs have a processor each and an event takes some microseconds; more work is rolled back.

@@ -2,7 +2,7 @@
 use Rattle.std.specs.Prelude.{Bool, IfErr, IfOk, IsErrOf, List, None, OnErr, OnOk, Option, Result, Some}
 use Rattle.std.specs.Prelude.{Err, [], false, if◌then◌else◌, length, nat_lt, not, true, ℕ, ◌&&◌}
 use Rattle.std.specs.Prelude.{◌*◌, ◌++◌, ◌+◌, ◌<◌, ◌^◌, ◌∷◌, ◌≡◌, ◌≤◌, ◌⊎◌}
-use Rattle.commitlog.specs.Records.{HasRoom, entry_with, seal_of}
+use Rattle.commitlog.specs.Records.{HasRoom, entry_with}
 use Rattle.commitlog.specs.declared.records.Entry.{Entry}
 use Rattle.disk.specs.Disk.{DiskState}
 use Rattle.gvt.specs.Ledger.{least_floor}
@@ -17,7 +17,7 @@ use Rattle.protocol.specs.Moves.Refusal.{NumberLimit as NumberLimitRefusal}
 use Rattle.protocol.specs.System.{System, nodes_of}
 use Rattle.protocol.specs.Replies.{names_there}
 use Rattle.recovery.specs.Bodies.{events_body}
-use Rattle.recovery.specs.Checkpoints.{checkpoint_body, checkpoint_of}
+use Rattle.recovery.specs.Checkpoints.{AreKept, checkpoint_body, checkpoint_of}
 use Rattle.wire.specs.Port.{IsResourceFault, PortState}
 use Rattle.wire.specs.declared.port.PortFault.{PortFault}
 use Rattle.wire.specs.declared.port.PortFault.TheVariants.{Peer}
@@ -67,14 +67,6 @@ next_record end p =
 -- the body of the record that a checkpoint would append: the front without its log
 abbrev pub kept_body : System → List ℕ
 kept_body p = checkpoint_body (checkpoint_of p.front)
-
--- The records of a log to which a checkpoint was appended, which has them up to that checkpoint:
--- these alone; or, if it is sealed, these and their seal, which is left out only if a disk of this
--- many sectors has no room for it.
-abbrev pub AreKept : Bool → List Entry → ℕ → List Entry → Type 0
-AreKept false records sectors now = now ≡ records
-AreKept true records sectors now = (now ≡ records ++ seal_of records ∷ [])
-    ⊎ ((now ≡ records) × (HasRoom records 32 sectors → ⊥))
 
 -- The step is the move of the system state, leads to a consistent session, and returns the move's
 -- numbers.
@@ -196,7 +188,7 @@ module _ {M P D : Type 0} (meaning : M → Meaning) (state : P → PortState) (d
         × HasRoomToCommit old)
     pub kept : k ≡ CheckpointMove → OnOk result (AreKept sealed
         (old.log.records ++ entry_with 2 (kept_body (system_of (running meaning state old))) ∷ [])
-        (length (disk new.log.disk).reads) new.log.records
+        (length (disk old.log.disk).reads) new.log.records
         × HasRoomToKeep old)
     pub full : IsErrOf result Full → HasRoomFor k old → ⊥
     pub failed : IsErrOf result Disk → HasRoomFor k old
@@ -209,7 +201,7 @@ module _ {M P D : Type 0} (meaning : M → Meaning) (state : P → PortState) (d
   -- seal has room for. A fault leaves the session spent.
   pub record IsSealed (old new : Session M P D) (result : Result (Unit {0}) SessionFault) : Type 0
     where
-      pub records : OnOk result (AreKept true old.log.records (length (disk new.log.disk).reads)
+      pub records : OnOk result (AreKept true old.log.records (length (disk old.log.disk).reads)
           new.log.records)
       pub cause : IfErr result (λ fault. (fault ≡ Disk) ⊎ (fault ≡ NoMemory))
       pub failed : IsErrOf result Disk →

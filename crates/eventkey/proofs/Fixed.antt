@@ -10,7 +10,7 @@ use Rattle.eventkey.specs.Reading.{number_at}
 use Rattle.eventkey.specs.Encoding.{message_at, message_in}
 use Rattle.eventkey.specs.Laws.{MessagesAreRead}
 use Rattle.eventkey.proofs.Fields.{bind_some}
-use Rattle.eventkey.proofs.Spellings.{message_from_time, message_from_from, message_from_number, message_from_to, message_from_a, message_from_b, message_from_c, message_from_d}
+use Rattle.eventkey.proofs.Encodings.{message_from_time, message_from_from, message_from_number, message_from_to, message_from_a, message_from_b, message_from_c, message_from_d}
 
 number_here : (n k : ℕ) (bytes : List ℕ) → k + n ≤ length bytes → number_at n (drop k bytes) ≡ Some (big_number n (drop k bytes), drop (k + n) bytes)
 unfolding number_at

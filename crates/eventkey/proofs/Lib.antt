@@ -3,7 +3,7 @@ pub mod Lists
 pub mod Times
 pub mod Fields
 pub mod Loop
-pub mod Spellings
+pub mod Encodings
 pub mod Fixed
 pub mod Written
 pub mod Writers

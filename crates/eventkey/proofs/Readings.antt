@@ -16,7 +16,7 @@ use Rattle.eventkey.specs.declared.Sign.TheVariants.{Plus, Minus}
 use Rattle.eventkey.specs.declared.Signed.{Signed}
 use Rattle.eventkey.proofs.Fields.{Takes, IsFormat, IsBytes-drop, bind_some}
 use Rattle.eventkey.proofs.Fixed.{messages_are_read}
-use Rattle.eventkey.proofs.Spellings.{message_format, length-message_bytes}
+use Rattle.eventkey.proofs.Encodings.{message_format, length-message_bytes}
 
 -- 1. Messages
 
@@ -140,8 +140,8 @@ length-signed_bytes : (s : Signed) → length (signed_bytes s) ≡ 57
 unfolding signed_bytes
 length-signed_bytes s = omega (arith, length-message_bytes s.message)
 
-pub spellings_are_as_long : EncodingLengths
-spellings_are_as_long = (length-message_bytes, length-signed_bytes)
+pub encodings_are_as_long : EncodingLengths
+encodings_are_as_long = (length-message_bytes, length-signed_bytes)
 
 pub signed_read-again : (bytes : List ℕ) (s : Signed) (rest : List ℕ) → IsRanged s.message → bytes ≡ signed_bytes s ++ rest → signed_read bytes ≡ Ok s
 signed_read-again bytes s rest is e = with_rest_some 57 bytes (signed_read bytes) s rest (sym (signed_are_read bytes) ∙ ap signed_at e ∙ signed_again s rest is)

@@ -135,6 +135,10 @@ impl Model for Message {
     } };
 }
 
+/// The greatest end of a simulation, in ticks (this project's profile). An event is before the end,
+/// and a delay is below 2^32, so the receive time of each message is below 2^41.
+pub const MOST_END: u64 = 1 << 40;
+
 /// The limit of times in ticks: each message has a time below it.
 const TIME_LIMIT: u64 = 1 << 41;
 

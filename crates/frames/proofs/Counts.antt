@@ -4,7 +4,7 @@ use Rattle.std.specs.List.{All, AllByRecursion as Every}
 use Rattle.byteorder.specs.Endian.{big_bytes}
 use Rattle.byteorder.specs.Numbers.{length-bytes_high_first}
 use Rattle.eventkey.proofs.Lists.{Every-both}
-use Rattle.eventkey.proofs.Readings.{spellings_are_as_long}
+use Rattle.eventkey.proofs.Readings.{encodings_are_as_long}
 use Rattle.eventkey.specs.Message.{IsRanged, Message}
 use Rattle.eventkey.specs.Encoding.{message_bytes, signed_bytes}
 use Rattle.eventkey.specs.declared.Signed.{Signed}
@@ -39,10 +39,10 @@ module _ {X : Type 0} (encoded : X → List ℕ) where
   counted_within xs rest = omega (arith, length-append (counted_bytes 4 encoded xs) rest, length-append (big_bytes 4 (length xs)) (flat_map encoded xs))
 
 some_message : (x : Message) → 1 ≤ length (message_bytes x)
-some_message x = omega (arith, spellings_are_as_long.0 x)
+some_message x = omega (arith, encodings_are_as_long.0 x)
 
 some_signed : (s : Signed) → 1 ≤ length (signed_bytes s)
-some_signed s = omega (arith, spellings_are_as_long.1 s)
+some_signed s = omega (arith, encodings_are_as_long.1 s)
 
 some_part : (p : Part) → 1 ≤ length (part_bytes p)
 unfolding part_bytes
@@ -50,7 +50,7 @@ some_part p = omega (arith, length-append {A = ℕ}, length-bytes_high_first 4 p
 
 some_done : (d : Done) → 1 ≤ length (done_bytes d)
 unfolding done_bytes
-some_done d = omega (arith, length-append {A = ℕ}, spellings_are_as_long.0 d.message)
+some_done d = omega (arith, length-append {A = ℕ}, encodings_are_as_long.0 d.message)
 
 pub part_fits : (p : Part) → p.lp < 2 ^ 32 → Every (λ (w : ℕ). w < 2 ^ 64) p.words → Every IsRanged p.pending → IsInRange p → length (part_bytes p) ≤ 2 ^ 24 → IsPart p
 unfolding part_bytes

@@ -9,7 +9,7 @@ use Rattle.eventkey.specs.Message.{Message, IsRanged}
 use Rattle.eventkey.specs.Reading.{IsBytes, ◌>>=◌, number_at, items_at}
 use Rattle.eventkey.specs.Encoding.{message_at, message_bytes}
 use Rattle.eventkey.proofs.Fields.{IsFormat, Takes, Takes-then, format1, format4, format8, step_of, when_some}
-use Rattle.eventkey.proofs.Spellings.{message_format}
+use Rattle.eventkey.proofs.Encodings.{message_format}
 use Rattle.model.proofs.Encoding.{words_format}
 use Rattle.model.specs.Encoding.{words_at, words_bytes}
 use Rattle.node.specs.declared.Part.{Part}

@@ -1,5 +1,5 @@
 -- A port that judges the reports of its node, as contracts see it.
-use Rattle.std.specs.Prelude.{Bool, Err, IfErr, List, Option, Result, Some, false, if◌then◌else◌, true, ℕ, ◌≡◌}
+use Rattle.std.specs.Prelude.{Bool, Err, IfErr, List, None, Option, Result, Some, [], false, if◌then◌else◌, true, ℕ, ◌≡◌}
 use Rattle.model.specs.Meaning.{Meaning}
 use Rattle.node.specs.declared.Parcel.{Parcel}
 use Rattle.node.specs.declared.Reply.{Reply}
@@ -22,6 +22,18 @@ pub record Judged (M P : Type 0) : Type 0 where
   pub known : List Known
   pub ended : Bool
   pub refused : Option Difference
+
+-- a port that judges by this model one report in `every`, and through which nothing is loaded yet
+abbrev pub new_judge : {M P : Type 0} → M → ℕ → P → Judged M P
+new_judge model every port = record {
+  model = model;
+  port = port;
+  every = every;
+  nodes = 1;
+  known = [];
+  ended = false;
+  refused = None;
+}
 
 -- the resource faults of a port that judges: an allocation of its own may fail, or the port below has
 -- one

@@ -1,8 +1,8 @@
 // A port that judges what its node reports.
 
-ghost use Rattle.std.specs.Prelude.{◌≡◌, ◌≤◌, ◌<◌, ◌^◌, [], IfErr, IfOk, None, OnErr, OnOk, Some};
-ghost use Rattle.std.specs.Prelude.{false, map, true};
-ghost use Rattle.judging.specs.Judged.{IsPassed, IsRefused, state_by};
+ghost use Rattle.std.specs.Prelude.{◌≡◌, ◌≤◌, ◌<◌, ◌^◌, IfErr, IfOk, OnErr, OnOk, Some};
+ghost use Rattle.std.specs.Prelude.{map, true};
+ghost use Rattle.judging.specs.Judged.{IsPassed, IsRefused, new_judge, state_by};
 ghost use Rattle.judging.specs.Judging.{AreOfModel, loaded_known};
 ghost use Rattle.node.specs.declared.Parcel.{Parcel};
 ghost use Rattle.wire.specs.Port.{IsLoadFault, IsLoadInRange, IsLoaded, IsResourceFault, IsSamePort};
@@ -85,15 +85,7 @@ impl<'m, M: Simulated, P: Port> Judged<'m, M, P> {
     /// A port that judges by this model what the node behind `port` reports, one report in `every`
     /// of each process, or none if `every` is 0. It allocates nothing.
     pub fn new(alloc: Global, model: &'m M, port: P, every: u32) -> Judged<'m, M, P>
-        ensures { result ≡ record {
-          model = model.now;
-          port = port;
-          every = every;
-          nodes = 1;
-          known = [];
-          ended = false;
-          refused = None;
-        } }
+        ensures { result ≡ new_judge model.now every port }
     {
         Judged {
             alloc,
@@ -216,6 +208,11 @@ impl<'m, M: Simulated, P: Port> Port for Judged<'m, M, P> {
         // Where all are judged, the reports of each process are what the model does.
         ensures all { self.old.every ≡ 1 → IfOk result (λ reply.
             AreOfModel (M.meaning self.old.model) self.old.nodes self.old.known reply.fossils) }
+        // It judges on as before.
+        ensures unchanged { OnOk result (self.new ≡ record self.old {
+          port = self.new.port;
+          known = self.new.known;
+        }) }
         // A fault is that of the port below, which has then ended, or a reply is refused.
         ensures refused { IfErr result (λ fault. (P.state self.new.port).stage ≡ Idle →
             IsRefused M.meaning P.state self.old self.new fault) }

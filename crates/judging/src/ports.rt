@@ -1,7 +1,7 @@
 // Ports that judge, over those of a run.
 
-ghost use Rattle.std.specs.Prelude.{◌≡◌, IfOk, false, map};
-ghost use Rattle.judging.specs.Judged.{judged_state, state_by};
+ghost use Rattle.std.specs.Prelude.{◌≡◌, IfOk, map};
+ghost use Rattle.judging.specs.Judged.{new_judge};
 
 use crate::differences::Differences;
 use crate::port::Judged;
@@ -19,8 +19,8 @@ pub fn judged_ports<'m, M: Simulated, P: Port + Drop>(
     differences: Option<&'m Differences>,
     ports: Vec<P>,
 ) -> Result<Vec<Judged<'m, M, P>>, AllocError>
-    ensures { IfOk result (λ judged. map (λ j. state_by P.state j) judged.items
-        ≡ map (λ p. judged_state false (P.state p)) ports.items) }
+    ensures { IfOk result (λ judged.
+        judged.items ≡ map (λ p. new_judge model.now every p) ports.items) }
 {
     let mut judged = Vec::with_capacity(alloc, ports.len())?;
     'ports: for port in ports {

@@ -73,7 +73,7 @@ map-replicate : {A B : Type 0} (f : A → B) (count : ℕ) (x : A) → map f (re
 map-replicate f zero x = refl
 map-replicate f (suc count) x = ap (λ xs. f x ∷ xs) (map-replicate f count x)
 
-none_at : (count k : ℕ) → get_or (replicate count absent) k absent ≡ absent
+pub none_at : (count k : ℕ) → get_or (replicate count absent) k absent ≡ absent
 none_at zero k = refl
 none_at (suc count) zero = refl
 none_at (suc count) (suc k) = none_at count k

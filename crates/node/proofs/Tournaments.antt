@@ -9,6 +9,7 @@ use Rattle.node.specs.Node.{lesser}
 use Rattle.node.specs.declared.summary.Summary.{Summary}
 use Rattle.node.specs.Tournament.{HasWon, IsBelow, IsTournament, absent, least_among, next_at, up, winner_next}
 use Rattle.node.proofs.Lesser.{lesser_assoc, lesser_comm, lesser_none}
+use Rattle.node.proofs.Summaries.{none_at}
 
 -- 1. The root
 
@@ -245,11 +246,6 @@ own_below leaves cell from before = record { there = omega arith; levels = 0; ab
 -- the winner of the left of two cells
 pub left_below : (leaves cell : ℕ) (winners : List ℕ) → 1 ≤ cell → cell < leaves → IsSeeded leaves (suc cell) winners → IsBelow leaves (get_or winners (2 * cell) 0) cell
 left_below leaves cell winners some inside h = below_up leaves (get_or winners (2 * cell) 0) (2 * cell) cell (h.below (2 * cell) (omega arith) (omega arith)) (omega arith)
-
-none_at : (count k : ℕ) → get_or (replicate count absent) k absent ≡ absent
-none_at zero k = refl
-none_at (suc count) zero = refl
-none_at (suc count) (suc k) = none_at count k
 
 pub seeded_is_tournament : (leaves cell : ℕ) (summaries : List Summary) (winners : List ℕ) → leaves < 2 ^ 32 → cell ≤ 1 → summaries ≡ replicate leaves absent → IsSeeded leaves cell winners → IsTournament summaries winners
 seeded_is_tournament leaves cell summaries winners few last is h =

@@ -1,9 +1,13 @@
-// What was last noted of the connections to node programs: when one is lost, which.
+// What was last noted of the connections to node programs: when one is lost, which; and what the
+// system says when one is not made.
 
+use crate::fault::{NodesFault, unreadable};
+use disk::SystemError;
 use sockets::ReadAhead;
 use std::cell::Cell;
 use std::io::{self, Error as IoError, ErrorKind, Read, Write};
 use std::os::unix::net::UnixStream;
+use terminal::Unmet;
 
 /// How a call on the connection of a node program ended.
 #[derive(Clone, Copy, Debug, PartialEq, Eq)]
@@ -28,10 +32,12 @@ pub struct Call {
 }
 
 /// Keeps the last call on the connections of a run. A session makes no call after a port has
-/// failed, so after such a fault this is the call on the connection of the node that was lost.
+/// failed, so after such a fault this is the call on the connection of the node that was lost. Keeps
+/// too what the system says when no connection is made.
 #[derive(Drop)]
 pub struct Calls {
     last: Cell<Option<Call>>,
+    unmet: Cell<Option<Unmet>>,
 }
 
 impl Calls {
@@ -39,6 +45,7 @@ impl Calls {
     pub fn none() -> Calls {
         Calls {
             last: Cell::new(None),
+            unmet: Cell::new(None),
         }
     }
 
@@ -47,8 +54,25 @@ impl Calls {
         self.last.get()
     }
 
+    /// What the system says, if a call failed with which nodes or a run are met.
+    pub fn unmet(&self) -> Option<Unmet> {
+        self.unmet.get()
+    }
+
     fn note(&self, node: usize, end: CallEnd) {
         self.last.set(Some(Call { node, end }));
+    }
+
+    /// Notes the error of a call on a socket, and returns the fault for it.
+    pub(crate) fn no_socket(&self, error: IoError) -> NodesFault {
+        self.unmet.set(SystemError::of(&error).map(Unmet::Socket));
+        unreadable(error)
+    }
+
+    /// Notes why a node program does not start, and returns the fault for it.
+    pub(crate) fn no_program(&self, error: IoError) -> NodesFault {
+        self.unmet.set(SystemError::of(&error).map(Unmet::Program));
+        unreadable(error)
     }
 }
 

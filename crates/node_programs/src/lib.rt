@@ -4,10 +4,12 @@
 
 mod calls;
 mod fault;
+mod folders;
 mod nodes;
 mod processors;
 
 pub use calls::{Call, CallEnd, Calls, NodeStream};
 pub use fault::NodesFault;
+pub use folders::is_open_to_all;
 pub use nodes::{Behind, Met, clear, meet, serve_on};
 pub use processors::count_processors;

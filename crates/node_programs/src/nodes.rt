@@ -39,7 +39,7 @@ pub struct Behind<'a> {
     pub bind: bool,
     /// After how many seconds without an answer a program counts as lost; none for no limit.
     pub silence: Option<u32>,
-    /// Where each call on a connection is noted.
+    /// Where each call on a connection is noted, and what the system says if none is made.
     pub calls: &'a Calls,
 }
 
@@ -86,7 +86,7 @@ where
     let mut lock = lock_folder(rt, behind.folder);
     let is_locked = lock.is_some();
     'nodes: for node in 0..nodes {
-        bind(rt, behind.folder, node, is_locked, lock.take(), met)?;
+        bind(rt, behind, node, is_locked, lock.take(), met)?;
     }
     let met = met.as_mut_slice();
     gather(rt, behind, met, progress)?;
@@ -109,7 +109,7 @@ fn lock_folder<R: Files<File = File>>(rt: &R, folder: &str) -> Option<File> {
 /// `is_locked` says whether this run has locked the folder.
 fn bind<R>(
     rt: &R,
-    folder: &str,
+    behind: Behind<'_>,
     node: u32,
     is_locked: bool,
     lock: Option<File>,
@@ -119,9 +119,10 @@ where
     R: Files<File = File> + Net + Processes + AllocGlobal,
     ensures { OnOk result (length met.new.items ≡ length met.old.items + 1) }
 {
+    let Behind { folder, calls, .. } = behind;
     let path = format!(in rt.alloc(); "{folder}/node{node}")?;
     met.reserve(1)?;
-    let listener = listen(rt, path.as_str(), is_locked).map_err(unreadable)?;
+    let listener = listen(rt, path.as_str(), is_locked).map_err(|error| calls.no_socket(error))?;
     // recorded before anything else can fail, so that it is cleared up
     let nonblocking = listener.set_nonblocking(true);
     met.push_reserved(Met {
@@ -131,7 +132,7 @@ where
         stream: None,
         lock,
     });
-    nonblocking.map_err(unreadable)
+    nonblocking.map_err(|error| calls.no_socket(error))
 }
 
 /// Makes a socket at `path`. If the folder is locked for this run, first removes a socket there at
@@ -176,7 +177,7 @@ where
     P: Progress,
 {
     if behind.attach {
-        await_all(rt, met, progress)
+        await_all(rt, behind.calls, met, progress)
     } else {
         start_all(rt, behind, met)
     }
@@ -184,7 +185,12 @@ where
 
 /// Accepts a connection of each node's program, in any order. Polls all sockets once a millisecond.
 /// Reports to `progress` which nodes it waits for, at first and whenever one has connected.
-fn await_all<R, P>(rt: &R, met: &mut [Met<R::Started>], progress: &mut P) -> Result<(), NodesFault>
+fn await_all<R, P>(
+    rt: &R,
+    calls: &Calls,
+    met: &mut [Met<R::Started>],
+    progress: &mut P,
+) -> Result<(), NodesFault>
 where
     R: Processes + Clock + AllocGlobal,
     P: Progress,
@@ -198,7 +204,7 @@ where
                 return Ok(());
             }
         }
-        has_come = take_arrived(met).map_err(unreadable)?;
+        has_come = take_arrived(met).map_err(|error| calls.no_socket(error))?;
         if !has_come {
             thread::sleep(rt, Duration::from_millis(1));
         }
@@ -266,8 +272,9 @@ fn start_all<R>(rt: &R, behind: Behind<'_>, met: &mut [Met<R::Started>]) -> Resu
 where
     R: Files<File = File> + Processes + AllocGlobal,
 {
+    let calls = behind.calls;
     let processors = if behind.bind {
-        processors(rt)?
+        processors(rt).map_err(|error| calls.no_program(error))?
     } else {
         Vec::new(rt.alloc())
     };
@@ -277,7 +284,9 @@ where
             None => false,
         };
         let processor = processor_of(processors.as_slice(), node);
-        let child = start(rt, behind, met.path.as_str(), is_cut, processor).map_err(unreadable)?;
+        let child = start(rt, behind, met.path.as_str(), is_cut, processor).map_err(
+            |error| calls.no_program(error),
+        )?;
         met.child = Some(child);
     }
     Ok(())
@@ -321,12 +330,13 @@ where
     ensures { IfOk result (λ ports.
         map (λ p. state_of p.held) ports.items ≡ replicate (length met.old) (state_of Fresh)) }
 {
+    let calls = behind.calls;
     let mut ports = Vec::with_capacity(rt.alloc(), met.len())?;
     'nodes: for node in 0..met.len() {
-        let stream = accept(rt, &mut met[node]).map_err(unreadable)?;
-        limit(&stream, behind.silence).map_err(unreadable)?;
+        let stream = accept(rt, &mut met[node]).map_err(|error| calls.no_socket(error))?;
+        limit(&stream, behind.silence).map_err(|error| calls.no_socket(error))?;
         let stream = ReadAhead::new(rt.alloc(), stream).map_err(unreadable)?;
-        let stream = NodeStream::new(node, behind.calls, stream);
+        let stream = NodeStream::new(node, calls, stream);
         ports.push(SocketPort::new(rt.alloc(), stream))?;
     }
     Ok(ports)
@@ -367,8 +377,12 @@ where
         match accepted {
             Ok((stream, _)) => return Ok(stream),
             Err(error) => {
-                if has_ended || error.kind() != ErrorKind::WouldBlock {
+                if error.kind() != ErrorKind::WouldBlock {
                     return Err(error);
+                }
+                if has_ended {
+                    // that nothing waits to be accepted is no fault of the system
+                    return Err(IoError::from(ErrorKind::NotConnected));
                 }
             }
         }
@@ -450,12 +464,19 @@ where
 ///
 /// Fails with `File` if no connection is made, with `NoMemory` if an allocation for it failed, and
 /// then with `Wire`. A node's own refusal is reported to the other end, and is not a fault here.
-pub fn serve_on<M, R>(rt: &R, model: &M, socket: &str, parcels: u32) -> Result<(), NodesFault>
+/// `calls` keeps what the system says if no connection is made.
+pub fn serve_on<M, R>(
+    rt: &R,
+    model: &M,
+    socket: &str,
+    parcels: u32,
+    calls: &Calls,
+) -> Result<(), NodesFault>
 where
     M: Simulated,
     R: Files<File = File> + Net + AllocGlobal,
 {
-    let stream = UnixStream::connect(rt, socket).map_err(unreadable)?;
+    let stream = UnixStream::connect(rt, socket).map_err(|error| calls.no_socket(error))?;
     let mut reader = BufReader::new(rt.alloc(), &stream).map_err(unreadable)?;
     let mut writer = &stream;
     serve(

@@ -1,8 +1,8 @@
 // The processors on which this program may run, for node programs that have one each.
 
-use crate::fault::{NodesFault, unreadable};
 use std::alloc::{AllocError, Global};
 use std::fs::{self, File};
+use std::io::{self, Error as IoError, ErrorKind};
 use std::process::Command;
 use std::rt::Files;
 
@@ -11,18 +11,18 @@ const MOST: usize = 64;
 
 /// The processors on which the system lets this program run, at most 64 of them.
 ///
-/// Fails with `File` if the system does not say so, and with `NoMemory`.
-pub(crate) fn processors<R>(rt: &R) -> Result<Vec<u32>, NodesFault>
+/// Fails if the system does not say so, or an allocation failed.
+pub(crate) fn processors<R>(rt: &R) -> io::Result<Vec<u32>>
 where
     R: Files<File = File> + AllocGlobal,
 {
-    let status = fs::read_to_string(rt, "/proc/self/status").map_err(unreadable)?;
+    let status = fs::read_to_string(rt, "/proc/self/status")?;
     for line in status.as_str().split('\n') {
         if let Some(list) = line.strip_prefix("Cpus_allowed_list:") {
             return listed(rt.alloc(), list.trim());
         }
     }
-    Err(NodesFault::File)
+    Err(IoError::from(ErrorKind::InvalidData))
 }
 
 /// How many processors the system lets this program run on, at most 64; 1 if the system does not
@@ -37,12 +37,12 @@ where
     }
 }
 
-/// The numbers of a list such as `0-3,8`, at most 64 of them. Fails with `File` if it is none.
-fn listed(alloc: Global, list: &str) -> Result<Vec<u32>, NodesFault> {
+/// The numbers of a list such as `0-3,8`, at most 64 of them. Fails if it is none.
+fn listed(alloc: Global, list: &str) -> io::Result<Vec<u32>> {
     let mut processors = Vec::with_capacity(alloc, MOST)?;
     for part in list.split(',') {
         let Some((first, last)) = span_of(part) else {
-            return Err(NodesFault::File);
+            return Err(IoError::from(ErrorKind::InvalidData));
         };
         append_span(first, last, &mut processors)?;
     }
@@ -59,7 +59,7 @@ fn span_of(text: &str) -> Option<(u32, u32)> {
 }
 
 /// Appends the numbers from the first to the last, until there are 64.
-fn append_span(first: u32, last: u32, processors: &mut Vec<u32>) -> Result<(), NodesFault> {
+fn append_span(first: u32, last: u32, processors: &mut Vec<u32>) -> io::Result<()> {
     for processor in first..=last {
         if processors.len() >= MOST {
             return Ok(());

@@ -1,11 +1,14 @@
 -- The labels of an axis, and which messages are shown.
-use Rattle.std.proofs.Common.{◌≡◌, ◌≢◌, ◌==◌, ℕ, zero, suc, ◌+◌, ◌-◌, ◌*◌, ◌/◌, ◌^◌, ◌<◌, ◌≤◌, ◌&&◌, nat_le, List, [], ◌∷◌, ◌++◌, length, get_or, set, drop, take, filter, flat_map, Bool, true, false, refl, ap, ◌∙◌, sym, arith, inl, inr, eq-eqb, eqb-true}
-use Rattle.std.proofs.lemmas.Bool.{and_parts, cases_Bool, cond_both, eqb-false, leb-true}
+use Rattle.std.proofs.Common.{◌≡◌, ◌≢◌, ◌==◌, ℕ, zero, suc, ◌+◌, ◌-◌, ◌*◌, ◌/◌, ◌^◌, ◌<◌, ◌≤◌, ◌&&◌, nat_le, nat_lt, List, [], ◌∷◌, ◌++◌, length, get_or, set, drop, take, filter, flat_map, Bool, true, false, refl, ap, ◌∙◌, sym, arith, inl, inr, eq-eqb, eqb-true}
+use Rattle.std.proofs.lemmas.Bool.{and_parts, cases_Bool, cond_both, eqb-false, leb-true, ltb-true}
 use Rattle.std.proofs.lemmas.List.{drop_all, drop_more, get_or-set_other, get_or-set_same}
 use Rattle.eventkey.proofs.Lists.{drop_here}
+use Rattle.eventkey.specs.Message.{Message}
 use Rattle.model.specs.World.{below}
 use Rattle.model.proofs.Worlds.{get_or-below, length-below}
-use Rattle.pictures.specs.Drawing.{step_from}
+use Rattle.pictures.specs.Drawing.{is_shown, step_from}
+use Rattle.pictures.specs.Run.{Run}
+use Rattle.pictures.specs.declared.drawn.Frame.{Frame}
 use Rattle.pictures.specs.declared.drawn.TheConstants.{STEPS}
 use Rattle.pictures.proofs.Counts.{length-filter-le}
 
@@ -37,15 +40,22 @@ filter_fits p xs i n x l is selected so_far =
     let h = rw (drop_here xs i x l is, selected) at so_far in
     omega (arith, length-filter-le p xs, h)
 
-module _ {X : Type 0} (f : X → List ℕ) (p : X → Bool) (xs : List X) (i : ℕ) (x : X) (l : i < length xs) (is : x ≡ get_or xs i x) where
-  pub first-here : (left : ℕ) → 0 < left → p x ≡ true → flat_map f (take left (filter p (drop i xs))) ≡ f x ++ flat_map f (take (left - 1) (filter p (drop (i + 1) xs)))
+pub shown_within : (r : Run) (f : Frame) (before : ℕ) (x : Message) → is_shown r f before x ≡ true → (f.from ≤ x.time) × (x.time < before)
+shown_within r f before x shown =
+    let (from, later) = and_parts (nat_le f.from x.time) _ shown in
+    let (inside, others) = and_parts (nat_lt x.time before) _ later in
+    (leb-true f.from x.time from, ltb-true x.time before inside)
+
+-- what a function has of the first messages that are shown, from item i on
+module _ {X Y : Type 0} (f : List X → Y) (p : X → Bool) (xs : List X) (i : ℕ) (x : X) (l : i < length xs) (is : x ≡ get_or xs i x) where
+  pub first-here : (left : ℕ) → 0 < left → p x ≡ true → f (take left (filter p (drop i xs))) ≡ f (x ∷ take (left - 1) (filter p (drop (i + 1) xs)))
   first-here zero some selected = absurd (omega arith)
   first-here (suc left) some selected = let e : suc left - 1 ≡ left = omega arith in rw (drop_here xs i x l is, selected, e) refl
 
-  pub first-passed : (left : ℕ) → p x ≡ false → flat_map f (take left (filter p (drop i xs))) ≡ flat_map f (take left (filter p (drop (i + 1) xs)))
+  pub first-passed : (left : ℕ) → p x ≡ false → f (take left (filter p (drop i xs))) ≡ f (take left (filter p (drop (i + 1) xs)))
   first-passed left other = rw (drop_here xs i x l is, other) refl
 
-  pub first-full : (left : ℕ) → left ≡ 0 → flat_map f (take left (filter p (drop i xs))) ≡ flat_map f (take left (filter p (drop (i + 1) xs)))
+  pub first-full : (left : ℕ) → left ≡ 0 → f (take left (filter p (drop i xs))) ≡ f (take left (filter p (drop (i + 1) xs)))
   first-full left none = rw none refl
 
 -- 3. Rows and labels, one after another

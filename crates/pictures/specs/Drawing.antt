@@ -1,26 +1,27 @@
 -- The space-time diagram of a run: virtual time along x, a line for each process, a dot for each
 -- event, and a line for each message from its sending to its receiving. Coordinates are whole
--- pixels.
+-- pixels. Under the diagram a legend names the marks.
 use Rattle.std.specs.List.{filter}
 use Rattle.std.specs.Prelude.{ℕ, ◌+◌, ◌-◌, ◌*◌, ◌/◌, ◌^◌, ◌&&◌, Bool, List, [], ◌∷◌, ◌++◌, drop}
-use Rattle.std.specs.Prelude.{flat_map, if◌then◌else◌, length, max, min, nat_le, nat_lt, take}
+use Rattle.std.specs.Prelude.{Option, Some, None, flat_map, if◌then◌else◌, length, max, min}
+use Rattle.std.specs.Prelude.{nat_le, nat_lt, take, unwrap_or}
 use Rattle.eventkey.specs.Message.{Message}
 use Rattle.model.specs.World.{below}
 use Rattle.pictures.specs.Filled.{filled}
 use Rattle.pictures.specs.Run.{Run, sent_at}
 use Rattle.pictures.specs.declared.drawn.Frame.{Frame}
 use Rattle.pictures.specs.declared.drawn.View.{View}
-use Rattle.pictures.specs.declared.drawn.TheConstants.{DOT, HEAD, LINE, NOTE, PENDING, ROW, RULE}
-use Rattle.pictures.specs.declared.drawn.TheConstants.{STEPS, STYLE, TAIL, TICK}
+use Rattle.pictures.specs.declared.drawn.TheConstants.{AXES, DOT, HEAD, LEGEND, LINE, NOTE}
+use Rattle.pictures.specs.declared.drawn.TheConstants.{PENDING, ROW, RULE, STEPS, STYLE, TAIL, TICK}
 
--- the part of a run that a picture shows: a range of ticks, and at most 64 processes from the first
--- one of the view on
+-- the part of a run that a view has: a range of ticks, in a view without an end up to the tick that
+-- the run reached, and at most 64 processes from the first one of the view on
 abbrev pub frame_of : Run → View → Frame
 frame_of r v =
     let from = min v.from (2 ^ 41) in
     record {
       from = from;
-      to = max from (min v.to (2 ^ 41));
+      to = max from (min (unwrap_or v.to (r.time + 1)) (2 ^ 41));
       first = v.first;
       rows = min 64 (min (v.last + 1) (length r.first) - v.first);
     }
@@ -46,6 +47,16 @@ abbrev pub is_shown : Run → Frame → ℕ → Message → Bool
 is_shown r f before x =
     nat_le f.from x.time && (nat_lt x.time before && (nat_lt (sent_at r x) f.to
     && (nat_le f.first x.to && nat_lt (x.to - f.first) f.rows)))
+
+-- the time behind the last one of these events, or `end` if there are none
+abbrev pub last_end : ℕ → List Message → ℕ
+last_end end [] = end
+last_end end (x ∷ xs) = last_end (x.time + 1) xs
+
+-- where the picture of a frame ends: if the view has no end, with the last event that is drawn
+abbrev pub drawn_end : Run → Frame → Option ℕ → ℕ
+drawn_end r f (Some to) = f.to
+drawn_end r f None = last_end f.to (take 2000 (filter (is_shown r f f.to) r.events))
 
 -- the numbers of a mark: the coordinates of sending and receiving, then the message itself
 abbrev pub mark_numbers : Run → Frame → Message → List ℕ
@@ -90,6 +101,14 @@ row_text f k = filled ROW.now
 abbrev pub rows_text : Frame → List ℕ
 rows_text f = flat_map (row_text f) (below f.rows)
 
+-- the titles of the axes: under the labels of the ticks, and beside those of the processes
+abbrev pub axes_text : Frame → List ℕ
+axes_text f = filled AXES.now ((bottom_of f + 34) ∷ (50 + 10 * f.rows) ∷ [])
+
+-- what lies behind the marks
+abbrev pub grid_text : Frame → List ℕ
+grid_text f = ticks_text f ++ rows_text f ++ axes_text f
+
 -- a line at the virtual time up to which the run went, if it is in the frame
 abbrev pub rule_text : Run → Frame → List ℕ
 rule_text r f =
@@ -100,21 +119,28 @@ rule_text r f =
 abbrev pub shown_count : Run → Frame → ℕ
 shown_count r f = length (filter (is_shown r f f.to) r.events)
 
-abbrev pub note_text : Run → Frame → List ℕ
-note_text r f = filled NOTE.now
-    (min 2000 (shown_count r f) ∷ shown_count r f ∷ f.first ∷ (f.first + f.rows - 1)
-    ∷ length r.first ∷ [])
+-- how many of the view's events are drawn, and which processes
+abbrev pub note_text : Run → Frame → ℕ → List ℕ
+note_text r f count = filled NOTE.now
+    (min 2000 count ∷ count ∷ f.first ∷ (f.first + f.rows - 1) ∷ length r.first ∷ [])
+
+-- what each mark means, and the virtual time up to which the run went
+abbrev pub legend_text : Run → Frame → List ℕ
+legend_text r f = filled LEGEND.now ((bottom_of f + 34) ∷ r.time ∷ [])
 
 abbrev pub head_text : Frame → List ℕ
 head_text f = filled HEAD.now ((bottom_of f + 40) ∷ (bottom_of f + 40) ∷ f.from ∷ f.to ∷ [])
 
-abbrev pub picture_text : Run → Frame → List ℕ
-picture_text r f =
-    head_text f ++ STYLE.now ++ ticks_text f ++ rows_text f
+-- the picture of a frame, where the view has `count` events
+abbrev pub picture_text : Run → Frame → ℕ → List ℕ
+picture_text r f count =
+    head_text f ++ STYLE.now ++ grid_text f
     ++ marks_text r f PENDING.now 0 (2 ^ 64 - 1) r.pending
     ++ marks_text r f LINE.now 0 f.to r.events
     ++ marks_text r f DOT.now 2 f.to r.events
-    ++ rule_text r f ++ note_text r f ++ TAIL.now
+    ++ rule_text r f ++ note_text r f count ++ legend_text r f ++ TAIL.now
 
 abbrev pub drawing_text : Run → View → List ℕ
-drawing_text r v = picture_text r (frame_of r v)
+drawing_text r v =
+    let f = frame_of r v in
+    picture_text r (record f { to = drawn_end r f v.to }) (shown_count r f)

@@ -5,7 +5,7 @@ use Rattle.std.specs.Prelude.{ℕ, ◌+◌, ◌-◌, ◌*◌, ◌/◌, ◌%◌, 
 use Rattle.std.specs.Prelude.{◌++◌, flat_map, length, max, min, nat_le, nat_lt, suc, zero}
 use Rattle.eventkey.specs.Message.{Message}
 use Rattle.model.specs.World.{below}
-use Rattle.pictures.specs.Drawing.{bottom_of, frame_of, rows_text, span_of, ticks_text}
+use Rattle.pictures.specs.Drawing.{bottom_of, frame_of, grid_text, span_of}
 use Rattle.pictures.specs.Filled.{filled}
 use Rattle.pictures.specs.Run.{Run}
 use Rattle.pictures.specs.declared.drawn.Frame.{Frame}
@@ -71,7 +71,7 @@ head_text r f most = filled LOAD_HEAD.now
 abbrev pub map_text : Run → Frame → ℕ → List ℕ
 map_text r f most =
     head_text r f most
-    ++ STYLE.now ++ ticks_text f ++ rows_text f
+    ++ STYLE.now ++ grid_text f
     ++ flat_map (cells_text r f most) (below f.rows) ++ TAIL.now
 
 abbrev pub load_text : Run → View → List ℕ

@@ -2,12 +2,13 @@
 
 ghost use Rattle.std.specs.List.{filter};
 ghost use Rattle.std.specs.Prelude.{◌≡◌, ◌≤◌, ◌<◌, ◌+◌, ◌-◌, ◌*◌, ◌^◌, ◌++◌, drop, flat_map};
-ghost use Rattle.std.specs.Prelude.{length};
+ghost use Rattle.std.specs.Prelude.{length, take};
 ghost use Rattle.eventkey.specs.Writing.{Writes};
 ghost use Rattle.model.specs.World.{below};
-ghost use Rattle.pictures.specs.Drawing.{bottom_of, drawing_text, first_tick, frame_of, head_text};
-ghost use Rattle.pictures.specs.Drawing.{is_shown, mark_numbers, marks_text, note_text};
-ghost use Rattle.pictures.specs.Drawing.{picture_text};
+ghost use Rattle.pictures.specs.Drawing.{axes_text, bottom_of, drawing_text, drawn_end, first_tick};
+ghost use Rattle.pictures.specs.Drawing.{frame_of, grid_text, head_text};
+ghost use Rattle.pictures.specs.Drawing.{is_shown, last_end, legend_text, mark_numbers, marks_text};
+ghost use Rattle.pictures.specs.Drawing.{note_text, picture_text};
 ghost use Rattle.pictures.specs.Drawing.{row_text, rows_text, rule_text, shown_count, span_of};
 ghost use Rattle.pictures.specs.Drawing.{step_from};
 ghost use Rattle.pictures.specs.Drawing.{step_of, tick_count, tick_text, ticks_text, x_of, y_of};
@@ -24,8 +25,9 @@ use texts::write_text;
 pub struct View {
     /// The first time in ticks.
     pub from: u64,
-    /// The time in ticks before which the part ends.
-    pub to: u64,
+    /// The time in ticks before which the part ends. If there is none, a diagram ends with the last
+    /// event that it draws, and a heat map with the tick up to which the run went.
+    pub to: Option<u64>,
     /// The first process.
     pub first: u32,
     /// The last process.
@@ -107,6 +109,11 @@ const ROW: &str = "\
 <text x=\"52\" y=\"$\" text-anchor=\"end\">$</text>
 ";
 
+const AXES: &str = "\
+<text x=\"960\" y=\"$\" text-anchor=\"end\">virtual time (ticks)</text>
+<text x=\"-$\" y=\"10\" transform=\"rotate(-90)\" text-anchor=\"middle\">logical process</text>
+";
+
 const LINE: &str = "\
 <line class=\"message\" x1=\"$\" y1=\"$\" x2=\"$\" y2=\"$\">\
 <title>sent $, received $, from $, number $, to $: $ $ $ $</title></line>
@@ -130,14 +137,25 @@ const NOTE: &str = "\
 <text x=\"60\" y=\"24\">shown: events 1 to $ of $, processes $ to $ of $</text>
 ";
 
+const LEGEND: &str = "\
+<g transform=\"translate(60 $)\">\
+<circle class=\"event\" cx=\"3\" cy=\"-4\" r=\"3\"/><text x=\"12\">event</text>\
+<line class=\"message\" x1=\"60\" y1=\"-4\" x2=\"84\" y2=\"-4\"/><text x=\"90\">message</text>\
+<line class=\"pending\" x1=\"160\" y1=\"-4\" x2=\"184\" y2=\"-4\"/>\
+<text x=\"190\">pending message</text>\
+<line class=\"time\" x1=\"310\" y1=\"-12\" x2=\"310\" y2=\"2\"/>\
+<text x=\"318\">virtual time of the run: $</text></g>
+";
+
 pub(crate) const TAIL: &str = "</svg>\n";
 
 /// Writes the space-time diagram of a run as a stand-alone SVG.
 ///
 /// Virtual time is along x. There is a line for each process, a dot for each event in the view, a
 /// line for the message of each event, and a dashed line for each pending message. Of a larger view
-/// it shows the first 64 processes and the first 2,000 events and pending messages, and says so.
-/// Times above 2^41 count as 2^41.
+/// it shows the first 64 processes and the first 2,000 events and pending messages, and says so. If
+/// the view has no end, the picture ends with the last event that it draws. Times above 2^41 count
+/// as 2^41. The axes have titles, and a legend names the marks and the run's time.
 ///
 /// If the writer fails, its error is returned, and it has taken a beginning of the text. The time
 /// is in proportion to the run's messages, and nothing is allocated.
@@ -146,7 +164,12 @@ pub fn write_drawing<W: Write>(trace: &Trace, view: &View, out: &mut W) -> Resul
         (drawing_text trace.now view.now) }
 {
     let frame = framed(trace, view);
-    write_picture(trace, &frame, out)
+    let count = count_shown(trace, &frame);
+    let drawn = Frame {
+        to: drawn_end(trace, &frame, view.to),
+        ..frame
+    };
+    write_picture(trace, &drawn, count, out)
 }
 
 /// Returns the frame of a view.
@@ -156,31 +179,66 @@ pub(crate) fn framed(trace: &Trace, view: &View) -> Frame
     let from = view.from.min(1 << 41);
     let lps = trace.first().len() as u64;
     let behind = (u64::from(view.last) + 1).min(lps);
+    let to = view.to.unwrap_or(trace.time() + 1);
     Frame {
         from,
-        to: view.to.min(1 << 41).max(from),
+        to: to.min(1 << 41).max(from),
         first: view.first,
         rows: behind.saturating_sub(u64::from(view.first)).min(64) as u32,
     }
 }
 
-fn write_picture<W: Write>(trace: &Trace, frame: &Frame, out: &mut W) -> Result<()>
+/// Returns where the picture of a frame ends: with the frame if its view has an end, and otherwise
+/// with the last event that is drawn.
+fn drawn_end(trace: &Trace, frame: &Frame, to: Option<u64>) -> u64
+    requires order { frame.now.from ≤ frame.now.to }
+    ensures end { result ≡ drawn_end trace.now frame.now to }
+    ensures order { frame.now.from ≤ result }
+    ensures within { result ≤ frame.now.to }
+{
+    match to {
+        Some(_) => frame.to,
+        None => end_of_last(trace, frame),
+    }
+}
+
+/// Returns the time behind the last of the first 2,000 events that the frame shows, or the frame's
+/// end if it shows none.
+fn end_of_last(trace: &Trace, frame: &Frame) -> u64
+    requires order { frame.now.from ≤ frame.now.to }
+    ensures end { result ≡ last_end frame.now.to (take 2000
+        (filter (is_shown trace.now frame.now frame.now.to) trace.now.events)) }
+    ensures order { frame.now.from ≤ result }
+    ensures within { result ≤ frame.now.to }
+{
+    let mut end = frame.to;
+    let mut left = 2000usize;
+    for event in trace.events() {
+        if left > 0 && has_marks(trace, frame, frame.to, event) {
+            end = event.time() + 1;
+            left -= 1;
+        }
+    }
+    end
+}
+
+fn write_picture<W: Write>(trace: &Trace, frame: &Frame, count: u64, out: &mut W) -> Result<()>
     requires order { frame.now.from ≤ frame.now.to }
     requires to { frame.now.to ≤ 2 ^ 41 }
     requires rows { frame.now.rows ≤ 64 }
     requires first { frame.now.first < 2 ^ 32 }
     ensures { Writes (W.contents out.old) (W.contents out.new) result
-        (picture_text trace.now frame.now) }
+        (picture_text trace.now frame.now count) }
 {
     write_head(frame, out)?;
     write_text(STYLE, out)?;
-    write_ticks(frame, out)?;
-    write_rows(frame, out)?;
+    write_grid(frame, out)?;
     write_marks(trace, frame, PENDING, 0, u64::MAX, trace.pending(), out)?;
     write_marks(trace, frame, LINE, 0, frame.to, trace.events(), out)?;
     write_marks(trace, frame, DOT, 2, frame.to, trace.events(), out)?;
     write_rule(trace, frame, out)?;
-    write_note(trace, frame, out)?;
+    write_note(trace, frame, count, out)?;
+    write_legend(trace, frame, out)?;
     write_text(TAIL, out)
 }
 
@@ -225,7 +283,20 @@ fn write_head<W: Write>(frame: &Frame, out: &mut W) -> Result<()>
     write_filled(HEAD, &[height, height, frame.from, frame.to], out)
 }
 
-pub(crate) fn write_ticks<W: Write>(frame: &Frame, out: &mut W) -> Result<()>
+/// Writes what lies behind the marks: the ticks, the processes, and the titles of both axes.
+pub(crate) fn write_grid<W: Write>(frame: &Frame, out: &mut W) -> Result<()>
+    requires order { frame.now.from ≤ frame.now.to }
+    requires to { frame.now.to ≤ 2 ^ 41 }
+    requires rows { frame.now.rows ≤ 64 }
+    requires first { frame.now.first < 2 ^ 32 }
+    ensures { Writes (W.contents out.old) (W.contents out.new) result (grid_text frame.now) }
+{
+    write_ticks(frame, out)?;
+    write_rows(frame, out)?;
+    write_axes(frame, out)
+}
+
+fn write_ticks<W: Write>(frame: &Frame, out: &mut W) -> Result<()>
     requires order { frame.now.from ≤ frame.now.to }
     requires to { frame.now.to ≤ 2 ^ 41 }
     requires rows { frame.now.rows ≤ 64 }
@@ -274,7 +345,7 @@ fn write_tick<W: Write>(frame: &Frame, time: u64, out: &mut W) -> Result<()>
     write_filled(TICK, &[x, x, y, x, y + 16, time], out)
 }
 
-pub(crate) fn write_rows<W: Write>(frame: &Frame, out: &mut W) -> Result<()>
+fn write_rows<W: Write>(frame: &Frame, out: &mut W) -> Result<()>
     requires rows { frame.now.rows ≤ 64 }
     requires first { frame.now.first < 2 ^ 32 }
     ensures { Writes (W.contents out.old) (W.contents out.new) result (rows_text frame.now) }
@@ -293,6 +364,14 @@ fn write_process<W: Write>(frame: &Frame, place: u32, out: &mut W) -> Result<()>
     let y = 60 + 20 * u64::from(place);
     let process = u64::from(frame.first) + u64::from(place);
     write_filled(ROW, &[y, y, y + 4, process], out)
+}
+
+fn write_axes<W: Write>(frame: &Frame, out: &mut W) -> Result<()>
+    requires rows { frame.now.rows ≤ 64 }
+    ensures { Writes (W.contents out.old) (W.contents out.new) result (axes_text frame.now) }
+{
+    let middle = 50 + 10 * u64::from(frame.rows);
+    write_filled(AXES, &[bottom(frame) + 34, middle], out)
 }
 
 /// Returns whether a message is drawn: it is received in the frame before the time `before`, and
@@ -382,13 +461,13 @@ fn write_rule<W: Write>(trace: &Trace, frame: &Frame, out: &mut W) -> Result<()>
     write_filled(RULE, &[x, x, bottom(frame), time], out)
 }
 
-fn write_note<W: Write>(trace: &Trace, frame: &Frame, out: &mut W) -> Result<()>
+/// Writes how much is drawn, where the view has `count` events.
+fn write_note<W: Write>(trace: &Trace, frame: &Frame, count: u64, out: &mut W) -> Result<()>
     requires rows { frame.now.rows ≤ 64 }
     requires first { frame.now.first < 2 ^ 32 }
     ensures { Writes (W.contents out.old) (W.contents out.new) result
-        (note_text trace.now frame.now) }
+        (note_text trace.now frame.now count) }
 {
-    let count = count_shown(trace, frame);
     let first = u64::from(frame.first);
     let numbers = [
         count.min(2000),
@@ -398,6 +477,14 @@ fn write_note<W: Write>(trace: &Trace, frame: &Frame, out: &mut W) -> Result<()>
         trace.first().len() as u64,
     ];
     write_filled(NOTE, &numbers, out)
+}
+
+fn write_legend<W: Write>(trace: &Trace, frame: &Frame, out: &mut W) -> Result<()>
+    requires rows { frame.now.rows ≤ 64 }
+    ensures { Writes (W.contents out.old) (W.contents out.new) result
+        (legend_text trace.now frame.now) }
+{
+    write_filled(LEGEND, &[bottom(frame) + 34, trace.time()], out)
 }
 
 /// Returns how many events the frame shows.

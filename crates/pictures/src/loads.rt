@@ -10,7 +10,7 @@ ghost use Rattle.pictures.specs.Load.{load_text, map_text, most_in_row, most_in_
 ghost use Rattle.pictures.specs.Load.{slice_start, slices_of};
 
 use crate::Trace;
-use crate::drawn::{Frame, STYLE, TAIL, View, bottom, framed, span, write_rows, write_ticks};
+use crate::drawn::{Frame, STYLE, TAIL, View, bottom, framed, span, write_grid};
 use crate::filled::write_filled;
 use eventkey::Message;
 use std::io::{Result, Write};
@@ -35,7 +35,8 @@ const CELL: &str = "\
 /// handled in each slice of virtual time.
 ///
 /// There is a rectangle for each of up to 64 slices of each of the first 64 processes of the view,
-/// in ten depths of colour; the deepest is that of the most events. Times above 2^41 count as 2^41.
+/// in ten depths of colour; the deepest is that of the most events. A view without an end goes up to
+/// the tick that the run reached. Times above 2^41 count as 2^41. The axes have titles.
 /// The title has the first and the last tick, and a line says how many of the processes are shown.
 ///
 /// If the writer fails, its error is returned, and it has taken a beginning of the text. The events
@@ -59,8 +60,7 @@ fn write_map<W: Write>(trace: &Trace, frame: &Frame, most: u64, out: &mut W) -> 
 {
     write_head(trace, frame, most, out)?;
     write_text(STYLE, out)?;
-    write_ticks(frame, out)?;
-    write_rows(frame, out)?;
+    write_grid(frame, out)?;
     write_all_cells(trace, frame, most, out)?;
     write_text(TAIL, out)
 }

@@ -12,7 +12,7 @@ use recovery::RecoveryFault;
 use std::fs::File;
 use std::io::Write;
 use std::rt::Files;
-use terminal::{Cause, Progress, cause_of, cause_of_device};
+use terminal::{Cause, Progress, Unmet, cause_of, cause_of_device};
 use texts::{Described, Printable, Report};
 use views::{committed_on, difference_of, mistakes_of};
 use wire::{PortFault, WireFault};
@@ -26,6 +26,8 @@ pub(crate) struct Noted {
     pub refused: Option<Difference>,
     /// The system's error of the last failed call on the disk.
     pub system: Option<SystemError>,
+    /// The system's error of the call that failed as node programs or a run were met.
+    pub unmet: Option<Unmet>,
 }
 
 /// Passes the advice for the fault of a command to `progress`, and the cause of a `File` if
@@ -60,7 +62,7 @@ where
         print_committed::<M, R, E>(rt, paths_of(command), err);
     }
     let cause = if is_wanted && matches!(fault, Fault::File) {
-        cause_of(rt, command, noted.system)
+        cause_of(rt, command, noted.system, noted.unmet)
     } else {
         None
     };

@@ -15,7 +15,7 @@ use crate::said::SystemErrors;
 use crate::watching::Watching;
 use cli::{BatchOption, NodeArgs, RunArgs};
 use commands::Simulated;
-use node_programs::count_processors;
+use node_programs::{Calls, count_processors, is_open_to_all};
 use runs::{Batch as DriverBatch, Plan, Schedule};
 use std::fs::{File, OpenOptions};
 use std::io::{BufWriter, Error as IoError, Write};
@@ -139,6 +139,20 @@ where
     }
 }
 
+/// Warns of a folder of sockets in which every user may write. The run goes on: only its user knows
+/// whom the machine lets in.
+fn warn_of_folder<R, P>(rt: &R, sockets: Option<&str>, progress: &mut P)
+where
+    R: Files<File = File>,
+    P: Progress,
+{
+    if let Some(folder) = sockets {
+        if is_open_to_all(rt, folder) {
+            progress.found_open(folder);
+        }
+    }
+}
+
 /// Runs the model of a file on its disk, which is made first if that is asked for and it is not
 /// there.
 ///
@@ -169,6 +183,7 @@ where
     let disk = disk_of(rt, &of, args.on, create_of(&args), said)?;
     progress.begin(of.end);
     progress.takes(way_of(rt, &args, of.model.lps()));
+    warn_of_folder(rt, args.sockets, progress);
     let mut watch = Watching::new(rt, progress, args.stop_file);
     let ended = run_attempts::<M, R, P, O>(rt, nodes, &of, disk, args, &mut watch, out)?;
     said.note(ended.disk.last_error());
@@ -219,14 +234,15 @@ where
 /// Serves as a node that runs the model of a file, behind a socket.
 ///
 /// Returns, in this order, the faults of the model file; `File` if no connection is made; and
-/// `Wire`. A refusal by the node itself is reported at the other end, and is not a fault here.
-pub(crate) fn serve_on<M, R>(rt: &R, args: NodeArgs<'_>) -> Result<(), Fault>
+/// `Wire`. A refusal by the node itself is reported at the other end, and is not a fault here. `calls`
+/// keeps what the system says if no connection is made.
+pub(crate) fn serve_on<M, R>(rt: &R, calls: &Calls, args: NodeArgs<'_>) -> Result<(), Fault>
 where
     M: Described,
     R: Files<File = File> + Net + AllocGlobal,
 {
     let of: Simulated<M> = simulated(rt, args.model)?;
-    Ok(node_programs::serve_on(rt, &of.model, args.socket, args.parcels)?)
+    Ok(node_programs::serve_on(rt, &of.model, args.socket, args.parcels, calls)?)
 }
 
 /// Returns why a trace is not made: `NoMemory` if an allocation failed, otherwise `File`.

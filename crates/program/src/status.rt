@@ -138,6 +138,7 @@ where
                 last: calls.last(),
                 refused: differences.first(),
                 system: said.last(),
+                unmet: calls.unmet(),
             };
             advise::<M, R, P, E>(rt, command, fault, noted, is_asked, progress, err);
             status
@@ -214,7 +215,7 @@ where
         Command::Draw(args) => draw_on::<M, R, O>(rt, args, out),
         Command::Seq(args) => Ok(seq_of::<M, R, O>(rt, args.model, out)?),
         Command::Check(args) => Ok(check_of::<M, R, O>(rt, args.model, out, found)?),
-        Command::Node(args) => serve_on::<M, R>(rt, args),
+        Command::Node(args) => serve_on::<M, R>(rt, nodes.calls, args),
     }
 }
 

@@ -1,19 +1,12 @@
 -- Lists that are gone through item by item.
-use Rattle.std.proofs.Common.{◌≡◌, ℕ, ◌+◌, ◌<◌, ◌&&◌, List, [], ◌∷◌, ◌++◌, Bool, true, false, Option, None, Some, ap, sym, ◌∙◌, refl, drop, get_or, length, string_bytes, String, Global, append_assoc, append-nil, if◌then◌else◌, option_and_then}
-use Rattle.std.specs.List.{list_all}
+use Rattle.std.proofs.Common.{◌≡◌, ℕ, ◌+◌, List, [], ◌∷◌, ◌++◌, Bool, true, false, Option, None, Some, ap, sym, ◌∙◌, refl, drop, string_bytes, String, Global, append_assoc, append-nil, if◌then◌else◌, option_and_then}
 use Rattle.std.specs.Prelude.{option_map}
-use Rattle.std.proofs.lemmas.List.{drop_more}
 use Rattle.rule_files.specs.Names.{is_name}
 use Rattle.rule_files.specs.RuleFile.{all_of, named_in, numbers_in}
 use Rattle.toml.proofs.Views.{Entry}
 use Rattle.toml.specs.Data.{Data}
 use Rattle.toml.specs.View.{items_view, members_view, view}
 use Rattle.toml.specs.declared.value.Value.{Value}
-
--- the item passes the test
-module _ {X : Type 0} (p : X → Bool) (xs : List X) (i : ℕ) (d : X) (inside : i < length xs) where
-  pub passes_on : p (get_or xs i d) ≡ true → list_all p (drop i xs) ≡ list_all p xs → list_all p (drop (i + 1) xs) ≡ list_all p xs
-  passes_on passed so_far = sym (ap (list_all p) (drop_more xs i d inside) ∙ ap (λ b. b && list_all p (drop (i + 1) xs)) passed) ∙ so_far
 
 -- what was read so far, and the rest, are the whole
 abbrev pub HasRead : {X : Type 0} → (Data → Option X) → List Value → List X → ℕ → Type 0

@@ -30,6 +30,7 @@ use crate::given::given_names;
 use crate::printed::put_model;
 use crate::reading::{RuleMistake, read_rule};
 use crate::scope::{Named, Scope, is_key};
+use eventkey::MOST_END;
 use model::Model as Simulated;
 use models::AnyModel;
 use rules::{MAX_LPS, Rules, RulesParts, Statement, Table as Numbers};
@@ -215,7 +216,7 @@ fn head_of(table: &Table) -> Result<(u64, u64), Mistake>
     ensures bad { IsErr result → head_wrong (table_view table.now) ≢ [] }
 {
     let lps = number_at(table, "lps", 1, u64::from(MAX_LPS))?;
-    let end = number_at(table, "end", 1, 1 << 40)?;
+    let end = number_at(table, "end", 1, MOST_END)?;
     only(table, &KEYS)?;
     Ok((lps, end))
 }
@@ -444,7 +445,7 @@ fn rules_mistakes_of(alloc: Global, table: &Table) -> Result<Findings, AllocErro
 {
     let mut found = Findings::new(alloc);
     found.number_at(alloc, table, "lps", 1, u64::from(MAX_LPS))?;
-    found.number_at(alloc, table, "end", 1, 1 << 40)?;
+    found.number_at(alloc, table, "end", 1, MOST_END)?;
     look_at_names(alloc, table, &mut found)?;
     look_at_body(alloc, table, &mut found)?;
     found.others(alloc, table, &KEYS)?;

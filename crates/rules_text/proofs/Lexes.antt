@@ -2,13 +2,14 @@
 use Rattle.std.proofs.Common.{◌≡◌, ◌≤◌, ℕ, zero, suc, ◌+◌, ◌-◌, List, [], ◌∷◌, ◌++◌, Option, Some, None, Bool, true, false, eqb, length, take, drop, refl, sym, ap, ◌∙◌, subst, arith, length-append, if◌then◌else◌, inl, inr}
 use Rattle.std.proofs.lemmas.Bool.{cases_Bool}
 use Rattle.std.proofs.lemmas.List.{take_at, drop_at}
+use Rattle.eventkey.proofs.Fields.{bind_some}
 use Rattle.rules_text.specs.declared.lexemes.Lexeme.{Lexeme}
 use Rattle.rules_text.specs.declared.lexemes.Placed.{Placed}
 use Rattle.rules_text.specs.declared.lexemes.Run.{Run}
 use Rattle.rules_text.specs.declared.lexemes.Run.TheVariants.{Word, Line}
 use Rattle.rules_text.specs.Lexical.{belongs, double_at, is_white, lex, lexemes_at, longest, piece, placed, run, sign_piece, single, word_of, Each, Stops, IsOfWord, IsPiece, white_space, a_comment, a_word, a_double, a_single, Splits, nothing_left, a_piece}
 use Rattle.rules_text.specs.Reading.{◌>>=◌}
-use Rattle.rules_text.proofs.Marks.{bind_is, equal_number, some_is}
+use Rattle.rules_text.proofs.Marks.{equal_number, some_is}
 
 -- what comes first, by the kinds of bytes
 abbrev word_piece : List ℕ → Option (Option Lexeme × ℕ)
@@ -123,7 +124,7 @@ record Found (bytes : List ℕ) (p : Option Lexeme × ℕ) : Type 0 where
 
 word_only : (b : ℕ) (rest : List ℕ) (p : Option Lexeme × ℕ) → IsOfWord true b → word_piece (b ∷ rest) ≡ Some p → Found (b ∷ rest) p
 word_only b rest p kind e =
-    let one = bind_is (word_of (take (run Word (b ∷ rest)) (b ∷ rest))) (λ x. Some (Some x, run Word (b ∷ rest))) p e in
+    let one = bind_some (word_of (take (run Word (b ∷ rest)) (b ∷ rest))) (λ x. Some (Some x, run Word (b ∷ rest))) p e in
     let same = some_is (Some one.0, run Word (b ∷ rest)) p one.2 in
     let more = runs Word rest in
     let size : length (b ∷ more.front) ≡ run Word (b ∷ rest) =
@@ -149,8 +150,8 @@ sign_only b rest p kind e = at (double_at b rest) refl e
     at : (o : Option Lexeme) → double_at b rest ≡ o → sign_found (longest o (single b)) ≡ Some p → Found (b ∷ rest) p
     at (Some x) is e = subst (Found (b ∷ rest)) (some_is (Some x, 2) p e) (double_only b rest x kind is)
     at None is e =
-        let one = bind_is (longest None (single b)) (λ q. Some (Some q.0, q.1)) p e in
-        let two = bind_is (single b) (λ x. Some (x, 1)) one.0 one.1 in
+        let one = bind_some (longest None (single b)) (λ q. Some (Some q.0, q.1)) p e in
+        let two = bind_some (single b) (λ x. Some (x, 1)) one.0 one.1 in
         let same : ◌≡◌ {A = Lexeme × ℕ} (two.0, 1) one.0 = some_is (two.0, 1) one.0 two.2 in
         subst (Found (b ∷ rest)) (ap (λ (q : Lexeme × ℕ). (Some q.0, q.1)) same ∙ some_is (Some one.0.0, one.0.1) p one.2)
         (record { front = b ∷ []; behind = rest; parts = refl; size = refl; is = a_single b rest two.0 kind is two.1 })
@@ -201,8 +202,8 @@ lexes_only zero at [] ts fits e = nothing_found at ts e
 lexes_only zero at (b ∷ rest) ts fits e = absurd (omega arith)
 lexes_only (suc n) at [] ts fits e = nothing_found at ts e
 lexes_only (suc n) at (b ∷ rest) ts fits e =
-    let a = bind_is (piece (b ∷ rest)) (λ p. lex n (at + p.1) (drop p.1 (b ∷ rest)) >>= λ us. Some (placed p.0 at (at + p.1) ++ us)) ts e in
-    let c = bind_is (lex n (at + a.0.1) (drop a.0.1 (b ∷ rest))) (λ us. Some (placed a.0.0 at (at + a.0.1) ++ us)) ts a.2 in
+    let a = bind_some (piece (b ∷ rest)) (λ p. lex n (at + p.1) (drop p.1 (b ∷ rest)) >>= λ us. Some (placed p.0 at (at + p.1) ++ us)) ts e in
+    let c = bind_some (lex n (at + a.0.1) (drop a.0.1 (b ∷ rest))) (λ us. Some (placed a.0.0 at (at + a.0.1) ++ us)) ts a.2 in
     let found = piece_only b rest a.0 a.1 in
     let left : drop a.0.1 (b ∷ rest) ≡ found.behind = ap (drop a.0.1) found.parts ∙ drop_at found.front found.behind a.0.1 found.size in
     let long = piece_long a.0.0 found.front found.behind found.is in

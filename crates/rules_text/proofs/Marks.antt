@@ -7,7 +7,7 @@ use Rattle.rules_text.specs.declared.token.Mark.TheVariants as m
 use Rattle.rules_text.specs.declared.token.Token.{Token}
 use Rattle.rules_text.specs.declared.token.Token.TheVariants as t
 use Rattle.rules_text.specs.Grammar.{Tree, code, height}
-use Rattle.rules_text.specs.Reading.{◌>>=◌, behind, made}
+use Rattle.rules_text.specs.Reading.{behind, made}
 
 -- a mark by its number
 abbrev mark_of : ℕ → Mark
@@ -112,8 +112,3 @@ made_only x rest p e = elim (cases_Bool (ltb 256 (height x))) [
       let here : ◌≡◌ {A = Option (Tree × List Token)} (Some (x, rest)) (Some p) = ap (λ b. if b then None else Some (x, rest)) (sym low) ∙ e in
       (not_above (height x) low, some_is (x, rest) p here)
 ]
-
--- what a step that gave something took
-pub bind_is : {A B : Type 0} (o : Option A) (f : A → Option B) (y : B) → (o >>= f) ≡ Some y → (x : A) × (o ≡ Some x) × (f x ≡ Some y)
-bind_is None f y e = absurd cc
-bind_is (Some x) f y e = (x, refl, e)

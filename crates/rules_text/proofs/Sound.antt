@@ -1,6 +1,7 @@
 -- What is read is spelled so.
 use Rattle.std.proofs.Common.{◌≡◌, ◌≤◌, ◌⊎◌, ℕ, zero, suc, List, [], ◌∷◌, ◌++◌, Option, Some, None, eqb, length, refl, sym, ap, ◌∙◌, subst, arith, append_assoc, if◌then◌else◌, inl, inr}
 use Rattle.std.proofs.lemmas.Bool.{cases_Bool}
+use Rattle.eventkey.proofs.Fields.{bind_some}
 use Rattle.rules.specs.declared.tree.Operator.{Operator}
 use Rattle.rules.specs.declared.tree.Operator.TheVariants as o
 use Rattle.rules_text.specs.declared.token.Mark.{Mark}
@@ -9,7 +10,7 @@ use Rattle.rules_text.specs.declared.token.Token.{Token}
 use Rattle.rules_text.specs.declared.token.Token.TheVariants as t
 use Rattle.rules_text.specs.Grammar.{Tree, Not, Two, Entry, Draw, height, leaf, looseness, Spells, a_leaf, a_not, in_brackets, an_entry, a_draw, the_least, the_greatest, compared, joined, tighter}
 use Rattle.rules_text.specs.Reading.{Reader, ◌>>=◌, and_rest, behind, by_mark, chain, enclosed, go, inside, level, made, pair_at, primary, turns, value_at}
-use Rattle.rules_text.proofs.Marks.{behind_only, bind_is, equal_number, made_only, not_six, some_is}
+use Rattle.rules_text.proofs.Marks.{behind_only, equal_number, made_only, not_six, some_is}
 
 -- the tokens begin with a spelling, and the others follow it
 pub record Begins (names : List ℕ) (d k : ℕ) (x : Tree) (ts rest : List Token) : Type 0 where
@@ -51,8 +52,8 @@ one_step k n operand x (t.Sign o ∷ ts) y rest e = elim (cases_Bool (eqb (loose
   | inl here ↦
       let took : (operand ts >>= λ q. made (Two o x q.0) q.1 >>= λ r. chain k operand n r.0 r.1) ≡ Some (y, rest) =
       ap (λ b. go (if b then Some (o, ts) else None) x (t.Sign o ∷ ts) operand (chain k operand n)) (sym here) ∙ e in
-      let one = bind_is (operand ts) (λ q. made (Two o x q.0) q.1 >>= λ r. chain k operand n r.0 r.1) (y, rest) took in
-      let two = bind_is (made (Two o x one.0.0) one.0.1) (λ r. chain k operand n r.0 r.1) (y, rest) one.2 in
+      let one = bind_some (operand ts) (λ q. made (Two o x q.0) q.1 >>= λ r. chain k operand n r.0 r.1) (y, rest) took in
+      let two = bind_some (made (Two o x one.0.0) one.0.1) (λ r. chain k operand n r.0 r.1) (y, rest) one.2 in
       let put = made_only (Two o x one.0.0) one.0.1 two.0 two.1 in
       inr (record {
         o = o;
@@ -203,8 +204,8 @@ module _ (names : List ℕ) where
       (sound : (k : ℕ) (ts : List Token) (x : Tree) (rest : List Token) → inner k ts ≡ Some (x, rest) → Within d k x ts rest) where
     enclosed_sound : (closing : Mark) (ts : List Token) (x : Tree) (rest : List Token) → enclosed closing (inner 9) ts ≡ Some (x, rest) → Closed d x closing ts rest
     enclosed_sound closing ts x rest e =
-        let one = bind_is (inner 9 ts) (λ p. behind closing p.1 >>= λ q. Some (p.0, q)) (x, rest) e in
-        let two = bind_is (behind closing one.0.1) (λ q. Some (one.0.0, q)) (x, rest) one.2 in
+        let one = bind_some (inner 9 ts) (λ p. behind closing p.1 >>= λ q. Some (p.0, q)) (x, rest) e in
+        let two = bind_some (behind closing one.0.1) (λ q. Some (one.0.0, q)) (x, rest) one.2 in
         let end = both_are one.0.0 x two.0 rest two.2 in
         subst (λ z. Closed d z closing ts rest) end.0
         (closed d one.0.0 closing ts one.0.1 rest (sound 9 ts one.0.0 one.0.1 one.1) (behind_only closing one.0.1 two.0 two.1 ∙ ap (λ vs. t.Mark closing ∷ vs) end.1))
@@ -223,9 +224,9 @@ module _ (names : List ℕ) where
 
     pair_sound : (o : Operator) (ts : List Token) (z : Tree) (rest : List Token) → pair_at o (inner 9) ts ≡ Some (z, rest) → Pair o ts z rest
     pair_sound o ts z rest e =
-        let a = bind_is (behind m.Open ts) (λ us. enclosed m.Comma (inner 9) us >>= λ p. enclosed m.Close (inner 9) p.1 >>= λ q. made (Two o p.0 q.0) q.1) (z, rest) e in
-        let b = bind_is (enclosed m.Comma (inner 9) a.0) (λ p. enclosed m.Close (inner 9) p.1 >>= λ q. made (Two o p.0 q.0) q.1) (z, rest) a.2 in
-        let c = bind_is (enclosed m.Close (inner 9) b.0.1) (λ q. made (Two o b.0.0 q.0) q.1) (z, rest) b.2 in
+        let a = bind_some (behind m.Open ts) (λ us. enclosed m.Comma (inner 9) us >>= λ p. enclosed m.Close (inner 9) p.1 >>= λ q. made (Two o p.0 q.0) q.1) (z, rest) e in
+        let b = bind_some (enclosed m.Comma (inner 9) a.0) (λ p. enclosed m.Close (inner 9) p.1 >>= λ q. made (Two o p.0 q.0) q.1) (z, rest) a.2 in
+        let c = bind_some (enclosed m.Close (inner 9) b.0.1) (λ q. made (Two o b.0.0 q.0) q.1) (z, rest) b.2 in
         let put = made_only (Two o b.0.0 c.0.0) c.0.1 (z, rest) c.2 in
         record {
           x = b.0.0;
@@ -241,14 +242,14 @@ module _ (names : List ℕ) where
 
     mark_sound : (mark : Mark) (ts : List Token) (x : Tree) (rest : List Token) → by_mark mark inner ts ≡ Some (x, rest) → Begins names d 0 x (t.Mark mark ∷ ts) rest
     mark_sound m.Not ts x rest e =
-        let one = bind_is (inner 0 ts) (λ p. made (Not p.0) p.1) (x, rest) e in
+        let one = bind_some (inner 0 ts) (λ p. made (Not p.0) p.1) (x, rest) e in
         let put = made_only (Not one.0.0) one.0.1 (x, rest) one.2 in
         subst (λ (p : Tree × List Token). Begins names d 0 p.0 (t.Mark m.Not ∷ ts) p.1) put.1
         (not_within d one.0.0 ts one.0.1 put.0 (sound 0 ts one.0.0 one.0.1 one.1))
     mark_sound m.Open ts x rest e = brackets_within d x ts rest (enclosed_sound m.Close ts x rest e)
     mark_sound m.Draw ts x rest e =
-        let one = bind_is (behind m.Open ts) (λ us. enclosed m.Close (inner 9) us >>= λ p. made (Draw p.0) p.1) (x, rest) e in
-        let two = bind_is (enclosed m.Close (inner 9) one.0) (λ p. made (Draw p.0) p.1) (x, rest) one.2 in
+        let one = bind_some (behind m.Open ts) (λ us. enclosed m.Close (inner 9) us >>= λ p. made (Draw p.0) p.1) (x, rest) e in
+        let two = bind_some (enclosed m.Close (inner 9) one.0) (λ p. made (Draw p.0) p.1) (x, rest) one.2 in
         let put = made_only (Draw two.0.0) two.0.1 (x, rest) two.2 in
         subst (λ (p : Tree × List Token). Begins names d 0 p.0 (t.Mark m.Draw ∷ ts) p.1) put.1
         (draw_within d two.0.0 ts one.0 two.0.1 put.0 (behind_only m.Open ts one.0 one.1) (enclosed_sound m.Close one.0 two.0.0 two.0.1 two.1))
@@ -294,8 +295,8 @@ module _ (names : List ℕ) where
     primary_sound (t.Name n ∷ ts) x rest e = leaf_sound (t.Name n) ts x rest e
     primary_sound (t.Mark mark ∷ ts) x rest e = mark_sound mark ts x rest e
     primary_sound (t.Table table ∷ ts) x rest e =
-        let one = bind_is (behind m.OpenIndex ts) (λ us. enclosed m.CloseIndex (inner 9) us >>= λ p. made (Entry table p.0) p.1) (x, rest) e in
-        let two = bind_is (enclosed m.CloseIndex (inner 9) one.0) (λ p. made (Entry table p.0) p.1) (x, rest) one.2 in
+        let one = bind_some (behind m.OpenIndex ts) (λ us. enclosed m.CloseIndex (inner 9) us >>= λ p. made (Entry table p.0) p.1) (x, rest) e in
+        let two = bind_some (enclosed m.CloseIndex (inner 9) one.0) (λ p. made (Entry table p.0) p.1) (x, rest) one.2 in
         let put = made_only (Entry table two.0.0) two.0.1 (x, rest) two.2 in
         subst (λ (p : Tree × List Token). Begins names d 0 p.0 (t.Table table ∷ ts) p.1) put.1
         (entry_within d table two.0.0 ts one.0 two.0.1 put.0 (behind_only m.OpenIndex ts one.0 one.1) (enclosed_sound m.CloseIndex one.0 two.0.0 two.0.1 two.1))
@@ -303,7 +304,7 @@ module _ (names : List ℕ) where
     level_sound : (n k : ℕ) → IsSound d k (level names n inner k)
     level_sound n zero ts x rest e = primary_sound ts x rest e
     level_sound n (suc k) ts x rest e =
-        let found = bind_is (level names n inner k ts) (λ p. chain (suc k) (level names n inner k) (turns (suc k) n) p.0 p.1) (x, rest) e in
+        let found = bind_some (level names n inner k ts) (λ p. chain (suc k) (level names n inner k) (turns (suc k) n) p.0 p.1) (x, rest) e in
         let first = level_sound n k ts found.0.0 found.0.1 found.1 in
         let all : Begins names d (suc k) x (first.front ++ found.0.1) rest = elim (cases_Bool (eqb (suc k) 7)) [
           | inl comparison ↦

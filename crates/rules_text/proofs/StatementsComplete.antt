@@ -11,6 +11,7 @@ use Rattle.rules_text.specs.ReadingStatements.{Done, Reads, all_of, begins, bloc
 use Rattle.rules_text.specs.Statements.{Act, Acts, Four, Let, Set, Send, If, Repeat, cons, empty, Part, Statements, Choice, Otherwise, SpellsContent, not_given, is_given, SpellsSending, SpellsPart, nothing, a_let, a_set, a_send, an_if, a_repeat, a_choice, no_else, an_else, an_else_if, SpellsRule}
 use Rattle.rules_text.proofs.Complete.{Heads, value_is}
 use Rattle.rules_text.proofs.Marks.{behind_is}
+use Rattle.rules_text.proofs.Turns.{row_stops}
 
 -- what follows goes on with nothing before it
 record Quiet (rest : List Token) : Type 0 where
@@ -152,11 +153,6 @@ row_takes first (suc n) names ts rest end act name acts some start read more =
     ∙ ap (λ r. r >>= λ p. row first n (with_name names p.0.1) p.1 >>= λ q. Some (cons p.0.0 q.0, q.1)) read
     ∙ ap (λ r. r >>= λ q. Some (cons act q.0, q.1)) (ap (λ k. row first k (with_name names name) rest) less ∙ more)
 
-row_ends : (first : Reads Done) (n : ℕ) (names : List ℕ) (rest : List Token) → begins rest ≡ false → row first n names rest ≡ Some (empty, rest)
-row_ends first zero names rest stop = refl
-row_ends first (suc n) names rest stop =
-    ap (λ b. if b then (first names rest >>= λ p. row first n (with_name names p.0.1) p.1 >>= λ q. Some (cons p.0.0 q.0, q.1)) else Some (empty, rest)) stop
-
 abbrev first_at : ℕ → Reads Done
 first_at d = one d (block_at d) (choice_at d)
 
@@ -178,7 +174,7 @@ block_is names d acts us vs rest here =
     ∙ ap (λ r. r >>= λ p. behind m.CloseBlock p.1 >>= λ after. Some (p.0, after)) (here (length all) (omega (arith, length-append us (t.Mark m.CloseBlock ∷ (vs ++ rest)))))
 
 complete : (names : List ℕ) (d : ℕ) (part : Part) (ts : List Token) → SpellsPart names d part ts → (rest : List Token) → Follows part rest → IsRead names d part ts rest
-complete _ _ _ _ (nothing names d) rest end = λ n fits. row_ends (first_at d) n names rest end.ends
+complete _ _ _ _ (nothing names d) rest end = λ n fits. row_stops (first_at d) n names rest end.ends
 complete _ _ _ _ (a_let names d name x acts ts us fresh few value more) rest end = λ n fits.
     let quiet = quiet_before (names ++ name ∷ []) d (Statements acts) us more tt rest end in
     row_takes (first_at d) n names _ (us ++ rest) rest (Let (length names) x) (Some name) acts (omega arith) refl

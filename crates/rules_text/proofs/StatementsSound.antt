@@ -2,6 +2,7 @@
 use Rattle.std.proofs.Common.{◌≡◌, ◌<◌, ℕ, zero, suc, ◌^◌, List, [], ◌∷◌, ◌++◌, Option, Some, None, Bool, true, false, ltb, length, refl, sym, ap, ◌∙◌, subst, arith, append_assoc, append-nil, if◌then◌else◌, inl, inr}
 use Rattle.std.proofs.lemmas.Bool.{cases_Bool}
 use Rattle.std.proofs.lemmas.Bool.Decides.{nat_tests}
+use Rattle.eventkey.proofs.Fields.{bind_some}
 use Rattle.rules_text.specs.declared.token.Mark.{Mark}
 use Rattle.rules_text.specs.declared.token.Mark.TheVariants as m
 use Rattle.rules_text.specs.declared.token.Token.{Token}
@@ -11,7 +12,7 @@ use Rattle.rules_text.specs.Reading.{◌>>=◌, behind, value_at}
 use Rattle.rules_text.specs.ReadingStatements.{Done, Reads, all_of, assignment, begins, block_at, by_start, choice_at, choice_with, content, contents, count_at, else_at, else_if, given_at, naming, new_name, one, otherwise, repetition, room, row, rule_at, sending, statements_at, unnamed, with_name}
 use Rattle.rules_text.specs.Statements.{Act, Acts, Four, Let, Set, Send, If, Repeat, cons, empty, Part, Statements, Choice, Otherwise, SpellsContent, not_given, is_given, SpellsSending, SpellsPart, nothing, a_let, a_set, a_send, an_if, a_repeat, a_choice, no_else, an_else, an_else_if, SpellsRule}
 use Rattle.rules_text.proofs.Sound.{Begins, value_only}
-use Rattle.rules_text.proofs.Marks.{behind_only, bind_is, some_is}
+use Rattle.rules_text.proofs.Marks.{behind_only, some_is}
 
 two_are : {A : Type 0} (x y : A) (ts us : List Token) → ◌≡◌ {A = Option (A × List Token)} (Some (x, ts)) (Some (y, us)) → (x ≡ y) × (ts ≡ us)
 two_are {A} x y ts us e =
@@ -101,9 +102,9 @@ count_only (t.Number n ∷ ts) p e = elim (cases_Bool (ltb n (2 ^ 32))) [
 
 naming_sound : (names : List ℕ) (d : ℕ) (ts : List Token) (p : Done) (rest : List Token) → naming d names ts ≡ Some (p, rest) → Starts names d p (t.Mark m.Let ∷ ts) rest
 naming_sound names d ts p rest e =
-    let a = bind_is (new_name names ts) (λ p. behind m.Is p.1 >>= λ us. value_at names d us >>= λ q. Some ((Let (length names) q.0, Some p.0), q.1)) (p, rest) e in
-    let b = bind_is (behind m.Is a.0.1) (λ us. value_at names d us >>= λ q. Some ((Let (length names) q.0, Some a.0.0), q.1)) (p, rest) a.2 in
-    let c = bind_is (value_at names d b.0) (λ q. Some ((Let (length names) q.0, Some a.0.0), q.1)) (p, rest) b.2 in
+    let a = bind_some (new_name names ts) (λ p. behind m.Is p.1 >>= λ us. value_at names d us >>= λ q. Some ((Let (length names) q.0, Some p.0), q.1)) (p, rest) e in
+    let b = bind_some (behind m.Is a.0.1) (λ us. value_at names d us >>= λ q. Some ((Let (length names) q.0, Some a.0.0), q.1)) (p, rest) a.2 in
+    let c = bind_some (value_at names d b.0) (λ q. Some ((Let (length names) q.0, Some a.0.0), q.1)) (p, rest) b.2 in
     let end = two_are (Let (length names) c.0.0, Some a.0.0) p c.0.1 rest c.2 in
     let new = new_only names ts a.0 a.1 in
     let value = value_only names d b.0 c.0.0 c.0.1 c.1 in
@@ -116,8 +117,8 @@ naming_sound names d ts p rest e =
 
 assignment_sound : (names : List ℕ) (d place : ℕ) (ts : List Token) (p : Done) (rest : List Token) → assignment d place names ts ≡ Some (p, rest) → Starts names d p (t.Word place ∷ ts) rest
 assignment_sound names d place ts p rest e =
-    let b = bind_is (behind m.Is ts) (λ us. value_at names d us >>= λ q. Some ((Set place q.0, None), q.1)) (p, rest) e in
-    let c = bind_is (value_at names d b.0) (λ q. Some ((Set place q.0, None), q.1)) (p, rest) b.2 in
+    let b = bind_some (behind m.Is ts) (λ us. value_at names d us >>= λ q. Some ((Set place q.0, None), q.1)) (p, rest) e in
+    let c = bind_some (value_at names d b.0) (λ q. Some ((Set place q.0, None), q.1)) (p, rest) b.2 in
     let end = two_are (Set place c.0.0, None) p c.0.1 rest c.2 in
     let value = value_only names d b.0 c.0.0 c.0.1 c.1 in
     subst (λ (q : Done). Starts names d q (t.Word place ∷ ts) rest) end.0 (record {
@@ -145,7 +146,7 @@ module _ (names : List ℕ) (d : ℕ) where
       at : (o : Option (List Token)) → behind mark ts ≡ o → given_at o d names ts ≡ Some (p, rest) → BeginsContent mark true p ts rest
       at None is e = not_there mark true ts p rest e
       at (Some us) is e =
-          let c = bind_is (value_at names d us) (λ q. Some ((q.0, true), q.1)) (p, rest) e in
+          let c = bind_some (value_at names d us) (λ q. Some ((q.0, true), q.1)) (p, rest) e in
           let end = two_are (c.0.0, true) p c.0.1 rest c.2 in
           let value = value_only names d us c.0.0 c.0.1 c.1 in
           subst (λ (q : Tree × Bool). BeginsContent mark true q ts rest) end.0 (record {
@@ -171,13 +172,13 @@ module _ (names : List ℕ) (d : ℕ) where
 
   contents_sound : (ts : List Token) (four : Four) (rest : List Token) → contents d names ts ≡ Some (four, rest) → BeginsContents four ts rest
   contents_sound ts four rest e =
-      let a = bind_is (content d m.With true names ts) (λ a. content d m.Comma a.0.1 names a.1 >>= λ b. content d m.Comma b.0.1 names b.1 >>= λ c.
+      let a = bind_some (content d m.With true names ts) (λ a. content d m.Comma a.0.1 names a.1 >>= λ b. content d m.Comma b.0.1 names b.1 >>= λ c.
       content d m.Comma c.0.1 names c.1 >>= λ e. Some (record { a = a.0.0; b = b.0.0; c = c.0.0; d = e.0.0 }, e.1)) (four, rest) e in
-      let b = bind_is (content d m.Comma a.0.0.1 names a.0.1) (λ b. content d m.Comma b.0.1 names b.1 >>= λ c.
+      let b = bind_some (content d m.Comma a.0.0.1 names a.0.1) (λ b. content d m.Comma b.0.1 names b.1 >>= λ c.
       content d m.Comma c.0.1 names c.1 >>= λ e. Some (record { a = a.0.0.0; b = b.0.0; c = c.0.0; d = e.0.0 }, e.1)) (four, rest) a.2 in
-      let c = bind_is (content d m.Comma b.0.0.1 names b.0.1) (λ c.
+      let c = bind_some (content d m.Comma b.0.0.1 names b.0.1) (λ c.
       content d m.Comma c.0.1 names c.1 >>= λ e. Some (record { a = a.0.0.0; b = b.0.0.0; c = c.0.0; d = e.0.0 }, e.1)) (four, rest) b.2 in
-      let f = bind_is (content d m.Comma c.0.0.1 names c.0.1) (λ e. Some (record { a = a.0.0.0; b = b.0.0.0; c = c.0.0.0; d = e.0.0 }, e.1)) (four, rest) c.2 in
+      let f = bind_some (content d m.Comma c.0.0.1 names c.0.1) (λ e. Some (record { a = a.0.0.0; b = b.0.0.0; c = c.0.0.0; d = e.0.0 }, e.1)) (four, rest) c.2 in
       let made : Four = record { a = a.0.0.0; b = b.0.0.0; c = c.0.0.0; d = f.0.0.0 } in
       let end = two_are made four f.0.1 rest f.2 in
       let one = content_sound m.With true ts a.0.0 a.0.1 a.1 in
@@ -203,14 +204,14 @@ module _ (names : List ℕ) (d : ℕ) where
 
   sending_sound : (ts : List Token) (p : Done) (rest : List Token) → sending d names ts ≡ Some (p, rest) → Starts names d p (t.Mark m.Send ∷ ts) rest
   sending_sound ts p rest e =
-      let a = bind_is (behind m.To ts) (λ us. value_at names d us >>= λ to. behind m.After to.1 >>= λ vs. value_at names d vs >>= λ after.
+      let a = bind_some (behind m.To ts) (λ us. value_at names d us >>= λ to. behind m.After to.1 >>= λ vs. value_at names d vs >>= λ after.
       contents d names after.1 >>= λ c. Some ((Send to.0 after.0 c.0, None), c.1)) (p, rest) e in
-      let b = bind_is (value_at names d a.0) (λ to. behind m.After to.1 >>= λ vs. value_at names d vs >>= λ after.
+      let b = bind_some (value_at names d a.0) (λ to. behind m.After to.1 >>= λ vs. value_at names d vs >>= λ after.
       contents d names after.1 >>= λ c. Some ((Send to.0 after.0 c.0, None), c.1)) (p, rest) a.2 in
-      let c = bind_is (behind m.After b.0.1) (λ vs. value_at names d vs >>= λ after.
+      let c = bind_some (behind m.After b.0.1) (λ vs. value_at names d vs >>= λ after.
       contents d names after.1 >>= λ c. Some ((Send b.0.0 after.0 c.0, None), c.1)) (p, rest) b.2 in
-      let f = bind_is (value_at names d c.0) (λ after. contents d names after.1 >>= λ c. Some ((Send b.0.0 after.0 c.0, None), c.1)) (p, rest) c.2 in
-      let g = bind_is (contents d names f.0.1) (λ c. Some ((Send b.0.0 f.0.0 c.0, None), c.1)) (p, rest) f.2 in
+      let f = bind_some (value_at names d c.0) (λ after. contents d names after.1 >>= λ c. Some ((Send b.0.0 after.0 c.0, None), c.1)) (p, rest) c.2 in
+      let g = bind_some (contents d names f.0.1) (λ c. Some ((Send b.0.0 f.0.0 c.0, None), c.1)) (p, rest) f.2 in
       let end = two_are (Send b.0.0 f.0.0 g.0.0, None) p g.0.1 rest g.2 in
       let to = value_only names d a.0 b.0.0 b.0.1 b.1 in
       let after = value_only names d c.0 f.0.0 f.0.1 f.1 in
@@ -281,7 +282,7 @@ module _ (d : ℕ) (block : Reads Acts) (choice : Reads Act)
           BeginsPart names d (Otherwise acts) ts rest
       inner us None outer is e = else_within d names ts us acts rest (behind_only m.Else ts us outer) (block_sound names us acts rest e)
       inner us (Some vs) outer is e =
-          let one = bind_is (choice names vs) (λ p. Some (cons p.0 empty, p.1)) (acts, rest) e in
+          let one = bind_some (choice names vs) (λ p. Some (cons p.0 empty, p.1)) (acts, rest) e in
           let end = two_are (cons one.0.0 empty) acts one.0.1 rest one.2 in
           subst (λ (xs : Acts). BeginsPart names d (Otherwise xs) ts rest) end.0
           (else_if_within d names ts vs one.0.0 rest (behind_only m.Else ts us outer ∙ ap (λ xs. t.Mark m.Else ∷ xs) (behind_only m.If us vs is))
@@ -307,9 +308,9 @@ module _ (d : ℕ) (block : Reads Acts) (choice : Reads Act)
 
   choice_sound : (names : List ℕ) (ts : List Token) (act : Act) (rest : List Token) → choice_with d block choice names ts ≡ Some (act, rest) → BeginsPart names d (Choice act) ts rest
   choice_sound names ts act rest e =
-      let a = bind_is (value_at names d ts) (λ x. block names x.1 >>= λ met. otherwise block choice names met.1 >>= λ unmet. Some (If x.0 met.0 unmet.0, unmet.1)) (act, rest) e in
-      let b = bind_is (block names a.0.1) (λ met. otherwise block choice names met.1 >>= λ unmet. Some (If a.0.0 met.0 unmet.0, unmet.1)) (act, rest) a.2 in
-      let c = bind_is (otherwise block choice names b.0.1) (λ unmet. Some (If a.0.0 b.0.0 unmet.0, unmet.1)) (act, rest) b.2 in
+      let a = bind_some (value_at names d ts) (λ x. block names x.1 >>= λ met. otherwise block choice names met.1 >>= λ unmet. Some (If x.0 met.0 unmet.0, unmet.1)) (act, rest) e in
+      let b = bind_some (block names a.0.1) (λ met. otherwise block choice names met.1 >>= λ unmet. Some (If a.0.0 met.0 unmet.0, unmet.1)) (act, rest) a.2 in
+      let c = bind_some (otherwise block choice names b.0.1) (λ unmet. Some (If a.0.0 b.0.0 unmet.0, unmet.1)) (act, rest) b.2 in
       let end = two_are (If a.0.0 b.0.0 c.0.0) act c.0.1 rest c.2 in
       subst (λ (y : Act). BeginsPart names d (Choice y) ts rest) end.0
       (choice_within d names ts a.0.1 b.0.1 rest a.0.0 b.0.0 c.0.0 (value_only names d ts a.0.0 a.0.1 a.1) (block_sound names a.0.1 b.0.0 b.0.1 b.1)
@@ -317,7 +318,7 @@ module _ (d : ℕ) (block : Reads Acts) (choice : Reads Act)
 
   if_sound : (names : List ℕ) (ts : List Token) (p : Done) (rest : List Token) → unnamed (choice_with d block choice names ts) ≡ Some (p, rest) → Starts names d p (t.Mark m.If ∷ ts) rest
   if_sound names ts p rest e =
-      let a = bind_is (choice_with d block choice names ts) (λ q. Some ((q.0, None), q.1)) (p, rest) e in
+      let a = bind_some (choice_with d block choice names ts) (λ q. Some ((q.0, None), q.1)) (p, rest) e in
       let end = two_are (a.0.0, None) p a.0.1 rest a.2 in
       let chosen = choice_sound names ts a.0.0 a.0.1 a.1 in
       subst (λ (q : Done). Starts names d q (t.Mark m.If ∷ ts) rest) end.0 (record {
@@ -341,9 +342,9 @@ module _ (d : ℕ) (block : Reads Acts) (choice : Reads Act)
 
   repetition_sound : (names : List ℕ) (ts : List Token) (p : Done) (rest : List Token) → repetition block names ts ≡ Some (p, rest) → Starts names d p (t.Mark m.Repeat ∷ ts) rest
   repetition_sound names ts p rest e =
-      let a = bind_is (new_name names ts) (λ p. count_at p.1 >>= λ n. block (names ++ p.0 ∷ []) n.1 >>= λ body. Some ((Repeat (length names) n.0 body.0, None), body.1)) (p, rest) e in
-      let b = bind_is (count_at a.0.1) (λ n. block (names ++ a.0.0 ∷ []) n.1 >>= λ body. Some ((Repeat (length names) n.0 body.0, None), body.1)) (p, rest) a.2 in
-      let c = bind_is (block (names ++ a.0.0 ∷ []) b.0.1) (λ body. Some ((Repeat (length names) b.0.0 body.0, None), body.1)) (p, rest) b.2 in
+      let a = bind_some (new_name names ts) (λ p. count_at p.1 >>= λ n. block (names ++ p.0 ∷ []) n.1 >>= λ body. Some ((Repeat (length names) n.0 body.0, None), body.1)) (p, rest) e in
+      let b = bind_some (count_at a.0.1) (λ n. block (names ++ a.0.0 ∷ []) n.1 >>= λ body. Some ((Repeat (length names) n.0 body.0, None), body.1)) (p, rest) a.2 in
+      let c = bind_some (block (names ++ a.0.0 ∷ []) b.0.1) (λ body. Some ((Repeat (length names) b.0.0 body.0, None), body.1)) (p, rest) b.2 in
       let end = two_are (Repeat (length names) b.0.0 c.0.0, None) p c.0.1 rest c.2 in
       let new = new_only names ts a.0 a.1 in
       let count = count_only a.0.1 b.0 b.1 in
@@ -397,8 +398,8 @@ module _ (d : ℕ) (block : Reads Acts) (choice : Reads Act)
     | inl start ↦
         let took : (one d block choice names ts >>= λ p. row (one d block choice) n (with_name names p.0.1) p.1 >>= λ q. Some (cons p.0.0 q.0, q.1)) ≡ Some (acts, rest) =
         ap (λ b. if b then (one d block choice names ts >>= λ p. row (one d block choice) n (with_name names p.0.1) p.1 >>= λ q. Some (cons p.0.0 q.0, q.1)) else Some (empty, ts)) (sym start) ∙ e in
-        let a = bind_is (one d block choice names ts) (λ p. row (one d block choice) n (with_name names p.0.1) p.1 >>= λ q. Some (cons p.0.0 q.0, q.1)) (acts, rest) took in
-        let b = bind_is (row (one d block choice) n (with_name names a.0.0.1) a.0.1) (λ q. Some (cons a.0.0.0 q.0, q.1)) (acts, rest) a.2 in
+        let a = bind_some (one d block choice names ts) (λ p. row (one d block choice) n (with_name names p.0.1) p.1 >>= λ q. Some (cons p.0.0 q.0, q.1)) (acts, rest) took in
+        let b = bind_some (row (one d block choice) n (with_name names a.0.0.1) a.0.1) (λ q. Some (cons a.0.0.0 q.0, q.1)) (acts, rest) a.2 in
         let end = two_are (cons a.0.0.0 b.0.0) acts b.0.1 rest b.2 in
         let first = one_sound names ts a.0.0 a.0.1 a.1 in
         let more = row_sound n (with_name names a.0.0.1) a.0.1 b.0.0 b.0.1 b.1 in
@@ -419,9 +420,9 @@ record IsInside (d : ℕ) : Type 0 where
 block_whole : (d : ℕ) → IsInside d → (names : List ℕ) (ts : List Token) (acts : Acts) (rest : List Token) → block_at (suc d) names ts ≡ Some (acts, rest) → Block names d acts ts rest
 block_whole d inside names ts acts rest e =
     let first = one d (block_at d) (choice_at d) in
-    let a = bind_is (behind m.OpenBlock ts) (λ us. row first (length us) names us >>= λ p. behind m.CloseBlock p.1 >>= λ rest. Some (p.0, rest)) (acts, rest) e in
-    let b = bind_is (row first (length a.0) names a.0) (λ p. behind m.CloseBlock p.1 >>= λ rest. Some (p.0, rest)) (acts, rest) a.2 in
-    let c = bind_is (behind m.CloseBlock b.0.1) (λ rest. Some (b.0.0, rest)) (acts, rest) b.2 in
+    let a = bind_some (behind m.OpenBlock ts) (λ us. row first (length us) names us >>= λ p. behind m.CloseBlock p.1 >>= λ rest. Some (p.0, rest)) (acts, rest) e in
+    let b = bind_some (row first (length a.0) names a.0) (λ p. behind m.CloseBlock p.1 >>= λ rest. Some (p.0, rest)) (acts, rest) a.2 in
+    let c = bind_some (behind m.CloseBlock b.0.1) (λ rest. Some (b.0.0, rest)) (acts, rest) b.2 in
     let end = two_are b.0.0 acts c.0 rest c.2 in
     let inner = row_sound d (block_at d) (choice_at d) inside.blocks inside.choices (length a.0) names a.0 b.0.0 b.0.1 b.1 in
     subst (λ (xs : Acts). Block names d xs ts rest) end.0 (record {
@@ -444,7 +445,7 @@ no_tokens acts xs (token ∷ rest) e = absurd cc
 
 statements_sound : (d : ℕ) (ts : List Token) (acts : Acts) → (statements_at d [] ts >>= λ p. all_of p.0 p.1) ≡ Some acts → SpellsPart [] d (Statements acts) ts
 statements_sound d ts acts e =
-    let a = bind_is (statements_at d [] ts) (λ p. all_of p.0 p.1) acts e in
+    let a = bind_some (statements_at d [] ts) (λ p. all_of p.0 p.1) acts e in
     let end = no_tokens acts a.0.0 a.0.1 a.2 in
     let inside = inside_sound d in
     let all = row_sound d (block_at d) (choice_at d) inside.blocks inside.choices (length ts) [] ts a.0.0 a.0.1 a.1 in

@@ -45,7 +45,7 @@ one_more first n t front names ts act name rest below start read =
     ∙ sym (ap (λ b. with_front front (if b then (first names ts >>= λ p. row first (n - (t + 1)) (with_name names p.0.1) p.1 >>= λ q. Some (cons p.0.0 q.0, q.1)) else Some (empty, ts))) start)
     ∙ ap (λ m. with_front front (row first m names ts)) more
 
-row_stops : (first : Reads Done) (n : ℕ) (names : List ℕ) (ts : List Token) → begins ts ≡ false → row first n names ts ≡ Some (empty, ts)
+pub row_stops : (first : Reads Done) (n : ℕ) (names : List ℕ) (ts : List Token) → begins ts ≡ false → row first n names ts ≡ Some (empty, ts)
 row_stops first zero names ts stop = refl
 row_stops first (suc n) names ts stop =
     ap (λ b. if b then (first names ts >>= λ p. row first n (with_name names p.0.1) p.1 >>= λ q. Some (cons p.0.0 q.0, q.1)) else Some (empty, ts)) stop

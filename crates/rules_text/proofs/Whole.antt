@@ -3,6 +3,7 @@ use Rattle.std.proofs.Common.{◌≡◌, ◌≤◌, ℕ, List, Option, Some, Non
 use Rattle.std.proofs.lemmas.Bool.{cases_Bool}
 use Rattle.std.proofs.lemmas.Bool.Decides.{nat_tests}
 use Rattle.std.specs.Prelude.{IfOk}
+use Rattle.eventkey.proofs.Fields.{bind_some}
 use Rattle.rules_text.specs.declared.stop.Stop.{Stop}
 use Rattle.rules_text.specs.declared.lexemes.Placed.{Placed}
 use Rattle.rules_text.specs.Lexical.{Splits, lexemes_at}
@@ -12,7 +13,6 @@ use Rattle.rules_text.specs.Scopes.{Dictionary, tokens_of}
 use Rattle.rules_text.specs.Statements.{Acts}
 use Rattle.rules_text.specs.Texts.{IsRule, read_at}
 use Rattle.rules_text.proofs.Lexes.{split_is, split_only}
-use Rattle.rules_text.proofs.Marks.{bind_is}
 use Rattle.rules_text.proofs.StatementsComplete.{rule_is}
 use Rattle.rules_text.proofs.StatementsSound.{rule_only}
 
@@ -39,7 +39,7 @@ read_only scope text acts e = elim (cases_Bool (ltb 65536 (length text))) [
   | inr short ↦
       let here : (lexemes_at text >>= λ lexemes. rule_at (tokens_of scope text lexemes)) ≡ Some acts =
       ap (λ b. if b then None else (lexemes_at text >>= λ lexemes. rule_at (tokens_of scope text lexemes))) (sym short) ∙ e in
-      let a = bind_is (lexemes_at text) (λ lexemes. rule_at (tokens_of scope text lexemes)) acts here in
+      let a = bind_some (lexemes_at text) (λ lexemes. rule_at (tokens_of scope text lexemes)) acts here in
       record { short = is_short (length text) short; lexemes = a.0; split = split_only text a.0 a.1; spelled = rule_only acts (tokens_of scope text a.0) a.2 }
 ]
 

@@ -303,7 +303,7 @@ const LIMITS: [(&str, &str, u32, &str, &str, &str); 14] = [
     ),
 ];
 
-/// Adds a part so many times.
+/// Adds a part this number of times.
 fn add(text: &mut String, part: &str, count: u32) -> Result<(), Fail> {
     for _ in 0..count {
         text.push_str(part)?;

@@ -69,6 +69,8 @@ enum Reason {
     LongPath,
     #[error("node{node} is there already: remove it, if no other run has it")]
     OldSocket { node: u32 },
+    #[error("no node program starts: {0}")]
+    NotStarted(SystemError),
     #[error("no socket is made in this folder, or no node program starts or connects")]
     NotMet,
     #[error("no socket is made in this folder, or no node program starts or connects: with --bind each \
@@ -78,6 +80,15 @@ enum Reason {
     NoSocket,
     #[error("no run waits behind this socket")]
     NotHeard,
+}
+
+/// Why a run did not meet its node programs, or a node its run, by what the system says.
+#[derive(Clone, Copy, Debug, PartialEq, Eq)]
+pub enum Unmet {
+    /// A call on a socket failed.
+    Socket(SystemError),
+    /// A node program does not start.
+    Program(SystemError),
 }
 
 /// What a command does with a path.
@@ -105,16 +116,22 @@ enum Step<'a> {
 /// order in which the command takes its paths.
 ///
 /// `noted` is the system's error at the opening of the disk that the command writes. It is the cause
-/// if no other one is found, or if the disk could not be made for lack of room.
+/// if no other one is found, or if the disk could not be made for lack of room. `unmet` is the
+/// system's error of the call that failed as node programs or a run were met. It is the cause if the
+/// files say no more than that they were not met.
 pub fn cause_of<'a, R>(
     rt: &R,
     command: Command<'a>,
     noted: Option<SystemError>,
+    unmet: Option<Unmet>,
 ) -> Option<Cause<'a>>
 where
     R: Files<File = File> + AllocGlobal,
 {
     let seen = seen_cause(rt, command);
+    if let Some(unmet) = unmet {
+        return cause_of_unmet(command, seen, unmet);
+    }
     match (seen, noted) {
         (None, Some(error)) => cause_of_device(command, error),
         (Some(cause), Some(error)) if cause.reason == Reason::NotMade && is_of_room(error) => {
@@ -128,6 +145,48 @@ where
 /// writes no disk.
 pub fn cause_of_device<'a>(command: Command<'a>, error: SystemError) -> Option<Cause<'a>> {
     caused(written_disk(command)?, Some(Reason::System(error)))
+}
+
+/// The cause where node programs or a run were not met, by what the files show and what the system
+/// says.
+fn cause_of_unmet<'a>(
+    command: Command<'a>,
+    seen: Option<Cause<'a>>,
+    unmet: Unmet,
+) -> Option<Cause<'a>> {
+    match seen {
+        Some(cause) if !says_less(cause.reason, unmet) => seen,
+        _ => caused(path_of_sockets(command)?, Some(reason_of_unmet(unmet))),
+    }
+}
+
+/// Whether this reason says less than the system does.
+fn says_less(reason: Reason, unmet: Unmet) -> bool {
+    match (reason, unmet) {
+        (Reason::NotMet, _) => true,
+        // it names the program that is missing
+        (Reason::NotBound, Unmet::Program(error)) => error.kind() != ErrorKind::NotFound,
+        (Reason::NotBound, Unmet::Socket(_)) => true,
+        (Reason::NotHeard, Unmet::Socket(error)) => error.kind() != ErrorKind::ConnectionRefused,
+        _ => false,
+    }
+}
+
+/// What is wrong with the path of sockets, by what the system says.
+fn reason_of_unmet(unmet: Unmet) -> Reason {
+    match unmet {
+        Unmet::Socket(error) => Reason::System(error),
+        Unmet::Program(error) => Reason::NotStarted(error),
+    }
+}
+
+/// The folder of the sockets of a run, or the socket of a node.
+fn path_of_sockets<'a>(command: Command<'a>) -> Option<&'a str> {
+    match command {
+        Command::Run(args) => args.sockets,
+        Command::Node(args) => Some(args.socket),
+        _ => None,
+    }
 }
 
 /// The path of the disk that a command writes.
@@ -269,8 +328,8 @@ where
     last_of_run(rt, args)
 }
 
-/// The first cause among the files with which a run begins. It makes its disk if it is told to and
-/// the disk's file is not there.
+/// The first cause among the files with which a run begins. It makes its disk if that is asked for
+/// and the disk's file is not there.
 fn first_of_begun<'a, R: Files<File = File>>(rt: &R, args: RunArgs<'a>) -> Option<Cause<'a>> {
     let DiskArgs { model, disk, .. } = args.on;
     if args.create && !fs::exists(rt, disk).unwrap_or(true) {

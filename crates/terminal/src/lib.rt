@@ -8,7 +8,7 @@ mod paths;
 mod progress;
 mod tracing;
 
-pub use cause::{Cause, cause_of, cause_of_device};
+pub use cause::{Cause, Unmet, cause_of, cause_of_device};
 pub use hints::{Hint, Way, Work, hint_of};
 pub use paths::are_one_file;
 pub use progress::{Progress, TerminalProgress};

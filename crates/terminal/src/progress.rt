@@ -6,6 +6,7 @@ use pictures::Row;
 use std::fmt;
 use std::io::{Result as IoResult, Write};
 use std::time::{Clock, CpuClock, Duration};
+use texts::Printable;
 
 /// Receives the course of a run: the tick at which it ends, its progress, and what went wrong.
 pub trait Progress {
@@ -25,6 +26,11 @@ pub trait Progress {
     /// What the disk of a run has at its beginning: all events before this virtual time, in ticks,
     /// `events` in all.
     fn opened(&mut self, _time: u64, _events: usize) {}
+
+    /// The folder of a run's sockets is one in which every user may write. Called at most once, before
+    /// node programs are met. The line about it is for the reader of what the run printed, also where
+    /// there is no terminal.
+    fn found_open(&mut self, _folder: &str) {}
 
     /// A run waits for the programs of these nodes to connect; the list is empty once all have.
     fn waiting(&mut self, nodes: &[usize]);
@@ -51,7 +57,7 @@ pub trait Progress {
     /// A run has ended because this file is there; its output comes next.
     fn stopped(&mut self, _file: &str) {}
 
-    /// A run goes on after a fault: this line says after which, and how. It is for whoever reads
+    /// A run goes on after a fault: this line says after which, and how. It is for the reader of
     /// what the run printed, also where there is no terminal.
     fn goes_on(&mut self, _line: &str) {}
 
@@ -68,7 +74,8 @@ pub trait Progress {
 /// second, and a tenth of one of the processor, a line says at its next commit which other way
 /// would be faster, if one would, by what was measured until then. Where there is no terminal, it
 /// writes a line of progress at the interval that is asked for, after which faults a run goes on,
-/// which file ended it, and with advice the faster way.
+/// which file ended it, and with advice the faster way. A folder of sockets that is open to every user
+/// is warned of in any case.
 #[derive(Drop)]
 pub struct TerminalProgress<'c, C, T> {
     clock: &'c C,
@@ -334,6 +341,7 @@ impl Line {
         let events = now.events;
         let rate = per_second(events.saturating_sub(last.events) as u128, past);
         let begin = Part::Committed {
+            time: now.time,
             percent,
             events,
             rate,
@@ -360,8 +368,11 @@ impl Line {
 /// A part of a line of progress.
 #[derive(Clone, Copy)]
 enum Part {
-    /// What is committed, as a percentage of the virtual time and in events, and events per second.
+    /// What is committed: all events before this virtual time, in ticks and as a percentage, and how
+    /// many events; and events per second. First in the line, since it is what a user wants to know
+    /// where a signal ended the run.
     Committed {
+        time: u64,
         percent: u128,
         events: usize,
         rate: u128,
@@ -389,10 +400,14 @@ impl fmt::Display for Part {
     fn fmt<W: fmt::Write>(&self, f: &mut fmt::Formatter<W>) -> fmt::Result {
         match *self {
             Part::Committed {
+                time,
                 percent,
                 events,
                 rate,
-            } => write!(f, "{percent}%, {events} events ({rate}/s)"),
+            } => write!(
+                f,
+                "committed {time} ({percent}%), {events} events ({rate}/s)"
+            ),
             Part::Left(seconds) => write!(f, ", {seconds} s to go"),
             Part::Efficiency(percent) => write!(f, ", efficiency {percent}%"),
             Part::Disk(percent) => write!(f, ", disk {percent}% full"),
@@ -415,6 +430,22 @@ impl Write for Counted {
 
     fn flush(&mut self) -> IoResult<()> {
         Ok(())
+    }
+}
+
+/// The warning of a folder of sockets in which every user may write. Its text cannot control a
+/// terminal.
+#[derive(Clone, Copy)]
+struct Open<'a>(&'a str);
+
+impl fmt::Display for Open<'_> {
+    fn fmt<W: fmt::Write>(&self, f: &mut fmt::Formatter<W>) -> fmt::Result {
+        let folder = Printable(self.0);
+        write!(
+            f,
+            "{folder}: every user may write in this folder, and so put a socket in the place of a \
+             node's: use a folder of mode 700"
+        )
     }
 }
 
@@ -473,6 +504,16 @@ impl<C: Clock + CpuClock, T: Write> Progress for TerminalProgress<'_, C, T> {
         self.begin_measuring();
         if self.terminal.is_none() {
             self.note(false);
+        }
+    }
+
+    fn found_open(&mut self, folder: &str) {
+        self.clear();
+        let warning = Open(folder);
+        if let Some(terminal) = &mut self.terminal {
+            let _ = writeln!(terminal, "{warning}");
+        } else if let Some(lines) = &mut self.lines {
+            let _ = writeln!(lines, "{warning}");
         }
     }
 

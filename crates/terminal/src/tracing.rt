@@ -221,6 +221,10 @@ impl<P: Progress> Progress for Traced<'_, P> {
         self.progress.opened(time, events);
     }
 
+    fn found_open(&mut self, folder: &str) {
+        self.progress.found_open(folder);
+    }
+
     fn waiting(&mut self, nodes: &[usize]) {
         self.progress.waiting(nodes);
     }

@@ -1,4 +1,4 @@
-// The wave of three inverters in a ring, calculated by hand.
+// The wave of three inverters in a ring, computed by hand.
 
 use circuit::{Circuit, wave};
 use runs::sequential;

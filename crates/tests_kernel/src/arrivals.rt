@@ -192,7 +192,7 @@ fn messages_and_antimessages_annihilate(rt: HostRuntime) -> Result<(), Fail> {
             &[(minus, WAITS, (0, 0, 1)), (plus, annihilated(0), (0, 0, 0))],
         ),
         (
-            "a handled message is taken back",
+            "a handled message is rolled back",
             &[
                 (plus, queued(0), (0, 1, 0)),
                 (take, taken(5), (1, 0, 0)),

@@ -1,20 +1,27 @@
-// Sessions over ports that judge, with nodes of the session's model and of another one.
+// Sessions over ports that judge, with nodes of the session's model and of another one, and one such
+// port over a node that reports what it did not do.
 
-ghost use Rattle.std.specs.Prelude.{◌≤◌};
+ghost use Rattle.std.specs.Prelude.{◌≤◌, false};
+ghost use Rattle.judging.specs.Judged.{judged_state};
 
+use crate::ports::{load, round};
 use crate::steps::{MADE, MIXED, Row, step_of};
-use commitlog::format;
-use coordinator::{NotOpened, Session, SessionFault};
+use commitlog::{LogFault, format};
+use coordinator::{Answer, NotOpened, Session, SessionFault, Step};
 use disk::MemDisk;
+use eventkey::Listed;
 use judging::{Difference, Differences, Judged, judged_ports};
 use loopback::{LoopPort, loop_ports};
 use models::TokenRing;
-use recovery::header;
+use node::{Load, NodeFault, Parcel, Reply};
+use process::Done;
+use recovery::{RecoveryFault, header};
 use runs::{Batch, Plan, RunFault, Schedule, Watch, run_session};
 use std::alloc::Global;
+use std::mem::swap;
 use std::process::Abort;
 use std::test::Fail;
-use wire::PortFault;
+use wire::{Port, PortFault, WireFault};
 
 const END: u64 = 10;
 
@@ -40,7 +47,29 @@ fn judged<'m>(
     )?;
     match Session::open(alloc, ring, ports, disk, END) {
         Ok(session) => Ok(session),
-        Err(NotOpened { fault: _, disk: _ }) => Err(Fail::from("the session is not opened")),
+        Err(NotOpened { fault, disk: _ }) => Err(Fail::from(fault)),
+    }
+}
+
+/// Whether a fault is an allocation failure, of any layer.
+fn is_of_memory(fault: &SessionFault) -> bool {
+    matches!(
+        fault,
+        SessionFault::NoMemory
+            | SessionFault::Port(PortFault::Wire(WireFault::NoMemory))
+            | SessionFault::Port(PortFault::Peer(NodeFault::NoMemory))
+            | SessionFault::Recovery(RecoveryFault::Log(LogFault::NoMemory))
+    )
+}
+
+/// Makes a step, for its answer. An allocation failure is none: it ends the test.
+fn stepped(
+    session: &mut Judging<'_>,
+    step: &Step,
+) -> Result<Result<Answer, SessionFault>, SessionFault> {
+    match session.step(step) {
+        Err(fault) if is_of_memory(&fault) => Err(fault),
+        answer => Ok(answer),
     }
 }
 
@@ -52,7 +81,8 @@ fn look_at_steps(rt: &impl Abort, alloc: Global, every: u32, rows: &[Row]) -> Re
     let mut other = judged(alloc, &ring, &ring, 0, None)?;
     for row in rows {
         let step = step_of(alloc, *row)?;
-        assert_eq!(rt; one.step(&step), other.step(&step));
+        let answer = stepped(&mut one, &step)?;
+        assert_eq!(rt; answer, stepped(&mut other, &step)?);
     }
     assert!(rt; one.front().log == other.front().log);
     Ok(())
@@ -88,7 +118,7 @@ const PLAN: Plan = Plan {
 };
 
 /// Runs the ring over nodes that hold the tokens for `hold` ticks instead of 2. Returns the fault,
-/// the number of committed events, and the event that differs.
+/// the number of committed events, and the event that differs. An allocation failure ends the test.
 fn run_over(alloc: Global, hold: u32, every: u32) -> Result<Outcome, Fail>
     requires { 1 ≤ hold }
 {
@@ -96,8 +126,12 @@ fn run_over(alloc: Global, hold: u32, every: u32) -> Result<Outcome, Fail>
     let ring = TokenRing::new(3, 2, 2);
     let other = TokenRing::new(3, hold, 2);
     let mut session = judged(alloc, &ring, &other, every, Some(&differences))?;
-    let ended = run_session(alloc, &mut session, END, PLAN, &mut Nobody);
-    Ok((ended.err(), session.front().log.len(), differences.first()))
+    let fault = run_session(alloc, &mut session, END, PLAN, &mut Nobody).err();
+    match fault {
+        Some(RunFault::NoMemory) => Err(Fail::from(RunFault::NoMemory)),
+        Some(RunFault::Session(fault)) if is_of_memory(&fault) => Err(Fail::from(fault)),
+        _ => Ok((fault, session.front().log.len(), differences.first())),
+    }
 }
 
 #[test]
@@ -113,5 +147,126 @@ fn nodes_of_another_model_are_found_out_before_a_commit(rt: HostRuntime) -> Resu
         assert!(rt; run_over(rt.alloc(), 3, every)? == (found, 0, first));
     }
     assert!(rt; run_over(rt.alloc(), 3, 0)? == (None, 6, None));
+    Ok(())
+}
+
+/// What two reports have of each other.
+#[derive(Clone, Copy, Debug)]
+enum Swapped {
+    /// The states after their events.
+    States,
+    /// The messages that were sent.
+    Sends,
+}
+
+/// A port to a node that swaps this of two reports in each reply, of that at `place` and of the next.
+#[derive(Drop)]
+struct Faulty<P: Port + Drop> {
+    port: P,
+    swapped: Swapped,
+    place: usize,
+}
+
+impl<P: Port + Drop> Port for Faulty<P> {
+    ghost state = { λ f. judged_state false (P.state f.port) };
+
+    fn load(&mut self, load: Load) -> Result<(), PortFault> {
+        self.port.load(load)
+    }
+
+    fn post(&mut self, parcel: Parcel) -> Result<(), PortFault> {
+        self.port.post(parcel)
+    }
+
+    fn take(&mut self) -> Result<Reply, PortFault> {
+        let Reply {
+            out,
+            low,
+            fossils,
+            ran,
+        } = self.port.take()?;
+        let mut reports = fossils.into_vec();
+        swap_reports(reports.as_mut_slice(), self.swapped, self.place);
+        Ok(Reply {
+            out,
+            low,
+            fossils: Listed::from_vec(reports),
+            ran,
+        })
+    }
+}
+
+fn swap_reports(reports: &mut [Done], swapped: Swapped, place: usize) {
+    if place >= reports.len().saturating_sub(1) {
+        return;
+    }
+    let (front, rest) = reports.split_at_mut(place + 1);
+    let (one, next) = (&mut front[place], &mut rest[0]);
+    match swapped {
+        Swapped::States => swap(&mut one.after, &mut next.after),
+        Swapped::Sends => swap(&mut one.sent, &mut next.sent),
+    }
+}
+
+/// The times of the events of process 0, which the node reports in one reply.
+const TIMES: [u64; 4] = [1, 3, 5, 7];
+
+/// Judges one report in `every` of such a node. Returns the fault of the reply, and the time and the
+/// process of the event that the port then keeps. An allocation failure ends the test.
+fn reported(
+    alloc: Global,
+    every: u32,
+    swapped: Swapped,
+    place: usize,
+) -> Result<(Option<PortFault>, Option<Difference>), Fail> {
+    let ring = TokenRing::new(3, 2, 1);
+    let port = LoopPort::new(alloc, &ring);
+    let node = Faulty {
+        port,
+        swapped,
+        place,
+    };
+    let mut judge = Judged::new(alloc, &ring, node, every);
+    judge.load(load(alloc, 0, &TIMES)?)?;
+    let nothing = round(&mut judge, alloc, 1)?;
+    if nothing.fossils.as_slice().len() > 0 || judge.refused().is_some() {
+        return Err(Fail::from("an event is reported or refused too early"));
+    }
+    let fault = match round(&mut judge, alloc, 9) {
+        Err(fault) if is_of_memory(&SessionFault::Port(fault)) => return Err(Fail::from(fault)),
+        answer => answer.err(),
+    };
+    Ok((fault, judge.refused()))
+}
+
+/// How often reports are judged, what is swapped from which place on, and the time of the first event
+/// whose report is refused. Two reports in a row are wrong; one that is not judged is believed.
+const REPORTED: [(u32, Swapped, usize, Option<u64>); 11] = [
+    (1, Swapped::States, 0, Some(1)),
+    (1, Swapped::States, 1, Some(3)),
+    (1, Swapped::States, 2, Some(5)),
+    (1, Swapped::Sends, 0, Some(1)),
+    (1, Swapped::Sends, 2, Some(5)),
+    (1, Swapped::States, 3, None),
+    (2, Swapped::States, 1, Some(5)),
+    (2, Swapped::Sends, 1, Some(5)),
+    (64, Swapped::Sends, 0, Some(1)),
+    (64, Swapped::States, 1, None),
+    (0, Swapped::States, 0, None),
+];
+
+#[test]
+fn a_port_keeps_the_event_of_the_first_refused_report(rt: HostRuntime) -> Result<(), Fail> {
+    for (every, swapped, place, time) in REPORTED {
+        let expected = match time {
+            Some(time) => (
+                Some(PortFault::BadReply),
+                Some(Difference { process: 0, time }),
+            ),
+            None => (None, None),
+        };
+        let found = reported(rt.alloc(), every, swapped, place)?;
+        assert!(rt; found == expected, "{every} {swapped:?} {place}");
+    }
     Ok(())
 }

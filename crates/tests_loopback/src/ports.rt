@@ -18,14 +18,16 @@ fn ring() -> TokenRing {
     TokenRing::new(3, 2, 1)
 }
 
-/// A load for node 0 of three, with the token of the ring at process `lp`.
-fn load(alloc: Global, lp: u32) -> Result<Load, Fail>
+/// A load for node 0 of three, whose process `lp` gets the token at each of these times.
+pub(crate) fn load(alloc: Global, lp: u32, times: &[u64]) -> Result<Load, Fail>
     ensures { IfOk result (λ load. IsLoadInRange load) }
 {
     let mut words = Words::new(alloc);
     words.push_reserved(0);
     let mut pending = Vec::new(alloc);
-    pending.push(Message::new(1, 0, 0, 0, 0, 0, 0, 0)?)?;
+    for time in times {
+        pending.push(Message::new(*time, 2, 0, 0, 0, 0, 0, 0)?)?;
+    }
     let mut parts = Vec::new(alloc);
     parts.push(Part {
         lp,
@@ -43,7 +45,7 @@ fn load(alloc: Global, lp: u32) -> Result<Load, Fail>
 }
 
 /// Posts a parcel without deliveries, and takes the reply.
-fn round<P: Port>(port: &mut P, alloc: Global, floor: u64) -> Result<Reply, PortFault>
+pub(crate) fn round<P: Port>(port: &mut P, alloc: Global, floor: u64) -> Result<Reply, PortFault>
     requires idle { (P.state port.old).stage ≡ Idle }
     requires floor { floor ≤ 2 ^ 40 }
     ensures { OnOk result ((P.state port.new).stage ≡ Idle) }
@@ -60,7 +62,7 @@ fn round<P: Port>(port: &mut P, alloc: Global, floor: u64) -> Result<Reply, Port
 fn a_node_behind_bytes_answers_a_round(rt: HostRuntime) -> Result<(), Fail> {
     let ring = ring();
     let mut port = LoopPort::new(rt.alloc(), &ring);
-    port.load(load(rt.alloc(), 0)?)?;
+    port.load(load(rt.alloc(), 0, &[1])?)?;
     let reply = round(&mut port, rt.alloc(), 1)?;
     let sent = Signed {
         sign: Sign::Plus,
@@ -75,10 +77,10 @@ fn a_node_behind_bytes_answers_a_round(rt: HostRuntime) -> Result<(), Fail> {
 fn refusals_of_the_node_are_returned(rt: HostRuntime) -> Result<(), Fail> {
     let ring = ring();
     let mut port = LoopPort::new(rt.alloc(), &ring);
-    let refused = port.load(load(rt.alloc(), 1)?);
+    let refused = port.load(load(rt.alloc(), 1, &[1])?);
     assert_eq!(rt; refused, Err(PortFault::Peer(NodeFault::NotMine)));
     let mut port = LoopPort::new(rt.alloc(), &ring);
-    port.load(load(rt.alloc(), 0)?)?;
+    port.load(load(rt.alloc(), 0, &[1])?)?;
     let _ = round(&mut port, rt.alloc(), 1)?;
     let refused = round(&mut port, rt.alloc(), 0);
     assert!(rt; matches!(refused, Err(PortFault::Peer(NodeFault::FloorFell))));

@@ -2,12 +2,12 @@
 
 ghost use Rattle.std.specs.Prelude.{◌≡◌, ◌<◌, ◌≤◌};
 
-use commitlog::{Log, format};
+use commitlog::{Log, LogFault, format};
 use disk::{MemDisk, Plan as DiskPlan, Torn};
 use model::{Model, World};
 use models::{Phold, TokenRing};
-use plain::{Plan, Watch};
-use recovery::{Front, front_of, header, recover};
+use plain::{PlainFault, Plan, Watch};
+use recovery::{Front, RecoveryFault, front_of, header, recover};
 use runs::Watch as RunWatch;
 use std::alloc::Global;
 use std::test::Fail;
@@ -92,12 +92,9 @@ pub(crate) fn front_on<M: Model>(
     let disk = disk_of(alloc, image, DiskPlan::default())?;
     let mut log = match Log::open(alloc, disk) {
         Ok(log) => log,
-        Err((_fault, _disk)) => return Err(Fail::from("the log is not opened")),
+        Err((fault, _disk)) => return Err(Fail::from(fault)),
     };
-    match recover(alloc, model, &mut log, end) {
-        Ok(front) => Ok(front),
-        Err(_fault) => Err(Fail::from("nothing is recovered")),
-    }
+    Ok(recover(alloc, model, &mut log, end)?)
 }
 
 /// The front of the plain loop at this end, without a disk.
@@ -105,8 +102,25 @@ pub(crate) fn sequential<M: Model>(alloc: Global, model: &M, end: u64) -> Result
     requires begun { 1 ≤ end }
     requires short { end ≤ 1000 }
 {
-    match runs::sequential(alloc, model, end) {
-        Ok(world) => Ok(front_of(alloc, world, end)?),
-        Err(_fault) => Err(Fail::from("the plain loop is refused")),
+    let world = runs::sequential(alloc, model, end)?;
+    Ok(front_of(alloc, world, end)?)
+}
+
+fn is_of_memory(fault: &PlainFault) -> bool {
+    matches!(
+        fault,
+        PlainFault::NoMemory
+            | PlainFault::Recovery(RecoveryFault::NoMemory)
+            | PlainFault::Recovery(RecoveryFault::Log(LogFault::NoMemory))
+    )
+}
+
+/// The fault of a run, which a table has. An allocation failure is in no table: it ends the test.
+pub(crate) fn fault_of<T: Drop>(
+    outcome: Result<T, PlainFault>,
+) -> Result<Option<PlainFault>, PlainFault> {
+    match outcome.err() {
+        Some(fault) if is_of_memory(&fault) => Err(fault),
+        other => Ok(other),
     }
 }

@@ -1,6 +1,8 @@
 // Disks that are run plainly and over nodes, in any order.
 
-use crate::disks::{Nobody, Seen, disk_of, formatted, front_on, phold, plan, ring, sequential};
+use crate::disks::{
+    Nobody, Seen, disk_of, fault_of, formatted, front_on, phold, plan, ring, sequential,
+};
 use coordinator::{Extended, NotOpened, extend};
 use disk::{MemDisk, Plan as DiskPlan, Torn};
 use model::Model;
@@ -85,7 +87,7 @@ fn called<M: Model>(
             match ran.outcome {
                 Ok(done) => assert!(rt; done.time == end && seen.commits <= commits),
                 Err(PlainFault::Commits) => assert!(rt; seen.commits == commits && seen.time < end),
-                Err(_fault) => return Err(Fail::from("the plain run is refused")),
+                Err(fault) => return Err(Fail::from(fault)),
             }
             Ok((ran.disk.crash(alloc, Torn::Old)?, end))
         }
@@ -100,7 +102,10 @@ fn called<M: Model>(
                 commit_every: 0,
             };
             let ran = run_local(alloc, model, disk, end, plan, &mut Nobody);
-            assert!(rt; matches!(ran.outcome, Ok(_) | Err(RunFault::Rounds)));
+            match ran.outcome {
+                Ok(_) | Err(RunFault::Rounds) => (),
+                Err(fault) => return Err(Fail::from(fault)),
+            }
             Ok((ran.disk.crash(alloc, Torn::Old)?, end))
         }
         Call::Extend(later) => match extend(alloc, model, disk, later) {
@@ -108,7 +113,7 @@ fn called<M: Model>(
                 assert_eq!(rt; before, end);
                 Ok((disk.crash(alloc, Torn::Old)?, later))
             }
-            Err(NotOpened { .. }) => Err(Fail::from("the end is refused")),
+            Err(NotOpened { fault, .. }) => Err(Fail::from(fault)),
         },
     }
 }
@@ -143,7 +148,7 @@ fn ring_run(
     let disk = disk_of(alloc, image, DiskPlan::default())?;
     let mut seen = Seen::default();
     let ran = run_plain(alloc, &ring(), disk, 10, plan, &mut seen);
-    Ok((ran.disk, ran.outcome.err(), seen))
+    Ok((ran.disk, fault_of(ran.outcome)?, seen))
 }
 
 /// The plan of a run of the ring, which has events at 1, 3, 5, 7 and 9, and the sectors of its
@@ -330,7 +335,7 @@ fn a_disk_of_another_end_is_refused(rt: HostRuntime) -> Result<(), Fail> {
     let disk = disk_of(alloc, image, DiskPlan::default())?;
     let ran = run_plain(alloc, &ring(), disk, 10, plan(1, 0), &mut Seen::default());
     assert_eq!(rt;
-        ran.outcome.err(),
+        fault_of(ran.outcome)?,
         Some(PlainFault::Recovery(recovery::RecoveryFault::OtherModel))
     );
     Ok(())
@@ -386,13 +391,14 @@ fn a_run_stops_after_the_next_commit(rt: HostRuntime) -> Result<(), Fail> {
             commits,
         };
         let ran = run_plain(alloc, &ring(), disk, 10, plan, &mut asking);
-        assert_eq!(rt; ran.outcome.err(), fault);
+        assert_eq!(rt; fault_of(ran.outcome)?, fault);
         assert_eq!(rt; asking.opened, (0, 0));
         let left = ran.disk.crash(alloc, Torn::Old)?;
         let front = front_on(alloc, &ring(), left.clone()?, 10)?;
         assert_eq!(rt; (front.g, front.log.as_slice().len()), (time, events));
         let disk = disk_of(alloc, left, DiskPlan::default())?;
-        let _resumed = run_plain(alloc, &ring(), disk, 10, plan, &mut asking);
+        let resumed = run_plain(alloc, &ring(), disk, 10, plan, &mut asking);
+        let _fault = fault_of(resumed.outcome)?;
         assert_eq!(rt; asking.opened, (time, events));
     }
     Ok(())

@@ -2,7 +2,7 @@
 
 ghost use Rattle.std.specs.Prelude.{◌≤◌};
 
-use crate::disks::{Seen, disk_of, formatted, front_on, phold, plan, ring, sequential};
+use crate::disks::{Seen, disk_of, fault_of, formatted, front_on, phold, plan, ring, sequential};
 use disk::{Plan as DiskPlan, Torn};
 use model::Model;
 use plain::{PlainFault, Plan, run_plain};
@@ -115,6 +115,6 @@ fn a_failed_device_is_named(rt: HostRuntime) -> Result<(), Fail> {
     };
     let disk = disk_of(alloc, image, failures)?;
     let ran = run_plain(alloc, &ring(), disk, 10, plan(1, 0), &mut Seen::default());
-    assert_eq!(rt; ran.outcome.err(), Some(PlainFault::Disk));
+    assert_eq!(rt; fault_of(ran.outcome)?, Some(PlainFault::Disk));
     Ok(())
 }

@@ -1,7 +1,7 @@
 // How a node program reads its socket.
 
 use models::TokenRing;
-use node_programs::{NodesFault, serve_on};
+use node_programs::{Calls, NodesFault, serve_on};
 use std::alloc::Allocator;
 use std::fs::{File, Files, Metadata, OpenOptions};
 use std::io::{self, Read, Write};
@@ -93,7 +93,7 @@ fn a_node_reads_all_that_has_arrived_at_once(rt: HostRuntime) -> Result<(), Fail
         stream,
     };
     let model = TokenRing::new(3, 2, 1);
-    let served = serve_on(&(system, rt.alloc()), &model, "socket", 1);
+    let served = serve_on(&(system, rt.alloc()), &model, "socket", 1, &Calls::none());
     assert_eq!(rt; served, Err(NodesFault::Wire(WireFault::TooLong)));
     assert_eq!(rt; run.read(&mut [0; 8]).ok(), Some(0));
     Ok(())

@@ -133,7 +133,7 @@ fn without_a_terminal_no_way_is_named_unless_advice_is_asked_for(
 /// What a terminal shows up to the second commit.
 const SHOWN: &[u8] = b"\
     circuit: run --plain would be faster here: one process, 0.6 microseconds a handling\n\
-    \r22%, 60 events (30/s), 7 s to go, efficiency 100%, 0 antimessages/s\x1b[K\r\x1b[K";
+    \rcommitted 200 (22%), 60 events (30/s), 7 s to go, efficiency 100%\x1b[K\r\x1b[K";
 
 #[test]
 fn a_terminal_shows_the_faster_way_above_the_progress(rt: HostRuntime) -> Result<(), Fail> {

@@ -60,8 +60,8 @@ fn progress_is_shown_twice_a_second_and_then_cleared(rt: HostRuntime) -> Result<
     shown.clear();
     assert_eq!(rt;
         terminal.as_slice(),
-        b"\r30%, 90 events (150/s), 1 s to go, 0 antimessages/s\x1b[K\
-          \r60%, 180 events (150/s), 0 s to go, 0 antimessages/s\x1b[K\r\x1b[K"
+        b"\rcommitted 300 (30%), 90 events (150/s), 1 s to go, 0 antimessages/s\x1b[K\
+          \rcommitted 600 (60%), 180 events (150/s), 0 s to go, 0 antimessages/s\x1b[K\r\x1b[K"
             .as_slice()
     );
     let mut shown = TerminalProgress::on(&clock, None::<Vec<u8>>);
@@ -86,7 +86,7 @@ fn progress_is_cleared_at_the_end_of_a_run(rt: HostRuntime) -> Result<(), Fail> 
     shown.clear();
     assert_eq!(rt;
         terminal.as_slice(),
-        b"\r75%, 90 events (150/s), 0 s to go, 0 antimessages/s\x1b[K\r\x1b[K".as_slice()
+        b"\rcommitted 300 (75%), 90 events (150/s), 0 s to go, 0 antimessages/s\x1b[K\r\x1b[K".as_slice()
     );
     Ok(())
 }
@@ -110,18 +110,19 @@ fn turn(handled: u64, reported: u64, antimessages: u64) -> Row {
 
 /// Shows a run with five commits, from its start to its end.
 fn print_run<P: Progress>(progress: &mut P) {
-    progress.begin(400);
+    progress.begin(40);
     progress.stored(2, 64);
     for commit in 0..5 {
         progress.turned(&turn(40, 30, 3));
-        progress.committed(100 * commit, 30 * commit as usize);
+        progress.committed(10 * commit, 30 * commit as usize);
         progress.stored(4 + 2 * commit as u32, 64);
     }
     progress.finished();
 }
 
 /// The end of what the terminal shows of it.
-const SUMMED_UP: &[u8] = b"\r75%, 90 events (150/s), 0 s to go, efficiency 75%, disk 14% full\x1b[K\
+const SUMMED_UP: &[u8] = b"\
+    \rcommitted 30 (75%), 90 events (150/s), 0 s to go, efficiency 75%, disk 14% full\x1b[K\
     \r\x1b[K120 events, 5 commits in 0.8 seconds\n\
     200 messages handled, efficiency 75%, 15 antimessages\n\
     13 of 64 sectors of the disk are used\n";
@@ -152,15 +153,17 @@ fn antimessages_are_shown_if_there_is_room(rt: HostRuntime) -> Result<(), Fail> 
     }
     assert_eq!(rt;
         terminal.as_slice(),
-        b"\r11%, 1 events (0/s), 15 antimessages/s\x1b[K".as_slice()
+        b"\rcommitted 1 (11%), 1 events (0/s), 15 antimessages/s\x1b[K".as_slice()
     );
     Ok(())
 }
 
 /// The lines of a run of 2.2 seconds by the clock, one for each second.
 const LINES: &[u8] = b"\
-    20%, 60 events (30/s), 8 s to go, efficiency 75%, disk 4% full, 8 antimessages/s\n\
-    20%, 60 events (0/s), 16 s to go, efficiency 75%, disk 4% full, 8 antimessages/s\n\
+    committed 200 (20%), 60 events (30/s), 8 s to go, efficiency 75%, disk 4% full, \
+    8 antimessages/s\n\
+    committed 200 (20%), 60 events (0/s), 16 s to go, efficiency 75%, disk 4% full, \
+    8 antimessages/s\n\
     stopped at halt\n";
 
 #[test]
@@ -209,7 +212,9 @@ fn a_terminal_shows_which_file_ended_a_run(rt: HostRuntime) -> Result<(), Fail> 
     shown.stopped("halt");
     assert_eq!(rt;
         terminal.as_slice(),
-        b"\r11%, 1 events (0/s), 0 antimessages/s\x1b[K\r\x1b[Kstopped at halt\n".as_slice()
+        b"\rcommitted 1 (11%), 1 events (0/s), 0 antimessages/s\x1b[K\
+          \r\x1b[Kstopped at halt\n"
+            .as_slice()
     );
     Ok(())
 }
@@ -218,12 +223,12 @@ fn a_terminal_shows_which_file_ended_a_run(rt: HostRuntime) -> Result<(), Fail> 
 /// that would make it a column wider.
 const WIDEST: [(usize, &[u8]); 2] = [
     (
-        10_000_000_000_000,
-        b"\r11%, 10000000000000 events (16666666666666/s), disk 10% full, 15 antimessages/s\x1b[K",
+        1_000_000,
+        b"\rcommitted 1 (11%), 1000000 events (1666666/s), disk 10% full, 15 antimessages/s\x1b[K",
     ),
     (
-        70_000_000_000_000,
-        b"\r11%, 70000000000000 events (116666666666666/s), disk 10% full\x1b[K",
+        7_000_000,
+        b"\rcommitted 1 (11%), 7000000 events (11666666/s), disk 10% full\x1b[K",
     ),
 ];
 

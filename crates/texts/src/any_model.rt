@@ -15,6 +15,7 @@ ghost use Rattle.models.specs.declared.any_model.AnyModel.{AnyModel};
 
 use crate::findings::Findings;
 use crate::model_file::{Described, Mistake, ModelFault, number_at, only, string_at};
+use eventkey::MOST_END;
 use model::Model as Simulated;
 use models::{AnyModel, JobShop, Phold, TokenRing};
 use std::alloc::{AllocError, Global};
@@ -112,7 +113,7 @@ fn end_of(table: &Table) -> Result<u64, Mistake>
     ensures some { IfOk result (λ n. 1 ≤ n) }
     ensures within { IfOk result (λ n. n ≤ 2 ^ 40) }
 {
-    number_at(table, "end", 1, 1 << 40)
+    number_at(table, "end", 1, MOST_END)
 }
 
 /// Returns the token ring that a table describes, and the tick at which its run ends.
@@ -201,7 +202,7 @@ fn look_at_common(
     ensures within { IfOk result (λ n. IfSome n (λ k. (1 ≤ k) × (k ≤ 1024))) }
 {
     let lps = found.number_at(alloc, table, "lps", 1, 1024)?;
-    found.number_at(alloc, table, "end", 1, 1 << 40)?;
+    found.number_at(alloc, table, "end", 1, MOST_END)?;
     Ok(lps)
 }
 

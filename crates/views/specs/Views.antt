@@ -1,8 +1,8 @@
 -- What the read-only commands print (this project's profile).
 use Rattle.std.specs.Io.KnownBytes.{Appends}
-use Rattle.std.specs.Prelude.{◌≡◌, ◌≤◌, ◌^◌, ◌+◌, ◌-◌, ◌&&◌, ℕ, Bool, true, false, List}
+use Rattle.std.specs.Prelude.{◌≡◌, ◌≤◌, ◌^◌, ◌-◌, ◌&&◌, ℕ, Bool, true, false, List}
 use Rattle.std.specs.Prelude.{◌++◌, None, Option, Some, codes, decimal, filter, if◌then◌else◌}
-use Rattle.std.specs.Prelude.{is_none, min, unwrap_or, ⊤}
+use Rattle.std.specs.Prelude.{is_none, unwrap_or, ⊤}
 use Rattle.disk.specs.declared.file.FileFault.{FileFault}
 use Rattle.disk.specs.declared.file.FileFault.TheVariants as opening
 use Rattle.eventkey.specs.Message.{Message}
@@ -213,12 +213,11 @@ pub record IsStats {M S : Type 0} (meaning : M → Meaning) (says : Describes M)
   pub figures_are : AreFigures run figures
   pub is : text ≡ figures_text csv figures
 
--- The requested view. Without bounds it covers the whole run, including the tick up to which the
--- run went.
-abbrev pub view_of : PastRun → Option ℕ → Option ℕ → Option (ℕ × ℕ) → View
-view_of run from to processes = record {
+-- the requested view; without bounds it has the whole run
+abbrev pub view_of : Option ℕ → Option ℕ → Option (ℕ × ℕ) → View
+view_of from to processes = record {
   from = unwrap_or from 0;
-  to = unwrap_or to (min (run.time + 1) (2 ^ 64 - 1));
+  to = to;
   first = (unwrap_or processes (0, 2 ^ 32 - 1)).0;
   last = (unwrap_or processes (0, 2 ^ 32 - 1)).1;
 }
@@ -233,7 +232,7 @@ pub record IsDrawn {M S : Type 0} (meaning : M → Meaning) (says : Describes M)
     (load : Bool) (from to : Option ℕ) (processes : Option (ℕ × ℕ)) (text : List ℕ) : Type 0 where
   pub run : PastRun
   pub traced : IsTraced meaning says disk run
-  pub is : text ≡ picture_text load run (view_of run from to processes)
+  pub is : text ≡ picture_text load run (view_of from to processes)
 
 -- the picture of the course that some rows of a trace show
 abbrev pub IsCourse : List ℕ → Type 0

@@ -1,4 +1,4 @@
-// Worked handlings, calculated by hand.
+// Worked handlings, computed by hand.
 
 use eventkey::Message;
 use model::{Model, Outgoing};

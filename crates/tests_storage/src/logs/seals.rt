@@ -43,7 +43,7 @@ fn damage_before_the_last_seal_is_found(rt: HostRuntime) -> Result<(), Fail> {
     assert!(rt; log.len() == 5 && log.kind(1) == Some(SEAL));
     assert!(rt; has(&mut log, 2, 2, b"two")? && has(&mut log, 3, SEAL, &SECOND_SEAL)?);
     for (sector, byte) in [(3, BODY), (5, BODY), (7, KIND), (7, BODY), (9, END)] {
-        let refused = damaged(alloc, sector * 512 + byte).err();
+        let refused = answer(damaged(alloc, sector * 512 + byte))?.err();
         assert!(rt;
             refused == Some(LogFault::Corrupt),
             "byte {byte} of sector {sector}"

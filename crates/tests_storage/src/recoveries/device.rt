@@ -28,10 +28,10 @@ fn refused_twice(
     fail: u64,
 ) -> Result<Option<[RecoveryFault; 2]>, RecoveryFault> {
     let mut log = failing_log(alloc, image, fail)?;
-    let Err(first) = recover(alloc, &ring(), &mut log, END) else {
+    let Err(first) = answer(recover(alloc, &ring(), &mut log, END))? else {
         return Ok(None);
     };
-    match recover(alloc, &ring(), &mut log, END) {
+    match answer(recover(alloc, &ring(), &mut log, END))? {
         Err(second) => Ok(Some([first, second])),
         Ok(_front) => Ok(Some([first, first])),
     }
@@ -50,15 +50,15 @@ enum Met {
     Other,
 }
 
-fn met_at(alloc: Global, image: &[u8], fail: u64) -> Met {
+fn met_at(alloc: Global, image: &[u8], fail: u64) -> Result<Met, RecoveryFault> {
     let device = RecoveryFault::Log(LogFault::Disk(DiskFault::Device));
     let spent = RecoveryFault::Log(LogFault::Spent);
-    match refused_twice(alloc, image, fail) {
+    Ok(match answer(refused_twice(alloc, image, fail))? {
         Err(fault) if fault == device => Met::Unopened,
         Ok(Some(faults)) if faults == [device, spent] => Met::Spent,
         Ok(None) => Met::Nothing,
         _ => Met::Other,
-    }
+    })
 }
 
 #[test]
@@ -67,7 +67,7 @@ fn a_device_failure_spends_the_log(rt: HostRuntime) -> Result<(), Fail> {
     let mut spending: u32 = 0;
     let mut recovers = false;
     for fail in 0..40 {
-        let met = met_at(rt.alloc(), &image, fail);
+        let met = met_at(rt.alloc(), &image, fail)?;
         assert!(rt; met != Met::Other, "operation {fail}");
         spending = spending.saturating_add(u32::from(met == Met::Spent));
         recovers = recovers || met == Met::Nothing;

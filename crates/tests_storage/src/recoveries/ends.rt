@@ -29,7 +29,7 @@ fn fault_under_its_end(
     mut log: Log<MemDisk>,
 ) -> Result<Option<RecoveryFault>, RecoveryFault> {
     let end = end_of(alloc, &ring(), &mut log)?;
-    Ok(recover(alloc, &ring(), &mut log, end).err())
+    Ok(answer(recover(alloc, &ring(), &mut log, end))?.err())
 }
 
 #[test]
@@ -64,7 +64,7 @@ fn the_last_record_of_an_end_gives_the_end_in_force(rt: HostRuntime) -> Result<(
 fn the_end_of_another_model_is_not_read(rt: HostRuntime) -> Result<(), Fail> {
     let mut log = extended(rt.alloc(), &[LATER])?;
     let stated = end_of(rt.alloc(), &TokenRing::new(3, 2, 2), &mut log);
-    assert_eq!(rt; stated, Err(RecoveryFault::OtherModel));
+    assert_eq!(rt; answer(stated)?, Err(RecoveryFault::OtherModel));
     Ok(())
 }
 
@@ -72,7 +72,8 @@ fn the_end_of_another_model_is_not_read(rt: HostRuntime) -> Result<(), Fail> {
 fn recovered_under_both(alloc: Global) -> Result<(Front, Option<RecoveryFault>), Fail> {
     let mut log = extended(alloc, &[LATER])?;
     let front = recover(alloc, &ring(), &mut log, LATER)?;
-    Ok((front, recover(alloc, &ring(), &mut log, END).err()))
+    let refused = answer(recover(alloc, &ring(), &mut log, END))?;
+    Ok((front, refused.err()))
 }
 
 #[test]

@@ -3,13 +3,6 @@ use super::*;
 // An allocation failure leaves the log unchanged, and a second call succeeds. With enough memory
 // the first call succeeds; `rt try --test --fail-alloc N` refuses each allocation in turn.
 
-fn is_of_memory(fault: &RecoveryFault) -> bool {
-    matches!(
-        fault,
-        RecoveryFault::NoMemory | RecoveryFault::Log(LogFault::NoMemory)
-    )
-}
-
 /// Recovers the ring; a second time after an allocation failure that did not spend the log.
 fn recovered_again(alloc: Global, log: &mut Log<MemDisk>) -> Result<Front, RecoveryFault> {
     match recover(alloc, &ring(), log, END) {

@@ -18,7 +18,17 @@ fn old_log(alloc: Global) -> Result<Log<MemDisk>, Fail> {
     log_under(alloc, &sector)
 }
 
+/// Whether a fault is an allocation failure, of any layer.
+fn is_of_memory(fault: &MigrateFault) -> bool {
+    match fault {
+        MigrateFault::NotEmpty => false,
+        MigrateFault::Old(fault) => super::is_of_memory(fault),
+        MigrateFault::New(fault) => *fault == LogFault::NoMemory,
+    }
+}
+
 /// The fault of the migration of an old log without records to this log, which must not change it.
+/// An allocation failure ends the test.
 fn fault_on(alloc: Global, new: Log<MemDisk>) -> Result<Option<MigrateFault>, Fail> {
     let disk = new.into_disk();
     let before = disk.crash(alloc, Torn::New)?;
@@ -28,7 +38,10 @@ fn fault_on(alloc: Global, new: Log<MemDisk>) -> Result<Option<MigrateFault>, Fa
     if after.as_slice() != before.as_slice() {
         return Err(Fail::new("the new disk has changed"));
     }
-    Ok(fault)
+    match fault {
+        Some(fault) if is_of_memory(&fault) => Err(Fail::from(fault)),
+        other => Ok(other),
+    }
 }
 
 #[test]

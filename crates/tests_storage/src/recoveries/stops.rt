@@ -2,14 +2,17 @@ use super::*;
 use recovery::{Stop, behind_checkpoints, front_of, replay_log};
 
 /// Where the replay of a log stops that has a record of this kind without a body after three
-/// commits.
+/// commits. An allocation failure ends the test.
 fn stop_at(alloc: Global, kind: u8) -> Result<Option<Stop>, Fail> {
     let mut log = log_of_all(alloc)?;
     add(&mut log, kind, &[])?;
     if log.is_spent() {
         return Err(Fail::new("the log is spent"));
     }
-    Ok(replay_log(alloc, &ring(), &mut log, END).err())
+    match replay_log(alloc, &ring(), &mut log, END) {
+        Err(stop) if is_of_memory(&stop.fault) => Err(Fail::from(stop.fault)),
+        other => Ok(other.err()),
+    }
 }
 
 fn replayed(alloc: Global) -> Result<Front, Fail> {

@@ -1,6 +1,6 @@
 use Rattle.std.proofs.Common.{sym}
 use Rattle.circuit.specs.CircuitFile.{is_printable}
-use Rattle.circuit.proofs.Texts.{passes_on}
+use Rattle.texts.proofs.Written.{passes_on}
 use Rattle.circuit.proofs.circuit_file.are_printable.Goals as goal
 
 pub loop-byte-preserved : goal.loop-byte-preserved

@@ -1,6 +1,6 @@
 use Rattle.std.proofs.Common.{sym}
 use Rattle.circuit.specs.Wave.{is_word}
-use Rattle.circuit.proofs.Texts.{passes_on}
+use Rattle.texts.proofs.Written.{passes_on}
 use Rattle.circuit.proofs.waves.are_words.Goals as goal
 
 pub loop-byte-preserved : goal.loop-byte-preserved

@@ -1,12 +1,11 @@
 use Rattle.std.proofs.Common.{◌≡◌, ◌++◌, length, map}
-use Rattle.std.specs.Prelude.{false}
 use Rattle.std.specs.Vec.Iter.{into_iter_items, into_iter_len}
-use Rattle.judging.specs.Judged.{judged_state, state_by}
+use Rattle.judging.specs.Judged.{new_judge}
 use Rattle.judging.proofs.ports.judged_ports.Given as goal
 
 abbrev pub invariant-ports : goal.invariant-ports
 invariant-ports g l = record {
-  judged : map (λ j. state_by g.P.Port.state j) l.judged.items ≡ map (λ p. judged_state false (g.P.Port.state p)) l.yielded;
+  judged : l.judged.items ≡ map (λ p. new_judge l.model l.every p) l.yielded;
   all : l.yielded ++ into_iter_items l.port-iterator ≡ into_iter_items l.initial.port-iterator;
   left : into_iter_len l.port-iterator ≡ length (into_iter_items l.port-iterator);
 }

@@ -11,7 +11,7 @@ use Rattle.program.proofs.attempts.attempt_over.Goals as goal
 
 pub run_over-requires : goal.run_over-requires
 run_over-requires g c =
-    let alike = judged_alike _ c.in_ok-judged.judged.items c.args.ports.items c.args.plan.nodes (state_of Fresh) c.in_ok-judged.ensures c.requires.ports in
+    let alike = judged_alike _ _ _ c.in_ok-judged.judged.items c.args.ports.items c.args.plan.nodes (state_of Fresh) c.in_ok-judged.ensures c.requires.ports in
     record {
       nodes = c.requires.nodes;
       few = c.requires.few;

@@ -1,6 +1,6 @@
 use Rattle.std.proofs.Common.{sym}
 use Rattle.rule_files.specs.Names.{is_word_byte}
-use Rattle.rule_files.proofs.Lists.{passes_on}
+use Rattle.texts.proofs.Written.{passes_on}
 use Rattle.rule_files.proofs.scope.are_word_bytes.Goals as goal
 
 pub loop-byte-preserved : goal.loop-byte-preserved
