@@ -1,4 +1,4 @@
-// The wave of three inverters in a ring, computed by hand.
+// The wave of three inverters in a ring, worked out on paper.
 
 use circuit::{Circuit, wave};
 use runs::sequential;

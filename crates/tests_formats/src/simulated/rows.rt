@@ -1,4 +1,4 @@
-// Worked handlings, computed by hand.
+// Examples of handlings, worked out on paper.
 
 use eventkey::Message;
 use model::{Model, Outgoing};
