@@ -7,8 +7,6 @@ mod read;
 mod scope;
 mod statements;
 mod stop;
-#[cfg(test)]
-mod tests;
 mod token;
 mod values;
 mod words;

@@ -8,6 +8,8 @@ mod files;
 mod limits;
 #[cfg(test)]
 mod same_runs;
+#[cfg(test)]
+mod spelled;
 mod trees;
 #[cfg(test)]
 mod written;

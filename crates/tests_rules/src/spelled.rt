@@ -1,11 +1,12 @@
-// Texts and what they are.
+// Texts of rules, and which trees they spell.
 
-use crate::{Kind, Meaning, ReadError, Scope, ScopeError, read_rule};
-use rules::{Expression, Operator, Statement};
+use rules::{Expression, Statement};
+use rules_text::{Kind, Meaning, ReadError, Scope, ScopeError, read_rule};
 use std::alloc::Global;
-use std::test::*;
+use std::test::Fail;
 
-/// A scope with the state served, free_at and key, the content job, the number jobs and the table speed.
+/// A scope with the state `served`, `free_at` and `key`, the content `job`, the number `jobs` and
+/// the table `speed`.
 fn scope(alloc: Global) -> Result<Scope, ScopeError> {
     let mut scope = Scope::new(alloc, true);
     scope.add(alloc, "free_at", Meaning::Word(0))?;
@@ -228,8 +229,8 @@ fn a_mistake_has_its_place(rt: HostRuntime) -> Result<(), Fail> {
     Ok(())
 }
 
-/// Texts at the limits: what they begin with, a part and how often it comes, what follows, and what comes as often
-/// behind that; then the answer.
+/// Texts at the limits: what they begin with, a part and how often it comes, what follows, and what
+/// comes as often behind that; then the answer.
 const LIMITS: [(&str, &str, u32, &str, &str, &str); 14] = [
     ("let ", "a", 64, " = 1", "", "1 statements"),
     (
