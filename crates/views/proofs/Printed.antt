@@ -1,16 +1,15 @@
 -- What the commands print, in a common form.
-use Rattle.std.specs.Prelude.{◌≡◌, ◌⊎◌, ◌≢◌, ◌≤◌, ℕ, List, Option, Result, Ok, Err, OnOk, OnErr}
+use Rattle.std.specs.Prelude.{◌≡◌, ◌⊎◌, ◌≢◌, ℕ, List, Option, Result, Ok, Err, OnOk, OnErr, IsErr}
 use Rattle.std.proofs.Common.{refl, inl, inr, subst}
+use Rattle.std.proofs.lemmas.Bool.{false≢true}
 use Rattle.commitlog.specs.Records.{Holds}
 use Rattle.commitlog.specs.declared.records.Entry.{Entry}
+use Rattle.eventkey.proofs.Writers.{began}
 use Rattle.eventkey.specs.Writing.{Writes}
-use Rattle.model.specs.World.{IsUpto, World}
+use Rattle.model.specs.World.{World}
 use Rattle.model.specs.Meaning.{Meaning}
 use Rattle.recovery.specs.Ends.{HoldsLog, IsOurs}
-use Rattle.recovery.specs.Replay.{IsReplayedTo}
-use Rattle.recovery.specs.Represents.{IsGenuine, Represents}
-use Rattle.texts.specs.ModelFile.{IsModelFile}
-use Rattle.views.specs.Views.{Begins, Describes, IsCommitted, IsWholeSimulation, Prints, PrintsBeginning, PrintsRun, run_text}
+use Rattle.views.specs.Views.{Begins, Describes, IsCommitted, IsWholeSimulation, IsWorldOn, Prints, PrintsBeginning, PrintsRun, run_text}
 use Rattle.views.specs.declared.fault.ViewFault.{ViewFault}
 use Rattle.views.specs.declared.fault.ViewFault.TheVariants as fault
 
@@ -44,23 +43,26 @@ module _ (P : List ℕ → Type 0) (text : List ℕ) (is : P text) {T E : Type 0
   begins_written A (Ok x) h = tt
   begins_written A (Err e) h = inr (text, is, h.part)
 
+-- what a failed write has taken, passed on
+pub refused_write : {T E U F : Type 0} {old new : Option (List ℕ)} {text : List ℕ} {x : E} (r : Result U F) (s : Result T E) → Writes old new s text → s ≡ Err x → IsErr r → Writes old new r text
+refused_write (Ok y) s h e refused = absurd (false≢true refused)
+refused_write (Err y) s h e refused = record { all = tt; part = began h e }
+
 -- what is written of a world to which an image is replayed
-module _ {M : Type 0} (meaning : M → Meaning) (says : Describes M) (source : List ℕ) (model : M) (end : ℕ) (file : IsModelFile says source model end) (image : List (List ℕ)) (shown : World → List ℕ) (w : World)
-    (replayed : IsReplayedTo (meaning model) end image w) (represents : IsGenuine (meaning model) end image → Represents (meaning model) end image w) (upto : IsGenuine (meaning model) end image → IsUpto (meaning model) end w.time w) (within : w.time ≤ end) where
-  pub committed_is : IsCommitted meaning says shown (shown w)
-  committed_is = record {
-    source = source;
-    model = model;
-    end = end;
-    image = image;
-    world = w;
-    file = file;
-    replayed = replayed;
-    represents = represents;
-    upto = upto;
-    within = within;
-    is = refl;
-  }
+pub committed_is : {M : Type 0} (meaning : M → Meaning) (says : Describes M) (model : M) (shown : World → List ℕ) (w : World) → IsWorldOn meaning says model w → IsCommitted meaning says shown (shown w)
+committed_is meaning says model shown w on = record {
+  source = on.source;
+  model = model;
+  end = on.end;
+  image = on.image;
+  world = w;
+  file = on.file;
+  replayed = on.replayed;
+  represents = on.represents;
+  upto = on.upto;
+  within = on.within;
+  is = refl;
+}
 
 module _ {M : Type 0} (meaning : M → Meaning) (says : Describes M) {old new : Option (List ℕ)} where
   pub whole_printed : (source : List ℕ) → PrintsRun meaning says source old new → Prints (IsWholeSimulation meaning says) old new

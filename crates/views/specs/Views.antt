@@ -1,7 +1,7 @@
 -- What the read-only commands print (this project's profile).
 use Rattle.std.specs.Io.KnownBytes.{Appends}
 use Rattle.std.specs.Prelude.{◌≡◌, ◌≤◌, ◌^◌, ◌-◌, ◌&&◌, ℕ, Bool, true, false, List}
-use Rattle.std.specs.Prelude.{◌++◌, None, Option, Some, codes, decimal, filter, if◌then◌else◌}
+use Rattle.std.specs.Prelude.{◌++◌, None, Option, Some, codes, decimal, filter, map, if◌then◌else◌}
 use Rattle.std.specs.Prelude.{is_none, unwrap_or, ⊤}
 use Rattle.disk.specs.declared.file.FileFault.{FileFault}
 use Rattle.disk.specs.declared.file.FileFault.TheVariants as opening
@@ -14,6 +14,7 @@ use Rattle.inspection.specs.declared.fault.InspectionFault.TheVariants as inspec
 use Rattle.inspection.specs.declared.inspecting.Inspection.{Inspection}
 use Rattle.model.specs.Meaning.{Meaning}
 use Rattle.model.specs.World.{IsUpto, World}
+use Rattle.model.specs.declared.runner.WorldParts.{WorldParts}
 use Rattle.pictures.specs.Chosen.{is_chosen}
 use Rattle.pictures.specs.Course.{course_text}
 use Rattle.pictures.specs.Drawing.{drawing_text}
@@ -99,6 +100,16 @@ of_file opening.NoMemory = NoMemory
 abbrev pub run_text : World → List ℕ
 run_text w = log_text w.log ++ world_text w
 
+-- the world in these parts
+abbrev pub world_in : WorldParts → World
+world_in parts = record {
+  time = parts.time;
+  states = map (λ s. s.items) parts.states.items;
+  numbers = parts.numbers.items;
+  pending = parts.pending.items;
+  log = parts.log.items;
+}
+
 -- The writer has taken the run of a model, its sequential simulation up to its end, and nothing
 -- else.
 pub record PrintsRun {M : Type 0} (meaning : M → Meaning) (says : Describes M)
@@ -135,6 +146,18 @@ pub record IsCommitted {M : Type 0} (meaning : M → Meaning) (says : Describes 
   pub upto : IsGenuine (meaning model) end image → IsUpto (meaning model) end world.time world
   pub within : world.time ≤ end
   pub is : text ≡ shown world
+
+-- the world to which the image of some disk is replayed, of the model of some file
+pub record IsWorldOn {M : Type 0} (meaning : M → Meaning) (says : Describes M) (model : M)
+    (world : World) : Type 0 where
+  pub source : List ℕ
+  pub end : ℕ
+  pub image : List (List ℕ)
+  pub file : IsModelFile says source model end
+  pub replayed : IsReplayedTo (meaning model) end image world
+  pub represents : IsGenuine (meaning model) end image → Represents (meaning model) end image world
+  pub upto : IsGenuine (meaning model) end image → IsUpto (meaning model) end world.time world
+  pub within : world.time ≤ end
 
 -- which events are asked for: from a time on, before a time, and of one process
 abbrev pub choice_of : Option ℕ → Option ℕ → Option ℕ → Choice

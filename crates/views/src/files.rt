@@ -1,18 +1,18 @@
 // The commands on a model file alone: `seq` by the plain runner, and `check`.
 
-ghost use Rattle.std.specs.Prelude.{◌≡◌, ◌≤◌, ◌^◌, ◌≢◌, ◌⊎◌, ℕ, List, Err, length};
+ghost use Rattle.std.specs.Prelude.{◌≡◌, ◌≤◌, ◌^◌, ◌≢◌, ◌⊎◌, ℕ, List, Option, Err, length};
 ghost use Rattle.std.specs.Prelude.{IfOk, IsOkUnless, IsSomeAnd, MatchResult, OnErr, OnOk};
 ghost use Rattle.std.specs.Str.{IsUtf8};
 ghost use Rattle.eventkey.specs.Writing.{Writes};
 ghost use Rattle.texts.specs.Mistakes.{AreMistakes};
 ghost use Rattle.texts.specs.ModelFile.{IsModelFile};
-ghost use Rattle.views.specs.Views.{checked_text, run_text, Begins, IsChecked, IsSomeChecked};
-ghost use Rattle.views.specs.Views.{IsWholeSimulation, Prints, PrintsBeginning, PrintsRun};
+ghost use Rattle.views.specs.Views.{checked_text, run_text, world_in, Begins, IsChecked};
+ghost use Rattle.views.specs.Views.{IsSomeChecked, IsWholeSimulation, Prints, PrintsBeginning, PrintsRun};
 ghost use Rattle.views.specs.declared.fault.ViewFault.TheVariants.{Output};
 
 use crate::fault::{ViewFault, unreadable};
 use disk::FileDisk;
-use model::{World, WorldFault};
+use model::{World, WorldFault, WorldParts};
 use std::alloc::Global;
 use std::fs::{self, File};
 use std::io::{Read, Result as IoResult, Write};
@@ -172,6 +172,15 @@ fn write_run<O: Write>(world: World, out: &mut O) -> Result<(), ViewFault>
     ensures fault { IsOkUnless result ViewFault.Output }
 {
     let parts = world.into_parts();
+    flushed(write_parts(&parts, out), out)
+}
+
+/// Writes the log in these parts of a world, and then the rest.
+fn write_parts<O: Write>(parts: &WorldParts, out: &mut O) -> IoResult<()>
+    requires { length parts.now.states.items ≡ length parts.now.numbers.items }
+    ensures { Writes (O.contents out.old) (O.contents out.new) result
+        (run_text (world_in parts.now)) }
+{
     write_log(parts.log.as_slice(), out)?;
     write_world(
         parts.time,
@@ -179,9 +188,7 @@ fn write_run<O: Write>(world: World, out: &mut O) -> Result<(), ViewFault>
         parts.numbers.as_slice(),
         parts.pending.as_slice(),
         out,
-    )?;
-    out.flush()?;
-    Ok(())
+    )
 }
 
 /// Checks whether a text is a model file, and if it is, writes `ok` and what the model shows of its
@@ -224,7 +231,16 @@ fn write_whole<O: Write>(values: &str, out: &mut O) -> Result<(), ViewFault>
         (checked_text values.now) }
     ensures fault { IsOkUnless result Output }
 {
-    write_checked(values, out)?;
+    flushed(write_checked(values, out), out)
+}
+
+/// Flushes a writer behind what was written to it, if all of that was written.
+pub(crate) fn flushed<O: Write>(written: IoResult<()>, out: &mut O) -> Result<(), ViewFault>
+    ensures written { (old : Option (List ℕ)) (text : List ℕ) →
+        Writes old (O.contents out.old) written text → Writes old (O.contents out.new) result text }
+    ensures fault { IsOkUnless result Output }
+{
+    written?;
     out.flush()?;
     Ok(())
 }
