@@ -1,9 +1,9 @@
 -- What clap finds in a command line of the program.
 use Rattle.std.specs.Borrow.{Bor}
 use Rattle.std.specs.Prelude.{◌≡◌, ◌⊎◌, ◌≤◌, ◌<◌, ◌^◌, ◌&&◌, ◌||◌, ℕ, Bool, true, false, List, [], ◌∷◌, Option, Some, None, Result, Ok, Err}
-use Rattle.std.specs.Prelude.{IfOk, IsErrAnd, option_map, unwrap_or, find, nat_le, if◌then◌else◌}
+use Rattle.std.specs.Prelude.{IfOk, IsErrAnd, option_map, unwrap_or, find, map, nat_le, if◌then◌else◌}
 use Rattle.std.specs.Str.Parse.{ParsesUnsigned, digits_value, without_leading_plus}
-use Rattle.std.proofs.Common.{◌∙◌, refl, ap, ap₂, subst, sym, inl, inr, arith}
+use Rattle.std.proofs.Common.{◌∙◌, refl, ap, ap₂, subst, inl, inr, arith}
 use Rattle.std.proofs.lemmas.Bool.{cases_Bool, le-leb, leb-true}
 use Rattle.std.specs.Box.{box_value}
 use Rattle.clap.proofs.OnLiterals.{clap_on_literals}
@@ -25,11 +25,11 @@ use Rattle.clap.specs.declared.parser.matches.ArgMatches.TheViews.{out-ArgMatche
 use Rattle.cli.specs.Command.{AddsArgument, AddsCommand, IsApp, IsNamed, number_of, program_of, refusal_of, unread_fault, value_fault}
 
 pub program_is_simple : (called : Text) → is_simple (program_of called) ≡ true
-unfolding clap_on_literals
+unfolding program_of clap_on_literals
 program_is_simple called = refl
 
 pub program_is_free : (called : Text) → is_simple_and_free (program_of called) ≡ true
-unfolding clap_on_literals
+unfolding program_of clap_on_literals
 program_is_free called = refl
 
 module _ {X N R : Type 0} (f : X → N) (g : X → R) where
@@ -50,36 +50,37 @@ subcommand_found m name rows h k =
 -- the predicate holds for some element of a list
 abbrev OneOf : {X : Type 0} → (X → Type 0) → List X → Type 0
 OneOf P [] = ⊥
-OneOf P (x ∷ xs) = P x ⊎ OneOf P xs
+OneOf P (x ∷ []) = P x
+OneOf P (x ∷ y ∷ xs) = P x ⊎ OneOf P (y ∷ xs)
 
-found_among : {X Y : Type 0} (test : X → Bool) (f : X → Y) (xs : List X) (y : Y) → option_map f (find test xs) ≡ Some y → OneOf (λ x. f x ≡ y) xs
-found_among test f [] y h = cc
-found_among test f (x ∷ xs) y h = elim (cases_Bool (test x)) [
-  | inl e ↦ let found : Some (f x) ≡ Some y = rw e at h in inl cc
-  | inr e ↦ let rest : option_map f (find test xs) ≡ Some y = rw e at h in inr (found_among test f xs y rest)
+first_of_them : {X : Type 0} (P : X → Type 0) (x : X) (xs : List X) → P x → OneOf P (x ∷ xs)
+first_of_them P x [] h = h
+first_of_them P x (y ∷ xs) h = inl h
+
+one_behind : {X : Type 0} (P : X → Type 0) (x : X) (xs : List X) → OneOf P xs → OneOf P (x ∷ xs)
+one_behind P x [] h = absurd h
+one_behind P x (y ∷ xs) h = inr h
+
+-- what is found has one of the names that there are
+found_named : {X Y : Type 0} (test : X → Bool) (f : X → Y) (name : Y → Text) (xs : List X) (y : Y) → option_map f (find test xs) ≡ Some y
+    → OneOf (λ n. name y ≡ n) (map (λ x. name (f x)) xs)
+found_named test f name [] y h = cc
+found_named test f name (x ∷ xs) y h = elim (cases_Bool (test x)) [
+  | inl e ↦
+      let found : Some (f x) ≡ Some y = rw e at h in
+      let is : y ≡ f x = cc in
+      first_of_them (λ n. name y ≡ n) (name (f x)) (map (λ z. name (f z)) xs) (ap name is)
+  | inr e ↦
+      let rest : option_map f (find test xs) ≡ Some y = rw e at h in
+      one_behind (λ n. name y ≡ n) (name (f x)) (map (λ z. name (f z)) xs) (found_named test f name xs y rest)
 ]
 
 -- there are no other commands
 entered_named : (called : Text) (stop : Option (Text × List Text)) (found : Text × List Row) → entered (built (program_of called)) stop ≡ Some found → IsNamed found.0
+unfolding program_of
 entered_named called None found h = cc
-entered_named called (Some p) found h = elim (found_among (λ s. answers_to p.0 (label_of s)) (λ s. rows_at s p.1) (built (program_of called)).subs found h) [
-  | inl e ↦ inl (sym (ap (λ r. r.0) e))
-  | inr (inl e) ↦ inr (inl (sym (ap (λ r. r.0) e)))
-  | inr (inr (inl e)) ↦ inr (inr (inl (sym (ap (λ r. r.0) e))))
-  | inr (inr (inr (inl e))) ↦ inr (inr (inr (inl (sym (ap (λ r. r.0) e)))))
-  | inr (inr (inr (inr (inl e)))) ↦ inr (inr (inr (inr (inl (sym (ap (λ r. r.0) e))))))
-  | inr (inr (inr (inr (inr (inl e))))) ↦ inr (inr (inr (inr (inr (inl (sym (ap (λ r. r.0) e)))))))
-  | inr (inr (inr (inr (inr (inr (inl e)))))) ↦ inr (inr (inr (inr (inr (inr (inl (sym (ap (λ r. r.0) e))))))))
-  | inr (inr (inr (inr (inr (inr (inr (inl e))))))) ↦ inr (inr (inr (inr (inr (inr (inr (inl (sym (ap (λ r. r.0) e)))))))))
-  | inr (inr (inr (inr (inr (inr (inr (inr (inl e)))))))) ↦ inr (inr (inr (inr (inr (inr (inr (inr (inl (sym (ap (λ r. r.0) e))))))))))
-  | inr (inr (inr (inr (inr (inr (inr (inr (inr (inl e))))))))) ↦ inr (inr (inr (inr (inr (inr (inr (inr (inr (inl (sym (ap (λ r. r.0) e)))))))))))
-  | inr (inr (inr (inr (inr (inr (inr (inr (inr (inr (inl e)))))))))) ↦ inr (inr (inr (inr (inr (inr (inr (inr (inr (inr (inl (sym (ap (λ r. r.0) e))))))))))))
-  | inr (inr (inr (inr (inr (inr (inr (inr (inr (inr (inr (inl e))))))))))) ↦ inr (inr (inr (inr (inr (inr (inr (inr (inr (inr (inr (inl (sym (ap (λ r. r.0) e)))))))))))))
-  | inr (inr (inr (inr (inr (inr (inr (inr (inr (inr (inr (inr (inl e)))))))))))) ↦ inr (inr (inr (inr (inr (inr (inr (inr (inr (inr (inr (inr (inl (sym (ap (λ r. r.0) e))))))))))))))
-  | inr (inr (inr (inr (inr (inr (inr (inr (inr (inr (inr (inr (inr (inl e))))))))))))) ↦ inr (inr (inr (inr (inr (inr (inr (inr (inr (inr (inr (inr (inr (inl (sym (ap (λ r. r.0) e)))))))))))))))
-  | inr (inr (inr (inr (inr (inr (inr (inr (inr (inr (inr (inr (inr (inr (inl e)))))))))))))) ↦ inr (inr (inr (inr (inr (inr (inr (inr (inr (inr (inr (inr (inr (inr (sym (ap (λ r. r.0) e)))))))))))))))
-  | inr (inr (inr (inr (inr (inr (inr (inr (inr (inr (inr (inr (inr (inr (inr e)))))))))))))) ↦ absurd e
-]
+entered_named called (Some p) found h =
+    found_named (λ s. answers_to p.0 (label_of s)) (λ s. rows_at s p.1) (λ r. r.0) (built (program_of called)).subs found h
 
 pub only_named : (called : Text) (words : List Text) (name : Text) (rows : List Row) → subcommand_of (program_of called) words ≡ Some (name, rows) → IsNamed name
 only_named called words name rows h =

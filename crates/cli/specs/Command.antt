@@ -260,7 +260,7 @@ without_commands called = record (new_app called) {
 }
 
 -- the program of this name
-abbrev pub program_of : Text → App
+unfoldable pub program_of : Text → App
 program_of called = with_subcommand (with_subcommand (with_subcommand (with_subcommand
     (with_subcommand (with_subcommand
     (with_subcommand (with_subcommand (with_subcommand (with_subcommand (with_subcommand

@@ -736,10 +736,7 @@ fn path<'a>(alloc: Global, id: &'a str, help: &'a str) -> Arg<'a>
     ensures rule { rule_of result ≡ path_argument id.entry.now }
     ensures local { result.global ≡ false }
 {
-    Arg::new(alloc, id)
-        .required(true)
-        .value_parser(ValueParser::NonEmptyString)
-        .help(help)
+    optional_argument(alloc, id, help).required(true)
 }
 
 /// An optional argument that is a path, and not empty.
@@ -788,12 +785,7 @@ fn number_option<'a>(
     ensures rule { rule_of result ≡ number_option name.entry.now least most default.entry.now }
     ensures local { result.global ≡ false }
 {
-    Arg::new(alloc, name)
-        .long(name)
-        .value_name("N")
-        .value_parser(ValueParser::unsigned(least, most))
-        .default_value(default)
-        .help(help)
+    optional_number(alloc, name, "N", least, most, help).default_value(default)
 }
 
 /// An option without a default, whose value is a number from `least` to `most`.
@@ -808,11 +800,7 @@ fn optional_number<'a>(
     ensures rule { rule_of result ≡ optional_number name.entry.now least most }
     ensures local { result.global ≡ false }
 {
-    Arg::new(alloc, name)
-        .long(name)
-        .value_name(value)
-        .value_parser(ValueParser::unsigned(least, most))
-        .help(help)
+    any_text(alloc, name, value, help).value_parser(ValueParser::unsigned(least, most))
 }
 
 /// An option without a default, whose value is a virtual time in ticks.
@@ -834,11 +822,7 @@ fn text_option<'a>(
     ensures rule { rule_of result ≡ text_option name.entry.now default.entry.now }
     ensures local { result.global ≡ false }
 {
-    Arg::new(alloc, name)
-        .long(name)
-        .value_name(value)
-        .default_value(default)
-        .help(help)
+    any_text(alloc, name, value, help).default_value(default)
 }
 
 /// An option whose value is any text, without a default.
@@ -846,10 +830,16 @@ fn any_text<'a>(alloc: Global, name: &'a str, value: &'a str, help: &'a str) -> 
     ensures rule { rule_of result ≡ any_text name.entry.now }
     ensures local { result.global ≡ false }
 {
-    Arg::new(alloc, name)
-        .long(name)
-        .value_name(value)
-        .help(help)
+    without_help(alloc, name, value).help(help)
+}
+
+/// The same without a help. The other options with values are made from it: each call of `clap`'s
+/// that sets something is another step over all that an argument has.
+fn without_help<'a>(alloc: Global, name: &'a str, value: &'a str) -> Arg<'a>
+    ensures rule { rule_of result ≡ any_text name.entry.now }
+    ensures local { result.global ≡ false }
+{
+    Arg::new(alloc, name).long(name).value_name(value)
 }
 
 /// An option whose value passes this parser, with a default.
@@ -863,9 +853,7 @@ fn choice_option<'a>(
     ensures rule { rule_of result ≡ choice_option name.entry.now parser.entry default.entry.now }
     ensures local { result.global ≡ false }
 {
-    Arg::new(alloc, name)
-        .long(name)
-        .value_name(value)
+    without_help(alloc, name, value)
         .value_parser(parser)
         .default_value(default)
 }
@@ -875,11 +863,7 @@ fn optional_text<'a>(alloc: Global, name: &'a str, value: &'a str, help: &'a str
     ensures rule { rule_of result ≡ optional_text name.entry.now }
     ensures local { result.global ≡ false }
 {
-    Arg::new(alloc, name)
-        .long(name)
-        .value_name(value)
-        .value_parser(ValueParser::NonEmptyString)
-        .help(help)
+    any_text(alloc, name, value, help).value_parser(ValueParser::NonEmptyString)
 }
 
 /// An option without a value.
