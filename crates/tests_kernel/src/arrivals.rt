@@ -3,10 +3,10 @@
 
 ghost use Rattle.std.specs.Prelude.{◌≤◌, ◌<◌};
 
-use crate::rows::{Row, messages, signed};
+use crate::rows::{Row, message, messages, numbers, part};
 use eventkey::{Message, Sign, Signed};
 use queues::{Arrival, InputQueue};
-use std::alloc::AllocError;
+use std::alloc::{AllocError, Global};
 use std::process::Abort;
 use std::test::Fail;
 
@@ -18,42 +18,26 @@ enum Call {
     Taken(u64),
 }
 
-/// The answer of a call: the arrival, or the time of the taken message.
-type Answer = (Option<Arrival>, Option<u64>);
+/// The answer of a call, and the number in it: how many messages are rolled back, or the time of
+/// the taken message.
+type Answer = (&'static str, u64);
 
 /// The numbers of done messages, waiting messages and waiting antimessages.
-type Lens = (usize, usize, usize);
+type Lens = [u64; 3];
 
-/// A call, its answer, and the lengths of the lists after it.
-type Step = (Call, Answer, Lens);
+const A: Row = [5, 0, 1, 1, 0, 1, 0, 0];
 
-const A: Row = (5, 0, 1, 1, 0, 1, 0, 0);
 /// Another message of the same time, sender and number.
-const OTHER: Row = (5, 0, 1, 1, 9, 1, 0, 0);
+const OTHER: Row = [5, 0, 1, 1, 9, 1, 0, 0];
 
 /// Messages that differ from `A` only in the third or the last word of their content.
-const OTHER_C: Row = (5, 0, 1, 1, 0, 1, 1, 0);
+const OTHER_C: Row = [5, 0, 1, 1, 0, 1, 1, 0];
 
-const OTHER_D: Row = (5, 0, 1, 1, 0, 1, 0, 1);
-
-const WAITS: Answer = (Some(Arrival::Waits), None);
-
-const NONE: Answer = (None, None);
-
-const fn queued(back: usize) -> Answer {
-    (Some(Arrival::Queued { back }), None)
-}
-
-const fn annihilated(back: usize) -> Answer {
-    (Some(Arrival::Annihilated { back }), None)
-}
-
-const fn taken(time: u64) -> Answer {
-    (None, Some(time))
-}
+const OTHER_D: Row = [5, 0, 1, 1, 0, 1, 0, 1];
 
 fn lens(queue: &InputQueue) -> Lens {
-    (queue.done_len(), queue.waiting_len(), queue.antis_len())
+    let (waiting, antis) = (queue.waiting_len() as u64, queue.antis_len() as u64);
+    [queue.done_len() as u64, waiting, antis]
 }
 
 /// The visible state of a queue: the lengths, the least waiting message, and the least time.
@@ -61,16 +45,21 @@ fn shown(queue: &InputQueue) -> (Lens, Option<Message>, Option<u64>) {
     (lens(queue), queue.next(u64::MAX), queue.low())
 }
 
+const fn answer_of(arrival: Arrival) -> Answer {
+    match arrival {
+        Arrival::Waits => ("waits", 0),
+        Arrival::Queued { back } => ("queued", back as u64),
+        Arrival::Annihilated { back } => ("annihilated", back as u64),
+    }
+}
+
 fn make(queue: &mut InputQueue, call: &Call) -> Result<Answer, AllocError> {
     match *call {
-        Call::Arrives(signed) => {
-            let arrival = queue.arrive(signed)?;
-            Ok((Some(arrival), None))
-        }
-        Call::Taken(end) => {
-            let next = queue.take_next(end)?;
-            Ok((None, next.map(|next| next.time())))
-        }
+        Call::Arrives(signed) => Ok(answer_of(queue.arrive(signed)?)),
+        Call::Taken(end) => Ok(match queue.take_next(end)? {
+            Some(next) => ("taken", next.time()),
+            None => ("none", 0),
+        }),
     }
 }
 
@@ -88,29 +77,80 @@ fn make_at_last(
     make(queue, call)
 }
 
-fn play(rt: &impl Abort, queue: &mut InputQueue, steps: &[Step], name: &str) -> Result<(), Fail> {
-    for (call, answer, left) in steps {
-        let reported = make_at_last(rt, queue, call)?;
-        assert!(rt; reported == *answer, "{name}");
-        assert!(rt; lens(queue) == *left, "{name}");
+fn arrives(sign: Sign, row: Row) -> Result<Call, Fail> {
+    let message = message(row)?;
+    Ok(Call::Arrives(Signed { sign, message }))
+}
+
+/// The call of a text: `+a`, `-a`, `+b` or `-b`, of one of two messages, or else an end.
+fn call_of(text: &str, a: Row, b: Row) -> Result<Call, Fail> {
+    match text {
+        "+a" => arrives(Sign::Plus, a),
+        "-a" => arrives(Sign::Minus, a),
+        "+b" => arrives(Sign::Plus, b),
+        "-b" => arrives(Sign::Minus, b),
+        end => Ok(Call::Taken(end.parse()?)),
+    }
+}
+
+fn is_answer(answer: Answer, text: &str) -> bool {
+    let (name, number) = text.split_once(' ').unwrap_or((text, "0"));
+    answer.0 == name && number.parse().ok() == Some(answer.1)
+}
+
+fn are_lens(lens: Lens, text: &str) -> Result<bool, Fail> {
+    let [done, waiting, antis, ..] = numbers(text)?;
+    Ok(lens == [done, waiting, antis])
+}
+
+/// Makes the calls of a script, of which each line has the call, its answer, and the lengths of the
+/// lists after it.
+fn play(rt: &impl Abort, queue: &mut InputQueue, a: Row, b: Row, script: &str) -> Result<(), Fail> {
+    for line in script.lines() {
+        let answer = make_at_last(rt, queue, &call_of(part(line, 0), a, b)?)?;
+        assert!(rt; is_answer(answer, part(line, 1)), "{line}");
+        assert!(rt; are_lens(lens(queue), part(line, 2))?, "{line}");
     }
     Ok(())
 }
 
-/// A message of process 1 to itself.
-fn of_time(time: u64) -> Row {
-    (time, 1, time, 1, 0, 0, 0, 0)
+/// Plays a script from an empty queue.
+fn play_anew(rt: &impl Abort, alloc: Global, b: Row, script: &str) -> Result<(), Fail> {
+    play(rt, &mut InputQueue::new(alloc), A, b, script)
 }
 
-/// Takes all waiting messages in order. Returns their number.
-fn take_all(rt: &impl Abort, queue: &mut InputQueue) -> Result<u64, Fail> {
-    let mut count: u64 = 0;
-    let mut last = 0;
+/// A message of process 1 to itself.
+fn of_time(time: u64) -> Row {
+    [time, 1, time, 1, 0, 0, 0, 0]
+}
+
+/// Lets messages or antimessages of every so many of 200 times from 1 to 211, in mixed order, arrive.
+/// Returns whether each has this answer.
+fn all_arrive(
+    rt: &impl Abort,
+    queue: &mut InputQueue,
+    sign: Sign,
+    every: u64,
+    expected: &str,
+) -> Result<bool, Fail> {
+    for place in 0..200u64 {
+        if place.checked_rem(every) == Some(0) {
+            let call = arrives(sign, of_time(1 + place * 97 % 211))?;
+            if !is_answer(make_at_last(rt, queue, &call)?, expected) {
+                return Ok(false);
+            }
+        }
+    }
+    Ok(true)
+}
+
+/// Takes all waiting messages. Returns how many come after the one before them.
+fn take_all(rt: &impl Abort, queue: &mut InputQueue) -> Result<u64, AllocError> {
+    let (mut count, mut last) = (0u64, 0);
     for _ in 0..queue.waiting_len() {
-        let (_, time) = make_at_last(rt, queue, &Call::Taken(1000))?;
-        assert!(rt; time.is_some_and(|time| time > last));
-        last = time.unwrap_or(0);
-        count = count.saturating_add(1);
+        let (name, time) = make_at_last(rt, queue, &Call::Taken(1000))?;
+        count = count.saturating_add(u64::from(name == "taken" && time > last));
+        last = time;
     }
     Ok(count)
 }
@@ -118,25 +158,13 @@ fn take_all(rt: &impl Abort, queue: &mut InputQueue) -> Result<u64, Fail> {
 #[test]
 fn many_messages_wait_in_order(rt: HostRuntime) -> Result<(), Fail> {
     let mut queue = InputQueue::new(rt.alloc());
-    // 200 times from 1 to 211 in mixed order; then an antimessage for every fourth message
-    for place in 0..200 {
-        let plus = signed(Sign::Plus, of_time(1 + place * 97 % 211))?;
-        let reported = make_at_last(&rt, &mut queue, &Call::Arrives(plus))?;
-        assert!(&rt; reported == queued(0));
-    }
-    for place in 0..50 {
-        let minus = signed(Sign::Minus, of_time(1 + place * 4 * 97 % 211))?;
-        let reported = make_at_last(&rt, &mut queue, &Call::Arrives(minus))?;
-        assert!(&rt; reported == annihilated(0));
-    }
-    assert!(&rt; lens(&queue) == (0, 150, 0));
-    assert!(&rt; take_all(&rt, &mut queue)? == 150);
-    assert!(&rt; lens(&queue) == (150, 0, 0));
+    assert!(rt; all_arrive(&rt, &mut queue, Sign::Plus, 1, "queued 0")?);
+    assert!(rt; all_arrive(&rt, &mut queue, Sign::Minus, 4, "annihilated 0")?);
+    assert!(rt; lens(&queue) == [0, 150, 0]);
+    assert!(rt; take_all(&rt, &mut queue)? == 150);
+    assert!(rt; lens(&queue) == [150, 0, 0]);
     // a straggler before all of them
-    let straggler = Call::Arrives(signed(Sign::Plus, of_time(0))?);
-    assert!(&rt; make_at_last(&rt, &mut queue, &straggler)? == queued(150));
-    assert!(&rt; lens(&queue) == (0, 151, 0));
-    Ok(())
+    play(&rt, &mut queue, of_time(0), A, "+a | queued 150 | 0 151 0")
 }
 
 /// The message at this place among 100,000: `apart`, each at a time of its own, in mixed order;
@@ -145,180 +173,149 @@ fn one_of_many(place: u64, apart: bool) -> Row
     requires { place < 100000 }
 {
     if apart {
-        (1 + place * 7919 % 100_003, 1, 0, 1, 0, 0, 0, 0)
+        [1 + place * 7919 % 100_003, 1, 0, 1, 0, 0, 0, 0]
     } else {
-        (5, 1, 100_000 - place, 1, 0, 0, 0, 0)
+        [5, 1, 100_000 - place, 1, 0, 0, 0, 0]
     }
 }
 
-/// Lets `count` messages arrive and takes all. Returns the number of taken messages, and whether
-/// they came in order.
-fn pass_many(queue: &mut InputQueue, count: u64, apart: bool) -> Result<(u64, bool), Fail>
-    requires { count ≤ 100000 }
-{
-    for place in 0..count {
-        queue.arrive(signed(Sign::Plus, one_of_many(place, apart))?)?;
+/// A queue in which 100,000 messages wait.
+fn many(alloc: Global, apart: bool) -> Result<InputQueue, Fail> {
+    let mut queue = InputQueue::new(alloc);
+    for place in 0..100_000 {
+        let (sign, message) = (Sign::Plus, message(one_of_many(place, apart))?);
+        queue.arrive(Signed { sign, message })?;
     }
-    let mut taken = 0u64;
-    let mut last = None;
-    let mut in_order = true;
-    for _ in 0..count {
+    Ok(queue)
+}
+
+/// Takes 100,000 messages. Returns how many come after the one before them.
+fn take_many(queue: &mut InputQueue) -> Result<u32, AllocError> {
+    let (mut count, mut last) = (0u32, None);
+    for _ in 0..100_000 {
         let next = queue.take_next(1 << 40)?;
-        in_order = in_order && next > last;
+        count = count.saturating_add(u32::from(next > last));
         last = next;
-        taken = taken.saturating_add(u64::from(next.is_some()));
     }
-    Ok((taken, in_order))
+    Ok(count)
 }
 
 #[test]
 fn a_hundred_thousand_messages_wait(rt: HostRuntime) -> Result<(), Fail> {
-    for apart in [true, false] {
-        let mut queue = InputQueue::new(rt.alloc());
-        assert_eq!(rt; pass_many(&mut queue, 100_000, apart)?, (100_000, true));
-    }
+    assert_eq!(rt; take_many(&mut many(rt.alloc(), true)?)?, 100_000);
+    assert_eq!(rt; take_many(&mut many(rt.alloc(), false)?)?, 100_000);
     Ok(())
 }
+
+const ANTIMESSAGE_FIRST: &str = "\
+    -a | waits | 0 0 1\n\
+    +a | annihilated 0 | 0 0 0";
+
+const HANDLED_MESSAGE_IS_ROLLED_BACK: &str = "\
+    +a | queued 0 | 0 1 0\n\
+    10 | taken 5 | 1 0 0\n\
+    -a | annihilated 1 | 0 0 0";
+
+const MATCHING_IS_BY_ALL_EIGHT_NUMBERS: &str = "\
+    +a | queued 0 | 0 1 0\n\
+    10 | taken 5 | 1 0 0\n\
+    +b | queued 0 | 1 1 0\n\
+    -a | annihilated 1 | 0 1 0\n\
+    10 | taken 5 | 1 0 0";
 
 #[test]
 fn messages_and_antimessages_annihilate(rt: HostRuntime) -> Result<(), Fail> {
-    let plus = Call::Arrives(signed(Sign::Plus, A)?);
-    let minus = Call::Arrives(signed(Sign::Minus, A)?);
-    let other = Call::Arrives(signed(Sign::Plus, OTHER)?);
-    let take = Call::Taken(10);
-    let scripts: [(&str, &[Step]); 3] = [
-        (
-            "an antimessage comes first",
-            &[(minus, WAITS, (0, 0, 1)), (plus, annihilated(0), (0, 0, 0))],
-        ),
-        (
-            "a handled message is rolled back",
-            &[
-                (plus, queued(0), (0, 1, 0)),
-                (take, taken(5), (1, 0, 0)),
-                (minus, annihilated(1), (0, 0, 0)),
-            ],
-        ),
-        (
-            "matching is by all eight numbers",
-            &[
-                (plus, queued(0), (0, 1, 0)),
-                (take, taken(5), (1, 0, 0)),
-                (other, queued(0), (1, 1, 0)),
-                (minus, annihilated(1), (0, 1, 0)),
-                (take, taken(5), (1, 0, 0)),
-            ],
-        ),
-    ];
-    for (name, steps) in scripts {
-        play(&rt, &mut InputQueue::new(rt.alloc()), steps, name)?;
-    }
-    Ok(())
+    play_anew(&rt, rt.alloc(), OTHER, ANTIMESSAGE_FIRST)?;
+    play_anew(&rt, rt.alloc(), OTHER, HANDLED_MESSAGE_IS_ROLLED_BACK)?;
+    play_anew(&rt, rt.alloc(), OTHER, MATCHING_IS_BY_ALL_EIGHT_NUMBERS)
 }
+
+const COPIES_THAT_WAIT_ARE_COUNTED: &str = "\
+    +a | queued 0 | 0 1 0\n\
+    +a | queued 0 | 0 2 0\n\
+    -a | annihilated 0 | 0 1 0";
+
+const ONE_OF_TWO_HANDLED_COPIES_IS_TAKEN_BACK: &str = "\
+    +a | queued 0 | 0 1 0\n\
+    10 | taken 5 | 1 0 0\n\
+    +a | queued 0 | 1 1 0\n\
+    10 | taken 5 | 2 0 0\n\
+    -a | annihilated 1 | 1 0 0\n\
+    -a | annihilated 1 | 0 0 0\n\
+    -a | waits | 0 0 1";
+
+const EACH_OF_TWO_ANTIMESSAGES_MEETS_A_MESSAGE: &str = "\
+    -a | waits | 0 0 1\n\
+    -a | waits | 0 0 2\n\
+    +a | annihilated 0 | 0 0 1\n\
+    +a | annihilated 0 | 0 0 0\n\
+    +a | queued 0 | 0 1 0";
 
 #[test]
 fn equal_messages_annihilate_one_by_one(rt: HostRuntime) -> Result<(), Fail> {
-    let plus = Call::Arrives(signed(Sign::Plus, A)?);
-    let minus = Call::Arrives(signed(Sign::Minus, A)?);
-    let take = Call::Taken(10);
-    let scripts: [(&str, &[Step]); 3] = [
-        (
-            "copies that wait are counted",
-            &[
-                (plus, queued(0), (0, 1, 0)),
-                (plus, queued(0), (0, 2, 0)),
-                (minus, annihilated(0), (0, 1, 0)),
-            ],
-        ),
-        (
-            "one of two equal handled copies is taken back",
-            &[
-                (plus, queued(0), (0, 1, 0)),
-                (take, taken(5), (1, 0, 0)),
-                (plus, queued(0), (1, 1, 0)),
-                (take, taken(5), (2, 0, 0)),
-                (minus, annihilated(1), (1, 0, 0)),
-                (minus, annihilated(1), (0, 0, 0)),
-                (minus, WAITS, (0, 0, 1)),
-            ],
-        ),
-        (
-            "each of two equal antimessages meets a message",
-            &[
-                (minus, WAITS, (0, 0, 1)),
-                (minus, WAITS, (0, 0, 2)),
-                (plus, annihilated(0), (0, 0, 1)),
-                (plus, annihilated(0), (0, 0, 0)),
-                (plus, queued(0), (0, 1, 0)),
-            ],
-        ),
-    ];
-    for (name, steps) in scripts {
-        play(&rt, &mut InputQueue::new(rt.alloc()), steps, name)?;
-    }
-    Ok(())
+    play_anew(&rt, rt.alloc(), OTHER, COPIES_THAT_WAIT_ARE_COUNTED)?;
+    play_anew(
+        &rt,
+        rt.alloc(),
+        OTHER,
+        ONE_OF_TWO_HANDLED_COPIES_IS_TAKEN_BACK,
+    )?;
+    play_anew(
+        &rt,
+        rt.alloc(),
+        OTHER,
+        EACH_OF_TWO_ANTIMESSAGES_MEETS_A_MESSAGE,
+    )
 }
+
+/// First, the other antimessage annihilates neither a waiting message nor a handled one. From the
+/// seventh line on, the other message is later.
+const THE_LAST_WORDS_DIFFER: &str = "\
+    +a | queued 0 | 0 1 0\n\
+    -b | waits | 0 1 1\n\
+    10 | taken 5 | 1 0 1\n\
+    -b | waits | 1 0 2\n\
+    +b | annihilated 0 | 1 0 1\n\
+    +b | annihilated 0 | 1 0 0\n\
+    +b | queued 0 | 1 1 0\n\
+    10 | taken 5 | 2 0 0\n\
+    -a | annihilated 2 | 0 1 0\n\
+    10 | taken 5 | 1 0 0\n\
+    +a | queued 1 | 0 2 0\n\
+    10 | taken 5 | 1 1 0\n\
+    -b | annihilated 0 | 1 0 0\n\
+    -a | annihilated 1 | 0 0 0";
 
 #[test]
 fn messages_that_differ_only_in_the_last_words_are_distinct(rt: HostRuntime) -> Result<(), Fail> {
-    let plus = Call::Arrives(signed(Sign::Plus, A)?);
-    let minus = Call::Arrives(signed(Sign::Minus, A)?);
-    let take = Call::Taken(10);
-    for other in [OTHER_C, OTHER_D] {
-        let plus_other = Call::Arrives(signed(Sign::Plus, other)?);
-        let minus_other = Call::Arrives(signed(Sign::Minus, other)?);
-        let steps = [
-            // the other antimessage annihilates neither a waiting message nor a handled one
-            (plus, queued(0), (0, 1, 0)),
-            (minus_other, WAITS, (0, 1, 1)),
-            (take, taken(5), (1, 0, 1)),
-            (minus_other, WAITS, (1, 0, 2)),
-            (plus_other, annihilated(0), (1, 0, 1)),
-            (plus_other, annihilated(0), (1, 0, 0)),
-            // the other message is later
-            (plus_other, queued(0), (1, 1, 0)),
-            (take, taken(5), (2, 0, 0)),
-            (minus, annihilated(2), (0, 1, 0)),
-            (take, taken(5), (1, 0, 0)),
-            (plus, queued(1), (0, 2, 0)),
-            (take, taken(5), (1, 1, 0)),
-            (minus_other, annihilated(0), (1, 0, 0)),
-            (minus, annihilated(1), (0, 0, 0)),
-        ];
-        play(
-            &rt,
-            &mut InputQueue::new(rt.alloc()),
-            &steps,
-            "the last words",
-        )?;
-    }
-    Ok(())
+    play_anew(&rt, rt.alloc(), OTHER_C, THE_LAST_WORDS_DIFFER)?;
+    play_anew(&rt, rt.alloc(), OTHER_D, THE_LAST_WORDS_DIFFER)
 }
+
+const WAITING: [Row; 4] = [
+    [9, 0, 0, 1, 0, 0, 0, 0],
+    [3, 0, 0, 1, 0, 0, 0, 0],
+    [7, 0, 0, 1, 0, 0, 0, 0],
+    [5, 0, 0, 1, 0, 0, 0, 0],
+];
+
+const A_STRAGGLER: &str = "\
+    8 | taken 3 | 1 3 0\n\
+    8 | taken 5 | 2 2 0\n\
+    8 | taken 7 | 3 1 0\n\
+    9 | none | 3 1 0\n\
+    +a | queued 2 | 1 4 0\n\
+    10 | taken 4 | 2 3 0\n\
+    10 | taken 5 | 3 2 0\n\
+    10 | taken 7 | 4 1 0\n\
+    10 | taken 9 | 5 0 0";
 
 #[test]
 fn a_straggler_rolls_back_later_messages(rt: HostRuntime) -> Result<(), Fail> {
-    let waiting = [
-        (9, 0, 0, 1, 0, 0, 0, 0),
-        (3, 0, 0, 1, 0, 0, 0, 0),
-        (7, 0, 0, 1, 0, 0, 0, 0),
-        (5, 0, 0, 1, 0, 0, 0, 0),
-    ];
-    let straggler = Call::Arrives(signed(Sign::Plus, (4, 2, 0, 1, 0, 0, 0, 0))?);
-    let steps = [
-        (Call::Taken(8), taken(3), (1, 3, 0)),
-        (Call::Taken(8), taken(5), (2, 2, 0)),
-        (Call::Taken(8), taken(7), (3, 1, 0)),
-        (Call::Taken(9), NONE, (3, 1, 0)),
-        (straggler, queued(2), (1, 4, 0)),
-        (Call::Taken(10), taken(4), (2, 3, 0)),
-        (Call::Taken(10), taken(5), (3, 2, 0)),
-        (Call::Taken(10), taken(7), (4, 1, 0)),
-        (Call::Taken(10), taken(9), (5, 0, 0)),
-    ];
-    let mut queue = InputQueue::of_waiting(rt.alloc(), messages(rt.alloc(), &waiting)?)?;
-    play(&rt, &mut queue, &steps, "a straggler")?;
+    let mut queue = InputQueue::of_waiting(rt.alloc(), messages(rt.alloc(), &WAITING)?)?;
+    play(&rt, &mut queue, [4, 2, 0, 1, 0, 0, 0, 0], A, A_STRAGGLER)?;
     queue.release(5);
-    assert_eq!(rt; lens(&queue), (3, 0, 0));
+    assert_eq!(rt; lens(&queue), [3, 0, 0]);
     queue.in_order();
     Ok(())
 }

@@ -1,6 +1,7 @@
 // The ledger of a run of two nodes, and its posts compared with a plain list.
 
-use eventkey::{KeyFault, Listed, Message, Sign, Signed};
+use crate::rows::{signed, signed_list};
+use eventkey::{Listed, Signed};
 use gvt::{Ledger, LedgerFault};
 use node::{Parcel, Reply};
 use process::Done;
@@ -9,16 +10,6 @@ use std::test::Fail;
 
 mod memory;
 mod rounds;
-
-// The number distinguishes messages of one time.
-fn signed(sign: Sign, time: u64, number: u64, to: u32) -> Result<Signed, KeyFault> {
-    let message = Message::new(time, 0, number, to, 0, 0, 0, 0)?;
-    Ok(Signed { sign, message })
-}
-
-fn plus(time: u64, number: u64, to: u32) -> Result<Signed, KeyFault> {
-    signed(Sign::Plus, time, number, to)
-}
 
 fn reply(alloc: Global, out: &[Signed], low: Option<u64>) -> Result<Reply, AllocError> {
     Ok(Reply {
@@ -48,28 +39,44 @@ fn take(
     ledger.take(node, &reply(alloc, out, low)?)
 }
 
-// Posts an empty parcel to the node, whose reply sends these messages.
+// Posts an empty parcel to the node, whose reply sends these messages. Returns the parcel's floor.
 fn sends(
     alloc: Global,
     ledger: &mut Ledger,
     node: u32,
     out: &[Signed],
     low: Option<u64>,
-) -> Result<(), LedgerFault> {
-    let _parcel = post(ledger, node, &[])?;
-    take(alloc, ledger, node, out, low)
+) -> Result<u64, LedgerFault> {
+    let parcel = post(ledger, node, &[])?;
+    take(alloc, ledger, node, out, low)?;
+    Ok(parcel.floor)
+}
+
+// A ledger of two nodes with these lows, of which node 0 has sent these messages.
+fn sent_by_one(
+    alloc: Global,
+    lows: [Option<u64>; 2],
+    sent: &[Signed],
+) -> Result<Ledger, LedgerFault> {
+    let mut ledger = two_nodes(alloc, 0, lows)?;
+    sends(alloc, &mut ledger, 0, sent, lows[0])?;
+    Ok(ledger)
+}
+
+// The number of messages in transit, the floor, and the least floor that a node answered.
+fn counted(ledger: &Ledger) -> (usize, u64, u64) {
+    let (floor, answered) = (ledger.floor(), ledger.least_answered());
+    (ledger.transit().len(), floor, answered)
 }
 
 #[test]
 fn an_unanswered_parcel_holds_the_floor(rt: HostRuntime) -> Result<(), Fail> {
-    let mut ledger = two_nodes(rt.alloc(), 0, [Some(6), Some(8)])?;
-    let sent = [plus(4, 0, 1)?];
-    sends(rt.alloc(), &mut ledger, 0, &sent, Some(6))?;
+    let sent = [signed("4 0 0 1 0 0 0 0")?];
+    let mut ledger = sent_by_one(rt.alloc(), [Some(6), Some(8)], &sent)?;
     let parcel = post(&mut ledger, 1, &[0])?;
     assert_eq!(rt; parcel.deliver.as_slice(), sent.as_slice());
     assert_eq!(rt; (parcel.budget, parcel.floor), (7, 4));
-    assert_eq!(rt; ledger.transit().len(), 0);
-    assert_eq!(rt; ledger.floor(), 4);
+    assert_eq!(rt; counted(&ledger), (0, 4, 0));
     take(rt.alloc(), &mut ledger, 1, &[], None)?;
     assert_eq!(rt; ledger.floor(), 6);
     Ok(())
@@ -77,22 +84,19 @@ fn an_unanswered_parcel_holds_the_floor(rt: HostRuntime) -> Result<(), Fail> {
 
 #[test]
 fn an_antimessage_in_transit_holds_the_floor(rt: HostRuntime) -> Result<(), Fail> {
-    let mut ledger = two_nodes(rt.alloc(), 0, [Some(5), Some(5)])?;
-    let sent = [signed(Sign::Minus, 3, 0, 1)?];
-    sends(rt.alloc(), &mut ledger, 0, &sent, Some(5))?;
-    assert_eq!(rt; (ledger.transit().len(), ledger.floor()), (1, 3));
+    let sent = [signed("-3 0 0 1 0 0 0 0")?];
+    let ledger = sent_by_one(rt.alloc(), [Some(5), Some(5)], &sent)?;
+    assert_eq!(rt; counted(&ledger), (1, 3, 0));
     Ok(())
 }
 
 #[test]
 fn a_post_to_a_busy_node_changes_nothing(rt: HostRuntime) -> Result<(), Fail> {
-    let mut ledger = two_nodes(rt.alloc(), 0, [Some(6), Some(8)])?;
-    let sent = [plus(4, 0, 1)?];
-    sends(rt.alloc(), &mut ledger, 0, &sent, Some(6))?;
+    let sent = [signed("4 0 0 1 0 0 0 0")?];
+    let mut ledger = sent_by_one(rt.alloc(), [Some(6), Some(8)], &sent)?;
     let _parcel = post(&mut ledger, 1, &[])?;
     let before = memory::shown(&ledger);
-    let again = post(&mut ledger, 1, &[0]);
-    assert!(rt; again.err() == Some(LedgerFault::Busy));
+    assert!(rt; post(&mut ledger, 1, &[0]).err() == Some(LedgerFault::Busy));
     assert!(rt; memory::shown(&ledger) == before);
     take(rt.alloc(), &mut ledger, 1, &[], Some(8))?;
     let parcel = post(&mut ledger, 1, &[0])?;
@@ -104,14 +108,9 @@ fn a_post_to_a_busy_node_changes_nothing(rt: HostRuntime) -> Result<(), Fail> {
 fn a_floor_is_answered_with_its_parcel(rt: HostRuntime) -> Result<(), Fail> {
     let mut ledger = two_nodes(rt.alloc(), 1, [Some(4), Some(6)])?;
     assert_eq!(rt; ledger.least_answered(), 1);
-    let first = post(&mut ledger, 0, &[])?;
-    take(rt.alloc(), &mut ledger, 0, &[], Some(7))?;
-    assert_eq!(rt; (first.floor, ledger.least_answered()), (4, 1));
-    let second = post(&mut ledger, 1, &[])?;
-    take(rt.alloc(), &mut ledger, 1, &[], Some(9))?;
-    assert_eq!(rt;
-        (second.floor, ledger.least_answered(), ledger.floor()),
-        (6, 4, 7)
-    );
+    let first = sends(rt.alloc(), &mut ledger, 0, &[], Some(7))?;
+    assert_eq!(rt; (first, ledger.least_answered()), (4, 1));
+    let second = sends(rt.alloc(), &mut ledger, 1, &[], Some(9))?;
+    assert_eq!(rt; (second, counted(&ledger)), (6, (0, 7, 4)));
     Ok(())
 }

@@ -7,20 +7,20 @@ ghost use Rattle.node.specs.Handling.{IsInRange};
 mod plain;
 mod schedules;
 
-use crate::rows::{Row, are, are_signed, messages, row, signed, signed_list};
+use crate::rows::{Row, are, messages, numbers, part, row, signed, signed_list};
 use eventkey::{Listed, Message, Sign, Signed};
 use model::{Model as Simulated, State, Words};
 use models::TokenRing;
 use node::{Load, Node, NodeFault, Parcel, Part, Reply};
 use process::{Done, Process};
-use std::alloc::Global;
+use std::alloc::{AllocError, Global};
 use std::process::Abort;
 use std::test::Fail;
 
 /// A node with its model, which accepts any parcel.
 #[derive(Drop)]
-struct Tried<M: Simulated + Drop> {
-    model: M,
+pub(crate) struct Tried<M: Simulated + Drop> {
+    pub(crate) model: M,
     node: Node,
 }
 
@@ -38,7 +38,7 @@ impl<M: Simulated + Drop> std::marker::Model for Tried<M> {
 }
 
 impl<M: Simulated + Drop> Tried<M> {
-    fn load(alloc: Global, model: M, load: Load) -> Result<Tried<M>, NodeFault>
+    fn of_load(alloc: Global, model: M, load: Load) -> Result<Tried<M>, NodeFault>
         requires node { load.node < load.nodes }
         requires nodes { load.nodes ≤ 64 }
         requires end { load.end ≤ 2 ^ 40 }
@@ -48,13 +48,49 @@ impl<M: Simulated + Drop> Tried<M> {
         Ok(Tried { model, node })
     }
 
-    fn handle(&mut self, parcel: Parcel) -> Result<Reply, NodeFault> {
+    /// Loads node `node` of `nodes`. Each of its processes begins in state 0, with the number of its
+    /// next send, and those of the waiting messages that go to it.
+    pub(crate) fn load(
+        alloc: Global,
+        model: M,
+        node: u32,
+        nodes: u32,
+        end: u64,
+        number: u64,
+        waiting: &[Message],
+    ) -> Result<Tried<M>, Fail>
+        requires node { node < nodes }
+        requires nodes { nodes ≤ 64 }
+        requires end { end ≤ 2 ^ 40 }
+    {
+        let parts = parts(alloc, model.lps(), node, nodes, number, waiting)?;
+        let load = Load {
+            node,
+            nodes,
+            end,
+            floor: 0,
+            parts: Listed::from_vec(parts),
+        };
+        Ok(Tried::of_load(alloc, model, load)?)
+    }
+
+    pub(crate) fn handle(
+        &mut self,
+        deliver: Vec<Signed>,
+        budget: u32,
+        floor: u64,
+    ) -> Result<Reply, NodeFault> {
+        let parcel = Parcel {
+            deliver: Listed::from_vec(deliver),
+            budget,
+            floor,
+        };
         self.node.handle(&self.model, parcel)
     }
 }
 
-/// A process in state 0, with the number of its next send and its waiting messages.
-fn part(lp: u32, number: u64, alloc: Global, pending: Vec<Message>) -> Part
+/// A process in state 0.
+fn process(alloc: Global, lp: u32, number: u64, waiting: Vec<Message>) -> Part
     ensures { IsInRange result }
 {
     let mut words = Words::new(alloc);
@@ -63,94 +99,123 @@ fn part(lp: u32, number: u64, alloc: Global, pending: Vec<Message>) -> Part
         lp,
         number: number.min(Process::NUMBER_LIMIT),
         words: State::from_words(words),
-        pending: Listed::from_vec(pending),
+        pending: Listed::from_vec(waiting),
     }
 }
 
-/// A row for a process: its index, the number of its next send, and its waiting messages.
-type Seat<'a> = (u32, u64, &'a [Row]);
+/// The messages that go to this process.
+fn messages_to(alloc: Global, lp: u32, messages: &[Message]) -> Result<Vec<Message>, AllocError> {
+    let mut there = Vec::new(alloc);
+    for message in messages {
+        if message.to() == lp {
+            there.push(*message)?;
+        }
+    }
+    Ok(there)
+}
 
-fn parts(alloc: Global, seats: &[Seat]) -> Result<Vec<Part>, Fail>
+fn parts(
+    alloc: Global,
+    lps: u32,
+    node: u32,
+    nodes: u32,
+    number: u64,
+    waiting: &[Message],
+) -> Result<Vec<Part>, AllocError>
     ensures { IfOk result (λ parts. Every IsInRange parts.items) }
 {
     let mut parts = Vec::new(alloc);
-    for (lp, number, pending) in seats {
-        parts.push(part(*lp, *number, alloc, messages(alloc, pending)?))?;
+    for lp in 0..lps {
+        if lp.checked_rem(nodes) == Some(node) {
+            let waiting = messages_to(alloc, lp, waiting)?;
+            parts.push(process(alloc, lp, number, waiting))?;
+        }
     }
     Ok(parts)
 }
 
-/// Loads node `node` of `nodes`.
-fn load(alloc: Global, node: u32, nodes: u32, seats: &[Seat]) -> Result<Tried<TokenRing>, Fail>
+/// Loads node `node` of `nodes` of the ring.
+fn load(
+    alloc: Global,
+    node: u32,
+    nodes: u32,
+    number: u64,
+    waiting: &[Row],
+) -> Result<Tried<TokenRing>, Fail>
     requires node { node < nodes }
     requires nodes { nodes ≤ 64 }
 {
-    let load = Load {
-        node,
-        nodes,
-        end: 10,
-        floor: 0,
-        parts: Listed::from_vec(parts(alloc, seats)?),
-    };
-    Ok(Tried::load(alloc, TokenRing::new(3, 2, 1), load)?)
+    let waiting = messages(alloc, waiting)?;
+    let ring = TokenRing::new(3, 2, 1);
+    Tried::load(alloc, ring, node, nodes, 10, number, waiting.as_slice())
 }
 
-/// A row for a parcel: its deliveries, the budget, and the floor in ticks.
-type Posted<'a> = (&'a [(Sign, Row)], u32, u64);
-
-/// A row for a fossil: the message, the one message that its handling sent, the count in the state
-/// after it, and the number of the next send.
-pub(crate) type Fossil = (Row, Row, u64, u64);
-
-/// A row for a reply: the messages it sends, the low in ticks, the number of handled messages, and
-/// the fossils.
-type Expected<'a> = (&'a [(Sign, Row)], Option<u64>, u32, &'a [Fossil]);
-
-pub(crate) fn is_fossil(fossil: &Done, expected: &Fossil) -> bool {
-    let (handled, sent, count, number) = *expected;
-    row(&fossil.message) == handled
-        && are(fossil.sent.as_slice(), &[sent])
-        && fossil.after.as_slice() == [count].as_slice()
-        && fossil.number_after == number
+/// The text before the first `>`, and the text behind it.
+fn halves(text: &str) -> (&str, &str) {
+    text.split_once(" > ").unwrap_or((text, ""))
 }
 
-fn is_expected(reply: &Reply, expected: &Expected) -> bool {
-    let (out, low, ran, fossils) = *expected;
-    are_signed(reply.out.as_slice(), out)
-        && reply.low == low
-        && reply.ran == ran
-        && reply.fossils.as_slice().len() == fossils.len()
-        && reply
-            .fossils
-            .as_slice()
-            .iter()
-            .zip(fossils)
-            .all(|(fossil, expected)| is_fossil(fossil, expected))
+/// Whether a fossil has the message of a text, the one message that its handling sent, the count in
+/// the state after it, and the number of the next send.
+pub(crate) fn is_fossil(fossil: &Done, text: &str) -> Result<bool, Fail> {
+    let (handled, text) = halves(text);
+    let (sent, after) = halves(text);
+    let [count, number, ..] = numbers(after)?;
+    Ok(
+        row(&fossil.message) == numbers(handled)?
+            && are(fossil.sent.as_slice(), &[numbers(sent)?])
+            && fossil.after.as_slice() == [count].as_slice()
+            && fossil.number_after == number,
+    )
 }
 
-fn parcel(alloc: Global, posted: &Posted) -> Result<Parcel, Fail> {
-    let (deliver, budget, floor) = *posted;
-    Ok(Parcel {
-        deliver: Listed::from_vec(signed_list(alloc, deliver)?),
-        budget,
-        floor,
-    })
+fn are_fossils(fossils: &[Done], text: &str) -> Result<bool, Fail> {
+    let mut texts = text.split_terminator(", ");
+    for fossil in fossils {
+        if !is_fossil(fossil, texts.next().unwrap_or(""))? {
+            return Ok(false);
+        }
+    }
+    Ok(texts.next().is_none())
 }
 
-/// Posts parcels to a node and checks its replies. An allocation failure leaves the node spent and
-/// ends the check.
+/// Whether a reply sends the messages of a line, and has its low in ticks, the number of handled
+/// messages, and the fossils there.
+fn is_expected(alloc: Global, reply: &Reply, line: &str) -> Result<bool, Fail> {
+    let out = signed_list(alloc, part(line, 2))?;
+    Ok(
+        reply.out.as_slice() == out.as_slice()
+            && reply.low == part(line, 3).parse().ok()
+            && Some(reply.ran) == part(line, 4).parse().ok()
+            && are_fossils(reply.fossils.as_slice(), part(line, 5))?,
+    )
+}
+
+/// Posts the parcel of a line: its deliveries, the budget, and the floor in ticks.
+fn post(
+    alloc: Global,
+    node: &mut Tried<TokenRing>,
+    line: &str,
+) -> Result<Result<Reply, NodeFault>, Fail> {
+    let deliver = signed_list(alloc, part(line, 0))?;
+    let [budget, floor, ..] = numbers(part(line, 1))?;
+    Ok(node.handle(deliver, u32::try_from(budget)?, floor))
+}
+
+/// Posts the parcels of a script and checks the replies. An allocation failure leaves the node
+/// spent and ends the check.
 fn play(
     rt: &impl Abort,
     alloc: Global,
     node: &mut Tried<TokenRing>,
-    steps: &[(Posted, Expected)],
+    script: &str,
 ) -> Result<(), Fail> {
-    for (place, (posted, expected)) in steps.iter().enumerate() {
-        match node.handle(parcel(alloc, posted)?) {
-            Ok(reply) => assert!(rt; is_expected(&reply, expected), "at {place}"),
+    for line in script.lines() {
+        match post(alloc, node, line)? {
+            Ok(reply) => assert!(rt; is_expected(alloc, &reply, line)?, "{line}"),
             Err(fault) => {
                 assert_eq!(rt; fault, NodeFault::NoMemory);
-                let again = node.handle(parcel(alloc, posted)?);
+                let again = post(alloc, node, line)?;
                 assert_eq!(rt; again.err(), Some(NodeFault::Spent));
                 return Ok(());
             }
@@ -159,48 +224,16 @@ fn play(
     Ok(())
 }
 
-const fn plus(row: Row) -> (Sign, Row) {
-    (Sign::Plus, row)
-}
-
-const fn minus(row: Row) -> (Sign, Row) {
-    (Sign::Minus, row)
-}
+const A_TOKEN: &str = "\
+    | 16 1 | 3 0 1 1 0 1 0 0 | none | 1 |\n\
+    7 2 0 0 0 3 0 0 | 16 7 | 9 0 2 1 0 4 0 0 | none | 1 | \
+    1 0 0 0 0 0 0 0 > 3 0 1 1 0 1 0 0 > 1 2\n\
+    | 16 10 | | none | 0 | 7 2 0 0 0 3 0 0 > 9 0 2 1 0 4 0 0 > 2 3";
 
 #[test]
 fn a_token_passes_through_node_zero_of_three(rt: HostRuntime) -> Result<(), Fail> {
-    let (first, to_one) = ((1, 0, 0, 0, 0, 0, 0, 0), (3, 0, 1, 1, 0, 1, 0, 0));
-    let (to_zero, again) = ((7, 2, 0, 0, 0, 3, 0, 0), (9, 0, 2, 1, 0, 4, 0, 0));
-    let mut node = load(rt.alloc(), 0, 3, &[(0, 1, &[first])])?;
-    let steps: [(Posted, Expected); 3] = [
-        ((&[], 16, 1), (&[plus(to_one)], None, 1, &[])),
-        (
-            (&[plus(to_zero)], 16, 7),
-            (&[plus(again)], None, 1, &[(first, to_one, 1, 2)]),
-        ),
-        ((&[], 16, 10), (&[], None, 0, &[(to_zero, again, 2, 3)])),
-    ];
-    play(&rt, rt.alloc(), &mut node, &steps)
-}
-
-// Memory for handlings is allocated for the messages that exist, not for the budget.
-#[test]
-fn a_large_budget_takes_no_memory(rt: HostRuntime) -> Result<(), Fail> {
-    let mut node = load(rt.alloc(), 0, 3, &[(0, 1, &[(1, 0, 0, 0, 0, 0, 0, 0)])])?;
-    let reply = node.handle(parcel(rt.alloc(), &(&[], u32::MAX, 1))?)?;
-    assert_eq!(rt; (reply.ran, reply.fossils.as_slice().len()), (1, 0));
-    let reply = node.handle(parcel(rt.alloc(), &(&[], u32::MAX, 10))?)?;
-    assert_eq!(rt; (reply.ran, reply.fossils.as_slice().len()), (0, 1));
-    Ok(())
-}
-
-/// Messages of time 1 for process 0, in descending order.
-fn many(alloc: Global, count: u64) -> Result<Vec<Signed>, Fail> {
-    let mut list = Vec::new(alloc);
-    for number in (0..count).rev() {
-        list.push(signed(Sign::Plus, (1, 2, number, 0, 0, 0, 0, 0))?)?;
-    }
-    Ok(list)
+    let mut node = load(rt.alloc(), 0, 3, 1, &[[1, 0, 0, 0, 0, 0, 0, 0]])?;
+    play(&rt, rt.alloc(), &mut node, A_TOKEN)
 }
 
 /// Posts these messages to a node. Returns how many messages it handled, sent and reported.
@@ -210,11 +243,7 @@ fn handle_many(
     budget: u32,
     floor: u64,
 ) -> Result<(u32, usize, usize), NodeFault> {
-    let reply = node.handle(Parcel {
-        deliver: Listed::from_vec(deliver),
-        budget,
-        floor,
-    })?;
+    let reply = node.handle(deliver, budget, floor)?;
     Ok((
         reply.ran,
         reply.out.as_slice().len(),
@@ -222,15 +251,36 @@ fn handle_many(
     ))
 }
 
+// Memory for handlings is allocated for the messages that exist, not for the budget.
+#[test]
+fn a_large_budget_takes_no_memory(rt: HostRuntime) -> Result<(), Fail> {
+    let mut node = load(rt.alloc(), 0, 3, 1, &[[1, 0, 0, 0, 0, 0, 0, 0]])?;
+    let reported = handle_many(&mut node, Vec::new(rt.alloc()), u32::MAX, 1)?;
+    assert_eq!(rt; reported, (1, 1, 0));
+    let reported = handle_many(&mut node, Vec::new(rt.alloc()), u32::MAX, 10)?;
+    assert_eq!(rt; reported, (0, 0, 1));
+    Ok(())
+}
+
+/// 100,000 messages of time 1 for process 0, in descending order.
+fn many(alloc: Global) -> Result<Vec<Signed>, Fail> {
+    let mut list = Vec::new(alloc);
+    for number in (0..100_000).rev() {
+        let message = Message::new(1, 2, number, 0, 0, 0, 0, 0)?;
+        let sign = Sign::Plus;
+        list.push(Signed { sign, message })?;
+    }
+    Ok(list)
+}
+
 // All messages go to one process, which has handled them when a straggler arrives before them. It
 // rolls all of them back, and handles them again.
 #[test]
 fn a_hundred_thousand_messages_are_handled_twice(rt: HostRuntime) -> Result<(), Fail> {
-    let mut node = load(rt.alloc(), 0, 3, &[(0, 1, &[])])?;
-    let deliver = many(rt.alloc(), 100_000)?;
-    let reported = handle_many(&mut node, deliver, 100_000, 0)?;
+    let mut node = load(rt.alloc(), 0, 3, 1, &[])?;
+    let reported = handle_many(&mut node, many(rt.alloc())?, 100_000, 0)?;
     assert_eq!(rt; reported, (100_000, 100_000, 0));
-    let straggler = signed_list(rt.alloc(), &[plus((0, 2, 0, 0, 0, 0, 0, 0))])?;
+    let straggler = signed_list(rt.alloc(), "0 2 0 0 0 0 0 0")?;
     let reported = handle_many(&mut node, straggler, 200_000, 2)?;
     assert_eq!(rt; reported, (100_001, 200_001, 100_001));
     Ok(())
@@ -240,81 +290,63 @@ fn a_hundred_thousand_messages_are_handled_twice(rt: HostRuntime) -> Result<(), 
 // answers the next one.
 #[test]
 fn a_parcel_below_the_floor_leaves_the_node_unchanged(rt: HostRuntime) -> Result<(), Fail> {
-    let mut node = load(rt.alloc(), 0, 1, &[(0, 0, &[]), (1, 0, &[]), (2, 0, &[])])?;
-    let steps: [(Posted, Expected); 1] = [((&[], 16, 4), (&[], None, 0, &[]))];
-    play(&rt, rt.alloc(), &mut node, &steps)?;
-    let (late, early) = ((5, 0, 0, 0, 0, 0, 0, 0), (3, 0, 0, 1, 0, 0, 0, 0));
-    let refused = node.handle(parcel(rt.alloc(), &(&[plus(late), plus(early)], 16, 4))?);
+    let mut node = load(rt.alloc(), 0, 1, 0, &[])?;
+    let empty = "| 16 4 | | none | 0 |";
+    play(&rt, rt.alloc(), &mut node, empty)?;
+    let both = "5 0 0 0 0 0 0 0, 3 0 0 1 0 0 0 0 | 16 4";
+    let refused = post(rt.alloc(), &mut node, both)?;
     assert_eq!(rt; refused.err(), Some(NodeFault::BelowFloor));
-    play(&rt, rt.alloc(), &mut node, &steps)
+    play(&rt, rt.alloc(), &mut node, empty)
 }
+
+/// A waiting message of each process.
+const THREE: [Row; 3] = [
+    [4, 0, 0, 0, 0, 0, 0, 0],
+    [1, 1, 0, 1, 0, 0, 0, 0],
+    [2, 2, 0, 2, 0, 0, 0, 0],
+];
+
+const GROUPED: &str = "\
+    | 16 5 | 3 1 5 2 0 1 0 0, 4 2 5 0 0 1 0 0, 6 0 5 1 0 1 0 0 | none | 3 | \
+    4 0 0 0 0 0 0 0 > 6 0 5 1 0 1 0 0 > 1 6, \
+    1 1 0 1 0 0 0 0 > 3 1 5 2 0 1 0 0 > 1 6, \
+    2 2 0 2 0 0 0 0 > 4 2 5 0 0 1 0 0 > 1 6";
 
 #[test]
 fn fossils_are_grouped_by_process(rt: HostRuntime) -> Result<(), Fail> {
-    let (zero, from_zero) = ((4, 0, 0, 0, 0, 0, 0, 0), (6, 0, 5, 1, 0, 1, 0, 0));
-    let (one, from_one) = ((1, 1, 0, 1, 0, 0, 0, 0), (3, 1, 5, 2, 0, 1, 0, 0));
-    let (two, from_two) = ((2, 2, 0, 2, 0, 0, 0, 0), (4, 2, 5, 0, 0, 1, 0, 0));
-    let seats: [Seat; 3] = [(0, 5, &[zero]), (1, 5, &[one]), (2, 5, &[two])];
-    let mut node = load(rt.alloc(), 0, 1, &seats)?;
-    let steps: [(Posted, Expected); 1] = [(
-        (&[], 16, 5),
-        (
-            &[plus(from_one), plus(from_two), plus(from_zero)],
-            None,
-            3,
-            &[
-                (zero, from_zero, 1, 6),
-                (one, from_one, 1, 6),
-                (two, from_two, 1, 6),
-            ],
-        ),
-    )];
-    play(&rt, rt.alloc(), &mut node, &steps)
+    let mut node = load(rt.alloc(), 0, 1, 5, &THREE)?;
+    play(&rt, rt.alloc(), &mut node, GROUPED)
 }
+
+const AN_ANTIMESSAGE_FIRST: &str = "\
+    -3 0 0 1 0 0 0 0, 8 1 0 2 0 0 0 0 | 0 0 | | 3 | 0 |\n\
+    3 0 0 1 0 0 0 0 | 0 0 | | 8 | 0 |";
 
 #[test]
 fn a_waiting_antimessage_counts_for_the_low(rt: HostRuntime) -> Result<(), Fail> {
-    let (early, late) = ((3, 0, 0, 1, 0, 0, 0, 0), (8, 1, 0, 2, 0, 0, 0, 0));
-    let mut node = load(rt.alloc(), 0, 1, &[(0, 0, &[]), (1, 0, &[]), (2, 0, &[])])?;
-    let steps: [(Posted, Expected); 2] = [
-        ((&[minus(early), plus(late)], 0, 0), (&[], Some(3), 0, &[])),
-        ((&[plus(early)], 0, 0), (&[], Some(8), 0, &[])),
-    ];
-    play(&rt, rt.alloc(), &mut node, &steps)
+    let mut node = load(rt.alloc(), 0, 1, 0, &[])?;
+    play(&rt, rt.alloc(), &mut node, AN_ANTIMESSAGE_FIRST)
 }
 
-// Three processes with four messages. Then process 0 gets a straggler, process 1 an antimessage of
-// what it handled, and two of the sent messages arrive.
+/// Two waiting messages of process 0, and one of each other process.
+const FOUR: [Row; 4] = [
+    [1, 0, 0, 0, 0, 0, 0, 0],
+    [4, 0, 1, 0, 0, 0, 0, 0],
+    [2, 1, 0, 1, 0, 0, 0, 0],
+    [3, 2, 0, 2, 0, 0, 0, 0],
+];
+
+/// The four messages are handled. Then process 0 gets a straggler, process 1 an antimessage of what
+/// it handled, and two of the sent messages arrive.
+const SENT_IN_ORDER: &str = "\
+    | 4 0 | 3 0 5 1 0 1 0 0, 4 1 5 2 0 1 0 0, 5 2 5 0 0 1 0 0, 6 0 6 1 0 1 0 0 | none | 4 |\n\
+    3 0 9 0 7 0 8 9, -2 1 0 1 0 0 0 0, 5 2 5 0 0 1 0 0, 3 0 5 1 0 1 0 0 | 4 2 | \
+    -6 0 6 1 0 1 0 0, -4 1 5 2 0 1 0 0, 5 1 5 2 0 2 0 0, 5 0 6 1 7 1 8 9, \
+    6 0 7 1 0 1 0 0, 7 0 8 1 0 2 0 0 | none | 4 | \
+    1 0 0 0 0 0 0 0 > 3 0 5 1 0 1 0 0 > 1 6";
+
 #[test]
 fn antimessages_and_new_messages_are_sent_in_order(rt: HostRuntime) -> Result<(), Fail> {
-    let (zero, again) = ((1, 0, 0, 0, 0, 0, 0, 0), (4, 0, 1, 0, 0, 0, 0, 0));
-    let (one, two) = ((2, 1, 0, 1, 0, 0, 0, 0), (3, 2, 0, 2, 0, 0, 0, 0));
-    let (from_zero, from_again) = ((3, 0, 5, 1, 0, 1, 0, 0), (6, 0, 6, 1, 0, 1, 0, 0));
-    let (from_one, from_two) = ((4, 1, 5, 2, 0, 1, 0, 0), (5, 2, 5, 0, 0, 1, 0, 0));
-    let straggler = (3, 0, 9, 0, 7, 0, 8, 9);
-    let seats: [Seat; 3] = [(0, 5, &[zero, again]), (1, 5, &[one]), (2, 5, &[two])];
-    let mut node = load(rt.alloc(), 0, 1, &seats)?;
-    let out = [
-        plus(from_zero),
-        plus(from_one),
-        plus(from_two),
-        plus(from_again),
-    ];
-    let deliver = [plus(straggler), minus(one), plus(from_two), plus(from_zero)];
-    let sent = [
-        minus(from_again),
-        minus(from_one),
-        plus((5, 1, 5, 2, 0, 2, 0, 0)),
-        plus((5, 0, 6, 1, 7, 1, 8, 9)),
-        plus((6, 0, 7, 1, 0, 1, 0, 0)),
-        plus((7, 0, 8, 1, 0, 2, 0, 0)),
-    ];
-    let steps: [(Posted, Expected); 2] = [
-        ((&[], 4, 0), (&out, None, 4, &[])),
-        (
-            (&deliver, 4, 2),
-            (&sent, None, 4, &[(zero, from_zero, 1, 6)]),
-        ),
-    ];
-    play(&rt, rt.alloc(), &mut node, &steps)
+    let mut node = load(rt.alloc(), 0, 1, 5, &FOUR)?;
+    play(&rt, rt.alloc(), &mut node, SENT_IN_ORDER)
 }

@@ -3,9 +3,9 @@
 
 ghost use Rattle.std.specs.Prelude.{◌≡◌, ◌≤◌};
 
-use crate::nodes::{Fossil, is_fossil};
-use crate::rows::{Row, are_signed, row, signed};
-use eventkey::{Sign, Signed};
+use crate::nodes::is_fossil;
+use crate::rows::{Row, numbers, part, row, signed, signed_list};
+use eventkey::Signed;
 use model::Words;
 use models::TokenRing;
 use process::{Done, Process, ProcessFault};
@@ -67,156 +67,128 @@ impl Alone {
 
     /// The state, the send number, and the numbers of done messages, waiting messages and waiting
     /// antimessages.
-    fn shown(&self) -> Shown {
+    fn shown(&self) -> [u64; 5] {
         self.process.sound();
-        (
-            self.process.state().as_slice().first().copied(),
+        [
+            self.process
+                .state()
+                .as_slice()
+                .first()
+                .copied()
+                .unwrap_or(99),
             self.process.number(),
-            self.process.done_len(),
-            self.process.waiting_len(),
-            self.process.antis_len(),
-        )
+            self.process.done_len() as u64,
+            self.process.waiting_len() as u64,
+            self.process.antis_len() as u64,
+        ]
     }
 
     /// The least waiting message before the end.
     fn next(&self) -> Option<Row> {
-        self.process.next(10).map(|next| row(&next))
-    }
-}
-
-type Shown = (Option<u64>, u64, usize, usize, usize);
-
-#[derive(Clone, Copy)]
-enum Call {
-    Plus(Row),
-    Minus(Row),
-    Run,
-}
-
-/// A call, what it sends, and the process after it.
-type Step<'a> = (Call, &'a [(Sign, Row)], Shown);
-
-fn make(alone: &mut Alone, call: Call) -> Result<(), Fail> {
-    match call {
-        Call::Plus(row) => alone.deliver(signed(Sign::Plus, row)?)?,
-        Call::Minus(row) => alone.deliver(signed(Sign::Minus, row)?)?,
-        Call::Run => {
-            if !alone.run()? {
-                return Err(Fail::from("nothing waits"));
-            }
+        match self.process.next(10) {
+            Some(next) => Some(row(&next)),
+            None => None,
         }
     }
-    Ok(())
 }
 
-/// Makes the calls, and checks what each one sends and leaves.
-fn play(rt: &impl Abort, alone: &mut Alone, name: &str, steps: &[Step]) -> Result<(), Fail> {
-    for (place, (call, out, after)) in steps.iter().enumerate() {
-        alone.out.clear();
-        make(alone, *call)?;
-        assert!(rt; are_signed(alone.out.as_slice(), out), "{name} {place}");
-        assert!(rt; alone.shown() == *after, "{name} {place}");
+/// Delivers a message or an antimessage, or handles a message.
+fn make(alone: &mut Alone, call: &str) -> Result<(), Fail> {
+    if call != "run" {
+        alone.deliver(signed(call)?)?;
+    } else if !alone.run()? {
+        return Err(Fail::new("nothing waits"));
     }
     Ok(())
 }
 
-const A: Row = (5, 0, 1, 1, 0, 1, 0, 0);
+/// Whether the process has sent these messages.
+fn has_sent(alloc: Global, alone: &Alone, text: &str) -> Result<bool, Fail> {
+    Ok(alone.out.as_slice() == signed_list(alloc, text)?.as_slice())
+}
 
-/// What the handling of `A` sends, as the first message and as the second one.
-const SENT: Row = (7, 1, 0, 2, 0, 2, 0, 0);
+fn is_shown(alone: &Alone, text: &str) -> Result<bool, Fail> {
+    let [state, number, done, waiting, antis, ..] = numbers(text)?;
+    Ok(alone.shown() == [state, number, done, waiting, antis])
+}
 
-const SENT_AFTER: Row = (7, 1, 1, 2, 0, 2, 0, 0);
+/// Makes the calls of a script, of which each line has the call, what it sends, and the process
+/// after it.
+fn played(rt: &impl Abort, alloc: Global, script: &str) -> Result<Alone, Fail> {
+    let mut alone = Alone::load(alloc)?;
+    for line in script.lines() {
+        alone.out.clear();
+        make(&mut alone, part(line, 0))?;
+        assert!(rt; has_sent(alloc, &alone, part(line, 1))?, "{line}");
+        assert!(rt; is_shown(&alone, part(line, 2))?, "{line}");
+    }
+    Ok(alone)
+}
 
-/// A straggler, and what its handling sends.
-const EARLY: Row = (4, 2, 0, 1, 7, 0, 0, 0);
+/// The handling of the first message sends the second one, or after a straggler the third one.
+const STRAGGLER: &str = "\
+    5 0 1 1 0 1 0 0 | | 0 0 0 1 0\n\
+    run | 7 1 0 2 0 2 0 0 | 1 1 1 0 0\n\
+    4 2 0 1 7 0 0 0 | -7 1 0 2 0 2 0 0 | 0 0 0 2 0\n\
+    run | 6 1 0 2 7 1 0 0 | 1 1 1 1 0\n\
+    run | 7 1 1 2 0 2 0 0 | 2 2 2 0 0";
 
-const EARLY_SENT: Row = (6, 1, 0, 2, 7, 1, 0, 0);
+const ANTIMESSAGE_FIRST: &str = "\
+    -5 0 1 1 0 1 0 0 | | 0 0 0 0 1\n\
+    5 0 1 1 0 1 0 0 | | 0 0 0 0 0";
 
-/// A message that differs from `A` in its content alone.
-const OTHER: Row = (5, 0, 1, 1, 9, 1, 0, 0);
+const HANDLED: &str = "\
+    5 0 1 1 0 1 0 0 | | 0 0 0 1 0\n\
+    run | 7 1 0 2 0 2 0 0 | 1 1 1 0 0\n\
+    -5 0 1 1 0 1 0 0 | -7 1 0 2 0 2 0 0 | 0 0 0 0 0";
 
-const STRAGGLER: [Step; 5] = [
-    (Call::Plus(A), &[], (Some(0), 0, 0, 1, 0)),
-    (Call::Run, &[(Sign::Plus, SENT)], (Some(1), 1, 1, 0, 0)),
-    (
-        Call::Plus(EARLY),
-        &[(Sign::Minus, SENT)],
-        (Some(0), 0, 0, 2, 0),
-    ),
-    (
-        Call::Run,
-        &[(Sign::Plus, EARLY_SENT)],
-        (Some(1), 1, 1, 1, 0),
-    ),
-    (
-        Call::Run,
-        &[(Sign::Plus, SENT_AFTER)],
-        (Some(2), 2, 2, 0, 0),
-    ),
-];
+/// A message that differs from the first one in its content alone.
+const OTHER_CONTENT: &str = "\
+    5 0 1 1 0 1 0 0 | | 0 0 0 1 0\n\
+    run | 7 1 0 2 0 2 0 0 | 1 1 1 0 0\n\
+    5 0 1 1 9 1 0 0 | | 1 1 1 1 0\n\
+    -5 0 1 1 0 1 0 0 | -7 1 0 2 0 2 0 0 | 0 0 0 1 0";
 
-const ANTIMESSAGE_FIRST: [Step; 2] = [
-    (Call::Minus(A), &[], (Some(0), 0, 0, 0, 1)),
-    (Call::Plus(A), &[], (Some(0), 0, 0, 0, 0)),
-];
+const COPIES: &str = "\
+    5 0 1 1 0 1 0 0 | | 0 0 0 1 0\n\
+    5 0 1 1 0 1 0 0 | | 0 0 0 2 0\n\
+    -5 0 1 1 0 1 0 0 | | 0 0 0 1 0";
 
-const HANDLED: [Step; 3] = [
-    (Call::Plus(A), &[], (Some(0), 0, 0, 1, 0)),
-    (Call::Run, &[(Sign::Plus, SENT)], (Some(1), 1, 1, 0, 0)),
-    (
-        Call::Minus(A),
-        &[(Sign::Minus, SENT)],
-        (Some(0), 0, 0, 0, 0),
-    ),
-];
-
-const OTHER_CONTENT: [Step; 4] = [
-    (Call::Plus(A), &[], (Some(0), 0, 0, 1, 0)),
-    (Call::Run, &[(Sign::Plus, SENT)], (Some(1), 1, 1, 0, 0)),
-    (Call::Plus(OTHER), &[], (Some(1), 1, 1, 1, 0)),
-    (
-        Call::Minus(A),
-        &[(Sign::Minus, SENT)],
-        (Some(0), 0, 0, 1, 0),
-    ),
-];
-
-const COPIES: [Step; 3] = [
-    (Call::Plus(A), &[], (Some(0), 0, 0, 1, 0)),
-    (Call::Plus(A), &[], (Some(0), 0, 0, 2, 0)),
-    (Call::Minus(A), &[], (Some(0), 0, 0, 1, 0)),
-];
+/// The least message that waits after a script.
+fn next_after(rt: &impl Abort, alloc: Global, script: &str) -> Result<Option<Row>, Fail> {
+    Ok(played(rt, alloc, script)?.next())
+}
 
 #[test]
 fn a_process_rolls_back_and_cancels_what_it_sent(rt: HostRuntime) -> Result<(), Fail> {
-    let rows: [(&str, &[Step], Option<Row>); 5] = [
-        ("straggler", &STRAGGLER, None),
-        ("antimessage first", &ANTIMESSAGE_FIRST, None),
-        ("handled", &HANDLED, None),
-        ("other content", &OTHER_CONTENT, Some(OTHER)),
-        ("copies", &COPIES, Some(A)),
-    ];
-    for (name, steps, next) in rows {
-        let mut alone = Alone::load(rt.alloc())?;
-        play(&rt, &mut alone, name, steps)?;
-        assert!(rt; alone.next() == next, "{name}");
-    }
+    let alloc = rt.alloc();
+    assert_eq!(rt; next_after(&rt, alloc, STRAGGLER)?, None);
+    assert_eq!(rt; next_after(&rt, alloc, ANTIMESSAGE_FIRST)?, None);
+    assert_eq!(rt; next_after(&rt, alloc, HANDLED)?, None);
+    let (other, copy) = ([5, 0, 1, 1, 9, 1, 0, 0], [5, 0, 1, 1, 0, 1, 0, 0]);
+    assert_eq!(rt; next_after(&rt, alloc, OTHER_CONTENT)?, Some(other));
+    assert_eq!(rt; next_after(&rt, alloc, COPIES)?, Some(copy));
     Ok(())
 }
 
-/// What is reported after the straggler.
-const REPORTED: Fossil = (EARLY, EARLY_SENT, 1, 1);
+/// The straggler, what its handling sends, and the state and the send number after it.
+const REPORTED: &str = "4 2 0 1 7 0 0 0 > 6 1 0 2 7 1 0 0 > 1 1";
+
+fn are_reported(fossils: &[Done]) -> Result<bool, Fail> {
+    match fossils.first() {
+        Some(fossil) => Ok(fossils.len() == 1 && is_fossil(fossil, REPORTED)?),
+        None => Ok(false),
+    }
+}
 
 #[test]
 fn a_process_reports_what_is_below_a_floor(rt: HostRuntime) -> Result<(), Fail> {
-    let mut alone = Alone::load(rt.alloc())?;
-    play(&rt, &mut alone, "straggler", &STRAGGLER)?;
-    let fossils = alone.collect(5)?;
-    assert!(rt; fossils.len() == 1 && fossils.iter().all(|done| is_fossil(done, &REPORTED)));
-    assert!(rt; alone.shown() == (Some(2), 2, 1, 0, 0));
+    let mut alone = played(&rt, rt.alloc(), STRAGGLER)?;
+    assert!(rt; are_reported(alone.collect(5)?.as_slice())?);
+    assert!(rt; alone.shown() == [2, 2, 1, 0, 0]);
     assert!(rt; alone.process.lp() == 1 && alone.process.floor() == 5);
-    let below = alone.deliver(signed(Sign::Plus, EARLY)?);
+    let below = alone.deliver(signed("4 2 0 1 7 0 0 0")?);
     assert!(rt; below == Err(ProcessFault::BelowFloor) && !alone.process.is_spent());
-    assert!(rt; alone.shown() == (Some(2), 2, 1, 0, 0));
+    assert!(rt; alone.shown() == [2, 2, 1, 0, 0]);
     Ok(())
 }

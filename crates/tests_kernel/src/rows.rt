@@ -1,28 +1,22 @@
-// Messages as rows of numbers.
+// Messages as rows of numbers, and lines of text that list them: numbers between spaces, messages
+// between commas, and the parts of a line between bars.
 
-use eventkey::{KeyFault, Message, Sign, Signed};
+use eventkey::{Message, Sign, Signed};
 use std::alloc::Global;
 use std::test::Fail;
 
 /// A message: its time, sender, number, receiver and content.
-pub type Row = (u64, u32, u64, u32, u64, u64, u64, u64);
+pub type Row = [u64; 8];
 
-pub fn message(row: Row) -> Result<Message, KeyFault> {
-    let (time, from, number, to, a, b, c, d) = row;
-    Message::new(time, from, number, to, a, b, c, d)
+pub fn message(row: Row) -> Result<Message, Fail> {
+    let [time, from, number, to, a, b, c, d] = row;
+    let (from, to) = (u32::try_from(from)?, u32::try_from(to)?);
+    Ok(Message::new(time, from, number, to, a, b, c, d)?)
 }
 
 pub fn row(x: &Message) -> Row {
-    (
-        x.time(),
-        x.from(),
-        x.number(),
-        x.to(),
-        x.a(),
-        x.b(),
-        x.c(),
-        x.d(),
-    )
+    let (from, to) = (u64::from(x.from()), u64::from(x.to()));
+    [x.time(), from, x.number(), to, x.a(), x.b(), x.c(), x.d()]
 }
 
 pub fn messages(alloc: Global, rows: &[Row]) -> Result<Vec<Message>, Fail> {
@@ -34,28 +28,42 @@ pub fn messages(alloc: Global, rows: &[Row]) -> Result<Vec<Message>, Fail> {
 }
 
 pub fn are(messages: &[Message], rows: &[Row]) -> bool {
+    for (message, expected) in messages.iter().zip(rows) {
+        if row(message) != *expected {
+            return false;
+        }
+    }
     messages.len() == rows.len()
-        && messages
-            .iter()
-            .zip(rows)
-            .all(|(x, expected)| row(x) == *expected)
 }
 
-pub fn signed(sign: Sign, row: Row) -> Result<Signed, KeyFault> {
-    let message = message(row)?;
+/// The part of a line at this place.
+pub fn part(line: &str, place: usize) -> &str {
+    line.split('|').nth(place).unwrap_or("").trim()
+}
+
+/// The numbers of a text, and zeros for those that it lacks.
+pub fn numbers(text: &str) -> Result<Row, Fail> {
+    let mut numbers = [0; 8];
+    for (number, word) in numbers.iter_mut().zip(text.split(' ')) {
+        *number = word.parse()?;
+    }
+    Ok(numbers)
+}
+
+/// A message, or behind `-` an antimessage.
+pub fn signed(text: &str) -> Result<Signed, Fail> {
+    let (sign, text) = match text.strip_prefix('-') {
+        Some(text) => (Sign::Minus, text),
+        None => (Sign::Plus, text),
+    };
+    let message = message(numbers(text)?)?;
     Ok(Signed { sign, message })
 }
 
-pub fn signed_list(alloc: Global, rows: &[(Sign, Row)]) -> Result<Vec<Signed>, Fail> {
+pub fn signed_list(alloc: Global, text: &str) -> Result<Vec<Signed>, Fail> {
     let mut list = Vec::new(alloc);
-    for (sign, row) in rows {
-        list.push(signed(*sign, *row)?)?;
+    for one in text.split_terminator(", ") {
+        list.push(signed(one)?)?;
     }
     Ok(list)
-}
-
-pub fn are_signed(list: &[Signed], rows: &[(Sign, Row)]) -> bool {
-    list.len() == rows.len()
-        && list.iter().zip(rows).all(|(x, (sign, expected))| x.sign == *sign
-            && row(&x.message) == *expected)
 }

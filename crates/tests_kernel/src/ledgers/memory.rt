@@ -44,18 +44,20 @@ fn taken(alloc: Global, ledger: &mut Ledger, node: u32, out: &[Signed]) -> Resul
     }
 }
 
+const SENT: &str = "4 0 0 1 0 0 0 0, 5 0 1 1 0 0 0 0";
+
 #[test]
 fn a_ledger_call_succeeds_after_an_allocation_failure(rt: HostRuntime) -> Result<(), Fail> {
     let mut ledger = made(rt.alloc(), [Some(6), Some(8)])?;
-    let sent = [plus(4, 0, 1)?, plus(5, 1, 1)?];
+    let sent = signed_list(rt.alloc(), SENT)?;
     let _parcel = posted(&mut ledger, 0, &[])?;
-    taken(rt.alloc(), &mut ledger, 0, &sent)?;
+    taken(rt.alloc(), &mut ledger, 0, sent.as_slice())?;
     let parcel = posted(&mut ledger, 1, &[1])?;
     assert_eq!(rt;
         (parcel.deliver.as_slice().len(), ledger.transit().len()),
         (1, 1)
     );
-    let more = [plus(4, 0, 1)?; 20];
+    let more = [signed("4 0 0 1 0 0 0 0")?; 20];
     taken(rt.alloc(), &mut ledger, 1, &more)?;
     assert_eq!(rt; (ledger.transit().len(), ledger.floor()), (21, 4));
     Ok(())

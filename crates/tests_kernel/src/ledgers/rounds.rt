@@ -1,4 +1,5 @@
 use super::*;
+use eventkey::{Message, Sign};
 
 // Does a post on a plain list: takes the picked messages out by their places, and keeps the others.
 fn picked_plainly(
@@ -34,6 +35,15 @@ fn chosen_for(alloc: Global, transit: &[Signed], node: u32) -> Result<Vec<u32>, 
     Ok(picks)
 }
 
+// The least time in transit, or the end.
+fn floor_of(transit: &[Signed]) -> u64 {
+    let mut floor = 5000;
+    for one in transit {
+        floor = one.message.time().min(floor);
+    }
+    floor
+}
+
 // Whether one post and its reply, which sends half of the parcel again, match a plain list.
 fn posts_as_a_list(
     alloc: Global,
@@ -50,22 +60,35 @@ fn posts_as_a_list(
     let out = &out[..out.len() / 2];
     take(alloc, ledger, node, out, None)?;
     transit.extend_from_slice(out)?;
-    let least = transit.iter().map(|one| one.message.time()).min();
-    Ok(posted && ledger.transit() == transit.as_slice() && ledger.floor() == least.unwrap_or(5000))
+    Ok(
+        posted
+            && ledger.transit() == transit.as_slice()
+            && ledger.floor() == floor_of(transit.as_slice()),
+    )
+}
+
+// 600 messages for seven processes, of 97 times.
+fn many(alloc: Global) -> Result<Vec<Signed>, Fail> {
+    let mut transit = Vec::new(alloc);
+    for i in 0..600u32 {
+        let (time, number) = (u64::from(i % 97), u64::from(i));
+        let message = Message::new(time, 0, number, i % 7, 0, 0, 0, 0)?;
+        let sign = Sign::Plus;
+        transit.push(Signed { sign, message })?;
+    }
+    Ok(transit)
 }
 
 #[test]
 fn posts_from_a_long_transit_match_a_plain_list(rt: HostRuntime) -> Result<(), Fail> {
     let alloc = rt.alloc();
     let mut ledger = Ledger::new(alloc, 3, 5000, 0, &[None, None, None])?;
-    let mut transit = Vec::new(alloc);
-    for i in 0..600u32 {
-        transit.push(plus(u64::from(i % 97), u64::from(i), i % 7)?)?;
-    }
+    let mut transit = many(alloc)?;
     sends(alloc, &mut ledger, 0, transit.as_slice(), None)?;
     for turn in 0..30u32 {
+        let node = turn % 3;
         assert!(rt;
-            posts_as_a_list(alloc, &mut ledger, &mut transit, turn % 3)?,
+            posts_as_a_list(alloc, &mut ledger, &mut transit, node)?,
             "at {turn}"
         );
     }

@@ -2,15 +2,16 @@
 // what it needs. It frees no records, and counts those that it has reported.
 
 use super::*;
+use model::{SavedState, Sends, Sent};
 use models::Relay;
-use std::alloc::AllocError;
 
+/// A handling: the state and the number of the next send, before it and after it.
 #[derive(Drop)]
 pub struct Handled {
     message: Message,
     sent: Vec<Message>,
-    before: u64,
-    number_before: u64,
+    before: (u64, u64),
+    after: (u64, u64),
 }
 
 #[derive(Drop)]
@@ -23,22 +24,6 @@ pub struct PlainProcess {
     reported: usize,
     waiting: Vec<Message>,
     antis: Vec<Message>,
-}
-
-#[derive(Drop)]
-pub struct PlainFossil {
-    pub message: Message,
-    pub sent: Vec<Message>,
-    pub after: u64,
-    pub number_after: u64,
-}
-
-#[derive(Drop)]
-pub struct PlainReply {
-    pub out: Vec<Signed>,
-    pub low: Option<u64>,
-    pub fossils: Vec<PlainFossil>,
-    pub ran: u32,
 }
 
 #[derive(Drop)]
@@ -104,14 +89,22 @@ impl PlainProcess {
 
     /// The number of handled messages after this one.
     fn after(&self, message: Message) -> usize {
-        self.done
-            .iter()
-            .filter(|handled| handled.message > message)
-            .count()
+        let mut after = 0usize;
+        for handled in self.done.iter() {
+            if handled.message > message {
+                after = after.wrapping_add(1);
+            }
+        }
+        after
     }
 
     fn has_done(&self, message: Message) -> bool {
-        self.done.iter().any(|handled| handled.message == message)
+        for handled in self.done.iter() {
+            if handled.message == message {
+                return true;
+            }
+        }
+        false
     }
 
     /// Rolls back the last `count` handlings.
@@ -124,86 +117,104 @@ impl PlainProcess {
         }
         for _ in 0..count {
             if let Some(handled) = self.done.pop() {
-                self.state = handled.before;
-                self.number = handled.number_before;
+                let (state, number) = handled.before;
+                self.state = state;
+                self.number = number;
                 self.waiting.push(handled.message)?;
             }
         }
         Ok(())
     }
 
-    fn arrive(&mut self, signed: Signed, out: &mut Vec<Signed>) -> Result<(), AllocError> {
-        let message = signed.message;
-        let after = self.after(message);
-        match signed.sign {
-            Sign::Plus => {
-                if !remove_one(self.alloc, &mut self.antis, message)? {
-                    self.undo(after, out)?;
-                    self.waiting.push(message)?;
-                }
-            }
-            Sign::Minus => {
-                if remove_one(self.alloc, &mut self.waiting, message)? {
-                    return Ok(());
-                }
-                if self.has_done(message) {
-                    self.undo(after.wrapping_add(1), out)?;
-                    let _ = remove_one(self.alloc, &mut self.waiting, message)?;
-                } else {
-                    self.antis.push(message)?;
-                }
-            }
+    fn add(&mut self, message: Message, out: &mut Vec<Signed>) -> Result<(), AllocError> {
+        if remove_one(self.alloc, &mut self.antis, message)? {
+            return Ok(());
         }
-        Ok(())
+        self.undo(self.after(message), out)?;
+        Ok(self.waiting.push(message)?)
     }
 
-    fn run(&mut self, message: Message, out: &mut Vec<Signed>) -> Result<(), Fail> {
-        let _ = remove_one(self.alloc, &mut self.waiting, message)?;
+    fn cancel(&mut self, message: Message, out: &mut Vec<Signed>) -> Result<(), AllocError> {
+        if self.has_done(message) && !self.waiting.contains(&message) {
+            self.undo(self.after(message).wrapping_add(1), out)?;
+        }
+        if remove_one(self.alloc, &mut self.waiting, message)? {
+            return Ok(());
+        }
+        Ok(self.antis.push(message)?)
+    }
+
+    fn arrive(&mut self, signed: Signed, out: &mut Vec<Signed>) -> Result<(), AllocError> {
+        match signed.sign {
+            Sign::Plus => self.add(signed.message, out),
+            Sign::Minus => self.cancel(signed.message, out),
+        }
+    }
+
+    /// The state after this message, and what its handling sends.
+    fn handled(&self, message: &Message) -> (u64, Sends) {
         let mut words = Words::new(self.alloc);
         words.push_reserved(self.state);
-        let (after, sends) = Relay.handle(self.alloc, self.lp % 6, &words, &message);
+        let (after, sends) = Relay.handle(self.alloc, self.lp % 6, &words, message);
+        (after.as_slice().first().copied().unwrap_or(0), sends)
+    }
+
+    /// Sends at this time. Returns the sent messages.
+    fn send(
+        &mut self,
+        now: u64,
+        sends: &Sends,
+        out: &mut Vec<Signed>,
+    ) -> Result<Vec<Message>, Fail> {
         let mut sent = Vec::new(self.alloc);
-        let (before, number_before) = (self.state, self.number);
         for send in sends.as_slice() {
-            let time = message.time().wrapping_add(u64::from(send.delay));
+            let time = now.wrapping_add(u64::from(send.delay));
             let (a, b, c, d) = (send.a, send.b, send.c, send.d);
             let one = Message::new(time, self.lp, self.number, send.to, a, b, c, d)?;
             self.number = self.number.wrapping_add(1);
             sent.push(one)?;
             out.push(going_out(one))?;
         }
-        self.state = after.as_slice().first().copied().unwrap_or(0);
+        Ok(sent)
+    }
+
+    fn run(&mut self, message: Message, out: &mut Vec<Signed>) -> Result<(), Fail> {
+        let _ = remove_one(self.alloc, &mut self.waiting, message)?;
+        let before = (self.state, self.number);
+        let (state, sends) = self.handled(&message);
+        let sent = self.send(message.time(), &sends, out)?;
+        self.state = state;
+        let after = (self.state, self.number);
         self.done.push(Handled {
             message,
             sent,
             before,
-            number_before,
+            after,
         })?;
         Ok(())
     }
 
     /// Reports the handlings before the floor, in ticks, that were not yet reported.
-    fn report(&mut self, floor: u64, fossils: &mut Vec<PlainFossil>) -> Result<(), AllocError> {
+    fn report(&mut self, floor: u64, fossils: &mut Vec<Done>) -> Result<(), AllocError> {
         let mut reported = self.reported;
-        for (place, handled) in self.done.iter().enumerate().skip(self.reported) {
+        for handled in self.done.iter().skip(self.reported) {
             if handled.message.time() < floor {
-                let next = self.done.get(place.wrapping_add(1));
-                let (after, number_after) = match next {
-                    Some(next) => (next.before, next.number_before),
-                    None => (self.state, self.number),
-                };
-                fossils.push(PlainFossil {
-                    message: handled.message,
-                    sent: handled.sent.as_slice().to_vec(self.alloc)?,
-                    after,
-                    number_after,
-                })?;
-                reported = place.wrapping_add(1);
+                fossils.push(done(self.alloc, handled)?)?;
+                reported = reported.wrapping_add(1);
             }
         }
         self.reported = reported;
         Ok(())
     }
+}
+
+fn done(alloc: Global, handled: &Handled) -> Result<Done, AllocError> {
+    Ok(Done {
+        message: handled.message,
+        sent: Sent::from_slice(alloc, handled.sent.as_slice())?,
+        after: SavedState::from_slice(alloc, &[handled.after.0])?,
+        number_after: handled.after.1,
+    })
 }
 
 impl PlainNode {
@@ -225,7 +236,10 @@ impl PlainNode {
         for process in self.processes.iter() {
             least = least_of(process.waiting.as_slice(), least);
         }
-        least.filter(|message| message.time() < self.end)
+        match least {
+            Some(message) if message.time() < self.end => least,
+            _ => None,
+        }
     }
 
     pub fn low(&self) -> Option<u64> {
@@ -262,12 +276,7 @@ impl PlainNode {
         Ok(1)
     }
 
-    pub fn handle(
-        &mut self,
-        deliver: &[Signed],
-        budget: u32,
-        floor: u64,
-    ) -> Result<PlainReply, Fail> {
+    pub fn handle(&mut self, deliver: &[Signed], budget: u32, floor: u64) -> Result<Reply, Fail> {
         let mut out = Vec::new(self.alloc);
         self.deliver(deliver, &mut out)?;
         let mut ran = 0u32;
@@ -278,10 +287,10 @@ impl PlainNode {
         for process in self.processes.iter_mut() {
             process.report(floor, &mut fossils)?;
         }
-        Ok(PlainReply {
-            out,
+        Ok(Reply {
+            out: Listed::from_vec(out),
             low: self.low(),
-            fossils,
+            fossils: Listed::from_vec(fossils),
             ran,
         })
     }

@@ -1,10 +1,8 @@
 // Small random schedules: nodes answer as plain nodes do.
 
-ghost use Rattle.std.specs.Prelude.{◌<◌, ◌≤◌, IfOk};
-ghost use Rattle.std.specs.List.{AllByRecursion as Every};
-ghost use Rattle.node.specs.Handling.{IsInRange};
+ghost use Rattle.std.specs.Prelude.{◌<◌, ◌≤◌};
 
-use super::plain::{PlainFossil, PlainNode, PlainProcess, PlainReply};
+use super::plain::{PlainNode, PlainProcess};
 use super::*;
 use models::Relay;
 
@@ -49,63 +47,62 @@ struct Schedule {
     undone: u64,
 }
 
-fn is_as_plain(fossil: &Done, plain: &PlainFossil) -> bool {
+fn is_as_plain(fossil: &Done, plain: &Done) -> bool {
     fossil.message == plain.message
         && fossil.sent.as_slice() == plain.sent.as_slice()
-        && fossil.after.as_slice() == [plain.after].as_slice()
+        && fossil.after.as_slice() == plain.after.as_slice()
         && fossil.number_after == plain.number_after
 }
 
-fn agree(reply: &Reply, plain: &PlainReply) -> bool {
-    let mut agree = reply.out.as_slice() == plain.out.as_slice()
+fn agree(reply: &Reply, plain: &Reply) -> bool {
+    let (fossils, reported) = (reply.fossils.as_slice(), plain.fossils.as_slice());
+    for (fossil, plain) in fossils.iter().zip(reported) {
+        if !is_as_plain(fossil, plain) {
+            return false;
+        }
+    }
+    reply.out.as_slice() == plain.out.as_slice()
         && reply.low == plain.low
         && reply.ran == plain.ran
-        && reply.fossils.as_slice().len() == plain.fossils.len();
-    for (fossil, reported) in reply.fossils.as_slice().iter().zip(plain.fossils.iter()) {
-        agree = agree && is_as_plain(fossil, reported);
+        && fossils.len() == reported.len()
+}
+
+/// The messages that wait at the start, two for each process.
+fn waiting(alloc: Global) -> Result<Vec<Message>, Fail> {
+    let mut waiting = Vec::new(alloc);
+    for lp in 0..RELAYS {
+        let (time, content) = (u64::from(lp % 3), u64::from(lp));
+        waiting.push(Message::new(time + 4, lp, 1, lp, 0, 5, 9, u64::MAX)?)?;
+        waiting.push(Message::new(time + 1, lp, 0, lp, 0, content, content, 3)?)?;
     }
-    agree
+    Ok(waiting)
 }
 
-/// The messages that wait for a process at the start.
-fn pending(lp: u32) -> [Row; 2] {
-    let time = u64::from(lp % 3);
-    [
-        (time + 4, lp, 1, lp, 0, 5, 9, u64::MAX),
-        (time + 1, lp, 0, lp, 0, u64::from(lp), u64::from(lp), 3),
-    ]
-}
-
-fn parts_and_plain(alloc: Global, node: u32, nodes: u32) -> Result<(Listed<Part>, PlainNode), Fail>
-    ensures { IfOk result (λ both. Every IsInRange both.0) }
-{
-    let mut parts = Vec::new(alloc);
+fn plain(
+    alloc: Global,
+    node: u32,
+    nodes: u32,
+    waiting: &[Message],
+) -> Result<PlainNode, AllocError> {
     let mut plain = PlainNode::new(alloc, END);
     for lp in 0..RELAYS {
         if lp.checked_rem(nodes) == Some(node) {
-            let pending = pending(lp);
-            parts.push(part(lp, 2, alloc, messages(alloc, &pending)?))?;
-            plain.seat(PlainProcess::new(alloc, lp, 2, messages(alloc, &pending)?))?;
+            let waiting = messages_to(alloc, lp, waiting)?;
+            plain.seat(PlainProcess::new(alloc, lp, 2, waiting))?;
         }
     }
-    Ok((Listed::from_vec(parts), plain))
+    Ok(plain)
 }
 
 fn paired(alloc: Global, node: u32, nodes: u32) -> Result<Pair, Fail>
     requires node { node < nodes }
     requires nodes { nodes ≤ 64 }
 {
-    let (parts, plain) = parts_and_plain(alloc, node, nodes)?;
-    let load = Load {
-        node,
-        nodes,
-        end: END,
-        floor: 0,
-        parts,
-    };
+    let waiting = waiting(alloc)?;
+    let plain = plain(alloc, node, nodes, waiting.as_slice())?;
     let low = plain.low();
     Ok(Pair {
-        node: Tried::load(alloc, Relay, load)?,
+        node: Tried::load(alloc, Relay, node, nodes, END, 2, waiting.as_slice())?,
         plain,
         low,
         floor: 0,
@@ -121,12 +118,7 @@ impl Pair {
         budget: u32,
         floor: u64,
     ) -> Result<Option<Reply>, Fail> {
-        let parcel = Parcel {
-            deliver: Listed::from_vec(deliver.to_vec(alloc)?),
-            budget,
-            floor,
-        };
-        let reply = self.node.handle(parcel)?;
+        let reply = self.node.handle(deliver.to_vec(alloc)?, budget, floor)?;
         let plain = self.plain.handle(deliver, budget, floor)?;
         self.low = reply.low;
         self.floor = floor;

@@ -34,9 +34,13 @@ impl Counted {
         }
     }
 
-    /// The number of messages handled so far.
+    /// The number of messages handled so far, or since they were forgotten.
     pub fn handled(&self) -> u64 {
         self.handled.get()
+    }
+
+    pub fn forget(&self) {
+        self.handled.set(0);
     }
 }
 

@@ -1,6 +1,6 @@
 use Rattle.std.proofs.Common.{◌∙◌}
-use Rattle.tests_history.proofs.Leading.{lead_few, leads_on}
-use Rattle.tests_history.proofs.histories.Counting.handle.Goals as goal
+use Rattle.tests_kernel.proofs.Leading.{lead_few, leads_on}
+use Rattle.tests_kernel.proofs.histories.Counting.handle.Goals as goal
 use Rattle.models.specs.Ring.{ring_meaning}
 
 pub handle-words-requires-clause-few : goal.handle-words-requires-clause-few

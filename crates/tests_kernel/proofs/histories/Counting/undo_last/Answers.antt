@@ -1,6 +1,6 @@
 use Rattle.std.proofs.Common.{◌∙◌, arith, lit<}
-use Rattle.tests_history.proofs.Leading.{leads_back, none_undone, undone_first}
-use Rattle.tests_history.proofs.histories.Counting.undo_last.Goals as goal
+use Rattle.tests_kernel.proofs.Leading.{leads_back, none_undone, undone_first}
+use Rattle.tests_kernel.proofs.histories.Counting.undo_last.Goals as goal
 use Rattle.models.specs.Ring.{ring_meaning}
 use Rattle.queues.proofs.Forward.{handlings_are_kept}
 
