@@ -1,6 +1,6 @@
 // Recovery of a token ring of three processes that hold the token for two ticks, up to time 10.
 
-use crate::logs::add;
+use crate::logs::{add, open};
 use commitlog::{Log, LogFault, format};
 use disk::{DiskFault, MemDisk, Plan, Torn};
 use eventkey::{Listed, Message};
@@ -24,17 +24,11 @@ fn ring() -> TokenRing {
 
 const END: u64 = 10;
 
-const FIRST: [u64; 8] = [1, 0, 0, 0, 0, 0, 0, 0];
-
-const SECOND: [u64; 8] = [3, 0, 1, 1, 0, 1, 0, 0];
-
-const THIRD: [u64; 8] = [5, 1, 0, 2, 0, 2, 0, 0];
-
 /// The events of the sequential simulation, and the pending message at the end.
 const EVENTS: [[u64; 8]; 6] = [
-    FIRST,
-    SECOND,
-    THIRD,
+    [1, 0, 0, 0, 0, 0, 0, 0],
+    [3, 0, 1, 1, 0, 1, 0, 0],
+    [5, 1, 0, 2, 0, 2, 0, 0],
     [7, 2, 0, 0, 0, 3, 0, 0],
     [9, 0, 2, 1, 0, 4, 0, 0],
     [11, 1, 1, 2, 0, 5, 0, 0],
@@ -65,35 +59,41 @@ fn body(alloc: Global, g: u64, numbers: &[[u64; 8]]) -> Result<Vec<u8>, Fail> {
     Ok(encode_events(alloc, g, messages.as_slice())?)
 }
 
-fn open(alloc: Global, disk: MemDisk) -> Result<Log<MemDisk>, LogFault> {
-    match Log::open(alloc, disk) {
-        Ok(log) => Ok(log),
-        Err((fault, _disk)) => Err(fault),
-    }
+/// A log without records under this header.
+fn log_under(alloc: Global, sector: &[u8; 512]) -> Result<Log<MemDisk>, LogFault> {
+    let mut disk = MemDisk::blank(alloc, 64)?;
+    format(&mut disk, sector)?;
+    open(alloc, disk)
 }
 
-/// A formatted log with these records of events, followed by one of this kind and body.
-fn log_with(
-    alloc: Global,
-    records: &[(u64, &[[u64; 8]])],
-    last: Option<(u8, &[u8])>,
-) -> Result<Log<MemDisk>, Fail> {
-    let mut disk = MemDisk::blank(alloc, 64)?;
-    format(&mut disk, &header(alloc, &ring(), END))?;
-    let mut log = open(alloc, disk)?;
-    for (g, numbers) in records {
-        log.append(1, body(alloc, *g, numbers)?.as_slice())?;
-    }
-    if let Some((kind, body)) = last {
-        add(&mut log, kind, body)?;
+/// Appends the record of a commit.
+fn commit(alloc: Global, log: &mut Log<MemDisk>, g: u64, numbers: &[[u64; 8]]) -> Result<(), Fail> {
+    let body = body(alloc, g, numbers)?;
+    Ok(log.append(1, body.as_slice())?)
+}
+
+/// A commit: its time, and the places in `EVENTS` of its first event and of the one behind its last.
+type Commit = (u64, usize, usize);
+
+/// All events before the end.
+const ALL: [Commit; 3] = [(1, 0, 0), (7, 0, 3), (END, 3, 5)];
+
+/// A formatted log with the records of these commits.
+fn log_of(alloc: Global, commits: &[Commit]) -> Result<Log<MemDisk>, Fail> {
+    let mut log = log_under(alloc, &header(alloc, &ring(), END))?;
+    let events: &[[u64; 8]] = &EVENTS;
+    for (g, first, end) in commits {
+        let Some(numbers) = events.get(*first..*end) else {
+            return Err(Fail::new("no such events"));
+        };
+        commit(alloc, &mut log, *g, numbers)?;
     }
     Ok(open(alloc, log.into_disk())?)
 }
 
 /// A log of three commits with all events before the end.
 fn log_of_all(alloc: Global) -> Result<Log<MemDisk>, Fail> {
-    let records: [(u64, &[[u64; 8]]); 3] = [(1, &[]), (7, &EVENTS[..3]), (END, &EVENTS[3..5])];
-    log_with(alloc, &records, None)
+    log_of(alloc, &ALL)
 }
 
 /// The front of the ring at the end.
@@ -118,26 +118,19 @@ fn is_of_memory(fault: &RecoveryFault) -> bool {
     )
 }
 
-/// The answer of a call, which a table has. An allocation failure is in no table: it ends the test.
-fn answer<T: Drop>(
+/// The fault of a call, if there is one. An allocation failure is in no table: it ends the test.
+fn fault_of<T: Drop>(
     made: Result<T, RecoveryFault>,
-) -> Result<Result<T, RecoveryFault>, RecoveryFault> {
+) -> Result<Option<RecoveryFault>, RecoveryFault> {
     match made {
         Err(fault) if is_of_memory(&fault) => Err(fault),
-        other => Ok(other),
+        Err(fault) => Ok(Some(fault)),
+        Ok(_) => Ok(None),
     }
 }
 
-fn recovered(alloc: Global, log: Log<MemDisk>) -> Result<Front, RecoveryFault> {
+/// The fault of the recovery of a log that is opened again, if there is one.
+fn fault_in(alloc: Global, log: Log<MemDisk>) -> Result<Option<RecoveryFault>, RecoveryFault> {
     let mut log = open(alloc, log.into_disk())?;
-    recover(alloc, &ring(), &mut log, END)
-}
-
-/// The fault of the recovery, if there is one.
-fn fault_of(
-    alloc: Global,
-    records: &[(u64, &[[u64; 8]])],
-    last: Option<(u8, &[u8])>,
-) -> Result<Option<RecoveryFault>, Fail> {
-    Ok(answer(recovered(alloc, log_with(alloc, records, last)?))?.err())
+    fault_of(recover(alloc, &ring(), &mut log, END))
 }

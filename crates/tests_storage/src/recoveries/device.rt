@@ -21,24 +21,8 @@ fn failing_log(alloc: Global, image: &[u8], fail: u64) -> Result<Log<MemDisk>, R
     Ok(open(alloc, disk)?)
 }
 
-/// The faults of a recovery and of a second one; `None` if the first one succeeds.
-fn refused_twice(
-    alloc: Global,
-    image: &[u8],
-    fail: u64,
-) -> Result<Option<[RecoveryFault; 2]>, RecoveryFault> {
-    let mut log = failing_log(alloc, image, fail)?;
-    let Err(first) = answer(recover(alloc, &ring(), &mut log, END))? else {
-        return Ok(None);
-    };
-    match answer(recover(alloc, &ring(), &mut log, END))? {
-        Err(second) => Ok(Some([first, second])),
-        Ok(_front) => Ok(Some([first, first])),
-    }
-}
-
 /// The effect of one failed operation.
-#[derive(Clone, Copy, Debug, PartialEq, Eq)]
+#[derive(Clone, Copy, PartialEq, Eq)]
 enum Met {
     /// The log is not opened.
     Unopened,
@@ -50,29 +34,45 @@ enum Met {
     Other,
 }
 
+const DEVICE: Option<RecoveryFault> = Some(RecoveryFault::Log(LogFault::Disk(DiskFault::Device)));
+
+/// What a recovery meets, and a second one.
+fn met_in(alloc: Global, log: &mut Log<MemDisk>) -> Result<Met, RecoveryFault> {
+    let first = fault_of(recover(alloc, &ring(), log, END))?;
+    if first.is_none() {
+        return Ok(Met::Nothing);
+    }
+    let second = fault_of(recover(alloc, &ring(), log, END))?;
+    let is_spent = first == DEVICE && second == Some(RecoveryFault::Log(LogFault::Spent));
+    Ok(if is_spent { Met::Spent } else { Met::Other })
+}
+
 fn met_at(alloc: Global, image: &[u8], fail: u64) -> Result<Met, RecoveryFault> {
-    let device = RecoveryFault::Log(LogFault::Disk(DiskFault::Device));
-    let spent = RecoveryFault::Log(LogFault::Spent);
-    Ok(match answer(refused_twice(alloc, image, fail))? {
-        Err(fault) if fault == device => Met::Unopened,
-        Ok(Some(faults)) if faults == [device, spent] => Met::Spent,
-        Ok(None) => Met::Nothing,
-        _ => Met::Other,
-    })
+    match failing_log(alloc, image, fail) {
+        Ok(mut log) => met_in(alloc, &mut log),
+        Err(fault) if Some(fault) == DEVICE => Ok(Met::Unopened),
+        Err(fault) => Err(fault),
+    }
+}
+
+/// Whether each failure is met as it must be. Each of the three records takes at least one read,
+/// and nothing after the last one is read.
+fn are_met(alloc: Global, image: &[u8]) -> Result<bool, RecoveryFault> {
+    let mut spending: u32 = 0;
+    let mut recovers = false;
+    for fail in 0..40 {
+        match met_at(alloc, image, fail)? {
+            Met::Unopened => (),
+            Met::Spent => spending = spending.saturating_add(1),
+            Met::Nothing => recovers = true,
+            Met::Other => return Ok(false),
+        }
+    }
+    Ok(spending >= 3 && recovers)
 }
 
 #[test]
 fn a_device_failure_spends_the_log(rt: HostRuntime) -> Result<(), Fail> {
-    let image = image_of_all(rt.alloc())?;
-    let mut spending: u32 = 0;
-    let mut recovers = false;
-    for fail in 0..40 {
-        let met = met_at(rt.alloc(), &image, fail)?;
-        assert!(rt; met != Met::Other, "operation {fail}");
-        spending = spending.saturating_add(u32::from(met == Met::Spent));
-        recovers = recovers || met == Met::Nothing;
-    }
-    // Each of the three records takes at least one read, and nothing after the last one is read.
-    assert!(rt; spending >= 3 && recovers);
+    assert!(rt; are_met(rt.alloc(), &image_of_all(rt.alloc())?)?);
     Ok(())
 }

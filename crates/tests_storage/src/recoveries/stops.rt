@@ -28,32 +28,36 @@ fn replayed(alloc: Global) -> Result<Front, Fail> {
 
 #[test]
 fn a_replay_reaches_the_last_record(rt: HostRuntime) -> Result<(), Fail> {
-    let front = replayed(rt.alloc())?;
-    assert!(rt; front.is_same(&front_at_the_end(rt.alloc())?));
+    assert!(rt; replayed(rt.alloc())?.is_same(&front_at_the_end(rt.alloc())?));
     Ok(())
+}
+
+/// Whether the replay stops there with this fault.
+fn stops(alloc: Global, kind: u8, fault: RecoveryFault) -> Result<bool, Fail> {
+    Ok(stop_at(alloc, kind)? == Some(Stop { number: 3, fault }))
 }
 
 #[test]
 fn a_replay_stops_at_the_record_at_fault(rt: HostRuntime) -> Result<(), Fail> {
-    let alloc = rt.alloc();
-    for (kind, fault) in [
-        (1, RecoveryFault::BadRecord),
-        (2, RecoveryFault::BadCheckpoint),
-    ] {
-        assert_eq!(rt; stop_at(alloc, kind)?, Some(Stop { number: 3, fault }));
-    }
+    assert!(rt; stops(rt.alloc(), 1, RecoveryFault::BadRecord)?);
+    assert!(rt; stops(rt.alloc(), 2, RecoveryFault::BadCheckpoint)?);
     Ok(())
+}
+
+/// Whether the place behind the last checkpoint is this one once another checkpoint is appended.
+fn is_behind(log: &mut Log<MemDisk>, place: usize) -> Result<bool, LogFault> {
+    log.append(2, &[])?;
+    Ok(!log.is_spent() && behind_checkpoints(log) == place)
+}
+
+fn is_found(alloc: Global) -> Result<bool, Fail> {
+    let mut log = log_of_all(alloc)?;
+    let is_none = !log.is_spent() && behind_checkpoints(&log) == 0;
+    Ok(is_none && is_behind(&mut log, 4)? && is_behind(&mut log, 5)?)
 }
 
 #[test]
 fn the_last_checkpoint_is_found(rt: HostRuntime) -> Result<(), Fail> {
-    let alloc = rt.alloc();
-    let mut log = log_of_all(alloc)?;
-    assert!(rt; !log.is_spent());
-    assert_eq!(rt; behind_checkpoints(&log), 0);
-    for place in [4, 5] {
-        log.append(2, &[])?;
-        assert_eq!(rt; behind_checkpoints(&log), place);
-    }
+    assert!(rt; is_found(rt.alloc())?);
     Ok(())
 }

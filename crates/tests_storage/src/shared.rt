@@ -51,31 +51,34 @@ pub(crate) fn byte_of(image: &[u8], n: usize) -> Option<u8> {
     }
 }
 
-/// The bytes that fill the first six sectors of an image.
-pub(crate) fn bytes_of(image: &[u8]) -> [Option<u8>; 6] {
-    let mut bytes = [None; 6];
-    for n in 0..6 {
-        bytes[n] = byte_of(image, n);
-    }
-    bytes
-}
-
-/// A path for a file of a test. Removes what an earlier run left there.
-pub(crate) fn free_path(rt: &HostRuntime, name: &str) -> io::Result<PathBuf> {
-    let path = path_of(rt, name)?;
-    if fs::exists(rt, path.as_path())? {
-        fs::remove_file(rt, path.as_path())?;
-    }
-    Ok(path)
-}
-
 fn path_of(rt: &HostRuntime, name: &str) -> io::Result<PathBuf> {
     let name = format!(in rt.alloc(); "disk-of-tests-{}-{name}", process::id(rt.process()))?;
     Ok(env::temp_dir(rt)?.join(rt.alloc(), name.as_str())?)
 }
 
-pub(crate) fn remove(rt: &HostRuntime, path: &PathBuf) -> io::Result<()> {
-    fs::remove_file(rt, path.as_path())
+/// Removes a file, if it is there. Returns whether it was.
+pub(crate) fn removed(rt: &HostRuntime, path: &PathBuf) -> io::Result<bool> {
+    let was = fs::exists(rt, path.as_path())?;
+    if was {
+        fs::remove_file(rt, path.as_path())?;
+    }
+    Ok(was)
+}
+
+/// Whether this holds of a path with no file. Removes the file that is there then.
+pub(crate) fn on_file<F: Fn(&HostRuntime, &PathBuf) -> Result<bool, Fail>>(
+    rt: &HostRuntime,
+    name: &str,
+    holds: F,
+) -> Result<bool, Fail>
+    requires { F.IsAlwaysCallable holds }
+{
+    let path = path_of(rt, name)?;
+    // an earlier run may have left one
+    removed(rt, &path)?;
+    let is_so = holds(rt, &path)?;
+    removed(rt, &path)?;
+    Ok(is_so)
 }
 
 /// The path under which a new disk is made before it is renamed.
@@ -90,11 +93,6 @@ pub(crate) fn make_file(rt: &HostRuntime, path: &PathBuf, bytes: u64) -> io::Res
     File::create(rt, path.as_path())?.set_len(bytes)
 }
 
-/// The size of a file in bytes.
-pub(crate) fn size_of(rt: &HostRuntime, path: &PathBuf) -> io::Result<u64> {
-    Ok(fs::metadata(rt, path.as_path())?.len())
-}
-
 pub(crate) fn opened(
     rt: &HostRuntime,
     path: &PathBuf,
@@ -103,23 +101,33 @@ pub(crate) fn opened(
     FileDisk::open(rt, rt.alloc(), path.as_str(), sectors)
 }
 
-pub(crate) fn refusal(rt: &HostRuntime, path: &PathBuf, sectors: Option<u32>) -> Option<FileFault> {
-    opened(rt, path, sectors).err()
-}
-
 pub(crate) fn open_to_read(rt: &HostRuntime, path: &PathBuf) -> Result<FileDisk, FileFault> {
     FileDisk::open_to_read(rt, rt.alloc(), path.as_str())
 }
 
-/// Opens a disk. Returns its number of sectors, and whether these are filled so.
-pub(crate) fn found(
+/// Whether the file is refused as a disk of this number of sectors.
+pub(crate) fn is_refused(
     rt: &HostRuntime,
     path: &PathBuf,
     sectors: Option<u32>,
+) -> Result<bool, FileFault> {
+    match opened(rt, path, sectors) {
+        Ok(_disk) => Ok(false),
+        Err(FileFault::File) => Ok(true),
+        Err(fault) => Err(fault),
+    }
+}
+
+/// Whether the disk that opens so has this number of sectors, and these are filled so.
+pub(crate) fn has(
+    rt: &HostRuntime,
+    path: &PathBuf,
+    sectors: Option<u32>,
+    count: u32,
     filled: &[(u32, u8)],
-) -> Result<(u32, bool), Fail> {
+) -> Result<bool, Fail> {
     let mut disk = opened(rt, path, sectors)?;
-    Ok((disk.sectors(), are_filled(&mut disk, filled)?))
+    Ok(disk.sectors() == count && are_filled(&mut disk, filled)?)
 }
 
 /// Whether a reader of the disk sees these sectors filled so.
