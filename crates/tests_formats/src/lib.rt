@@ -6,5 +6,3 @@
 mod printed;
 #[cfg(test)]
 mod simulated;
-#[cfg(test)]
-mod streams;

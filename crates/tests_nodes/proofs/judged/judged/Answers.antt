@@ -1,7 +1,7 @@
 use Rattle.std.proofs.Common.{refl}
 use Rattle.judging.proofs.Alike.{judged_alike}
 use Rattle.runs.proofs.Ports.{all_fresh}
-use Rattle.tests_loopback.proofs.judged.judged.Goals as goal
+use Rattle.tests_nodes.proofs.judged.judged.Goals as goal
 
 pub open-requires-clause-fresh : goal.open-requires-clause-fresh
 open-requires-clause-fresh c =

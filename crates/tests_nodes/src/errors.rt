@@ -2,10 +2,9 @@
 // further call. Earlier parcels are answered.
 
 use crate::frames_of_ring::RUN_0;
-use crate::streams::{MANY, NEVER, Pieces, Refusal, Taking, serve_ring};
+use crate::in_memory::{MANY, NEVER, Pieces, Refusal, Taking, serve_ring};
 use std::alloc::{AllocError, Global};
 use std::io::ErrorKind;
-use std::process::Abort;
 use std::test::Fail;
 use wire::WireFault;
 
@@ -75,24 +74,8 @@ fn length_from(frames: &[&[u8]], first: usize) -> usize {
         .fold(0usize, |sum, frame| sum.saturating_add(frame.len()))
 }
 
-/// Checks a run whose read number `call` fails, or returns nothing. Returns false if there is no
-/// such read.
-fn ends_at_read(
-    rt: &impl Abort,
-    alloc: Global,
-    call: usize,
-    kind: Option<ErrorKind>,
-) -> Result<bool, Fail> {
-    let refusal = Refusal {
-        call,
-        times: 1,
-        kind,
-    };
-    let talk = serve_refused(alloc, refusal, NEVER)?;
-    if talk.reads <= call {
-        return Ok(false);
-    }
-    assert_eq!(rt; talk.reads, call.saturating_add(1));
+/// Whether a run whose read number `call` failed, or returned nothing, ended there.
+fn ended_at_read(talk: &Talk, call: usize, kind: Option<ErrorKind>) -> bool {
     let read = length_from(&RUN_0.frames, 0).saturating_sub(talk.unread);
     let (frames, is_between) = ended(&RUN_0.frames, read);
     let replies = frames.saturating_sub(1);
@@ -101,65 +84,85 @@ fn ends_at_read(
         None if is_between => Ok(replies as u64),
         None => Err(WireFault::Truncated),
     };
-    assert_eq!(rt; talk.answer, answer);
-    assert_eq!(rt; ended(&RUN_0.replies, talk.text.len()), (replies, true));
-    Ok(true)
+    talk.reads == call.saturating_add(1)
+        && talk.answer == answer
+        && ended(&RUN_0.replies, talk.text.len()) == (replies, true)
 }
 
-/// Checks a run whose write number `call` fails, or writes nothing. Returns false if there is no
-/// such write.
-fn ends_at_write(
-    rt: &impl Abort,
-    alloc: Global,
-    call: usize,
-    kind: Option<ErrorKind>,
-) -> Result<bool, Fail> {
-    let refusal = Refusal {
-        call,
-        times: 1,
-        kind,
-    };
-    let talk = serve_refused(alloc, NEVER, refusal)?;
-    if talk.writes <= call {
-        return Ok(false);
-    }
-    assert_eq!(rt; talk.writes, call.saturating_add(1));
-    assert_eq!(rt; talk.answer, Err(WireFault::Io));
-    let replies = RUN_0.replies.as_slice().concat(alloc)?;
-    assert!(rt; replies.as_slice().starts_with(talk.text.as_slice()));
+/// Whether a run whose write number `call` failed, or wrote nothing, ended there. These are the bytes
+/// of all replies.
+fn ended_at_write(talk: &Talk, call: usize, replies: &[u8]) -> bool {
     // The node has read the load, the parcels of the complete replies, and that of this reply.
     let (before, _) = ended(&RUN_0.replies, talk.text.len());
     let unread = length_from(&RUN_0.frames, before.saturating_add(2));
-    assert_eq!(rt; talk.unread, unread);
-    Ok(true)
+    talk.writes == call.saturating_add(1)
+        && talk.answer == Err(WireFault::Io)
+        && replies.starts_with(talk.text.as_slice())
+        && talk.unread == unread
 }
+
+/// The number of reads of a run, less than 100, if the run ends at each of them that fails so, or
+/// returns nothing.
+fn reads_that_end(alloc: Global, kind: Option<ErrorKind>) -> Result<Option<usize>, AllocError> {
+    let times = 1;
+    for call in 0..100 {
+        let talk = serve_refused(alloc, Refusal { call, times, kind }, NEVER)?;
+        if talk.reads <= call {
+            return Ok(Some(call));
+        }
+        if !ended_at_read(&talk, call, kind) {
+            return Ok(None);
+        }
+    }
+    Ok(None)
+}
+
+/// The number of writes of a run, less than 100, if the run ends at each of them that fails so, or
+/// writes nothing.
+fn writes_that_end(alloc: Global, kind: Option<ErrorKind>) -> Result<Option<usize>, AllocError> {
+    let replies = RUN_0.replies.as_slice().concat(alloc)?;
+    let times = 1;
+    for call in 0..100 {
+        let talk = serve_refused(alloc, NEVER, Refusal { call, times, kind })?;
+        if talk.writes <= call {
+            return Ok(Some(call));
+        }
+        if !ended_at_write(&talk, call, replies.as_slice()) {
+            return Ok(None);
+        }
+    }
+    Ok(None)
+}
+
+// Behind the last error, a call that reads or writes nothing.
 
 #[test]
 fn a_failed_read_is_the_last(rt: HostRuntime) -> Result<(), Fail> {
-    for kind in KINDS.iter().copied().map(Some).chain([None]) {
-        let mut calls = 0usize;
-        for call in 0..100 {
-            if ends_at_read(&rt, rt.alloc(), call, kind)? {
-                calls = calls.saturating_add(1);
-            }
-        }
-        assert!(rt; calls > 30 && calls < 100);
+    for place in 0..=KINDS.len() {
+        let reads = reads_that_end(rt.alloc(), KINDS.get(place).copied())?;
+        assert!(rt; reads.unwrap_or(0) > 30, "{place}");
     }
     Ok(())
 }
 
 #[test]
 fn a_failed_write_is_the_last(rt: HostRuntime) -> Result<(), Fail> {
-    for kind in KINDS.iter().copied().map(Some).chain([None]) {
-        let mut calls = 0usize;
-        for call in 0..100 {
-            if ends_at_write(&rt, rt.alloc(), call, kind)? {
-                calls = calls.saturating_add(1);
-            }
-        }
-        assert!(rt; calls > 30 && calls < 100);
+    for place in 0..=KINDS.len() {
+        let writes = writes_that_end(rt.alloc(), KINDS.get(place).copied())?;
+        assert!(rt; writes.unwrap_or(0) > 30, "{place}");
     }
     Ok(())
+}
+
+/// Whether a run with these refusals gives all replies, which are these bytes.
+fn is_whole(
+    alloc: Global,
+    read: Refusal,
+    write: Refusal,
+    replies: &[u8],
+) -> Result<bool, AllocError> {
+    let talk = serve_refused(alloc, read, write)?;
+    Ok(talk.answer == Ok(3) && talk.text.as_slice() == replies && talk.unread == 0)
 }
 
 #[test]
@@ -171,12 +174,14 @@ fn an_interrupted_call_is_repeated(rt: HostRuntime) -> Result<(), Fail> {
             times: 3,
             kind: Some(ErrorKind::Interrupted),
         };
-        for (read, write) in [(refusal, NEVER), (NEVER, refusal)] {
-            let talk = serve_refused(rt.alloc(), read, write)?;
-            assert_eq!(rt; talk.answer, Ok(3));
-            assert_eq!(rt; talk.text.as_slice(), replies.as_slice());
-            assert_eq!(rt; talk.unread, 0);
-        }
+        assert!(rt;
+            is_whole(rt.alloc(), refusal, NEVER, replies.as_slice())?,
+            "{call}"
+        );
+        assert!(rt;
+            is_whole(rt.alloc(), NEVER, refusal, replies.as_slice())?,
+            "{call}"
+        );
     }
     Ok(())
 }

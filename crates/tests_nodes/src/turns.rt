@@ -4,7 +4,7 @@
 ghost use Rattle.std.specs.Prelude.{◌≤◌, IfOk, length};
 
 use crate::frames_of_ring::{RUN_0, RUN_1, RUN_2, Run};
-use crate::streams::{MANY, serve_ring};
+use crate::in_memory::{MANY, serve_ring};
 use std::alloc::Global;
 use std::cell::Cell;
 use std::io::{self, Error, ErrorKind, Read, Write};

@@ -1,10 +1,10 @@
-// Readers and writers in memory, and a node of a ring served through them.
+// Readers and writers in memory, a node of a ring served through them, and bytes from texts.
 
 ghost use Rattle.std.specs.Prelude.{◌≡◌, IfOk};
 
 use frames::serve;
 use models::TokenRing;
-use std::alloc::Global;
+use std::alloc::{AllocError, Global};
 use std::io::{self, Error, ErrorKind, Read, Write};
 use wire::WireFault;
 
@@ -127,4 +127,25 @@ pub fn serve_ring<R: Read, W: Write>(
     limit: u64,
 ) -> Result<u64, WireFault> {
     serve(alloc, &TokenRing::new(3, 2, 1), reader, writer, limit)
+}
+
+/// The bytes of a text in hexadecimal, between whose digits spaces may stand.
+pub fn bytes_of(alloc: Global, text: &str) -> Result<Vec<u8>, AllocError> {
+    let mut bytes = Vec::new(alloc);
+    let mut first: Option<u8> = None;
+    for digit in text.as_bytes() {
+        let value = match *digit {
+            b'0'..=b'9' => *digit - b'0',
+            b'a'..=b'f' => *digit - b'a' + 10,
+            _ => continue,
+        };
+        first = match first {
+            None => Some(value),
+            Some(high) => {
+                bytes.push(high.wrapping_mul(16).wrapping_add(value))?;
+                None
+            }
+        };
+    }
+    Ok(bytes)
 }

@@ -4,9 +4,10 @@
 ghost use Rattle.std.specs.Prelude.{◌≤◌, false};
 ghost use Rattle.judging.specs.Judged.{judged_state};
 
-use crate::ports::{load, round};
-use crate::steps::{MADE, MIXED, Row, step_of};
-use commitlog::{LogFault, format};
+use crate::loads::{load, round};
+use crate::opened::{END, formatted, ring};
+use crate::steps::{MADE, MIXED, steps_of};
+use commitlog::LogFault;
 use coordinator::{Answer, NotOpened, Session, SessionFault, Step};
 use disk::MemDisk;
 use eventkey::Listed;
@@ -15,15 +16,12 @@ use loopback::{LoopPort, loop_ports};
 use models::TokenRing;
 use node::{Load, NodeFault, Parcel, Reply};
 use process::Done;
-use recovery::{RecoveryFault, header};
+use recovery::RecoveryFault;
 use runs::{Batch, Plan, RunFault, Schedule, Watch, run_session};
 use std::alloc::Global;
 use std::mem::swap;
-use std::process::Abort;
 use std::test::Fail;
 use wire::{Port, PortFault, WireFault};
-
-const END: u64 = 10;
 
 type Judging<'m> = Session<'m, TokenRing, Judged<'m, TokenRing, LoopPort<'m, TokenRing>>, MemDisk>;
 
@@ -36,8 +34,7 @@ fn judged<'m>(
     every: u32,
     differences: Option<&'m Differences>,
 ) -> Result<Judging<'m>, Fail> {
-    let mut disk = MemDisk::blank(alloc, 64)?;
-    format(&mut disk, &header(alloc, ring, END))?;
+    let disk = formatted(alloc, ring)?;
     let ports = judged_ports(
         alloc,
         ring,
@@ -73,26 +70,36 @@ fn stepped(
     }
 }
 
-/// Makes these steps in a session that is judged and in one that is not, over nodes of the same
-/// ring, and compares what they answer.
-fn look_at_steps(rt: &impl Abort, alloc: Global, every: u32, rows: &[Row]) -> Result<(), Fail> {
-    let ring = TokenRing::new(3, 2, 2);
+/// Whether two sessions give the same answers to these steps, and have the same log after them.
+fn are_alike(
+    one: &mut Judging<'_>,
+    other: &mut Judging<'_>,
+    steps: &[Step],
+) -> Result<bool, SessionFault> {
+    for step in steps {
+        if stepped(one, step)? != stepped(other, step)? {
+            return Ok(false);
+        }
+    }
+    Ok(one.front().log == other.front().log)
+}
+
+/// Whether a session that is judged and one that is not do the same in these steps, over nodes of the
+/// same ring.
+fn do_alike(alloc: Global, every: u32, rows: &str) -> Result<bool, Fail> {
+    let ring = ring();
+    let steps = steps_of(alloc, rows)?;
     let mut one = judged(alloc, &ring, &ring, every, None)?;
     let mut other = judged(alloc, &ring, &ring, 0, None)?;
-    for row in rows {
-        let step = step_of(alloc, *row)?;
-        let answer = stepped(&mut one, &step)?;
-        assert_eq!(rt; answer, stepped(&mut other, &step)?);
-    }
-    assert!(rt; one.front().log == other.front().log);
-    Ok(())
+    Ok(are_alike(&mut one, &mut other, steps.as_slice())?)
 }
 
 #[test]
 fn nodes_of_the_model_pass_also_after_rollbacks(rt: HostRuntime) -> Result<(), Fail> {
     for every in [1, 2, 64] {
-        look_at_steps(&rt, rt.alloc(), every, &MADE)?;
-        look_at_steps(&rt, rt.alloc(), every, &MIXED)?;
+        for rows in [MADE, MIXED] {
+            assert!(rt; do_alike(rt.alloc(), every, rows)?, "{every}");
+        }
     }
     Ok(())
 }
@@ -123,7 +130,7 @@ fn run_over(alloc: Global, hold: u32, every: u32) -> Result<Outcome, Fail>
     requires { 1 ≤ hold }
 {
     let differences = Differences::none();
-    let ring = TokenRing::new(3, 2, 2);
+    let ring = ring();
     let other = TokenRing::new(3, hold, 2);
     let mut session = judged(alloc, &ring, &other, every, Some(&differences))?;
     let fault = run_session(alloc, &mut session, END, PLAN, &mut Nobody).err();
@@ -227,7 +234,7 @@ fn reported(
         place,
     };
     let mut judge = Judged::new(alloc, &ring, node, every);
-    judge.load(load(alloc, 0, &TIMES)?)?;
+    judge.load(load(alloc, 0, 2, &TIMES)?)?;
     let nothing = round(&mut judge, alloc, 1)?;
     if nothing.fossils.as_slice().len() > 0 || judge.refused().is_some() {
         return Err(Fail::from("an event is reported or refused too early"));
@@ -240,33 +247,37 @@ fn reported(
 }
 
 /// How often reports are judged, what is swapped from which place on, and the time of the first event
-/// whose report is refused. Two reports in a row are wrong; one that is not judged is believed.
-const REPORTED: [(u32, Swapped, usize, Option<u64>); 11] = [
-    (1, Swapped::States, 0, Some(1)),
-    (1, Swapped::States, 1, Some(3)),
-    (1, Swapped::States, 2, Some(5)),
-    (1, Swapped::Sends, 0, Some(1)),
-    (1, Swapped::Sends, 2, Some(5)),
-    (1, Swapped::States, 3, None),
-    (2, Swapped::States, 1, Some(5)),
-    (2, Swapped::Sends, 1, Some(5)),
-    (64, Swapped::Sends, 0, Some(1)),
-    (64, Swapped::States, 1, None),
-    (0, Swapped::States, 0, None),
+/// whose report is refused, or 0. Two reports in a row are wrong; one that is not judged is believed.
+const REPORTED: [(u32, Swapped, usize, u64); 11] = [
+    (1, Swapped::States, 0, 1),
+    (1, Swapped::States, 1, 3),
+    (1, Swapped::States, 2, 5),
+    (1, Swapped::Sends, 0, 1),
+    (1, Swapped::Sends, 2, 5),
+    (1, Swapped::States, 3, 0),
+    (2, Swapped::States, 1, 5),
+    (2, Swapped::Sends, 1, 5),
+    (64, Swapped::Sends, 0, 1),
+    (64, Swapped::States, 1, 0),
+    (0, Swapped::States, 0, 0),
 ];
+
+/// What is found of a report of process 0 that is refused, or that none is if this time is 0.
+fn found_at(time: u64) -> (Option<PortFault>, Option<Difference>) {
+    match time {
+        0 => (None, None),
+        _ => (
+            Some(PortFault::BadReply),
+            Some(Difference { process: 0, time }),
+        ),
+    }
+}
 
 #[test]
 fn a_port_keeps_the_event_of_the_first_refused_report(rt: HostRuntime) -> Result<(), Fail> {
     for (every, swapped, place, time) in REPORTED {
-        let expected = match time {
-            Some(time) => (
-                Some(PortFault::BadReply),
-                Some(Difference { process: 0, time }),
-            ),
-            None => (None, None),
-        };
         let found = reported(rt.alloc(), every, swapped, place)?;
-        assert!(rt; found == expected, "{every} {swapped:?} {place}");
+        assert!(rt; found == found_at(time), "{every} {swapped:?} {place}");
     }
     Ok(())
 }
