@@ -6,8 +6,6 @@
 
 ghost use Rattle.std.specs.Prelude.{◌≡◌, ◌≤◌, ◌<◌, ◌^◌, IfOk};
 
-#[cfg(test)]
-mod long;
 mod world;
 
 use commands::{CommandFault, log, show};
@@ -58,7 +56,7 @@ enum Loss {
 /// Why the program stopped: a violation, or a failure of its own.
 #[derive(Debug, Drop, Error)]
 enum Failure {
-    #[error("usage: tests_stops [--all] MODEL SECTORS .., paths of model files and sizes of their disks")]
+    #[error("usage: tests_stops [--all] [--writes] MODEL SECTORS .., paths of model files and sizes of their disks")]
     Usage,
     #[error("{0}")]
     Model(ModelFault),
@@ -327,7 +325,7 @@ fn resumed(
     of: &ModelWithPlainRun,
     way: Way,
     left: &Left,
-    image: &Vec<u8>,
+    image: Vec<u8>,
 ) -> Result<(), Failure>
     requires some { 0 < way.resumed }
     requires few { way.resumed ≤ 64 }
@@ -384,7 +382,7 @@ fn under_the_end(
     of: &ModelWithPlainRun,
     nodes: u32,
     left: &Left,
-    image: &Vec<u8>,
+    image: Vec<u8>,
 ) -> Result<MemDisk, Failure>
     requires some { 0 < nodes }
     requires few { nodes ≤ 64 }
@@ -392,19 +390,19 @@ fn under_the_end(
     requires order { of.now.first ≤ of.now.end }
     requires short { of.now.end ≤ 2 ^ 40 }
 {
-    let disk = disk_of(alloc, image.clone()?, DiskPlan::default())?;
     if of.first == of.end {
-        return Ok(disk);
+        return disk_of(alloc, image, DiskPlan::default());
     }
-    let is_later = is_opened(alloc, of, of.end, nodes, image)?;
-    if is_later == is_opened(alloc, of, of.first, nodes, image)? {
+    let is_later = is_opened(alloc, of, of.end, nodes, &image)?;
+    if is_later == is_opened(alloc, of, of.first, nodes, &image)? {
         return Err(Failure::Lost(Loss::Ends));
     }
+    if left.extended && !is_later {
+        return Err(Failure::Lost(Loss::End));
+    }
+    let disk = disk_of(alloc, image, DiskPlan::default())?;
     if is_later {
         return Ok(disk);
-    }
-    if left.extended {
-        return Err(Failure::Lost(Loss::End));
     }
     match carried_on(alloc, of, left.acknowledged, disk)? {
         (true, disk) => Ok(disk),
@@ -496,23 +494,19 @@ enum At {
 }
 
 impl At {
-    /// Every one of them.
-    fn each(self) -> Failures {
-        Failures {
-            at: self,
-            first: 0,
-            step: 1,
+    /// The plan of a disk that fails at the write or operation of this number.
+    fn plan(self, number: u64) -> DiskPlan {
+        match self {
+            At::Write => DiskPlan {
+                fail: None,
+                stop: Some(number),
+            },
+            At::Operation => DiskPlan {
+                fail: Some(number),
+                stop: None,
+            },
         }
     }
-}
-
-/// The operations at which a disk fails, one in each run: this one, and each that is `step` after
-/// the one before.
-#[derive(Clone, Copy)]
-struct Failures {
-    at: At,
-    first: u64,
-    step: u64,
 }
 
 /// What a crash leaves in each dirty sector: the synced content, the last written one, a fill, or
@@ -525,6 +519,9 @@ const TEARINGS: &[Torn] = &[
     Torn::Cut(1),
     Torn::Cut(100),
 ];
+
+/// Those of long runs.
+const SOME_TEARINGS: &[Torn] = &[Torn::Old, Torn::New, Torn::Fill(1)];
 
 /// How often disks failed, and from how many different images runs were resumed.
 #[derive(Clone, Copy, Default)]
@@ -542,12 +539,12 @@ impl Counts {
     }
 }
 
-/// Lets a disk fail at each of these writes or operations in turn, and crashes it in these ways.
+/// Lets a disk fail at each of its writes or operations in turn, and crashes it in these ways.
 fn stops(
     alloc: Global,
     of: &ModelWithPlainRun,
     way: Way,
-    failures: Failures,
+    at: At,
     tearings: &[Torn],
 ) -> Result<Counts, Failure>
     requires some { 0 < way.nodes }
@@ -559,21 +556,8 @@ fn stops(
     requires short { of.now.end ≤ 2 ^ 40 }
 {
     let mut counts = Counts::default();
-    for turn in 0..u64::MAX {
-        let number = failures
-            .first
-            .saturating_add(turn.saturating_mul(failures.step));
-        let plan = match failures.at {
-            At::Write => DiskPlan {
-                fail: None,
-                stop: Some(number),
-            },
-            At::Operation => DiskPlan {
-                fail: Some(number),
-                stop: None,
-            },
-        };
-        let left = left_by(alloc, of, way, plan)?;
+    for number in 0..u64::MAX {
+        let left = left_by(alloc, of, way, at.plan(number))?;
         let images = crashes(alloc, of, way, &left, tearings)?;
         counts = counts.and(Counts { stops: 0, images });
         if left.ended {
@@ -602,15 +586,24 @@ fn crashes(
     requires order { of.now.first ≤ of.now.end }
     requires short { of.now.end ≤ 2 ^ 40 }
 {
-    let mut images: Vec<Vec<u8>> = Vec::new(alloc);
+    let images = images_of(alloc, &left.disk, tearings)?;
+    let number = images.len() as u64;
+    for image in images {
+        resumed(alloc, of, way, left, image)?;
+    }
+    Ok(number)
+}
+
+/// The different images that these crashes of a disk leave.
+fn images_of(alloc: Global, disk: &MemDisk, tearings: &[Torn]) -> Result<Vec<Vec<u8>>, Failure> {
+    let mut images = Vec::new(alloc);
     for torn in tearings {
-        let image = left.disk.crash(alloc, *torn)?;
+        let image = disk.crash(alloc, *torn)?;
         if !images.contains(&image) {
-            resumed(alloc, of, way, left, &image)?;
             images.push(image)?;
         }
     }
-    Ok(images.len() as u64)
+    Ok(images)
 }
 
 /// Ways of runs: the batch, and the rounds between checkpoints.
@@ -653,8 +646,8 @@ fn all_ways(
             batch: *batch,
             checkpoint_every: *checkpoint_every,
         };
-        let writes = stops(alloc, of, way, At::Write.each(), TEARINGS)?;
-        let operations = stops(alloc, of, way, At::Operation.each(), TEARINGS)?;
+        let writes = stops(alloc, of, way, At::Write, TEARINGS)?;
+        let operations = stops(alloc, of, way, At::Operation, TEARINGS)?;
         print_counts(rt, of, way, writes, operations)?;
         total = total.and(writes).and(operations);
     }
@@ -699,20 +692,6 @@ fn read_simulation(
 {
     let bytes = fs::read(rt, path).map_err(|_| Failure::Usage)?;
     let text = str::from_utf8(bytes.as_slice()).map_err(|_| Failure::Usage)?;
-    simulation_of(alloc, text, sectors, is_extended)
-}
-
-/// The simulation of a model file's text, and a disk of this size for its end or for half of it.
-fn simulation_of(
-    alloc: Global,
-    text: &str,
-    sectors: u32,
-    is_extended: bool,
-) -> Result<ModelWithPlainRun, Failure>
-    ensures begun { IfOk result (λ of. 1 ≤ of.first) }
-    ensures order { IfOk result (λ of. of.first ≤ of.end) }
-    ensures short { IfOk result (λ of. of.end ≤ 2 ^ 40) }
-{
     let (model, end) = match read_model::<AnyModel>(alloc, text) {
         Ok(file) => file,
         Err(fault) => return Err(Failure::Model(fault)),
@@ -753,6 +732,34 @@ fn try_model(
     Ok(total)
 }
 
+/// Tries long runs of a model: stops them at each write only, without checkpoints.
+fn try_writes(rt: &HostRuntime, alloc: Global, of: &ModelWithPlainRun) -> Result<Counts, Failure>
+    requires begun { 1 ≤ of.now.first }
+    requires order { of.now.first ≤ of.now.end }
+    requires short { of.now.end ≤ 2 ^ 40 }
+{
+    let mut total = Counts::default();
+    for (nodes, resumed, batch) in [
+        (1, 2, 1),
+        (1, 5, 7),
+        (2, 5, 1),
+        (2, 1, 7),
+        (5, 1, 1),
+        (5, 2, 7),
+    ] {
+        let way = Way {
+            nodes,
+            resumed,
+            batch,
+            checkpoint_every: 0,
+        };
+        let writes = stops(alloc, of, way, At::Write, SOME_TEARINGS)?;
+        print_counts(rt, of, way, writes, Counts::default())?;
+        total = total.and(writes);
+    }
+    Ok(total)
+}
+
 /// How much is tried of a model file.
 #[derive(Clone, Copy, PartialEq, Eq)]
 enum Extent {
@@ -760,6 +767,8 @@ enum Extent {
     Some,
     /// Both in all ways.
     All,
+    /// Disks made for its end, stopped at each write without checkpoints.
+    Writes,
 }
 
 /// Tries the runs of a model file.
@@ -771,6 +780,9 @@ fn try_file(
     extent: Extent,
 ) -> Result<Counts, Failure> {
     let of = read_simulation(rt, alloc, path, sectors, false)?;
+    if extent == Extent::Writes {
+        return try_writes(rt, alloc, &of);
+    }
     let total = try_model(rt, alloc, &of, WAYS, USUAL_WAYS)?;
     let of = read_simulation(rt, alloc, path, sectors, true)?;
     let (ways, usual_ways) = if extent == Extent::All {
@@ -793,6 +805,10 @@ fn main(rt: HostRuntime) -> Result<(), Failure> {
         };
         if path.as_str() == "--all" {
             extent = Extent::All;
+            continue;
+        }
+        if path.as_str() == "--writes" {
+            extent = Extent::Writes;
             continue;
         }
         let Some(sectors) = words.next() else {
