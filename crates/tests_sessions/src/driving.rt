@@ -2,46 +2,24 @@
 
 ghost use Rattle.std.specs.Prelude.{◌<◌, ◌≤◌};
 
-use commitlog::format;
-use coordinator::{NotOpened, Session, SessionFault, Step};
-use disk::MemDisk;
+use crate::disks::{END, Near, formatted, opened, plan, ring};
+use crate::steps::stepped;
+use commitlog::LogFault;
+use coordinator::{SessionFault, Step};
 use models::TokenRing;
-use recovery::header;
-use runs::{
-    Batch, Finished, Plan, RunFault, Schedule, Turn, Watch, local_ports, run_local, run_session,
-};
+use runs::{Finished, Plan, RunFault, Schedule, Turn, Watch, run_local, run_session};
 use std::alloc::Global;
 use std::test::Fail;
-use wire::LocalPort;
 
 /// The commits that a run reported: their number, and the time and the event count of the last one.
 /// Asks for a stop before the round of this number and each later one; 0 for no stop.
-#[derive(Drop)]
+#[derive(Drop, Default)]
 struct Seen {
     commits: u32,
     time: u64,
     events: usize,
     rounds: u32,
     stop_before: u32,
-}
-
-impl Seen {
-    fn nothing() -> Seen {
-        Seen {
-            commits: 0,
-            time: 0,
-            events: 0,
-            rounds: 0,
-            stop_before: 0,
-        }
-    }
-
-    fn stopping_before(round: u32) -> Seen {
-        Seen {
-            stop_before: round,
-            ..Seen::nothing()
-        }
-    }
 }
 
 impl Watch for Seen {
@@ -57,30 +35,51 @@ impl Watch for Seen {
     }
 }
 
-const PLAN: Plan = Plan {
-    nodes: 3,
-    batch: Batch::Fixed(16),
-    rounds: 100,
-    schedule: Schedule::InTurn,
-    checkpoint_every: 0,
-    seals: false,
-    commit_every: 0,
-};
+/// A plan of three nodes.
+fn scheduled(schedule: Schedule, commit_every: u32, rounds: u32) -> Plan
+    ensures some { 0 < result.nodes }
+    ensures few { result.nodes ≤ 64 }
+{
+    Plan {
+        schedule,
+        commit_every,
+        rounds,
+        ..plan(3, 16, 0)
+    }
+}
 
-/// Runs one token round three processes, two ticks at each, up to time 10, on a disk of this size.
+/// Runs one token round three processes, two ticks at each, up to time 10.
 fn run_on(
     alloc: Global,
-    sectors: u32,
     plan: Plan,
-    outcome: &mut Seen,
-) -> Result<Result<Finished, RunFault>, Fail>
+    seen: &mut Seen,
+) -> Result<Result<Finished, RunFault>, LogFault>
     requires some { 0 < plan.nodes }
     requires few { plan.nodes ≤ 64 }
 {
-    let ring = TokenRing::new(3, 2, 1);
-    let mut disk = MemDisk::blank(alloc, sectors)?;
-    format(&mut disk, &header(alloc, &ring, 10))?;
-    Ok(run_local(alloc, &ring, disk, 10, plan, outcome).outcome)
+    let ring = ring();
+    let disk = formatted(alloc, &ring, 64, END)?;
+    Ok(run_local(alloc, &ring, disk, END, plan, seen).outcome)
+}
+
+/// Whether a run to the end makes this number of commits.
+fn commits(
+    alloc: Global,
+    schedule: Schedule,
+    commit_every: u32,
+    commits: u32,
+) -> Result<bool, Fail> {
+    let mut seen = Seen::default();
+    let Finished { ran, time, events } = run_on(
+        alloc,
+        scheduled(schedule, commit_every, 100),
+        &mut seen,
+    )??;
+    Ok(
+        ran.as_slice() == [2, 2, 1].as_slice()
+            && (time, events) == (END, 5)
+            && (seen.time, seen.events, seen.commits) == (END, 5, commits),
+    )
 }
 
 /// A commit comes once this many events are gathered, and at the end. One turn after another: three
@@ -89,7 +88,7 @@ fn run_on(
 /// the end.
 #[test]
 fn a_run_commits_after_a_number_of_events(rt: HostRuntime) -> Result<(), Fail> {
-    for (schedule, commit_every, commits) in [
+    for (schedule, commit_every, number) in [
         (Schedule::InTurn, 0, 3),
         (Schedule::InTurn, 1, 2),
         (Schedule::InTurn, 3, 2),
@@ -102,22 +101,43 @@ fn a_run_commits_after_a_number_of_events(rt: HostRuntime) -> Result<(), Fail> {
         (Schedule::Overlapped, 5, 2),
         (Schedule::Overlapped, 400_000, 1),
     ] {
-        let mut outcome = Seen::nothing();
-        let plan = Plan {
-            schedule,
-            commit_every,
-            ..PLAN
-        };
-        let ended = run_on(rt.alloc(), 64, plan, &mut outcome)?;
-        let Ok(Finished { ran, time, events }) = ended else {
-            return Err(Fail::from("the run was refused"));
-        };
-        assert!(rt; ran.as_slice() == [2, 2, 1].as_slice());
-        assert!(rt; time == 10 && events == 5);
-        assert!(rt; outcome.time == 10 && outcome.events == 5);
-        assert!(rt; outcome.commits == commits, "{schedule:?} {commit_every}");
+        let is_so = commits(rt.alloc(), schedule, commit_every, number)?;
+        assert!(rt; is_so, "{schedule:?} {commit_every}");
     }
     Ok(())
+}
+
+/// Whether a run that is asked to stop before this round stops at this time with these events.
+fn stops(
+    alloc: Global,
+    schedule: Schedule,
+    stop_before: u32,
+    commit_every: u32,
+    time: u64,
+    events: usize,
+) -> Result<bool, Fail> {
+    let mut seen = Seen {
+        stop_before,
+        ..Seen::default()
+    };
+    let ended = run_on(alloc, scheduled(schedule, commit_every, 100), &mut seen)?;
+    Ok(
+        ended.err() == Some(RunFault::Stopped { time, events })
+            && (seen.time, seen.events, seen.rounds) == (time, events, stop_before),
+    )
+}
+
+/// The outcome of a run of at most this number of rounds that is asked to stop before one of them.
+fn asked(
+    alloc: Global,
+    stop_before: u32,
+    rounds: u32,
+) -> Result<Result<Finished, RunFault>, LogFault> {
+    let mut seen = Seen {
+        stop_before,
+        ..Seen::default()
+    };
+    run_on(alloc, scheduled(Schedule::InTurn, 0, rounds), &mut seen)
 }
 
 /// A run that is asked to stop makes the next round as its last one. It is over if that reaches the
@@ -133,22 +153,17 @@ fn a_run_stops_when_it_is_asked_to(rt: HostRuntime) -> Result<(), Fail> {
         (Schedule::Overlapped, 2, 400_000, 3, 1),
         (Schedule::Overlapped, 7, 400_000, 9, 4),
     ] {
-        let mut outcome = Seen::stopping_before(stop_before);
-        let plan = Plan {
+        let is_so = stops(
+            rt.alloc(),
             schedule,
+            stop_before,
             commit_every,
-            ..PLAN
-        };
-        let ended = run_on(rt.alloc(), 64, plan, &mut outcome)?;
-        assert!(rt;
-            ended.err() == Some(RunFault::Stopped { time, events }),
-            "{stop_before}"
-        );
-        assert!(rt; outcome.time == time && outcome.events == events);
-        assert!(rt; outcome.rounds == stop_before);
+            time,
+            events,
+        )?;
+        assert!(rt; is_so, "{schedule:?} {stop_before} {commit_every}");
     }
-    let mut outcome = Seen::stopping_before(3);
-    let ended = run_on(rt.alloc(), 64, PLAN, &mut outcome)?;
+    let ended = asked(rt.alloc(), 3, 100)?;
     assert!(rt;
         matches!(
             ended,
@@ -159,8 +174,7 @@ fn a_run_stops_when_it_is_asked_to(rt: HostRuntime) -> Result<(), Fail> {
             })
         )
     );
-    let mut outcome = Seen::stopping_before(2);
-    let ended = run_on(rt.alloc(), 64, Plan { rounds: 2, ..PLAN }, &mut outcome)?;
+    let ended = asked(rt.alloc(), 2, 2)?;
     assert!(rt; ended.err() == Some(RunFault::Rounds));
     Ok(())
 }
@@ -230,37 +244,19 @@ const OVERLAPPED: [(u32, u64); 30] = [
     (COMMIT, 10),
 ];
 
-/// A session of the ring over three nodes, up to time 10.
-fn opened<'m>(
-    alloc: Global,
-    ring: &'m TokenRing,
-) -> Result<Session<'m, TokenRing, LocalPort<'m, TokenRing>, MemDisk>, Fail> {
-    let mut disk = MemDisk::blank(alloc, 64)?;
-    format(&mut disk, &header(alloc, ring, 10))?;
-    let ports = local_ports(alloc, ring, 3)?;
-    match Session::open(alloc, ring, ports, disk, 10) {
-        Ok(session) => Ok(session),
-        Err(NotOpened { fault: _, disk: _ }) => Err(Fail::from("the session is not opened")),
-    }
-}
-
 /// The steps of rounds with overlap, at most this many, and why they ended; none if they reached the
 /// end.
 fn overlapped(
     alloc: Global,
-    session: &mut Session<'_, TokenRing, LocalPort<'_, TokenRing>, MemDisk>,
+    session: &mut Near<'_, TokenRing>,
     rounds: u32,
 ) -> Result<(Vec<(u32, u64)>, Option<RunFault>), Fail> {
-    let plan = Plan {
-        schedule: Schedule::Overlapped,
-        rounds,
-        ..PLAN
-    };
     let mut order = Order {
         steps: Vec::new(alloc),
         is_complete: true,
     };
-    let fault = run_session(alloc, session, 10, plan, &mut order).err();
+    let plan = scheduled(Schedule::Overlapped, 0, rounds);
+    let fault = run_session(alloc, session, END, plan, &mut order).err();
     let Order { steps, is_complete } = order;
     if is_complete {
         Ok((steps, fault))
@@ -270,43 +266,52 @@ fn overlapped(
 }
 
 /// Whether no parcel is outstanding at any of the three nodes.
-fn is_idle(session: &mut Session<'_, TokenRing, LocalPort<'_, TokenRing>, MemDisk>) -> bool {
+fn is_idle(session: &mut Near<'_, TokenRing>) -> bool {
     for node in 0..3 {
-        if session.step(&Step::Take { node }) != Err(SessionFault::Idle) {
+        if stepped(session, &Step::Take { node }) != Err(SessionFault::Idle) {
             return false;
         }
     }
     true
 }
 
+/// Whether a session is idle at the end, with the ring's five events.
+fn is_over(session: &mut Near<'_, TokenRing>) -> bool {
+    is_idle(session) && session.front().time == END && session.front().log.len() == 5
+}
+
 #[test]
 fn nodes_overlap(rt: HostRuntime) -> Result<(), Fail> {
-    let ring = TokenRing::new(3, 2, 1);
-    let mut session = opened(rt.alloc(), &ring)?;
+    let ring = ring();
+    let mut session = opened(rt.alloc(), &ring, formatted(rt.alloc(), &ring, 64, END)?)?;
     let (steps, fault) = overlapped(rt.alloc(), &mut session, 8)?;
     assert!(rt; fault.is_none());
     assert!(rt; steps.as_slice() == OVERLAPPED.as_slice());
-    assert!(rt; is_idle(&mut session));
-    assert!(rt; session.front().time == 10 && session.front().log.len() == 5);
+    assert!(rt; is_over(&mut session));
     Ok(())
+}
+
+/// Whether this number of rounds makes the first `made` steps and leaves no parcel, and the session
+/// then reaches the end.
+fn leaves_no_parcel(alloc: Global, rounds: u32, made: usize) -> Result<bool, Fail> {
+    let ring = ring();
+    let mut session = opened(alloc, &ring, formatted(alloc, &ring, 64, END)?)?;
+    let (steps, fault) = overlapped(alloc, &mut session, rounds)?;
+    let is_left = fault == Some(RunFault::Rounds)
+        && Some(steps.as_slice()) == OVERLAPPED.get(..made)
+        && is_idle(&mut session);
+    let (_more, fault) = overlapped(alloc, &mut session, 8)?;
+    Ok(is_left && fault.is_none() && is_over(&mut session))
 }
 
 /// After its rounds no parcel is outstanding, so the session goes on with another plan.
 #[test]
 fn rounds_with_overlap_leave_no_parcel(rt: HostRuntime) -> Result<(), Fail> {
-    let ring = TokenRing::new(3, 2, 1);
     for (rounds, made) in [(1, 4), (2, 8), (7, 28)] {
-        let mut session = opened(rt.alloc(), &ring)?;
-        let (steps, fault) = overlapped(rt.alloc(), &mut session, rounds)?;
-        assert!(rt; fault == Some(RunFault::Rounds));
         assert!(rt;
-            Some(steps.as_slice()) == OVERLAPPED.get(..made),
+            leaves_no_parcel(rt.alloc(), rounds, made)?,
             "{rounds} rounds"
         );
-        assert!(rt; is_idle(&mut session), "{rounds} rounds");
-        let (_more, fault) = overlapped(rt.alloc(), &mut session, 8)?;
-        assert!(rt; fault.is_none() && is_idle(&mut session));
-        assert!(rt; session.front().time == 10 && session.front().log.len() == 5);
     }
     Ok(())
 }

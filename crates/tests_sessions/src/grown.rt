@@ -1,8 +1,6 @@
 // Full disks that grow.
 
-ghost use Rattle.std.specs.Prelude.{◌≡◌};
-
-use crate::kept::{Nobody, front_of, left_by, plan, ring};
+use crate::disks::{END, Nobody, disk_of, front_of, front_on, left_by, plan, reached, ring};
 use commitlog::LogFault;
 use coordinator::SessionFault;
 use disk::{DiskFault, GrowthFault, MOST_SECTORS, MemDisk, Plan as DiskPlan, SectorDisk, Torn};
@@ -16,17 +14,9 @@ use std::test::Fail;
 /// What a crash may leave in the sectors that were written since the last sync.
 const TORN: [Torn; 4] = [Torn::Old, Torn::New, Torn::Fill(1), Torn::Cut(7)];
 
-const NOTHING: DiskPlan = DiskPlan {
-    fail: None,
-    stop: None,
-};
-
-/// A disk with this image and this plan; an empty one if the image has more than 16 MiB.
-fn planned(alloc: Global, image: &[u8], plan: DiskPlan) -> Result<MemDisk, Fail> {
-    if image.len() > 1 << 24 {
-        return Ok(MemDisk::blank(alloc, 0)?);
-    }
-    Ok(MemDisk::of(alloc, image.to_vec(alloc)?, plan)?)
+/// A disk with this image, whose operation number `fail` fails, counted from 0.
+fn planned(alloc: Global, image: &[u8], fail: Option<u64>) -> Result<MemDisk, Fail> {
+    Ok(disk_of(alloc, image.to_vec(alloc)?, DiskPlan { fail, stop: None })?)
 }
 
 /// Grows a disk of this ring; a second call after an allocation failure.
@@ -50,9 +40,15 @@ fn grown(
     }
 }
 
-/// The image that a run to time 10 leaves on a disk of eight sectors, which is full at time 7.
+/// The image that a run to time 10 leaves on a disk of this size, and the fault that stopped it.
+fn image_of(alloc: Global, sectors: u32) -> Result<(Vec<u8>, Option<RunFault>), Fail> {
+    let (disk, fault) = left_by(alloc, &ring(), sectors, END, plan(3, 16, 0))?;
+    Ok((disk.crash(alloc, Torn::Old)?, fault))
+}
+
+/// That of a disk of eight sectors, which is full at time 7.
 fn full(alloc: Global) -> Result<Vec<u8>, Fail> {
-    let (image, fault) = left_by(alloc, &ring(), 8, 10, plan(3, 16, 0))?;
+    let (image, fault) = image_of(alloc, 8)?;
     if fault == Some(RunFault::Session(SessionFault::Full)) {
         Ok(image)
     } else {
@@ -60,74 +56,94 @@ fn full(alloc: Global) -> Result<Vec<u8>, Fail> {
     }
 }
 
-/// Whether each crash of a disk, followed by no, one or two sectors of zeros, leaves this front.
+/// Whether an image followed by no, one or two sectors of zeros represents this front.
+fn represents(alloc: Global, image: Vec<u8>, front: &Front) -> Result<bool, Fail> {
+    let mut image = image;
+    for _ in 0..3 {
+        if !front_of(alloc, &ring(), image.to_vec(alloc)?, END)?.is_same(front) {
+            return Ok(false);
+        }
+        image.extend_from_slice(&[0; 512])?;
+    }
+    Ok(true)
+}
+
+/// Whether each crash of a disk leaves this front.
 fn leaves(alloc: Global, disk: &MemDisk, front: &Front) -> Result<bool, Fail> {
     for torn in TORN {
-        let mut image = disk.crash(alloc, torn)?;
-        for _ in 0..3 {
-            let left = front_of(alloc, &ring(), image.to_vec(alloc)?, 10)?;
-            if !left.is_same(front) {
-                return Ok(false);
-            }
-            image.extend_from_slice(&[0; 512])?;
+        if !represents(alloc, disk.crash(alloc, torn)?, front)? {
+            return Ok(false);
         }
     }
     Ok(true)
 }
 
+/// Whether a full disk that grows to this size represents the front before, and a run on it the
+/// whole one, for which eight sectors are too few.
+fn goes_on(
+    alloc: Global,
+    image: &[u8],
+    sectors: u32,
+    before: &Front,
+    whole: &Front,
+) -> Result<bool, Fail> {
+    let Ok(done) = grown(alloc, &ring(), planned(alloc, image, None)?, sectors) else {
+        return Err(Fail::from("the disk has not grown"));
+    };
+    let is_grown = (done.before, done.sectors, done.disk.sectors()) == (8, sectors, sectors)
+        && leaves(alloc, &done.disk, before)?;
+    let ran = run_local(alloc, &ring(), done.disk, END, plan(2, 16, 0), &mut Nobody);
+    // the next record and its gate take the last two of nine sectors
+    if sectors == 8 {
+        return Ok(is_grown && ran.outcome.err() == Some(RunFault::Session(SessionFault::Full)));
+    }
+    let is_run = ran.outcome.is_ok();
+    Ok(is_grown && is_run && front_on(alloc, &ring(), &ran.disk, END)?.is_same(whole))
+}
+
 #[test]
 fn a_run_goes_on_after_a_full_disk_grows(rt: HostRuntime) -> Result<(), Fail> {
-    let alloc = rt.alloc();
-    let image = full(alloc)?;
-    let before = front_of(alloc, &ring(), image.to_vec(alloc)?, 10)?;
+    let image = full(rt.alloc())?;
+    let before = front_of(rt.alloc(), &ring(), image.to_vec(rt.alloc())?, END)?;
     assert!(rt; before.g == 7 && before.log.as_slice().len() == 3);
-    let (whole, none) = left_by(alloc, &ring(), 64, 10, plan(3, 16, 0))?;
-    assert!(rt; none.is_none());
-    let whole = front_of(alloc, &ring(), whole, 10)?;
+    let whole = reached(rt.alloc(), &ring(), 64, END, plan(3, 16, 0))?;
     for sectors in [8, 9, 64] {
-        let disk = planned(alloc, &image, NOTHING)?;
-        let Ok(done) = grown(alloc, &ring(), disk, sectors) else {
-            return Err(Fail::from("the disk has not grown"));
-        };
-        assert!(rt; done.before == 8 && done.sectors == sectors);
-        assert!(rt; done.disk.sectors() == sectors);
-        assert!(rt; leaves(alloc, &done.disk, &before)?);
-        let ran = run_local(alloc, &ring(), done.disk, 10, plan(2, 16, 0), &mut Nobody);
-        // the next record and its gate take the last two of nine sectors
-        if sectors == 8 {
-            assert!(rt; ran.outcome.err() == Some(RunFault::Session(SessionFault::Full)));
-            continue;
-        }
-        assert!(rt; ran.outcome.is_ok(), "{sectors}");
-        let after = front_of(alloc, &ring(), ran.disk.crash(alloc, Torn::Old)?, 10)?;
-        assert!(rt; after.is_same(&whole));
+        assert!(rt;
+            goes_on(rt.alloc(), &image, sectors, &before, &whole)?,
+            "{sectors}"
+        );
     }
     Ok(())
 }
 
+/// Whether a growth fails that meets this failing operation; then the fault must be of the device.
+/// The world must be kept.
+fn fails(alloc: Global, image: &[u8], number: u64, front: &Front) -> Result<bool, Fail> {
+    let (disk, is_failed) = match grown(alloc, &ring(), planned(alloc, image, Some(number))?, 64) {
+        Ok(done) => (done.disk, false),
+        Err(
+            NotGrown {
+                fault: GrowingFault::Growth(GrowthFault::Device)
+                | GrowingFault::Recovery(RecoveryFault::Log(LogFault::Disk(DiskFault::Device))),
+                disk,
+            },
+        ) => (disk, true),
+        Err(NotGrown { fault, disk: _ }) => return Err(Fail::from(fault)),
+    };
+    if !leaves(alloc, &disk, front)? || is_failed && disk.sectors() != 8 {
+        return Err(Fail::from("the world is not kept"));
+    }
+    Ok(is_failed)
+}
+
 #[test]
 fn each_failed_growth_keeps_the_world(rt: HostRuntime) -> Result<(), Fail> {
-    let alloc = rt.alloc();
-    let image = full(alloc)?;
-    let front = front_of(alloc, &ring(), image.to_vec(alloc)?, 10)?;
+    let image = full(rt.alloc())?;
+    let front = front_of(rt.alloc(), &ring(), image.to_vec(rt.alloc())?, END)?;
     let mut failures: u32 = 0;
     for number in 0..30 {
-        let plan = DiskPlan {
-            fail: Some(number),
-            stop: None,
-        };
-        match grown(alloc, &ring(), planned(alloc, &image, plan)?, 64) {
-            Ok(done) => assert!(rt; leaves(alloc, &done.disk, &front)?),
-            Err(NotGrown { fault, disk }) => {
-                let device = LogFault::Disk(DiskFault::Device);
-                assert!(rt;
-                    fault == GrowingFault::Growth(GrowthFault::Device)
-                        || fault == GrowingFault::Recovery(RecoveryFault::Log(device))
-                );
-                assert!(rt; disk.sectors() == 8);
-                assert!(rt; leaves(alloc, &disk, &front)?, "failure {number}");
-                failures = failures.saturating_add(1);
-            }
+        if fails(rt.alloc(), &image, number, &front)? {
+            failures = failures.saturating_add(1);
         }
     }
     // one failure for the sync and for each read of the opening, and one for the growth
@@ -135,31 +151,31 @@ fn each_failed_growth_keeps_the_world(rt: HostRuntime) -> Result<(), Fail> {
     Ok(())
 }
 
+/// Whether a disk, on which a run whose operation of this number fails may have left dirty sectors,
+/// grows again, keeps what was committed, and the run then ends. True where the first growth fails.
+fn keeps_what_is_committed(alloc: Global, image: &[u8], number: u64) -> Result<bool, Fail> {
+    let Ok(done) = grown(alloc, &ring(), planned(alloc, image, Some(number))?, 16) else {
+        return Ok(true);
+    };
+    let ran = run_local(alloc, &ring(), done.disk, END, plan(3, 16, 0), &mut Nobody);
+    let outcome = front_on(alloc, &ring(), &ran.disk, END)?;
+    let Ok(again) = grown(alloc, &ring(), ran.disk, 32) else {
+        return Err(Fail::from("the disk has not grown again"));
+    };
+    let kept = front_of(alloc, &ring(), again.disk.crash(alloc, Torn::Fill(1))?, END)?;
+    let is_kept = outcome.g <= kept.g && again.disk.sectors() == 32;
+    let ran = run_local(alloc, &ring(), again.disk, END, plan(3, 16, 0), &mut Nobody);
+    Ok(is_kept && ran.outcome.is_ok())
+}
+
 #[test]
 fn a_growth_with_dirty_sectors_keeps_what_was_committed(rt: HostRuntime) -> Result<(), Fail> {
-    let alloc = rt.alloc();
-    let (image, _full) = left_by(alloc, &ring(), 6, 10, plan(3, 16, 0))?;
-    // a run whose operation number `number` fails leaves dirty sectors
+    let (image, _full) = image_of(rt.alloc(), 6)?;
     for number in 0..24 {
-        let plan_of_disk = DiskPlan {
-            fail: Some(number),
-            stop: None,
-        };
-        let Ok(done) = grown(alloc, &ring(), planned(alloc, &image, plan_of_disk)?, 16) else {
-            continue;
-        };
-        let ran = run_local(alloc, &ring(), done.disk, 10, plan(3, 16, 0), &mut Nobody);
-        let outcome = front_of(alloc, &ring(), ran.disk.crash(alloc, Torn::Old)?, 10)?;
-        let Ok(again) = grown(alloc, &ring(), ran.disk, 32) else {
-            return Err(Fail::from("the disk has not grown again"));
-        };
-        let kept = front_of(alloc, &ring(), again.disk.crash(alloc, Torn::Fill(1))?, 10)?;
         assert!(rt;
-            outcome.g <= kept.g && again.disk.sectors() == 32,
+            keeps_what_is_committed(rt.alloc(), &image, number)?,
             "failure {number}"
         );
-        let ran = run_local(alloc, &ring(), again.disk, 10, plan(3, 16, 0), &mut Nobody);
-        assert!(rt; ran.outcome.is_ok(), "failure {number}");
     }
     Ok(())
 }
@@ -171,7 +187,7 @@ fn refusal(
     image: &[u8],
     sectors: u32,
 ) -> Result<Option<GrowingFault>, Fail> {
-    match grown(alloc, ring, planned(alloc, image, NOTHING)?, sectors) {
+    match grown(alloc, ring, planned(alloc, image, None)?, sectors) {
         Ok(_done) => Ok(None),
         Err(NotGrown { fault, disk }) => {
             if disk.crash(alloc, Torn::New)?.as_slice() != image {

@@ -1,8 +1,10 @@
 use super::*;
-use crate::sessions::stepping::stepped;
+use crate::steps::{step_of, stepped};
+use coordinator::{Answer, NotOpened, Session, SessionFault, Step};
 use sockets::SocketPort;
 use std::io::Write;
 use std::os::unix::net::UnixStream;
+use std::test::Fail;
 use wire::PortFault;
 
 // Sessions over a socket without a node at the other end: the test writes the replies itself.
@@ -28,18 +30,19 @@ fn answered(
     Fail,
 > {
     let alloc = rt.alloc();
-    let ring = Ring;
+    let ring = two_tokens();
     let (near, mut far) = UnixStream::pair(&rt)?;
     let mut reply = REPLY;
     reply[33] = to;
     far.write_all(&reply)?;
     let mut ports = Vec::new(alloc);
     ports.push(SocketPort::new(alloc, near))?;
-    let mut session = match Session::open(alloc, &ring, ports, formatted(alloc, &ring)?, END) {
+    let disk = formatted(alloc, &ring, 64, END)?;
+    let mut session = match Session::open(alloc, &ring, ports, disk, END) {
         Ok(session) => session,
         Err(NotOpened { fault, disk: _ }) => return Err(Fail::from(fault)),
     };
-    let post = step_of(alloc, Row::Post(0, &[], 1))?;
+    let post = step_of(alloc, "post 0 1")?;
     stepped(&mut session, &post)?;
     let taken = stepped(&mut session, &Step::Take { node: 0 });
     let again = stepped(&mut session, &post);

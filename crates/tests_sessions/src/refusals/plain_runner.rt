@@ -1,11 +1,9 @@
 // Compares the front of a session with the plain runner.
 
+use crate::disks::END;
 use coordinator::FrontView;
 use model::{Model as Simulated, SavedState, Words, World, WorldFault, WorldParts};
 use std::alloc::Global;
-
-/// The end of all simulations here, in ticks.
-pub const END: u64 = 10;
 
 /// The world of the plain runner at this time.
 fn world_at<M: Simulated>(alloc: Global, model: &M, time: u64) -> Result<WorldParts, WorldFault> {

@@ -1,9 +1,9 @@
 // A later end on a disk, with one allocation refused.
 
-use crate::disks::{TEARINGS, crashed};
-use crate::openings::{is_of_memory, look_at_crashes};
-use crate::plain_runner::END;
-use crate::running::{one_token, ran};
+use crate::disks::{END, TEARINGS, ring};
+use crate::refusals::crashed;
+use crate::refusals::openings::{is_of_memory, look_at_crashes};
+use crate::refusals::running::ran;
 use coordinator::{Extended, NotOpened, SessionFault, extend};
 use disk::MemDisk;
 use model::Model as Simulated;
@@ -33,11 +33,26 @@ fn carried_on<M: Simulated>(
     }
 }
 
+/// Why the later end is refused on a disk, if it is; asked again after an allocation failure.
+fn refusal<M: Simulated>(alloc: Global, model: &M, disk: MemDisk) -> Option<SessionFault> {
+    let NotOpened { fault, disk } = match extend(alloc, model, disk, LATER) {
+        Ok(_) => return None,
+        Err(refused) => refused,
+    };
+    if !is_of_memory(&fault) {
+        return Some(fault);
+    }
+    match extend(alloc, model, disk, LATER) {
+        Ok(_) => None,
+        Err(NotOpened { fault, disk: _ }) => Some(fault),
+    }
+}
+
 #[test]
 fn a_disk_is_extended_after_a_refusal(rt: HostRuntime) -> Result<(), Fail> {
     for (sectors, every) in [(64, 0), (32, 3)] {
         let disk = ran(&rt, rt.alloc(), sectors, every)?;
-        let model = one_token().model;
+        let model = ring();
         let Extended {
             front,
             before,
@@ -47,19 +62,7 @@ fn a_disk_is_extended_after_a_refusal(rt: HostRuntime) -> Result<(), Fail> {
         for torn in TEARINGS {
             // each crash leaves the later end in force, so that it is refused a second time
             let left = crashed(rt.alloc(), &disk, torn)?;
-            let refused = match extend(rt.alloc(), &model, left, LATER) {
-                Ok(_) => return Err(Fail::from("the end in force is taken as a later one")),
-                Err(NotOpened { fault, disk }) => {
-                    if !is_of_memory(&fault) {
-                        Some(fault)
-                    } else {
-                        match extend(rt.alloc(), &model, disk, LATER) {
-                            Ok(_) => None,
-                            Err(NotOpened { fault, .. }) => Some(fault),
-                        }
-                    }
-                }
-            };
+            let refused = refusal(rt.alloc(), &model, left);
             assert!(rt; refused == Some(SessionFault::EndRefused), "{torn:?}");
         }
     }

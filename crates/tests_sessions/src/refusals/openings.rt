@@ -1,8 +1,9 @@
 // Openings with one allocation refused. The disk that they return must open.
 
-use crate::disks::{TEARINGS, crashed, formatted};
-use crate::plain_runner::{END, is_plain};
-use crate::running::{one_token, ran};
+use crate::disks::{END, Near, TEARINGS, formatted, near, ring};
+use crate::refusals::crashed;
+use crate::refusals::plain_runner::is_plain;
+use crate::refusals::running::ran;
 use commitlog::LogFault;
 use coordinator::{NotOpened, Session, SessionFault};
 use disk::MemDisk;
@@ -10,15 +11,12 @@ use loopback::{LoopPort, loop_ports};
 use model::Model as Simulated;
 use node::NodeFault;
 use recovery::RecoveryFault;
-use runs::local_ports;
 use std::alloc::Global;
 use std::process::Abort;
 use std::test::Fail;
-use wire::{LocalPort, Port, PortFault, WireFault};
+use wire::{Port, PortFault, WireFault};
 
-/// A session over local nodes, and one over nodes behind bytes.
-pub type Near<'m, M> = Session<'m, M, LocalPort<'m, M>, MemDisk>;
-
+/// A session over nodes behind bytes.
 pub type Far<'m, M> = Session<'m, M, LoopPort<'m, M>, MemDisk>;
 
 /// Whether a fault is an allocation failure, of any layer.
@@ -30,21 +28,6 @@ pub fn is_of_memory(fault: &SessionFault) -> bool {
             | SessionFault::Port(PortFault::Peer(NodeFault::NoMemory))
             | SessionFault::Recovery(RecoveryFault::Log(LogFault::NoMemory))
     )
-}
-
-/// Opens a disk over three local nodes.
-fn near<M: Simulated>(
-    alloc: Global,
-    model: &M,
-    disk: MemDisk,
-) -> Result<Near<'_, M>, NotOpened<MemDisk>> {
-    match local_ports(alloc, model, 3) {
-        Ok(ports) => Session::open(alloc, model, ports, disk, END),
-        Err(_refused) => Err(NotOpened {
-            fault: SessionFault::NoMemory,
-            disk,
-        }),
-    }
 }
 
 /// Opens a disk over three nodes behind bytes.
@@ -165,19 +148,18 @@ fn look_at_disk<M: Simulated>(
 
 #[test]
 fn an_empty_log_opens_after_a_refusal(rt: HostRuntime) -> Result<(), Fail> {
-    let ring = one_token().model;
-    let disk = formatted(rt.alloc(), &ring, 64)?;
-    look_at_disk(&rt, rt.alloc(), &ring, disk, 0)
+    let disk = formatted(rt.alloc(), &ring(), 64, END)?;
+    look_at_disk(&rt, rt.alloc(), &ring(), disk, 0)
 }
 
 #[test]
 fn a_whole_log_opens_after_a_refusal(rt: HostRuntime) -> Result<(), Fail> {
     let disk = ran(&rt, rt.alloc(), 64, 0)?;
-    look_at_disk(&rt, rt.alloc(), &one_token().model, disk, 10)
+    look_at_disk(&rt, rt.alloc(), &ring(), disk, END)
 }
 
 #[test]
 fn a_log_with_a_checkpoint_opens_after_a_refusal(rt: HostRuntime) -> Result<(), Fail> {
     let disk = ran(&rt, rt.alloc(), 11, 3)?;
-    look_at_disk(&rt, rt.alloc(), &one_token().model, disk, 10)
+    look_at_disk(&rt, rt.alloc(), &ring(), disk, END)
 }

@@ -1,12 +1,12 @@
 // The steps of a session of three nodes, with one allocation refused: a straggler, its rollback, an
 // antimessage, a commit, and a checkpoint.
 
-use crate::disks::formatted;
-use crate::openings::{Far, Near, is_of_memory, look_at_crashes, opened_far, opened_near};
-use crate::plain_runner::is_plain;
+use crate::disks::{END, Near, formatted, two_tokens};
+use crate::refusals::openings::{Far, is_of_memory, look_at_crashes, opened_far, opened_near};
+use crate::refusals::plain_runner::is_plain;
+use crate::steps::{stepped, steps};
 use coordinator::{DriveFault, Session, SessionFault, Step};
 use disk::{MemDisk, SectorDisk};
-use eventkey::Listed;
 use model::Model as Simulated;
 use models::TokenRing;
 use std::alloc::{AllocError, Global};
@@ -14,60 +14,10 @@ use std::process::Abort;
 use std::test::Fail;
 use wire::Port;
 
-/// A step in the table.
-#[derive(Clone, Copy)]
-enum Row {
-    /// A post to this node, with these picks and this budget.
-    Post(u32, &'static [u32], u32),
-    Take(u32),
-    Commit,
-    Checkpoint,
-}
-
-/// The first commit, at place 12, is of time 3.
-const ROWS: [Row; 15] = [
-    Row::Post(0, &[], 1),
-    Row::Take(0),
-    Row::Post(1, &[], 1),
-    Row::Take(1),
-    Row::Post(1, &[0], 1),
-    Row::Take(1),
-    Row::Post(2, &[1], 1),
-    Row::Take(2),
-    Row::Post(2, &[0], 2),
-    Row::Take(2),
-    Row::Post(0, &[1, 0], 0),
-    Row::Take(0),
-    Row::Commit,
-    Row::Checkpoint,
-    Row::Commit,
-];
-
-fn step_of(alloc: Global, row: Row) -> Result<Step, AllocError> {
-    Ok(match row {
-        Row::Post(node, picks, budget) => Step::Post {
-            node,
-            picks: Listed::from_vec(picks.to_vec(alloc)?),
-            budget,
-        },
-        Row::Take(node) => Step::Take { node },
-        Row::Commit => Step::Commit,
-        Row::Checkpoint => Step::Checkpoint,
-    })
-}
-
-fn all_steps(alloc: Global) -> Result<Vec<Step>, AllocError> {
-    let mut steps = Vec::new(alloc);
-    for row in ROWS {
-        steps.push(step_of(alloc, row)?)?;
-    }
-    Ok(steps)
-}
-
 /// All steps; built a second time after an allocation failure.
-fn steps(alloc: Global) -> Result<Vec<Step>, AllocError> {
-    match all_steps(alloc) {
-        Err(AllocError) => all_steps(alloc),
+fn all_steps(alloc: Global) -> Result<Vec<Step>, AllocError> {
+    match steps(alloc, 15) {
+        Err(AllocError) => steps(alloc, 15),
         steps => steps,
     }
 }
@@ -77,14 +27,6 @@ fn steps(alloc: Global) -> Result<Vec<Step>, AllocError> {
 enum By {
     Step,
     Drive,
-}
-
-fn stepped<M: Simulated, P: Port, D: SectorDisk>(
-    session: &mut Session<'_, M, P, D>,
-    step: &Step,
-) -> Result<(), SessionFault> {
-    session.step(step)?;
-    Ok(())
 }
 
 /// Makes these steps one at a time, with the result of `drive`.
@@ -144,7 +86,7 @@ fn look_at_steps<M: Simulated, P: Port + Drop>(
     by: By,
 ) -> Result<(), Fail> {
     let mut session = session;
-    let steps = steps(alloc)?;
+    let steps = all_steps(alloc)?;
     let made = match led(&mut session, steps.as_slice(), by) {
         Ok(made) => made,
         Err(DriveFault { done, fault }) => {
@@ -161,21 +103,16 @@ fn look_at_steps<M: Simulated, P: Port + Drop>(
     look_at_crashes(rt, alloc, model, &session.into_disk(), outcome)
 }
 
-/// A ring of two tokens.
-fn ring() -> TokenRing {
-    TokenRing::new(3, 2, 2)
-}
-
 fn look_at_near(rt: &impl Abort, alloc: Global, by: By) -> Result<(), Fail> {
-    let ring = ring();
-    let disk = formatted(alloc, &ring, 64)?;
+    let ring = two_tokens();
+    let disk = formatted(alloc, &ring, 64, END)?;
     let session: Near<'_, TokenRing> = opened_near(rt, alloc, &ring, disk, 0)?;
     look_at_steps(rt, alloc, &ring, session, by)
 }
 
 fn look_at_far(rt: &impl Abort, alloc: Global, by: By) -> Result<(), Fail> {
-    let ring = ring();
-    let disk = formatted(alloc, &ring, 64)?;
+    let ring = two_tokens();
+    let disk = formatted(alloc, &ring, 64, END)?;
     let session: Far<'_, TokenRing> = opened_far(rt, alloc, &ring, disk, 0)?;
     look_at_steps(rt, alloc, &ring, session, by)
 }

@@ -2,14 +2,15 @@
 
 ghost use Rattle.std.specs.Prelude.{◌≡◌};
 
-use crate::disks::{TEARINGS, crashed, formatted};
-use crate::openings::{is_of_memory, look_at_crashes};
+use crate::disks::{END, TEARINGS, formatted, plan, ring};
+use crate::refusals::crashed;
+use crate::refusals::openings::{is_of_memory, look_at_crashes};
 use commands::{CommandFault, Ended, Simulated, log, run, show};
 use commitlog::LogFault;
 use disk::MemDisk;
 use models::TokenRing;
 use recovery::RecoveryFault;
-use runs::{Batch, Plan, Schedule, Watch};
+use runs::{Plan, Watch};
 use std::alloc::Global;
 use std::process::Abort;
 use std::test::Fail;
@@ -31,33 +32,23 @@ const RAN: &str = "node 0 ran 2\nnode 1 ran 2\nnode 2 ran 1\ncommitted 10 events
 /// The last line of a run that goes on after one that ran out of memory.
 const COMMITTED: &str = "committed 10 events 5\n";
 
-/// One token that goes round three processes, two ticks at each, up to time 10.
-pub fn one_token() -> Simulated<TokenRing>
+/// The ring of one token up to time 10.
+fn one_token() -> Simulated<TokenRing>
     ensures { result.end ≡ 10 }
 {
     Simulated {
-        model: TokenRing::new(3, 2, 1),
-        end: 10,
+        model: ring(),
+        end: END,
     }
 }
 
 /// The last commit that a run reported: its time and the number of events in the log. And the
 /// greatest number of events that one commit added.
-#[derive(Drop)]
+#[derive(Drop, Default)]
 struct Last {
     time: u64,
     events: usize,
     most: usize,
-}
-
-impl Last {
-    fn nothing() -> Last {
-        Last {
-            time: 0,
-            events: 0,
-            most: 0,
-        }
-    }
 }
 
 impl Watch for Last {
@@ -96,32 +87,23 @@ fn run_once(
     last: &mut Last,
     out: &mut Vec<u8>,
 ) -> Ended<MemDisk> {
-    let plan = Plan {
-        nodes: 3,
-        batch: Batch::Fixed(16),
-        rounds: 100,
-        schedule: Schedule::InTurn,
-        checkpoint_every: every,
-        seals: false,
-        commit_every: 0,
-    };
-    run(alloc, &one_token(), disk, plan, last, out)
+    run(alloc, &one_token(), disk, plan(3, 16, every), last, out)
 }
 
 /// The disk that a whole run leaves. After an allocation failure the run must have printed nothing,
 /// and its disk must have what it reported; a second run goes on to the end.
 pub fn ran(rt: &impl Abort, alloc: Global, sectors: u32, every: u32) -> Result<MemDisk, Fail> {
-    let disk = formatted(alloc, &one_token().model, sectors)?;
+    let disk = formatted(alloc, &ring(), sectors, END)?;
     let mut out = room(alloc)?;
-    let mut last = Last::nothing();
+    let mut last = Last::default();
     let Ended { disk, outcome } = run_once(alloc, disk, every, &mut last, &mut out);
     let Err(fault) = outcome else {
-        assert!(rt; last.time == 10 && out.as_slice() == RAN.as_bytes());
+        assert!(rt; last.time == END && out.as_slice() == RAN.as_bytes());
         return Ok(disk);
     };
     assert!(rt; is_allocation_failure(&fault), "{fault}");
     assert!(rt; out.is_empty());
-    look_at_crashes(rt, alloc, &one_token().model, &disk, last.time)?;
+    look_at_crashes(rt, alloc, &ring(), &disk, last.time)?;
     let Ended { disk, outcome } = run_once(alloc, disk, every, &mut last, &mut out);
     assert!(rt; outcome.is_ok() && out.as_slice().ends_with(COMMITTED.as_bytes()));
     Ok(disk)
@@ -181,7 +163,7 @@ fn many_tokens() -> Simulated<TokenRing>
 {
     Simulated {
         model: TokenRing::new(8, 1, 64),
-        end: 10,
+        end: END,
     }
 }
 
@@ -192,13 +174,8 @@ const ALL_COMMITTED: &str = "committed 10 events 576\n";
 /// own.
 fn run_many(alloc: Global, disk: MemDisk, last: &mut Last, out: &mut Vec<u8>) -> Ended<MemDisk> {
     let plan = Plan {
-        nodes: 1,
-        batch: Batch::Fixed(200),
-        rounds: 100,
-        schedule: Schedule::InTurn,
-        checkpoint_every: 0,
-        seals: false,
         commit_every: 100,
+        ..plan(1, 200, 0)
     };
     run(alloc, &many_tokens(), disk, plan, last, out)
 }
@@ -206,9 +183,9 @@ fn run_many(alloc: Global, disk: MemDisk, last: &mut Last, out: &mut Vec<u8>) ->
 #[test]
 fn a_refused_commit_of_many_events_keeps_what_was_reported(rt: HostRuntime) -> Result<(), Fail> {
     let model = many_tokens().model;
-    let disk = formatted(rt.alloc(), &model, 128)?;
+    let disk = formatted(rt.alloc(), &model, 128, END)?;
     let mut out = room(rt.alloc())?;
-    let mut last = Last::nothing();
+    let mut last = Last::default();
     let Ended { disk, outcome } = run_many(rt.alloc(), disk, &mut last, &mut out);
     let Err(fault) = outcome else {
         assert!(rt; last.most > 64 && out.as_slice().ends_with(ALL_COMMITTED.as_bytes()));
