@@ -1,4 +1,0 @@
-// Texts of logs and worlds, and model files.
-
-mod model_files;
-mod writing;

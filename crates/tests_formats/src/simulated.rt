@@ -1,4 +1,0 @@
-// The models: single calls of their handlers.
-
-mod rings;
-mod rows;

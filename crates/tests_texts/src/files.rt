@@ -1,0 +1,153 @@
+// Model files of models by rules. The places of mistakes in them, and how rules are laid out, are in
+// the scripts `rules_in_files` and `laid_out`.
+
+use crate::model_files::wrong_file;
+use rule_files::FileModel;
+use std::test::Fail;
+use texts::{Described, read_model};
+
+/// What a model file has before its rules.
+const KEYS: &str = "
+model = 'rules'
+lps = 2
+end = 9
+state = ['n', 'key', 'm']
+seed = 7
+message = ['job']
+[numbers]
+jobs = 3
+[tables]
+ticks = [1, 2]
+[rules]
+";
+
+/// Rules without statements, which do nothing.
+const NOTHING: &str = "[rules]\nstart = ''\nhandle = ''\n";
+
+/// The keys of files, and their mistakes.
+const FILES: &str = r#"model = 'rules'
+lps = 2
+end = 9
+state = []
+=>
+--
+model = 'rules'
+lps = 2
+end = 9
+state = ['x', 'key']
+seed = 7
+message = ['job']
+[numbers]
+n = 3
+[tables]
+t = [1, 2]
+=>
+--
+model = 'rules'
+lps = 2
+end = 9
+state = ['x', 'key']
+=>
+  seed: missing; expected a whole number from 0 to 9223372036854775807 if the state has key, otherwise nothing
+--
+model = 'rules'
+lps = 2
+end = 9
+state = ['a']
+=>
+  state: a list; expected names that are nowhere else in state, message, numbers and tables
+--
+model = 'rules'
+lps = 2
+end = 9
+state = ['now', '1x']
+hold = 3
+=>
+  state: a list; expected a list of at most 16 names
+  "hold": the model has no such key
+--
+model = 'rules'
+lps = 2
+end = 9
+state = []
+[tables]
+t = []
+=>
+  tables: a table; expected at most 1024 names with lists of one or more numbers, at most 1048576 in all
+"#;
+
+#[test]
+fn a_file_is_read_or_its_mistakes_are_found(rt: HostRuntime) -> Result<(), Fail> {
+    assert_eq!(rt;
+        wrong_file::<FileModel>(rt.alloc(), "", FILES, NOTHING)?,
+        None
+    );
+    Ok(())
+}
+
+/// The rules of files, and their mistakes.
+const RULES: &str = r#"start = 'send to 1 - self after jobs with draw(2)'
+handle = 'n = job + b + c + d m = ticks[n]'
+=>
+--
+start = 'n = jobs # three'
+handle = 'repeat k jobs2 {}'
+=>
+  handle, line 1, column 10: a number below 2^32 is wanted here
+--
+start = 'n = '
+handle = 'm = a'
+=>
+  start, line 1, column 5: the text ends, but a value is wanted here
+  handle, line 1, column 5: there is nothing named "a"
+--
+start = 'key = 1'
+handle = 'n = job'
+=>
+  start, line 1, column 1: "key" is neither read nor set
+--
+start = 'n = jobz'
+handle = ''
+=>
+  start, line 1, column 5: there is nothing named "jobz"; did you mean "job"?
+--
+start = ''
+handle = 'repeat i 9 { send to i after 1 }'
+=>
+  handle, line 1, column 1: more than 8 sends on some way through it
+--
+start = ''
+handle = 'repeat i 8 { send to i after 1 }'
+=>
+--
+start = 'repeat i 15 { n = draw(2) }'
+handle = ''
+=>
+  start, line 1, column 1: more than 14 draws on some way through it
+--
+start = 'repeat i 14 { n = draw(2) }'
+handle = ''
+=>
+--
+start = ''
+handle = 'repeat i 65536 { n = n + 1 }'
+=>
+  handle, line 1, column 1: more than 65536 steps on some way through it
+"#;
+
+#[test]
+fn the_rules_of_a_file_are_read_or_its_mistakes_are_found(rt: HostRuntime) -> Result<(), Fail> {
+    assert_eq!(rt; wrong_file::<FileModel>(rt.alloc(), KEYS, RULES, "")?, None);
+    Ok(())
+}
+
+#[test]
+fn a_model_has_the_names_of_its_words(rt: HostRuntime) -> Result<(), Fail> {
+    let text = format!(in rt.alloc(); "{KEYS}start = ''\nhandle = ''\n")?;
+    let (model, _end): (FileModel, u64) = read_model(rt.alloc(), text.as_str())?;
+    let (words, contents) = (model.state_names(), model.content_names());
+    assert!(rt; words.len() == 3 && contents.len() == 1);
+    assert!(rt; words[0].as_str() == "n" && words[1].as_str() == "key" && words[2].as_str() == "m");
+    assert!(rt; contents[0].as_str() == "job");
+    Ok(())
+}

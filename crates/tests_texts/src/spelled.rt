@@ -1,0 +1,128 @@
+// Texts of rules, and which trees they spell. Their mistakes and limits are in the scripts
+// `rules_read` and `hostile_rules`.
+
+use rules::Statement;
+use rules_text::{Kind, Meaning, Mistake, ReadError, Scope, ScopeError, read_rule};
+use std::alloc::Global;
+use std::test::Fail;
+
+/// A scope with the state `served`, `free_at` and `key`, the content `job`, the number `jobs` and
+/// the table `speed`.
+fn scope(alloc: Global) -> Result<Scope, ScopeError> {
+    let mut scope = Scope::new(alloc, true);
+    scope.add(alloc, "free_at", Meaning::Word(0))?;
+    scope.add(alloc, "served", Meaning::Word(1))?;
+    scope.add(alloc, "job", Meaning::Content(0))?;
+    scope.add(alloc, "jobs", Meaning::Number(2))?;
+    scope.add(alloc, "speed", Meaning::Table(3))?;
+    Ok(scope)
+}
+
+/// The rule that a text spells.
+pub fn rule(alloc: Global, text: &str) -> Result<Vec<Statement>, Fail> {
+    let scope = scope(alloc).ok().ok_or("the names are free")?;
+    Ok(
+        read_rule(alloc, &scope, text)
+            .ok()
+            .ok_or("a rule was wanted")?,
+    )
+}
+
+/// Values of `served`, and the trees that they spell.
+const VALUES: &str = "\
+8 - 3 - 2 * 2 => Two(Minus, Two(Minus, Number(8), Number(3)), Two(Times, Number(2), Number(2)))
+1 + 2 << 3 => Two(ShiftLeft, Two(Plus, Number(1), Number(2)), Number(3))
+1 << 2 & 3 => Two(BitAnd, Two(ShiftLeft, Number(1), Number(2)), Number(3))
+1 & 2 ^ 3 => Two(BitXor, Two(BitAnd, Number(1), Number(2)), Number(3))
+1 ^ 2 | 3 => Two(BitOr, Two(BitXor, Number(1), Number(2)), Number(3))
+1 | 2 == 3 => Two(Same, Two(BitOr, Number(1), Number(2)), Number(3))
+1 < 2 && 3 >= 4 => Two(Both, Two(Below, Number(1), Number(2)), Two(AtLeast, Number(3), Number(4)))
+1 || 2 && 3 || 4 => Two(Either, Two(Either, Number(1), Two(Both, Number(2), Number(3))), Number(4))
+!1 % 2 / 3 => Two(Over, Two(Modulo, Not(Number(1)), Number(2)), Number(3))
+!(1 != 2) => Not(Two(Different, Number(1), Number(2)))
+min(1, 2 >> 1) <= max(x, job) => Two(AtMost, Two(Least, Number(1), Two(ShiftRight, Number(2), Number(1))), Two(Greatest, Local(0), Content(0)))
+speed[self + now] > draw(jobs) => Two(Above, Entry(3, Two(Plus, Read(Process), Read(Now))), Draw(Number(2)))
+(free_at - lps) * sender => Two(Times, Two(Minus, Word(0), Read(Processes)), Read(Sender))
+18_446_744_073_709_551_615 # the most => Number(18446744073709551615)
+";
+
+/// The statement that gives `served` a value, as `Debug` prints it.
+fn spelled(alloc: Global, value: &str) -> Result<String, Fail> {
+    let text = format!(in alloc; "let x = 1 served = {value}")?;
+    let rule = rule(alloc, text.as_str())?;
+    Ok(format!(in alloc; "{:?}", rule.get(1))?)
+}
+
+/// Whether a row, `value => tree`, is right.
+fn is_right(alloc: Global, row: &str) -> Result<bool, Fail> {
+    let (value, tree) = row.split_once(" => ").ok_or("a row")?;
+    let statement = spelled(alloc, value)?;
+    Ok(statement.as_str() == format!(in alloc; "Some(Set(1, {tree}))")?.as_str())
+}
+
+#[test]
+fn operators_bind_by_strength_and_from_the_left(rt: HostRuntime) -> Result<(), Fail> {
+    for row in VALUES.lines() {
+        assert!(rt; is_right(rt.alloc(), row)?, "{row}");
+    }
+    Ok(())
+}
+
+/// What a scope that has the name `a` says to a further one.
+fn added(alloc: Global, name: &str) -> Result<(), ScopeError> {
+    let mut scope = Scope::new(alloc, false);
+    scope.add(alloc, "a", Meaning::Number(1))?;
+    scope.add(alloc, name, Meaning::Word(1))
+}
+
+#[test]
+fn a_scope_takes_each_name_once(rt: HostRuntime) {
+    assert_eq!(rt; added(rt.alloc(), "b"), Ok(()));
+    assert_eq!(rt; added(rt.alloc(), "a"), Err(ScopeError::InUse));
+    assert_eq!(rt; added(rt.alloc(), "send"), Err(ScopeError::InUse));
+    assert_eq!(rt; added(rt.alloc(), "2a"), Err(ScopeError::NotAName));
+    assert_eq!(rt; added(rt.alloc(), ""), Err(ScopeError::NotAName));
+}
+
+/// The mistake in a text.
+fn mistake_in(alloc: Global, scope: &Scope, text: &str) -> Result<Mistake, Fail> {
+    match read_rule(alloc, scope, text) {
+        Err(ReadError::Mistaken(mistake)) => Ok(mistake),
+        _ => Err(Fail::from("a mistake was wanted")),
+    }
+}
+
+#[test]
+fn a_draw_wants_the_word_key(rt: HostRuntime) -> Result<(), Fail> {
+    let mut scope = Scope::new(rt.alloc(), false);
+    assert!(rt; scope.add(rt.alloc(), "a", Meaning::Number(1)).is_ok());
+    let mistake = mistake_in(rt.alloc(), &scope, "let b = draw(a)")?;
+    assert!(rt; matches!(&mistake.kind, Kind::Kept(_)));
+    assert_eq!(rt;
+        format!(in rt.alloc(); "{mistake}")?.as_str(),
+        "line 1, column 9: draw wants the word key in the state"
+    );
+    Ok(())
+}
+
+/// The text of the mistake in a rule that has a part this number of times.
+fn mistake_of(alloc: Global, part: &str, count: u32) -> Result<String, Fail> {
+    let scope = scope(alloc).ok().ok_or("the names are free")?;
+    let mut text = String::new(alloc);
+    for _ in 0..count {
+        text.push_str(part)?;
+    }
+    Ok(format!(in alloc; "{}", mistake_in(alloc, &scope, text.as_str())?)?)
+}
+
+#[test]
+fn limits_are_at_their_numbers(rt: HostRuntime) -> Result<(), Fail> {
+    for (part, count) in [(" ", 65_537), ("[", 1_048_576)] {
+        let mistake = mistake_of(rt.alloc(), part, count)?;
+        assert_eq!(rt;
+            mistake.as_str(),
+            "line 1, column 1: a rule has at most 65,536 bytes"
+        );
+    }
+    Ok(())
+}
