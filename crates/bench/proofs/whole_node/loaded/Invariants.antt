@@ -1,6 +1,6 @@
 use Rattle.std.specs.List.{AllByRecursion as Every}
 use Rattle.node.specs.Handling.{IsInRange}
-use Rattle.bench_runs.proofs.whole_node.loaded.Given as goal
+use Rattle.bench.proofs.whole_node.loaded.Given as goal
 
 abbrev pub invariant-loop-lp : goal.invariant-loop-lp
 invariant-loop-lp g l = Every IsInRange l.parts.items

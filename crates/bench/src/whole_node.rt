@@ -1,27 +1,41 @@
-// One node that runs all processes of a model, parcel by parcel.
+// One node that runs all processes of a model, parcel by parcel. `benchmarks/node` times this.
 
 ghost use Rattle.std.specs.Prelude.{◌≡◌, ◌<◌, ◌≤◌, ◌^◌, IfOk};
 ghost use Rattle.node.specs.Handling.{IsInRange};
 ghost use Rattle.node.specs.Kept.{HasHistories};
 
+use crate::failure::Failure;
+use crate::plain::read;
 use eventkey::{Listed, Sign, Signed};
 use model::{Model as Simulated, State};
+use models::AnyModel;
 use node::{Load, Node, NodeFault, Parcel, Part, Reply};
 use std::alloc::{AllocError, Global};
 
 /// The result of a run.
 #[derive(Drop)]
-pub struct Outcome {
+struct Outcome {
     /// The number of handlings that the node released.
-    pub committed: u64,
+    committed: u64,
     /// The number of messages that it handled, including those that it rolled back.
-    pub ran: u64,
+    ran: u64,
+}
+
+/// Runs the model of a model file, and prints the result.
+pub fn run(rt: &HostRuntime, path: &str, budget: u32) -> Result<(), Failure> {
+    let (model, end) = match read::<AnyModel>(rt, path) {
+        Ok(file) => file,
+        Err(failure) => return Err(failure),
+    };
+    let run = outcome_of(rt.alloc(), &model, end, budget);
+    let Outcome { committed, ran } = run.map_err(Failure::Node)?;
+    println!(rt; "committed {committed} ran {ran}").map_err(Failure::Output)
 }
 
 /// Runs a model to its end, in ticks, on one node, with this budget for each parcel. Each parcel
 /// delivers what the one before it sent, and its floor is the least time of all that waited or
 /// travelled then.
-pub fn run<M: Simulated>(
+fn outcome_of<M: Simulated>(
     alloc: Global,
     model: &M,
     end: u64,

@@ -1,6 +1,6 @@
 use Rattle.std.proofs.Common.{◌≡◌}
 use Rattle.node.specs.Kept.{HasHistories}
-use Rattle.bench_runs.proofs.whole_node.run.Given as goal
+use Rattle.bench.proofs.whole_node.outcome_of.Given as goal
 
 abbrev pub invariant-loop : goal.invariant-loop
 invariant-loop g l = record {
