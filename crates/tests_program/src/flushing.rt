@@ -1,247 +1,34 @@
-// The output of a command on its two streams and the terminal, and the order of writes.
+// What a command reports to its progress, and the order in which a user sees it.
 
-use crate::running::{ABOUT, RING, path_of, run_to};
-use models::AnyModel;
+use crate::running::{RING, file, run, run_on};
 use pictures::Row;
-use program::{Progress, command};
-use std::alloc::{AllocError, Global};
+use program::Progress;
+use std::alloc::AllocError;
 use std::cell::Cell;
-use std::fs::{self, File};
-use std::io::{self, Error, ErrorKind, Write};
-use std::net::Net;
-use std::process::{Abort, Processes};
-use std::rt::{Clock, CpuClock, Env, Files};
+use std::fs;
+use std::io::{self, Write};
 use std::test::Fail;
 use terminal::Cause;
 
-const LATER_RING: &str = "model = \"ring\"\nlps = 3\nend = 20\nhold = 2\ntokens = 1\n";
-
-/// A writer that accepts all, counts the bytes since the last flush, and may refuse flushes.
+/// What a run reports to its progress, a line for each call; and what a user sees, a digit each: 1
+/// when the progress is cleared, 2 for the fault on standard error, in any number of writes, and 3
+/// when the terminal gets the fault.
 #[derive(Drop)]
-struct CountingWriter {
-    taken: Vec<u8>,
-    waiting: usize,
-    refuses: bool,
-}
-
-impl Write for CountingWriter {
-    fn write(&mut self, buf: &[u8]) -> io::Result<usize> {
-        self.taken.extend_from_slice(buf)?;
-        self.waiting = self.waiting.saturating_add(buf.len());
-        Ok(buf.len())
-    }
-
-    fn flush(&mut self) -> io::Result<()> {
-        if self.refuses {
-            return Err(Error::from(ErrorKind::StorageFull));
-        }
-        self.waiting = 0;
-        Ok(())
-    }
-}
-
-/// Commands that print, run in this order.
-const LINES: [&str; 12] = [
-    "new MODEL DISK --sectors 64",
-    "run MODEL DISK --nodes 3",
-    "log MODEL DISK",
-    "show MODEL DISK",
-    "seq MODEL",
-    "check MODEL",
-    "extend LATER DISK",
-    "grow LATER DISK --sectors 128",
-    "status LATER DISK",
-    "stats LATER DISK",
-    "stats LATER DISK --format csv",
-    "draw LATER DISK",
-];
-
-/// The paths of the files.
-#[derive(Drop)]
-struct Stage {
-    model: String,
-    later: String,
-    disk: String,
-}
-
-fn begin<R>(rt: &R) -> Result<Stage, Fail>
-where
-    R: Files<File = File> + Env + AllocGlobal,
-{
-    let stage = Stage {
-        model: path_of(rt, "timewarp-flushed-model.toml")?,
-        later: path_of(rt, "timewarp-flushed-later.toml")?,
-        disk: path_of(rt, "timewarp-flushed-disk")?,
-    };
-    fs::write(rt, stage.model.as_str(), RING)?;
-    fs::write(rt, stage.later.as_str(), LATER_RING)?;
-    let _ = fs::remove_file(rt, stage.disk.as_str());
-    Ok(stage)
-}
-
-fn words_of<'a>(
-    alloc: Global,
-    line: &'a str,
-    stage: &'a Stage,
-) -> Result<Vec<&'a str>, AllocError> {
-    let mut words = Vec::new(alloc);
-    words.push("timewarp")?;
-    for word in line.split(' ') {
-        words.push(match word {
-            "MODEL" => stage.model.as_str(),
-            "LATER" => stage.later.as_str(),
-            "DISK" => stage.disk.as_str(),
-            _ => word,
-        })?;
-    }
-    Ok(words)
-}
-
-/// Runs a command whose last flush may be refused, and checks its result. Returns what it wrote.
-fn taken_of<R>(rt: &R, stage: &Stage, line: &str, refuses: bool) -> Result<Vec<u8>, Fail>
-where
-    R: Files<File = File> + Net + Processes + Clock + CpuClock + Abort + AllocGlobal,
-{
-    let words = words_of(rt.alloc(), line, stage)?;
-    let mut out = CountingWriter {
-        taken: Vec::new(rt.alloc()),
-        waiting: 0,
-        refuses,
-    };
-    let mut err = Vec::new(rt.alloc());
-    let status = run_to(rt, words.as_slice(), &mut out, &mut err);
-    if refuses {
-        assert_eq!(rt;
-            (status, err.as_slice()),
-            (1, b"timewarp: Output\n".as_slice()),
-            "{line}"
-        );
-    } else {
-        assert_eq!(rt; (status, err.len(), out.waiting), (0, 0, 0), "{line}");
-    }
-    assert!(rt; out.taken.len() > 0, "{line}");
-    Ok(out.taken)
-}
-
-/// Runs all commands. Returns what they wrote.
-fn all_taken<R>(rt: &R, refuses: bool) -> Result<Vec<u8>, Fail>
-where
-    R: Files<File = File> + Net + Processes + Clock + CpuClock + Env + Abort + AllocGlobal,
-{
-    let stage = begin(rt)?;
-    let mut all = Vec::new(rt.alloc());
-    for line in LINES {
-        all.extend_from_slice(taken_of(rt, &stage, line, refuses)?.as_slice())?;
-    }
-    for path in [&stage.model, &stage.later, &stage.disk] {
-        fs::remove_file(rt, path.as_str())?;
-    }
-    Ok(all)
-}
-
-// If a flush is refused, everything was written before it.
-#[test]
-fn each_command_flushes_its_output(rt: HostRuntime) -> Result<(), Fail> {
-    let flushed = all_taken(&rt, false)?;
-    let refused = all_taken(&rt, true)?;
-    assert!(rt; flushed.as_slice() == refused.as_slice());
-    Ok(())
-}
-
-/// What a user sees, in this order: 'c' when the progress is cleared, 'e' for the fault on standard
-/// error, in any number of writes, and 'f' when the terminal gets the fault.
-#[derive(Drop)]
-struct Seen {
-    kinds: Cell<[u8; 4]>,
-    count: Cell<usize>,
-}
-
-impl Seen {
-    fn note(&self, kind: u8) {
-        let mut kinds = self.kinds.get();
-        let count = self.count.get();
-        if count > 0 && count <= 4 && kinds[count - 1] == kind {
-            return;
-        }
-        if count < 4 {
-            kinds[count] = kind;
-            self.kinds.set(kinds);
-            self.count.set(count + 1);
-        }
-    }
-}
-
-#[derive(Clone, Copy)]
-struct Terminal<'a> {
-    seen: &'a Seen,
-}
-
-impl Progress for Terminal<'_> {
-    fn begin(&mut self, _end: u64) {}
-
-    fn waiting(&mut self, _nodes: &[usize]) {}
-
-    fn committed(&mut self, _time: u64, _events: usize) {}
-
-    fn stored(&mut self, _used: u32, _sectors: u32) {}
-
-    fn turned(&mut self, _turn: &Row) {}
-
-    fn clear(&mut self) {
-        self.seen.note(b'c');
-    }
-
-    fn finished(&mut self) {}
-
-    fn is_seen(&self) -> bool {
-        false
-    }
-
-    fn failed(&mut self, _advice: Option<&'static str>, _cause: Option<Cause<'_>>) {
-        self.seen.note(b'f');
-    }
-}
-
-impl Write for Terminal<'_> {
-    fn write(&mut self, buf: &[u8]) -> io::Result<usize> {
-        self.seen.note(b'e');
-        Ok(buf.len())
-    }
-
-    fn flush(&mut self) -> io::Result<()> {
-        Ok(())
-    }
-}
-
-#[test]
-fn a_fault_is_printed_between_progress_and_advice(rt: HostRuntime) -> Result<(), Fail> {
-    let seen = Seen {
-        kinds: Cell::new([0; 4]),
-        count: Cell::new(0),
-    };
-    let mut shown = Terminal { seen: &seen };
-    let mut err = Terminal { seen: &seen };
-    let mut out = Vec::new(rt.alloc());
-    let words = ["timewarp", "seq", "timewarp-missing.toml"];
-    let status = command::<AnyModel, _, _, _, _, _>(
-        &rt,
-        ABOUT,
-        words.as_slice(),
-        &mut shown,
-        &mut out,
-        &mut err,
-    );
-    assert_eq!(rt; (status, out.len(), seen.kinds.get()), (1, 0, *b"cef\0"));
-    Ok(())
-}
-
-/// What a run reports to its progress, a line for each call.
-#[derive(Drop)]
-struct Course {
+struct Course<'a> {
     lines: Vec<u8>,
+    seen: &'a Cell<u32>,
 }
 
-impl Progress for Course {
+impl Course<'_> {
+    fn note(&self, kind: u32) {
+        let seen = self.seen.get();
+        if seen % 10 != kind {
+            self.seen.set(seen.wrapping_mul(10).wrapping_add(kind));
+        }
+    }
+}
+
+impl Progress for Course<'_> {
     fn begin(&mut self, end: u64) {
         let _ = writeln!(self.lines, "a run to {end}");
     }
@@ -261,7 +48,9 @@ impl Progress for Course {
         let _ = writeln!(self.lines, "round {round} node {node} handled {handled}");
     }
 
-    fn clear(&mut self) {}
+    fn clear(&mut self) {
+        self.note(1);
+    }
 
     fn finished(&mut self) {
         let _ = writeln!(self.lines, "finished");
@@ -271,16 +60,46 @@ impl Progress for Course {
         false
     }
 
-    fn failed(&mut self, _advice: Option<&'static str>, _cause: Option<Cause<'_>>) {}
+    fn failed(&mut self, _advice: Option<&'static str>, _cause: Option<Cause<'_>>) {
+        self.note(3);
+    }
 }
 
-/// Runs without and with a trace.
-const RUNS: [&str; 2] = [
-    "run MODEL DISK --nodes 3",
-    "run MODEL DISK --nodes 3 --trace LATER",
-];
+impl Write for Course<'_> {
+    fn write(&mut self, buf: &[u8]) -> io::Result<usize> {
+        self.note(2);
+        Ok(buf.len())
+    }
 
-/// What each of them reports.
+    fn flush(&mut self) -> io::Result<()> {
+        Ok(())
+    }
+}
+
+/// Runs a command. Returns its status, what it reports, and what a user sees of it.
+fn course_of(rt: &HostRuntime, words: &[&str]) -> (u8, Vec<u8>, u32) {
+    let seen = Cell::new(0);
+    let mut course = Course {
+        lines: Vec::new(rt.alloc()),
+        seen: &seen,
+    };
+    let mut err = Course {
+        lines: Vec::new(rt.alloc()),
+        seen: &seen,
+    };
+    let mut out = Vec::new(rt.alloc());
+    let status = run_on(rt, words, &mut course, &mut out, &mut err);
+    let Course { lines, .. } = course;
+    (status, lines, seen.get())
+}
+
+#[test]
+fn a_fault_is_printed_between_progress_and_advice(rt: HostRuntime) {
+    let (status, _, seen) = course_of(&rt, &["timewarp", "seq", "timewarp-missing.toml"]);
+    assert_eq!(rt; (status, seen), (1, 123));
+}
+
+/// What a run without or with a trace reports.
 const COURSE: &str = "\
 a run to 10
 2 of 64 sectors
@@ -302,40 +121,32 @@ committed 10 events 5
 finished
 ";
 
-/// Runs on a new disk. Returns what it reports.
-fn course_of<R>(rt: &R, stage: &Stage, line: &str) -> Result<Vec<u8>, Fail>
-where
-    R: Files<File = File> + Net + Processes + Clock + CpuClock + Abort + AllocGlobal,
-{
-    let _ = taken_of(rt, stage, LINES[0], false)?;
-    let mut course = Course {
-        lines: Vec::new(rt.alloc()),
-    };
-    let words = words_of(rt.alloc(), line, stage)?;
-    let mut out = Vec::new(rt.alloc());
-    let mut err = Vec::new(rt.alloc());
-    let status = command::<AnyModel, _, _, _, _, _>(
-        rt,
-        ABOUT,
-        words.as_slice(),
-        &mut course,
-        &mut out,
-        &mut err,
-    );
-    if status != 0 || !err.is_empty() {
-        return Err(Fail::new("the run is refused"));
-    }
-    let Course { lines } = course;
-    Ok(lines)
+/// Whether a run on a new disk succeeds without a word on standard error, and reports that.
+fn is_reported(
+    rt: &HostRuntime,
+    model: &str,
+    disk: &str,
+    words: &[&str],
+) -> Result<bool, AllocError> {
+    let _ = fs::remove_file(rt, disk);
+    let made = run(rt, &["timewarp", "new", model, disk, "--sectors", "64"])?;
+    let (status, lines, seen) = course_of(rt, words);
+    let is_right = status == 0 && seen <= 1 && lines.as_slice() == COURSE.as_bytes();
+    Ok(is_right && made.status == 0)
 }
 
 #[test]
 fn a_run_reports_its_turns_its_commits_and_its_room(rt: HostRuntime) -> Result<(), Fail> {
-    let stage = begin(&rt)?;
-    for line in RUNS {
-        let lines = course_of(&rt, &stage, line)?;
-        assert!(rt; lines.as_slice() == COURSE.as_bytes(), "{line}");
-        fs::remove_file(&rt, stage.disk.as_str())?;
-    }
-    Ok(())
+    let model = file(&rt, "timewarp-flushed-model.toml", Some(RING))?;
+    let trace = file(&rt, "timewarp-flushed-trace", None)?;
+    let disk = file(&rt, "timewarp-flushed-disk", None)?;
+    let (model, trace, disk) = (model.as_str(), trace.as_str(), disk.as_str());
+    let run = ["timewarp", "run", model, disk, "--nodes", "3"];
+    assert!(rt; is_reported(&rt, model, disk, &run)?);
+    let traced = [
+        "timewarp", "run", model, disk, "--nodes", "3", "--trace", trace,
+    ];
+    assert!(rt; is_reported(&rt, model, disk, &traced)?);
+    fs::remove_file(&rt, trace)?;
+    Ok(fs::remove_file(&rt, disk)?)
 }

@@ -1,153 +1,100 @@
 // What a run says of a faster way, on a terminal and with advice.
 
-use pictures::Row;
+use crate::calls::{make_calls, turn};
+use crate::running::Ticking;
 use program::{Progress, TerminalProgress};
-use std::cell::Cell;
-use std::io::Result as IoResult;
-use std::test::Fail;
-use std::time::{Clock, CpuClock, Duration};
-use terminal::Way;
+use std::alloc::Global;
+use std::io::Write;
 
-/// A clock that advances by half a second at each reading. In that time the program is busy for
-/// `busy` milliseconds.
-#[derive(Drop)]
-pub struct Working {
-    looks: Cell<u32>,
-    busy: u64,
+/// How runs are made, the milliseconds of work in half a second, and the messages of a turn, with
+/// what they say of a faster way. It is measured over two of the times between the readings and two
+/// turns. Nothing is said of runs on one processor, with cheaper handlings, and with commits of
+/// fewer events; of one that mostly waits; and of one that is made otherwise.
+const RUNS: &str = "\
+one, 300, 1000000: run --plain would be faster here: one process, 0.3 microseconds a handling
+plain 4, 210, 5000: run --sockets --overlap would be faster here: \
+42 microseconds a handling, 4 processors
+plain 1, 210, 5000:
+plain 4, 49, 5000:
+plain 4, 210, 1000:
+plain 4, 210, 0:
+one, 300, 0:
+one, 10, 1000000:
+other, 210, 5000:
+";
+
+/// The number of a text.
+fn number(text: Option<&str>) -> u64 {
+    text.unwrap_or("").parse::<u32>().map_or(0, u64::from)
 }
 
-impl Working {
-    pub fn new(busy: u64) -> Working {
-        Working {
-            looks: Cell::new(0),
-            busy,
-        }
-    }
-}
-
-impl Clock for Working {
-    fn monotonic(&self) -> IoResult<Duration> {
-        let looks = self.looks.get();
-        self.looks.set(looks.saturating_add(1));
-        Ok(Duration::from_millis(500 * u64::from(looks)))
-    }
-
-    fn since_1970(&self) -> IoResult<Duration> {
-        Ok(Duration::ZERO)
-    }
-}
-
-impl CpuClock for Working {
-    fn thread_cpu_time(&self) -> IoResult<Duration> {
-        Ok(Duration::ZERO)
-    }
-
-    fn process_cpu_time(&self) -> IoResult<Duration> {
-        let looks = u64::from(self.looks.get());
-        Ok(Duration::from_millis(self.busy.saturating_mul(looks)))
-    }
-}
-
-/// A turn in which this many messages are handled and reported.
-fn turn(handled: u64) -> Row {
-    Row {
-        round: 1,
-        node: 0,
-        budget: 16,
-        gvt: 0,
-        delivered: 0,
-        antimessages: 0,
-        handled,
-        sent: 0,
-        reported: handled,
-        committed: 0,
-        events: 0,
-    }
-}
-
-/// Shows a run of nine commits to its end, each behind a turn in which this many messages are
-/// handled.
-fn show<P: Progress>(progress: &mut P, way: Way, handled: u64) {
-    progress.begin(900);
-    progress.takes(way);
-    progress.opened(0, 0);
+/// Shows nine commits of a run to its end, each behind a turn in which this many messages are
+/// handled and reported.
+fn show<P: Progress>(shown: &mut P, handled: u64) {
     for commit in 1..10 {
-        progress.turned(&turn(handled));
-        progress.committed(100 * commit, 30 * commit as usize);
+        shown.turned(&turn(handled, handled, 0));
+        shown.committed(100 * commit, 30 * commit as usize);
     }
 }
 
-const PLAIN: &[u8] =
-    b"timewarp: run --plain would be faster here: one process, 0.3 microseconds a handling\n";
+/// What a run says after these calls, and the number of looks at the clock.
+fn said(alloc: Global, run: &str, before: &str) -> (Vec<u8>, u32) {
+    let mut words = run.split(", ");
+    let way = words.next().unwrap_or("");
+    let clock = Ticking::new(500, number(words.next()));
+    let mut err = Vec::new(alloc);
+    let mut shown = TerminalProgress::in_lines(&clock, &mut err);
+    make_calls(&mut shown, before);
+    make_calls(&mut shown, "begin 900");
+    make_calls(&mut shown, way);
+    make_calls(&mut shown, "opened");
+    show(&mut shown, number(words.next()));
+    (err, clock.looks.get())
+}
 
-const NODE_PROGRAMS: &[u8] = b"timewarp: run --sockets --overlap would be faster here: \
-    42 microseconds a handling, 4 processors\n";
-
-/// Runs by the milliseconds of work in half a second and the messages of a turn, with what they say
-/// of a faster way. It is measured over two of the times between the readings and two turns.
-const RUNS: [(Way, u64, u64, &[u8]); 9] = [
-    (Way::OneProcess, 300, 1_000_000, PLAIN),
-    (Way::Plain { processors: 4 }, 210, 5000, NODE_PROGRAMS),
-    // on one processor, with cheaper handlings, and with commits of fewer events
-    (Way::Plain { processors: 1 }, 210, 5000, b""),
-    (Way::Plain { processors: 4 }, 49, 5000, b""),
-    (Way::Plain { processors: 4 }, 210, 1000, b""),
-    (Way::Plain { processors: 4 }, 210, 0, b""),
-    (Way::OneProcess, 300, 0, b""),
-    // which mostly waits
-    (Way::OneProcess, 10, 1_000_000, b""),
-    (Way::Other, 210, 5000, b""),
-];
-
-#[test]
-fn a_run_says_once_which_way_would_be_faster(rt: HostRuntime) -> Result<(), Fail> {
-    for (way, busy, handled, line) in RUNS {
-        let clock = Working::new(busy);
-        let mut err = Vec::with_capacity(rt.alloc(), 512)?;
-        let mut shown = TerminalProgress::in_lines(&clock, &mut err);
-        shown.with_advice();
-        show(&mut shown, way, handled);
-        assert_eq!(rt; err.as_slice(), line, "{way:?} {busy} {handled}");
+/// Whether the run of a row says what stands there, if advice is asked for.
+fn says(alloc: Global, row: &str) -> bool {
+    let (run, text) = row.split_once(':').unwrap_or((row, ""));
+    let mut line = Vec::new(alloc);
+    if !text.is_empty() {
+        let _ = writeln!(line, "timewarp:{text}");
     }
-    Ok(())
+    said(alloc, run, "advised").0.as_slice() == line.as_slice()
+}
+
+/// Whether the run of a row says nothing otherwise, without a look at the clock.
+fn is_quiet(alloc: Global, row: &str) -> bool {
+    let (run, _) = row.split_once(':').unwrap_or((row, ""));
+    let (said, looks) = said(alloc, run, "");
+    said.is_empty() && looks == 0
 }
 
 #[test]
-fn without_a_terminal_no_way_is_named_unless_advice_is_asked_for(
-    rt: HostRuntime,
-) -> Result<(), Fail> {
-    for (way, busy, handled, _) in RUNS {
-        let clock = Working::new(busy);
-        let mut err = Vec::with_capacity(rt.alloc(), 512)?;
-        let mut shown = TerminalProgress::in_lines(&clock, &mut err);
-        show(&mut shown, way, handled);
-        assert_eq!(rt;
-            (err.len(), clock.looks.get()),
-            (0, 0),
-            "{way:?} {busy} {handled}"
-        );
+fn a_run_says_once_which_way_would_be_faster(rt: HostRuntime) {
+    for row in RUNS.lines() {
+        assert!(rt; says(rt.alloc(), row), "{row}");
     }
-    Ok(())
+}
+
+#[test]
+fn without_a_terminal_no_way_is_named_unless_advice_is_asked_for(rt: HostRuntime) {
+    for row in RUNS.lines() {
+        assert!(rt; is_quiet(rt.alloc(), row), "{row}");
+    }
 }
 
 /// What a terminal shows up to the second commit.
-const SHOWN: &[u8] = b"\
+const SHOWN: &str = "\
     circuit: run --plain would be faster here: one process, 0.6 microseconds a handling\n\
     \rcommitted 200 (22%), 60 events (30/s), 7 s to go, efficiency 100%\x1b[K\r\x1b[K";
 
 #[test]
-fn a_terminal_shows_the_faster_way_above_the_progress(rt: HostRuntime) -> Result<(), Fail> {
-    let clock = Working::new(300);
-    let mut terminal = Vec::with_capacity(rt.alloc(), 512)?;
+fn a_terminal_shows_the_faster_way_above_the_progress(rt: HostRuntime) {
+    let clock = Ticking::new(500, 300);
+    let mut terminal = Vec::new(rt.alloc());
     let mut shown = TerminalProgress::on(&clock, Some(&mut terminal)).named("circuit");
-    shown.begin(900);
-    shown.takes(Way::OneProcess);
-    shown.opened(0, 0);
-    for commit in 1..3 {
-        shown.turned(&turn(1_000_000));
-        shown.committed(100 * commit, 30 * commit as usize);
-    }
-    shown.clear();
-    assert_eq!(rt; terminal.as_slice(), SHOWN);
-    Ok(())
+    let calls = "begin 900, one, opened, turned 1000000 1000000, committed 100 30, \
+                 turned 1000000 1000000, committed 200 60, clear";
+    make_calls(&mut shown, calls);
+    assert_eq!(rt; terminal.as_slice(), SHOWN.as_bytes());
 }

@@ -3,7 +3,9 @@
 #![tactic(auto)]
 
 #[cfg(test)]
-mod buffered;
+mod calls;
+#[cfg(test)]
+mod faults;
 #[cfg(test)]
 mod flushing;
 #[cfg(test)]

@@ -13,71 +13,87 @@ use migration::MigrateFault;
 use model::WorldFault;
 use node::NodeFault;
 use process::ProcessFault;
-use program::{Fault, print_fault};
+use program::Fault;
 use recovery::RecoveryFault;
 use runs::{RunFault, SimulationFault};
-use std::fmt::Display;
-use std::process::Abort;
-use std::test::Fail;
+use std::alloc::Global;
+use std::fmt::{Display, Write};
 use texts::{Mistake, ModelFault};
 use upkeep::{ReopenFault, VerifyFault};
 use wire::{PortFault, WireFault};
 
-/// Checks that each fault is printed as the text beside it.
-fn look_at_names<F, R>(rt: &R, names: &[(F, &str)]) -> Result<(), Fail>
-where
-    F: Display,
-    R: Abort + AllocGlobal,
-{
-    for (fault, text) in names {
-        let name = fault.to_string(rt.alloc())?;
-        assert!(rt; name.as_str() == *text, "{text}");
-    }
-    Ok(())
+/// The names of faults as they are printed, and as they have to be, a line each.
+#[derive(Drop)]
+struct Names {
+    printed: String,
+    wanted: String,
 }
 
-/// Checks the names of the faults of one enum. The match has no wildcard arm, so that it does not
-/// compile if a variant has no row.
-macro_rules! check_names {
-    ($rt:expr; $kind:ident {
+impl Names {
+    fn new(alloc: Global) -> Names {
+        Names {
+            printed: String::new(alloc),
+            wanted: String::new(alloc),
+        }
+    }
+
+    fn are_right(&self) -> bool {
+        !self.wanted.is_empty() && self.printed.as_str() == self.wanted.as_str()
+    }
+}
+
+/// Prints these, a line each.
+fn put<T: Display>(text: &mut String, items: &[T]) {
+    for item in items {
+        let _ = writeln!(text, "{item}");
+    }
+}
+
+/// Puts the faults of one enum and their names into `$names`. The match has no wildcard arm, so
+/// that it does not compile if a variant has no row.
+macro_rules! put_names {
+    ($names:expr; $kind:ident {
         $($name:ident $(($($carried:tt)*))? $({ $($field:tt)* })? => $text:literal,)*
     }) => {{
-        let names = [
-            $(($kind::$name $(($($carried)*))? $({ $($field)* })?, $text)),*
-        ];
-        if let Some((fault, _)) = names.first() {
-            match fault {
-                $($kind::$name { .. } => {})*
-            }
+        let faults = [$($kind::$name $(($($carried)*))? $({ $($field)* })?),*];
+        match &faults[0] {
+            $($kind::$name { .. } => {})*
         }
-        look_at_names(&$rt, &names)?;
+        put(&mut $names.printed, &faults);
+        put(&mut $names.wanted, &[$($text),*]);
     }};
 }
 
-#[test]
-fn message_and_world_faults_have_names(rt: HostRuntime) -> Result<(), Fail> {
-    check_names!(rt; KeyFault {
+/// Puts the message and world faults into `names`.
+fn put_message_and_world_faults(names: &mut Names) {
+    put_names!(names; KeyFault {
         Short => "Short",
         TimeTooLarge => "TimeTooLarge",
         BadSign => "BadSign",
     });
-    check_names!(rt; WorldFault {
+    put_names!(names; WorldFault {
         NoMemory => "NoMemory",
         NumberLimit => "NumberLimit",
     });
-    Ok(())
 }
 
 #[test]
-fn node_faults_have_names(rt: HostRuntime) -> Result<(), Fail> {
-    check_names!(rt; ProcessFault {
+fn message_and_world_faults_have_names(rt: HostRuntime) {
+    let mut names = Names::new(rt.alloc());
+    put_message_and_world_faults(&mut names);
+    assert!(rt; names.are_right());
+}
+
+/// Puts the node faults into `names`.
+fn put_node_faults(names: &mut Names) {
+    put_names!(names; ProcessFault {
         NotMine => "NotMine",
         BelowFloor => "BelowFloor",
         NoMemory => "NoMemory",
         NumberLimit => "NumberLimit",
         Spent => "Spent",
     });
-    check_names!(rt; NodeFault {
+    put_names!(names; NodeFault {
         NotMine => "NotMine",
         BelowFloor => "BelowFloor",
         NoMemory => "NoMemory",
@@ -85,19 +101,25 @@ fn node_faults_have_names(rt: HostRuntime) -> Result<(), Fail> {
         Spent => "Spent",
         FloorFell => "FloorFell",
     });
-    check_names!(rt; LedgerFault {
+    put_names!(names; LedgerFault {
         Busy => "Busy",
         Idle => "Idle",
         NoSuchNode => "NoSuchNode",
         NoSuchPick => "NoSuchPick",
         NoMemory => "NoMemory",
     });
-    Ok(())
 }
 
 #[test]
-fn port_faults_have_names(rt: HostRuntime) -> Result<(), Fail> {
-    check_names!(rt; WireFault {
+fn node_faults_have_names(rt: HostRuntime) {
+    let mut names = Names::new(rt.alloc());
+    put_node_faults(&mut names);
+    assert!(rt; names.are_right());
+}
+
+/// Puts the port faults into `names`.
+fn put_port_faults(names: &mut Names) {
+    put_names!(names; WireFault {
         Truncated => "Truncated",
         TooLong => "TooLong",
         BadKind => "BadKind",
@@ -105,32 +127,38 @@ fn port_faults_have_names(rt: HostRuntime) -> Result<(), Fail> {
         Io => "Io",
         NoMemory => "NoMemory",
     });
-    check_names!(rt; PortFault {
+    put_names!(names; PortFault {
         Wire(WireFault::Io) => "Wire Io",
         Peer(NodeFault::FloorFell) => "Peer FloorFell",
         Closed => "Closed",
         BadReply => "BadReply",
     });
-    Ok(())
 }
 
 #[test]
-fn disk_and_log_faults_have_names(rt: HostRuntime) -> Result<(), Fail> {
-    check_names!(rt; DiskFault {
+fn port_faults_have_names(rt: HostRuntime) {
+    let mut names = Names::new(rt.alloc());
+    put_port_faults(&mut names);
+    assert!(rt; names.are_right());
+}
+
+/// Puts the disk and log faults into `names`.
+fn put_disk_and_log_faults(names: &mut Names) {
+    put_names!(names; DiskFault {
         Device => "Device",
         NoSuchSector => "NoSuchSector",
     });
-    check_names!(rt; FileFault {
+    put_names!(names; FileFault {
         File => "File",
         NoMemory => "NoMemory",
     });
-    check_names!(rt; GrowthFault {
+    put_names!(names; GrowthFault {
         Fewer => "Fewer",
         TooMany => "TooMany",
         NoMemory => "NoMemory",
         Device => "Device",
     });
-    check_names!(rt; LogFault {
+    put_names!(names; LogFault {
         NotBlank => "NotBlank",
         NotFormatted => "NotFormatted",
         Corrupt => "Corrupt",
@@ -140,12 +168,18 @@ fn disk_and_log_faults_have_names(rt: HostRuntime) -> Result<(), Fail> {
         NoMemory => "NoMemory",
         Spent => "Spent",
     });
-    Ok(())
 }
 
 #[test]
-fn recovery_and_upkeep_faults_have_names(rt: HostRuntime) -> Result<(), Fail> {
-    check_names!(rt; RecoveryFault {
+fn disk_and_log_faults_have_names(rt: HostRuntime) {
+    let mut names = Names::new(rt.alloc());
+    put_disk_and_log_faults(&mut names);
+    assert!(rt; names.are_right());
+}
+
+/// Puts the recovery and upkeep faults into `names`.
+fn put_recovery_and_upkeep_faults(names: &mut Names) {
+    put_names!(names; RecoveryFault {
         OtherModel => "OtherModel",
         BadRecord => "BadRecord",
         NotTheLeast => "NotTheLeast",
@@ -156,37 +190,43 @@ fn recovery_and_upkeep_faults_have_names(rt: HostRuntime) -> Result<(), Fail> {
         Log(LogFault::Corrupt) => "Log Corrupt",
         BadEnd => "BadEnd",
     });
-    check_names!(rt; InspectionFault {
+    put_names!(names; InspectionFault {
         Log(LogFault::NotFormatted) => "Log NotFormatted",
         Recovery(RecoveryFault::OtherModel) => "Recovery OtherModel",
         Record { number: 0, fault: RecoveryFault::GoesBack } => "Record 0 GoesBack",
     });
-    check_names!(rt; VerifyFault {
+    put_names!(names; VerifyFault {
         Log(LogFault::NotFormatted) => "Log NotFormatted",
         Recovery(RecoveryFault::OtherModel) => "Recovery OtherModel",
         Record { number: 0, fault: RecoveryFault::GoesBack } => "Record 0 GoesBack",
     });
-    check_names!(rt; ReopenFault {
+    put_names!(names; ReopenFault {
         NotShut => "NotShut",
         Behind(VerifyFault::Log(LogFault::Full)) => "Log Full",
         Disk(DiskFault::Device) => "Disk Device",
         NoMemory => "NoMemory",
     });
-    check_names!(rt; GrowingFault {
+    put_names!(names; GrowingFault {
         Recovery(RecoveryFault::OtherModel) => "OtherModel",
         Growth(GrowthFault::Device) => "Device",
     });
-    check_names!(rt; MigrateFault {
+    put_names!(names; MigrateFault {
         NotEmpty => "NotEmpty",
         Old(RecoveryFault::OtherModel) => "Old OtherModel",
         New(LogFault::Full) => "New Full",
     });
-    Ok(())
 }
 
 #[test]
-fn session_and_run_faults_have_names(rt: HostRuntime) -> Result<(), Fail> {
-    check_names!(rt; SessionFault {
+fn recovery_and_upkeep_faults_have_names(rt: HostRuntime) {
+    let mut names = Names::new(rt.alloc());
+    put_recovery_and_upkeep_faults(&mut names);
+    assert!(rt; names.are_right());
+}
+
+/// Puts the session and run faults into `names`.
+fn put_session_and_run_faults(names: &mut Names) {
+    put_names!(names; SessionFault {
         Busy => "Busy",
         Idle => "Idle",
         NoSuchNode => "NoSuchNode",
@@ -201,22 +241,28 @@ fn session_and_run_faults_have_names(rt: HostRuntime) -> Result<(), Fail> {
         Spent => "Spent",
         EndRefused => "EndRefused",
     });
-    check_names!(rt; RunFault {
+    put_names!(names; RunFault {
         Session(SessionFault::Full) => "Session Full",
         Rounds => "Rounds",
         Stopped { time: 7, events: 3 } => "Stopped",
         NoMemory => "NoMemory",
     });
-    Ok(())
 }
 
 #[test]
-fn model_file_faults_have_names(rt: HostRuntime) -> Result<(), Fail> {
-    check_names!(rt; ModelFault {
+fn session_and_run_faults_have_names(rt: HostRuntime) {
+    let mut names = Names::new(rt.alloc());
+    put_session_and_run_faults(&mut names);
+    assert!(rt; names.are_right());
+}
+
+/// Puts the model file faults into `names`.
+fn put_model_file_faults(names: &mut Names) {
+    put_names!(names; ModelFault {
         BadModel(Mistake::Toml) => "BadModel",
         NoMemory => "NoMemory",
     });
-    check_names!(rt; Mistake {
+    put_names!(names; Mistake {
         Toml => "not TOML",
         Not { key: "model", expected: "ring" } => "model: not ring",
         Missing("hold") => "hold: missing",
@@ -225,12 +271,18 @@ fn model_file_faults_have_names(rt: HostRuntime) -> Result<(), Fail> {
             "lps: -1 is not within 1 to 1024",
         Unknown => "a key that the model does not have",
     });
-    Ok(())
 }
 
 #[test]
-fn command_and_program_faults_have_names(rt: HostRuntime) -> Result<(), Fail> {
-    check_names!(rt; CommandFault {
+fn model_file_faults_have_names(rt: HostRuntime) {
+    let mut names = Names::new(rt.alloc());
+    put_model_file_faults(&mut names);
+    assert!(rt; names.are_right());
+}
+
+/// Puts the command and program faults into `names`.
+fn put_command_and_program_faults(names: &mut Names) {
+    put_names!(names; CommandFault {
         NoMemory => "NoMemory",
         Log(LogFault::Full) => "Log Full",
         Recovery(RecoveryFault::GoesBack) => "Recovery GoesBack",
@@ -240,7 +292,7 @@ fn command_and_program_faults_have_names(rt: HostRuntime) -> Result<(), Fail> {
         Migrate(MigrateFault::NotEmpty) => "Migrate NotEmpty",
         Output => "Output",
     });
-    check_names!(rt; SimulationFault {
+    put_names!(names; SimulationFault {
         File => "File",
         Log(LogFault::Full) => "Log Full",
         Recovery(RecoveryFault::GoesBack) => "Recovery GoesBack",
@@ -251,7 +303,7 @@ fn command_and_program_faults_have_names(rt: HostRuntime) -> Result<(), Fail> {
         NoMemory => "NoMemory",
         Output => "Output",
     });
-    check_names!(rt; Fault {
+    put_names!(names; Fault {
         BadModel => "BadModel",
         File => "File",
         World(WorldFault::NumberLimit) => "World NumberLimit",
@@ -272,98 +324,11 @@ fn command_and_program_faults_have_names(rt: HostRuntime) -> Result<(), Fail> {
         NoMemory => "NoMemory",
         Output => "Output",
     });
-    Ok(())
 }
 
-/// Faults as the program prints them. Some carry others, several layers deep.
-const FAULTS: [(Fault, &str); 24] = [
-    (Fault::BadModel, "timewarp: BadModel\n"),
-    (Fault::File, "timewarp: File\n"),
-    (
-        Fault::World(WorldFault::NumberLimit),
-        "timewarp: World NumberLimit\n",
-    ),
-    (
-        Fault::World(WorldFault::NoMemory),
-        "timewarp: World NoMemory\n",
-    ),
-    (Fault::Log(LogFault::NotBlank), "timewarp: Log NotBlank\n"),
-    (
-        Fault::Recovery(RecoveryFault::OtherModel),
-        "timewarp: Recovery OtherModel\n",
-    ),
-    (
-        Fault::Session(SessionFault::Full),
-        "timewarp: Session Full\n",
-    ),
-    (Fault::Rounds, "timewarp: Rounds\n"),
-    (
-        Fault::Migrate(MigrateFault::Old(RecoveryFault::OtherModel)),
-        "timewarp: Migrate Old OtherModel\n",
-    ),
-    (
-        Fault::Wire(WireFault::Truncated),
-        "timewarp: Wire Truncated\n",
-    ),
-    (
-        Fault::Mistake(Mistake::Missing("hold")),
-        "timewarp: hold: missing\n",
-    ),
-    (Fault::NoMemory, "timewarp: NoMemory\n"),
-    (Fault::Output, "timewarp: Output\n"),
-    (
-        Fault::Log(LogFault::Disk(DiskFault::Device)),
-        "timewarp: Log Disk Device\n",
-    ),
-    (
-        Fault::Recovery(RecoveryFault::Log(LogFault::Corrupt)),
-        "timewarp: Recovery Log Corrupt\n",
-    ),
-    (
-        Fault::Recovery(RecoveryFault::Log(LogFault::Disk(DiskFault::Device))),
-        "timewarp: Recovery Log Disk Device\n",
-    ),
-    (
-        Fault::Session(SessionFault::Port(PortFault::Wire(WireFault::Io))),
-        "timewarp: Session Port Wire Io\n",
-    ),
-    (
-        Fault::Session(SessionFault::Port(PortFault::Peer(NodeFault::NumberLimit))),
-        "timewarp: Session Port Peer NumberLimit\n",
-    ),
-    (
-        Fault::Session(SessionFault::Port(PortFault::BadReply)),
-        "timewarp: Session Port BadReply\n",
-    ),
-    (
-        Fault::Session(SessionFault::Recovery(RecoveryFault::OtherModel)),
-        "timewarp: Session Recovery OtherModel\n",
-    ),
-    (
-        Fault::Session(SessionFault::Recovery(RecoveryFault::Log(LogFault::NotFormatted))),
-        "timewarp: Session Recovery Log NotFormatted\n",
-    ),
-    (
-        Fault::Migrate(MigrateFault::Old(RecoveryFault::Log(LogFault::NoMemory))),
-        "timewarp: Migrate Old Log NoMemory\n",
-    ),
-    (
-        Fault::Migrate(MigrateFault::New(LogFault::Disk(DiskFault::Device))),
-        "timewarp: Migrate New Disk Device\n",
-    ),
-    (
-        Fault::Session(SessionFault::Recovery(RecoveryFault::Log(LogFault::Disk(
-            DiskFault::Device,
-        )))),
-        "timewarp: Session Recovery Log Disk Device\n",
-    ),
-];
-
 #[test]
-fn the_program_prints_nested_faults_in_full(rt: HostRuntime) {
-    for (fault, text) in FAULTS {
-        let mut err = Vec::new(rt.alloc());
-        assert_eq!(rt; print_fault("timewarp", fault, &mut err), 1);
-        assert!(rt; err.as_slice() == text.as_bytes(), "{text}");
-    }
+fn command_and_program_faults_have_names(rt: HostRuntime) {
+    let mut names = Names::new(rt.alloc());
+    put_command_and_program_faults(&mut names);
+    assert!(rt; names.are_right());
 }
