@@ -10,7 +10,7 @@ ghost use Rattle.circuit.specs.CircuitLaws.{circuit_lawful};
 
 use crate::parts::{Gate, Wire};
 use eventkey::Message;
-use model::{Model as Simulated, Outgoing, Sends, Words};
+use model::{Model as Simulated, Origin, Outgoing, Sends, Words};
 use smallvec::SmallVec;
 use std::alloc::Global;
 
@@ -208,6 +208,10 @@ impl Simulated for Circuit {
         words.push_reserved(100);
         words.push_reserved(self.digest);
         words
+    }
+
+    fn origin(&self) -> Option<&Origin> {
+        None
     }
 
     fn start(&self, alloc: Global, lp: u32) -> (Words, Sends) {

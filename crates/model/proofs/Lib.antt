@@ -1,6 +1,7 @@
 pub mod Worlds
 pub mod Steps
 pub mod Runs
+pub mod Continuations
 pub mod Heaps
 pub mod Slots
 pub mod Nearest

@@ -14,11 +14,12 @@ use Rattle.eventkey.specs.Message.{IsAtMost, Message, is_before}
 use Rattle.model.specs.Inside.{IsSimulation}
 use Rattle.model.specs.Meaning.{IsAddressed, IsLawful, IsSend, Meaning, stamp, stamped}
 use Rattle.model.specs.Runner.{Handles, IsIdle, IsLimited, IsRun, Simulation, is_due}
-use Rattle.model.specs.World.{IsWorld, Reaches, World, below, handled, number_of, opening, state_of, step}
+use Rattle.model.specs.World.{IsUpto, IsWorld, Reaches, World, below, given_or, handled, number_of, opening, opening_at, starting, state_of, step}
+use Rattle.model.specs.declared.origin.Origin.{Origin}
 use Rattle.model.specs.declared.Outgoing.{Outgoing}
 use Rattle.model.specs.declared.WorldFault.{WorldFault}
-use Rattle.model.proofs.Steps.{opening_IsReached, step_made}
-use Rattle.model.proofs.Worlds.{handled_IsWorld, step_is, words_at}
+use Rattle.model.proofs.Steps.{opening_IsReached, opening_is_upto, step_made}
+use Rattle.model.proofs.Worlds.{handled_IsWorld, opening_IsWorld, step_is, words_at}
 
 -- 1. The opening world
 
@@ -43,6 +44,16 @@ pub opening_holds : (m : Meaning) (end : ℕ) → IsLawful m → 1 ≤ end → e
 opening_holds m end law some short =
     let is = opening_IsReached m law in
     record { some = some; end = short; world = subst (λ (n : ℕ). IsWorld n (opening m)) (sym is.world.states) is.world; numbers = is.numbers }
+
+-- a model with an origin begins with it
+pub begun_at : (m : Meaning) (o : Origin) → m.origin ≡ Some o → opening_at o ≡ opening m
+begun_at m o is = ap (λ (given : Option Origin). opening_at (given_or given (starting m))) (sym is)
+
+pub begun_upto : (m : Meaning) (end : ℕ) (s : Simulation) → s ≡ record { end = end; world = opening m } → IsUpto m end 0 s.world
+begun_upto m end s e = subst (λ (t : Simulation). IsUpto m end 0 t.world) (sym e) (opening_is_upto m end)
+
+pub begun_lps : (m : Meaning) (end : ℕ) (s : Simulation) → IsLawful m → s ≡ record { end = end; world = opening m } → length s.world.states ≡ m.lps
+begun_lps m end s law e = ap (λ (t : Simulation). length t.world.states) e ∙ (opening_IsWorld m law).states
 
 five : {A B C D E : Type 0} {a a' : A} {b b' : B} {c c' : C} {d d' : D} {e e' : E} → a ≡ a' → b ≡ b' → c ≡ c' → d ≡ d' → e ≡ e' → ◌≡◌ {A = A × B × C × D × E} (a, b, c, d, e) (a', b', c', d', e')
 five p q r s t = cc

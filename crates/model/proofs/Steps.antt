@@ -7,20 +7,19 @@ use Rattle.std.proofs.lemmas.Bool.{and_from, and_parts, cond-true, leb-true, ltb
 use Rattle.eventkey.specs.Bag.{IsAscending}
 use Rattle.eventkey.specs.Message.{IsAtMost, Message}
 use Rattle.eventkey.proofs.Bags.{at_most_from_before, at_most_trans, earlier_before}
-use Rattle.eventkey.proofs.Lists.{Every-add_all, Every-all, Every-append, Every-map, Every-set, Every-weaker, IsAllAtMost, IsAscending-append}
+use Rattle.eventkey.proofs.Lists.{Every-add_all, Every-all, Every-append, Every-set, Every-weaker, IsAllAtMost, IsAscending-append}
 use Rattle.model.specs.Meaning.{IsAddressed, IsLawful, Meaning, stamp}
 use Rattle.model.specs.Runner.{IsIdle, IsReached}
 use Rattle.model.specs.Sequential.{EachWorldIsReached, OpeningIsUpto, RunsAreUpto, UptoIsReachedFrom}
-use Rattle.model.specs.World.{IsUpto, IsWorld, Reaches, World, at_time, below, can_handle, handled, number_of, opening, state_of, step, step_from}
-use Rattle.model.proofs.Worlds.{Every-below, Reaches-append, fewer_steps, handled_IsWorld, opening_IsWorld, same_steps, stamp_later, step_is, words_at}
+use Rattle.model.specs.World.{IsUpto, IsWorld, Reaches, World, at_time, can_handle, handled, number_of, opening, state_of, step, step_from}
+use Rattle.model.proofs.Worlds.{Reaches-append, fewer_steps, handled_IsWorld, opening_IsWorld, origin_IsOrigin, same_steps, stamp_later, step_is, words_at}
 
 -- 1. The log ascends, and each logged message is at most each pending one
 
 pub opening_IsReached : (m : Meaning) → IsLawful m → IsReached m.lps (opening m)
 opening_IsReached m law = record {
   world = opening_IsWorld m law;
-  numbers = Every-map (λ (n : ℕ). n ≤ 2 ^ 63) (λ (lp : ℕ). length (m.start_sends lp)) (below m.lps)
-      (Every-weaker (λ (k : ℕ). k < m.lps) (λ (k : ℕ). length (m.start_sends k) ≤ 2 ^ 63) (λ k l. let few = law.start_few k l in omega arith) (below m.lps) (Every-below m.lps));
+  numbers = (origin_IsOrigin m law).limits;
   logged = tt;
   log_ascends = tt;
   past = Every-all (λ (y : Message). Every (λ (x : Message). IsAtMost x y) []) (λ y. tt) (opening m).pending;

@@ -1,5 +1,5 @@
 -- Worlds: what each step keeps, and where steps lead.
-use Rattle.std.proofs.Common.{◌≡◌, ℕ, suc, ◌+◌, ◌-◌, List, [], ◌∷◌, refl, ap, length, ◌<◌, arith, ◌≤◌, ◌^◌, zero, length-append, flat_map, ◌∙◌, length-set, true, inl, inr, Some, None, subst, suc-add, zero-add, sym, nat_lt, nat_le, ◌++◌, append_assoc, append-nil, ap₂, get_or}
+use Rattle.std.proofs.Common.{◌≡◌, ℕ, suc, ◌+◌, ◌-◌, List, [], ◌∷◌, refl, ap, length, ◌<◌, arith, ◌≤◌, ◌^◌, zero, length-append, flat_map, ◌∙◌, length-set, true, inl, inr, Option, Some, None, subst, suc-add, zero-add, sym, nat_lt, nat_le, ◌++◌, append_assoc, append-nil, ap₂, get_or}
 use Rattle.std.proofs.lemmas.Bool.{cases_Bool, and_parts, ltb-true, leb-true, cases_lt}
 use Rattle.std.proofs.Math.ListN.{get_or-append}
 use Rattle.std.proofs.Math.Seq.{get_or-append_seam}
@@ -9,10 +9,11 @@ use Rattle.eventkey.proofs.Bags.{IsAscending-add_all}
 use Rattle.eventkey.proofs.Lists.{Every-add_all, Every-append, Every-flat_map, Every-get_or-default, Every-left, Every-map, Every-right, Every-set, Every-weaker}
 use Rattle.eventkey.specs.Bag.{IsAscending}
 use Rattle.eventkey.specs.Message.{Message}
-use Rattle.model.specs.Meaning.{IsAddressed, IsLawful, IsSend, IsWords, Meaning, most_lps, stamp}
+use Rattle.model.specs.Meaning.{CanBegin, IsAddressed, IsLawful, IsOrigin, IsSend, IsWords, Meaning, most_lps, stamp}
 use Rattle.model.specs.Sequential.{UptoGoesOn, UptoIsOne}
-use Rattle.model.specs.World.{IsUpto, IsWorld, Reaches, World, at_time, below, can_handle, handled, number_of, opening, state_of, step, step_from}
+use Rattle.model.specs.World.{IsUpto, IsWorld, Reaches, World, at_time, below, can_handle, given_or, handled, number_of, opening, origin_of, starting, state_of, step, step_from}
 use Rattle.model.specs.declared.Outgoing.{Outgoing}
+use Rattle.model.specs.declared.origin.Origin.{Origin}
 
 -- 2. The messages that a handling sends
 
@@ -56,12 +57,15 @@ pub Every-below : (n : ℕ) → Every (λ k. k < n) (below n)
 Every-below zero = tt
 Every-below (suc n) = Every-append (λ k. k < suc n) (below n) (n ∷ []) (Every-weaker (λ k. k < n) (λ k. k < suc n) (λ k h. omega arith) (below n) (Every-below n)) (omega arith, tt)
 
-pub opening_IsWorld : (m : Meaning) → IsLawful m → IsWorld m.lps (opening m)
-opening_IsWorld m law =
+-- what the processes do at their start
+starting_IsOrigin : (m : Meaning) → IsLawful m → IsOrigin m.lps (starting m)
+starting_IsOrigin m law =
     let sent : ℕ → List Message = λ lp. stamp lp 0 0 (m.start_sends lp) in
     record {
       states = length-map (below m.lps) m.start_state ∙ length-below m.lps;
       numbers = length-map (below m.lps) (λ lp. length (m.start_sends lp)) ∙ length-below m.lps;
+      limits = Every-map (λ (n : ℕ). n ≤ 2 ^ 63) (λ (lp : ℕ). length (m.start_sends lp)) (below m.lps)
+          (Every-weaker (λ (k : ℕ). k < m.lps) (λ (k : ℕ). length (m.start_sends k) ≤ 2 ^ 63) (λ k l. let few = law.start_few k l in omega arith) (below m.lps) (Every-below m.lps));
       ascending = IsAscending-add_all (flat_map sent (below m.lps)) [] tt;
       addressed =
           Every-add_all (IsAddressed m.lps) (flat_map sent (below m.lps)) []
@@ -70,6 +74,19 @@ opening_IsWorld m law =
           tt;
       words = Every-map IsWords m.start_state (below m.lps) (Every-weaker (λ lp. lp < m.lps) (λ lp. IsWords (m.start_state lp)) law.start_words (below m.lps) (Every-below m.lps));
     }
+
+given_IsOrigin : (lps : ℕ) (given : Option Origin) (o : Origin) → CanBegin lps given → IsOrigin lps o → IsOrigin lps (given_or given o)
+given_IsOrigin lps None o can is = is
+given_IsOrigin lps (Some given) o can is = can
+
+-- where the simulation of a lawful model begins
+pub origin_IsOrigin : (m : Meaning) → IsLawful m → IsOrigin m.lps (origin_of m)
+origin_IsOrigin m law = given_IsOrigin m.lps m.origin (starting m) law.begins (starting_IsOrigin m law)
+
+pub opening_IsWorld : (m : Meaning) → IsLawful m → IsWorld m.lps (opening m)
+opening_IsWorld m law =
+    let is = origin_IsOrigin m law in
+    record { states = is.states; numbers = is.numbers; ascending = is.ascending; addressed = is.addressed; words = is.words }
 
 pub words_at : (w : World) (lp : ℕ) → Every IsWords w.states → IsWords (state_of w lp)
 words_at w lp h = Every-get_or-default IsWords w.states lp [] h (omega arith, tt)

@@ -3,6 +3,9 @@ pub mod Meaning
 pub mod World
 pub mod Sequential
 pub mod Runner
+-- For callers: simulations that go on from a world of another one
+pub mod Origins
+pub mod Lawful
 -- For callers: the encoding of state words
 pub mod Encoding
 -- Inside: the value of a world that contracts see, and how the runner keeps pending messages

@@ -1,13 +1,17 @@
 -- The meaning of a model: functions of their arguments alone, and the laws that they obey (this
 -- project's profile).
 use Rattle.std.specs.List.{AllByRecursion as Every}
-use Rattle.std.specs.Prelude.{ℕ, List, ◌+◌, [], ◌∷◌, ◌≤◌, ◌<◌, ◌^◌, length}
+use Rattle.std.specs.Prelude.{ℕ, List, ◌+◌, [], ◌∷◌, ◌≤◌, ◌<◌, ◌≡◌, ◌^◌, length, Option, Some, None}
+use Rattle.eventkey.specs.Bag.{IsAscending}
 use Rattle.eventkey.specs.Message.{IsRanged, Message}
 use Rattle.model.specs.declared.Outgoing.{Outgoing}
+use Rattle.model.specs.declared.origin.Origin.{Origin}
 
 pub record Meaning : Type 0 where
   pub lps : ℕ  -- the number of logical processes
   pub identity : List ℕ  -- the words that distinguish this model from others
+  -- where its simulation begins, if not with what its processes do at their start
+  pub origin : Option Origin
   pub start_state : ℕ → List ℕ
   pub start_sends : ℕ → List Outgoing
   pub next_state : ℕ → List ℕ → Message → List ℕ
@@ -54,12 +58,28 @@ pub record IsSend (lps : ℕ) (o : Outgoing) : Type 0 where
 abbrev pub most_lps : ℕ
 most_lps = 2 ^ 16
 
+-- An origin of a simulation of `lps` processes: a state and a send number for each, and the pending
+-- messages, a bag.
+pub record IsOrigin (lps : ℕ) (o : Origin) : Type 0 where
+  pub states : length o.states ≡ lps
+  pub words : Every IsWords o.states
+  pub numbers : length o.numbers ≡ lps
+  pub limits : Every (λ (number : ℕ). number ≤ 2 ^ 63) o.numbers
+  pub ascending : IsAscending o.pending
+  pub addressed : Every (IsAddressed lps) o.pending
+
+-- a simulation can begin so
+abbrev pub CanBegin : ℕ → Option Origin → Type 0
+CanBegin lps None = Unit {0}
+CanBegin lps (Some o) = IsOrigin lps o
+
 -- the laws of a model, for states and messages whose numbers are in their ranges
 pub record IsLawful (m : Meaning) : Type 0 where
   pub some : 1 ≤ m.lps
   pub few_lps : m.lps ≤ most_lps
   pub identity_few : length m.identity ≤ 8
   pub identity_words : Every (λ (word : ℕ). word < 2 ^ 64) m.identity
+  pub begins : CanBegin m.lps m.origin
   pub start_words : (lp : ℕ) → lp < m.lps → IsWords (m.start_state lp)
   pub start_few : (lp : ℕ) → lp < m.lps → length (m.start_sends lp) ≤ 8
   pub start : (lp : ℕ) → lp < m.lps → Every (IsSend m.lps) (m.start_sends lp)

@@ -6,6 +6,7 @@ use Rattle.std.specs.Prelude.{if◌then◌else◌, ◌≡◌, ◌<◌, ◌≤◌
 use Rattle.eventkey.specs.Bag.{IsAscending, add_all}
 use Rattle.eventkey.specs.Message.{Message}
 use Rattle.model.specs.Meaning.{IsAddressed, IsWords, Meaning, stamp}
+use Rattle.model.specs.declared.origin.Origin.{Origin}
 
 pub record World : Type 0 where
   pub time : ℕ
@@ -29,14 +30,35 @@ abbrev pub below : ℕ → List ℕ
 below zero = []
 below (suc n) = below n ++ n ∷ []
 
-abbrev pub opening : Meaning → World
-opening m = record {
-  time = 0;
+-- what the processes do at their start
+abbrev pub starting : Meaning → Origin
+starting m = record {
   states = map m.start_state (below m.lps);
   numbers = map (λ lp. length (m.start_sends lp)) (below m.lps);
   pending = add_all (flat_map (λ lp. stamp lp 0 0 (m.start_sends lp)) (below m.lps)) [];
+}
+
+-- the given origin, or else this one
+abbrev pub given_or : Option Origin → Origin → Origin
+given_or None o = o
+given_or (Some given) o = given
+
+-- where a simulation of the model begins
+abbrev pub origin_of : Meaning → Origin
+origin_of m = given_or m.origin (starting m)
+
+-- the world at its beginning: nothing is handled yet
+abbrev pub opening_at : Origin → World
+opening_at o = record {
+  time = 0;
+  states = o.states;
+  numbers = o.numbers;
+  pending = o.pending;
   log = [];
 }
+
+abbrev pub opening : Meaning → World
+opening m = opening_at (origin_of m)
 
 abbrev pub state_of : World → ℕ → List ℕ
 state_of w lp = get_or w.states lp []

@@ -1,5 +1,7 @@
 // Laws of the sequential simulation, each the contract of a function that does nothing.
 
+ghost use Rattle.model.specs.Origins.{ContinuationBegins, ContinuationIsAll, ContinuationIsLawful};
+ghost use Rattle.model.specs.Origins.{ContinuationIsPart, ContinuationsJoin, EventsAreCounted};
 ghost use Rattle.model.specs.Sequential.{EachWorldIsReached, OpeningIsUpto, RunsAreUpto};
 ghost use Rattle.model.specs.Sequential.{UptoGoesOn, UptoIsOne, UptoIsReachedFrom};
 
@@ -21,4 +23,15 @@ pub fn law_of_runs()
 /// States what holds of each world that a simulation reaches: it is in order, and so is its log.
 pub fn law_of_worlds()
     ensures { EachWorldIsReached }
+{}
+
+/// States that a simulation which goes on from a world of another one is that other one from that
+/// world on, and how many events came before it.
+pub fn law_of_continuations()
+    ensures part { ContinuationIsPart }
+    ensures all { ContinuationIsAll }
+    ensures begins { ContinuationBegins }
+    ensures lawful { ContinuationIsLawful }
+    ensures join { ContinuationsJoin }
+    ensures counted { EventsAreCounted }
 {}

@@ -2,10 +2,13 @@
 #![tactic(auto)]
 
 ghost use Rattle.std.specs.Prelude.{◌≡◌, ◌<◌, ◌≤◌, ◌+◌, ◌^◌, [], length, slice_index, ℕ, All};
+ghost use Rattle.std.specs.Prelude.{IfSome, None, Some};
 ghost use Rattle.eventkey.specs.Message.{Message};
 ghost use Rattle.model.specs.Meaning.{Meaning, IsLawful, IsWords, stamped};
 
+mod continued;
 mod laws;
+mod origin;
 mod pending;
 mod runner;
 mod saved;
@@ -14,8 +17,10 @@ mod state;
 mod state_bytes;
 mod ticks;
 
+pub use continued::Continued;
 use eventkey::Message;
-pub use laws::{law_of_runs, law_of_sequential_simulation, law_of_worlds};
+pub use laws::{law_of_continuations, law_of_runs, law_of_sequential_simulation, law_of_worlds};
+pub use origin::Origin;
 pub use runner::{World, WorldParts, make_empty};
 pub use saved::SavedState;
 pub use sent::Sent;
@@ -73,6 +78,12 @@ pub trait Model {
     /// Returns the words that distinguish this model from others, at most 8.
     fn identity(&self, alloc: Global) -> SmallVec<u64, 8>
         ensures { result.items ≡ (meaning self.now).identity };
+
+    /// Returns the origin with which a simulation of this model begins, or `None` if it begins with
+    /// what its processes do at their start. Each model but a continued one answers `None`.
+    fn origin(&self) -> Option<&Origin>
+        ensures none { result ≡ None → (meaning self.now).origin ≡ None }
+        ensures some { IfSome result (λ origin. (meaning self.now).origin ≡ Some origin.now) };
 
     /// Returns the state in which process `lp` starts, and what it sends then.
     fn start(&self, alloc: Global, lp: u32) -> (Words, Sends)

@@ -40,6 +40,7 @@ hold_lawful h = record {
       (omega (arith, h.good.spread_fits), (omega (arith, h.good.seed_fits), tt)),
     ),
   );
+  begins = tt;
   start_words = λ lp l. (lit≤ tt, (key_lt h.hold.seed lp h.hold.population, (lit< tt, tt)));
   start_few = λ lp l. rw (length-map, length-below h.hold.population) h.good.few_messages;
   start = λ lp l.

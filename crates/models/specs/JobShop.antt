@@ -1,6 +1,6 @@
 -- A job shop (this project's profile): machines in a ring. Each serves one job at a time, in the
 -- order of arrival, and sends it to the next machine.
-use Rattle.std.specs.Prelude.{ℕ, ◌+◌, ◌-◌, ◌*◌, ◌%◌, ◌^◌, ◌<◌, ◌≤◌, List, [], ◌∷◌, Bool, nat_lt}
+use Rattle.std.specs.Prelude.{None, ℕ, ◌+◌, ◌-◌, ◌*◌, ◌%◌, ◌^◌, ◌<◌, ◌≤◌, List, [], ◌∷◌, Bool, nat_lt}
 use Rattle.std.specs.Prelude.{map, max, min, slice_index, if◌then◌else◌}
 use Rattle.eventkey.specs.Message.{Message}
 use Rattle.model.specs.Meaning.{Meaning}
@@ -100,6 +100,7 @@ abbrev pub shop_meaning : Shop → Meaning
 shop_meaning s = record {
   lps = s.lps;
   identity = 3 ∷ s.jobs ∷ s.service ∷ s.seed ∷ [];
+  origin = None;
   start_state = λ lp. 0 ∷ 0 ∷ 0 ∷ 0 ∷ next_key s.seed lp 0 ∷ [];
   start_sends = λ lp. map (first_job s lp) (below s.jobs);
   next_state = λ lp state x.

@@ -1,6 +1,6 @@
 -- PHOLD (Fujimoto 1990), in this project's profile: each handled message is sent on to a drawn
 -- process, with a drawn delay.
-use Rattle.std.specs.Prelude.{ℕ, ◌+◌, ◌-◌, ◌*◌, ◌%◌, ◌^◌, ◌<◌, ◌≤◌, List, [], ◌∷◌, map, min}
+use Rattle.std.specs.Prelude.{None, ℕ, ◌+◌, ◌-◌, ◌*◌, ◌%◌, ◌^◌, ◌<◌, ◌≤◌, List, [], ◌∷◌, map, min}
 use Rattle.std.specs.Prelude.{slice_index}
 use Rattle.eventkey.specs.Message.{Message}
 use Rattle.model.specs.Meaning.{Meaning}
@@ -67,6 +67,7 @@ abbrev pub hold_meaning : Hold → Meaning
 hold_meaning h = record {
   lps = h.lps;
   identity = 2 ∷ h.population ∷ h.spread ∷ h.seed ∷ [];
+  origin = None;
   start_state = λ lp. next_key h.seed lp h.population ∷ 0 ∷ [];
   start_sends = λ lp. map (first_hold h lp) (below h.population);
   next_state = λ lp state x.

@@ -1,6 +1,6 @@
 -- Six processes that send each message on twice, soon and much later (this project's profile). The
 -- receiver and the delay of the first depend on the state.
-use Rattle.std.specs.Prelude.{ℕ, ◌+◌, ◌*◌, ◌%◌, ◌^◌, ◌<◌, List, [], ◌∷◌, slice_index}
+use Rattle.std.specs.Prelude.{None, ℕ, ◌+◌, ◌*◌, ◌%◌, ◌^◌, ◌<◌, List, [], ◌∷◌, slice_index}
 use Rattle.std.proofs.Common.{arith, lit<, lit≤}
 use Rattle.std.proofs.Math.Nat.{mod-lt}
 use Rattle.eventkey.specs.Message.{Message}
@@ -32,6 +32,7 @@ abbrev pub relay_meaning : Meaning
 relay_meaning = record {
   lps = 6;
   identity = [];
+  origin = None;
   start_state = λ lp. 0 ∷ [];
   start_sends = λ lp. record { to = lp; delay = 1 + lp; a = lp; b = 0; c = 0; d = 0 } ∷ [];
   next_state = λ lp state x. seen_after state x ∷ [];
@@ -44,6 +45,7 @@ relay_lawful = record {
   few_lps = lit≤ tt;
   identity_few = lit≤ tt;
   identity_words = tt;
+  begins = tt;
   start_words = λ lp l. (lit≤ tt, (lit< tt, tt));
   start_few = λ lp l. lit≤ tt;
   start = λ lp l. (

@@ -1,7 +1,7 @@
 -- A ring of processes that hand tokens round (this project's profile). Each process counts the
 -- tokens that reach it.
 use Rattle.std.specs.List.{filter}
-use Rattle.std.specs.Prelude.{ℕ, ◌+◌, ◌-◌, ◌*◌, ◌%◌, ◌^◌, ◌<◌, ◌≤◌, ◌==◌, List, [], ◌∷◌, map, min}
+use Rattle.std.specs.Prelude.{None, ℕ, ◌+◌, ◌-◌, ◌*◌, ◌%◌, ◌^◌, ◌<◌, ◌≤◌, ◌==◌, List, [], ◌∷◌, map, min}
 use Rattle.std.specs.Prelude.{slice_index}
 use Rattle.eventkey.specs.Message.{Message}
 use Rattle.model.specs.Meaning.{Meaning}
@@ -54,6 +54,7 @@ abbrev pub ring_meaning : Ring → Meaning
 ring_meaning r = record {
   lps = r.lps;
   identity = 1 ∷ r.hold ∷ r.tokens ∷ [];
+  origin = None;
   start_state = λ lp. 0 ∷ [];
   start_sends = λ lp. map (first_send lp) (tokens_at r.lps r.tokens lp);
   next_state = λ lp state x. counted state ∷ [];

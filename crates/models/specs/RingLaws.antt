@@ -127,6 +127,7 @@ ring_lawful r = record {
     lit< tt,
     (omega (arith, r.good.hold_fits), (omega (arith, r.good.few, r.good.few_tokens), tt)),
   );
+  begins = tt;
   start_words = λ lp l. (lit≤ tt, (lit< tt, tt));
   start_few = λ lp l. rw length-map (few_first r.ring r.good lp l);
   start = λ lp l. Every-map (IsSend r.ring.lps) (first_send lp)

@@ -107,6 +107,7 @@ shop_lawful s = record {
       (omega (arith, s.good.service_fits), (omega (arith, s.good.seed_fits), tt)),
     ),
   );
+  begins = tt;
   start_words = λ lp l.
       (lit≤ tt, (lit< tt, (lit< tt, (lit< tt, (lit< tt, (key_lt s.shop.seed lp 0, tt))))));
   start_few = λ lp l. rw (length-map, length-below s.shop.jobs) s.good.few_jobs;

@@ -4,7 +4,7 @@ use crate::job_shop::JobShop;
 use crate::parallel_hold::Phold;
 use crate::ring::TokenRing;
 use eventkey::Message;
-use model::{Model as Simulated, Sends, Words};
+use model::{Model as Simulated, Origin, Sends, Words};
 use smallvec::SmallVec;
 use std::alloc::Global;
 
@@ -39,6 +39,14 @@ impl Simulated for AnyModel {
             AnyModel::TokenRing(ring) => ring.identity(alloc),
             AnyModel::Phold(hold) => hold.identity(alloc),
             AnyModel::JobShop(shop) => shop.identity(alloc),
+        }
+    }
+
+    fn origin(&self) -> Option<&Origin> {
+        match self {
+            AnyModel::TokenRing(ring) => ring.origin(),
+            AnyModel::Phold(hold) => hold.origin(),
+            AnyModel::JobShop(shop) => shop.origin(),
         }
     }
 

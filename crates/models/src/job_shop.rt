@@ -7,7 +7,7 @@ ghost use Rattle.models.specs.ShopLaws.{shop_lawful};
 
 use crate::words::{next_key, word};
 use eventkey::Message;
-use model::{Model as Simulated, Outgoing, Sends, Words};
+use model::{Model as Simulated, Origin, Outgoing, Sends, Words};
 use smallvec::SmallVec;
 use std::alloc::Global;
 use std::marker::Model;
@@ -136,6 +136,10 @@ impl Simulated for JobShop {
         words.push_reserved(u64::from(self.service));
         words.push_reserved(self.seed);
         words
+    }
+
+    fn origin(&self) -> Option<&Origin> {
+        None
     }
 
     fn start(&self, alloc: Global, lp: u32) -> (Words, Sends) {

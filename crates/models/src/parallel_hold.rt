@@ -7,7 +7,7 @@ ghost use Rattle.models.specs.Phold.{Hold, IsHold, delay_by, first_hold, hold_me
 
 use crate::words::{next_key, word};
 use eventkey::Message;
-use model::{Model as Simulated, Outgoing, Sends, Words};
+use model::{Model as Simulated, Origin, Outgoing, Sends, Words};
 use smallvec::SmallVec;
 use std::alloc::Global;
 use std::marker::Model;
@@ -144,6 +144,10 @@ impl Simulated for Phold {
         words.push_reserved(u64::from(self.spread));
         words.push_reserved(self.seed);
         words
+    }
+
+    fn origin(&self) -> Option<&Origin> {
+        None
     }
 
     fn start(&self, alloc: Global, lp: u32) -> (Words, Sends) {

@@ -3,7 +3,7 @@
 ghost use Rattle.models.specs.Relay.{relay_lawful, relay_meaning};
 
 use eventkey::Message;
-use model::{Model as Simulated, Outgoing, Sends, Words};
+use model::{Model as Simulated, Origin, Outgoing, Sends, Words};
 use smallvec::SmallVec;
 use std::alloc::Global;
 
@@ -30,6 +30,10 @@ impl Simulated for Relay {
 
     fn identity(&self, alloc: Global) -> SmallVec<u64, 8> {
         SmallVec::new(alloc)
+    }
+
+    fn origin(&self) -> Option<&Origin> {
+        None
     }
 
     fn start(&self, alloc: Global, lp: u32) -> (Words, Sends) {

@@ -5,7 +5,7 @@ ghost use Rattle.models.specs.Ring.{ring_meaning, first_send, tokens_at, IsRing,
 ghost use Rattle.models.specs.RingLaws.{ring_lawful};
 
 use eventkey::Message;
-use model::{Model as Simulated, Outgoing, Sends, Words};
+use model::{Model as Simulated, Origin, Outgoing, Sends, Words};
 use smallvec::SmallVec;
 use std::alloc::Global;
 use std::marker::Model;
@@ -85,6 +85,10 @@ impl Simulated for TokenRing {
         words.push_reserved(u64::from(self.hold));
         words.push_reserved(u64::from(self.tokens));
         words
+    }
+
+    fn origin(&self) -> Option<&Origin> {
+        None
     }
 
     fn start(&self, alloc: Global, lp: u32) -> (Words, Sends) {

@@ -4,7 +4,6 @@ ghost use Rattle.std.specs.List.{AllByRecursion as Every};
 ghost use Rattle.std.specs.Prelude.{◌≡◌, ◌≤◌, ◌<◌, ◌^◌, ◌++◌, ℕ, Err, IfOk, OnOk, List, [], get_or};
 ghost use Rattle.std.specs.Prelude.{length, map, replicate, set};
 ghost use Rattle.model.specs.Meaning.{IsAddressed, IsWords};
-ghost use Rattle.model.specs.World.{opening as opening_of};
 ghost use Rattle.model.specs.declared.WorldFault.TheVariants.{NumberLimit};
 ghost use Rattle.pictures.specs.Inside.{IsWholeRun, lists};
 ghost use Rattle.pictures.specs.Run.{IsOverLimit, IsRunOf, sending_times, sends_of as sends_from};
@@ -124,6 +123,7 @@ pub fn trace_of<M: Model>(alloc: Global, model: &M, end: u64, to: u64) -> Result
         IsOverLimit (M.meaning model.now) end to }
 {
     let mut world = World::open(alloc, model, end)?;
+    let (states, first) = opening(alloc, &world)?;
     world.run_to(model, to)?;
     let WorldParts {
         time,
@@ -132,7 +132,6 @@ pub fn trace_of<M: Model>(alloc: Global, model: &M, end: u64, to: u64) -> Result
         pending,
         log,
     } = world.into_parts();
-    let (states, first) = opening(alloc, model)?;
     let sends = sends_of(alloc, model, states, log.as_slice())?;
     let times = times_of(alloc, first.as_slice(), log.as_slice(), sends.as_slice())?;
     Ok(Trace {
@@ -145,21 +144,25 @@ pub fn trace_of<M: Model>(alloc: Global, model: &M, end: u64, to: u64) -> Result
     })
 }
 
-/// Returns the states of the opening, and how many messages each process sends then.
-fn opening<M: Model>(alloc: Global, model: &M) -> Result<(Vec<Words>, Vec<u64>), AllocError>
-    ensures states { IfOk result (λ o. map (λ s. s.items) o.0.items
-        ≡ (opening_of (M.meaning model.now)).states) }
-    ensures numbers { IfOk result (λ o. o.1.items ≡ (opening_of (M.meaning model.now)).numbers) }
+/// Returns the states of a world, and how many messages each process has sent.
+fn opening(alloc: Global, world: &World) -> Result<(Vec<Words>, Vec<u64>), AllocError>
+    ensures states { IfOk result (λ o. map (λ s. s.items) o.0.items ≡ world.now.world.states) }
+    ensures numbers { IfOk result (λ o. o.1.items ≡ world.now.world.numbers) }
 {
-    let lps = model.lps();
-    let mut states = Vec::new(alloc);
     let mut numbers = Vec::new(alloc);
-    for lp in 0..lps {
-        let (words, sends) = model.start(alloc, lp);
-        states.push(words)?;
-        numbers.push(sends.len() as u64)?;
+    numbers.extend_from_slice(world.numbers())?;
+    Ok((words_of(alloc, world.states())?, numbers))
+}
+
+/// Copies state words.
+fn words_of(alloc: Global, all: &[Words]) -> Result<Vec<Words>, AllocError>
+    ensures { IfOk result (λ words. map (λ w. w.items) words.items ≡ map (λ w. w.items) all.now) }
+{
+    let mut words = Vec::with_capacity(alloc, all.len())?;
+    for next in all {
+        words.push(Words::from_slice(alloc, next.as_slice())?)?;
     }
-    Ok((states, numbers))
+    Ok(words)
 }
 
 /// Returns how many messages each handling of a log sends, from these states on.

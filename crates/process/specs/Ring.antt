@@ -1,5 +1,5 @@
 -- A model for the tests: three processes pass a token around, each after two ticks.
-use Rattle.std.specs.Prelude.{ℕ, ◌+◌, ◌-◌, ◌%◌, ◌^◌, List, [], ◌∷◌, min, slice_index}
+use Rattle.std.specs.Prelude.{None, ℕ, ◌+◌, ◌-◌, ◌%◌, ◌^◌, List, [], ◌∷◌, min, slice_index}
 use Rattle.std.proofs.Common.{arith, lit<, lit≤}
 use Rattle.std.proofs.Math.Nat.{mod-lt}
 use Rattle.model.specs.Meaning.{IsLawful, Meaning}
@@ -12,6 +12,7 @@ abbrev pub ring_meaning : Meaning
 ring_meaning = record {
   lps = 3;
   identity = [];
+  origin = None;
   start_state = λ lp. 0 ∷ [];
   start_sends = λ lp. [];
   next_state = λ lp state x. counted state ∷ [];
@@ -31,6 +32,7 @@ ring_lawful = record {
   few_lps = lit≤ tt;
   identity_few = lit≤ tt;
   identity_words = tt;
+  begins = tt;
   start_words = λ lp l. (lit≤ tt, (lit< tt, tt));
   start_few = λ lp l. lit≤ tt;
   start = λ lp l. tt;

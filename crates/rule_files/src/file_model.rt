@@ -2,7 +2,7 @@
 
 use crate::scope::Named;
 use eventkey::Message;
-use model::{Model as Simulated, Sends, Words};
+use model::{Model as Simulated, Origin, Sends, Words};
 use models::AnyModel;
 use rules::Rules;
 use smallvec::SmallVec;
@@ -53,6 +53,13 @@ impl Simulated for FileModel {
         match self {
             FileModel::BuiltIn(model) => model.identity(alloc),
             FileModel::Rules(rules, _) => rules.identity(alloc),
+        }
+    }
+
+    fn origin(&self) -> Option<&Origin> {
+        match self {
+            FileModel::BuiltIn(model) => model.origin(),
+            FileModel::Rules(rules, _) => rules.origin(),
         }
     }
 

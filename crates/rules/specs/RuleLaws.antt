@@ -336,6 +336,7 @@ module _ (d : Description) (good : IsDescription d) where
     few_lps = good.few;
     identity_few = omega (arith, good.digest_four);
     identity_words = (lit< tt, recursion_from_All _ _ good.digest_fits);
+    begins = tt;
     start_words = λ lp l. ended_words _ (started_lawful lp l);
     start_few = λ lp l.
         omega (arith, all_few d.tables d.start (before_start lp), good.start.sends);

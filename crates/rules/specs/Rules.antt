@@ -98,6 +98,7 @@ abbrev pub rules_meaning : Description → Meaning
 rules_meaning d = record {
   lps = d.lps;
   identity = 102 ∷ d.digest;
+  origin = None;
   start_state = λ lp. ended d (started d lp);
   start_sends = λ lp. (started d lp).sends;
   next_state = λ lp state x. ended d (handled d lp state x);

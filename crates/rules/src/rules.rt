@@ -13,7 +13,7 @@ use crate::parts::RulesParts;
 use crate::tables::Table;
 use crate::tree::Statement;
 use eventkey::Message;
-use model::{Model as Simulated, Sends, Words, ranged};
+use model::{Model as Simulated, Origin, Sends, Words, ranged};
 use models::next_key;
 use smallvec::SmallVec;
 use std::alloc::Global;
@@ -165,6 +165,10 @@ impl Simulated for Rules {
         words.push_reserved(102);
         words.extend_from_slice(&self.parts.digest).unwrap();
         words
+    }
+
+    fn origin(&self) -> Option<&Origin> {
+        None
     }
 
     fn start(&self, alloc: Global, lp: u32) -> (Words, Sends) {

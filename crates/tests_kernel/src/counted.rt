@@ -5,7 +5,7 @@ ghost use Rattle.models.specs.Ring.{GoodRing, ring_meaning};
 ghost use Rattle.models.specs.RingLaws.{ring_lawful};
 
 use eventkey::Message;
-use model::{Model as Simulated, Sends, Words};
+use model::{Model as Simulated, Origin, Sends, Words};
 use models::TokenRing;
 use smallvec::SmallVec;
 use std::alloc::Global;
@@ -55,6 +55,10 @@ impl Simulated for Counted {
 
     fn identity(&self, alloc: Global) -> SmallVec<u64, 8> {
         self.ring.identity(alloc)
+    }
+
+    fn origin(&self) -> Option<&Origin> {
+        self.ring.origin()
     }
 
     fn start(&self, alloc: Global, lp: u32) -> (Words, Sends) {

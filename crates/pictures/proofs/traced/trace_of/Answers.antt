@@ -1,6 +1,7 @@
 use Rattle.std.specs.List.{AllByRecursion as Every}
 use Rattle.std.proofs.Common.{◌∙◌, ap, length, map, subst, sym}
 use Rattle.model.specs.Meaning.{IsAddressed}
+use Rattle.model.specs.Runner.{Simulation}
 use Rattle.pictures.specs.Inside.{IsWholeRun}
 use Rattle.pictures.specs.Run.{Run, sends_of}
 use Rattle.pictures.proofs.Traces.{length-opening, length-sends_of, run_addressed, run_early, run_reached, run_whole}
@@ -24,7 +25,7 @@ times_of-requires-clause-sends g c =
 pub times_of-requires-clause-events : goal.times_of-requires-clause-events
 times_of-requires-clause-events g c =
     let m = g.M.Model.meaning c.args.model.now in
-    let lps = length-opening m (g.met.M.Model.lawful c.args.model.now) c.as_slice-2.result.now (c.as_slice-2.ensures.value ∙ c.in_ok-states.ensures.numbers) in
+    let lps = length-opening m (g.met.M.Model.lawful c.args.model.now) c.as_slice-2.result.now (c.as_slice-2.ensures.value ∙ c.in_ok-states.ensures.numbers ∙ ap (λ (s : Simulation). s.world.numbers) c.in_ok-world.ensures.ok) in
     subst (λ n. Every (IsAddressed n) c.as_slice-3.result.now) (sym lps)
     (run_addressed m c.run_to.new.self.world c.as_slice-3.result.now
     (run_reached m c.args.end c.args.to c.in_ok-world.world c.run_to.new.self.world (g.met.M.Model.lawful c.args.model.now) c.requires.end c.in_ok-world.ensures.ok c.in_ok-run_to.ensures.sequential)
@@ -47,7 +48,7 @@ whole g c =
     run_whole m c.run_to.new.self.world (run_at g c) law
     (run_reached m c.args.end c.args.to c.in_ok-world.world c.run_to.new.self.world law c.requires.end c.in_ok-world.ensures.ok c.in_ok-run_to.ensures.sequential)
     (run_early m c.args.end c.args.to c.into_parts-time.result.time c.in_ok-world.world c.run_to.new.self.world c.requires.end c.in_ok-world.ensures.ok c.into_parts-time.ensures.time c.in_ok-run_to.ensures.sequential)
-    c.into_parts-time.ensures.log c.into_parts-time.ensures.pending c.in_ok-states.ensures.numbers (map (λ s. s.items) c.in_ok-states.states.items)
+    c.into_parts-time.ensures.log c.into_parts-time.ensures.pending (c.in_ok-states.ensures.numbers ∙ ap (λ (s : Simulation). s.world.numbers) c.in_ok-world.ensures.ok) (map (λ s. s.items) c.in_ok-states.states.items)
     (c.in_ok-sends.ensures ∙ ap (sends_of m (map (λ s. s.items) c.in_ok-states.states.items)) c.as_slice.ensures.value)
 
 pub invariant_of-result : goal.invariant_of-result
