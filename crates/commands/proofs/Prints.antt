@@ -1,9 +1,9 @@
 -- What the commands print of a disk.
 use Rattle.std.proofs.Common.{false, ap, arith, inl, inr, refl, subst, sym, ◌∙◌}
 use Rattle.std.specs.Io.KnownBytes.{Appends, Keeps}
-use Rattle.std.specs.Prelude.{◌≡◌, ◌≤◌, ◌^◌, ℕ, List, [], Option, Result, Ok, Err, OnOk, length}
+use Rattle.std.specs.Prelude.{◌≡◌, ◌≢◌, ◌≤◌, ◌^◌, ℕ, List, [], None, Option, Result, Some, Ok, Err, OnOk, length, option_map}
 use Rattle.commands.specs.Commands.{IsBlankOrRepresents, IsNotRecovered, PrintsExtended, extended_text}
-use Rattle.commands.specs.Commands.{of_run}
+use Rattle.commands.specs.Commands.{IsKeptCommand, of_run, stopped_in}
 use Rattle.commands.specs.declared.fault.CommandFault.{CommandFault}
 use Rattle.commands.specs.declared.fault.CommandFault.TheVariants.{Stopped}
 use Rattle.runs.specs.declared.rounds.RunFault.{RunFault}
@@ -16,7 +16,8 @@ use Rattle.commitlog.specs.declared.fault.LogFault.{LogFault}
 use Rattle.commitlog.specs.declared.fault.LogFault.TheVariants.{Corrupt, Disk, Full, NoMemory as LogNoMemory, NotBlank, NotFormatted, Spent, TooLong}
 use Rattle.disk.specs.declared.disk.DiskFault.TheVariants.{Device, NoSuchSector}
 use Rattle.commitlog.specs.Records.{Holds, IsBlank, IsBlankOrEmptyLog, IsFormatted}
-use Rattle.coordinator.specs.Crashes.{KeepsRecovery, Recovers}
+use Rattle.recovery.specs.Crashes.{KeepsRecovery}
+use Rattle.recovery.specs.Represents.{Recovers, RepresentsAtLeast}
 use Rattle.coordinator.specs.Extending.{IsExtended, KeepsRecords}
 use Rattle.coordinator.specs.Opening.{IsAtFault, LeavesExactly}
 use Rattle.disk.specs.Disk.{DiskState, IsDisk, IsSynced, LeavesOnly, MayLeave, OnlyLooks}
@@ -26,15 +27,18 @@ use Rattle.model.proofs.Worlds.{IsUpto_IsWorld}
 use Rattle.model.specs.Meaning.{IsLawful, Meaning}
 use Rattle.model.specs.World.{IsUpto, World, opening}
 use Rattle.recovery.proofs.Images.{empty_log_represents}
+use Rattle.recovery.proofs.Later.{upto_is_of_each_end}
+use Rattle.recovery.proofs.Representation.{represented_is_upto}
+use Rattle.recovery.specs.Histories.{IsBeginning, IsKept, IsKeptRun}
+use Rattle.runs.specs.Driver.{acknowledged}
 use Rattle.recovery.specs.Causes.{IsFirstAtFault}
 use Rattle.recovery.specs.Ends.{IsEnd, IsLater, IsOurs}
 use Rattle.recovery.specs.Header.{header_bytes, header_of}
 use Rattle.recovery.specs.Recovered.{RecoveryIsRefused}
-use Rattle.recovery.specs.Replay.{IsReplayedTo}
-use Rattle.recovery.specs.Represents.{RepresentsAtLeast}
+use Rattle.recovery.specs.Replay.{IsReplayedTo, in_force}
 use Rattle.recovery.specs.declared.RecoveryFault.{RecoveryFault}
 use Rattle.recovery.specs.declared.RecoveryFault.TheVariants.{BadCheckpoint, BadEnd, BadRecord, GoesBack, Log, NoMemory, NotTheLeast, NumberLimit, OtherModel}
-use Rattle.coordinator.proofs.Extensions.{are-readable, log-on, ours-of}
+use Rattle.recovery.proofs.Crashes.{are-readable, log-on, ours-of}
 use Rattle.eventkey.proofs.Writers.{appended_as, begun_as, writes_whole}
 use Rattle.eventkey.specs.Writing.{TakesBeginning, Writes}
 use Rattle.texts.specs.Text.{log_text, world_text}
@@ -155,3 +159,32 @@ at_least_as_before m a now later old new h = record {
     later = omega arith;
   };
 }
+
+-- Calls of a history
+
+-- a disk that represents exactly this world begins a history
+pub begins-exactly : (m : Meaning) (end : ℕ) (w : World) (disk : DiskState) → IsLawful m → IsDisk disk.reads disk.dirty → LeavesExactly m end w disk → IsBeginning m w disk
+begins-exactly m end w disk lawful sound exactly =
+    let here = exactly disk.reads (reads_left disk.reads disk.dirty sound) in
+    let upto = represented_is_upto m here.first end here.entries w here.represent in
+    record {
+      lawful = lawful;
+      upto = upto_is_of_each_end m end w.time w.time w upto.0 upto.1 (omega arith);
+      recovers = λ image left. record { end = end; represents = record { world = w; represents = exactly image left; time = omega arith } };
+    }
+
+-- the numbers in the fault of a run are those that it acknowledges
+pub stopped-same : (fault : RunFault) → stopped_in (of_run fault) ≡ acknowledged (Err fault)
+stopped-same (run.Session f) = refl
+stopped-same run.Rounds = refl
+stopped-same (run.Stopped time events) = refl
+stopped-same run.NoMemory = refl
+
+module _ (m : Meaning) (end : ℕ) (v : World) (old new : DiskState) (before after : Option (List ℕ)) where
+  pub kept-faulty : (fault : RunFault) (own : CommandFault) → own ≡ of_run fault → IsKeptRun m end v old new (acknowledged (Err fault)) → IsKeptCommand m end v old new before after (Err own)
+  kept-faulty fault own is kept = inr (own, refl, subst (IsKeptRun m end v old new) (sym (ap stopped_in is ∙ stopped-same fault)) kept)
+
+-- an extended disk acknowledges its front also if nothing could be printed
+pub kept-extended : {T : Type 0} (m : Meaning) (end : ℕ) (v front : World) (old new : DiskState) (r : Result T CommandFault) → IsKept m v (record { begun = old; ended = new; front = Some (in_force end front) })
+    → (f : Option World) × OnOk r (f ≢ None) × IsKept m v (record { begun = old; ended = new; front = option_map (λ (w : World). in_force end w) f })
+kept-extended m end v front old new r kept = (Some front, at_ok r (λ none. cc), kept)

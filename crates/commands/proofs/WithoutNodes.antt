@@ -1,26 +1,16 @@
 -- Runs without nodes, in the terms of runs over nodes.
-use Rattle.std.proofs.Common.{sym, ◌∙◌}
-use Rattle.std.specs.Prelude.{◌≡◌, ℕ, Result, Ok, Err}
-use Rattle.commands.specs.Commands.{of_plain}
-use Rattle.commands.specs.declared.fault.CommandFault.{CommandFault}
-use Rattle.commands.specs.declared.fault.CommandFault.TheVariants.{Stopped}
-use Rattle.coordinator.specs.Crashes.{KeepsRecovery}
+use Rattle.std.proofs.Common.{ap, inr, refl, subst, sym, ◌∙◌}
+use Rattle.std.specs.Prelude.{◌≡◌, ℕ, List, Option, Result, Ok, Err}
+use Rattle.commands.specs.Commands.{IsKeptCommand, of_plain, stopped_in}
 use Rattle.disk.specs.Disk.{DiskState}
 use Rattle.model.specs.Meaning.{Meaning}
-use Rattle.plain.specs.Crashes.{KeepsRecovery as KeepsPlainly}
-use Rattle.plain.specs.Runs.{IsRunOf as IsPlainRunOf, IsStoppedAt as IsPlainlyStoppedAt}
+use Rattle.model.specs.World.{World}
+use Rattle.plain.specs.Runs.{acknowledged}
+use Rattle.recovery.specs.Histories.{IsKeptRun}
+use Rattle.commands.specs.declared.fault.CommandFault.{CommandFault}
+use Rattle.commands.specs.declared.fault.CommandFault.TheVariants.{Stopped}
 use Rattle.plain.specs.declared.PlainFault.{PlainFault}
 use Rattle.plain.specs.declared.PlainFault.TheVariants as plain
-use Rattle.runs.specs.Driver.{IsRunOf, IsStoppedAt}
-
-pub run_of : (m : Meaning) (end time events : ℕ) → IsPlainRunOf m end time events → IsRunOf m end time events
-run_of m end time events h = record { world = h.world; upto = h.upto; time_is = h.time_is; events_are = h.events_are }
-
-pub stopped_of : (m : Meaning) (end time events : ℕ) → IsPlainlyStoppedAt m end time events → IsStoppedAt m end time events
-stopped_of m end time events h = record { world = h.world; upto = h.upto; early = h.early; events_are = h.events_are }
-
-pub keeps_of : (m : Meaning) (end before now : ℕ) (old new : DiskState) → KeepsPlainly m end before now old new → KeepsRecovery m end before now old new
-keeps_of m end before now old new h = record { any_moment = h.any_moment; now_on = h.now_on; later = h.later }
 
 -- only the stop of a run is reported as one
 stop_is : (fault : PlainFault) (time events : ℕ) → of_plain fault ≡ Stopped time events → fault ≡ plain.Stopped time events
@@ -35,3 +25,18 @@ stop_is plain.NoMemory time events is = absurd cc
 
 pub asked_plainly : {T : Type 0} (fault : PlainFault) (own : CommandFault) (time events : ℕ) → own ≡ of_plain fault → ◌≡◌ {A = Result T CommandFault} (Err own) (Err (Stopped time events)) → fault ≡ plain.Stopped time events
 asked_plainly fault own time events own_is is = (let same : own ≡ Stopped time events = cc in stop_is fault time events (sym own_is ∙ same))
+
+-- the numbers in the fault of a run are those that it acknowledges
+stopped-same : (fault : PlainFault) → stopped_in (of_plain fault) ≡ acknowledged (Err fault)
+stopped-same (plain.Recovery f) = refl
+stopped-same plain.NumberLimit = refl
+stopped-same plain.TooLong = refl
+stopped-same plain.Full = refl
+stopped-same plain.Disk = refl
+stopped-same plain.Commits = refl
+stopped-same (plain.Stopped time events) = refl
+stopped-same plain.NoMemory = refl
+
+module _ (m : Meaning) (end : ℕ) (v : World) (old new : DiskState) (before after : Option (List ℕ)) where
+  pub kept-plainly : (fault : PlainFault) (own : CommandFault) → own ≡ of_plain fault → IsKeptRun m end v old new (acknowledged (Err fault)) → IsKeptCommand m end v old new before after (Err own)
+  kept-plainly fault own is kept = inr (own, refl, subst (IsKeptRun m end v old new) (sym (ap stopped_in is ∙ stopped-same fault)) kept)

@@ -1,7 +1,7 @@
 -- What the commands on a disk print (this project's profile).
 use Rattle.std.specs.Io.KnownBytes.{Appends}
 use Rattle.std.specs.Prelude.{◌≡◌, ◌≤◌, ◌⊎◌, ℕ, List, ◌++◌, Option, codes, decimal, flat_map}
-use Rattle.std.specs.Prelude.{None, get_or, length}
+use Rattle.std.specs.Prelude.{Err, None, Result, Some, get_or, length}
 use Rattle.commands.specs.declared.fault.CommandFault.{CommandFault}
 use Rattle.commands.specs.declared.fault.CommandFault.TheVariants.{Log, NoMemory, Output, Recovery}
 use Rattle.commands.specs.declared.fault.CommandFault.TheVariants.{Rounds, Session, Stopped}
@@ -19,7 +19,8 @@ use Rattle.plain.specs.Runs.{RunIsRefused}
 use Rattle.plain.specs.declared.PlainFault.{PlainFault}
 use Rattle.plain.specs.declared.PlainFault.TheVariants as plain
 use Rattle.plain.specs.declared.whole.Plan.{Plan as PlainPlan}
-use Rattle.runs.specs.Driver.{IsRunOf, IsRunOver}
+use Rattle.runs.specs.Driver.{IsRunOver}
+use Rattle.recovery.specs.Histories.{IsKeptRun, IsRunOf}
 use Rattle.runs.specs.declared.rounds.Plan.{Plan}
 use Rattle.runs.specs.declared.rounds.RunFault.{RunFault}
 use Rattle.runs.specs.declared.rounds.RunFault.TheVariants as run
@@ -30,7 +31,7 @@ use Rattle.recovery.specs.Replay.{IsReplayedTo}
 use Rattle.recovery.specs.Represents.{IsGenuine, Represents}
 use Rattle.recovery.specs.declared.RecoveryFault.{RecoveryFault}
 use Rattle.recovery.specs.declared.RecoveryFault.TheVariants as recovery
-use Rattle.eventkey.specs.Writing.{TakesBeginning}
+use Rattle.eventkey.specs.Writing.{TakesBeginning, Writes}
 use Rattle.wire.specs.Port.{PortState}
 
 -- 1. Texts
@@ -186,3 +187,21 @@ abbrev pub PlainRunIsRefused : {M D : Type 0} → (M → Meaning) → (D → Dis
 PlainRunIsRefused meaning disk model end plan old new fault = (fault ≡ Output)
     ⊎ ((cause : PlainFault) × (fault ≡ of_plain cause)
     × RunIsRefused meaning disk model end plan old new cause)
+
+-- 4. Calls of a history
+
+-- the time and the number of events in the fault of a run that was asked to stop
+abbrev pub stopped_in : CommandFault → Option (ℕ × ℕ)
+stopped_in (Stopped time events) = Some (time, events)
+stopped_in fault = None
+
+-- A run as a call of a history. It reached its end and wrote the numbers of the front that it
+-- acknowledges; or it ended with a fault, which has those numbers if the run was asked to stop.
+abbrev pub IsKeptCommand : Meaning → ℕ → World → DiskState → DiskState → Option (List ℕ) →
+    Option (List ℕ) → Result (Unit {0}) CommandFault → Type 0
+IsKeptCommand m end v old new before after outcome =
+    ((ran : List ℕ) × (time : ℕ) × (events : ℕ)
+    × Writes before after outcome (ran_text ran time events)
+    × IsKeptRun m end v old new (Some (time, events)))
+    ⊎ ((fault : CommandFault) × (outcome ≡ Err fault)
+    × IsKeptRun m end v old new (stopped_in fault))

@@ -1,13 +1,14 @@
 // A run without nodes.
 
 ghost use Rattle.std.specs.Prelude.{◌≡◌, ◌≢◌, ◌≤◌, ◌^◌, ℕ, Err, IfErr, OnOk};
-ghost use Rattle.commands.specs.Commands.{PlainRunIsRefused, PrintsEndOfRun};
+ghost use Rattle.commands.specs.Commands.{IsKeptCommand, PlainRunIsRefused, PrintsEndOfRun};
+ghost use Rattle.model.specs.World.{World};
 ghost use Rattle.commands.specs.declared.fault.CommandFault.{CommandFault};
 ghost use Rattle.commands.specs.declared.fault.CommandFault.TheVariants.{Output, Stopped};
-ghost use Rattle.coordinator.specs.Crashes.{KeepsRecovery, Recovers};
+ghost use Rattle.recovery.specs.Crashes.{KeepsRecovery};
+ghost use Rattle.recovery.specs.Represents.{Recovers, IsGenuine};
 ghost use Rattle.eventkey.specs.Writing.{TakesBeginning};
-ghost use Rattle.recovery.specs.Represents.{IsGenuine};
-ghost use Rattle.runs.specs.Driver.{IsStoppedAt};
+ghost use Rattle.recovery.specs.Histories.{IsStoppedAt};
 ghost use Rattle.std.specs.Io.KnownBytes.{Appends};
 
 use crate::CommandFault;
@@ -63,6 +64,10 @@ pub fn run_plain<M: Modelled, D: SectorDisk + Drop, O: Write, W: Watch>(
         (time events : ℕ) → result.outcome ≡ Err (Stopped time events) →
         IsStoppedAt (M.meaning of.now.model) of.now.end time events
         × Recovers (M.meaning of.now.model) of.now.end time (D.state result.disk) }
+    // It is a call of a history of the headline.
+    ensures kept { (v : World) → IsKeptCommand (M.meaning of.now.model) of.now.end v
+        (D.state disk) (D.state result.disk) (O.contents out.old) (O.contents out.new)
+        result.outcome }
     ensures refused { IfErr result.outcome (λ fault. PlainRunIsRefused M.meaning D.state of.now.model
         of.now.end plan disk result.disk fault) }
 {

@@ -2,7 +2,7 @@
 
 ghost use Rattle.std.specs.Prelude.{◌≡◌, ◌<◌, ◌≤◌, ◌^◌, ℕ, IfErr, IfOk, IfSome, IsSome, None};
 ghost use Rattle.std.specs.Prelude.{length, map, replicate, take};
-ghost use Rattle.coordinator.specs.Crashes.{Recovers};
+ghost use Rattle.recovery.specs.Represents.{Recovers};
 ghost use Rattle.coordinator.specs.Headline.{IsResumed};
 ghost use Rattle.coordinator.specs.Opening.{IsResourceFaultAtOpening, OpeningIsRefused};
 ghost use Rattle.coordinator.specs.Steps.{move_of};

@@ -1,4 +1,3 @@
-pub mod Crashes
 pub mod Going
 pub mod Commits
 pub mod Inside

@@ -3,12 +3,13 @@
 ghost use Rattle.std.specs.Prelude.{◌≡◌, ◌≤◌, ◌<◌, ◌^◌, ℕ, IfErr, IfOk, IsErrOf};
 ghost use Rattle.std.specs.Prelude.{OnOk, length, true};
 ghost use Rattle.plain.specs.Commits.{StaysRecoverable};
-ghost use Rattle.plain.specs.Crashes.{KeepsRecovery, KeepsUnderItsEnd, Recovers};
-ghost use Rattle.plain.specs.Crashes.{RecoversUnderItsEnd};
+ghost use Rattle.model.specs.World.{World};
+ghost use Rattle.recovery.specs.Crashes.{KeepsRecovery};
+ghost use Rattle.recovery.specs.Histories.{IsKeptRun, IsRunOf, IsStoppedAt};
+ghost use Rattle.recovery.specs.Represents.{Recovers, IsGenuine};
 ghost use Rattle.plain.specs.Refusals.{SavingIsRefused};
-ghost use Rattle.plain.specs.Runs.{AreRounds, IsRound, IsRunOf, IsRunOver, IsSavedIf, IsStopped};
-ghost use Rattle.plain.specs.Runs.{IsStoppedAt, RoundIsRefused, RunIsRefused, is_kept};
-ghost use Rattle.recovery.specs.Represents.{IsGenuine};
+ghost use Rattle.plain.specs.Runs.{AreRounds, IsRound, IsRunOver, IsSavedIf, IsStopped};
+ghost use Rattle.plain.specs.Runs.{RoundIsRefused, RunIsRefused, acknowledged, is_kept};
 
 use crate::{PlainFault, PlainRun, Stopped};
 use disk::SectorDisk;
@@ -111,17 +112,10 @@ pub fn run_plain<M: Simulated, D: SectorDisk + Drop, W: Watch>(
         KeepsRecovery (M.meaning model.now) end a a (D.state disk) (D.state result.disk) }
     ensures committed { IsGenuine (M.meaning model.now) end (D.state disk).reads →
         OnOk result.outcome (Recovers (M.meaning model.now) end end (D.state result.disk)) }
-    // The same if each image represents a world under its own end, as after a stopped call that
-    // named a later one.
-    ensures under_its_end { (a : ℕ) → RecoversUnderItsEnd (M.meaning model.now) a (D.state disk) →
-        KeepsUnderItsEnd (M.meaning model.now) a a (D.state disk) (D.state result.disk) }
-    ensures acknowledged { (a : ℕ) → RecoversUnderItsEnd (M.meaning model.now) a (D.state disk) →
-        IfOk result.outcome (λ done. IsRunOf (M.meaning model.now) end done.time done.events
-        × KeepsUnderItsEnd (M.meaning model.now) a done.time (D.state disk) (D.state result.disk)) }
-    ensures stop_acknowledged { (a : ℕ) → RecoversUnderItsEnd (M.meaning model.now) a (D.state disk) →
-        (time events : ℕ) → IsErrOf result.outcome (PlainFault.Stopped time events) →
-        IsStoppedAt (M.meaning model.now) end time events
-        × KeepsUnderItsEnd (M.meaning model.now) a time (D.state disk) (D.state result.disk) }
+    // It is a call of a history of the headline, which acknowledges the front that it reached, or at
+    // which it was stopped.
+    ensures kept { (v : World) → IsKeptRun (M.meaning model.now) end v (D.state disk)
+        (D.state result.disk) (acknowledged result.outcome) }
 {
     let run = match PlainRun::open(alloc, model, disk, end) {
         Ok(run) => run,

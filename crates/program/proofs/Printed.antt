@@ -21,7 +21,8 @@ use Rattle.views.specs.Views.{Begins, Describes, IsCommitted, IsNamed, Prints}
 use Rattle.program.specs.Command.{IsEnded, IsExtendedText, IsMigratedText, IsNotEnded, IsRan, IsRanBehind, IsStoppedBehind, IsStoppedText}
 use Rattle.program.specs.declared.fault.Fault.{Fault}
 use Rattle.recovery.specs.Represents.{IsGenuine}
-use Rattle.runs.specs.Driver.{IsStoppedAt, IsStoppedOver}
+use Rattle.runs.specs.Driver.{IsStoppedOver}
+use Rattle.recovery.specs.Histories.{IsStoppedAt}
 
 pub at_ok : {T E X : Type 0} {r : Result T E} {x : T} → r ≡ Ok x → OnOk r X → X
 at_ok {r = Ok x} e h = h

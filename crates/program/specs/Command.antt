@@ -13,7 +13,7 @@ use Rattle.commitlog.specs.declared.records.Entry.{Entry}
 use Rattle.disk.specs.declared.file.FileFault.{FileFault}
 use Rattle.disk.specs.declared.file.FileFault.TheVariants as opening
 use Rattle.plain.specs.declared.whole.Plan.{Plan as PlainPlan}
-use Rattle.runs.specs.Driver.{IsRunOf, IsStoppedAt}
+use Rattle.recovery.specs.Histories.{IsRunOf, IsStoppedAt}
 use Rattle.runs.specs.declared.rounds.Batch.{Batch as DriverBatch}
 use Rattle.runs.specs.declared.rounds.Batch.TheVariants as driver
 use Rattle.runs.specs.declared.rounds.Plan.{Plan}

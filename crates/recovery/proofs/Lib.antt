@@ -16,4 +16,6 @@ pub mod EndsInForce
 pub mod Loadable
 pub mod Disks
 pub mod Fronts
+pub mod Crashes
+pub mod Histories
 mod Examples

@@ -5,13 +5,13 @@ use Rattle.std.proofs.lemmas.List.{get_or-replicate, get_or-set_other, get_or-se
 use Rattle.std.specs.Prelude.{None, Option, replicate, if◌then◌else◌}
 use Rattle.coordinator.specs.Steps.{move_of}
 use Rattle.coordinator.specs.declared.Step.{Step}
-use Rattle.coordinator.specs.declared.Step.TheVariants.{Checkpoint as CheckpointStep, Commit as CommitStep, Post as PostStep, SealedCheckpoint, Take as TakeStep}
+use Rattle.coordinator.specs.declared.Step.TheVariants.{Checkpoint as CheckpointStep, Commit as CommitStep, Post as PostStep, SealedCheckpoint, Take as TakeStep, JudgedCommit as JudgedStep}
 use Rattle.eventkey.specs.declared.Signed.{Signed}
 use Rattle.runs.proofs.Shapes.{one_round_more}
 use Rattle.runs.specs.Budgets.{first_budget}
 use Rattle.runs.specs.declared.budgets.NodeBudget.{NodeBudget}
 use Rattle.runs.specs.declared.rounds.Batch.{Batch}
-use Rattle.runs.specs.Driver.{AreAsked, AreBudgeted, AreCounts, AreRounds, IsRound, Made, budgets_after, budgets_by, closing_of, commits_in, events_due, handled_by, handled_in, handled_of, kept_after, least_answered, least_by, moves_of, outstanding_after, outstanding_by, reported_after, reported_since, round_after}
+use Rattle.runs.specs.Driver.{AreAsked, AreBudgeted, AreCounts, AreRounds, IsRound, Made, budgets_after, budgets_by, closing_of, commit_by, commits_in, events_due, handled_by, handled_in, handled_of, kept_after, least_answered, least_by, moves_of, steps_of, outstanding_after, outstanding_by, reported_after, reported_since, round_after}
 use Rattle.runs.specs.Tallies.{AreCounted, CountsNothing, IsSized, IsTallied, IsTallyOf, Tallied, handled_after}
 use Rattle.runs.specs.declared.rounds.Plan.{Plan}
 use Rattle.runs.specs.declared.rounds.Round.{Round}
@@ -36,6 +36,9 @@ least_more time outstanding (k ∷ ks) ls = least_more (least_by time outstandin
 pub commits_more : (ks ls : List Made) → commits_in (ks ++ ls) ≡ commits_in ks + commits_in ls
 commits_more [] ls = omega arith
 commits_more (k ∷ ks) ls = (let more = commits_more ks ls in omega (arith, more))
+
+pub steps_more : (ks ls : List Made) → steps_of (ks ++ ls) ≡ steps_of ks ++ steps_of ls
+steps_more ks ls = map-append (λ (k : Made). k.step) ks ls
 
 pub moves_more : (ks ls : List Made) → moves_of (ks ++ ls) ≡ moves_of ks ++ moves_of ls
 moves_more ks ls = map-append (λ (k : Made). move_of k.step) ks ls
@@ -86,6 +89,7 @@ pub checkpoint_counts : (step : Step) (transit : List Signed) (answer : Answer) 
 checkpoint_counts CheckpointStep transit answer is = record { reported = λ reported. refl; commits = refl; outstanding = λ outstanding. refl; budgets = λ budgets. refl; budgeted = λ batch budgets. (tt, tt); handled = λ node. refl }
 checkpoint_counts SealedCheckpoint transit answer is = record { reported = λ reported. refl; commits = refl; outstanding = λ outstanding. refl; budgets = λ budgets. refl; budgeted = λ batch budgets. (tt, tt); handled = λ node. refl }
 checkpoint_counts CommitStep transit answer is = absurd (cc)
+checkpoint_counts JudgedStep transit answer is = absurd (cc)
 checkpoint_counts (TakeStep node) transit answer is = absurd (cc)
 checkpoint_counts (PostStep node picks budget) transit answer is = absurd (cc)
 
@@ -151,10 +155,10 @@ module _ (plan : Plan) where
   both_tallied S T U old mid new both = both_after S T U old mid new (λ ks ls same. both ks ls)
 
   -- a commit, and a checkpoint if one is due
-  pub commit_kept : (kept number : ℕ) (old new : Tally) (ks ls : List Made) → number ≡ old.commits + 1 → (moves_of ks ≡ Commit ∷ []) × IsTallied plan old new ks → (moves_of ls ≡ kept_after kept number) × CountsNothing ls
-      → (moves_of (ks ++ ls) ≡ Commit ∷ kept_after kept (old.commits + 1)) × IsTallied plan old new (ks ++ ls)
-  commit_kept kept number old new ks ls is first second =
-      let same : moves_of ls ≡ kept_after kept (old.commits + 1) = second.0 ∙ ap (kept_after kept) is in
+  pub commit_kept : (number : ℕ) (old new : Tally) (ks ls : List Made) → number ≡ old.commits + 1 → (steps_of ks ≡ commit_by plan ∷ []) × IsTallied plan old new ks → (steps_of ls ≡ kept_after plan number) × CountsNothing ls
+      → (steps_of (ks ++ ls) ≡ commit_by plan ∷ kept_after plan (old.commits + 1)) × IsTallied plan old new (ks ++ ls)
+  commit_kept number old new ks ls is first second =
+      let same : steps_of ls ≡ kept_after plan (old.commits + 1) = second.0 ∙ ap (kept_after plan) is in
       let rest : IsTallied plan new new ls = record {
         events_until_commit = λ reported e. e ∙ ap (λ (n : ℕ). plan.commit_every - n) (sym (second.1.reported reported));
         commits = (let none = second.1.commits in omega (arith, none));
@@ -163,21 +167,21 @@ module _ (plan : Plan) where
         budgeted = second.1.budgeted plan.batch new.budgets.items;
         handled = none_counted new.handled_per_node.items new.handled_per_node.items ls refl second.1.handled;
       } in
-      (moves_more ks ls ∙ ap₂ (λ (a b : List Move). a ++ b) first.0 same, tallied_more old new new ks ls first.1 rest)
+      (steps_more ks ls ∙ ap₂ (λ (a b : List Step). a ++ b) first.0 same, tallied_more old new new ks ls first.1 rest)
 
 module _ (round : Round) where
   pub round_shape : (reported : ℕ) (old begun asked : Tally) (ks ls : List Made) → begun.floor ≡ round.end → begun.commits ≡ old.commits → begun.outstanding.items ≡ old.outstanding.items → asked.commits ≡ begun.commits
-      → Tallied round.plan (AreAsked round.plan.schedule round begun.outstanding.items) begun asked ks → moves_of ls ≡ closing_of round (reported_since reported ks) asked.floor asked.commits
+      → Tallied round.plan (AreAsked round.plan.schedule round begun.outstanding.items) begun asked ks → steps_of ls ≡ closing_of round (reported_since reported ks) asked.floor asked.commits
       → IsRound round reported old.commits old.outstanding.items (ks ++ ls)
   round_shape reported old begun asked ks ls floor commits outstanding same first second =
       let least : asked.floor ≡ least_answered round.end old.outstanding.items ks = first.floor ∙ ap₂ (λ (n : ℕ) (o : List (Option ℕ)). least_answered n o ks) floor outstanding in
-      let closing : moves_of ls ≡ closing_of round (reported_since reported ks) (least_answered round.end old.outstanding.items ks) old.commits =
+      let closing : steps_of ls ≡ closing_of round (reported_since reported ks) (least_answered round.end old.outstanding.items ks) old.commits =
       second ∙ ap₂ (λ (f n : ℕ). closing_of round (reported_since reported ks) f n) least (same ∙ commits) in
       (ks, ls, subst (λ (o : List (Option ℕ)). AreAsked round.plan.schedule round o ks) outstanding first.shape, closing, refl)
 
   -- all nodes are asked, and then the round ends
   pub round_made : (reported : ℕ) (old begun asked closed : Tally) (ks ls : List Made) → begun.floor ≡ round.end → begun.events_until_commit ≡ old.events_until_commit → begun.commits ≡ old.commits → begun.outstanding.items ≡ old.outstanding.items → begun.budgets.items ≡ old.budgets.items → begun.handled_per_node.items ≡ old.handled_per_node.items → asked.commits ≡ begun.commits
-      → Tallied round.plan (AreAsked round.plan.schedule round begun.outstanding.items) begun asked ks → (moves_of ls ≡ closing_of round (reported_since reported ks) asked.floor asked.commits) × IsTallied round.plan asked closed ls
+      → Tallied round.plan (AreAsked round.plan.schedule round begun.outstanding.items) begun asked ks → (steps_of ls ≡ closing_of round (reported_since reported ks) asked.floor asked.commits) × IsTallied round.plan asked closed ls
       → IsRound round reported old.commits old.outstanding.items (ks ++ ls) × IsTallied round.plan old closed (ks ++ ls)
   round_made reported old begun asked closed ks ls floor events_until_commit commits outstanding budgets handled same first second =
       let start : IsTallied round.plan old begun [] = record { events_until_commit = λ t is. events_until_commit ∙ is; commits = omega (arith, commits); outstanding = outstanding; budgets = budgets; budgeted = tt; handled = none_counted old.handled_per_node.items begun.handled_per_node.items [] handled (λ node. refl) } in

@@ -1,14 +1,16 @@
 -- Steps of a session, one after another, and what holds of them.
-use Rattle.std.proofs.Common.{◌≡◌, ◌≤◌, ℕ, List, Ok, Err, OnOk, Option, Result, Some, [], ◌∷◌, ◌++◌, ap, ap₂, arith, map, refl, subst, sym}
+use Rattle.std.proofs.Common.{◌≡◌, ◌≤◌, ℕ, Bool, false, true, List, Ok, Err, OnOk, Option, Result, Some, [], ◌∷◌, ◌++◌, ap, ap₂, arith, map, refl, subst, sym}
 use Rattle.std.specs.Prelude.{unwrap_or}
-use Rattle.coordinator.proofs.Driving.{carry, goes_keeps, joined, none_made, one_made, then_keeps}
-use Rattle.coordinator.specs.Crashes.{KeepsRepresentation}
+use Rattle.coordinator.proofs.Driving.{carry, goes_keeps, joined, none_made, one_made, then_keeps, under}
+use Rattle.coordinator.specs.Crashes.{IsTrusted}
 use Rattle.coordinator.specs.Drives.{Goes, IsStep}
-use Rattle.coordinator.specs.Session.{IsConsistentSession, Session, system_of, running}
-use Rattle.coordinator.specs.Steps.{move_of}
+use Rattle.coordinator.specs.Session.{IsConsistentSession, Running, Session, system_of, running}
+use Rattle.coordinator.specs.Steps.{move_of, trusts}
+use Rattle.protocol.specs.Moves.{Move}
+use Rattle.coordinator.specs.declared.SessionFault.{SessionFault}
 use Rattle.coordinator.specs.declared.Step.{Step}
 use Rattle.disk.specs.Disk.{DiskState}
-use Rattle.runs.specs.Driver.{AreMade, AreRoundsOfRun, IsDriven, IsDrivenBy, IsFinished, Made, answers_of, moves_of, transits_of}
+use Rattle.runs.specs.Driver.{AreMade, AreRoundsOfRun, IsDriven, IsDrivenBy, IsFinished, Keeps, Made, answers_of, moves_of, transits_of}
 use Rattle.runs.specs.declared.rounds.Plan.{Plan}
 use Rattle.eventkey.specs.declared.Signed.{Signed}
 use Rattle.model.specs.Meaning.{Meaning}
@@ -28,12 +30,26 @@ module _ {M P D : Type 0} (meaning : M → Meaning) (state : P → PortState) (d
   steps_join [] ys old mid new first second = subst (λ (s : Session M P D). AreMade meaning state disk ys s new) first second
   steps_join (x ∷ xs) ys old mid new first second = (first.0, first.1, first.2, steps_join xs ys first.0 mid new first.3 second)
 
+  -- what is promised of any session, or of a consistent one, is promised of a consistent one
+  trusted : (b : Bool) (r : Running) → IsConsistentSession r → IsTrusted b r
+  trusted true r consistent = consistent
+  trusted false r consistent = tt
+
+  trusting : (b : Bool) (ks : List Move) (old new : Session M P D) → Goes meaning state disk b ks old new → Goes meaning state disk true ks old new
+  trusting b ks old new goes = record {
+    model_is = goes.model_is;
+    end_is = goes.end_is;
+    made = goes.made;
+    written = λ consistent. goes.written (trusted b (running meaning state old) consistent);
+    crashes = λ consistent. goes.crashes (trusted b (running meaning state old) consistent);
+  }
+
   -- over faithful ports the steps that were made are moves of the system state
-  pub goes_by : (xs : List Made) (old new : Session M P D) → AreMade meaning state disk xs old new → Goes meaning state disk (moves_of xs) old new
-  goes_by [] old new made = subst (λ (s : Session M P D). Goes meaning state disk [] old s) (sym made) (none_made meaning state disk old)
+  pub goes_by : (xs : List Made) (old new : Session M P D) → AreMade meaning state disk xs old new → Goes meaning state disk true (moves_of xs) old new
+  goes_by [] old new made = subst (λ (s : Session M P D). Goes meaning state disk true [] old s) (sym made) (trusting false [] old old (none_made meaning state disk old))
   goes_by (x ∷ xs) old new made =
-      joined meaning state disk (move_of x.step ∷ []) (moves_of xs) old made.0 new
-      (one_made meaning state disk x.step x.answer old made.0 made.2) (goes_by xs made.0 new made.3)
+      joined meaning state disk true true (move_of x.step ∷ []) old made.0 new
+      (trusting (trusts x.step) (move_of x.step ∷ []) old made.0 (one_made meaning state disk x.step x.answer old made.0 made.2)) (moves_of xs) (goes_by xs made.0 new made.3)
 
   -- what holds of the later steps over the system state after the first step
   later_on : (x : Made) (old mid : Session M P D) → IsStep meaning state disk x.step old mid (Ok x.answer) → IsConsistentSession (running meaning state old) → (F : Meaning → ℕ → System → Type 0) → F (meaning mid.model) mid.end (system_of (running meaning state mid))
@@ -109,11 +125,18 @@ module _ {M P D : Type 0} (meaning : M → Meaning) (state : P → PortState) (d
       subst (λ (m : M). IsUpto (meaning m) old.end new.front.time new.front) is.made.model_is
       (subst (λ (e : ℕ). IsUpto (meaning new.model) e new.front.time new.front) is.made.end_is front)
 
-  pub driven_represents : (old new : Session M P D) → IsDriven meaning state disk old new → KeepsRepresentation meaning state disk old new
-  driven_represents old new is = goes_keeps meaning state disk is.moves old new is.made
+  pub driven_represents : (old new : Session M P D) → IsDriven meaning state disk old new → Keeps meaning state disk old new
+  driven_represents old new is = goes_keeps meaning state disk true is.moves old new is.made
 
-  pub then_represents : (old mid new : Session M P D) → IsDriven meaning state disk old mid → KeepsRepresentation meaning state disk mid new → KeepsRepresentation meaning state disk old new
-  then_represents old mid new first second = then_keeps meaning state disk first.moves old mid new first.made second
+  pub then_represents : (old mid new : Session M P D) → IsDriven meaning state disk old mid → Keeps meaning state disk mid new → Keeps meaning state disk old new
+  then_represents old mid new first second = then_keeps meaning state disk true true first.moves old mid new first.made second
+
+  -- a step, whatever it returned, and no step
+  pub step-keeps : (step : Step) (old new : Session M P D) (result : Result Answer SessionFault) → IsStep meaning state disk step old new result → Keeps meaning state disk old new
+  step-keeps step old new result is = under meaning state disk (IsTrusted (trusts step) (running meaning state old)) (IsConsistentSession (running meaning state old)) old new (trusted (trusts step) (running meaning state old)) is.keeps
+
+  pub stood-keeps : (s : Session M P D) → Keeps meaning state disk s s
+  stood-keeps s = goes_keeps meaning state disk true [] s s (trusting false [] s s (none_made meaning state disk s))
 
   -- a front that has reached the end is the sequential simulation up to the end
   pub finished : (end : ℕ) (old new : Session M P D) → old.end ≡ end → IsDriven meaning state disk old new → end ≤ new.front.time → IsFinished meaning state end old new

@@ -1,29 +1,32 @@
 -- What the calls leave of a disk.
-use Rattle.std.proofs.Common.{false, inl, inr, subst, sym, arith, refl, ◌∙◌}
+use Rattle.std.proofs.Common.{ap, false, inl, inr, subst, sym, arith, refl, ◌∙◌}
 use Rattle.std.proofs.lemmas.Bool.{cases_Bool, false≢true}
-use Rattle.std.specs.Prelude.{◌≡◌, ◌≢◌, ◌≤◌, ◌^◌, ℕ, List, [], IfErr, OnOk, Result, Ok, Err, slice_index_or}
+use Rattle.std.specs.Prelude.{◌≡◌, ◌≢◌, ◌≤◌, ◌^◌, ℕ, List, [], IfErr, None, OnOk, Option, Result, Ok, Err, Some, length, option_map, slice_index_or}
 use Rattle.commitlog.specs.Faults.{FormatIsRefused}
 use Rattle.commitlog.specs.Log.{IsDurable, Opened}
 use Rattle.commitlog.specs.Records.{Holds, IsBlank, IsBlankOrEmptyLog, IsFormatted, is_open}
 use Rattle.commitlog.specs.declared.fault.LogFault.{LogFault}
 use Rattle.commitlog.specs.declared.fault.LogFault.TheVariants.{Corrupt, Disk, Full, NoMemory as NoMemoryOfLog, NotBlank, NotFormatted, Spent, TooLong}
 use Rattle.disk.specs.declared.disk.DiskFault.TheVariants.{Device, NoSuchSector}
-use Rattle.coordinator.proofs.Begun.{looked-keeps, recovers-genuine}
-use Rattle.coordinator.proofs.Driving.{followed_by}
-use Rattle.coordinator.specs.Crashes.{KeepsRecovery, Recovers}
+use Rattle.recovery.proofs.Crashes.{back-under, kept-none, looked-keeps, looked-under, recovers-genuine, followed_by, are-readable, ours-of, represents-genuine}
+use Rattle.recovery.specs.Crashes.{KeepsRecovery, KeepsUnderItsEnd, RecoversUnderItsEnd, RepresentsUnderItsEnd}
+use Rattle.recovery.specs.Histories.{IsKept, IsKeptRun, last_acknowledged}
+use Rattle.recovery.specs.Histories.Ending.{Returned}
+use Rattle.recovery.specs.Replay.{in_force}
+use Rattle.recovery.specs.Represents.{Recovers, IsGenuine, Represents, RepresentsAtLeast}
 use Rattle.coordinator.specs.Opening.{LeavesExactly}
 use Rattle.disk.specs.Disk.{DiskState, IsDisk, IsSynced, LeavesOnly, OnlyLooks}
 use Rattle.disk.specs.Laws.{followed, reads_left, weaker}
 use Rattle.model.specs.Meaning.{IsLawful, Meaning}
 use Rattle.model.specs.World.{IsUpto, World, opening}
-use Rattle.recovery.proofs.Images.{empty_log_represents, image_represents_one}
-use Rattle.recovery.specs.Ends.{IsEnd}
+use Rattle.recovery.proofs.Images.{empty_log_represents, image_represents_one, same_log}
+use Rattle.recovery.proofs.Representation.{represented_names_its_end}
+use Rattle.recovery.specs.Ends.{IsEnd, end_behind}
 use Rattle.recovery.specs.Header.{header_bytes, header_of}
 use Rattle.recovery.specs.Recovered.{RecoveryIsRefused}
-use Rattle.recovery.specs.Represents.{IsGenuine, Represents, RepresentsAtLeast}
 use Rattle.recovery.specs.declared.RecoveryFault.{RecoveryFault}
 use Rattle.recovery.specs.declared.RecoveryFault.TheVariants.{BadCheckpoint, BadEnd, BadRecord, GoesBack, Log as LogOfRecovery, NoMemory, NotTheLeast, NumberLimit, OtherModel}
-use Rattle.coordinator.proofs.Extensions.{are-readable, at-fault, ours-of}
+use Rattle.coordinator.proofs.Extensions.{at-fault}
 use Rattle.runs.specs.Simulation.{IsBlankOrRepresents, IsBlankOrRepresentsSo, IsNotRecovered, PreparingIsRefused}
 use Rattle.runs.specs.declared.fault.SimulationFault.{SimulationFault}
 use Rattle.runs.specs.declared.fault.SimulationFault.TheVariants.{Log}
@@ -71,7 +74,7 @@ pub prepared_genuine : (m : Meaning) (end : ℕ) (old mid : DiskState) → IsLaw
     → IsGenuine m end old.reads → IsGenuine m end mid.reads
 prepared_genuine m end old mid law short sound made looks genuine = elim (cases_Bool (is_open (slice_index_or old.reads 0 []))) [
   | inl formatted ↦ subst (IsGenuine m end) (sym (looks formatted).same) genuine
-  | inr blank ↦ recovers-genuine m end law short mid sound 0 (exactly_recovers m end mid (made blank))
+  | inr blank ↦ recovers-genuine m end mid sound 0 (exactly_recovers m end mid (made blank))
 ]
 
 -- the world that a read represents is no earlier than what the disk recovers to
@@ -123,3 +126,54 @@ not_recovered m end log image (LogOfRecovery Corrupt) failed ever so usable held
 not_recovered m end log image (LogOfRecovery Full) failed ever so usable held h = absurd h
 not_recovered m end log image (LogOfRecovery TooLong) failed ever so usable held h = absurd h
 not_recovered m end log image (LogOfRecovery Spent) failed ever so usable held h = (let no = sym usable ∙ h in absurd cc)
+
+-- Calls of a history
+
+-- an image that represents a world under its own end is genuine under each end
+pub genuine-under-its-end : (m : Meaning) (end a : ℕ) (image : List (List ℕ)) → RepresentsUnderItsEnd m a image → IsGenuine m end image
+genuine-under-its-end m end a image here entries log =
+    let s = here.represents.represents in
+    let w = here.represents.world in
+    let same = same_log m s.first log.first s.entries entries image s.possible log.possible s.holds log.holds in
+    let end_is : here.end ≡ end = sym (represented_names_its_end m s.first here.end s.entries w s.represent) ∙ ap (λ (n : ℕ). end_behind n s.entries) same.firsts ∙ ap (end_behind log.first) same.all ∙ log.behind in
+    represents-genuine m end image w (subst (λ (n : ℕ). Represents m n image w) end_is s) entries log
+
+-- a log that is there is only read before a run
+pub prepared-under : (m : Meaning) (a : ℕ) (old new : DiskState) → IsDisk old.reads old.dirty → (IsFormatted old.reads → OnlyLooks old new) → RecoversUnderItsEnd m a old → KeepsUnderItsEnd m a a old new
+prepared-under m a old new sound look recovers = looked-under m a old new (look (recovers old.reads (reads_left old.reads old.dirty sound)).represents.represents.holds.formatted) recovers
+
+pub then-under : (m : Meaning) (a b : ℕ) (old mid new : DiskState) → KeepsUnderItsEnd m a a old mid → KeepsUnderItsEnd m a b mid new → KeepsUnderItsEnd m a b old new
+then-under m a b old mid new first second = record { any_moment = followed old mid new (RepresentsUnderItsEnd m a) first.any_moment second.any_moment; now_on = second.now_on; later = second.later }
+
+-- a run, and a look at what it left
+pub looked-after : (m : Meaning) (a b : ℕ) (old mid new : DiskState) → KeepsUnderItsEnd m a b old mid → OnlyLooks mid new → KeepsUnderItsEnd m a b old new
+looked-after m a b old mid new first looks = record {
+  any_moment = followed old mid new (RepresentsUnderItsEnd m a) first.any_moment (looked-under m a mid new looks (back-under m a b old mid first).now_on).any_moment;
+  now_on = (looked-under m b mid new looks first.now_on).now_on;
+  later = first.later;
+}
+
+-- what a run keeps, whether or not it acknowledges a front
+module _ (m : Meaning) (end : ℕ) (v : World) (old new : DiskState) where
+  keeps-acknowledged : (front : Option World) → KeepsUnderItsEnd m v.time (last_acknowledged v Returned (record { begun = old; ended = new; front = option_map (λ (w : World). in_force end w) front })).time old new → KeepsUnderItsEnd m v.time v.time old new
+  keeps-acknowledged None keeps = keeps
+  keeps-acknowledged (Some w) keeps = back-under m v.time w.time old new keeps
+
+  pub run-keeps : (returned : Option (ℕ × ℕ)) → IsKeptRun m end v old new returned → RecoversUnderItsEnd m v.time old → KeepsUnderItsEnd m v.time v.time old new
+  run-keeps returned run recovers = keeps-acknowledged run.front (run.kept.crashes recovers)
+
+  to-front : (time events : ℕ) (front : Option World) → ◌≡◌ {A = Option (ℕ × ℕ)} (Some (time, events)) (option_map (λ (w : World). (w.time, length w.log)) front)
+      → KeepsUnderItsEnd m v.time (last_acknowledged v Returned (record { begun = old; ended = new; front = option_map (λ (w : World). in_force end w) front })).time old new → KeepsUnderItsEnd m v.time time old new
+  to-front time events None is keeps = absurd (cc)
+  to-front time events (Some w) is keeps = (let same : ◌≡◌ {A = ℕ × ℕ} (time, events) (w.time, length w.log) = cc in subst (λ (t : ℕ). KeepsUnderItsEnd m v.time t old new) (sym (ap (λ (p : ℕ × ℕ). p.0) same)) keeps)
+
+  pub run-keeps-to : (time events : ℕ) → IsKeptRun m end v old new (Some (time, events)) → RecoversUnderItsEnd m v.time old → KeepsUnderItsEnd m v.time time old new
+  run-keeps-to time events run recovers = to-front time events run.front run.returned_is (run.kept.crashes recovers)
+
+-- a call that acknowledges no front
+pub kept-call : (m : Meaning) (v : World) (old new : DiskState) → (RecoversUnderItsEnd m v.time old → KeepsUnderItsEnd m v.time v.time old new) → IsKept m v (record { begun = old; ended = new; front = None })
+kept-call m v old new keeps = record { crashes = keeps; front = λ recovers s is. absurd (cc) }
+
+-- a run whose caller does not learn which front it acknowledged
+pub unacknowledged : (m : Meaning) (end : ℕ) (v : World) (old new : DiskState) (returned : Option (ℕ × ℕ)) → IsKeptRun m end v old new returned → IsKeptRun m end v old new None
+unacknowledged m end v old new returned run = kept-none m end v old new (run-keeps m end v old new returned run)

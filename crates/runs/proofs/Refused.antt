@@ -18,7 +18,7 @@ use Rattle.wire.specs.Port.{PortState}
 use Rattle.runs.proofs.Drives.{steps_join}
 use Rattle.std.specs.Prelude.{None, Option, Some, get_or}
 use Rattle.runs.proofs.Shapes.{first_then_next, is_post, one_next_more, one_post_more, one_take_more, one_turn_more, post_then_take, take_then_post, then_takes}
-use Rattle.runs.specs.Driver.{AreAsked, AreFirst, AreNext, ArePosts, AreTurns, IsBudget, IsDrivenBy, IsNext, IsPost, IsPostIf, IsRefusedIn, IsRound, IsTurn, Made, closing_of, goes_on, least_answered, moves_of, outstanding_after, reported_since, takes_of}
+use Rattle.runs.specs.Driver.{AreAsked, AreFirst, AreNext, ArePosts, AreTurns, IsBudget, IsDrivenBy, IsNext, IsPost, IsPostIf, IsRefusedIn, IsRound, IsTurn, Made, closing_of, goes_on, least_answered, moves_of, steps_of, outstanding_after, reported_since, takes_of}
 use Rattle.runs.specs.declared.rounds.Batch.{Batch}
 use Rattle.runs.specs.declared.rounds.Batch.TheVariants.{Adjusting, Fixed}
 use Rattle.runs.specs.declared.rounds.Plan.{Plan}
@@ -51,6 +51,15 @@ made_for (k ∷ ks) = record { step = step_of k; transit = []; answer = AlreadyA
 pub same_moves : (ks : List Move) → moves_of (made_for ks) ≡ ks
 same_moves [] = refl
 same_moves (k ∷ ks) = ap (λ (j : Move). j ∷ moves_of (made_for ks)) (same_move k) ∙ ap (λ (js : List Move). k ∷ js) (same_moves ks)
+
+-- these steps
+abbrev pub made_by : List Step → List Made
+made_by [] = []
+made_by (k ∷ ks) = record { step = k; transit = []; answer = AlreadyAt 0 } ∷ made_by ks
+
+pub same_steps : (ks : List Step) → steps_of (made_by ks) ≡ ks
+same_steps [] = refl
+same_steps (k ∷ ks) = ap (λ (js : List Step). k ∷ js) (same_steps ks)
 
 some_budget : (batch : Batch) → (budget : ℕ) × IsBudget batch budget
 some_budget (Fixed messages) = (messages, refl)
@@ -113,8 +122,8 @@ after_first round outstanding ks is =
 
 pub after_asked : (round : Round) (reported commits : ℕ) (outstanding : List (Option ℕ)) → Completes (AreAsked round.plan.schedule round outstanding) (IsRound round reported commits outstanding)
 after_asked round reported commits outstanding ks is =
-    let moves = closing_of round (reported_since reported ks) (least_answered round.end outstanding ks) commits in
-    (made_for moves, (ks, made_for moves, is, same_moves moves, refl))
+    let steps = closing_of round (reported_since reported ks) (least_answered round.end outstanding ks) commits in
+    (made_by steps, (ks, made_by steps, is, same_steps steps, refl))
 
 -- 2. A fault that is passed on
 

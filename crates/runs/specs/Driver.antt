@@ -1,7 +1,8 @@
 -- What a driver does to a session: it makes steps of it, and nothing else.
 use Rattle.std.specs.Prelude.{Bool, true, false, ℕ, zero, suc, List, [], ◌∷◌, ◌++◌, ◌+◌, ◌%◌, ◌==◌}
 use Rattle.std.specs.Prelude.{◌-◌, ◌^◌, get_or, ◌&&◌, ◌||◌, nat_le, nat_lt, max, min, ◌<◌, ◌≤◌, if◌then◌else◌, ◌≡◌, length}
-use Rattle.std.specs.Prelude.{Err, map, None, not, Ok, Option, replicate, set, Some, unwrap_or, ◌⊎◌, ⊤}
+use Rattle.std.specs.Prelude.{Err, map, None, not, Ok, Option, replicate, Result, set, Some, unwrap_or, ◌⊎◌, ⊤}
+use Rattle.coordinator.specs.Crashes.{KeepsRepresentation}
 use Rattle.coordinator.specs.Drives.{Goes, IsStep}
 use Rattle.coordinator.specs.Headline.{IsDriven as IsDrivenFrom}
 use Rattle.coordinator.specs.Opening.{OpeningIsRefused}
@@ -9,9 +10,13 @@ use Rattle.coordinator.specs.declared.SessionFault.{SessionFault}
 use Rattle.coordinator.specs.Session.{IsConsistentSession, Session, running}
 use Rattle.coordinator.specs.Steps.{move_of}
 use Rattle.coordinator.specs.declared.Step.{Step}
+use Rattle.coordinator.specs.declared.Step.TheVariants as step
 use Rattle.disk.specs.Disk.{DiskState}
 use Rattle.runs.specs.Budgets.{budget_answered, first_budget, messages_for}
 use Rattle.runs.specs.declared.budgets.NodeBudget.{NodeBudget}
+use Rattle.runs.specs.declared.over.Finished.{Finished}
+use Rattle.runs.specs.declared.rounds.RunFault.{RunFault}
+use Rattle.runs.specs.declared.rounds.RunFault.TheVariants.{Stopped}
 use Rattle.runs.specs.declared.rounds.Batch.{Batch}
 use Rattle.runs.specs.declared.rounds.Batch.TheVariants.{Adjusting, Fixed}
 use Rattle.runs.specs.declared.rounds.Plan.{Plan}
@@ -23,7 +28,7 @@ use Rattle.model.specs.Meaning.{Meaning}
 use Rattle.model.specs.World.{IsUpto, World}
 use Rattle.node.specs.Node.{sits_on}
 use Rattle.protocol.specs.Moves.{Move, answer_of, move}
-use Rattle.protocol.specs.Moves.Move.{Checkpoint, Commit, Post, Take}
+use Rattle.protocol.specs.Moves.Move.{Commit, Post, Take}
 use Rattle.protocol.specs.System.{System, opened}
 use Rattle.protocol.specs.declared.Answer.{Answer}
 use Rattle.protocol.specs.declared.Answer.TheVariants.{Posted, Taken}
@@ -44,6 +49,9 @@ pub record Made : Type 0 where
   pub step : Step
   pub transit : List Signed
   pub answer : Answer
+
+abbrev pub steps_of : List Made → List Step
+steps_of made = map (λ (k : Made). k.step) made
 
 abbrev pub moves_of : List Made → List Move
 moves_of made = map (λ (k : Made). move_of k.step) made
@@ -250,14 +258,23 @@ is_due round reported floor =
 abbrev pub is_kept : ℕ → ℕ → Bool
 is_kept every number = nat_lt 0 every && number % every == 0
 
-abbrev pub kept_after : ℕ → ℕ → List Move
-kept_after every number = if is_kept every number then Checkpoint ∷ [] else []
+-- the step that makes a checkpoint, sealed or not
+abbrev pub checkpoint_by : Bool → Step
+checkpoint_by sealed = if sealed then step.SealedCheckpoint else step.Checkpoint
+
+abbrev pub kept_after : Plan → ℕ → List Step
+kept_after plan number =
+    if is_kept plan.checkpoint_every number then checkpoint_by plan.seals ∷ [] else []
+
+-- the step that commits
+abbrev pub commit_by : Plan → Step
+commit_by plan = step.Commit
 
 -- the end of a round, with `reported` events reported since the last of `commits` commits
-abbrev pub closing_of : Round → ℕ → ℕ → ℕ → List Move
+abbrev pub closing_of : Round → ℕ → ℕ → ℕ → List Step
 closing_of round reported floor commits =
     if is_due round reported floor
-    then Commit ∷ kept_after round.plan.checkpoint_every (commits + 1) else []
+    then commit_by round.plan ∷ kept_after round.plan (commits + 1) else []
 
 -- A round with `reported` events reported since the last of `commits` commits before it, and with
 -- these parcels outstanding: all nodes are asked, then a commit is made if one is due, and a
@@ -265,7 +282,7 @@ closing_of round reported floor commits =
 abbrev pub IsRound : Round → ℕ → ℕ → List (Option ℕ) → List Made → Type 0
 IsRound round reported commits outstanding made = (asked : List Made) × (closing : List Made)
     × AreAsked round.plan.schedule round outstanding asked
-    × (moves_of closing ≡ closing_of round (reported_since reported asked)
+    × (steps_of closing ≡ closing_of round (reported_since reported asked)
     (least_answered round.end outstanding asked) commits)
     × (made ≡ asked ++ closing)
 
@@ -301,7 +318,12 @@ module _ {M P D : Type 0} (meaning : M → Meaning) (state : P → PortState) wh
   -- some steps lead from one to the other: each is its move, and the disk goes on recovering
   pub record IsDriven (disk : D → DiskState) (old new : Session M P D) : Type 0 where
     pub moves : List Move
-    pub made : Goes meaning state disk moves old new
+    pub made : Goes meaning state disk true moves old new
+
+  -- the records go on representing the front, if the session was consistent
+  abbrev pub Keeps : (D → DiskState) → Session M P D → Session M P D → Type 0
+  Keeps disk old new =
+      KeepsRepresentation meaning disk (IsConsistentSession (running meaning state old)) old new
 
   -- each of these steps was made with this in transit and had this answer, over any ports
   abbrev pub AreMade : (D → DiskState) → List Made → Session M P D → Session M P D → Type 0
@@ -418,21 +440,11 @@ module _ {M P D : Type 0} (meaning : M → Meaning) (state : P → PortState) wh
 
 -- 4. Over faithful ports
 
--- the result of a run: it reached the end, and this is the number of events in the log of the
--- sequential simulation up to there
-pub record IsRunOf (m : Meaning) (end time events : ℕ) : Type 0 where
-  pub world : World
-  pub upto : IsUpto m end end world
-  pub time_is : time ≡ end
-  pub events_are : events ≡ length world.log
-
--- the numbers of a run that was asked to stop: a time before the end, and the number of events in
--- the log of the sequential simulation up to that time
-pub record IsStoppedAt (m : Meaning) (end time events : ℕ) : Type 0 where
-  pub world : World
-  pub upto : IsUpto m end time world
-  pub early : time < end
-  pub events_are : events ≡ length world.log
+-- the time and the number of events that a run returned as committed
+abbrev pub acknowledged : Result Finished RunFault → Option (ℕ × ℕ)
+acknowledged (Ok done) = Some (done.time, done.events)
+acknowledged (Err (Stopped time events)) = Some (time, events)
+acknowledged (Err fault) = None
 
 -- the answers of moves made one after another
 abbrev pub answers_of : Meaning → ℕ → List Move → System → List (Option Answer)

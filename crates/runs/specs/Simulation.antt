@@ -1,5 +1,5 @@
 -- What a simulation on a disk leaves and returns, and why a call fails.
-use Rattle.std.specs.Prelude.{ℕ, List, None, ◌≡◌, ◌⊎◌}
+use Rattle.std.specs.Prelude.{ℕ, Err, List, None, Ok, Option, Result, Some, ◌≡◌, ◌⊎◌}
 use Rattle.commitlog.specs.Faults.{FormatIsRefused, OpenIsRefused}
 use Rattle.commitlog.specs.Records.{IsBlank, IsFormatted, records_of}
 use Rattle.commitlog.specs.declared.fault.LogFault.TheVariants as log
@@ -11,11 +11,16 @@ use Rattle.disk.specs.declared.file.FileFault.TheVariants as opening
 use Rattle.runs.specs.declared.rounds.RunFault.{RunFault}
 use Rattle.runs.specs.declared.rounds.RunFault.TheVariants as run
 use Rattle.model.specs.Meaning.{Meaning}
+use Rattle.model.specs.Runner.{Simulation}
 use Rattle.model.specs.World.{World}
 use Rattle.recovery.specs.Ends.{HoldsLog}
+use Rattle.recovery.specs.Front.{world_of}
+use Rattle.recovery.specs.Replay.{in_force}
 use Rattle.recovery.specs.Represents.{Represents, RepresentsAtLeast}
 use Rattle.recovery.specs.declared.RecoveryFault.{RecoveryFault}
 use Rattle.recovery.specs.declared.RecoveryFault.TheVariants as recovery
+use Rattle.runs.specs.declared.over.Finished.{Finished}
+use Rattle.runs.specs.declared.simulating.Outcome.{Outcome}
 use Rattle.runs.specs.declared.fault.SimulationFault.{SimulationFault}
 use Rattle.runs.specs.declared.fault.SimulationFault.TheVariants.{File, Log, NoMemory}
 use Rattle.runs.specs.declared.fault.SimulationFault.TheVariants.{Recovery, Rounds, Session, Stopped}
@@ -68,3 +73,15 @@ of_run run.NoMemory = NoMemory
 abbrev pub of_file : FileFault → SimulationFault
 of_file opening.File = File
 of_file opening.NoMemory = NoMemory
+
+-- 3. Calls of a history
+
+-- the front that a simulation returned as committed
+abbrev pub simulated : ℕ → Result Outcome SimulationFault → Option Simulation
+simulated end (Ok outcome) = Some (in_force end (world_of outcome.front))
+simulated end (Err fault) = None
+
+-- the time and the number of events that a run returned as committed
+abbrev pub reached : Result Finished SimulationFault → Option (ℕ × ℕ)
+reached (Ok done) = Some (done.time, done.events)
+reached (Err fault) = None

@@ -4,10 +4,12 @@ ghost use Rattle.std.specs.Prelude.{◌≡◌, ◌<◌, ◌≤◌, ◌^◌, ℕ,
 ghost use Rattle.std.specs.Prelude.{map, replicate};
 ghost use Rattle.coordinator.specs.declared.SessionFault.{SessionFault};
 ghost use Rattle.coordinator.specs.declared.SessionFault.TheVariants.{Port as OfPort};
-ghost use Rattle.coordinator.specs.Crashes.{KeepsRecovery, Recovers};
+ghost use Rattle.recovery.specs.Crashes.{KeepsRecovery};
+ghost use Rattle.recovery.specs.Represents.{Recovers, IsGenuine};
 ghost use Rattle.coordinator.specs.PortFaults.{IsFaultInProgram};
-ghost use Rattle.recovery.specs.Represents.{IsGenuine};
-ghost use Rattle.runs.specs.Driver.{HasCounted, IsRunOf, IsStoppedAt, IsUnfinished, SessionRefused};
+ghost use Rattle.runs.specs.Driver.{HasCounted, IsUnfinished, SessionRefused, acknowledged};
+ghost use Rattle.model.specs.World.{World};
+ghost use Rattle.recovery.specs.Histories.{IsKeptRun, IsRunOf, IsStoppedAt};
 ghost use Rattle.wire.specs.Local.{state_by, state_of};
 ghost use Rattle.wire.specs.declared.local.Held.TheVariants.{Fresh};
 ghost use Rattle.wire.specs.declared.port.PortFault.{PortFault};
@@ -69,6 +71,10 @@ pub fn run_local<M: Simulated, D: SectorDisk + Drop, W: Watch>(
     // run, at every exit. After a run that reached its end, it recovers to at least the end.
     ensures crashes { (a : ℕ) → Recovers (M.meaning model.now) end a (D.state disk) →
         KeepsRecovery (M.meaning model.now) end a a (D.state disk) (D.state result.disk) }
+    // It is a call of a history of the headline, which acknowledges the front that it reached, or at
+    // which it was stopped.
+    ensures kept { (v : World) → IsKeptRun (M.meaning model.now) end v (D.state disk)
+        (D.state result.disk) (acknowledged result.outcome) }
     ensures committed { IsGenuine (M.meaning model.now) end (D.state disk).reads →
         OnOk result.outcome (Recovers (M.meaning model.now) end end (D.state result.disk)) }
 {

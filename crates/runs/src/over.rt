@@ -3,12 +3,14 @@
 ghost use Rattle.std.specs.Prelude.{◌≡◌, ◌<◌, ◌≤◌, ◌^◌, ℕ, IfOk, IsErrOf, OnOk, length, map};
 ghost use Rattle.coordinator.specs.declared.SessionFault.{SessionFault};
 ghost use Rattle.coordinator.specs.declared.SessionFault.TheVariants.{Port as OfPort};
-ghost use Rattle.coordinator.specs.Crashes.{KeepsRecovery, Recovers};
-ghost use Rattle.recovery.specs.Represents.{IsGenuine};
+ghost use Rattle.recovery.specs.Crashes.{KeepsRecovery};
+ghost use Rattle.recovery.specs.Represents.{Recovers, IsGenuine};
 ghost use Rattle.coordinator.specs.Opening.{AllFresh, AllFaithful};
 ghost use Rattle.coordinator.specs.PortFaults.{IsFaultOfPorts};
-ghost use Rattle.runs.specs.Driver.{HasCounted, IsRunOf, IsRunOver, IsShortOver, IsStoppedAt};
-ghost use Rattle.runs.specs.Driver.{IsStoppedOver, IsUnfinished, SessionRefused};
+ghost use Rattle.runs.specs.Driver.{HasCounted, IsRunOver, IsShortOver};
+ghost use Rattle.model.specs.World.{World};
+ghost use Rattle.recovery.specs.Histories.{IsKeptRun, IsRunOf, IsStoppedAt};
+ghost use Rattle.runs.specs.Driver.{IsStoppedOver, IsUnfinished, SessionRefused, acknowledged};
 ghost use Rattle.wire.specs.declared.port.PortFault.{PortFault};
 
 use crate::rounds::{Plan, RunFault, Watch, run_session};
@@ -107,6 +109,11 @@ pub fn run_over<M: Simulated, P: Port + Drop, D: SectorDisk + Drop, W: Watch>(
     ensures crashes { AllFaithful (M.meaning model.now) (map P.state ports.items) → (a : ℕ) →
         Recovers (M.meaning model.now) end a (D.state disk) →
         KeepsRecovery (M.meaning model.now) end a a (D.state disk) (D.state result.disk) }
+    // It is a call of a history of the headline, which acknowledges the front that it reached, or at
+    // which it was stopped.
+    ensures kept { AllFaithful (M.meaning model.now) (map P.state ports.items) → (v : World) →
+        IsKeptRun (M.meaning model.now) end v (D.state disk) (D.state result.disk)
+        (acknowledged result.outcome) }
     ensures committed { AllFaithful (M.meaning model.now) (map P.state ports.items) →
         IsGenuine (M.meaning model.now) end (D.state disk).reads →
         OnOk result.outcome (Recovers (M.meaning model.now) end end (D.state result.disk)) }

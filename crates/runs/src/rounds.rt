@@ -5,12 +5,11 @@ ghost use Rattle.std.specs.Prelude.{IsErrOf, None, Option, get_or, length, if◌
 ghost use Rattle.runs.specs.Driver.{AreAsked, AreCounts, AreFirst, AreNext, ArePosts, AreRounds};
 ghost use Rattle.runs.specs.Driver.{AreRoundsOfRun, AreTurns, IsDriven, IsDrivenBy, IsFinished, IsNext, IsPost};
 ghost use Rattle.runs.specs.Driver.{IsPostIf, IsRefusedIn, IsRound, IsTurn, closing_of, goes_on, is_kept};
-ghost use Rattle.runs.specs.Driver.{kept_after, moves_of, takes_of};
+ghost use Rattle.runs.specs.Driver.{Keeps, checkpoint_by, commit_by, kept_after, moves_of, steps_of, takes_of};
 ghost use Rattle.runs.specs.Tallies.{CountsNothing, IsSized, IsTallied, Tallied};
-ghost use Rattle.protocol.specs.Moves.Move.{Checkpoint as CheckpointMove, Commit as CommitMove};
+ghost use Rattle.protocol.specs.Moves.Move.{Checkpoint as CheckpointMove};
 ghost use Rattle.protocol.specs.Moves.Move.{Take as TakeMove};
-ghost use Rattle.coordinator.specs.Crashes.{KeepsRepresentation};
-ghost use Rattle.coordinator.specs.Steps.{move_of, seals};
+ghost use Rattle.coordinator.specs.Steps.{move_of};
 ghost use Rattle.coordinator.specs.declared.SessionFault.{SessionFault};
 
 use crate::picks::places;
@@ -173,7 +172,7 @@ pub fn run_session<M: Simulated, P: Port, D: SectorDisk, W: Watch>(
     ensures finished { session.old.end ≡ end →
         OnOk result (IsFinished M.meaning P.state end session.old session.new) }
     // At every exit the records represent what was committed, whatever crashes.
-    ensures keeps { KeepsRepresentation M.meaning P.state D.state session.old session.new }
+    ensures keeps { Keeps M.meaning P.state D.state session.old session.new }
     ensures rounds { IsErrOf result RunFault.Rounds → session.new.front.time < end }
     ensures all_rounds { IsErrOf result RunFault.Rounds →
         IsDrivenBy M.meaning P.state D.state (AreRoundsOfRun plan end plan.rounds plan.rounds)
@@ -266,7 +265,7 @@ fn make_round<M: Simulated, P: Port, D: SectorDisk, W: Watch>(
         × IsTallied round.plan tally.old tally.new made) session.old session.new) }
     ensures commits { OnOk result (tally.new.commits ≤ tally.old.commits + 1) }
     ensures sized { IsSized round.plan.nodes tally.new }
-    ensures keeps { KeepsRepresentation M.meaning P.state D.state session.old session.new }
+    ensures keeps { Keeps M.meaning P.state D.state session.old session.new }
     ensures refused { (reported : ℕ) → tally.old.events_until_commit ≡ round.plan.commit_every - reported →
         (fault : SessionFault) → IsErrOf result (RunFault.Session fault) →
         IsRefusedIn M.meaning P.state D.state
@@ -292,14 +291,14 @@ fn close<M: Simulated, P: Port, D: SectorDisk, W: Watch>(
     requires commits { tally.old.commits < 2 ^ 32 - 1 }
     ensures driven { (reported : ℕ) → tally.old.events_until_commit ≡ round.plan.commit_every - reported →
         OnOk result (IsDrivenBy M.meaning P.state D.state
-        (λ made. (moves_of made ≡ closing_of round reported tally.old.floor tally.old.commits)
+        (λ made. (steps_of made ≡ closing_of round reported tally.old.floor tally.old.commits)
         × IsTallied round.plan tally.old tally.new made) session.old session.new) }
     ensures commits { OnOk result (tally.new.commits ≤ tally.old.commits + 1) }
     ensures sized { IsSized round.plan.nodes tally.new }
-    ensures keeps { KeepsRepresentation M.meaning P.state D.state session.old session.new }
+    ensures keeps { Keeps M.meaning P.state D.state session.old session.new }
     ensures refused { (reported : ℕ) → tally.old.events_until_commit ≡ round.plan.commit_every - reported →
         (fault : SessionFault) → IsErrOf result (RunFault.Session fault) →
-        IsRefusedIn M.meaning P.state D.state (λ made. moves_of made ≡ closing_of round reported tally.old.floor tally.old.commits)
+        IsRefusedIn M.meaning P.state D.state (λ made. steps_of made ≡ closing_of round reported tally.old.floor tally.old.commits)
         session.old session.new fault }
     ensures rounds { IsErrOf result RunFault.Rounds → ⊥ }
     ensures stopped { (time events : ℕ) → IsErrOf result (RunFault.Stopped time events) → ⊥ }
@@ -334,15 +333,14 @@ fn commit<M: Simulated, P: Port, D: SectorDisk, W: Watch>(
     requires sized { IsSized plan.nodes tally.old }
     requires commits { tally.old.commits < 2 ^ 32 - 1 }
     ensures driven { OnOk result (IsDrivenBy M.meaning P.state D.state
-        (λ made. (moves_of made
-        ≡ CommitMove ∷ kept_after plan.checkpoint_every (tally.old.commits + 1))
+        (λ made. (steps_of made ≡ commit_by plan ∷ kept_after plan (tally.old.commits + 1))
         × IsTallied plan tally.old tally.new made) session.old session.new) }
     ensures commits { OnOk result (tally.new.commits ≤ tally.old.commits + 1) }
     ensures sized { IsSized plan.nodes tally.new }
-    ensures keeps { KeepsRepresentation M.meaning P.state D.state session.old session.new }
+    ensures keeps { Keeps M.meaning P.state D.state session.old session.new }
     ensures refused { (fault : SessionFault) → IsErrOf result (RunFault.Session fault) →
-        IsRefusedIn M.meaning P.state D.state (λ made. moves_of made
-        ≡ CommitMove ∷ kept_after plan.checkpoint_every (tally.old.commits + 1))
+        IsRefusedIn M.meaning P.state D.state (λ made. steps_of made
+        ≡ commit_by plan ∷ kept_after plan (tally.old.commits + 1))
         session.old session.new fault }
     ensures rounds { IsErrOf result RunFault.Rounds → ⊥ }
     ensures stopped { (time events : ℕ) → IsErrOf result (RunFault.Stopped time events) → ⊥ }
@@ -351,36 +349,35 @@ fn commit<M: Simulated, P: Port, D: SectorDisk, W: Watch>(
     tally.committed(plan.commit_every);
     let front = session.front();
     watch.committed(front.time, front.log.len());
-    keep(session, plan.checkpoint_every, tally.commits(), plan.seals)
+    keep(session, plan, tally.commits())
 }
 
-/// Makes a checkpoint if one is due after the commit of this number, and with `seal` a sealed one.
+/// Makes a checkpoint if the plan has one after the commit of this number.
 fn keep<M: Simulated, P: Port, D: SectorDisk>(
     session: &mut Session<'_, M, P, D>,
-    every: u32,
+    plan: Plan,
     number: u32,
-    seal: bool,
 ) -> Result<(), RunFault>
     ensures driven { OnOk result (IsDrivenBy M.meaning P.state D.state
-        (λ made. (moves_of made ≡ kept_after every number) × CountsNothing made)
+        (λ made. (steps_of made ≡ kept_after plan number) × CountsNothing made)
         session.old session.new) }
-    ensures keeps { KeepsRepresentation M.meaning P.state D.state session.old session.new }
+    ensures keeps { Keeps M.meaning P.state D.state session.old session.new }
     ensures refused { (fault : SessionFault) → IsErrOf result (RunFault.Session fault) →
-        IsRefusedIn M.meaning P.state D.state (λ made. moves_of made ≡ kept_after every number)
+        IsRefusedIn M.meaning P.state D.state (λ made. steps_of made ≡ kept_after plan number)
         session.old session.new fault }
     ensures rounds { IsErrOf result RunFault.Rounds → ⊥ }
     ensures stopped { (time events : ℕ) → IsErrOf result (RunFault.Stopped time events) → ⊥ }
 {
-    if is_kept(every, number) {
-        session.step(&checkpoint_step(seal))?;
+    if is_kept(plan.checkpoint_every, number) {
+        session.step(&checkpoint_step(plan.seals))?;
     }
     Ok(())
 }
 
 /// Returns the step that makes a checkpoint.
 fn checkpoint_step(seal: bool) -> Step
+    ensures step { result ≡ checkpoint_by seal }
     ensures checkpoint { move_of result ≡ CheckpointMove }
-    ensures seals { seals result ≡ seal }
 {
     if seal {
         Step::SealedCheckpoint
@@ -410,7 +407,7 @@ fn ask<M: Simulated, P: Port, D: SectorDisk, W: Watch>(
         session.old session.new) }
     ensures commits { tally.new.commits ≡ tally.old.commits }
     ensures sized { IsSized round.plan.nodes tally.new }
-    ensures keeps { KeepsRepresentation M.meaning P.state D.state session.old session.new }
+    ensures keeps { Keeps M.meaning P.state D.state session.old session.new }
     ensures refused { (fault : SessionFault) → IsErrOf result (RunFault.Session fault) →
         IsRefusedIn M.meaning P.state D.state (AreAsked round.plan.schedule round tally.old.outstanding.items)
         session.old session.new fault }
@@ -438,7 +435,7 @@ fn turns<M: Simulated, P: Port, D: SectorDisk, W: Watch>(
         session.old session.new) }
     ensures commits { tally.new.commits ≡ tally.old.commits }
     ensures sized { IsSized round.plan.nodes tally.new }
-    ensures keeps { KeepsRepresentation M.meaning P.state D.state session.old session.new }
+    ensures keeps { Keeps M.meaning P.state D.state session.old session.new }
     ensures refused { (fault : SessionFault) → IsErrOf result (RunFault.Session fault) →
         IsRefusedIn M.meaning P.state D.state (AreTurns round.plan round.plan.nodes)
         session.old session.new fault }
@@ -465,7 +462,7 @@ fn together<M: Simulated, P: Port, D: SectorDisk, W: Watch>(
         session.old session.new) }
     ensures commits { tally.new.commits ≡ tally.old.commits }
     ensures sized { IsSized round.plan.nodes tally.new }
-    ensures keeps { KeepsRepresentation M.meaning P.state D.state session.old session.new }
+    ensures keeps { Keeps M.meaning P.state D.state session.old session.new }
     ensures refused { (fault : SessionFault) → IsErrOf result (RunFault.Session fault) →
         IsRefusedIn M.meaning P.state D.state (AreAsked Schedule.Together round tally.old.outstanding.items)
         session.old session.new fault }
@@ -490,7 +487,7 @@ fn overlapped<M: Simulated, P: Port, D: SectorDisk, W: Watch>(
         session.old session.new) }
     ensures commits { tally.new.commits ≡ tally.old.commits }
     ensures sized { IsSized round.plan.nodes tally.new }
-    ensures keeps { KeepsRepresentation M.meaning P.state D.state session.old session.new }
+    ensures keeps { Keeps M.meaning P.state D.state session.old session.new }
     ensures refused { (fault : SessionFault) → IsErrOf result (RunFault.Session fault) →
         IsRefusedIn M.meaning P.state D.state (AreAsked Schedule.Overlapped round tally.old.outstanding.items)
         session.old session.new fault }
@@ -514,7 +511,7 @@ fn post_first<M: Simulated, P: Port, D: SectorDisk>(
         session.old session.new) }
     ensures commits { tally.new.commits ≡ tally.old.commits }
     ensures sized { IsSized round.plan.nodes tally.new }
-    ensures keeps { KeepsRepresentation M.meaning P.state D.state session.old session.new }
+    ensures keeps { Keeps M.meaning P.state D.state session.old session.new }
     ensures refused { (fault : SessionFault) → IsErrOf result (RunFault.Session fault) →
         IsRefusedIn M.meaning P.state D.state (AreFirst round.first round.plan)
         session.old session.new fault }
@@ -541,7 +538,7 @@ fn next_turns<M: Simulated, P: Port, D: SectorDisk, W: Watch>(
         session.old session.new) }
     ensures commits { tally.new.commits ≡ tally.old.commits }
     ensures sized { IsSized round.plan.nodes tally.new }
-    ensures keeps { KeepsRepresentation M.meaning P.state D.state session.old session.new }
+    ensures keeps { Keeps M.meaning P.state D.state session.old session.new }
     ensures refused { (fault : SessionFault) → IsErrOf result (RunFault.Session fault) →
         IsRefusedIn M.meaning P.state D.state (AreNext round tally.old.outstanding.items round.plan.nodes)
         session.old session.new fault }
@@ -571,7 +568,7 @@ fn next_turn<M: Simulated, P: Port, D: SectorDisk, W: Watch>(
         session.old session.new) }
     ensures commits { tally.new.commits ≡ tally.old.commits }
     ensures sized { IsSized round.plan.nodes tally.new }
-    ensures keeps { KeepsRepresentation M.meaning P.state D.state session.old session.new }
+    ensures keeps { Keeps M.meaning P.state D.state session.old session.new }
     ensures refused { (fault : SessionFault) → IsErrOf result (RunFault.Session fault) →
         IsRefusedIn M.meaning P.state D.state (IsNext round node (get_or tally.old.outstanding.items node Option.None))
         session.old session.new fault }
@@ -601,7 +598,7 @@ fn post_again<M: Simulated, P: Port, D: SectorDisk>(
         session.old session.new) }
     ensures commits { tally.new.commits ≡ tally.old.commits }
     ensures sized { IsSized round.plan.nodes tally.new }
-    ensures keeps { KeepsRepresentation M.meaning P.state D.state session.old session.new }
+    ensures keeps { Keeps M.meaning P.state D.state session.old session.new }
     ensures refused { (fault : SessionFault) → IsErrOf result (RunFault.Session fault) →
         IsRefusedIn M.meaning P.state D.state (IsPostIf (goes_on round floor) round.plan node)
         session.old session.new fault }
@@ -627,7 +624,7 @@ fn post_all<M: Simulated, P: Port, D: SectorDisk>(
         session.old session.new) }
     ensures commits { tally.new.commits ≡ tally.old.commits }
     ensures sized { IsSized round.plan.nodes tally.new }
-    ensures keeps { KeepsRepresentation M.meaning P.state D.state session.old session.new }
+    ensures keeps { Keeps M.meaning P.state D.state session.old session.new }
     ensures refused { (fault : SessionFault) → IsErrOf result (RunFault.Session fault) →
         IsRefusedIn M.meaning P.state D.state (ArePosts round.plan round.plan.nodes)
         session.old session.new fault }
@@ -653,7 +650,7 @@ fn take_all<M: Simulated, P: Port, D: SectorDisk, W: Watch>(
         session.old session.new) }
     ensures commits { tally.new.commits ≡ tally.old.commits }
     ensures sized { IsSized round.plan.nodes tally.new }
-    ensures keeps { KeepsRepresentation M.meaning P.state D.state session.old session.new }
+    ensures keeps { Keeps M.meaning P.state D.state session.old session.new }
     ensures refused { (fault : SessionFault) → IsErrOf result (RunFault.Session fault) →
         IsRefusedIn M.meaning P.state D.state (λ taken. moves_of taken ≡ takes_of round.plan.nodes)
         session.old session.new fault }
@@ -682,7 +679,7 @@ fn turn<M: Simulated, P: Port, D: SectorDisk, W: Watch>(
         session.old session.new) }
     ensures commits { tally.new.commits ≡ tally.old.commits }
     ensures sized { IsSized round.plan.nodes tally.new }
-    ensures keeps { KeepsRepresentation M.meaning P.state D.state session.old session.new }
+    ensures keeps { Keeps M.meaning P.state D.state session.old session.new }
     ensures refused { (fault : SessionFault) → IsErrOf result (RunFault.Session fault) →
         IsRefusedIn M.meaning P.state D.state (IsTurn round.plan node)
         session.old session.new fault }
@@ -708,7 +705,7 @@ fn post<M: Simulated, P: Port, D: SectorDisk>(
         session.old session.new) }
     ensures commits { tally.new.commits ≡ tally.old.commits }
     ensures sized { IsSized round.plan.nodes tally.new }
-    ensures keeps { KeepsRepresentation M.meaning P.state D.state session.old session.new }
+    ensures keeps { Keeps M.meaning P.state D.state session.old session.new }
     ensures refused { (fault : SessionFault) → IsErrOf result (RunFault.Session fault) →
         IsRefusedIn M.meaning P.state D.state (IsPost round.plan node)
         session.old session.new fault }
@@ -744,7 +741,7 @@ fn take<M: Simulated, P: Port, D: SectorDisk, W: Watch>(
         session.old session.new) }
     ensures commits { tally.new.commits ≡ tally.old.commits }
     ensures sized { IsSized round.plan.nodes tally.new }
-    ensures keeps { KeepsRepresentation M.meaning P.state D.state session.old session.new }
+    ensures keeps { Keeps M.meaning P.state D.state session.old session.new }
     ensures refused { (fault : SessionFault) → IsErrOf result (RunFault.Session fault) →
         IsRefusedIn M.meaning P.state D.state (λ taken. moves_of taken ≡ TakeMove node ∷ [])
         session.old session.new fault }

@@ -1,8 +1,8 @@
 use Rattle.std.proofs.Common.{◌≡◌, ◌+◌, ℕ, arith, refl, subst, suc, sym}
-use Rattle.plain.specs.Crashes.{KeepsRecovery}
+use Rattle.recovery.specs.Crashes.{KeepsRecovery}
 use Rattle.plain.specs.Runs.{AreRounds, IsRound, RoundIsRefused, RoundsStop}
 use Rattle.plain.specs.declared.PlainFault.{PlainFault}
-use Rattle.plain.proofs.Recoveries.{stood-on}
+use Rattle.recovery.proofs.Crashes.{stood-on}
 use Rattle.plain.proofs.Rounds.{stops-at}
 use Rattle.plain.proofs.whole.make_rounds.Goals as goal
 

@@ -2,6 +2,8 @@ use Rattle.std.proofs.Common.{List, refl, subst, sym, ◌∙◌}
 use Rattle.std.proofs.lemmas.List.{length-map}
 use Rattle.std.proofs.lemmas.Result.{IfOk-weaker}
 use Rattle.coordinator.proofs.PortFaults.{local-faults}
+use Rattle.recovery.proofs.Crashes.{kept-none}
+use Rattle.runs.proofs.Kept.{kept-stop, stood-under}
 use Rattle.runs.proofs.Ports.{all_fresh, all_faithful, so_many}
 use Rattle.wire.specs.Local.{state_by, state_of}
 use Rattle.wire.specs.Port.{PortState}
@@ -45,3 +47,13 @@ returns-clause-refused g c = λ fault is.
 pub returns-clause-faults : goal.returns-clause-faults
 returns-clause-faults g c = λ genuine fault is.
     local-faults g.M.Model.meaning fault (c.run_over.ensures.faults (all_faithful c.args.plan.nodes (state_of (g.M.Model.meaning c.args.model.now) Fresh) _ c.in-Ok.ensures.ports (g.M.Model.meaning c.args.model.now) refl refl) genuine fault is)
+
+pub returns-clause-kept : goal.returns-clause-kept
+returns-clause-kept g c = c.run_over.ensures.kept (all_faithful c.args.plan.nodes (state_of (g.M.Model.meaning c.args.model.now) Fresh) _ c.in-Ok.ensures.ports (g.M.Model.meaning c.args.model.now) refl refl)
+
+pub returns-in-Err-clause-kept : goal.returns-in-Err-clause-kept
+returns-in-Err-clause-kept g c = λ v.
+    let m = g.M.Model.meaning c.args.model.now in
+    let disk = g.D.SectorDisk.state c.args.disk in
+    kept-stop m c.args.end v disk disk c.in-Err.fault (λ time events cause. absurd (let no = sym c.in-Err.ensures.resources ∙ cause in cc))
+    (kept-none m c.args.end v disk disk (stood-under m v.time disk))

@@ -1,12 +1,14 @@
-use Rattle.std.proofs.Common.{inr, ℕ, ◌<◌, Err, ap, arith, length, refl, subst, sym, ◌≡◌, ◌∙◌}
+use Rattle.std.proofs.Common.{inr, ℕ, ◌<◌, ◌≤◌, Err, ap, arith, length, refl, subst, sym, ◌≡◌, ◌∙◌}
 use Rattle.coordinator.proofs.Resuming.{driven-on}
-use Rattle.coordinator.proofs.Begun.{recovers-genuine}
+use Rattle.recovery.proofs.Crashes.{back-under, kept-front, kept-none, looked-under, recovers-genuine}
+use Rattle.recovery.specs.Crashes.{KeepsRecovery, RecoversUnderItsEnd}
+use Rattle.recovery.specs.Represents.{IsGenuine, Recovers}
 use Rattle.coordinator.specs.Session.{system_of, running}
 use Rattle.coordinator.specs.declared.SessionFault.TheVariants.{Port}
 use Rattle.runs.proofs.Faults.{opening_faults, step_faults}
 use Rattle.runs.proofs.Drives.{answered, front_upto, goes_by, in_transit, shaped_by}
 use Rattle.runs.specs.Driver.{AreRounds, AreRoundsOfRun}
-use Rattle.runs.proofs.Kept.{comes_to, keeps, stopped_at}
+use Rattle.runs.proofs.Kept.{comes_to, driven-under, genuine-under, keeps, kept-stop, stopped_at}
 use Rattle.runs.proofs.Unfinished.{unfinished}
 use Rattle.runs.specs.declared.rounds.RunFault.TheVariants.{Rounds, Session, Stopped}
 use Rattle.model.specs.World.{IsUpto, World}
@@ -155,7 +157,7 @@ pub returns-clause-crashes : goal.returns-clause-crashes
 returns-clause-crashes g c = λ are_faithful a recovers.
     let opened = c.in-Ok.ensures in
     let m = g.M.Model.meaning c.args.model.now in
-    let genuine = recovers-genuine m c.args.end (g.met.M.Model.lawful c.args.model.now) c.requires.short (g.D.SectorDisk.state c.args.disk) (g.met.D.SectorDisk.sound c.args.disk) a recovers in
+    let genuine = recovers-genuine m c.args.end (g.D.SectorDisk.state c.args.disk) (g.met.D.SectorDisk.sound c.args.disk) a recovers in
     let consistent = (opened.consistent genuine are_faithful).0 in
     rw c.into_disk.ensures
     (keeps m c.args.end c.in-Ok.session.front c.run_session.new.session.front (g.D.SectorDisk.state c.args.disk) (g.D.SectorDisk.state c.in-Ok.session.log.disk) (g.D.SectorDisk.state c.run_session.new.session.log.disk)
@@ -236,3 +238,49 @@ returns-clause-faults g c = λ are_faithful genuine. elim c.match-run_session.br
       let stop = w.in-Err-run_session.ensures.refused (Port fault) (ap Err cause) in
       step_faults g.P.Port.state g.M.Model.meaning g.D.SectorDisk.state (AreRounds c.args.plan c.args.end stop.1 stop.0) c.in-Ok.session c.run_session.new.session fault consistent stop.3)
 ]
+
+pub returns-in-Err-clause-kept : goal.returns-in-Err-clause-kept
+returns-in-Err-clause-kept g c = λ are_faithful v.
+    let m = g.M.Model.meaning c.args.model.now in
+    let not_opened = c.in-Err.field-0 in
+    let state = g.D.SectorDisk.state in
+    kept-none m c.args.end v (state c.args.disk) (state not_opened.disk) (looked-under m v.time (state c.args.disk) (state not_opened.disk) c.in-Err.ensures.looks_err)
+
+pub returns-clause-kept : goal.returns-clause-kept
+returns-clause-kept g c = λ are_faithful v.
+    let m = g.M.Model.meaning c.args.model.now in
+    let end = c.args.end in
+    let state = g.D.SectorDisk.state in
+    let old = state c.args.disk in
+    let first = c.in-Ok.session in
+    let last = c.run_session.new.session in
+    let front = last.front in
+    let opened = c.in-Ok.ensures in
+    let lawful = g.met.M.Model.lawful c.args.model.now in
+    let sound = g.met.D.SectorDisk.sound c.args.disk in
+    let looks = opened.looks in
+    let driven : IsGenuine m end old.reads → Recovers m end first.front.time (state first.log.disk) → KeepsRecovery m end first.front.time front.time (state first.log.disk) (state last.log.disk) = λ genuine. driven-on _ _ _ _ first.front front first.log _ _ (ap g.M.Model.meaning opened.same.0) opened.same.1 (c.run_session.ensures.keeps.crashes (opened.consistent genuine are_faithful).0) (opened.written genuine) in
+    let genuine = genuine-under m end v first.front front old (state first.log.disk) (state last.log.disk) lawful sound looks opened.replayed opened.exactly driven in
+    let under = driven-under m end v first.front front old (state first.log.disk) (state last.log.disk) lawful sound looks opened.replayed opened.exactly driven in
+    elim c.match-run_session.branch [
+      | in-Ok-run_session w ↦
+          let upto : RecoversUnderItsEnd m v.time old → IsUpto m end front.time front × (front.time ≤ end) =
+          λ recovers.
+          (let there : IsUpto m end end front = subst (λ (x : g.row.M.Denot). IsUpto (g.M.Model.meaning x) end end front) opened.same.0 (w.in-Ok-run_session.ensures.finished opened.same.1 (opened.consistent (genuine recovers) are_faithful).0) in
+          let time = there.time in
+          (subst (λ (t : ℕ). IsUpto m end t front) (sym time) there, omega (arith, time))) in
+          rw (w.outcome-is, c.into_disk.ensures)
+          (kept-front m end v old (state last.log.disk) front upto _ _ (sym (ap (λ (u : World). u.time) w.front-front.ensures)) (sym (ap (λ (u : World). length u.log) w.front-front.ensures)) under)
+      | in-Err-run_session w ↦
+          rw (w.outcome-is, c.into_disk.ensures)
+          (kept-stop m end v old (state last.log.disk) w.in-Err-run_session.fault
+          (λ time events cause.
+          let stop = w.in-Err-run_session.ensures.stopped time events (ap Err cause) in
+          let upto : RecoversUnderItsEnd m v.time old → IsUpto m end front.time front × (front.time ≤ end) =
+          λ recovers.
+          (let here = front_upto g.M.Model.meaning g.P.Port.state state _ first last stop.3.2 (opened.consistent (genuine recovers) are_faithful).0 in
+          let early = stop.0 in
+          (subst (λ (x : g.row.M.Denot). IsUpto (g.M.Model.meaning x) end front.time front) opened.same.0 (subst (λ (e : ℕ). IsUpto (g.M.Model.meaning first.model) e front.time front) opened.same.1 here), omega (arith, early))) in
+          kept-front m end v old (state last.log.disk) front upto time events stop.1 stop.2 under)
+          (kept-none m end v old (state last.log.disk) (λ recovers. back-under m v.time front.time old (state last.log.disk) (under recovers))))
+    ]

@@ -3,7 +3,7 @@ use Rattle.std.specs.Prelude.{List, Option, Some, set}
 use Rattle.runs.specs.Driver.{IsPost, floor_in}
 use Rattle.runs.specs.Tallies.{Tallied}
 use Rattle.runs.proofs.Counts.{not_counted}
-use Rattle.runs.proofs.Drives.{one_step_by}
+use Rattle.runs.proofs.Drives.{one_step_by, step-keeps}
 use Rattle.runs.proofs.Shapes.{all_picked, is_post}
 use Rattle.runs.proofs.Refused.{of_step, refused_at_once}
 use Rattle.protocol.specs.declared.Answer.TheVariants.{AlreadyAt}
@@ -24,3 +24,9 @@ returns-in_err-answer-clause-refused g c = λ fault is.
     refused_at_once g.M.Model.meaning g.P.Port.state g.D.SectorDisk.state (IsPost c.args.round.plan c.args.node) _ (AlreadyAt 0) [] c.args.session.now c.step.new.self c.in_err-answer.field-0.0 fault
     (is_post c.args.round.plan c.args.node c.budget-budget.result c.from_vec.result _ refl
     (all_picked c.args.round.plan.nodes c.args.node c.transit.result.now c.args.session.now.ledger.transit c.from_vec.result c.in_ok-picks.picks.items c.transit.ensures.value c.from_vec.ensures c.in_ok-picks.ensures) c.budget-budget.ensures.allowed) (of_step c.from_residual-in_err-answer.result c.in_err-answer.field-0.0 fault c.from_residual-in_err-answer.ensures.1 is) c.in_err-answer.ensures
+
+pub returns-in_err-answer-clause-keeps : goal.returns-in_err-answer-clause-keeps
+returns-in_err-answer-clause-keeps g c = step-keeps g.M.Model.meaning g.P.Port.state g.D.SectorDisk.state _ c.args.session.now c.step.new.self _ c.step.ensures
+
+pub returns-clause-keeps : goal.returns-clause-keeps
+returns-clause-keeps g c = step-keeps g.M.Model.meaning g.P.Port.state g.D.SectorDisk.state _ c.args.session.now c.step.new.self _ c.step.ensures

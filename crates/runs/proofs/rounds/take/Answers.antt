@@ -3,7 +3,7 @@ use Rattle.protocol.specs.Moves.Move.{Take}
 use Rattle.runs.specs.Driver.{moves_of}
 use Rattle.runs.specs.Tallies.{Tallied}
 use Rattle.runs.proofs.Counts.{take_counted}
-use Rattle.runs.proofs.Drives.{one_step_by}
+use Rattle.runs.proofs.Drives.{one_step_by, step-keeps}
 use Rattle.runs.proofs.Refused.{of_step, refused_at_once}
 use Rattle.protocol.specs.declared.Answer.TheVariants.{AlreadyAt}
 use Rattle.runs.proofs.rounds.take.Goals as goal
@@ -27,3 +27,9 @@ returns-clause-driven g c =
 pub returns-in_err-answer-clause-refused : goal.returns-in_err-answer-clause-refused
 returns-in_err-answer-clause-refused g c = λ fault is.
     refused_at_once g.M.Model.meaning g.P.Port.state g.D.SectorDisk.state (λ taken. moves_of taken ≡ Take c.args.node ∷ []) _ (AlreadyAt 0) [] c.args.session.now c.step.new.self c.in_err-answer.field-0.0 fault refl (of_step c.from_residual.result c.in_err-answer.field-0.0 fault c.from_residual.ensures.1 is) c.in_err-answer.ensures
+
+pub returns-in_err-answer-clause-keeps : goal.returns-in_err-answer-clause-keeps
+returns-in_err-answer-clause-keeps g c = step-keeps g.M.Model.meaning g.P.Port.state g.D.SectorDisk.state _ c.args.session.now c.step.new.self _ c.step.ensures
+
+pub returns-clause-keeps : goal.returns-clause-keeps
+returns-clause-keeps g c = step-keeps g.M.Model.meaning g.P.Port.state g.D.SectorDisk.state _ c.args.session.now c.step.new.self _ c.step.ensures

@@ -1,8 +1,7 @@
 use Rattle.std.proofs.Common.{◌<◌, List, ℕ, subst}
 use Rattle.commitlog.specs.Records.{Holds}
 use Rattle.recovery.specs.Front.{world_of}
-use Rattle.coordinator.proofs.Begun.{recovers-genuine}
-use Rattle.coordinator.proofs.Extensions.{log-on}
+use Rattle.recovery.proofs.Crashes.{recovers-genuine, log-on}
 use Rattle.runs.proofs.Left.{no_earlier, not_recovered}
 use Rattle.runs.proofs.simulating.committed.Goals as goal
 use Rattle.runs.proofs.simulating.committed.Goals.{in-Ok-recover, in-Err-recover}
@@ -16,7 +15,7 @@ returns-clause-late g c =
     elim c.match-recover.branch [
       | in-Ok-recover w ↦ rw w.outcome-is (λ a recovers.
           (let ours = w.in-Ok-recover.ensures.ours in
-          let genuine = recovers-genuine m c.args.end (g.met.M.Model.lawful c.args.model.now) c.requires.short disk (g.met.D.SectorDisk.sound c.args.disk) a recovers c.in-Ok.log.records (log-on m c.args.end c.in-Ok.log.header c.in-Ok.log.records disk.reads ours holds) in
+          let genuine = recovers-genuine m c.args.end disk (g.met.D.SectorDisk.sound c.args.disk) a recovers c.in-Ok.log.records (log-on m c.args.end c.in-Ok.log.header c.in-Ok.log.records disk.reads ours holds) in
           no_earlier m c.args.end a disk (world_of w.in-Ok-recover.front) (g.met.M.Model.lawful c.args.model.now) c.requires.short (g.met.D.SectorDisk.sound c.args.disk) recovers
           (w.in-Ok-recover.ensures.represents ours genuine disk.reads holds)))
       | in-Err-recover w ↦ rw w.outcome-is (λ a recovers. tt)

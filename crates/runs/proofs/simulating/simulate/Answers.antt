@@ -1,11 +1,17 @@
-use Rattle.std.proofs.Common.{◌≡◌, ◌≤◌, ◌∙◌, Err, List, ℕ, ap, subst, sym}
+use Rattle.std.proofs.Common.{◌≡◌, ◌≤◌, ◌∙◌, Err, List, Some, ℕ, ap, arith, subst, sym}
 use Rattle.coordinator.specs.declared.SessionFault.TheVariants.{Port}
 use Rattle.runs.specs.declared.fault.SimulationFault.TheVariants.{Session}
 use Rattle.runs.proofs.Faults.{not_of_preparing, not_of_reading}
 use Rattle.recovery.specs.Front.{world_of}
-use Rattle.coordinator.proofs.Begun.{recovers-genuine, looked-keeps}
-use Rattle.recovery.specs.Represents.{Represents}
-use Rattle.runs.proofs.Left.{at_end, exactly_recovers, made_so, one_by_one, prepared_genuine, then_so}
+use Rattle.recovery.proofs.Crashes.{recovers-genuine, looked-keeps}
+use Rattle.recovery.specs.Crashes.{KeepsUnderItsEnd, RecoversUnderItsEnd}
+use Rattle.recovery.specs.Histories.{IsKeptRun, IsRunOf}
+use Rattle.recovery.specs.Replay.{in_force}
+use Rattle.recovery.specs.Represents.{IsGenuine, Recovers, Represents}
+use Rattle.disk.specs.Laws.{reads_left}
+use Rattle.model.specs.Runner.{Simulation}
+use Rattle.model.specs.World.{IsUpto}
+use Rattle.runs.proofs.Left.{at_end, exactly_recovers, genuine-under-its-end, kept-call, looked-after, made_so, one_by_one, prepared-under, prepared_genuine, run-keeps, run-keeps-to, then-under, then_so}
 use Rattle.runs.proofs.simulating.simulate.Goals as goal
 
 pub returns-in-Err-clause-crashes : goal.returns-in-Err-clause-crashes
@@ -35,7 +41,7 @@ returns-in-Ok-outcome-clause-finished g c = λ genuine.
     let ran = g.D.SectorDisk.state c.run-disk.result.disk in
     let begun = prepared_genuine m c.args.end (g.D.SectorDisk.state c.args.disk) made (g.met.M.Model.lawful c.args.model.now) c.requires.short (g.met.D.SectorDisk.sound c.prepare.new.disk) (λ blank. c.in_default.ensures.made blank (record { some = c.requires.begun; within = c.requires.short })) c.prepare.ensures.looks genuine in
     let ended = rw c.in-Ok.is at (c.run-disk.ensures.committed begun) in
-    let left = recovers-genuine m c.args.end (g.met.M.Model.lawful c.args.model.now) c.requires.short ran (g.met.D.SectorDisk.sound c.run-disk.result.disk) c.args.end ended in
+    let left = recovers-genuine m c.args.end ran (g.met.D.SectorDisk.sound c.run-disk.result.disk) c.args.end ended in
     let outcome = c.in-Ok-outcome.front in
     let upto = rw c.in-Ok-outcome.is at (c.committed-disk.ensures.upto left) in
     let late : c.args.end ≤ outcome.g = rw c.in-Ok-outcome.is at (c.committed-disk.ensures.late c.args.end ended) in
@@ -48,7 +54,7 @@ returns-in-Ok-outcome-clause-represents g c = λ genuine.
     let ran = g.D.SectorDisk.state c.run-disk.result.disk in
     let begun = prepared_genuine m c.args.end (g.D.SectorDisk.state c.args.disk) made (g.met.M.Model.lawful c.args.model.now) c.requires.short (g.met.D.SectorDisk.sound c.prepare.new.disk) (λ blank. c.in_default.ensures.made blank (record { some = c.requires.begun; within = c.requires.short })) c.prepare.ensures.looks genuine in
     let ended = rw c.in-Ok.is at (c.run-disk.ensures.committed begun) in
-    let left = recovers-genuine m c.args.end (g.met.M.Model.lawful c.args.model.now) c.requires.short ran (g.met.D.SectorDisk.sound c.run-disk.result.disk) c.args.end ended in
+    let left = recovers-genuine m c.args.end ran (g.met.D.SectorDisk.sound c.run-disk.result.disk) c.args.end ended in
     let outcome = c.in-Ok-outcome.front in
     let represents : Represents m c.args.end ran.reads (world_of outcome) = rw c.in-Ok-outcome.is at (c.committed-disk.ensures.represents left) in
     subst (λ (image : List (List ℕ)). Represents m c.args.end image (world_of outcome)) (sym c.committed-disk.ensures.looks.same) represents
@@ -60,7 +66,7 @@ returns-in-Ok-outcome-clause-committed g c = λ genuine.
     let ran = g.D.SectorDisk.state c.run-disk.result.disk in
     let begun = prepared_genuine m c.args.end (g.D.SectorDisk.state c.args.disk) made (g.met.M.Model.lawful c.args.model.now) c.requires.short (g.met.D.SectorDisk.sound c.prepare.new.disk) (λ blank. c.in_default.ensures.made blank (record { some = c.requires.begun; within = c.requires.short })) c.prepare.ensures.looks genuine in
     let ended = rw c.in-Ok.is at (c.run-disk.ensures.committed begun) in
-    let left = recovers-genuine m c.args.end (g.met.M.Model.lawful c.args.model.now) c.requires.short ran (g.met.D.SectorDisk.sound c.run-disk.result.disk) c.args.end ended in
+    let left = recovers-genuine m c.args.end ran (g.met.D.SectorDisk.sound c.run-disk.result.disk) c.args.end ended in
     (looked-keeps m c.args.end c.args.end ran (g.D.SectorDisk.state c.committed-disk.result.disk) c.committed-disk.ensures.looks ended).now_on
 
 pub returns-in-Ok-outcome-clause-crashes : goal.returns-in-Ok-outcome-clause-crashes
@@ -122,3 +128,60 @@ returns-in-Err-outcome-clause-faults g c = λ genuine fault is.
 
 pub returns-in-Err-outcome-2-clause-faults : goal.returns-in-Err-outcome-2-clause-faults
 returns-in-Err-outcome-2-clause-faults g c = λ genuine fault is. absurd (not_of_reading _ _ _ _ c.in-Err-outcome-2.fault (Port fault) (cc) (rw c.in-Err-outcome-2.is at c.committed-disk.ensures.refused))
+
+pub returns-in-Err-clause-kept : goal.returns-in-Err-clause-kept
+returns-in-Err-clause-kept g c = λ v.
+    let m = g.M.Model.meaning c.args.model.now in
+    let old = g.D.SectorDisk.state c.args.disk in
+    let made = g.D.SectorDisk.state c.prepare.new.disk in
+    kept-call m v old made (prepared-under m v.time old made (g.met.D.SectorDisk.sound c.args.disk) c.prepare.ensures.looks)
+
+pub returns-in-Err-outcome-clause-kept : goal.returns-in-Err-outcome-clause-kept
+returns-in-Err-outcome-clause-kept g c = λ v.
+    let m = g.M.Model.meaning c.args.model.now in
+    let old = g.D.SectorDisk.state c.args.disk in
+    let made = g.D.SectorDisk.state c.prepare.new.disk in
+    let ran = g.D.SectorDisk.state c.run-disk.result.disk in
+    kept-call m v old ran
+    (λ recovers.
+    let first = prepared-under m v.time old made (g.met.D.SectorDisk.sound c.args.disk) c.prepare.ensures.looks recovers in
+    then-under m v.time v.time old made ran first (run-keeps m c.args.end v made ran _ (c.run-disk.ensures.kept v) first.now_on))
+
+pub returns-in-Err-outcome-2-clause-kept : goal.returns-in-Err-outcome-2-clause-kept
+returns-in-Err-outcome-2-clause-kept g c = λ v.
+    let m = g.M.Model.meaning c.args.model.now in
+    let old = g.D.SectorDisk.state c.args.disk in
+    let made = g.D.SectorDisk.state c.prepare.new.disk in
+    let ran = g.D.SectorDisk.state c.run-disk.result.disk in
+    let new = g.D.SectorDisk.state c.committed-disk.result.disk in
+    kept-call m v old new
+    (λ recovers.
+    let first = prepared-under m v.time old made (g.met.D.SectorDisk.sound c.args.disk) c.prepare.ensures.looks recovers in
+    looked-after m v.time v.time old ran new (then-under m v.time v.time old made ran first (run-keeps m c.args.end v made ran _ (c.run-disk.ensures.kept v) first.now_on)) c.committed-disk.ensures.looks)
+
+pub returns-in-Ok-outcome-clause-kept : goal.returns-in-Ok-outcome-clause-kept
+returns-in-Ok-outcome-clause-kept g c = λ v.
+    let m = g.M.Model.meaning c.args.model.now in
+    let end = c.args.end in
+    let old = g.D.SectorDisk.state c.args.disk in
+    let made = g.D.SectorDisk.state c.prepare.new.disk in
+    let ran = g.D.SectorDisk.state c.run-disk.result.disk in
+    let new = g.D.SectorDisk.state c.committed-disk.result.disk in
+    let outcome = c.in-Ok-outcome.front in
+    let done = c.in-Ok.field-0 in
+    let kept : IsKeptRun m end v made ran (Some (done.time, done.events)) = rw c.in-Ok.is at (c.run-disk.ensures.kept v) in
+    let sound = g.met.D.SectorDisk.sound c.prepare.new.disk in
+    let prepared = prepared-under m v.time old made (g.met.D.SectorDisk.sound c.args.disk) c.prepare.ensures.looks in
+    let begun : RecoversUnderItsEnd m v.time old → IsGenuine m end made.reads = λ recovers. genuine-under-its-end m end v.time made.reads ((prepared recovers).now_on made.reads (reads_left made.reads made.dirty sound)) in
+    let ended : RecoversUnderItsEnd m v.time old → Recovers m end end ran = λ recovers. (rw c.in-Ok.is at (c.run-disk.ensures.committed (begun recovers))) in
+    let reached : RecoversUnderItsEnd m v.time old → done.time ≡ end = λ recovers. (let run : IsRunOf m end done.time done.events = rw c.in-Ok.is at (c.run-disk.ensures.finished (begun recovers)) in run.time_is) in
+    let upto : RecoversUnderItsEnd m v.time old → IsUpto m end outcome.g (world_of outcome) × (outcome.g ≤ end) =
+    λ recovers. (rw c.in-Ok-outcome.is at (c.committed-disk.ensures.upto (recovers-genuine m end ran (g.met.D.SectorDisk.sound c.run-disk.result.disk) end (ended recovers)))) in
+    let late : RecoversUnderItsEnd m v.time old → end ≤ outcome.g = λ recovers. (rw c.in-Ok-outcome.is at (c.committed-disk.ensures.late end (ended recovers))) in
+    let time_is : RecoversUnderItsEnd m v.time old → done.time ≡ outcome.g = λ recovers. (let e = reached recovers in let le = (upto recovers).1 in let ge = late recovers in omega (arith, e, le, ge)) in
+    let keeps : RecoversUnderItsEnd m v.time old → KeepsUnderItsEnd m v.time done.time old ran =
+    λ recovers. then-under m v.time done.time old made ran (prepared recovers) (run-keeps-to m end v made ran done.time done.events kept (prepared recovers).now_on) in
+    record {
+      crashes = λ recovers. subst (λ (t : ℕ). KeepsUnderItsEnd m v.time t old new) (time_is recovers) (looked-after m v.time done.time old ran new (keeps recovers) c.committed-disk.ensures.looks);
+      front = λ recovers s is. (let e : in_force end (world_of outcome) ≡ s = cc in subst (λ (x : Simulation). IsUpto m x.end x.world.time x.world × (x.world.time ≤ x.end)) e (upto recovers));
+    }
