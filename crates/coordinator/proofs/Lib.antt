@@ -1,6 +1,7 @@
 mod Batches
 mod Applying
 mod Sorting
+mod Judges
 mod Places
 mod Committing
 mod Keeping
@@ -12,9 +13,9 @@ pub mod Driving
 mod GoingOn
 mod Refusals
 mod Logging
+mod JudgedCommits
 mod Loading
 mod Parting
 pub mod Begun
 pub mod Extensions
-mod Histories
 pub mod Resuming

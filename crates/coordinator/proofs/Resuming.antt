@@ -11,9 +11,10 @@ use Rattle.protocol.specs.Moves.{Move, moves_made}
 use Rattle.protocol.specs.System.{System, opened}
 use Rattle.protocol.specs.Sound.{IsSystem}
 use Rattle.recovery.specs.Replay.{IsReplayedTo, in_force}
-use Rattle.coordinator.proofs.Extensions.{goes-under, looked-under}
+use Rattle.recovery.proofs.Crashes.{goes-under, looked-under}
 use Rattle.commitlog.specs.Log.{Opened}
-use Rattle.coordinator.specs.Crashes.{IsWritten, KeepsRecovery, KeepsUnderItsEnd, Recovers, RecoversUnderItsEnd}
+use Rattle.recovery.specs.Crashes.{IsWritten, KeepsRecovery, KeepsUnderItsEnd, RecoversUnderItsEnd}
+use Rattle.recovery.specs.Represents.{Recovers}
 use Rattle.coordinator.specs.Drives.{IsStopped, StepsAreMade}
 use Rattle.coordinator.specs.Headline.{IsResumed}
 use Rattle.coordinator.specs.Session.{IsConsistentSession, Running, Session, system_of}

@@ -1,20 +1,23 @@
 -- A step of a session, and lists of steps.
-use Rattle.std.specs.Prelude.{Err, IfErr, IfOk, IsErrOf, List, Ok, OnOk, Result, Some, [], drop}
+use Rattle.std.specs.Prelude.{Bool, ◌||◌, Err, IfErr, IfOk, IsErrOf, List, Ok, OnOk, Result, Some, [], drop}
 use Rattle.std.specs.Prelude.{false, length, map, take, true, ℕ, ◌<◌, ◌∷◌, ◌≡◌, ◌≤◌, ◌↔◌}
 use Rattle.disk.specs.Disk.{DiskState}
 use Rattle.model.specs.Meaning.{Meaning}
 use Rattle.protocol.specs.Moves.{Move, moves_made}
 use Rattle.protocol.specs.Sound.{GoesOnFrom}
 use Rattle.wire.specs.Port.{PortState}
-use Rattle.coordinator.specs.Crashes.{KeepsRepresentation, StaysWritten, SurvivesCrashes}
+use Rattle.coordinator.specs.Crashes.{IsTrusted, KeepsRepresentation, StaysWritten}
+use Rattle.coordinator.specs.Crashes.{SurvivesCrashes}
 use Rattle.coordinator.specs.Session.{HasSameNodes, IsConsistentSession, Running, Session}
 use Rattle.coordinator.specs.Session.{system_of, running}
-use Rattle.coordinator.specs.Steps.{HasCause, IsLogged, IsMade, IsReplyTaken, first_refusal}
-use Rattle.coordinator.specs.Steps.{leaves_all, move_of, next_time, seals}
+use Rattle.coordinator.specs.Steps.{AreNextReports, IsLogged, IsMade, IsReplyTaken, MayCommit}
+use Rattle.coordinator.specs.Steps.{StepHasCause, first_refusal, leaves_all, move_of, next_time}
+use Rattle.coordinator.specs.Steps.{seals, trusts}
 use Rattle.coordinator.specs.declared.DriveFault.{DriveFault}
 use Rattle.coordinator.specs.declared.SessionFault.{SessionFault}
 use Rattle.coordinator.specs.declared.SessionFault.TheVariants.{Disk, Spent}
 use Rattle.coordinator.specs.declared.Step.{Step}
+use Rattle.coordinator.specs.declared.Step.TheVariants.{JudgedCommit}
 use Rattle.protocol.specs.Moves.Move.{Commit as CommitMove, Take as TakeMove}
 use Rattle.protocol.specs.declared.Answer.{Answer}
 use Rattle.protocol.specs.declared.Answer.TheVariants.{AlreadyAt}
@@ -24,16 +27,23 @@ pub record StepsAreMade (moves : List Move) (old new : Running) : Type 0 where
   pub moves_are : moves_made old.meaning old.end moves (system_of old) ≡ Some (system_of new)
   pub consistent : IsConsistentSession new
 
+-- whether one of these steps trusts the nodes
+abbrev pub any_trusts : List Step → Bool
+any_trusts [] = false
+any_trusts (step ∷ steps) = trusts step || any_trusts steps
+
 module _ {M P D : Type 0} (meaning : M → Meaning) (state : P → PortState) (disk : D →
     DiskState) where
-  -- these moves were made between the two, and the disk goes on recovering
-  pub record Goes (moves : List Move) (old new : Session M P D) : Type 0 where
+  -- These moves were made between the two, and the disk goes on recovering. If one of the steps
+  -- trusted the nodes, this is promised of a consistent session.
+  pub record Goes (trusted : Bool) (moves : List Move) (old new : Session M P D) : Type 0 where
     pub model_is : new.model ≡ old.model
     pub end_is : new.end ≡ old.end
     pub made : IsConsistentSession (running meaning state old) →
         StepsAreMade moves (running meaning state old) (running meaning state new)
-    pub written : StaysWritten meaning state old new
-    pub crashes : SurvivesCrashes meaning state disk old new
+    pub written : StaysWritten meaning (IsTrusted trusted (running meaning state old)) old new
+    pub crashes : SurvivesCrashes meaning disk (IsTrusted trusted (running meaning state old))
+        old new
 
   -- The contract of `step`, at every exit.
   pub record IsStep (step : Step) (old new : Session M P D)
@@ -51,7 +61,11 @@ module _ {M P D : Type 0} (meaning : M → Meaning) (state : P → PortState) (d
         first_refusal old.end (move_of step) (system_of (running meaning state old)) ≡ Some fault →
         result ≡ Err fault
     pub cause : old.spent ≡ false → IfErr result (λ fault.
-        HasCause (move_of step) (running meaning state old) fault)
+        StepHasCause fault step (running meaning state old))
+    -- A judged commit that moves the front has reports that are those of the front before.
+    pub judged : old.spent ≡ false → step ≡ JudgedCommit →
+        MayCommit (running meaning state old) →
+        OnOk result (AreNextReports (running meaning state old))
     -- A commit with nothing to commit changes nothing.
     pub already : old.spent ≡ false → move_of step ≡ CommitMove →
         next_time old.end (system_of (running meaning state old)) ≤ old.front.time →
@@ -65,8 +79,10 @@ module _ {M P D : Type 0} (meaning : M → Meaning) (state : P → PortState) (d
     -- seal behind it, if there is room for that; every other step leaves the log. `Full` comes only
     -- if there is no room for the first record, `Disk` exactly if the device has failed.
     pub logged : IsLogged meaning state disk (move_of step) (seals step) old new result
-    -- The records go on representing the front, whatever crashes.
-    pub keeps : KeepsRepresentation meaning state disk old new
+    -- The records go on representing the front, whatever crashes. Only a plain commit trusts the
+    -- nodes for this; any other step does it over any ports.
+    pub keeps : KeepsRepresentation meaning disk
+        (IsTrusted (trusts step) (running meaning state old)) old new
     -- After a fault of a port or of the disk, or an allocation failure, the session is spent and
     -- its front unchanged. Any other fault leaves the session unchanged. A spent session refuses
     -- every step.
@@ -117,8 +133,10 @@ module _ {M P D : Type 0} (meaning : M → Meaning) (state : P → PortState) (d
     pub failed : IfErr result (λ stop. (stop.fault ≡ Disk) ↔
         ((disk old.log.disk).failures < (disk new.log.disk).failures))
     pub no_failure : OnOk result ((disk new.log.disk).failures ≡ (disk old.log.disk).failures)
-    -- The records go on representing the front, whatever crashes, also if a step was refused.
-    pub keeps : KeepsRepresentation meaning state disk old new
+    -- The records go on representing the front, whatever crashes, also if a step was refused; over
+    -- any ports, if no step is a plain commit.
+    pub keeps : KeepsRepresentation meaning disk
+        (IsTrusted (any_trusts steps) (running meaning state old)) old new
     pub same : (new.model ≡ old.model) × (new.end ≡ old.end)
     pub nodes : HasSameNodes old new
 

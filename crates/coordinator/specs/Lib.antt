@@ -10,6 +10,7 @@ pub mod PortFaults
 -- Internal.
 pub mod Pending
 pub mod Keys
+pub mod Judging
 pub mod Ports
 pub mod Inside
 -- For tests.

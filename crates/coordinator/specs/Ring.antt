@@ -1,5 +1,5 @@
 -- A model for the tests: three processes pass two tokens round, each with a delay of two ticks.
-use Rattle.std.specs.Prelude.{Bool, List, [], false, if◌then◌else◌, min, nat_lt, slice_index, true}
+use Rattle.std.specs.Prelude.{None, Bool, List, [], false, if◌then◌else◌, min, nat_lt, slice_index, true}
 use Rattle.std.specs.Prelude.{ℕ, ◌%◌, ◌+◌, ◌-◌, ◌<◌, ◌^◌, ◌∷◌, ◌≡◌}
 use Rattle.std.specs.List.{AllByRecursion as Every}
 use Rattle.std.proofs.Common.{arith, length, lit<, lit≤, refl, ◌≤◌}
@@ -21,6 +21,7 @@ abbrev pub ring_meaning : Meaning
 ring_meaning = record {
   lps = 3;
   identity = 1 ∷ 2 ∷ 2 ∷ [];
+  origin = None;
   start_state = λ lp. 0 ∷ [];
   start_sends = λ lp. token_at lp (nat_lt lp 2);
   next_state = λ lp state x. counted state ∷ [];
@@ -61,6 +62,7 @@ ring_lawful = record {
   few_lps = lit≤ tt;
   identity_few = lit≤ tt;
   identity_words = (lit< tt, (lit< tt, (lit< tt, tt)));
+  begins = tt;
   start_words = λ lp l. (lit≤ tt, (lit< tt, tt));
   start_few = λ lp l. few_starts lp (nat_lt lp 2);
   start = λ lp l. starts lp (nat_lt lp 2) refl;

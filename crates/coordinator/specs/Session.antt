@@ -73,6 +73,7 @@ no_port = record {
   meaning = record {
     lps = 0;
     identity = [];
+    origin = None;
     start_state = λ lp. [];
     start_sends = λ lp. [];
     next_state = λ lp state x. [];

@@ -6,11 +6,18 @@ use Rattle.commitlog.specs.Records.{HasRoom, entry_with}
 use Rattle.commitlog.specs.declared.records.Entry.{Entry}
 use Rattle.disk.specs.Disk.{DiskState}
 use Rattle.gvt.specs.Ledger.{least_floor}
-use Rattle.model.specs.Meaning.{Meaning}
+use Rattle.std.specs.List.{AllByRecursion as Every}
+use Rattle.std.specs.declared.alloc.AllocError.{AllocError}
+use Rattle.eventkey.specs.Message.{IsRanged}
+use Rattle.model.specs.Meaning.{IsWords, Meaning}
+use Rattle.model.specs.World.{IsUpto}
+use Rattle.process.specs.declared.Done.{Done}
+use Rattle.protocol.specs.Judged.{AreOfFront}
 use Rattle.gvt.specs.Picks.{are_distinct, can_pick}
 use Rattle.node.specs.declared.NodeFault.TheVariants as node
 use Rattle.node.specs.declared.Reply.{Reply}
 use Rattle.protocol.specs.Moves.{Move, answer_of, is_busy, merged, move, refusal, reported_before}
+use Rattle.protocol.specs.Moves.{reported_front}
 use Rattle.protocol.specs.Moves.Move.{Checkpoint as CheckpointMove, Commit as CommitMove}
 use Rattle.protocol.specs.Moves.Move.{Post as PostMove, Take as TakeMove}
 use Rattle.protocol.specs.Moves.Refusal.{NumberLimit as NumberLimitRefusal}
@@ -28,16 +35,18 @@ use Rattle.protocol.specs.declared.Answer.TheVariants.{Taken}
 use Rattle.coordinator.specs.declared.SessionFault.{SessionFault}
 use Rattle.coordinator.specs.declared.SessionFault.TheVariants.{Busy, Disk, Full, Idle, NoMemory}
 use Rattle.coordinator.specs.declared.SessionFault.TheVariants.{NoSuchNode, NoSuchPick, NumberLimit}
-use Rattle.coordinator.specs.declared.SessionFault.TheVariants.{Port, Recovery, Spent, TooLong}
+use Rattle.coordinator.specs.declared.SessionFault.TheVariants.{Port, Recovery, Reports, Spent}
+use Rattle.coordinator.specs.declared.SessionFault.TheVariants.{TooLong}
 use Rattle.coordinator.specs.declared.Step.{Step}
-use Rattle.coordinator.specs.declared.Step.TheVariants.{Checkpoint, Commit, Post, SealedCheckpoint}
-use Rattle.coordinator.specs.declared.Step.TheVariants.{Take}
+use Rattle.coordinator.specs.declared.Step.TheVariants.{Checkpoint, Commit, JudgedCommit, Post}
+use Rattle.coordinator.specs.declared.Step.TheVariants.{SealedCheckpoint, Take}
 
 -- the move of the system state that a step makes
 abbrev pub move_of : Step → Move
 move_of (Post node picks budget) = PostMove node picks budget
 move_of (Take node) = TakeMove node
 move_of Commit = CommitMove
+move_of JudgedCommit = CommitMove
 move_of Checkpoint = CheckpointMove
 move_of SealedCheckpoint = CheckpointMove
 
@@ -45,6 +54,11 @@ move_of SealedCheckpoint = CheckpointMove
 abbrev pub seals : Step → Bool
 seals SealedCheckpoint = true
 seals step = false
+
+-- whether a step trusts the nodes: a plain commit writes what they reported as it is
+abbrev pub trusts : Step → Bool
+trusts Commit = true
+trusts step = false
 
 -- the moves that append a record
 abbrev pub Appends : Move → Type 0
@@ -58,6 +72,20 @@ next_time end p = least_floor end p.floors
 
 abbrev pub next_events : ℕ → System → ℕ
 next_events end p = length (reported_before (next_time end p) p.gathered)
+
+-- there is something to commit, and its record is not too long
+abbrev pub MayCommit : Running → Type 0
+MayCommit r = (r.front.time < next_time r.end (system_of r))
+    × (17 + 56 * next_events r.end (system_of r) ≤ 2 ^ 24)
+
+-- the gathered reports that a commit would take are those of the front
+abbrev pub AreNextReports : Running → Type 0
+AreNextReports r = AreOfFront r.meaning (next_time r.end (system_of r)) r.gathered r.front
+
+-- the front that they make is the sequential simulation up to its time
+abbrev pub CommitIsUpto : Running → Type 0
+CommitIsUpto r = MayCommit r → IsUpto r.meaning r.end (next_time r.end (system_of r))
+    (reported_front (next_time r.end (system_of r)) r.gathered r.front)
 
 -- the record that a commit would append: that time, and those events in the order of the simulation
 abbrev pub next_record : ℕ → System → Entry
@@ -118,9 +146,18 @@ HasCause k old NoMemory = first_refusal old.end k (system_of old) ≡ None
 HasCause k old Full = Appends k × (first_refusal old.end k (system_of old) ≡ None)
 HasCause k old Disk = Appends k × (first_refusal old.end k (system_of old) ≡ None)
 HasCause k old NumberLimit = ⊥
+HasCause k old Reports = ⊥
 HasCause k old (Recovery fault) = ⊥
 HasCause k old Spent = ⊥
 HasCause k old fault = first_refusal old.end k (system_of old) ≡ Some fault
+
+-- The same for a step. A judged commit that could be made fails with `Reports` exactly if the
+-- reports are not those of the front, whose states are words where records represent it; a
+-- consistent session has no such reports.
+abbrev pub StepHasCause : SessionFault → Step → Running → Type 0
+StepHasCause Reports JudgedCommit old = MayCommit old × (IsConsistentSession old → ⊥)
+    × (Every IsWords old.front.states → AreNextReports old → ⊥)
+StepHasCause fault step old = HasCause (move_of step) old fault
 
 -- these faults leave a session unchanged; after the others it is spent
 abbrev pub leaves_all : SessionFault → Bool
@@ -146,6 +183,15 @@ pub record IsStepped (k : Move) (old new : Running) (spent : Bool)
   pub usable : OnOk result (spent ≡ false)
   pub meaning_is : new.meaning ≡ old.meaning
   pub end_is : new.end ≡ old.end
+
+-- What a judge of a session answers: whether the reports that a commit would take are those of the
+-- front. If there is no commit to make, it answers that they are.
+pub record IsJudged (r : Running) (result : Result Bool AllocError) : Type 0 where
+  pub passed : IfOk result (λ ok. ok ≡ true →
+      MayCommit r → AreNextReports r × Every (λ (d : Done). IsRanged d.message) r.gathered)
+  pub refused : IfOk result (λ ok. ok ≡ false →
+      MayCommit r × (Every IsWords r.front.states → AreNextReports r → ⊥))
+  pub none : OnErr result (MayCommit r)
 
 -- The reply of a node was taken, over any ports: its sends are in transit, what it reported is
 -- gathered, and all that it names exists.

@@ -4,6 +4,7 @@
 
 mod batch;
 mod extending;
+mod judge;
 mod opening;
 mod order;
 mod ports;
@@ -16,7 +17,9 @@ pub use opening::NotOpened;
 pub use protocol::Answer;
 use recovery::RecoveryFault;
 pub use session::{FrontView, Session};
-pub use sessions::{Resumed, headline, law_of_local_sessions, law_of_sessions, resume};
+pub use sessions::{
+    Resumed, law_of_judged_sessions, law_of_local_sessions, law_of_sessions, resume,
+};
 use thiserror::Error;
 use wire::PortFault;
 
@@ -36,6 +39,10 @@ pub enum Step {
     },
     /// Commits what no rollback can reach any more.
     Commit,
+    /// Commits the same, but only after it has found that the gathered reports are those of the
+    /// front: what the model does from there on, with each pending message and each send handled.
+    /// So it trusts no node.
+    JudgedCommit,
     /// Appends a checkpoint: the committed front without its log. An opening then replays only the
     /// records behind it.
     Checkpoint,
@@ -87,6 +94,10 @@ pub enum SessionFault {
     /// The end is not above the end in force, or is above 2^40 ticks.
     #[error("EndRefused")]
     EndRefused,
+    /// The gathered reports are not those of the front, so some node did not do what the model does.
+    /// Only a judged commit finds this out.
+    #[error("Reports")]
+    Reports,
 }
 
 /// Why a list of steps stopped early: `done` steps were made, and the next one failed with `fault`.

@@ -1,9 +1,9 @@
-// Whole sessions, and the headline over any number of them.
+// Whole sessions, as calls of a history of the headline.
 
 ghost use Rattle.std.specs.Prelude.{◌≡◌, ◌<◌, ◌≤◌, ◌^◌, ℕ, IfSome, IsSome, None, Some, length, map};
 ghost use Rattle.std.specs.Prelude.{take};
-ghost use Rattle.coordinator.specs.Headline.{Headline, IsResumed, SessionsGoOn};
-ghost use Rattle.coordinator.specs.Crashes.{Recovers};
+ghost use Rattle.coordinator.specs.Headline.{IsResumed, JudgedSessionsGoOn, SessionsGoOn};
+ghost use Rattle.recovery.specs.Represents.{Recovers};
 ghost use Rattle.coordinator.specs.Opening.{AllFresh, AllFaithful, IsResourceFaultAtOpening};
 ghost use Rattle.coordinator.specs.Opening.{OpeningIsRefused};
 ghost use Rattle.coordinator.specs.PortFaults.{LocalSessionsHaveNoFrames};
@@ -105,26 +105,23 @@ fn left<M: Simulated, P: Port + Drop, D: SectorDisk>(
     }
 }
 
-/// For every model that keeps its laws, every number of nodes, every list of session steps and
-/// every stop before or within any sector write, opening the disk again gives the states, pending
-/// messages and event log of the sequential simulation up to a virtual time no lower than the last
-/// one acknowledged, and whatever is committed from there on is what that same sequential
-/// simulation does next.
-///
-/// The function has no effect. Its contract is the theorem that follows from the contracts of
-/// [`resume`], [`Session::open`], [`Session::step`] and [`Session::drive`] over any history of
-/// calls and stops.
-pub fn headline()
-    ensures { Headline }
-{}
-
-/// Any number of drives of one session, whatever faults they return, are one call of a history of
-/// the [`headline`]: from the disk on which the session was opened to the disk that it leaves.
+/// Any number of drives of one session over faithful ports, whatever faults they return, are one
+/// call of a history of the headline ([`recovery::headline`]): from the disk on which the session
+/// was opened to the disk that it leaves.
 ///
 /// The function has no effect. Its contract is the law that follows from the contracts of
 /// [`Session::open`] and [`Session::drive`]; a step is a list of one.
 pub fn law_of_sessions<M: Simulated, P: Port, D: SectorDisk>()
     ensures { SessionsGoOn M.meaning P.state D.state }
+{}
+
+/// The same over any ports, whatever the nodes answer, if no step of the drives is a plain commit:
+/// commits that are judged trust no node.
+///
+/// The function has no effect. Its contract is the law that follows from the contracts of
+/// [`Session::open`] and [`Session::drive`].
+pub fn law_of_judged_sessions<M: Simulated, P: Port, D: SectorDisk>()
+    ensures { JudgedSessionsGoOn M.meaning P.state D.state }
 {}
 
 /// In a session over nodes in this program (`LocalPort`) a fault of a port is that of a node: its

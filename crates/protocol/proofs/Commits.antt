@@ -30,7 +30,7 @@ below_least_time : (c t : ℕ) (xs : List Message) → c ≤ least_time t xs →
 below_least_time c t [] h = (h, tt)
 below_least_time c t (x ∷ xs) h = let k = below_least_time c (min t x.time) xs h in let a = k.0 in (omega arith, (omega arith, k.1))
 
-below_least_floor : (c t : ℕ) (fs : List ℕ) → c ≤ least_floor t fs → (c ≤ t) × ((k : ℕ) → k < length fs → c ≤ get_or fs k 0)
+pub below_least_floor : (c t : ℕ) (fs : List ℕ) → c ≤ least_floor t fs → (c ≤ t) × ((k : ℕ) → k < length fs → c ≤ get_or fs k 0)
 below_least_floor c t [] h = (h, λ k l. absurd (omega arith))
 below_least_floor c t (f ∷ fs) h =
     let r = below_least_floor c (min t f) fs h in
@@ -94,7 +94,7 @@ module _ (m : Meaning) (end c : ℕ) (p : System) (law : IsLawful m) (short : en
     are = copies_merged;
   }
 
-  done : IsDone m end c law short (below_least_floor c end p.floors may.answered).0 p (merged c p.gathered)
+  pub done : IsDone m end c law short (below_least_floor c end p.floors may.answered).0 p (merged c p.gathered)
   done = finish m end c law short (below_least_floor c end p.floors may.answered).0 (merged c p.gathered) p ready
 
 -- 2. The sequential simulation

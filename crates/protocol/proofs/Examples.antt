@@ -1,6 +1,6 @@
 -- Worked examples of the definitions, by computation: a process, a node and a whole system of a
 -- token ring.
-use Rattle.std.proofs.Common.{◌≡◌, ℕ, ◌+◌, ◌%◌, List, [], ◌∷◌, refl, get_or, cond, eqb, Some}
+use Rattle.std.proofs.Common.{None, ◌≡◌, ℕ, ◌+◌, ◌%◌, List, [], ◌∷◌, refl, get_or, cond, eqb, Some}
 use Rattle.eventkey.specs.Message.{Message, message_cmp}
 use Rattle.eventkey.specs.Signed.{plus, minus}
 use Rattle.model.specs.Meaning.{Meaning}
@@ -15,6 +15,7 @@ abbrev pub ring : Meaning
 ring = record {
   lps = 3;
   identity = 1 ∷ 2 ∷ 1 ∷ [];
+  origin = None;
   start_state = λ lp. 0 ∷ [];
   start_sends = λ lp. [];
   next_state = λ lp state x. (get_or state 0 0 + 1) ∷ [];

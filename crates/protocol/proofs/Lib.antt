@@ -13,6 +13,7 @@ pub mod Ledgers
 pub mod Answers
 pub mod Replies
 pub mod Numbers
+pub mod Judged
 mod Examples
 mod CommitExamples
 mod ThreeNodes

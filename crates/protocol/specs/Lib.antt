@@ -7,3 +7,4 @@ pub mod Laws  -- all laws: openings, moves, runs, commits, nodes, the ledger
 pub mod Sound  -- the invariant of a running system, and what a later system state keeps
 pub mod Views  -- the nodes, the ledger and the loads of a system state
 pub mod Replies  -- what a reply may name
+pub mod Judged  -- commits that trust no node

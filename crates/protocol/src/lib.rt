@@ -14,6 +14,7 @@ ghost use Rattle.protocol.specs.Laws.{MovesMadePart, OpenedNodes, OpeningIsSound
 ghost use Rattle.protocol.specs.Laws.{ParcelsAreAccepted, RepliesNameWhatIsThere};
 ghost use Rattle.protocol.specs.Laws.{RunsAreOneSimulation, RunsAreSound};
 ghost use Rattle.protocol.specs.Laws.{SystemsMayCommit, TakesAreAnswers};
+ghost use Rattle.protocol.specs.Judged.{JudgedCommitIsSequential, JudgesRefuseNoTruth};
 ghost use Rattle.protocol.specs.Readers.{OptimisticIsSequential, SchedulesAgree};
 
 /// The answer of a move.
@@ -117,4 +118,11 @@ pub fn law_of_ledgers()
     ensures gvt { LedgerFloorIsGvt }
     ensures follow { LedgersFollowSystems }
     ensures allow { LedgersAllowPosts }
+{}
+
+/// States the law of commits that trust no node: reports that are those of a front make it the
+/// sequential simulation up to the time of the commit, whatever the nodes are.
+pub fn law_of_judged_commits()
+    ensures sequential { JudgedCommitIsSequential }
+    ensures truth { JudgesRefuseNoTruth }
 {}

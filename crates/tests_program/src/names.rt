@@ -240,6 +240,7 @@ fn put_session_and_run_faults(names: &mut Names) {
         Recovery(RecoveryFault::OtherModel) => "Recovery OtherModel",
         Spent => "Spent",
         EndRefused => "EndRefused",
+        Reports => "Reports",
     });
     put_names!(names; RunFault {
         Session(SessionFault::Full) => "Session Full",

@@ -1,8 +1,10 @@
 use Rattle.std.proofs.Common.{ap, length, map, refl, take}
 use Rattle.coordinator.proofs.Resuming.{driven-on, kept-on, made-all, not_resumed, resumed, stopped-front}
+use Rattle.coordinator.proofs.Driving.{all-trusted}
+use Rattle.coordinator.specs.Drives.{any_trusts}
 use Rattle.coordinator.specs.Session.{running}
-use Rattle.coordinator.specs.Crashes.{RecoversUnderItsEnd}
-use Rattle.coordinator.proofs.Extensions.{reads-genuine}
+use Rattle.recovery.specs.Crashes.{RecoversUnderItsEnd}
+use Rattle.recovery.proofs.Crashes.{reads-genuine}
 use Rattle.coordinator.specs.Steps.{move_of}
 use Rattle.coordinator.proofs.sessions.resume.Goals as goal
 
@@ -20,13 +22,13 @@ returns-in-Ok-drive-clause-kept g c = λ are_faithful v.
     let genuine = λ (recovers : RecoversUnderItsEnd m v.time old). reads-genuine m v.time c.args.end old c.in-Ok.session.front (g.met.M.Model.lawful c.args.model.now) (g.met.D.SectorDisk.sound c.args.disk) recovers c.in-Ok.ensures.replayed in
     let model_is = ap g.M.Model.meaning c.in-Ok.ensures.same.0 in
     let end_is = c.in-Ok.ensures.same.1 in
-    let begun = c.in-Ok.ensures.begun are_faithful v in
+    let begun = c.in-Ok.ensures.begun v in
     rw (c.left.ensures)
     (resumed m c.args.end (length c.args.ports.items) v c.in-Ok.session.front old (g.D.SectorDisk.state c.in-Ok.session.log.disk)
     c.in-Ok.ensures.replayed (kept-on _ _ _ _ v.time c.in-Ok.session.front.time old _ model_is end_is begun.crashes begun.recovers) (running g.M.Model.meaning g.P.Port.state c.in-Ok.session) model_is end_is (map move_of (take c.in-Ok-drive.done c.args.steps.now))
     (running g.M.Model.meaning g.P.Port.state c.drive.new.self) c.drive.new.self.front (g.D.SectorDisk.state c.drive.new.self.log.disk)
     (λ recovers. c.in-Ok.ensures.consistent (genuine recovers) are_faithful) (λ consistent. made-all c.in-Ok-drive.done c.args.steps.now _ _ c.in-Ok-drive.ensures.count (c.in-Ok-drive.ensures.made consistent)) refl
-    (λ recovers. driven-on _ _ _ _ c.in-Ok.session.front c.drive.new.self.front c.in-Ok.session.log _ _ model_is end_is (c.drive.ensures.keeps.crashes (c.in-Ok.ensures.consistent (genuine recovers) are_faithful).0) (c.in-Ok.ensures.written (genuine recovers))))
+    (λ recovers. driven-on _ _ _ _ c.in-Ok.session.front c.drive.new.self.front c.in-Ok.session.log _ _ model_is end_is (c.drive.ensures.keeps.crashes (all-trusted (any_trusts c.args.steps.now) _ (c.in-Ok.ensures.consistent (genuine recovers) are_faithful).0)) (c.in-Ok.ensures.written (genuine recovers))))
 
 pub returns-in-Err-drive-clause-kept : goal.returns-in-Err-drive-clause-kept
 returns-in-Err-drive-clause-kept g c = λ are_faithful v.
@@ -35,11 +37,11 @@ returns-in-Err-drive-clause-kept g c = λ are_faithful v.
     let genuine = λ (recovers : RecoversUnderItsEnd m v.time old). reads-genuine m v.time c.args.end old c.in-Ok.session.front (g.met.M.Model.lawful c.args.model.now) (g.met.D.SectorDisk.sound c.args.disk) recovers c.in-Ok.ensures.replayed in
     let model_is = ap g.M.Model.meaning c.in-Ok.ensures.same.0 in
     let end_is = c.in-Ok.ensures.same.1 in
-    let begun = c.in-Ok.ensures.begun are_faithful v in
+    let begun = c.in-Ok.ensures.begun v in
     let stopped = c.in-Err-drive.ensures.stopped in
     rw (c.left-in-Err-drive.ensures)
     (resumed m c.args.end (length c.args.ports.items) v c.in-Ok.session.front old (g.D.SectorDisk.state c.in-Ok.session.log.disk)
     c.in-Ok.ensures.replayed (kept-on _ _ _ _ v.time c.in-Ok.session.front.time old _ model_is end_is begun.crashes begun.recovers) (running g.M.Model.meaning g.P.Port.state c.in-Ok.session) model_is end_is (map move_of (take c.in-Err-drive.field-0.done c.args.steps.now))
     (running g.M.Model.meaning g.P.Port.state stopped.made) c.drive.new.self.front (g.D.SectorDisk.state c.drive.new.self.log.disk)
     (λ recovers. c.in-Ok.ensures.consistent (genuine recovers) are_faithful) (λ consistent. stopped.moves consistent) (stopped-front _ _ _ _ _ _ _ stopped)
-    (λ recovers. driven-on _ _ _ _ c.in-Ok.session.front c.drive.new.self.front c.in-Ok.session.log _ _ model_is end_is (c.drive.ensures.keeps.crashes (c.in-Ok.ensures.consistent (genuine recovers) are_faithful).0) (c.in-Ok.ensures.written (genuine recovers))))
+    (λ recovers. driven-on _ _ _ _ c.in-Ok.session.front c.drive.new.self.front c.in-Ok.session.log _ _ model_is end_is (c.drive.ensures.keeps.crashes (all-trusted (any_trusts c.args.steps.now) _ (c.in-Ok.ensures.consistent (genuine recovers) are_faithful).0)) (c.in-Ok.ensures.written (genuine recovers))))

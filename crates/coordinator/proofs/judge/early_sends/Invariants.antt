@@ -1,0 +1,8 @@
+use Rattle.std.proofs.Common.{◌≡◌, ◌++◌, drop}
+use Rattle.protocol.specs.Judged.{early}
+use Rattle.protocol.specs.Moves.{reported_before}
+use Rattle.protocol.specs.System.{reported_sends}
+use Rattle.coordinator.proofs.judge.early_sends.Given as goal
+
+abbrev pub invariant-loop-done : goal.invariant-loop-done
+invariant-loop-done l = l.sent.items ++ early l.time (reported_sends (reported_before l.time (drop l.done-index l.gathered))) ≡ early l.time (reported_sends (reported_before l.time l.gathered))
