@@ -15,6 +15,7 @@ mod device;
 mod ends;
 mod faults;
 mod memory;
+mod mended;
 mod old_disks;
 mod stops;
 
