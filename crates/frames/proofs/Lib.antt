@@ -7,6 +7,8 @@ pub mod Filling
 pub mod Formats
 pub mod Frames
 pub mod Halfway
+pub mod Greetings
+pub mod Hellos
 pub mod Items
 pub mod Places
 pub mod Raws

@@ -5,8 +5,11 @@ pub mod Cutting  -- the frame that is first in a stream, or the fault there
 pub mod Streams  -- readers whose bytes contracts see
 pub mod Encoding  -- what an encoder returns
 pub mod Laws  -- each frame has one encoding
+pub mod Hellos  -- the first frame of a run: its encoding, and what is first in a stream
+pub mod HelloLaws  -- each hello has one encoding
 -- For callers: the served text, and what `serve` returns.
 pub mod Serving  -- the served text, by the model, the limit, the bytes and the turns without memory
 pub mod Outcomes  -- what `serve` returns, writes and reads
+pub mod Greeted  -- the same behind a hello
 -- Internal: what the loop does with one frame.
 pub mod Reactions

@@ -1,6 +1,7 @@
 // Laws of frames, as contracts of functions that do nothing.
 
 ghost use Rattle.frames.specs.Laws.{BodiesAreCanonical, FramesAreReadBack, FramesAreReadWhole};
+ghost use Rattle.frames.specs.HelloLaws.{HellosAreCanonical, HellosAreReadBack};
 ghost use Rattle.frames.specs.Laws.{FramesAreCanonical, NoByteIsLeftOver};
 
 /// Each frame has one encoding: what is written is read back, whatever follows, and what is read
@@ -15,4 +16,10 @@ pub fn law_of_frames()
 pub fn law_of_bodies()
     ensures encoded { BodiesAreCanonical }
     ensures whole { NoByteIsLeftOver }
+{}
+
+/// Each hello has one encoding, which is read back whatever follows.
+pub fn law_of_hellos()
+    ensures again { HellosAreReadBack }
+    ensures encoded { HellosAreCanonical }
 {}

@@ -4,6 +4,9 @@
 
 ghost use Rattle.std.specs.Prelude.{◌≡◌};
 
+mod first_frame;
+mod greeted;
+mod greeting;
 mod laws;
 mod node_loop;
 mod output;
@@ -14,7 +17,10 @@ mod single;
 mod stream;
 mod writing;
 
-pub use laws::{law_of_bodies, law_of_frames};
+pub use first_frame::{First, read_first, read_hello_frame};
+pub use greeted::{Ending, serve_greeted};
+pub use greeting::{FRAMES_FORMAT, Hello, encode_hello, read_hello};
+pub use laws::{law_of_bodies, law_of_frames, law_of_hellos};
 use node::{Load, NodeFault, Parcel, Reply};
 pub use node_loop::serve;
 pub use output::write_all;

@@ -29,7 +29,7 @@ pub struct Raw {
 }
 
 /// Reads until the buffer is full or the input has ended. Returns the number of bytes read.
-fn fill<R: Read>(reader: &mut R, buffer: &mut [u8]) -> io::Result<usize>
+pub(crate) fn fill<R: Read>(reader: &mut R, buffer: &mut [u8]) -> io::Result<usize>
     ensures bound { IfOk result (λ n. n ≤ length buffer.new) }
     ensures bytes { IfOk result (λ n. Consumes (R.remaining reader.old) (R.remaining reader.new)
         (take n buffer.new)) }
@@ -57,7 +57,7 @@ fn fill<R: Read>(reader: &mut R, buffer: &mut [u8]) -> io::Result<usize>
 
 /// Reads `count` bytes; `None` if the input ends before. The memory that it takes grows with the
 /// bytes that arrive.
-fn read_bytes<R: Read>(
+pub(crate) fn read_bytes<R: Read>(
     alloc: Global,
     reader: &mut R,
     count: usize,
