@@ -127,7 +127,7 @@ fn follow<M: Simulated>(
     Ok(true)
 }
 
-/// No report yet, for so many processes.
+/// A list without any report yet, one entry for each process.
 fn none_yet<'d>(alloc: Global, processes: usize) -> Result<Vec<Option<&'d Done>>, AllocError>
     ensures { IfOk result (λ latest. latest.items ≡ replicate processes None) }
 {

@@ -15,7 +15,7 @@ use wire::WireFault;
 /// How a node's loop ended without a fault.
 #[derive(Drop)]
 pub enum Ending {
-    /// It wrote so many replies.
+    /// The number of replies that it wrote.
     Replies(u64),
     /// The run takes part in this other simulation, and was answered so.
     OtherModel(Hello),

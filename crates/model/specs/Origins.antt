@@ -1,4 +1,4 @@
--- A simulation that goes on from a world of another one (this project's profile). What it does is
+-- A simulation that goes on from a world of another one. What it does is
 -- what the other one does from that world on.
 use Rattle.std.specs.Prelude.{ℕ, List, [], ◌∷◌, ◌++◌, ◌+◌, ◌≡◌, ◌≤◌, ◌^◌, length, Option, Some, None}
 use Rattle.eventkey.specs.Message.{Message}

@@ -13,6 +13,7 @@ use std::alloc::Global;
 
 /// A model whose simulation begins with an origin. Without one it is the model itself. It owns
 /// neither of the two.
+#[derive(Drop)]
 pub struct Continued<'m, M: Simulated> {
     /// The model.
     pub model: &'m M,

@@ -124,7 +124,7 @@ fn of_time(time: u64) -> Row {
     [time, 1, time, 1, 0, 0, 0, 0]
 }
 
-/// Lets messages or antimessages of every so many of 200 times from 1 to 211, in mixed order, arrive.
+/// Lets messages or antimessages of some of 200 times from 1 to 211, in mixed order, arrive.
 /// Returns whether each has this answer.
 fn all_arrive(
     rt: &impl Abort,

@@ -144,8 +144,8 @@ impl<const K: usize> Counting<K> {
     }
 }
 
-/// Whether so many kept states are enough for so many records, and not too many, if one state in
-/// `each` is kept.
+/// Whether `saved` kept states are enough for `len` records, and not too many, if one state in `each`
+/// is kept.
 fn is_sparse(len: usize, saved: usize, each: usize) -> bool {
     let enough = len.checked_div(each).unwrap_or(0);
     saved <= enough.saturating_add(2) && len <= saved.saturating_mul(each)

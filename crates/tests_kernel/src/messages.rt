@@ -54,7 +54,7 @@ fn each_field_of_a_message_has_its_bytes(rt: HostRuntime) -> Result<(), Fail> {
     Ok(())
 }
 
-/// Whether so many bytes of a message are too few.
+/// Whether each of these counts of bytes is too few for a message.
 fn are_too_few(counts: [usize; 3]) -> bool {
     for count in counts {
         if get_message(ENCODED.split_at(count.min(56)).0) != Err(KeyFault::Short) {
@@ -64,7 +64,7 @@ fn are_too_few(counts: [usize; 3]) -> bool {
     true
 }
 
-/// Whether so many bytes are too few for a message with its sign.
+/// Whether each of these counts of bytes is too few for a message with its sign.
 fn are_too_few_for_signed(counts: [usize; 3]) -> bool {
     for count in counts {
         if get_signed([2; 57].split_at(count.min(57)).0) != Err(KeyFault::Short) {

@@ -81,14 +81,7 @@ fn front_on(
     recover(alloc, model, &mut log, END)
 }
 
-fn finish(model: Continued<'_, TokenRing>) {
-    let Continued {
-        model: _model,
-        origin: _origin,
-    } = model;
-}
-
-/// Goes on from the front of an image with so many commits, each of one event at least, and appends
+/// Goes on from the front of an image with this number of commits, each of one event at least, and appends
 /// its events to `joined`. Returns the new front.
 fn part(
     alloc: Global,
@@ -108,7 +101,6 @@ fn part(
     };
     let ran = run_plain(alloc, &model, log.into_disk(), END, plan, &mut Nobody);
     let found = front_on(alloc, &model, ran.disk);
-    finish(model);
     let front = found?;
     joined.extend_from_slice(front.log.as_slice())?;
     Ok(front)
@@ -125,7 +117,7 @@ fn next(alloc: Global, front: &Front) -> Result<(bool, Vec<u8>), Fail> {
     }
 }
 
-/// Whether parts of so many commits, one after another, are the simulation on one disk.
+/// Whether parts of this number of commits, one after another, are the simulation on one disk.
 fn is_one_simulation(alloc: Global, commits: u32) -> Result<bool, Fail> {
     let mut events = Vec::new(alloc);
     let whole = part(alloc, blank(alloc)?, u32::MAX, &mut events)?;
@@ -168,7 +160,6 @@ fn is_of_front(alloc: Global, left: Vec<u8>, made: Vec<u8>, front: &Front) -> Re
     let origin = origin_of(alloc, &ring, &mut log)?;
     let model = Continued::new(&ring, origin.as_ref());
     let found = front_on(alloc, &model, disk);
-    finish(model);
     let found = found?;
     Ok(
         (found.g == 0 || found.g == front.g)

@@ -19,7 +19,7 @@ pub(crate) enum Call {
 /// ended.
 #[derive(Drop)]
 pub(crate) struct Calls {
-    /// Where the bytes go, at most so many per call.
+    /// Where the bytes go, at most this number per call.
     file: Option<(File, usize)>,
     fail: u64,
     count: Cell<u64>,

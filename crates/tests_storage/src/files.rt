@@ -269,7 +269,7 @@ fn a_file_opens_after_an_allocation_failure(rt: HostRuntime) -> Result<(), Fail>
 /// A number of sectors to grow to, the limit, the fault, and the number of sectors after it.
 type Growth = (u32, u32, Option<GrowthFault>, u32);
 
-/// Whether each of these calls has this fault, and leaves so many sectors in the disk and its file.
+/// Whether each of these calls has this fault, and leaves this number of sectors in the disk and its file.
 fn grow_so(
     rt: &HostRuntime,
     path: &PathBuf,
