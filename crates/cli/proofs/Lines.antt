@@ -14,15 +14,16 @@ use Rattle.clap.specs.Kinds.{FailsBy, HasKind, Kinds, or_else}
 use Rattle.clap.specs.Matches.{ReadsOne}
 use Rattle.clap.specs.Simple.{argument_words, built, entered, is_simple, label_of, names_of, rows_at}
 use Rattle.clap.specs.ValueTests.{accepts}
-use Rattle.clap.specs.Words.{App, Row, Rule, Text, fault_of, found_of, rows_of, rule_of, subcommand_name_of, subcommand_of, subcommand_rows_of, with_rule, with_subcommand}
+use Rattle.clap.specs.Words.{App, Row, Rule, Text, app_of, fault_of, found_of, rows_of, rule_of, subcommand_name_of, subcommand_of, subcommand_rows_of, with_rule, with_subcommand}
 use Rattle.clap.specs.Walk.{answers_to, stop_after}
 use Rattle.clap.specs.declared.builder.command.Command.{Command as ClapCommand}
+use Rattle.clap.specs.declared.builder.command.Command.TheViews.{out-Command}
 use Rattle.clap.specs.declared.builder.arg.Arg.{Arg}
 use Rattle.clap.specs.declared.error.Error.{Error}
 use Rattle.clap.specs.declared.builder.value_parser.ValueParser.TheVariants.{Unsigned}
 use Rattle.clap.specs.declared.parser.matches.ArgMatches.{ArgMatches}
 use Rattle.clap.specs.declared.parser.matches.ArgMatches.TheViews.{out-ArgMatches, out-SubCommand}
-use Rattle.cli.specs.Command.{AddsArgument, AddsCommand, IsApp, IsNamed, number_of, program_of, refusal_of, unread_fault, value_fault}
+use Rattle.cli.specs.Command.{AddsArgument, AddsCommand, AddsRule, IsApp, IsNamed, number_of, program_of, refusal_of, unread_fault, value_fault}
 
 pub program_is_simple : (called : Text) → is_simple (program_of called) ≡ true
 unfolding program_of clap_on_literals
@@ -90,6 +91,10 @@ pub now_or : (o : Option (Bor (List ℕ))) (d : Bor (List ℕ)) → (unwrap_or o
 now_or None d = refl
 now_or (Some s) d = refl
 
+or_false : (b : Bool) → (b || false) ≡ b
+or_false false = refl
+or_false true = refl
+
 module _ {E : Type 0} where
   -- a command with one more argument, which is not global
   pub argument_added : (command result : Result ClapCommand E) (argument : Arg) (app : App) (rule : Rule) → IfOk result (AddsArgument command argument) → IfOk command (IsApp app)
@@ -98,6 +103,20 @@ module _ {E : Type 0} where
   argument_added (Err e) (Ok new) argument app rule adds is says local = absurd adds
   argument_added (Ok old) (Ok new) argument app rule adds is says local =
       (adds.shape local ∙ ap₂ with_rule is.0 says, adds.globals ∙ ap₂ (λ (x : Bool) (y : Bool). x || y) is.1 local)
+
+  -- what an argument that is not global adds
+  pub rule_added : (command result : Result ClapCommand E) (argument : Arg) (rule : Rule) → IfOk result (AddsArgument command argument) → rule_of argument ≡ rule → argument.global ≡ false
+      → IfOk result (AddsRule command rule)
+  rule_added command (Err e) argument rule adds says local = tt
+  rule_added (Err e) (Ok new) argument rule adds says local = absurd adds
+  rule_added (Ok old) (Ok new) argument rule adds says local =
+      (adds.shape local ∙ ap (with_rule (app_of old)) says, adds.globals ∙ ap (λ (y : Bool). (out-Command old).has_globals || y) local ∙ or_false ((out-Command old).has_globals))
+
+  -- a command with one more option
+  pub option_added : (command result : Result ClapCommand E) (app : App) (given rule : Rule) → IfOk result (AddsRule command given) → IfOk command (IsApp app) → given ≡ rule → IfOk result (IsApp (with_rule app rule))
+  option_added command (Err e) app given rule adds is says = tt
+  option_added (Err e) (Ok new) app given rule adds is says = absurd adds
+  option_added (Ok old) (Ok new) app given rule adds is says = (adds.0 ∙ ap₂ with_rule is.0 says, adds.1 ∙ is.1)
 
   -- a program with one more command
   pub command_added : (above command result : Result ClapCommand E) (app added : App) → IfOk result (AddsCommand above command) → IfOk above (IsApp app) → IfOk command (IsApp added)

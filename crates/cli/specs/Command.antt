@@ -24,8 +24,9 @@ use Rattle.clap.specs.declared.error.kind.ErrorKind.TheVariants.{ValueValidation
 use Rattle.cli.specs.declared.command.BatchOption.{BatchOption}
 use Rattle.cli.specs.declared.command.BatchOption.TheVariants.{Auto, Fixed}
 use Rattle.cli.specs.declared.command.Command.{Command}
-use Rattle.cli.specs.declared.command.Command.TheVariants.{Check, Draw, Extend, Grow, Log, Migrate}
-use Rattle.cli.specs.declared.command.Command.TheVariants.{New, Node, Reopen, Run, Seq, Show, Stats, Status, Verify}
+use Rattle.cli.specs.declared.command.Command.TheVariants.{Check, Cut, Draw, Extend, Grow, Log}
+use Rattle.cli.specs.declared.command.Command.TheVariants.{Migrate, New, Node, Recover, Reopen, Run}
+use Rattle.cli.specs.declared.command.Command.TheVariants.{Seq, Show, Stats, Status, Verify}
 use Rattle.cli.specs.declared.command.DiskArgs.{DiskArgs}
 use Rattle.cli.specs.declared.command.DrawArgs.{DrawArgs}
 use Rattle.cli.specs.declared.command.GrowArgs.{GrowArgs}
@@ -34,10 +35,12 @@ use Rattle.cli.specs.declared.command.MigrateArgs.{MigrateArgs}
 use Rattle.cli.specs.declared.command.ModelArgs.{ModelArgs}
 use Rattle.cli.specs.declared.command.NewArgs.{NewArgs}
 use Rattle.cli.specs.declared.command.NodeArgs.{NodeArgs}
+use Rattle.cli.specs.declared.command.RecoverArgs.{RecoverArgs}
 use Rattle.cli.specs.declared.command.RunArgs.{RunArgs}
 use Rattle.cli.specs.declared.command.ShowArgs.{ShowArgs}
 use Rattle.cli.specs.declared.command.SourceArgs.{SourceArgs}
 use Rattle.cli.specs.declared.command.StatsArgs.{StatsArgs}
+use Rattle.cli.specs.declared.command.VerifyArgs.{VerifyArgs}
 
 -- ---- the arguments
 
@@ -107,6 +110,10 @@ flag name = record (new_rule name) { long = Some name; action = Some SetTrue }
 abbrev pub advice_option : Rule
 advice_option = flag (codes "advice")
 
+-- no line follows a fault
+abbrev pub quiet_option : Rule
+quiet_option = flag (codes "quiet")
+
 -- disks may be large ones
 abbrev pub large_option : Rule
 large_option = flag (codes "large")
@@ -117,10 +124,12 @@ reserve_option = flag (codes "reserve")
 
 -- ---- the commands
 
--- a command on a model file, with or without advice
+-- a command on a model file, with or without advice, or quiet
 abbrev pub on_model : Text → App
-on_model name =
-    with_rule (with_rule (new_app name) (path_argument (codes "MODEL"))) advice_option
+on_model name = with_rule (with_rule (with_rule (new_app name)
+    (path_argument (codes "MODEL")))
+    advice_option)
+    quiet_option
 
 -- a command on a model file and a disk
 abbrev pub on_disk : Text → App
@@ -130,11 +139,18 @@ on_disk name = with_rule (on_model name) (path_argument (codes "DISK"))
 abbrev pub on_any_disk : Text → App
 on_any_disk name = with_rule (on_disk name) large_option
 
--- a disk with its number of sectors, whose file may get its whole room; it may be a large one
+-- the disk from whose committed world a new one goes on
+abbrev pub origin_option : Rule
+origin_option = record (optional_text (codes "origin")) { long = Some (codes "from") }
+
+-- a disk with its number of sectors, whose file may get its whole room, or hold other bytes; the
+-- disk that it goes on from, if any; it may be a large one
 abbrev pub new_command : App
-new_command = with_rule (with_rule (with_rule (on_disk (codes "new"))
+new_command = with_rule (with_rule (with_rule (with_rule (with_rule (on_disk (codes "new"))
     (text_option (codes "sectors") (codes "4096")))
     reserve_option)
+    (flag (codes "over")))
+    origin_option)
     large_option
 
 -- the number of sectors of a disk that a run makes
@@ -145,46 +161,58 @@ created_option = record (any_text (codes "created")) { long = Some (codes "secto
 abbrev pub reserved_option : Rule
 reserved_option = record (flag (codes "reserved")) { long = Some (codes "reserve") }
 
--- how a run is made: 1 to 64 nodes; a batch; 1 to 2^32 - 1 rounds; a checkpoint every 1 to 1,000,000
--- commits, with a seal or not; a commit for 1 to 400,000 events; without nodes
+-- how a run is made: 1 to 64 nodes; a batch; nodes that work at the same time, or also while
+-- replies are taken; without nodes
 abbrev pub run_made : App
-run_made = with_rule (with_rule (with_rule (with_rule (with_rule (with_rule (with_rule
+run_made = with_rule (with_rule (with_rule (with_rule (with_rule
     (on_disk (codes "run")) (optional_number (codes "nodes") 1 64))
     (any_text (codes "batch")))
-    (number_option (codes "rounds") 1 4294967295 (codes "1000000")))
-    (optional_number (codes "checkpoint") 1 1000000))
-    (flag (codes "seal")))
-    (optional_number (codes "commit-every") 1 400000))
-    (flag (codes "plain"))
-
--- and over which node programs: the folder of their sockets; the node that is cut short; nodes that
--- work at the same time, or also while replies are taken; programs that are awaited instead of
--- started, or have a processor each; which of their reports are judged; after how many seconds of
--- silence they are lost; and how often the run is then begun again
-abbrev pub run_apart : App
-run_apart = with_rule (with_rule (with_rule (with_rule (with_rule (with_rule (with_rule
-    (with_rule (with_rule run_made (optional_text (codes "sockets")))
-    (optional_number (codes "cut") 0 4294967295))
     (flag (codes "together")))
     (flag (codes "overlap")))
+    (flag (codes "plain"))
+
+-- and over which node programs: the folder of their sockets; programs that are awaited instead of
+-- started, or have a processor each; which of their reports are judged; after how many seconds of
+-- silence they are lost; and the node that is cut short
+abbrev pub run_apart : App
+run_apart = with_rule (with_rule (with_rule (with_rule (with_rule (with_rule
+    run_made (optional_text (codes "sockets")))
     (flag (codes "attach")))
     (flag (codes "bind")))
-    (optional_number (codes "judge") 0 4294967295))
+    (any_text (codes "judge")))
     (optional_number (codes "silence") 1 86400))
-    (optional_number (codes "retries") 0 1000000)
+    (optional_number (codes "cut") 0 4294967295)
 
--- and with what beside it: the file of a trace; the file that ends the run; a line of progress every
--- 1 to 86,400 seconds; a disk that is made longer where it is full, or made if it is not there, its
--- number of sectors, and whether its file gets its whole room; and the disk may be a large one
-abbrev pub run_command : App
-run_command = with_rule (with_rule (with_rule (with_rule (with_rule (with_rule (with_rule
-    (with_rule run_apart (optional_text (codes "trace")))
-    (optional_text (codes "stop-file")))
-    (optional_number (codes "progress") 1 86400))
-    (flag (codes "grow-when-full")))
-    (flag (codes "create")))
+-- and what it writes to its disk: a commit for 1 to 400,000 events, a checkpoint every 1 to
+-- 1,000,000 commits, with a seal or not
+abbrev pub run_kept : App
+run_kept = with_rule (with_rule (with_rule run_apart
+    (optional_number (codes "commit-every") 1 400000))
+    (optional_number (codes "checkpoint") 1 1000000))
+    (flag (codes "seal"))
+
+-- and on which disk: one that is made if it is not there, with its number of sectors, whose file
+-- may get its whole room; that is archived where it is full, with the number of parts that are
+-- kept, or made longer
+abbrev pub run_stored : App
+run_stored = with_rule (with_rule (with_rule (with_rule (with_rule (with_rule
+    run_kept (flag (codes "create")))
     created_option)
     reserved_option)
+    (flag (codes "archive-when-full")))
+    (optional_number (codes "keep") 0 4294967295))
+    (flag (codes "grow-when-full"))
+
+-- and for how long, and with what beside it: a number of rounds; how often it is begun again; the
+-- file that ends it; a line of progress every 1 to 86,400 seconds; the file of a trace; and the
+-- disk may be a large one
+abbrev pub run_command : App
+run_command = with_rule (with_rule (with_rule (with_rule (with_rule (with_rule
+    run_stored (text_option (codes "rounds") (codes "1000000")))
+    (optional_number (codes "retries") 0 1000000))
+    (optional_text (codes "stop-file")))
+    (optional_number (codes "progress") 1 86400))
+    (optional_text (codes "trace")))
     large_option
 
 -- a disk with the number of sectors that it then has; it may be a large one
@@ -201,6 +229,20 @@ migrate_command = with_rule (with_rule (with_rule (with_rule (with_rule
     (path_argument (codes "NEW")))
     (text_option (codes "sectors") (codes "4096")))
     reserve_option)
+    large_option
+
+-- a damaged disk, and a new disk with its number of sectors, whose file may get its whole room;
+-- both may be large ones
+abbrev pub recover_command : App
+recover_command = with_rule (with_rule (with_rule (with_rule (on_disk (codes "recover"))
+    (path_argument (codes "NEW")))
+    (text_option (codes "sectors") (codes "4096")))
+    reserve_option)
+    large_option
+
+-- a disk, and the disk that it goes on from, if any; both may be large ones
+abbrev pub verify_command : App
+verify_command = with_rule (with_rule (on_disk (codes "verify")) (optional_text (codes "after")))
     large_option
 
 -- the model's names are printed
@@ -262,13 +304,13 @@ without_commands called = record (new_app called) {
 -- the program of this name
 unfoldable pub program_of : Text → App
 program_of called = with_subcommand (with_subcommand (with_subcommand (with_subcommand
-    (with_subcommand (with_subcommand
+    (with_subcommand (with_subcommand (with_subcommand (with_subcommand
     (with_subcommand (with_subcommand (with_subcommand (with_subcommand (with_subcommand
     (with_subcommand (with_subcommand (with_subcommand (with_subcommand (without_commands called)
     new_command.top) run_command.top) (on_any_disk (codes "extend")).top)
     grow_command.top) migrate_command.top)
-    (on_any_disk (codes "reopen")).top) (on_any_disk (codes "status")).top)
-    (on_any_disk (codes "verify")).top) log_command.top) show_command.top)
+    (on_any_disk (codes "reopen")).top) (on_any_disk (codes "cut")).top) recover_command.top)
+    (on_any_disk (codes "status")).top) verify_command.top) log_command.top) show_command.top)
     stats_command.top) draw_command.top) (on_model (codes "seq")).top)
     (on_model (codes "check")).top) node_command.top
 
@@ -292,6 +334,10 @@ says_large = says_flag (codes "--large")
 abbrev pub says_advice : List Text → Bool
 says_advice = says_flag (codes "--advice")
 
+-- faults are to be printed without their causes
+abbrev pub says_quiet : List Text → Bool
+says_quiet = says_flag (codes "--quiet")
+
 -- ---- building them
 
 -- the command reads words as `app` does, and has no global arguments
@@ -301,6 +347,11 @@ IsApp app command = (app_of command ≡ app) × ((out-Command command).has_globa
 -- the command, if it is there, with this argument added
 abbrev pub AddsArgument : {E : Type 0} → Result ClapCommand E → Arg → ClapCommand → Type 0
 AddsArgument command argument new = IsOkAnd command (λ old. AddsArg old argument new)
+
+-- the command, if it is there, with an argument by this rule added, which is not global
+abbrev pub AddsRule : {E : Type 0} → Result ClapCommand E → Rule → ClapCommand → Type 0
+AddsRule command rule new = IsOkAnd command (λ old. (app_of new ≡ with_rule (app_of old) rule)
+    × ((out-Command new).has_globals ≡ (out-Command old).has_globals))
 
 -- the program, if it is there, with this command added, which is there too
 abbrev pub AddsCommand
@@ -343,6 +394,17 @@ abbrev pub batch_in : List Row → BatchOption
 batch_in rows = if is_text (first_of (codes "batch") rows) (codes "auto") then Auto
     else Fixed (number_or (codes "batch") 1 4294967295 16 rows)
 
+-- the maximum number of rounds: `unlimited`, which is the most of all, or a number
+abbrev pub rounds_in : List Row → ℕ
+rounds_in rows = if is_text (first_of (codes "rounds") rows) (codes "unlimited") then 4294967295
+    else number_in (codes "rounds") 1 4294967295 rows
+
+-- one in how many reported events is judged, if that is said: `all`, which is one in one, or a
+-- number
+abbrev pub judge_in : List Row → Option ℕ
+judge_in rows = if is_text (first_of (codes "judge") rows) (codes "all") then Some 1
+    else optional_number_in (codes "judge") 0 4294967295 rows
+
 -- ---- a range of processes
 
 -- the number in the text, if it is one below 2^32
@@ -371,10 +433,10 @@ range_of text = range_between (before_first (λ b. b == 46) text) (after_first (
 abbrev pub is_number : ℕ → ℕ → Text → Bool
 is_number least most text = accepts true (Unsigned least most) text
 
--- a batch that is neither `auto` nor a number from 1 to 2^32 - 1
-abbrev pub is_no_batch : Option Text → Bool
-is_no_batch None = false
-is_no_batch (Some text) = not (bytes_eq text (codes "auto") || is_number 1 4294967295 text)
+-- a text that is neither this word nor a number from `least` to 2^32 - 1
+abbrev pub is_no_count : Text → ℕ → Option Text → Bool
+is_no_count word least None = false
+is_no_count word least (Some text) = not (bytes_eq text word || is_number least 4294967295 text)
 
 -- a number of sectors that no disk has, large or not
 abbrev pub is_no_size : Bool → Option Text → Bool
@@ -400,9 +462,21 @@ abbrev pub has_no_size : List Row → Bool
 has_no_size rows = is_no_size (is_used (codes "large") rows) (first_of (codes "sectors") rows)
     || is_no_size (is_used (codes "large") rows) (first_of (codes "created") rows)
 
--- the errors for a batch or a number of sectors, which clap takes as any text
+-- a number of rounds is neither `unlimited` nor a number from 1 on, or that of the events of which
+-- one is judged neither `all` nor a number
+abbrev pub has_no_count_of_run : List Row → Bool
+has_no_count_of_run rows = is_no_count (codes "unlimited") 1 (first_of (codes "rounds") rows)
+    || is_no_count (codes "all") 0 (first_of (codes "judge") rows)
+
+-- or a batch is neither `auto` nor a number from 1 on
+abbrev pub has_no_count : List Row → Bool
+has_no_count rows = is_no_count (codes "auto") 1 (first_of (codes "batch") rows)
+    || has_no_count_of_run rows
+
+-- the errors for numbers that clap takes as any text, because a word can stand in their place, or
+-- because their range depends on another option
 abbrev pub number_fault : List Row → Kinds
-number_fault rows = if is_no_batch (first_of (codes "batch") rows) || has_no_size rows
+number_fault rows = if has_no_count rows || has_no_size rows
     then ValueValidation ∷ [] else []
 
 -- the errors for a range or a format, which clap takes as any text too
@@ -434,9 +508,18 @@ abbrev pub is_without_checkpoint : List Row → Bool
 is_without_checkpoint rows = not (is_there (codes "checkpoint") rows)
     && is_used (codes "seal") rows
 
+-- a number of archived parts is given, but none are made
+abbrev pub is_without_archive : List Row → Bool
+is_without_archive rows = not (is_used (codes "archive-when-full") rows)
+    && is_there (codes "keep") rows
+
+-- something is said of seals or archived parts, but the run makes none of them
+abbrev pub is_without_record : List Row → Bool
+is_without_record rows = is_without_checkpoint rows || is_without_archive rows
+
 -- an option, apart from those of node programs, says nothing without another one
 abbrev pub is_without_another : List Row → Bool
-is_without_another rows = is_without_create rows || is_without_checkpoint rows
+is_without_another rows = is_without_create rows || is_without_record rows
 
 -- an option says nothing without another one
 abbrev pub is_lonely : List Row → Bool
@@ -451,11 +534,22 @@ is_over_nodes rows = is_there (codes "nodes") rows || (is_there (codes "batch") 
     || (is_there (codes "sockets") rows || (is_there (codes "cut") rows
     || (is_used (codes "together") rows || is_used (codes "overlap") rows))))
 
--- options of a run exclude one another
-abbrev pub is_excluded : List Row → Bool
-is_excluded rows = (is_used (codes "together") rows && is_used (codes "overlap") rows)
+-- options of a run over nodes exclude one another
+abbrev pub is_excluded_over_nodes : List Row → Bool
+is_excluded_over_nodes rows = (is_used (codes "together") rows && is_used (codes "overlap") rows)
     || ((is_used (codes "attach") rows && is_used (codes "bind") rows)
     || (is_used (codes "plain") rows && is_over_nodes rows))
+
+-- options of any run, or of any command, exclude one another: what is done where a disk is full,
+-- and what is printed of a fault
+abbrev pub is_excluded_anywhere : List Row → Bool
+is_excluded_anywhere rows =
+    (is_used (codes "archive-when-full") rows && is_used (codes "grow-when-full") rows)
+    || (is_used (codes "advice") rows && is_used (codes "quiet") rows)
+
+-- options exclude one another
+abbrev pub is_excluded : List Row → Bool
+is_excluded rows = is_excluded_over_nodes rows || is_excluded_anywhere rows
 
 abbrev pub excluded_fault : List Row → Kinds
 excluded_fault rows = if is_excluded rows then ArgumentConflict ∷ [] else []
@@ -537,12 +631,14 @@ SaysTimes from to rows = (from ≡ optional_number_in (codes "from") 0 109951162
 abbrev pub SaysNew : NewArgs → List Row → Type 0
 SaysNew args rows = SaysDisk args.on rows × SaysSectors args.sectors args.on.large rows
     × IsFlagIn (codes "reserve") rows args.reserve
+    × IsFlagIn (codes "over") rows args.over
+    × (option_map (λ path. path.now) args.from ≡ first_of (codes "origin") rows)
 
 abbrev pub SaysRun : RunArgs → List Row → Type 0
 SaysRun args rows = SaysDisk args.on rows
     × (args.nodes ≡ number_or (codes "nodes") 1 64 1 rows)
     × (args.batch ≡ batch_in rows)
-    × (args.rounds ≡ number_in (codes "rounds") 1 4294967295 rows)
+    × (args.rounds ≡ rounds_in rows)
     × (args.checkpoint ≡ optional_number_in (codes "checkpoint") 1 1000000 rows)
     × IsFlagIn (codes "seal") rows args.seal
     × (args.commit_every ≡ optional_number_in (codes "commit-every") 1 400000 rows)
@@ -553,10 +649,12 @@ SaysRun args rows = SaysDisk args.on rows
     × IsFlagIn (codes "plain") rows args.plain
     × IsFlagIn (codes "attach") rows args.attach
     × IsFlagIn (codes "bind") rows args.bind
-    × (args.judge ≡ optional_number_in (codes "judge") 0 4294967295 rows)
+    × (args.judge ≡ judge_in rows)
     × (args.silence ≡ optional_number_in (codes "silence") 1 86400 rows)
     × (args.retries ≡ optional_number_in (codes "retries") 0 1000000 rows)
     × IsFlagIn (codes "grow-when-full") rows args.grow_when_full
+    × IsFlagIn (codes "archive-when-full") rows args.archive_when_full
+    × (args.keep ≡ optional_number_in (codes "keep") 0 4294967295 rows)
     × (option_map (λ path. path.now) args.trace ≡ first_of (codes "trace") rows)
     × (option_map (λ path. path.now) args.stop_file ≡ first_of (codes "stop-file") rows)
     × (args.progress ≡ optional_number_in (codes "progress") 1 86400 rows)
@@ -575,6 +673,18 @@ SaysMigrate args rows = (args.model.now ≡ text_in (codes "MODEL") rows)
     × SaysSectors args.sectors args.large rows
     × IsFlagIn (codes "reserve") rows args.reserve
     × IsFlagIn (codes "large") rows args.large
+
+abbrev pub SaysRecover : RecoverArgs → List Row → Type 0
+SaysRecover args rows = (args.model.now ≡ text_in (codes "MODEL") rows)
+    × (args.old.now ≡ text_in (codes "DISK") rows)
+    × (args.new.now ≡ text_in (codes "NEW") rows)
+    × SaysSectors args.sectors args.large rows
+    × IsFlagIn (codes "reserve") rows args.reserve
+    × IsFlagIn (codes "large") rows args.large
+
+abbrev pub SaysVerify : VerifyArgs → List Row → Type 0
+SaysVerify args rows = SaysDisk args.on rows
+    × (option_map (λ path. path.now) args.after ≡ first_of (codes "after") rows)
 
 abbrev pub SaysLog : LogArgs → List Row → Type 0
 SaysLog args rows = SaysDisk args.on rows
@@ -610,8 +720,10 @@ SaysRows (Extend args) name rows = (name ≡ codes "extend") × SaysDisk args ro
 SaysRows (Grow args) name rows = (name ≡ codes "grow") × SaysGrow args rows
 SaysRows (Migrate args) name rows = (name ≡ codes "migrate") × SaysMigrate args rows
 SaysRows (Reopen args) name rows = (name ≡ codes "reopen") × SaysDisk args rows
+SaysRows (Cut args) name rows = (name ≡ codes "cut") × SaysDisk args rows
+SaysRows (Recover args) name rows = (name ≡ codes "recover") × SaysRecover args rows
 SaysRows (Status args) name rows = (name ≡ codes "status") × SaysDisk args rows
-SaysRows (Verify args) name rows = (name ≡ codes "verify") × SaysDisk args rows
+SaysRows (Verify args) name rows = (name ≡ codes "verify") × SaysVerify args rows
 SaysRows (Log args) name rows = (name ≡ codes "log") × SaysLog args rows
 SaysRows (Show args) name rows = (name ≡ codes "show") × SaysShow args rows
 SaysRows (Stats args) name rows = (name ≡ codes "stats") × SaysStats args rows
@@ -663,6 +775,7 @@ IsRanged (New args) = IsSized args.sectors args.on.large
 IsRanged (Run args) = IsRunRanged args
 IsRanged (Grow args) = IsSized args.sectors args.on.large
 IsRanged (Migrate args) = IsSized args.sectors args.large
+IsRanged (Recover args) = IsSized args.sectors args.large
 IsRanged (Log args) = IsLogRanged args
 IsRanged (Draw args) = IsDrawRanged args
 IsRanged (Node args) = 1 ≤ args.parcels
@@ -672,6 +785,7 @@ IsRanged _ = ⊤
 abbrev pub IsNamed : Text → Type 0
 IsNamed name = (name ≡ codes "new") ⊎ ((name ≡ codes "run") ⊎ ((name ≡ codes "extend")
     ⊎ ((name ≡ codes "grow") ⊎ ((name ≡ codes "migrate") ⊎ ((name ≡ codes "reopen")
+    ⊎ ((name ≡ codes "cut") ⊎ ((name ≡ codes "recover")
     ⊎ ((name ≡ codes "status") ⊎ ((name ≡ codes "verify") ⊎ ((name ≡ codes "log")
     ⊎ ((name ≡ codes "show") ⊎ ((name ≡ codes "stats") ⊎ ((name ≡ codes "draw")
-    ⊎ ((name ≡ codes "seq") ⊎ ((name ≡ codes "check") ⊎ (name ≡ codes "node"))))))))))))))
+    ⊎ ((name ≡ codes "seq") ⊎ ((name ≡ codes "check") ⊎ (name ≡ codes "node"))))))))))))))))

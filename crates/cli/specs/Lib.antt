@@ -1,2 +1,3 @@
 -- For callers
 pub mod Command  -- the command line
+pub mod Topics  -- what the words of `help` ask for

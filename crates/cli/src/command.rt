@@ -15,10 +15,14 @@ pub enum Command<'a> {
     Migrate(MigrateArgs<'a>),
     /// Open the gate of a disk's header again.
     Reopen(DiskArgs<'a>),
+    /// Take the records from the first one at fault on away from a disk.
+    Cut(DiskArgs<'a>),
+    /// Write the good records of a damaged disk to a new disk.
+    Recover(RecoverArgs<'a>),
     /// Print how far the run of a disk has come.
     Status(DiskArgs<'a>),
     /// Check all that a disk holds.
-    Verify(DiskArgs<'a>),
+    Verify(VerifyArgs<'a>),
     /// Print the committed events of a disk.
     Log(LogArgs<'a>),
     /// Print the committed world of a disk.
@@ -73,6 +77,11 @@ pub struct NewArgs<'a> {
     pub sectors: u32,
     /// Whether the disk's file gets its whole room on the device at once.
     pub reserve: bool,
+    /// Whether a file that holds other bytes is formatted.
+    pub over: bool,
+    /// The path of the disk whose committed world the new one goes on from; none for a disk that
+    /// begins as its model does.
+    pub from: Option<&'a str>,
 }
 
 /// The arguments of `run`.
@@ -84,7 +93,7 @@ pub struct RunArgs<'a> {
     pub nodes: u32,
     /// How many messages a node may handle at a turn.
     pub batch: BatchOption,
-    /// The maximum number of rounds, at least 1.
+    /// The maximum number of rounds, at least 1; `u32::MAX` for no limit.
     pub rounds: u32,
     /// A checkpoint follows each time this many commits are made, at least 1; none for no
     /// checkpoints.
@@ -109,8 +118,8 @@ pub struct RunArgs<'a> {
     pub attach: bool,
     /// Whether each program that is started has a processor of its own.
     pub bind: bool,
-    /// One in this many reported events of node programs is compared with the model, 0 for none;
-    /// none for the default.
+    /// One in this many reported events of node programs is compared with the model: 0 for none of
+    /// them, 1 for all; none for the default.
     pub judge: Option<u32>,
     /// After how many seconds without an answer a node program counts as lost, 1 to 86,400; none
     /// for no limit.
@@ -120,6 +129,11 @@ pub struct RunArgs<'a> {
     pub retries: Option<u32>,
     /// Whether a disk that is full is made longer.
     pub grow_when_full: bool,
+    /// Whether a disk that is full is archived under a second name, and the run goes on on a new
+    /// one.
+    pub archive_when_full: bool,
+    /// How many archived parts are kept, 0 and more; none for all.
+    pub keep: Option<u32>,
     /// The path of the trace file, with a row for each turn of a node; none for no trace.
     pub trace: Option<&'a str>,
     /// The path of a file that ends the run once it is there; none for no such file.
@@ -171,6 +185,33 @@ pub struct MigrateArgs<'a> {
     pub reserve: bool,
     /// Whether each disk may have up to 16,777,216 sectors instead of 131,072.
     pub large: bool,
+}
+
+/// The arguments of `recover`.
+#[derive(Clone, Copy, Debug, PartialEq, Eq)]
+pub struct RecoverArgs<'a> {
+    /// The path of the model file.
+    pub model: &'a str,
+    /// The path of the file of the damaged disk.
+    pub old: &'a str,
+    /// The path of the file of the new disk.
+    pub new: &'a str,
+    /// The number of sectors of the new disk: 8 to 131,072, or to 16,777,216 for a large one.
+    pub sectors: u32,
+    /// Whether the file of the new disk gets its whole room on the device at once.
+    pub reserve: bool,
+    /// Whether each disk may have up to 16,777,216 sectors instead of 131,072.
+    pub large: bool,
+}
+
+/// The arguments of `verify`.
+#[derive(Clone, Copy, Debug, PartialEq, Eq)]
+pub struct VerifyArgs<'a> {
+    /// The model file and the disk.
+    pub on: DiskArgs<'a>,
+    /// The path of the disk from whose committed world this one goes on; none if the disk begins as
+    /// its model does, or its origin is believed.
+    pub after: Option<&'a str>,
 }
 
 /// The arguments of `log`.

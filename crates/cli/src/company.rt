@@ -4,10 +4,12 @@
 ghost use Rattle.std.specs.Prelude.{◌≡◌, ◌∷◌, [], is_some, MatchOption};
 ghost use Rattle.clap.specs.Words.{found_of, rows_of, HasKind};
 ghost use Rattle.cli.specs.Command.{company_fault, drawn_fault, excluded_fault, is_drawn_twice};
-ghost use Rattle.cli.specs.Command.{is_excluded, is_lonely, is_no_span, is_over_nodes, is_there};
-ghost use Rattle.cli.specs.Command.{is_used, is_without_another, is_without_checkpoint};
-ghost use Rattle.cli.specs.Command.{is_without_create, is_without_sockets, lonely_fault};
-ghost use Rattle.cli.specs.Command.{looking_fault, span_fault, together_fault};
+ghost use Rattle.cli.specs.Command.{is_excluded, is_excluded_anywhere, is_excluded_over_nodes};
+ghost use Rattle.cli.specs.Command.{is_lonely, is_no_span, is_over_nodes, is_there, is_used};
+ghost use Rattle.cli.specs.Command.{is_without_another, is_without_archive};
+ghost use Rattle.cli.specs.Command.{is_without_checkpoint, is_without_create, is_without_record};
+ghost use Rattle.cli.specs.Command.{is_without_sockets, lonely_fault, looking_fault, span_fault};
+ghost use Rattle.cli.specs.Command.{together_fault};
 
 use crate::values::{is_used, optional_number, optional_text};
 use clap::error::ErrorKind;
@@ -78,7 +80,17 @@ fn without_another(values: &ArgMatches<'_>) -> Option<&'static str>
 {
     match without_create(values) {
         Some(message) => Some(message),
-        None => without_checkpoint(values),
+        None => without_record(values),
+    }
+}
+
+/// What is wrong with an option for seals or archived parts, if a run makes none of them.
+fn without_record(values: &ArgMatches<'_>) -> Option<&'static str>
+    ensures { is_some result ≡ is_without_record (rows_of (found_of values.now)) }
+{
+    match without_checkpoint(values) {
+        Some(message) => Some(message),
+        None => without_archive(values),
     }
 }
 
@@ -135,7 +147,20 @@ fn without_checkpoint(values: &ArgMatches<'_>) -> Option<&'static str>
     }
 }
 
-/// The error for options of `run` that exclude one another.
+/// What is wrong with an option for archived parts, if a run makes none.
+fn without_archive(values: &ArgMatches<'_>) -> Option<&'static str>
+    ensures { is_some result ≡ is_without_archive (rows_of (found_of values.now)) }
+{
+    if is_used(values, "archive-when-full") {
+        None
+    } else if is_there(values, "keep") {
+        Some("the argument '--keep <K>' needs '--archive-when-full', which makes archived parts")
+    } else {
+        None
+    }
+}
+
+/// The error for options that exclude one another.
 fn refused_excluded(alloc: Global, name: &str, values: &ArgMatches<'_>) -> Option<Error>
     ensures { MatchOption result (excluded_fault (rows_of (found_of values.now)) ≡ [])
         (λ e. HasKind (excluded_fault (rows_of (found_of values.now))) e) }
@@ -146,9 +171,32 @@ fn refused_excluded(alloc: Global, name: &str, values: &ArgMatches<'_>) -> Optio
     }
 }
 
-/// What is wrong with options of `run` that exclude one another.
+/// What is wrong with options that exclude one another.
 fn excluded(values: &ArgMatches<'_>) -> Option<&'static str>
     ensures { is_some result ≡ is_excluded (rows_of (found_of values.now)) }
+{
+    match excluded_over_nodes(values) {
+        Some(message) => Some(message),
+        None => excluded_anywhere(values),
+    }
+}
+
+/// What is wrong with options that exclude one another in any run, or in any command.
+fn excluded_anywhere(values: &ArgMatches<'_>) -> Option<&'static str>
+    ensures { is_some result ≡ is_excluded_anywhere (rows_of (found_of values.now)) }
+{
+    if is_used(values, "archive-when-full") && is_used(values, "grow-when-full") {
+        Some("the argument '--archive-when-full' cannot be used with '--grow-when-full'")
+    } else if is_used(values, "advice") && is_used(values, "quiet") {
+        Some("the argument '--advice' cannot be used with '--quiet'")
+    } else {
+        None
+    }
+}
+
+/// What is wrong with options that exclude one another in a run over nodes.
+fn excluded_over_nodes(values: &ArgMatches<'_>) -> Option<&'static str>
+    ensures { is_some result ≡ is_excluded_over_nodes (rows_of (found_of values.now)) }
 {
     if is_used(values, "together") && is_used(values, "overlap") {
         Some("the argument '--together' cannot be used with '--overlap'")
@@ -237,7 +285,7 @@ fn is_there(values: &ArgMatches<'_>, id: &str) -> bool
 }
 
 /// An error of this kind in `clap`'s form, which names the program.
-fn error_of(alloc: Global, name: &str, kind: ErrorKind, message: &str) -> Error
+pub fn error_of(alloc: Global, name: &str, kind: ErrorKind, message: &str) -> Error
     ensures { HasKind (kind ∷ []) result }
 {
     let usage = match format!(in alloc; "{name} <COMMAND>") {

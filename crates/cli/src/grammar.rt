@@ -6,14 +6,15 @@ ghost use Rattle.clap.specs.declared.builder.command.Command.TheViews.{out-Comma
 ghost use Rattle.cli.specs.Command.{advice_option, any_text, choice_option};
 ghost use Rattle.cli.specs.Command.{created_option, draw_command, flag, log_command};
 ghost use Rattle.cli.specs.Command.{grow_command, large_option, migrate_command, refusing};
-ghost use Rattle.cli.specs.Command.{most_sectors, on_any_disk};
+ghost use Rattle.cli.specs.Command.{most_sectors, on_any_disk, origin_option};
 ghost use Rattle.cli.specs.Command.{new_command, node_command, number_option, on_disk, on_model};
 ghost use Rattle.cli.specs.Command.{optional_argument, optional_number, optional_text};
-ghost use Rattle.cli.specs.Command.{reserve_option, reserved_option};
-ghost use Rattle.cli.specs.Command.{path_argument, program_of, run_apart, run_command, run_made};
+ghost use Rattle.cli.specs.Command.{quiet_option, recover_command, reserve_option};
+ghost use Rattle.cli.specs.Command.{reserved_option, run_apart, run_command, run_kept, run_made};
+ghost use Rattle.cli.specs.Command.{run_stored, path_argument, program_of};
 ghost use Rattle.cli.specs.Command.{show_command, stats_command, text_option, time_option};
-ghost use Rattle.cli.specs.Command.{without_commands};
-ghost use Rattle.cli.specs.Command.{AddsArgument, AddsCommand, IsApp};
+ghost use Rattle.cli.specs.Command.{verify_command, without_commands};
+ghost use Rattle.cli.specs.Command.{AddsArgument, AddsCommand, AddsRule, IsApp};
 
 use crate::company::LAST_TIME;
 use clap::builder::ValueParser;
@@ -56,14 +57,13 @@ pub fn program<'a>(alloc: Global, texts: Texts<'a>) -> Result<ClapCommand<'a>, A
         program,
         on_any_disk(alloc, "reopen", REOPEN_ABOUT, REOPEN_HELP),
     );
+    let program = with_command(program, on_any_disk(alloc, "cut", CUT_ABOUT, CUT_DISK_HELP));
+    let program = with_command(program, recover(alloc));
     let program = with_command(
         program,
         on_any_disk(alloc, "status", STATUS_ABOUT, STATUS_HELP),
     );
-    let program = with_command(
-        program,
-        on_any_disk(alloc, "verify", VERIFY_ABOUT, VERIFY_HELP),
-    );
+    let program = with_command(program, verify(alloc));
     let program = with_command(program, log(alloc));
     let program = with_command(program, show(alloc));
     let program = with_command(program, stats(alloc));
@@ -105,7 +105,7 @@ A disk is a file, which 'new' makes. A run that is killed goes on from its last 
 Exit status:
   0  done
   1  a fault, printed on standard error after '{name}: '
-  2  a mistake in the command line, or help
+  2  a mistake in the command line, or help by --help
 
 Faults:
   BadModel     the file is no model file ('{name} check' says why)
@@ -114,15 +114,21 @@ Faults:
                connect
   Log ..       the disk: NotBlank (it has a log), NotFormatted, Corrupt, Disk ..
   Recovery ..  the disk is of another simulation or of format 1 (OtherModel), or is damaged
-  Session ..   a run stops: Full (the disk has no room), Recovery .., Disk, NoMemory, or
-               Port .. (a node's program ended, or answered what is no reply); or 'extend' does:
-               EndRefused (the end is not a later one), or as a run
+  Session ..   a run stops: Full (the disk has no room), Recovery .., Disk, NoMemory, Port .. (a
+               node's program ended, or answered what is no reply), or Reports (with --judge all:
+               nodes reported what the model does not do); or 'extend' does: EndRefused (the end
+               is not a later one), or as a run
+  Node N OtherModel  the program of node N is of another simulation than its run
+  Segment ..   NotTheNext (a disk does not go on from the one before it), or TooLong (a world has
+               no room in the first record of a disk)
   Rounds       all rounds of a run are made, and it is not at its end
   Migrate ..   'migrate' stops: Old .. (OLD has another format, is of another simulation, or is
                damaged), New .. (NEW: Full (it has no room), Disk .., NoMemory)
   Grow ..      'grow' stops: Fewer (the disk has more sectors), TooMany, Device, NoMemory
   Shut         'new' finds records behind a closed gate ('reopen' opens it)
   Reopen ..    'reopen' stops: NotShut (the gate is open), Log .., Recovery .., Record N ..
+  NothingToCut  'cut' finds no record at fault
+  Recover New ..  'recover' stops: NEW: NotBlank (it has a log), Full (it has no room), Disk ..
   Record N ..  'status' or 'verify' finds the record behind N others at fault: BadRecord,
                NotTheLeast, ..
   World ..     'seq', 'stats' or 'draw' stops: NoMemory, or NumberLimit past 2^63 messages of one
@@ -130,12 +136,24 @@ Faults:
   BadTrace     'draw --trace' finds that the file is not as 'run --trace' writes one
   Wire ..      'node' stops: Truncated, TooLong, BadKind, BadBody (what was received is not a
                frame allowed at that point), Io, NoMemory
+  OtherModel   'node' finds that its run is of another simulation
   NoSuchProcess  'log' or 'draw' is asked for a process that the model does not have
   NoMemory     memory ran out elsewhere
   Output       standard output refused a write
 
-With --advice, or where the environment has TIMEWARP_ADVICE=1, what to do about a fault follows it,
-as it always does on a terminal."
+A second line says which file a fault is about, and what the system says, but not with --quiet or
+TIMEWARP_ADVICE=0 in the environment. With --advice or TIMEWARP_ADVICE=1, what to do about the fault
+follows it, as it always does on a terminal.
+
+'{name} help' prints this on standard output, with status 0, '{name} help COMMAND' the help of a
+command, and '{name} help TOPIC' what there is to say on a topic:
+  nodes       nodes and node programs, what a run finds out about them, and which way is fastest
+  commits     when a run commits, checkpoints and seals
+  unattended  runs of days, that nobody watches
+  segments    archived parts, and disks that go on from other disks
+  repair      what to do about a damaged disk
+  looking     what shows a run and its results
+  statuses    exit statuses and faults of scripts"
     )
 }
 
@@ -147,20 +165,35 @@ fn new<'a>(alloc: Global) -> Result<ClapCommand<'a>, AllocError>
     let sectors = text_option(alloc, "sectors", "N", "4096", SECTORS_HELP);
     let command = with_argument(command, sectors);
     let command = with_argument(command, reserve_option(alloc));
+    let command = with_argument(command, flag(alloc, "over", OVER_HELP));
+    let command = with_argument(command, origin_option(alloc));
     with_argument(command, large_option(alloc))
+}
+
+/// The option for the disk that a new one goes on from. It is `--from`, but has a name of its own
+/// for the other commands' option, which is a time.
+fn origin_option<'a>(alloc: Global) -> Arg<'a>
+    ensures rule { rule_of result ≡ origin_option }
+    ensures local { result.global ≡ false }
+{
+    optional_text(alloc, "origin", "DISK", ORIGIN_HELP).long("from")
 }
 
 const NEW_ABOUT: &str = "Makes a disk with an empty log for a model";
 
-const SECTORS_HELP: &str =
-    "How many sectors of 512 bytes the disk has, 8 to 131072, or with --large to 16777216";
+const OVER_HELP: &str = "Formats a file that holds other bytes, which are then lost";
+
+const ORIGIN_HELP: &str = "Begins with the committed world of this disk (see 'help segments')";
+
+const SECTORS_HELP: &str = "Sectors of 512 bytes, 8 to 131072, or with --large to 16777216";
 
 const RESERVE_HELP: &str = "Gives the file all its room on the device at once, by writing zeros";
 
 const LARGE_HELP: &str = "Allows up to 16777216 sectors instead of 131072";
 
 const NEW_HELP: &str = "\
-If the file exists, it must have the size that is asked for, and no log.
+If the file exists, it must be empty, or have the size that is asked for. One with a log is refused
+(Log NotBlank), and without --over one with other bytes (File).
 
 Each commit takes at least 2 sectors, and 9 events take about 1. The default has room for at most
 2,000 commits, so a run of more rounds fills it (Session Full), and 'grow' makes it longer. For a
@@ -172,22 +205,48 @@ In memory a disk takes 512 bytes for each sector that is used, and a byte for ea
 The commands take a disk of more than 131072 sectors only with --large.
 
 Output:
-  formatted N sectors";
+  formatted N sectors
+  goes on from TIME events N   with --from: the time of that world, and the events before it";
 
 /// The command `run`.
 fn run<'a>(alloc: Global) -> Result<ClapCommand<'a>, AllocError>
     ensures { IfOk result (IsApp run_command) }
 {
-    let trace = optional_text(alloc, "trace", "FILE", TRACE_HELP);
+    let rounds = text_option(alloc, "rounds", "N", "1000000", ROUNDS_HELP);
+    let retries = optional_number(alloc, "retries", "N", 0, 1_000_000, RETRIES_HELP);
     let stop = optional_text(alloc, "stop-file", "FILE", STOP_HELP);
+    let command = with_option(run_stored(alloc), UNATTENDED, rounds);
+    let command = with_option(with_option(command, UNATTENDED, retries), UNATTENDED, stop);
     let progress = optional_number(alloc, "progress", "SECONDS", 1, 86_400, PROGRESS_HELP);
-    let command = with_argument(with_argument(run_apart(alloc), trace), stop);
-    let command = with_argument(command, progress);
-    let command = with_argument(command, flag(alloc, "grow-when-full", GROW_WHEN_FULL_HELP));
-    let command = with_argument(command, flag(alloc, "create", CREATE_HELP));
-    let command = with_argument(command, created_option(alloc));
-    let command = with_argument(command, reserved_option(alloc));
+    let trace = optional_text(alloc, "trace", "FILE", TRACE_HELP);
+    let command = with_option(with_option(command, LOOKING, progress), LOOKING, trace);
     with_argument(command, large_option(alloc))
+}
+
+/// The command `run` with the options for nodes, for what it writes and on which disk.
+fn run_stored<'a>(alloc: Global) -> Result<ClapCommand<'a>, AllocError>
+    ensures { IfOk result (IsApp run_stored) }
+{
+    let create = flag(alloc, "create", CREATE_HELP);
+    let command = with_option(run_kept(alloc), UNATTENDED, create);
+    let command = with_option(command, UNATTENDED, created_option(alloc));
+    let command = with_option(command, UNATTENDED, reserved_option(alloc));
+    let archive = flag(alloc, "archive-when-full", ARCHIVE_HELP);
+    let keep = optional_number(alloc, "keep", "K", 0, 4_294_967_295, KEEP_HELP);
+    let grow = flag(alloc, "grow-when-full", GROW_WHEN_FULL_HELP);
+    let command = with_option(with_option(command, UNATTENDED, archive), UNATTENDED, keep);
+    with_option(command, UNATTENDED, grow)
+}
+
+/// The command `run` with the options for nodes, and for what it writes to its disk.
+fn run_kept<'a>(alloc: Global) -> Result<ClapCommand<'a>, AllocError>
+    ensures { IfOk result (IsApp run_kept) }
+{
+    let commit = optional_number(alloc, "commit-every", "E", 1, 400_000, COMMIT_HELP);
+    let checkpoint = optional_number(alloc, "checkpoint", "E", 1, 1_000_000, CHECKPOINT_HELP);
+    let seal = flag(alloc, "seal", SEAL_HELP);
+    let command = with_option(run_apart(alloc), COMMITS, commit);
+    with_option(with_option(command, COMMITS, checkpoint), COMMITS, seal)
 }
 
 /// The command `run` with the options for how it is made and over which node programs.
@@ -195,19 +254,14 @@ fn run_apart<'a>(alloc: Global) -> Result<ClapCommand<'a>, AllocError>
     ensures { IfOk result (IsApp run_apart) }
 {
     let sockets = optional_text(alloc, "sockets", "DIR", SOCKETS_HELP);
-    let cut = optional_number(alloc, "cut", "I", 0, 4_294_967_295, CUT_HELP);
-    let command = with_argument(with_argument(run_made(alloc), sockets), cut);
-    let command = with_argument(command, flag(alloc, "together", TOGETHER_HELP));
-    let command = with_argument(command, flag(alloc, "overlap", OVERLAP_HELP));
-    let command = with_argument(command, flag(alloc, "attach", ATTACH_HELP));
-    let command = with_argument(command, flag(alloc, "bind", BIND_HELP));
-    let judge = optional_number(alloc, "judge", "N", 0, 4_294_967_295, JUDGE_HELP);
+    let command = with_option(run_made(alloc), PROGRAMS, sockets);
+    let command = with_option(command, PROGRAMS, flag(alloc, "attach", ATTACH_HELP));
+    let command = with_option(command, PROGRAMS, flag(alloc, "bind", BIND_HELP));
+    let judge = any_text(alloc, "judge", "N", JUDGE_HELP);
     let silence = optional_number(alloc, "silence", "SECONDS", 1, 86_400, SILENCE_HELP);
-    let retries = optional_number(alloc, "retries", "N", 0, 1_000_000, RETRIES_HELP);
-    with_argument(
-        with_argument(with_argument(command, judge), silence),
-        retries,
-    )
+    let cut = optional_number(alloc, "cut", "I", 0, 4_294_967_295, CUT_HELP);
+    let command = with_option(with_option(command, PROGRAMS, judge), PROGRAMS, silence);
+    with_option(command, PROGRAMS, cut)
 }
 
 /// The command `run` with the options for how it is made.
@@ -216,16 +270,24 @@ fn run_made<'a>(alloc: Global) -> Result<ClapCommand<'a>, AllocError>
 {
     let nodes = optional_number(alloc, "nodes", "N", 1, 64, NODES_HELP);
     let batch = any_text(alloc, "batch", "N", BATCH_HELP);
-    let rounds = number_option(alloc, "rounds", "1000000", 1, 4_294_967_295, ROUNDS_HELP);
-    let command = with_argument(on_disk(alloc, "run", RUN_ABOUT, RUN_HELP), nodes);
-    let command = with_argument(with_argument(command, batch), rounds);
-    let checkpoint = optional_number(alloc, "checkpoint", "E", 1, 1_000_000, CHECKPOINT_HELP);
-    let commit = optional_number(alloc, "commit-every", "E", 1, 400_000, COMMIT_HELP);
-    let seal = flag(alloc, "seal", SEAL_HELP);
-    let sealed = with_argument(with_argument(command, checkpoint), seal);
-    let command = with_argument(sealed, commit);
-    with_argument(command, flag(alloc, "plain", PLAIN_HELP))
+    let command = with_option(on_disk(alloc, "run", RUN_ABOUT, RUN_HELP), NODES, nodes);
+    let command = with_option(command, NODES, batch);
+    let command = with_option(command, NODES, flag(alloc, "together", TOGETHER_HELP));
+    let command = with_option(command, NODES, flag(alloc, "overlap", OVERLAP_HELP));
+    with_option(command, NODES, flag(alloc, "plain", PLAIN_HELP))
 }
+
+// The purposes of options, under which the help of `run` has them, in this order.
+
+const NODES: &str = "Nodes";
+
+const PROGRAMS: &str = "Nodes that are programs (with --sockets)";
+
+const COMMITS: &str = "Commits and checkpoints";
+
+const UNATTENDED: &str = "Unattended runs";
+
+const LOOKING: &str = "Looking";
 
 /// The option for the number of sectors of a disk that a run makes. It is `--sectors`, but has
 /// a name of its own for the other commands' option, which has a default.
@@ -252,59 +314,55 @@ const RUN_ABOUT: &str = "Runs a model on its disk, from the last commit to its e
 const NODES_HELP: &str = "How many nodes share the processes, 1 to 64 [default: 1]";
 
 const BATCH_HELP: &str =
-    "How many messages a node handles at a turn, 1 to 4294967295, or 'auto' [default: 16]";
+    "Messages that a node handles at a turn, 1 to 4294967295, or 'auto' [default: 16]";
 
-const ROUNDS_HELP: &str =
-    "Stops after N rounds, 1 to 4294967295; with 1 a run makes no progress (see below)";
-
-const CHECKPOINT_HELP: &str = "Keeps the state in a record after each E-th commit, 1 to 1000000";
-
-const SEAL_HELP: &str =
-    "With --checkpoint: a seal follows each one, so that a changed file is refused";
-
-const COMMIT_HELP: &str =
-    "Commits once nodes have reported E more events, 1 to 400000, and at the end (see below)";
-
-const SOCKETS_HELP: &str = "Runs each node as a program of its own, behind the socket DIR/nodeI";
-
-const CUT_HELP: &str = "Ends the program of node I after one reply, to see what a run leaves then";
-
-const PLAIN_HELP: &str = "Runs without nodes, one event at a time: the fastest way on one core";
+const JUDGE_HELP: &str = "Checks one report in N by the model, 0 for none, or 'all' [default: 64]";
 
 const TOGETHER_HELP: &str = "Hands work to all nodes before a reply is taken, so they work at once";
 
 const OVERLAP_HELP: &str =
-    "Hands new work to a node as soon as its reply is taken, so they work during commits too";
+    "Hands new work to a node as soon as its reply is taken, also during commits";
+
+const PLAIN_HELP: &str = "Runs without nodes, one event at a time: the fastest on one core";
+
+const SOCKETS_HELP: &str = "Runs each node as a program of its own, behind the socket DIR/nodeI";
 
 const ATTACH_HELP: &str = "Starts no node programs: waits for them to connect, in any order";
 
 const BIND_HELP: &str = "Gives each node program that is started a processor of its own";
 
-const JUDGE_HELP: &str =
-    "Compares one in N events that node programs report with the model, 0 for none [default: 64]";
-
 const SILENCE_HELP: &str =
     "Counts a node program as lost after SECONDS without an answer, 1 to 86400";
 
-const RETRIES_HELP: &str =
-    "Goes on from the last commit, with new node programs, up to N times when one is lost";
+const CUT_HELP: &str = "Ends the program of node I after one reply, to see what a run leaves then";
 
-const GROW_WHEN_FULL_HELP: &str = "Makes the disk longer where it is full, and goes on";
+const COMMIT_HELP: &str = "Commits once nodes have reported E more events, 1 to 400000";
 
-const TRACE_HELP: &str = "Writes a row for each turn of a node to FILE, by commas (CSV)";
+const CHECKPOINT_HELP: &str = "Keeps the state in a record after each E-th commit, 1 to 1000000";
 
-const STOP_HELP: &str = "Commits and ends, with status 0, once FILE is there";
-
-const PROGRESS_HELP: &str =
-    "Prints a line of progress each SECONDS where there is no terminal, 1 to 86400";
+const SEAL_HELP: &str = "With --checkpoint: a seal follows each one, so a changed file is refused";
 
 const CREATE_HELP: &str = "Makes the disk first, as 'new' does, if its file is not there";
 
-const CREATED_HELP: &str =
-    "With --create: how many sectors a new disk has, 8 to 131072, or with --large to 16777216 [default: 4096]";
+const CREATED_HELP: &str = "With --create: how many sectors, as 'new' takes them [default: 4096]";
 
-const RESERVED_HELP: &str =
-    "With --create: gives the file of a new disk all its room at once, by writing zeros";
+const RESERVED_HELP: &str = "With --create: gives the file all its room at once, by writing zeros";
+
+const ARCHIVE_HELP: &str = "Archives a full disk as DISK.TIME, and goes on on a new one";
+
+const KEEP_HELP: &str = "With --archive-when-full: keeps the newest K parts, 0 to 4294967295";
+
+const GROW_WHEN_FULL_HELP: &str = "Makes a full disk longer, and goes on";
+
+const ROUNDS_HELP: &str = "Stops after N rounds, 1 to 4294967295, or 'unlimited'";
+
+const RETRIES_HELP: &str = "Begins again up to N times, 0 to 1000000, when a node program is lost";
+
+const STOP_HELP: &str = "Commits and ends, with status 0, once FILE is there";
+
+const PROGRESS_HELP: &str = "Prints progress each SECONDS where there is no terminal, 1 to 86400";
+
+const TRACE_HELP: &str = "Writes a row for each turn of a node to FILE, by commas (CSV)";
 
 const RUN_HELP: &str = "\
 In a round each node has its turn, and what no rollback can reach any more is committed.
@@ -312,63 +370,12 @@ However a run ends, what was committed stays on the disk, and the next run goes 
 A signal (Ctrl-C, SIGTERM) ends it at once: the line of progress on a terminal says up to which time
 all is committed, and the same command goes on from there; --stop-file lets it commit first.
 
-One command at a time writes to a disk: another is refused at once (File). 'log', 'show', 'status',
-'stats' and 'draw' can run beside it, and print what was committed when they read the disk.
-
-Repeated runs with --rounds 1 make no progress: each opening starts with a floor that one round
-cannot pass. Use --rounds 2 or more.
-
-With --plain there are no nodes: events are handled one at a time, as by 'seq', and E of them are
-committed at a time, 4096 unless --commit-every says otherwise; with --rounds it makes N commits. A
-disk may be run so now and over nodes later. On one core, or where an event takes less than some
-microseconds, this is the fastest way.
-
-Once a run has taken a second, it says on a terminal, or with --advice, if another way would be
-faster: --plain for a run over nodes in one process; --sockets with --overlap for one with --plain
-and without --checkpoint of which an event takes 10 microseconds or more, if it commits 1024 events
-or more at a time, and there are several processors.
-
-With --batch auto each node has its own batch, which grows and shrinks with the share of its handled
-messages that is committed.
-
-A commit waits for the disk twice. With --commit-every a round commits if nodes have reported E
-events or more since the last commit: the commit takes those before the floor that all nodes know,
-often a few less than E. A power cut can cost the work since the last commit. Rounds that do not
-commit do not count for --checkpoint, so with both, checkpoints are far apart.
-
-A checkpoint is one record on the disk, as long as the states of all processes and the pending
-messages. The next opening begins at the last one, and replays only the events after it. It believes
-what the checkpoint holds; 'verify' compares it.
-
-With --seal a seal follows each checkpoint: the SHA-256 of the records since the last seal. Every
-command that opens the disk compares all seals, and refuses a file that was changed before the last
-one (Log Corrupt). A seal takes 2 sectors. If it has no room it is left out, and the next covers more.
+One command at a time writes to a disk: another is refused (File). 'log', 'show', 'status', 'stats'
+and 'draw' can run beside it, and print what was committed when they read the disk.
 
 A disk of format 1 fails with Session Recovery OtherModel; only 'migrate' reads it.
 
-With --sockets the run starts this program as 'node' for each node, waits for it at the end, and
-removes its socket. DIR must be a folder of your own (mode 700): anyone who can write to it can
-answer in a node's place. A line on standard error warns of one that every user can write to.
-Sockets that a killed run left there are removed.
-
-With --overlap nodes work while the run takes the replies of others and commits. It pays where node
-programs have a processor each and an event takes some microseconds; more work is rolled back.
-
-With --judge the run compares what node programs report with its own model: the first reports of
-each node and process, then one event in N. A node that runs another model is found out before what
-it reports is committed (Session Port BadReply).
-
-With --retries a run whose node program ends, is silent for too long (--silence) or is cut off goes
-on from the last commit with new programs. Each new beginning is printed on standard error.
-
-With --grow-when-full a disk without room is made twice as long, up to 131072 sectors, or with
---large to 16777216, and the run goes on from its last commit.
-
-With --attach as well it starts none of them: start each node I as 'node MODEL DIR/nodeI' once its
-socket is there, in any order. The run begins when all have connected.
-
-With --stop-file the run looks once a round, and at most ten times a second, whether FILE is there.
-The round after that is its last: what it may is committed, and the status is 0. FILE stays.
+Topics with more: 'help nodes', 'help commits', 'help unattended', 'help looking'.
 
 Output:
   node NODE ran N           messages that the node handled, with those that were rolled back
@@ -397,7 +404,7 @@ fn grow<'a>(alloc: Global) -> Result<ClapCommand<'a>, AllocError>
 const GROW_ABOUT: &str = "Makes a disk longer, so that its run has room again";
 
 const GROWN_HELP: &str =
-    "How many sectors of 512 bytes the disk has then, 8 to 131072, or with --large to 16777216 [default: the most]";
+    "Sectors in all, 8 to 131072, or with --large to 16777216 [default: the most]";
 
 const GROW_HELP: &str = "\
 Adds sectors of zeros behind those that the disk has; what is committed stays, whenever the power
@@ -419,16 +426,13 @@ fn migrate<'a>(alloc: Global) -> Result<ClapCommand<'a>, AllocError>
         command,
         path(alloc, "NEW", "The file of the disk of format 2"),
     );
-    let sectors = text_option(alloc, "sectors", "N", "4096", NEW_SECTORS_HELP);
+    let sectors = text_option(alloc, "sectors", "N", "4096", SECTORS_HELP);
     let command = with_argument(command, sectors);
     let command = with_argument(command, reserve_option(alloc));
     with_argument(command, large_option(alloc))
 }
 
 const MIGRATE_ABOUT: &str = "Copies a disk of format 1 to a new disk of format 2";
-
-const NEW_SECTORS_HELP: &str =
-    "How many sectors of 512 bytes the disk NEW has, 8 to 131072, or with --large to 16777216";
 
 const MIGRATE_HELP: &str = "\
 Reads a disk of format 1 (OLD), as earlier versions made it, and writes what is committed there to
@@ -438,6 +442,43 @@ If NEW exists, it must have the size that is asked for, and no log.
 
 Output:
   migrated TIME events N   ticks, and events in the log";
+
+/// The command `recover`.
+fn recover<'a>(alloc: Global) -> Result<ClapCommand<'a>, AllocError>
+    ensures { IfOk result (IsApp recover_command) }
+{
+    let command = on_disk(alloc, "recover", RECOVER_ABOUT, RECOVER_HELP);
+    let command = with_argument(command, path(alloc, "NEW", "The file of the new disk"));
+    let sectors = text_option(alloc, "sectors", "N", "4096", SECTORS_HELP);
+    let command = with_argument(command, sectors);
+    let command = with_argument(command, reserve_option(alloc));
+    with_argument(command, large_option(alloc))
+}
+
+const RECOVER_ABOUT: &str = "Copies the good records of a damaged disk to a new disk";
+
+const RECOVER_HELP: &str = "\
+Reads a damaged disk, also one whose header or gates are lost, and writes the longest row of records
+from the first one on that are as a run of the model leaves them to NEW. The disk is only read.
+
+If NEW exists, it must have the size that is asked for, and no log. 'help repair' says when to use
+this, and when 'reopen' or 'cut'.
+
+Output:
+  recovered R of W whole records: committed TIME events N   W are whole in a row by their form
+  record R: ..                                              why the next one is not copied";
+
+const CUT_ABOUT: &str = "Takes the records from the first one at fault on away from a disk";
+
+const CUT_DISK_HELP: &str = "\
+Replays all records, as 'verify' does. Those before the first record at fault stay; that one and all
+after it are taken away, once they are printed. What stays is what a run leaves, and 'run' goes on
+from there. A disk without a fault is refused (NothingToCut). 'recover' copies what is good, and
+changes nothing.
+
+Output:
+  takes away records K to L: Record K ..   what is taken away, and what is wrong with the first
+  cut: committed TIME events N             what stays";
 
 const REOPEN_ABOUT: &str = "Opens the gate of a disk's header again, after damage closed it";
 
@@ -461,9 +502,11 @@ Output, all numbers decimal:
   seals S, compared with the records before them      if there are any
   sectors U used of S, F free
   full at about T ticks at the pace of the last L commits
+  origin T                                  where the disk begins, if it goes on from another one
+  events before N                           and how many events came before that
 
-The last line is 'room to the end at the pace of the last L commits' where the rest of the run has
-room, and is left out where nothing is committed or the run is at its end.";
+In place of 'full at about ..' it prints 'room to the end at the pace of the last L commits' where
+the rest of the run has room, and neither where nothing is committed or the run is at its end.";
 
 /// The command `log`.
 fn log<'a>(alloc: Global) -> Result<ClapCommand<'a>, AllocError>
@@ -479,13 +522,24 @@ fn log<'a>(alloc: Global) -> Result<ClapCommand<'a>, AllocError>
 }
 
 const LOG_NAMES_HELP: &str =
-    "Prints the content of each event with the names that a model by rules has for it";
+    "Prints what each event holds with the names that a model by rules has for it";
 
 const FROM_HELP: &str = "Only events at T ticks or later, 0 to 1099511627776";
 
 const TO_HELP: &str = "Only events before T ticks, 0 to 1099511627776";
 
 const PROCESS_HELP: &str = "Only events that process L handled, 0 to 4294967295";
+
+/// The command `verify`.
+fn verify<'a>(alloc: Global) -> Result<ClapCommand<'a>, AllocError>
+    ensures { IfOk result (IsApp verify_command) }
+{
+    let command = on_disk(alloc, "verify", VERIFY_ABOUT, VERIFY_HELP);
+    let command = with_argument(command, optional_text(alloc, "after", "DISK", AFTER_HELP));
+    with_argument(command, large_option(alloc))
+}
+
+const AFTER_HELP: &str = "Compares where the disk begins with what is committed on this one";
 
 const VERIFY_ABOUT: &str = "Checks all that a disk holds, from its first record on";
 
@@ -494,8 +548,17 @@ The disk is only read. Other commands take what a checkpoint holds as it stands;
 all records from the beginning, and compares each checkpoint with the world that they reach. It
 takes about as long as 'seq'.
 
-Output: 'verified: committed G events N', if the disk is what a run leaves. Otherwise the command
-fails with 'Record N ..', the first record at fault and what is wrong with it.";
+A disk that goes on from another one ('help segments') is replayed from its origin, which is
+believed. With --after DISK the origin is compared too, with the world that DISK, the one before it,
+has.
+
+Output, if the disk is what a run leaves:
+  verified: committed G events N
+  from the origin at T            ticks, of a disk that goes on from another one
+  goes on from T events N         in its place with --after
+
+Otherwise the command fails with 'Record N ..', the first record at fault and what is wrong with it,
+or with 'Segment NotTheNext', if the disk does not go on from DISK.";
 
 const LOG_ABOUT: &str = "Prints the committed events of a disk";
 
@@ -635,7 +698,8 @@ const SOCKET_HELP: &str = "The path of the socket, which the run has made";
 const PARCELS_HELP: &str = "After how many replies it ends, 1 to 4294967295";
 
 const NODE_HELP: &str = "\
-'run --sockets' starts it. It does not check that the run simulates the same model. It ends when the
+'run --sockets' starts it. It takes part in a run of the same simulation alone: it says which one is
+its own before it is loaded, and ends if the run has another one (OtherModel). Else it ends when the
 run closes the connection, after N replies, or after a fault, which it reports to the run.
 It prints nothing.";
 
@@ -678,7 +742,8 @@ fn on_model<'a>(
 {
     let command = ClapCommand::new(alloc, name).about(about).after_help(help);
     let command = with_argument(Ok(command), path(alloc, "MODEL", MODEL_HELP));
-    with_argument(command, advice_option(alloc))
+    let command = with_argument(command, advice_option(alloc));
+    with_argument(command, quiet_option(alloc))
 }
 
 const MODEL_HELP: &str =
@@ -721,6 +786,18 @@ fn with_argument<'a>(
     command?.arg(argument)
 }
 
+/// Adds an option, which the help shows under this heading, to a command, if the command is there.
+fn with_option<'a>(
+    command: Result<ClapCommand<'a>, AllocError>,
+    heading: &'a str,
+    option: Arg<'a>,
+) -> Result<ClapCommand<'a>, AllocError>
+    requires { option.global ≡ false }
+    ensures { IfOk result (AddsRule command.entry (rule_of option.entry)) }
+{
+    with_argument(command, option.help_heading(heading))
+}
+
 /// The flag for advice after a fault, which each command has. In the help it comes before `--help`.
 fn advice_option<'a>(alloc: Global) -> Arg<'a>
     ensures rule { rule_of result ≡ advice_option }
@@ -728,6 +805,17 @@ fn advice_option<'a>(alloc: Global) -> Arg<'a>
 {
     flag(alloc, "advice", ADVICE_HELP).display_order(998)
 }
+
+/// The flag for faults without a line of their cause, which each command has. In the help it comes
+/// before `--help` too.
+fn quiet_option<'a>(alloc: Global) -> Arg<'a>
+    ensures rule { rule_of result ≡ quiet_option }
+    ensures local { result.global ≡ false }
+{
+    flag(alloc, "quiet", QUIET_HELP).display_order(998)
+}
+
+const QUIET_HELP: &str = "Prints a fault's name alone, without the file and its cause";
 
 const ADVICE_HELP: &str = "Says after a fault what to do about it, as a terminal always does";
 

@@ -1,5 +1,6 @@
 // What to write in place of words that are refused, where `clap`'s text does not say it.
 
+use crate::values::range_of;
 use crate::words::says_large;
 use std::convert::AsStr;
 use thiserror::Error;
@@ -10,6 +11,15 @@ pub enum Hint {
     /// The batch is neither a number nor `auto`.
     #[error("'--batch' takes a number from 1 to 4294967295, or 'auto'")]
     Batch,
+    /// The number of rounds is neither a number nor `unlimited`.
+    #[error("'--rounds' takes a number from 1 to 4294967295, or 'unlimited'")]
+    Rounds,
+    /// The number of events of which one is judged is neither a number nor `all`.
+    #[error("'--judge' takes a number from 0 to 4294967295, or 'all'")]
+    Judge,
+    /// The processes are not a range.
+    #[error("'--processes' takes the first and the last process, as '3..3' or '0..7'")]
+    Processes,
     /// The number of sectors is that of a large disk.
     #[error("'--sectors' takes up to 16777216 with '--large'")]
     Large,
@@ -29,6 +39,7 @@ const NUMBERS: &[&str] = &[
     "judge",
     "silence",
     "retries",
+    "keep",
     "progress",
     "from",
     "to",
@@ -41,6 +52,7 @@ const NUMBERS: &[&str] = &[
 /// wrong.
 pub fn hint_of<S: AsStr>(words: &[S]) -> Option<Hint> {
     let large = says_large(words);
+    let makes = is_new(words);
     let mut before = "";
     for word in words {
         let word = word.as_str();
@@ -48,7 +60,7 @@ pub fn hint_of<S: AsStr>(words: &[S]) -> Option<Hint> {
             return None;
         }
         let (option, value) = parts_of(before, word);
-        let hint = hint_at(option, value, large);
+        let hint = hint_at(option, value, large, makes);
         if hint.is_some() {
             return hint;
         }
@@ -66,11 +78,23 @@ fn parts_of<'a>(before: &'a str, word: &'a str) -> (&'a str, &'a str) {
     }
 }
 
-/// The hint for the value of an option, if there is one.
-fn hint_at(option: &str, value: &str, large: bool) -> Option<Hint> {
+/// Whether the words begin with the command `new`, whose `--from` takes a file.
+fn is_new<S: AsStr>(words: &[S]) -> bool {
+    match words.get(1) {
+        Some(word) => word.as_str() == "new",
+        None => false,
+    }
+}
+
+/// The hint for the value of an option, of `new` or another command, if there is one.
+fn hint_at(option: &str, value: &str, large: bool, makes: bool) -> Option<Hint> {
     let name = option.strip_prefix("--")?;
     match name {
-        "batch" if !is_batch(value) => Some(Hint::Batch),
+        "from" if makes => None,
+        "batch" if !is_count(value, "auto", 1) => Some(Hint::Batch),
+        "rounds" if !is_count(value, "unlimited", 1) => Some(Hint::Rounds),
+        "judge" if !is_count(value, "all", 0) => Some(Hint::Judge),
+        "processes" if range_of(value).is_none() => Some(Hint::Processes),
         "sectors" if !large && is_of_large(value) => Some(Hint::Large),
         _ if is_negative(value) => negative(name),
         _ => None,
@@ -87,9 +111,9 @@ fn negative(name: &str) -> Option<Hint> {
     None
 }
 
-/// Whether a text is a batch.
-fn is_batch(text: &str) -> bool {
-    text == "auto" || text.parse::<u32>().is_ok_and(|number| number > 0)
+/// Whether a text is this word, or a number from `least` on.
+fn is_count(text: &str, word: &str, least: u32) -> bool {
+    text == word || text.parse::<u32>().is_ok_and(|number| number >= least)
 }
 
 /// Whether a text is a number of sectors that only a large disk has.

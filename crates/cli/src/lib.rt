@@ -5,16 +5,20 @@
 mod command;
 mod company;
 mod grammar;
+mod helping;
 mod hint;
 mod reading;
+mod topics;
 mod values;
 mod words;
 
 pub use command::{
     BatchOption, Command, DiskArgs, DrawArgs, GrowArgs, LogArgs, MigrateArgs, ModelArgs, NewArgs,
-    NodeArgs, RunArgs, ShowArgs, SourceArgs, StatsArgs,
+    NodeArgs, RecoverArgs, RunArgs, ShowArgs, SourceArgs, StatsArgs, VerifyArgs,
 };
 pub use grammar::{Texts, most_sectors, program_help, seq_help};
+pub use helping::help_text;
 pub use hint::{Hint, hint_of};
 pub use reading::read_command;
-pub use words::says_advice;
+pub use topics::{TOPICS, Topic, asks_help, topic_of};
+pub use words::{says_advice, says_quiet};

@@ -4,18 +4,19 @@ ghost use Rattle.std.specs.Prelude.{◌≡◌, ◌≤◌, map, IfOk};
 ghost use Rattle.clap.specs.Words.{found_of, rows_of, FailsBy};
 ghost use Rattle.cli.specs.Command.{refusal_of, IsDrawRanged, IsLogRanged, IsNamed, IsRanged};
 ghost use Rattle.cli.specs.Command.{IsRunRanged, IsSized, Says, SaysDisk, SaysDraw, SaysGrow};
-ghost use Rattle.cli.specs.Command.{SaysLog, SaysMigrate, SaysModel, SaysNew, SaysNode, SaysRows};
-ghost use Rattle.cli.specs.Command.{SaysRun, SaysShow, SaysSource, SaysStats};
+ghost use Rattle.cli.specs.Command.{SaysLog, SaysMigrate, SaysModel, SaysNew, SaysNode};
+ghost use Rattle.cli.specs.Command.{SaysRecover, SaysRows, SaysRun, SaysShow, SaysSource};
+ghost use Rattle.cli.specs.Command.{SaysStats, SaysVerify};
 
 use crate::command::{
     Command, DiskArgs, DrawArgs, GrowArgs, LogArgs, MigrateArgs, ModelArgs, NewArgs, NodeArgs,
-    RunArgs, ShowArgs, SourceArgs, StatsArgs,
+    RecoverArgs, RunArgs, ShowArgs, SourceArgs, StatsArgs, VerifyArgs,
 };
 use crate::company::LAST_TIME;
 use crate::grammar::{Texts, most_sectors, program};
 use crate::values::{
-    batch, is_flagged, is_text, optional_number, optional_small_number, optional_text, range,
-    refusal, small_number, small_number_or, text,
+    batch, is_flagged, is_text, judge, optional_number, optional_small_number, optional_text,
+    range, refusal, rounds, small_number, small_number_or, text,
 };
 use clap::{ArgMatches, Error};
 use std::alloc::Global;
@@ -66,8 +67,10 @@ fn command_of<'a>(name: &str, values: &ArgMatches<'a>) -> Command<'a>
         "grow" => Command::Grow(grow_args(values)),
         "migrate" => Command::Migrate(migrate_args(values)),
         "reopen" => Command::Reopen(disk_args(values)),
+        "cut" => Command::Cut(disk_args(values)),
+        "recover" => Command::Recover(recover_args(values)),
         "status" => Command::Status(disk_args(values)),
-        "verify" => Command::Verify(disk_args(values)),
+        "verify" => Command::Verify(verify_args(values)),
         "log" => Command::Log(log_args(values)),
         "show" => Command::Show(show_args(values)),
         "stats" => Command::Stats(stats_args(values)),
@@ -120,6 +123,8 @@ fn new_args<'a>(values: &ArgMatches<'a>) -> NewArgs<'a>
         on,
         sectors,
         reserve: is_flagged(values, "reserve"),
+        over: is_flagged(values, "over"),
+        from: optional_text(values, "origin"),
     }
 }
 
@@ -133,7 +138,7 @@ fn run_args<'a>(values: &ArgMatches<'a>) -> RunArgs<'a>
         on,
         nodes: small_number_or(values, "nodes", 1, 64, 1),
         batch: batch(values),
-        rounds: small_number(values, "rounds", 1, u32::MAX),
+        rounds: rounds(values),
         checkpoint: optional_small_number(values, "checkpoint", 1, 1_000_000),
         seal: is_flagged(values, "seal"),
         commit_every: optional_small_number(values, "commit-every", 1, 400_000),
@@ -144,10 +149,12 @@ fn run_args<'a>(values: &ArgMatches<'a>) -> RunArgs<'a>
         plain: is_flagged(values, "plain"),
         attach: is_flagged(values, "attach"),
         bind: is_flagged(values, "bind"),
-        judge: optional_small_number(values, "judge", 0, u32::MAX),
+        judge: judge(values),
         silence: optional_small_number(values, "silence", 1, 86_400),
         retries: optional_small_number(values, "retries", 0, 1_000_000),
         grow_when_full: is_flagged(values, "grow-when-full"),
+        archive_when_full: is_flagged(values, "archive-when-full"),
+        keep: optional_small_number(values, "keep", 0, u32::MAX),
         trace: optional_text(values, "trace"),
         stop_file: optional_text(values, "stop-file"),
         progress: optional_small_number(values, "progress", 1, 86_400),
@@ -181,6 +188,32 @@ fn migrate_args<'a>(values: &ArgMatches<'a>) -> MigrateArgs<'a>
         sectors: small_number(values, "sectors", 8, most_sectors(large)),
         reserve: is_flagged(values, "reserve"),
         large,
+    }
+}
+
+/// The arguments of `recover`.
+fn recover_args<'a>(values: &ArgMatches<'a>) -> RecoverArgs<'a>
+    ensures says { SaysRecover result (rows_of (found_of values.now)) }
+    ensures ranged { IsSized result.sectors result.large }
+{
+    let large = is_flagged(values, "large");
+    RecoverArgs {
+        model: text(values, "MODEL"),
+        old: text(values, "DISK"),
+        new: text(values, "NEW"),
+        sectors: small_number(values, "sectors", 8, most_sectors(large)),
+        reserve: is_flagged(values, "reserve"),
+        large,
+    }
+}
+
+/// The arguments of `verify`.
+fn verify_args<'a>(values: &ArgMatches<'a>) -> VerifyArgs<'a>
+    ensures { SaysVerify result (rows_of (found_of values.now)) }
+{
+    VerifyArgs {
+        on: disk_args(values),
+        after: optional_text(values, "after"),
     }
 }
 

@@ -7,8 +7,9 @@ ghost use Rattle.clap.specs.ValueTests.{accepts};
 ghost use Rattle.clap.specs.Words.{first_of, found_of, rows_of, HasKind};
 ghost use Rattle.clap.specs.declared.error.kind.ErrorKind.TheVariants.{InvalidValue};
 ghost use Rattle.clap.specs.declared.error.kind.ErrorKind.TheVariants.{ValueValidation};
-ghost use Rattle.cli.specs.Command.{batch_in, form_fault, has_no_size, is_no_batch, is_no_format};
-ghost use Rattle.cli.specs.Command.{is_no_range, is_no_size, is_number, is_text, is_used};
+ghost use Rattle.cli.specs.Command.{batch_in, form_fault, has_no_count, has_no_size, is_no_count};
+ghost use Rattle.cli.specs.Command.{has_no_count_of_run, is_no_format, is_no_range, is_no_size};
+ghost use Rattle.cli.specs.Command.{is_number, is_text, is_used, judge_in, rounds_in};
 ghost use Rattle.cli.specs.Command.{number_fault, number_in, number_or, optional_number_in};
 ghost use Rattle.cli.specs.Command.{range_of, text_in};
 ghost use Rattle.cli.specs.Command.{text_fault, unread_fault, written_number};
@@ -146,6 +147,29 @@ pub fn batch(values: &ArgMatches<'_>) -> BatchOption
     }
 }
 
+/// The maximum number of rounds of a run; `unlimited` is the most of all.
+pub fn rounds(values: &ArgMatches<'_>) -> u32
+    ensures value { result ≡ rounds_in (rows_of (found_of values.now)) }
+    ensures least { 1 ≤ result }
+{
+    if is_text(optional_text(values, "rounds"), "unlimited") {
+        u32::MAX
+    } else {
+        small_number(values, "rounds", 1, u32::MAX)
+    }
+}
+
+/// One in how many reported events is judged, if that is said; `all` is one in one.
+pub fn judge(values: &ArgMatches<'_>) -> Option<u32>
+    ensures { result ≡ judge_in (rows_of (found_of values.now)) }
+{
+    if is_text(optional_text(values, "judge"), "all") {
+        Some(1)
+    } else {
+        optional_small_number(values, "judge", 0, u32::MAX)
+    }
+}
+
 /// The range of processes of a picture.
 pub fn range(values: &ArgMatches<'_>) -> Option<(u32, u32)>
     ensures value { result ≡ option_and_then range_of
@@ -159,7 +183,7 @@ pub fn range(values: &ArgMatches<'_>) -> Option<(u32, u32)>
 }
 
 /// The first and the last process of a range `A..B`.
-fn range_of(text: &str) -> Option<(u32, u32)>
+pub fn range_of(text: &str) -> Option<(u32, u32)>
     ensures value { result ≡ range_of text.now }
     ensures ordered { IfSome result (λ range. range.0 ≤ range.1) }
 {
@@ -217,14 +241,45 @@ fn refused_text(alloc: Global, values: &ArgMatches<'_>) -> Option<Error>
     }
 }
 
-/// The error for an invalid batch or number of sectors.
+/// The error for an invalid number of sectors, or a value that is neither a number nor the word
+/// that its option takes.
 fn refused_number(alloc: Global, values: &ArgMatches<'_>) -> Option<Error>
     ensures { MatchOption result (number_fault (rows_of (found_of values.now)) ≡ [])
         (λ e. HasKind (number_fault (rows_of (found_of values.now))) e) }
 {
-    match refused_batch(alloc, optional_text(values, "batch")) {
+    match refused_counts(alloc, values) {
         Some(error) => Some(error),
         None => refused_sizes(alloc, values),
+    }
+}
+
+/// The error for an invalid batch, or an invalid number of rounds, or of events that are judged.
+fn refused_counts(alloc: Global, values: &ArgMatches<'_>) -> Option<Error>
+    ensures { MatchOption result (has_no_count (rows_of (found_of values.now)) ≡ false)
+        (λ e. (has_no_count (rows_of (found_of values.now)) ≡ true)
+        × HasKind (ValueValidation ∷ []) e) }
+{
+    match refused_count(alloc, "batch", "auto", 1, optional_text(values, "batch")) {
+        Some(error) => Some(error),
+        None => refused_of_run(alloc, values),
+    }
+}
+
+/// The error for an invalid number of rounds, or of events that are judged.
+fn refused_of_run(alloc: Global, values: &ArgMatches<'_>) -> Option<Error>
+    ensures { MatchOption result (has_no_count_of_run (rows_of (found_of values.now)) ≡ false)
+        (λ e. (has_no_count_of_run (rows_of (found_of values.now)) ≡ true)
+        × HasKind (ValueValidation ∷ []) e) }
+{
+    match refused_count(
+        alloc,
+        "rounds",
+        "unlimited",
+        1,
+        optional_text(values, "rounds"),
+    ) {
+        Some(error) => Some(error),
+        None => refused_count(alloc, "judge", "all", 0, optional_text(values, "judge")),
     }
 }
 
@@ -253,16 +308,23 @@ fn refused_form(alloc: Global, values: &ArgMatches<'_>) -> Option<Error>
     }
 }
 
-/// The error for an invalid batch.
-fn refused_batch(alloc: Global, text: Option<&str>) -> Option<Error>
-    ensures { MatchOption result (is_no_batch (option_map (λ text. text.now) text.entry) ≡ false)
-        (λ e. (is_no_batch (option_map (λ text. text.now) text.entry) ≡ true)
+/// The error for a value of this option that is neither this word nor a number from `least` on.
+fn refused_count(
+    alloc: Global,
+    option: &str,
+    word: &str,
+    least: u64,
+    text: Option<&str>,
+) -> Option<Error>
+    ensures { MatchOption result
+        (is_no_count word.now least (option_map (λ text. text.now) text.entry) ≡ false)
+        (λ e. (is_no_count word.now least (option_map (λ text. text.now) text.entry) ≡ true)
         × HasKind (ValueValidation ∷ []) e) }
 {
     match text {
-        Some(text) if text != "auto" && !is_number(text, 1, 4_294_967_295) => {
-            let numbers = ValueParser::unsigned(1, 4_294_967_295);
-            Some(no_value(alloc, "batch", "N", numbers, text))
+        Some(text) if text != word && !is_number(text, least, 4_294_967_295) => {
+            let numbers = ValueParser::unsigned(least, 4_294_967_295);
+            Some(no_value(alloc, option, "N", numbers, text))
         }
         _ => None,
     }

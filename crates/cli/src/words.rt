@@ -2,7 +2,7 @@
 
 ghost use Rattle.std.specs.Prelude.{◌≡◌, ◌&&◌, ◌||◌, codes, drop, map};
 ghost use Rattle.std.specs.Str.{bytes_eq};
-ghost use Rattle.cli.specs.Command.{says_advice, says_flag, says_large};
+ghost use Rattle.cli.specs.Command.{says_advice, says_flag, says_large, says_quiet};
 
 use std::convert::AsStr;
 
@@ -20,6 +20,14 @@ pub fn says_advice<S: AsStr>(words: &[S]) -> bool
     ensures { result ≡ says_advice (drop 1 (map S.text words.now)) }
 {
     says(words, "--advice")
+}
+
+/// Whether there is a word `--quiet` before any word `--`. The first word is the program's own
+/// name. Also says so of words that name no command.
+pub fn says_quiet<S: AsStr>(words: &[S]) -> bool
+    ensures { result ≡ says_quiet (drop 1 (map S.text words.now)) }
+{
+    says(words, "--quiet")
 }
 
 /// Whether this flag is among the words, before any word `--`. The first word is the program's own
