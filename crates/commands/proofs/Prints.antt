@@ -47,6 +47,10 @@ pub at_ok : {T E X : Type 0} (r : Result T E) → X → OnOk r X
 at_ok (Ok x) h = h
 at_ok (Err e) h = tt
 
+pub at_ok_so : {T E X Y : Type 0} (r : Result T E) → (X → Y) → OnOk r X → OnOk r Y
+at_ok_so (Ok x) f h = f h
+at_ok_so (Err e) f h = tt
+
 -- only the stop of a run is reported as one
 stop_of : (fault : RunFault) (time events : ℕ) → of_run fault ≡ Stopped time events → fault ≡ run.Stopped time events
 stop_of (run.Session f) time events is = absurd cc

@@ -1,6 +1,6 @@
 -- Runs without nodes, in the terms of runs over nodes.
 use Rattle.std.proofs.Common.{ap, inr, refl, subst, sym, ◌∙◌}
-use Rattle.std.specs.Prelude.{◌≡◌, ℕ, List, Option, Result, Ok, Err}
+use Rattle.std.specs.Prelude.{◌≡◌, ℕ, List, Option, Result, Err}
 use Rattle.commands.specs.Commands.{IsKeptCommand, of_plain, stopped_in}
 use Rattle.disk.specs.Disk.{DiskState}
 use Rattle.model.specs.Meaning.{Meaning}

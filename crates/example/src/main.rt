@@ -22,6 +22,7 @@ const PLAN: Plan = Plan {
     checkpoint_every: 0,
     seals: false,
     commit_every: 0,
+    judged: false,
 };
 
 /// Simulates three processes that pass one token round every two ticks. Returns the disk.

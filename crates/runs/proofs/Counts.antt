@@ -16,7 +16,6 @@ use Rattle.runs.specs.Tallies.{AreCounted, CountsNothing, IsSized, IsTallied, Is
 use Rattle.runs.specs.declared.rounds.Plan.{Plan}
 use Rattle.runs.specs.declared.rounds.Round.{Round}
 use Rattle.runs.specs.declared.tally.Tally.{Tally}
-use Rattle.protocol.specs.Moves.{Move}
 use Rattle.protocol.specs.Moves.Move.{Checkpoint, Commit, Take}
 use Rattle.protocol.specs.declared.Answer.{Answer}
 use Rattle.protocol.specs.declared.Answer.TheVariants.{AlreadyAt, Checkpointed, Committed, Posted, Taken}
@@ -96,6 +95,18 @@ checkpoint_counts (PostStep node picks budget) transit answer is = absurd (cc)
 -- a step that is not the take of a node
 pub not_counted : (old new : List ℕ) → new ≡ old → (node before : ℕ) → get_or old node 0 ≡ min before (2 ^ 64 - 1) → get_or new node 0 ≡ min (before + (0 + 0)) (2 ^ 64 - 1)
 not_counted old new same node before is = ap (λ (counts : List ℕ). get_or counts node 0) same ∙ (is ∙ capped before (before + (0 + 0)) (omega arith))
+
+-- a step that commits
+pub commit_tallied : (plan : Plan) (old new : Tally) (step : Step) (transit : List Signed) (answer : Answer) → move_of step ≡ Commit → new.events_until_commit ≡ plan.commit_every → new.commits ≡ old.commits + 1 → new.outstanding.items ≡ old.outstanding.items → new.budgets.items ≡ old.budgets.items
+    → new.handled_per_node.items ≡ old.handled_per_node.items → IsTallied plan old new (record { step = step; transit = transit; answer = answer } ∷ [])
+commit_tallied plan old new CommitStep transit answer is events commits outstanding budgets handled =
+    record { events_until_commit = λ reported before. omega (arith, events); commits = omega (arith, commits); outstanding = outstanding; budgets = budgets; budgeted = (tt, tt); handled = not_counted old.handled_per_node.items new.handled_per_node.items handled }
+commit_tallied plan old new JudgedStep transit answer is events commits outstanding budgets handled =
+    record { events_until_commit = λ reported before. omega (arith, events); commits = omega (arith, commits); outstanding = outstanding; budgets = budgets; budgeted = (tt, tt); handled = not_counted old.handled_per_node.items new.handled_per_node.items handled }
+commit_tallied plan old new CheckpointStep transit answer is events commits outstanding budgets handled = absurd (cc)
+commit_tallied plan old new SealedCheckpoint transit answer is events commits outstanding budgets handled = absurd (cc)
+commit_tallied plan old new (TakeStep node) transit answer is events commits outstanding budgets handled = absurd (cc)
+commit_tallied plan old new (PostStep node picks budget) transit answer is events commits outstanding budgets handled = absurd (cc)
 
 -- the take of a node
 pub take_counted : (n : ℕ) (old new : List ℕ) (answer : Answer) → n < length old → new ≡ set old n (handled_after (get_or old n 0) answer) → (node before : ℕ) → get_or old node 0 ≡ min before (2 ^ 64 - 1)

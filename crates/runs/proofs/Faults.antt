@@ -1,11 +1,15 @@
 -- Which faults the ports of a run can have.
-use Rattle.std.proofs.Common.{◌≡◌, ℕ, List, inl, map, subst}
+use Rattle.std.proofs.Common.{◌≡◌, ℕ, List, inl, inr, map, subst}
+use Rattle.std.proofs.lemmas.Bool.{cases_Bool}
 use Rattle.coordinator.proofs.PortFaults.{some-port, steps-faults}
 use Rattle.coordinator.specs.Opening.{AllFaithful, OpeningIsRefused}
 use Rattle.coordinator.specs.PortFaults.{IsFaultOfPorts}
-use Rattle.coordinator.specs.Session.{IsConsistentSession, Session, running}
+use Rattle.coordinator.specs.Session.{IsConsistentSession, Running, Session, running}
+use Rattle.coordinator.specs.Steps.{StepHasCause}
+use Rattle.coordinator.specs.declared.Step.{Step}
+use Rattle.coordinator.specs.declared.Step.TheVariants.{Checkpoint, Commit, JudgedCommit, Post, SealedCheckpoint, Take}
 use Rattle.coordinator.specs.declared.SessionFault.{SessionFault}
-use Rattle.coordinator.specs.declared.SessionFault.TheVariants.{Port}
+use Rattle.coordinator.specs.declared.SessionFault.TheVariants.{Port, Reports}
 use Rattle.disk.specs.Disk.{DiskState}
 use Rattle.model.specs.Meaning.{Meaning}
 use Rattle.runs.proofs.Drives.{goes_by}
@@ -31,6 +35,27 @@ module _ {P : Type 0} (state : P → PortState) where
     step_faults S old new fault consistent is =
         let before = (goes_by meaning state disk is.steps old is.mid is.made).made consistent in
         steps-faults state meaning disk is.next is.mid new fault before.consistent is.refused
+
+    -- no step of a consistent session finds reports that are not those of the model
+    reports_apart : (next : Step) (r : Running) → IsConsistentSession r → StepHasCause Reports next r → ⊥
+    reports_apart JudgedCommit r consistent cause = cause.1 consistent
+    reports_apart Commit r consistent cause = cause
+    reports_apart Checkpoint r consistent cause = cause
+    reports_apart SealedCheckpoint r consistent cause = cause
+    reports_apart (Take node) r consistent cause = cause
+    reports_apart (Post node picks budget) r consistent cause = cause
+
+    pub step_reports : (S : List Made → Type 0) (old new : Session M P D) → IsConsistentSession (running meaning state old) → IsRefusedIn meaning state disk S old new Reports → ⊥
+    step_reports S old new consistent is =
+        let before = (goes_by meaning state disk is.steps old is.mid is.made).made consistent in
+        elim (cases_Bool is.mid.spent) [
+          | inl spent ↦ absurd (let other = is.refused.spent.1 spent in cc)
+          | inr usable ↦ reports_apart is.next (running meaning state is.mid) before.consistent (is.refused.cause usable)
+        ]
+
+-- an opening finds no reports
+pub opening_reports : (m : Meaning) (end : ℕ) (image : List (List ℕ)) (ports : List PortState) (failed : Type 0) (fault : SessionFault) → fault ≡ Reports → OpeningIsRefused m end image ports failed fault → ⊥
+opening_reports m end image ports failed fault is refused = subst (λ (f : SessionFault). OpeningIsRefused m end image ports failed f) is refused
 
 -- A simulation has the faults of sessions from its run alone.
 

@@ -161,9 +161,9 @@ module _ {M P D : Type 0} (meaning : M → Meaning) (state : P → PortState) (d
       let rest = on (is.steps ++ begun) is.shape in
       record { steps = is.steps; mid = is.mid; made = is.made; next = is.next; refused = is.refused; answer = is.answer; more = is.more ++ rest.0; shape = subst T (append_assoc is.steps begun rest.0) rest.1 }
 
-  pub refused_after : (S T U : List Made → Type 0) (old mid new : Session M P D) (fault : SessionFault) (first : IsDrivenBy meaning state disk S old mid) → ((ls : List Made) → T ls → U (first.steps ++ ls)) → IsRefusedIn meaning state disk T mid new fault
+  pub refused_after : {b : Bool} (S T U : List Made → Type 0) (old mid new : Session M P D) (fault : SessionFault) (first : IsDrivenBy meaning state disk b S old mid) → ((ls : List Made) → T ls → U (first.steps ++ ls)) → IsRefusedIn meaning state disk T mid new fault
       → IsRefusedIn meaning state disk U old new fault
-  refused_after S T U old mid new fault first both is =
+  refused_after {b} S T U old mid new fault first both is =
       let begun : List Made = record { step = is.next; transit = is.mid.ledger.transit; answer = is.answer } ∷ is.more in
       record {
         steps = first.steps ++ is.steps;
@@ -178,13 +178,13 @@ module _ {M P D : Type 0} (meaning : M → Meaning) (state : P → PortState) (d
 
   -- the same if the first steps are counted; what follows may depend on the parcels outstanding after
   -- them
-  pub refused_next : {plan : Plan} {t u : Tally} (S T U : List Made → Type 0) (old mid new : Session M P D) (fault : SessionFault) → ((ks ls : List Made) → u.outstanding.items ≡ outstanding_after t.outstanding.items ks → S ks → T ls → U (ks ++ ls))
-      → IsDrivenBy meaning state disk (Tallied plan S t u) old mid → IsRefusedIn meaning state disk T mid new fault → IsRefusedIn meaning state disk U old new fault
-  refused_next {plan} {t} {u} S T U old mid new fault both first is = refused_after (Tallied plan S t u) T U old mid new fault first (λ ls rest. both first.steps ls first.shape.tally.outstanding first.shape.shape rest) is
+  pub refused_next : {b : Bool} {plan : Plan} {t u : Tally} (S T U : List Made → Type 0) (old mid new : Session M P D) (fault : SessionFault) → ((ks ls : List Made) → u.outstanding.items ≡ outstanding_after t.outstanding.items ks → S ks → T ls → U (ks ++ ls))
+      → IsDrivenBy meaning state disk b (Tallied plan S t u) old mid → IsRefusedIn meaning state disk T mid new fault → IsRefusedIn meaning state disk U old new fault
+  refused_next {b} {plan} {t} {u} S T U old mid new fault both first is = refused_after (Tallied plan S t u) T U old mid new fault first (λ ls rest. both first.steps ls first.shape.tally.outstanding first.shape.shape rest) is
 
-  pub refused_then : {plan : Plan} {t u : Tally} (S T U : List Made → Type 0) (old mid new : Session M P D) (fault : SessionFault) → ((ks ls : List Made) → S ks → T ls → U (ks ++ ls)) → IsDrivenBy meaning state disk (Tallied plan S t u) old mid
+  pub refused_then : {b : Bool} {plan : Plan} {t u : Tally} (S T U : List Made → Type 0) (old mid new : Session M P D) (fault : SessionFault) → ((ks ls : List Made) → S ks → T ls → U (ks ++ ls)) → IsDrivenBy meaning state disk b (Tallied plan S t u) old mid
       → IsRefusedIn meaning state disk T mid new fault → IsRefusedIn meaning state disk U old new fault
-  refused_then {plan} {t} {u} S T U old mid new fault both first is = refused_next {plan = plan} {t = t} {u = u} S T U old mid new fault (λ ks ls same. both ks ls) first is
+  refused_then {b} {plan} {t} {u} S T U old mid new fault both first is = refused_next {plan = plan} {t = t} {u = u} S T U old mid new fault (λ ks ls same. both ks ls) first is
 
   pub refused_so : (S T : List Made → Type 0) (old new : Session M P D) (fault : SessionFault) → ((ks : List Made) → S ks → T ks) → IsRefusedIn meaning state disk S old new fault → IsRefusedIn meaning state disk T old new fault
   refused_so S T old new fault so is =
@@ -192,9 +192,9 @@ module _ {M P D : Type 0} (meaning : M → Meaning) (state : P → PortState) (d
       record { steps = is.steps; mid = is.mid; made = is.made; next = is.next; refused = is.refused; answer = is.answer; more = is.more; shape = so (is.steps ++ begun) is.shape }
 
   -- while each node gets its turn
-  pub refused_within : {plan : Plan} {t u : Tally} (F : ℕ → List Made → Type 0) (S : List Made → Type 0) (node nodes : ℕ) (old mid new : Session M P D) (fault : SessionFault) → node < nodes → ((i : ℕ) → Completes (F i) (F (i + 1)))
-      → ((ks ls : List Made) → u.outstanding.items ≡ outstanding_after t.outstanding.items ks → F node ks → S ls → F (node + 1) (ks ++ ls)) → IsDrivenBy meaning state disk (Tallied plan (F node) t u) old mid → IsRefusedIn meaning state disk S mid new fault
+  pub refused_within : {b : Bool} {plan : Plan} {t u : Tally} (F : ℕ → List Made → Type 0) (S : List Made → Type 0) (node nodes : ℕ) (old mid new : Session M P D) (fault : SessionFault) → node < nodes → ((i : ℕ) → Completes (F i) (F (i + 1)))
+      → ((ks ls : List Made) → u.outstanding.items ≡ outstanding_after t.outstanding.items ks → F node ks → S ls → F (node + 1) (ks ++ ls)) → IsDrivenBy meaning state disk b (Tallied plan (F node) t u) old mid → IsRefusedIn meaning state disk S mid new fault
       → IsRefusedIn meaning state disk (F nodes) old new fault
-  refused_within {plan} {t} {u} F S node nodes old mid new fault l one both first is =
+  refused_within {b} {plan} {t} {u} F S node nodes old mid new fault l one both first is =
       let left : nodes ≡ (node + 1) + (nodes - (node + 1)) = omega (arith, l) in
       refused_first (F (node + 1)) (F nodes) old new fault (all_more F one (nodes - (node + 1)) (node + 1) nodes left) (refused_next {plan = plan} {t = t} {u = u} (F node) S (F (node + 1)) old mid new fault both first is)

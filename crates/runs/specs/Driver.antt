@@ -2,10 +2,10 @@
 use Rattle.std.specs.Prelude.{Bool, true, false, ℕ, zero, suc, List, [], ◌∷◌, ◌++◌, ◌+◌, ◌%◌, ◌==◌}
 use Rattle.std.specs.Prelude.{◌-◌, ◌^◌, get_or, ◌&&◌, ◌||◌, nat_le, nat_lt, max, min, ◌<◌, ◌≤◌, if◌then◌else◌, ◌≡◌, length}
 use Rattle.std.specs.Prelude.{Err, map, None, not, Ok, Option, replicate, Result, set, Some, unwrap_or, ◌⊎◌, ⊤}
-use Rattle.coordinator.specs.Crashes.{KeepsRepresentation}
-use Rattle.coordinator.specs.Drives.{Goes, IsStep}
+use Rattle.coordinator.specs.Crashes.{IsTrusted, KeepsRepresentation}
+use Rattle.coordinator.specs.Drives.{Goes, IsStep, any_trusts}
 use Rattle.coordinator.specs.Headline.{IsDriven as IsDrivenFrom}
-use Rattle.coordinator.specs.Opening.{OpeningIsRefused}
+use Rattle.coordinator.specs.Opening.{AllFaithful, OpeningIsRefused}
 use Rattle.coordinator.specs.declared.SessionFault.{SessionFault}
 use Rattle.coordinator.specs.Session.{IsConsistentSession, Session, running}
 use Rattle.coordinator.specs.Steps.{move_of}
@@ -266,9 +266,13 @@ abbrev pub kept_after : Plan → ℕ → List Step
 kept_after plan number =
     if is_kept plan.checkpoint_every number then checkpoint_by plan.seals ∷ [] else []
 
+-- whether the commits of a plan trust the nodes: those that are judged trust none
+abbrev pub trusts_by : Plan → Bool
+trusts_by plan = not plan.judged
+
 -- the step that commits
 abbrev pub commit_by : Plan → Step
-commit_by plan = step.Commit
+commit_by plan = if plan.judged then step.JudgedCommit else step.Commit
 
 -- the end of a round, with `reported` events reported since the last of `commits` commits
 abbrev pub closing_of : Round → ℕ → ℕ → ℕ → List Step
@@ -315,15 +319,17 @@ AreRoundsOfRun plan end last rounds made = AreRounds plan end last rounds made
 -- 3. The session after the steps
 
 module _ {M P D : Type 0} (meaning : M → Meaning) (state : P → PortState) where
-  -- some steps lead from one to the other: each is its move, and the disk goes on recovering
-  pub record IsDriven (disk : D → DiskState) (old new : Session M P D) : Type 0 where
+  -- Some steps lead from one to the other: each is its move, and the disk goes on recovering. If
+  -- nodes are trusted, this is promised of a consistent session.
+  pub record IsDriven (disk : D → DiskState) (trusted : Bool)
+      (old new : Session M P D) : Type 0 where
     pub moves : List Move
-    pub made : Goes meaning state disk true moves old new
+    pub made : Goes meaning state disk trusted moves old new
 
-  -- the records go on representing the front, if the session was consistent
-  abbrev pub Keeps : (D → DiskState) → Session M P D → Session M P D → Type 0
-  Keeps disk old new =
-      KeepsRepresentation meaning disk (IsConsistentSession (running meaning state old)) old new
+  -- the records go on representing the front, if no node is trusted or the session was consistent
+  abbrev pub Keeps : (D → DiskState) → Bool → Session M P D → Session M P D → Type 0
+  Keeps disk trusted old new =
+      KeepsRepresentation meaning disk (IsTrusted trusted (running meaning state old)) old new
 
   -- each of these steps was made with this in transit and had this answer, over any ports
   abbrev pub AreMade : (D → DiskState) → List Made → Session M P D → Session M P D → Type 0
@@ -331,12 +337,14 @@ module _ {M P D : Type 0} (meaning : M → Meaning) (state : P → PortState) wh
   AreMade disk (k ∷ ks) old new = (mid : Session M P D) × (k.transit ≡ old.ledger.transit)
       × IsStep meaning state disk k.step old mid (Ok k.answer) × AreMade disk ks mid new
 
-  -- steps of this shape were made one after another, over any ports
-  pub record IsDrivenBy (disk : D → DiskState) (Shape : List Made → Type 0)
+  -- Steps of this shape were made one after another, over any ports. If nodes are not trusted, no
+  -- step trusts them.
+  pub record IsDrivenBy (disk : D → DiskState) (trusted : Bool) (Shape : List Made → Type 0)
       (old new : Session M P D) : Type 0 where
     pub steps : List Made
     pub shape : Shape steps
     pub made : AreMade disk steps old new
+    pub trusts_none : trusted ≡ false → any_trusts (steps_of steps) ≡ false
 
   -- Steps were made, and the next step was refused with this fault, over any ports. They begin
   -- steps of this shape: it holds of them, the refused step with some answer, and some steps more.
@@ -359,20 +367,20 @@ module _ {M P D : Type 0} (meaning : M → Meaning) (state : P → PortState) wh
 
   -- Over any ports: a session was opened on a disk, at the front to which its records are replayed;
   -- steps of this shape were made and led to this front; and this disk is left.
-  pub record HasMade (disk : D → DiskState) (model : M) (end : ℕ) (Shape : List Made → Type 0)
-      (old new : D) (front : World) : Type 0 where
+  pub record HasMade (disk : D → DiskState) (model : M) (end : ℕ) (trusted : Bool)
+      (Shape : List Made → Type 0) (old new : D) (front : World) : Type 0 where
     pub first : Session M P D
     pub last : Session M P D
     pub same : (first.model ≡ model) × (first.end ≡ end)
     pub replayed : IsReplayedTo (meaning model) end (disk old).reads first.front
-    pub driven : IsDrivenBy disk Shape first last
+    pub driven : IsDrivenBy disk trusted Shape first last
     pub front_is : front ≡ last.front
     pub left : new ≡ last.log.disk
 
   -- the steps are the first `rounds` rounds of a run to the round with the number `last`
   abbrev pub HasRun : (D → DiskState) → M → ℕ → Plan → ℕ → ℕ → D → D → World → Type 0
   HasRun disk model end plan last rounds old new front =
-      HasMade disk model end (AreRoundsOfRun plan end last rounds) old new front
+      HasMade disk model end (trusts_by plan) (AreRoundsOfRun plan end last rounds) old new front
 
   -- the result of a run that reached its end, over any ports
   pub record IsRunOver (disk : D → DiskState) (model : M) (end : ℕ) (plan : Plan) (old new : D)
@@ -393,7 +401,7 @@ module _ {M P D : Type 0} (meaning : M → Meaning) (state : P → PortState) wh
     pub last : ℕ
     pub front : World
     pub some : (rounds ≤ last) × (last ≤ plan.rounds)
-    pub run : HasMade disk model end
+    pub run : HasMade disk model end (trusts_by plan)
         (λ made. AreRoundsOfRun plan end last rounds made × AreCounts counts made) old new front
 
   -- all rounds of a run were made, and its front has not reached the end, over any ports
@@ -438,7 +446,12 @@ module _ {M P D : Type 0} (meaning : M → Meaning) (state : P → PortState) wh
       ((disk old).failures < (disk new).failures) fault
       ⊎ HasStopped disk model end plan old new fault
 
--- 4. Over faithful ports
+-- 4. Over faithful ports, or with judged commits
+
+-- What a run trusts is faithful: its commits are judged, so that it trusts no node; or its ports
+-- are faithful and run its model.
+abbrev pub TrustsOnlyFaithful : Plan → Meaning → List PortState → Type 0
+TrustsOnlyFaithful plan m ports = (plan.judged ≡ true) ⊎ AllFaithful m ports
 
 -- the time and the number of events that a run returned as committed
 abbrev pub acknowledged : Result Finished RunFault → Option (ℕ × ℕ)

@@ -3,7 +3,7 @@
 ghost use Rattle.std.specs.Prelude.{◌≡◌, ◌<◌, ◌≤◌, ◌^◌, ℕ, IfErr, IfOk, IsErrOf, OnOk, length};
 ghost use Rattle.std.specs.Prelude.{map, replicate};
 ghost use Rattle.coordinator.specs.declared.SessionFault.{SessionFault};
-ghost use Rattle.coordinator.specs.declared.SessionFault.TheVariants.{Port as OfPort};
+ghost use Rattle.coordinator.specs.declared.SessionFault.TheVariants.{Port as OfPort, Reports};
 ghost use Rattle.recovery.specs.Crashes.{KeepsRecovery};
 ghost use Rattle.recovery.specs.Represents.{Recovers, IsGenuine};
 ghost use Rattle.coordinator.specs.PortFaults.{IsFaultInProgram};
@@ -52,10 +52,13 @@ pub fn run_local<M: Simulated, D: SectorDisk + Drop, W: Watch>(
         SessionRefused M.meaning (state_by M.meaning) D.state model.now end plan
         (replicate plan.nodes (state_of (M.meaning model.now) Fresh)) disk result.disk fault }
     // On a disk whose records are genuine, a fault of a port is that of a node: its memory is
-    // exhausted, or a handling would pass the number limit.
+    // exhausted, or a handling would pass the number limit. No commit finds reports that are not
+    // those of the model.
     ensures faults { IsGenuine (M.meaning model.now) end (D.state disk).reads →
         (fault : PortFault) → IsErrOf result.outcome (RunFault.Session (OfPort fault)) →
         IsFaultInProgram fault }
+    ensures reports { IsGenuine (M.meaning model.now) end (D.state disk).reads →
+        IsErrOf result.outcome (RunFault.Session Reports) → ⊥ }
     ensures count { IfOk result.outcome (λ outcome. length outcome.ran.items ≡ plan.nodes) }
     // The fault is `Rounds` only if all rounds were made and the end was not reached.
     ensures rounds { IsGenuine (M.meaning model.now) end (D.state disk).reads →

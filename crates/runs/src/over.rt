@@ -2,12 +2,12 @@
 
 ghost use Rattle.std.specs.Prelude.{◌≡◌, ◌<◌, ◌≤◌, ◌^◌, ℕ, IfOk, IsErrOf, OnOk, length, map};
 ghost use Rattle.coordinator.specs.declared.SessionFault.{SessionFault};
-ghost use Rattle.coordinator.specs.declared.SessionFault.TheVariants.{Port as OfPort};
+ghost use Rattle.coordinator.specs.declared.SessionFault.TheVariants.{Port as OfPort, Reports};
 ghost use Rattle.recovery.specs.Crashes.{KeepsRecovery};
 ghost use Rattle.recovery.specs.Represents.{Recovers, IsGenuine};
 ghost use Rattle.coordinator.specs.Opening.{AllFresh, AllFaithful};
 ghost use Rattle.coordinator.specs.PortFaults.{IsFaultOfPorts};
-ghost use Rattle.runs.specs.Driver.{HasCounted, IsRunOver, IsShortOver};
+ghost use Rattle.runs.specs.Driver.{HasCounted, IsRunOver, IsShortOver, TrustsOnlyFaithful};
 ghost use Rattle.model.specs.World.{World};
 ghost use Rattle.recovery.specs.Histories.{IsKeptRun, IsRunOf, IsStoppedAt};
 ghost use Rattle.runs.specs.Driver.{IsStoppedOver, IsUnfinished, SessionRefused, acknowledged};
@@ -45,10 +45,13 @@ pub struct Ran<D> {
 /// returns the disk. Node k is behind the port at place k.
 ///
 /// Fails with the faults of the session's opening and steps (`Session`), if all rounds were made
-/// (`Rounds`), if `watch` asked for a stop (`Stopped`), or if an allocation fails (`NoMemory`). Over
-/// faithful ports that run this model, what was committed stays on the disk in every case. Of other
-/// ports it is only guaranteed that
-/// they are asked as the plan says.
+/// (`Rounds`), if `watch` asked for a stop (`Stopped`), or if an allocation fails (`NoMemory`).
+///
+/// If the plan's commits are judged, whatever the nodes answer, and also if the ports are faithful
+/// and run this model, what was committed stays on the disk in every case, and all that is committed
+/// is what the sequential simulation does. Of other runs it is only guaranteed that the ports are
+/// asked as the plan says. A judged commit fails with `Session Reports` if what the nodes reported
+/// is not what the simulation does next; over faithful ports none does.
 pub fn run_over<M: Simulated, P: Port + Drop, D: SectorDisk + Drop, W: Watch>(
     alloc: Global,
     model: &M,
@@ -86,35 +89,40 @@ pub fn run_over<M: Simulated, P: Port + Drop, D: SectorDisk + Drop, W: Watch>(
     ensures faults { AllFaithful (M.meaning model.now) (map P.state ports.items) →
         IsGenuine (M.meaning model.now) end (D.state disk).reads → (fault : PortFault) →
         IsErrOf result.outcome (RunFault.Session (OfPort fault)) → IsFaultOfPorts P.state fault }
+    // No commit over faithful ports finds reports that are not those of the model.
+    ensures reports { AllFaithful (M.meaning model.now) (map P.state ports.items) →
+        IsGenuine (M.meaning model.now) end (D.state disk).reads →
+        IsErrOf result.outcome (RunFault.Session Reports) → ⊥ }
     ensures count { IfOk result.outcome (λ outcome. length outcome.ran.items ≡ plan.nodes) }
-    // Over faithful ports, and on a disk whose records are genuine, the result is that of the
-    // sequential simulation up to the end.
-    ensures finished { AllFaithful (M.meaning model.now) (map P.state ports.items) →
+    // If the commits are judged or the ports are faithful, and on a disk whose records are genuine,
+    // the result is that of the sequential simulation up to the end.
+    ensures finished { TrustsOnlyFaithful plan (M.meaning model.now) (map P.state ports.items) →
         IsGenuine (M.meaning model.now) end (D.state disk).reads →
         IfOk result.outcome (λ outcome. IsRunOf (M.meaning model.now) end outcome.time outcome.events) }
-    // The fault is `Rounds` only if all rounds were made and the end was not reached.
+    // Over faithful ports the fault is `Rounds` only if all rounds were made and the end was not
+    // reached.
     ensures rounds { AllFaithful (M.meaning model.now) (map P.state ports.items) →
         IsGenuine (M.meaning model.now) end (D.state disk).reads →
         IsErrOf result.outcome RunFault.Rounds →
         IsUnfinished (M.meaning model.now) end plan (D.state disk).reads }
     // After a stop the numbers are those of the sequential simulation up to that time, and the disk
     // recovers to at least that time.
-    ensures stopped_at { AllFaithful (M.meaning model.now) (map P.state ports.items) →
+    ensures stopped_at { TrustsOnlyFaithful plan (M.meaning model.now) (map P.state ports.items) →
         IsGenuine (M.meaning model.now) end (D.state disk).reads →
         (time events : ℕ) → IsErrOf result.outcome (RunFault.Stopped time events) →
         IsStoppedAt (M.meaning model.now) end time events
         × Recovers (M.meaning model.now) end time (D.state result.disk) }
     // Crash safety: what recovered to at least time `a` before still does, during and after the
     // run, at every exit. After a run that reached its end, it recovers to at least the end.
-    ensures crashes { AllFaithful (M.meaning model.now) (map P.state ports.items) → (a : ℕ) →
-        Recovers (M.meaning model.now) end a (D.state disk) →
+    ensures crashes { TrustsOnlyFaithful plan (M.meaning model.now) (map P.state ports.items) →
+        (a : ℕ) → Recovers (M.meaning model.now) end a (D.state disk) →
         KeepsRecovery (M.meaning model.now) end a a (D.state disk) (D.state result.disk) }
     // It is a call of a history of the headline, which acknowledges the front that it reached, or at
     // which it was stopped.
-    ensures kept { AllFaithful (M.meaning model.now) (map P.state ports.items) → (v : World) →
-        IsKeptRun (M.meaning model.now) end v (D.state disk) (D.state result.disk)
+    ensures kept { TrustsOnlyFaithful plan (M.meaning model.now) (map P.state ports.items) →
+        (v : World) → IsKeptRun (M.meaning model.now) end v (D.state disk) (D.state result.disk)
         (acknowledged result.outcome) }
-    ensures committed { AllFaithful (M.meaning model.now) (map P.state ports.items) →
+    ensures committed { TrustsOnlyFaithful plan (M.meaning model.now) (map P.state ports.items) →
         IsGenuine (M.meaning model.now) end (D.state disk).reads →
         OnOk result.outcome (Recovers (M.meaning model.now) end end (D.state result.disk)) }
 {

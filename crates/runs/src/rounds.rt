@@ -1,15 +1,16 @@
 // Rounds of steps.
 
 ghost use Rattle.std.specs.Prelude.{◌≡◌, ◌<◌, ◌≤◌, ◌+◌, ◌-◌, ◌^◌, [], ◌∷◌, ℕ, IfOk, OnOk};
-ghost use Rattle.std.specs.Prelude.{IsErrOf, None, Option, get_or, length, if◌then◌else◌};
+ghost use Rattle.std.specs.Prelude.{IsErrOf, None, Option, false, get_or, length, if◌then◌else◌};
 ghost use Rattle.runs.specs.Driver.{AreAsked, AreCounts, AreFirst, AreNext, ArePosts, AreRounds};
 ghost use Rattle.runs.specs.Driver.{AreRoundsOfRun, AreTurns, IsDriven, IsDrivenBy, IsFinished, IsNext, IsPost};
 ghost use Rattle.runs.specs.Driver.{IsPostIf, IsRefusedIn, IsRound, IsTurn, closing_of, goes_on, is_kept};
-ghost use Rattle.runs.specs.Driver.{Keeps, checkpoint_by, commit_by, kept_after, moves_of, steps_of, takes_of};
+ghost use Rattle.runs.specs.Driver.{Keeps, checkpoint_by, commit_by, kept_after, moves_of, steps_of};
+ghost use Rattle.runs.specs.Driver.{takes_of, trusts_by};
 ghost use Rattle.runs.specs.Tallies.{CountsNothing, IsSized, IsTallied, Tallied};
-ghost use Rattle.protocol.specs.Moves.Move.{Checkpoint as CheckpointMove};
+ghost use Rattle.protocol.specs.Moves.Move.{Checkpoint as CheckpointMove, Commit as CommitMove};
 ghost use Rattle.protocol.specs.Moves.Move.{Take as TakeMove};
-ghost use Rattle.coordinator.specs.Steps.{move_of};
+ghost use Rattle.coordinator.specs.Steps.{move_of, trusts};
 ghost use Rattle.coordinator.specs.declared.SessionFault.{SessionFault};
 
 use crate::picks::places;
@@ -76,6 +77,11 @@ pub struct Plan {
     /// case, and the last round of a run commits if any event was reported. A record holds at most
     /// 299,592 events, including those of the round that ends with the commit.
     pub commit_every: u32,
+    /// Whether commits trust no node: each then replays by the model what the nodes reported, and
+    /// fails with `Reports` if that is not what the sequential simulation does next. A judged
+    /// commit costs a handling for each event that it takes, beside the nodes' own, and a sort of
+    /// their sends; a run with many events reported between commits does this in long pauses.
+    pub judged: bool,
 }
 
 /// A round of a run.
@@ -162,20 +168,23 @@ pub fn run_session<M: Simulated, P: Port, D: SectorDisk, W: Watch>(
     requires { 0 < plan.nodes }
     // Everything is committed, by steps of the session alone.
     ensures ended { OnOk result (end ≤ session.new.front.time) }
-    ensures driven { OnOk result (IsDriven M.meaning P.state D.state session.old session.new) }
+    ensures driven { OnOk result (IsDriven M.meaning P.state D.state (trusts_by plan)
+        session.old session.new) }
     // The steps are rounds, each parcel has its own node's budget, and each count is what the
     // replies of its node said in them. The run was to end after `last` rounds.
     ensures in_rounds { IfOk result (λ handled_per_node. (rounds last : ℕ)
-        × ((rounds ≤ last) × (last ≤ plan.rounds)) × IsDrivenBy M.meaning P.state D.state
+        × ((rounds ≤ last) × (last ≤ plan.rounds))
+        × IsDrivenBy M.meaning P.state D.state (trusts_by plan)
         (λ made. AreRoundsOfRun plan end last rounds made × AreCounts handled_per_node.items made)
         session.old session.new) }
     ensures finished { session.old.end ≡ end →
         OnOk result (IsFinished M.meaning P.state end session.old session.new) }
     // At every exit the records represent what was committed, whatever crashes.
-    ensures keeps { Keeps M.meaning P.state D.state session.old session.new }
+    ensures keeps { Keeps M.meaning P.state D.state (trusts_by plan) session.old session.new }
     ensures rounds { IsErrOf result RunFault.Rounds → session.new.front.time < end }
     ensures all_rounds { IsErrOf result RunFault.Rounds →
-        IsDrivenBy M.meaning P.state D.state (AreRoundsOfRun plan end plan.rounds plan.rounds)
+        IsDrivenBy M.meaning P.state D.state (trusts_by plan)
+        (AreRoundsOfRun plan end plan.rounds plan.rounds)
         session.old session.new }
     // After a stop some of the plan's rounds were made, and the last of them ended like the last
     // round of a plan.
@@ -183,7 +192,7 @@ pub fn run_session<M: Simulated, P: Port, D: SectorDisk, W: Watch>(
         (session.new.front.time < end) × (time ≡ session.new.front.time)
         × (events ≡ length session.new.front.log)
         × ((last : ℕ) × (last < plan.rounds)
-        × IsDrivenBy M.meaning P.state D.state (AreRoundsOfRun plan end last last)
+        × IsDrivenBy M.meaning P.state D.state (trusts_by plan) (AreRoundsOfRun plan end last last)
         session.old session.new) }
     // A fault of the session is that of a step which the plan makes next.
     ensures refused { (fault : SessionFault) → IsErrOf result (RunFault.Session fault) →
@@ -260,12 +269,12 @@ fn make_round<M: Simulated, P: Port, D: SectorDisk, W: Watch>(
     requires sized { IsSized round.plan.nodes tally.old }
     requires commits { tally.old.commits < 2 ^ 32 - 1 }
     ensures driven { (reported : ℕ) → tally.old.events_until_commit ≡ round.plan.commit_every - reported →
-        OnOk result (IsDrivenBy M.meaning P.state D.state
+        OnOk result (IsDrivenBy M.meaning P.state D.state (trusts_by round.plan)
         (λ made. IsRound round reported tally.old.commits tally.old.outstanding.items made
         × IsTallied round.plan tally.old tally.new made) session.old session.new) }
     ensures commits { OnOk result (tally.new.commits ≤ tally.old.commits + 1) }
     ensures sized { IsSized round.plan.nodes tally.new }
-    ensures keeps { Keeps M.meaning P.state D.state session.old session.new }
+    ensures keeps { Keeps M.meaning P.state D.state (trusts_by round.plan) session.old session.new }
     ensures refused { (reported : ℕ) → tally.old.events_until_commit ≡ round.plan.commit_every - reported →
         (fault : SessionFault) → IsErrOf result (RunFault.Session fault) →
         IsRefusedIn M.meaning P.state D.state
@@ -290,12 +299,12 @@ fn close<M: Simulated, P: Port, D: SectorDisk, W: Watch>(
     requires sized { IsSized round.plan.nodes tally.old }
     requires commits { tally.old.commits < 2 ^ 32 - 1 }
     ensures driven { (reported : ℕ) → tally.old.events_until_commit ≡ round.plan.commit_every - reported →
-        OnOk result (IsDrivenBy M.meaning P.state D.state
+        OnOk result (IsDrivenBy M.meaning P.state D.state (trusts_by round.plan)
         (λ made. (steps_of made ≡ closing_of round reported tally.old.floor tally.old.commits)
         × IsTallied round.plan tally.old tally.new made) session.old session.new) }
     ensures commits { OnOk result (tally.new.commits ≤ tally.old.commits + 1) }
     ensures sized { IsSized round.plan.nodes tally.new }
-    ensures keeps { Keeps M.meaning P.state D.state session.old session.new }
+    ensures keeps { Keeps M.meaning P.state D.state (trusts_by round.plan) session.old session.new }
     ensures refused { (reported : ℕ) → tally.old.events_until_commit ≡ round.plan.commit_every - reported →
         (fault : SessionFault) → IsErrOf result (RunFault.Session fault) →
         IsRefusedIn M.meaning P.state D.state (λ made. steps_of made ≡ closing_of round reported tally.old.floor tally.old.commits)
@@ -332,12 +341,12 @@ fn commit<M: Simulated, P: Port, D: SectorDisk, W: Watch>(
 ) -> Result<(), RunFault>
     requires sized { IsSized plan.nodes tally.old }
     requires commits { tally.old.commits < 2 ^ 32 - 1 }
-    ensures driven { OnOk result (IsDrivenBy M.meaning P.state D.state
+    ensures driven { OnOk result (IsDrivenBy M.meaning P.state D.state (trusts_by plan)
         (λ made. (steps_of made ≡ commit_by plan ∷ kept_after plan (tally.old.commits + 1))
         × IsTallied plan tally.old tally.new made) session.old session.new) }
     ensures commits { OnOk result (tally.new.commits ≤ tally.old.commits + 1) }
     ensures sized { IsSized plan.nodes tally.new }
-    ensures keeps { Keeps M.meaning P.state D.state session.old session.new }
+    ensures keeps { Keeps M.meaning P.state D.state (trusts_by plan) session.old session.new }
     ensures refused { (fault : SessionFault) → IsErrOf result (RunFault.Session fault) →
         IsRefusedIn M.meaning P.state D.state (λ made. steps_of made
         ≡ commit_by plan ∷ kept_after plan (tally.old.commits + 1))
@@ -345,11 +354,24 @@ fn commit<M: Simulated, P: Port, D: SectorDisk, W: Watch>(
     ensures rounds { IsErrOf result RunFault.Rounds → ⊥ }
     ensures stopped { (time events : ℕ) → IsErrOf result (RunFault.Stopped time events) → ⊥ }
 {
-    session.step(&Step::Commit)?;
+    session.step(&commit_step(plan))?;
     tally.committed(plan.commit_every);
     let front = session.front();
     watch.committed(front.time, front.log.len());
     keep(session, plan, tally.commits())
+}
+
+/// Returns the step that commits.
+fn commit_step(plan: Plan) -> Step
+    ensures step { result ≡ commit_by plan }
+    ensures commit { move_of result ≡ CommitMove }
+    ensures trusts { trusts result ≡ trusts_by plan }
+{
+    if plan.judged {
+        Step::JudgedCommit
+    } else {
+        Step::Commit
+    }
 }
 
 /// Makes a checkpoint if the plan has one after the commit of this number.
@@ -358,10 +380,10 @@ fn keep<M: Simulated, P: Port, D: SectorDisk>(
     plan: Plan,
     number: u32,
 ) -> Result<(), RunFault>
-    ensures driven { OnOk result (IsDrivenBy M.meaning P.state D.state
+    ensures driven { OnOk result (IsDrivenBy M.meaning P.state D.state (trusts_by plan)
         (λ made. (steps_of made ≡ kept_after plan number) × CountsNothing made)
         session.old session.new) }
-    ensures keeps { Keeps M.meaning P.state D.state session.old session.new }
+    ensures keeps { Keeps M.meaning P.state D.state (trusts_by plan) session.old session.new }
     ensures refused { (fault : SessionFault) → IsErrOf result (RunFault.Session fault) →
         IsRefusedIn M.meaning P.state D.state (λ made. steps_of made ≡ kept_after plan number)
         session.old session.new fault }
@@ -378,6 +400,7 @@ fn keep<M: Simulated, P: Port, D: SectorDisk>(
 fn checkpoint_step(seal: bool) -> Step
     ensures step { result ≡ checkpoint_by seal }
     ensures checkpoint { move_of result ≡ CheckpointMove }
+    ensures trusts { trusts result ≡ false }
 {
     if seal {
         Step::SealedCheckpoint
@@ -402,12 +425,12 @@ fn ask<M: Simulated, P: Port, D: SectorDisk, W: Watch>(
     watch: &mut W,
 ) -> Result<(), RunFault>
     requires sized { IsSized round.plan.nodes tally.old }
-    ensures driven { OnOk result (IsDrivenBy M.meaning P.state D.state
+    ensures driven { OnOk result (IsDrivenBy M.meaning P.state D.state (trusts_by round.plan)
         (Tallied round.plan (AreAsked round.plan.schedule round tally.old.outstanding.items) tally.old tally.new)
         session.old session.new) }
     ensures commits { tally.new.commits ≡ tally.old.commits }
     ensures sized { IsSized round.plan.nodes tally.new }
-    ensures keeps { Keeps M.meaning P.state D.state session.old session.new }
+    ensures keeps { Keeps M.meaning P.state D.state (trusts_by round.plan) session.old session.new }
     ensures refused { (fault : SessionFault) → IsErrOf result (RunFault.Session fault) →
         IsRefusedIn M.meaning P.state D.state (AreAsked round.plan.schedule round tally.old.outstanding.items)
         session.old session.new fault }
@@ -430,12 +453,12 @@ fn turns<M: Simulated, P: Port, D: SectorDisk, W: Watch>(
     watch: &mut W,
 ) -> Result<(), RunFault>
     requires sized { IsSized round.plan.nodes tally.old }
-    ensures driven { OnOk result (IsDrivenBy M.meaning P.state D.state
+    ensures driven { OnOk result (IsDrivenBy M.meaning P.state D.state (trusts_by round.plan)
         (Tallied round.plan (AreTurns round.plan round.plan.nodes) tally.old tally.new)
         session.old session.new) }
     ensures commits { tally.new.commits ≡ tally.old.commits }
     ensures sized { IsSized round.plan.nodes tally.new }
-    ensures keeps { Keeps M.meaning P.state D.state session.old session.new }
+    ensures keeps { Keeps M.meaning P.state D.state (trusts_by round.plan) session.old session.new }
     ensures refused { (fault : SessionFault) → IsErrOf result (RunFault.Session fault) →
         IsRefusedIn M.meaning P.state D.state (AreTurns round.plan round.plan.nodes)
         session.old session.new fault }
@@ -457,12 +480,12 @@ fn together<M: Simulated, P: Port, D: SectorDisk, W: Watch>(
     watch: &mut W,
 ) -> Result<(), RunFault>
     requires sized { IsSized round.plan.nodes tally.old }
-    ensures driven { OnOk result (IsDrivenBy M.meaning P.state D.state
+    ensures driven { OnOk result (IsDrivenBy M.meaning P.state D.state (trusts_by round.plan)
         (Tallied round.plan (AreAsked Schedule.Together round tally.old.outstanding.items) tally.old tally.new)
         session.old session.new) }
     ensures commits { tally.new.commits ≡ tally.old.commits }
     ensures sized { IsSized round.plan.nodes tally.new }
-    ensures keeps { Keeps M.meaning P.state D.state session.old session.new }
+    ensures keeps { Keeps M.meaning P.state D.state (trusts_by round.plan) session.old session.new }
     ensures refused { (fault : SessionFault) → IsErrOf result (RunFault.Session fault) →
         IsRefusedIn M.meaning P.state D.state (AreAsked Schedule.Together round tally.old.outstanding.items)
         session.old session.new fault }
@@ -482,12 +505,12 @@ fn overlapped<M: Simulated, P: Port, D: SectorDisk, W: Watch>(
     watch: &mut W,
 ) -> Result<(), RunFault>
     requires sized { IsSized round.plan.nodes tally.old }
-    ensures driven { OnOk result (IsDrivenBy M.meaning P.state D.state
+    ensures driven { OnOk result (IsDrivenBy M.meaning P.state D.state (trusts_by round.plan)
         (Tallied round.plan (AreAsked Schedule.Overlapped round tally.old.outstanding.items) tally.old tally.new)
         session.old session.new) }
     ensures commits { tally.new.commits ≡ tally.old.commits }
     ensures sized { IsSized round.plan.nodes tally.new }
-    ensures keeps { Keeps M.meaning P.state D.state session.old session.new }
+    ensures keeps { Keeps M.meaning P.state D.state (trusts_by round.plan) session.old session.new }
     ensures refused { (fault : SessionFault) → IsErrOf result (RunFault.Session fault) →
         IsRefusedIn M.meaning P.state D.state (AreAsked Schedule.Overlapped round tally.old.outstanding.items)
         session.old session.new fault }
@@ -506,12 +529,12 @@ fn post_first<M: Simulated, P: Port, D: SectorDisk>(
     tally: &mut Tally,
 ) -> Result<(), RunFault>
     requires sized { IsSized round.plan.nodes tally.old }
-    ensures driven { OnOk result (IsDrivenBy M.meaning P.state D.state
+    ensures driven { OnOk result (IsDrivenBy M.meaning P.state D.state (trusts_by round.plan)
         (Tallied round.plan (AreFirst round.first round.plan) tally.old tally.new)
         session.old session.new) }
     ensures commits { tally.new.commits ≡ tally.old.commits }
     ensures sized { IsSized round.plan.nodes tally.new }
-    ensures keeps { Keeps M.meaning P.state D.state session.old session.new }
+    ensures keeps { Keeps M.meaning P.state D.state (trusts_by round.plan) session.old session.new }
     ensures refused { (fault : SessionFault) → IsErrOf result (RunFault.Session fault) →
         IsRefusedIn M.meaning P.state D.state (AreFirst round.first round.plan)
         session.old session.new fault }
@@ -533,12 +556,12 @@ fn next_turns<M: Simulated, P: Port, D: SectorDisk, W: Watch>(
     watch: &mut W,
 ) -> Result<(), RunFault>
     requires sized { IsSized round.plan.nodes tally.old }
-    ensures driven { OnOk result (IsDrivenBy M.meaning P.state D.state
+    ensures driven { OnOk result (IsDrivenBy M.meaning P.state D.state (trusts_by round.plan)
         (Tallied round.plan (AreNext round tally.old.outstanding.items round.plan.nodes) tally.old tally.new)
         session.old session.new) }
     ensures commits { tally.new.commits ≡ tally.old.commits }
     ensures sized { IsSized round.plan.nodes tally.new }
-    ensures keeps { Keeps M.meaning P.state D.state session.old session.new }
+    ensures keeps { Keeps M.meaning P.state D.state (trusts_by round.plan) session.old session.new }
     ensures refused { (fault : SessionFault) → IsErrOf result (RunFault.Session fault) →
         IsRefusedIn M.meaning P.state D.state (AreNext round tally.old.outstanding.items round.plan.nodes)
         session.old session.new fault }
@@ -563,12 +586,12 @@ fn next_turn<M: Simulated, P: Port, D: SectorDisk, W: Watch>(
 ) -> Result<(), RunFault>
     requires node { node < round.plan.nodes }
     requires sized { IsSized round.plan.nodes tally.old }
-    ensures driven { OnOk result (IsDrivenBy M.meaning P.state D.state
+    ensures driven { OnOk result (IsDrivenBy M.meaning P.state D.state (trusts_by round.plan)
         (Tallied round.plan (IsNext round node (get_or tally.old.outstanding.items node Option.None)) tally.old tally.new)
         session.old session.new) }
     ensures commits { tally.new.commits ≡ tally.old.commits }
     ensures sized { IsSized round.plan.nodes tally.new }
-    ensures keeps { Keeps M.meaning P.state D.state session.old session.new }
+    ensures keeps { Keeps M.meaning P.state D.state (trusts_by round.plan) session.old session.new }
     ensures refused { (fault : SessionFault) → IsErrOf result (RunFault.Session fault) →
         IsRefusedIn M.meaning P.state D.state (IsNext round node (get_or tally.old.outstanding.items node Option.None))
         session.old session.new fault }
@@ -593,12 +616,12 @@ fn post_again<M: Simulated, P: Port, D: SectorDisk>(
 ) -> Result<(), RunFault>
     requires node { node < round.plan.nodes }
     requires sized { IsSized round.plan.nodes tally.old }
-    ensures driven { OnOk result (IsDrivenBy M.meaning P.state D.state
+    ensures driven { OnOk result (IsDrivenBy M.meaning P.state D.state (trusts_by round.plan)
         (Tallied round.plan (IsPostIf (goes_on round floor) round.plan node) tally.old tally.new)
         session.old session.new) }
     ensures commits { tally.new.commits ≡ tally.old.commits }
     ensures sized { IsSized round.plan.nodes tally.new }
-    ensures keeps { Keeps M.meaning P.state D.state session.old session.new }
+    ensures keeps { Keeps M.meaning P.state D.state (trusts_by round.plan) session.old session.new }
     ensures refused { (fault : SessionFault) → IsErrOf result (RunFault.Session fault) →
         IsRefusedIn M.meaning P.state D.state (IsPostIf (goes_on round floor) round.plan node)
         session.old session.new fault }
@@ -619,12 +642,12 @@ fn post_all<M: Simulated, P: Port, D: SectorDisk>(
     tally: &mut Tally,
 ) -> Result<(), RunFault>
     requires sized { IsSized round.plan.nodes tally.old }
-    ensures driven { OnOk result (IsDrivenBy M.meaning P.state D.state
+    ensures driven { OnOk result (IsDrivenBy M.meaning P.state D.state (trusts_by round.plan)
         (Tallied round.plan (ArePosts round.plan round.plan.nodes) tally.old tally.new)
         session.old session.new) }
     ensures commits { tally.new.commits ≡ tally.old.commits }
     ensures sized { IsSized round.plan.nodes tally.new }
-    ensures keeps { Keeps M.meaning P.state D.state session.old session.new }
+    ensures keeps { Keeps M.meaning P.state D.state (trusts_by round.plan) session.old session.new }
     ensures refused { (fault : SessionFault) → IsErrOf result (RunFault.Session fault) →
         IsRefusedIn M.meaning P.state D.state (ArePosts round.plan round.plan.nodes)
         session.old session.new fault }
@@ -645,12 +668,12 @@ fn take_all<M: Simulated, P: Port, D: SectorDisk, W: Watch>(
     watch: &mut W,
 ) -> Result<(), RunFault>
     requires sized { IsSized round.plan.nodes tally.old }
-    ensures driven { OnOk result (IsDrivenBy M.meaning P.state D.state
+    ensures driven { OnOk result (IsDrivenBy M.meaning P.state D.state (trusts_by round.plan)
         (Tallied round.plan (λ taken. moves_of taken ≡ takes_of round.plan.nodes) tally.old tally.new)
         session.old session.new) }
     ensures commits { tally.new.commits ≡ tally.old.commits }
     ensures sized { IsSized round.plan.nodes tally.new }
-    ensures keeps { Keeps M.meaning P.state D.state session.old session.new }
+    ensures keeps { Keeps M.meaning P.state D.state (trusts_by round.plan) session.old session.new }
     ensures refused { (fault : SessionFault) → IsErrOf result (RunFault.Session fault) →
         IsRefusedIn M.meaning P.state D.state (λ taken. moves_of taken ≡ takes_of round.plan.nodes)
         session.old session.new fault }
@@ -674,12 +697,12 @@ fn turn<M: Simulated, P: Port, D: SectorDisk, W: Watch>(
 ) -> Result<(), RunFault>
     requires node { node < round.plan.nodes }
     requires sized { IsSized round.plan.nodes tally.old }
-    ensures driven { OnOk result (IsDrivenBy M.meaning P.state D.state
+    ensures driven { OnOk result (IsDrivenBy M.meaning P.state D.state (trusts_by round.plan)
         (Tallied round.plan (IsTurn round.plan node) tally.old tally.new)
         session.old session.new) }
     ensures commits { tally.new.commits ≡ tally.old.commits }
     ensures sized { IsSized round.plan.nodes tally.new }
-    ensures keeps { Keeps M.meaning P.state D.state session.old session.new }
+    ensures keeps { Keeps M.meaning P.state D.state (trusts_by round.plan) session.old session.new }
     ensures refused { (fault : SessionFault) → IsErrOf result (RunFault.Session fault) →
         IsRefusedIn M.meaning P.state D.state (IsTurn round.plan node)
         session.old session.new fault }
@@ -700,12 +723,12 @@ fn post<M: Simulated, P: Port, D: SectorDisk>(
 ) -> Result<(), RunFault>
     requires node { node < round.plan.nodes }
     requires sized { IsSized round.plan.nodes tally.old }
-    ensures driven { OnOk result (IsDrivenBy M.meaning P.state D.state
+    ensures driven { OnOk result (IsDrivenBy M.meaning P.state D.state (trusts_by round.plan)
         (Tallied round.plan (IsPost round.plan node) tally.old tally.new)
         session.old session.new) }
     ensures commits { tally.new.commits ≡ tally.old.commits }
     ensures sized { IsSized round.plan.nodes tally.new }
-    ensures keeps { Keeps M.meaning P.state D.state session.old session.new }
+    ensures keeps { Keeps M.meaning P.state D.state (trusts_by round.plan) session.old session.new }
     ensures refused { (fault : SessionFault) → IsErrOf result (RunFault.Session fault) →
         IsRefusedIn M.meaning P.state D.state (IsPost round.plan node)
         session.old session.new fault }
@@ -736,12 +759,12 @@ fn take<M: Simulated, P: Port, D: SectorDisk, W: Watch>(
 ) -> Result<(), RunFault>
     requires node { node < round.plan.nodes }
     requires sized { IsSized round.plan.nodes tally.old }
-    ensures driven { OnOk result (IsDrivenBy M.meaning P.state D.state
+    ensures driven { OnOk result (IsDrivenBy M.meaning P.state D.state (trusts_by round.plan)
         (Tallied round.plan (λ taken. moves_of taken ≡ TakeMove node ∷ []) tally.old tally.new)
         session.old session.new) }
     ensures commits { tally.new.commits ≡ tally.old.commits }
     ensures sized { IsSized round.plan.nodes tally.new }
-    ensures keeps { Keeps M.meaning P.state D.state session.old session.new }
+    ensures keeps { Keeps M.meaning P.state D.state (trusts_by round.plan) session.old session.new }
     ensures refused { (fault : SessionFault) → IsErrOf result (RunFault.Session fault) →
         IsRefusedIn M.meaning P.state D.state (λ taken. moves_of taken ≡ TakeMove node ∷ [])
         session.old session.new fault }

@@ -55,6 +55,7 @@ pub(crate) fn plan(nodes: u32, batch: u32, every: u32) -> Plan
         checkpoint_every: every,
         seals: false,
         commit_every: 0,
+        judged: false,
     }
 }
 

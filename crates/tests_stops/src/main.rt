@@ -481,6 +481,7 @@ fn plan_of(nodes: u32, way: Way) -> Plan
         checkpoint_every: way.checkpoint_every,
         seals: false,
         commit_every: 0,
+        judged: false,
     }
 }
 

@@ -1,4 +1,4 @@
-use Rattle.std.proofs.Common.{List, refl, subst, sym, ◌∙◌}
+use Rattle.std.proofs.Common.{List, inr, refl, subst, sym, ◌∙◌}
 use Rattle.std.proofs.lemmas.List.{length-map}
 use Rattle.std.proofs.lemmas.Result.{IfOk-weaker}
 use Rattle.coordinator.proofs.PortFaults.{local-faults}
@@ -23,19 +23,19 @@ run_over-requires g c =
     }
 
 pub returns-clause-finished : goal.returns-clause-finished
-returns-clause-finished g c = c.run_over.ensures.finished (all_faithful c.args.plan.nodes (state_of (g.M.Model.meaning c.args.model.now) Fresh) _ c.in-Ok.ensures.ports (g.M.Model.meaning c.args.model.now) refl refl)
+returns-clause-finished g c = c.run_over.ensures.finished (inr (all_faithful c.args.plan.nodes (state_of (g.M.Model.meaning c.args.model.now) Fresh) _ c.in-Ok.ensures.ports (g.M.Model.meaning c.args.model.now) refl refl))
 
 pub returns-clause-rounds : goal.returns-clause-rounds
 returns-clause-rounds g c = c.run_over.ensures.rounds (all_faithful c.args.plan.nodes (state_of (g.M.Model.meaning c.args.model.now) Fresh) _ c.in-Ok.ensures.ports (g.M.Model.meaning c.args.model.now) refl refl)
 
 pub returns-clause-stopped_at : goal.returns-clause-stopped_at
-returns-clause-stopped_at g c = c.run_over.ensures.stopped_at (all_faithful c.args.plan.nodes (state_of (g.M.Model.meaning c.args.model.now) Fresh) _ c.in-Ok.ensures.ports (g.M.Model.meaning c.args.model.now) refl refl)
+returns-clause-stopped_at g c = c.run_over.ensures.stopped_at (inr (all_faithful c.args.plan.nodes (state_of (g.M.Model.meaning c.args.model.now) Fresh) _ c.in-Ok.ensures.ports (g.M.Model.meaning c.args.model.now) refl refl))
 
 pub returns-clause-crashes : goal.returns-clause-crashes
-returns-clause-crashes g c = c.run_over.ensures.crashes (all_faithful c.args.plan.nodes (state_of (g.M.Model.meaning c.args.model.now) Fresh) _ c.in-Ok.ensures.ports (g.M.Model.meaning c.args.model.now) refl refl)
+returns-clause-crashes g c = c.run_over.ensures.crashes (inr (all_faithful c.args.plan.nodes (state_of (g.M.Model.meaning c.args.model.now) Fresh) _ c.in-Ok.ensures.ports (g.M.Model.meaning c.args.model.now) refl refl))
 
 pub returns-clause-committed : goal.returns-clause-committed
-returns-clause-committed g c = c.run_over.ensures.committed (all_faithful c.args.plan.nodes (state_of (g.M.Model.meaning c.args.model.now) Fresh) _ c.in-Ok.ensures.ports (g.M.Model.meaning c.args.model.now) refl refl)
+returns-clause-committed g c = c.run_over.ensures.committed (inr (all_faithful c.args.plan.nodes (state_of (g.M.Model.meaning c.args.model.now) Fresh) _ c.in-Ok.ensures.ports (g.M.Model.meaning c.args.model.now) refl refl))
 
 pub returns-clause-reached : goal.returns-clause-reached
 returns-clause-reached g c = IfOk-weaker c.run_over.result.outcome _ _ (λ outcome over. over.reached) c.run_over.ensures.over
@@ -48,8 +48,11 @@ pub returns-clause-faults : goal.returns-clause-faults
 returns-clause-faults g c = λ genuine fault is.
     local-faults g.M.Model.meaning fault (c.run_over.ensures.faults (all_faithful c.args.plan.nodes (state_of (g.M.Model.meaning c.args.model.now) Fresh) _ c.in-Ok.ensures.ports (g.M.Model.meaning c.args.model.now) refl refl) genuine fault is)
 
+pub returns-clause-reports : goal.returns-clause-reports
+returns-clause-reports g c = c.run_over.ensures.reports (all_faithful c.args.plan.nodes (state_of (g.M.Model.meaning c.args.model.now) Fresh) _ c.in-Ok.ensures.ports (g.M.Model.meaning c.args.model.now) refl refl)
+
 pub returns-clause-kept : goal.returns-clause-kept
-returns-clause-kept g c = c.run_over.ensures.kept (all_faithful c.args.plan.nodes (state_of (g.M.Model.meaning c.args.model.now) Fresh) _ c.in-Ok.ensures.ports (g.M.Model.meaning c.args.model.now) refl refl)
+returns-clause-kept g c = c.run_over.ensures.kept (inr (all_faithful c.args.plan.nodes (state_of (g.M.Model.meaning c.args.model.now) Fresh) _ c.in-Ok.ensures.ports (g.M.Model.meaning c.args.model.now) refl refl))
 
 pub returns-in-Err-clause-kept : goal.returns-in-Err-clause-kept
 returns-in-Err-clause-kept g c = λ v.

@@ -1,13 +1,14 @@
-use Rattle.std.proofs.Common.{inr, ℕ, ◌<◌, ◌≤◌, Err, ap, arith, length, refl, subst, sym, ◌≡◌, ◌∙◌}
+use Rattle.std.proofs.Common.{inr, ◌<◌, ◌≤◌, Err, ap, arith, length, map, refl, subst, sym, ◌≡◌, ◌∙◌}
 use Rattle.coordinator.proofs.Resuming.{driven-on}
 use Rattle.recovery.proofs.Crashes.{back-under, kept-front, kept-none, looked-under, recovers-genuine}
 use Rattle.recovery.specs.Crashes.{KeepsRecovery, RecoversUnderItsEnd}
 use Rattle.recovery.specs.Represents.{IsGenuine, Recovers}
 use Rattle.coordinator.specs.Session.{system_of, running}
-use Rattle.coordinator.specs.declared.SessionFault.TheVariants.{Port}
-use Rattle.runs.proofs.Faults.{opening_faults, step_faults}
-use Rattle.runs.proofs.Drives.{answered, front_upto, goes_by, in_transit, shaped_by}
-use Rattle.runs.specs.Driver.{AreRounds, AreRoundsOfRun}
+use Rattle.coordinator.specs.Crashes.{IsTrusted}
+use Rattle.coordinator.specs.declared.SessionFault.TheVariants.{Port, Reports}
+use Rattle.runs.proofs.Faults.{opening_faults, opening_reports, step_faults, step_reports}
+use Rattle.runs.proofs.Drives.{answered, front_upto, goes_by, in_transit, may_trust, reached_upto, shaped_by}
+use Rattle.runs.specs.Driver.{AreRounds, AreRoundsOfRun, trusts_by}
 use Rattle.runs.proofs.Kept.{comes_to, driven-under, genuine-under, keeps, kept-stop, stopped_at}
 use Rattle.runs.proofs.Unfinished.{unfinished}
 use Rattle.runs.specs.declared.rounds.RunFault.TheVariants.{Rounds, Session, Stopped}
@@ -115,34 +116,35 @@ returns-clause-stopped g c = elim c.match-run_session.branch [
 ]
 
 pub returns-clause-stopped_at : goal.returns-clause-stopped_at
-returns-clause-stopped_at g c = λ are_faithful genuine. elim c.match-run_session.branch [
+returns-clause-stopped_at g c = λ only_faithful genuine. elim c.match-run_session.branch [
   | in-Ok-run_session w ↦ rw w.outcome-is (λ time events is. absurd (cc))
   | in-Err-run_session w ↦
       let opened = c.in-Ok.ensures in
       let m = g.M.Model.meaning c.args.model.now in
-      let consistent = (opened.consistent genuine are_faithful).0 in
+      let trusted = may_trust c.args.plan m _ (running g.M.Model.meaning g.P.Port.state c.in-Ok.session) (λ faithful. (opened.consistent genuine faithful).0) only_faithful in
       rw (w.outcome-is, c.into_disk.ensures)
       (λ time events is.
       let cause : w.in-Err-run_session.fault ≡ Stopped time events = cc in
       let stop = w.in-Err-run_session.ensures.stopped time events (ap Err cause) in
       let front = c.run_session.new.session.front in
-      let upto = front_upto g.M.Model.meaning g.P.Port.state g.D.SectorDisk.state _ c.in-Ok.session c.run_session.new.session stop.3.2 consistent in (
-        stopped_at m c.args.end time events front stop.1 stop.0 stop.2
-            (subst (λ (x : g.row.M.Denot). IsUpto (g.M.Model.meaning x) c.args.end front.time front) opened.same.0
-            (subst (λ (e : ℕ). IsUpto (g.M.Model.meaning c.in-Ok.session.model) e front.time front) opened.same.1 upto)),
+      let upto = front_upto g.M.Model.meaning g.P.Port.state g.D.SectorDisk.state _ c.in-Ok.session c.run_session.new.session m c.args.end (ap g.M.Model.meaning opened.same.0) opened.same.1 stop.3.2 trusted (opened.written genuine) in (
+        stopped_at m c.args.end time events front stop.1 stop.0 stop.2 upto.0,
         comes_to m c.args.end c.in-Ok.session.front front (g.D.SectorDisk.state c.args.disk) (g.D.SectorDisk.state c.in-Ok.session.log.disk) (g.D.SectorDisk.state c.run_session.new.session.log.disk)
-            (driven-on _ _ _ _ c.in-Ok.session.front front c.in-Ok.session.log _ _ (ap g.M.Model.meaning opened.same.0) opened.same.1 (c.run_session.ensures.keeps.crashes consistent) (opened.written genuine))
+            (driven-on _ _ _ _ c.in-Ok.session.front front c.in-Ok.session.log _ _ (ap g.M.Model.meaning opened.same.0) opened.same.1 (c.run_session.ensures.keeps.crashes trusted) (opened.written genuine))
             time (omega (arith, stop.1)) (opened.exactly genuine),
       ))
 ]
 
 pub returns-clause-finished : goal.returns-clause-finished
-returns-clause-finished g c = λ are_faithful genuine. elim c.match-run_session.branch [
+returns-clause-finished g c = λ only_faithful genuine. elim c.match-run_session.branch [
   | in-Ok-run_session w ↦
-      let same = c.in-Ok.ensures.same in
-      let consistent = (c.in-Ok.ensures.consistent genuine are_faithful).0 in
+      let opened = c.in-Ok.ensures in
+      let m = g.M.Model.meaning c.args.model.now in
       let front = c.run_session.new.session.front in
-      let upto : IsUpto (g.M.Model.meaning c.args.model.now) c.args.end c.args.end front = subst (λ (x : g.row.M.Denot). IsUpto (g.M.Model.meaning x) c.args.end c.args.end front) same.0 (w.in-Ok-run_session.ensures.finished same.1 consistent) in
+      let trusted = may_trust c.args.plan m _ (running g.M.Model.meaning g.P.Port.state c.in-Ok.session) (λ faithful. (opened.consistent genuine faithful).0) only_faithful in
+      let upto : IsUpto m c.args.end c.args.end front =
+      reached_upto m c.args.end front w.in-Ok-run_session.ensures.ended
+      (front_upto g.M.Model.meaning g.P.Port.state g.D.SectorDisk.state _ c.in-Ok.session c.run_session.new.session m c.args.end (ap g.M.Model.meaning opened.same.0) opened.same.1 w.in-Ok-run_session.ensures.in_rounds.3 trusted (opened.written genuine)) in
       rw w.outcome-is
       (record {
         world = front;
@@ -154,25 +156,25 @@ returns-clause-finished g c = λ are_faithful genuine. elim c.match-run_session.
 ]
 
 pub returns-clause-crashes : goal.returns-clause-crashes
-returns-clause-crashes g c = λ are_faithful a recovers.
+returns-clause-crashes g c = λ only_faithful a recovers.
     let opened = c.in-Ok.ensures in
     let m = g.M.Model.meaning c.args.model.now in
     let genuine = recovers-genuine m c.args.end (g.D.SectorDisk.state c.args.disk) (g.met.D.SectorDisk.sound c.args.disk) a recovers in
-    let consistent = (opened.consistent genuine are_faithful).0 in
+    let trusted = may_trust c.args.plan m _ (running g.M.Model.meaning g.P.Port.state c.in-Ok.session) (λ faithful. (opened.consistent genuine faithful).0) only_faithful in
     rw c.into_disk.ensures
     (keeps m c.args.end c.in-Ok.session.front c.run_session.new.session.front (g.D.SectorDisk.state c.args.disk) (g.D.SectorDisk.state c.in-Ok.session.log.disk) (g.D.SectorDisk.state c.run_session.new.session.log.disk)
-    (driven-on _ _ _ _ c.in-Ok.session.front c.run_session.new.session.front c.in-Ok.session.log _ _ (ap g.M.Model.meaning opened.same.0) opened.same.1 (c.run_session.ensures.keeps.crashes consistent) (opened.written genuine))
+    (driven-on _ _ _ _ c.in-Ok.session.front c.run_session.new.session.front c.in-Ok.session.log _ _ (ap g.M.Model.meaning opened.same.0) opened.same.1 (c.run_session.ensures.keeps.crashes trusted) (opened.written genuine))
     a (opened.crashes a recovers))
 
 pub returns-clause-committed : goal.returns-clause-committed
-returns-clause-committed g c = λ are_faithful genuine. elim c.match-run_session.branch [
+returns-clause-committed g c = λ only_faithful genuine. elim c.match-run_session.branch [
   | in-Ok-run_session w ↦
       let opened = c.in-Ok.ensures in
       let m = g.M.Model.meaning c.args.model.now in
-      let consistent = (opened.consistent genuine are_faithful).0 in
+      let trusted = may_trust c.args.plan m _ (running g.M.Model.meaning g.P.Port.state c.in-Ok.session) (λ faithful. (opened.consistent genuine faithful).0) only_faithful in
       rw (w.outcome-is, c.into_disk.ensures)
       (comes_to m c.args.end c.in-Ok.session.front c.run_session.new.session.front (g.D.SectorDisk.state c.args.disk) (g.D.SectorDisk.state c.in-Ok.session.log.disk) (g.D.SectorDisk.state c.run_session.new.session.log.disk)
-      (driven-on _ _ _ _ c.in-Ok.session.front c.run_session.new.session.front c.in-Ok.session.log _ _ (ap g.M.Model.meaning opened.same.0) opened.same.1 (c.run_session.ensures.keeps.crashes consistent) (opened.written genuine))
+      (driven-on _ _ _ _ c.in-Ok.session.front c.run_session.new.session.front c.in-Ok.session.log _ _ (ap g.M.Model.meaning opened.same.0) opened.same.1 (c.run_session.ensures.keeps.crashes trusted) (opened.written genuine))
       c.args.end w.in-Ok-run_session.ensures.ended (opened.exactly genuine))
   | in-Err-run_session w ↦ rw w.outcome-is tt
 ]
@@ -239,15 +241,34 @@ returns-clause-faults g c = λ are_faithful genuine. elim c.match-run_session.br
       step_faults g.P.Port.state g.M.Model.meaning g.D.SectorDisk.state (AreRounds c.args.plan c.args.end stop.1 stop.0) c.in-Ok.session c.run_session.new.session fault consistent stop.3)
 ]
 
+pub returns-in-Err-clause-reports : goal.returns-in-Err-clause-reports
+returns-in-Err-clause-reports g c = λ are_faithful genuine is.
+    let not_opened = c.in-Err.field-0 in
+    let cause : not_opened.fault ≡ Reports = cc in
+    let failed = (g.D.SectorDisk.state c.args.disk).failures < (g.D.SectorDisk.state not_opened.disk).failures in
+    opening_reports (g.M.Model.meaning c.args.model.now) c.args.end (g.D.SectorDisk.state c.args.disk).reads (map g.P.Port.state c.args.ports.items) failed not_opened.fault cause c.in-Err.ensures.refused
+
+pub returns-clause-reports : goal.returns-clause-reports
+returns-clause-reports g c = λ are_faithful genuine. elim c.match-run_session.branch [
+  | in-Ok-run_session w ↦ rw w.outcome-is (λ is. absurd (cc))
+  | in-Err-run_session w ↦
+      let consistent = (c.in-Ok.ensures.consistent genuine are_faithful).0 in
+      rw w.outcome-is
+      (λ is.
+      let cause : w.in-Err-run_session.fault ≡ Session Reports = cc in
+      let stop = w.in-Err-run_session.ensures.refused Reports (ap Err cause) in
+      step_reports g.P.Port.state g.M.Model.meaning g.D.SectorDisk.state (AreRounds c.args.plan c.args.end stop.1 stop.0) c.in-Ok.session c.run_session.new.session consistent stop.3)
+]
+
 pub returns-in-Err-clause-kept : goal.returns-in-Err-clause-kept
-returns-in-Err-clause-kept g c = λ are_faithful v.
+returns-in-Err-clause-kept g c = λ only_faithful v.
     let m = g.M.Model.meaning c.args.model.now in
     let not_opened = c.in-Err.field-0 in
     let state = g.D.SectorDisk.state in
     kept-none m c.args.end v (state c.args.disk) (state not_opened.disk) (looked-under m v.time (state c.args.disk) (state not_opened.disk) c.in-Err.ensures.looks_err)
 
 pub returns-clause-kept : goal.returns-clause-kept
-returns-clause-kept g c = λ are_faithful v.
+returns-clause-kept g c = λ only_faithful v.
     let m = g.M.Model.meaning c.args.model.now in
     let end = c.args.end in
     let state = g.D.SectorDisk.state in
@@ -259,16 +280,14 @@ returns-clause-kept g c = λ are_faithful v.
     let lawful = g.met.M.Model.lawful c.args.model.now in
     let sound = g.met.D.SectorDisk.sound c.args.disk in
     let looks = opened.looks in
-    let driven : IsGenuine m end old.reads → Recovers m end first.front.time (state first.log.disk) → KeepsRecovery m end first.front.time front.time (state first.log.disk) (state last.log.disk) = λ genuine. driven-on _ _ _ _ first.front front first.log _ _ (ap g.M.Model.meaning opened.same.0) opened.same.1 (c.run_session.ensures.keeps.crashes (opened.consistent genuine are_faithful).0) (opened.written genuine) in
+    let trusted : IsGenuine m end old.reads → IsTrusted (trusts_by c.args.plan) (running g.M.Model.meaning g.P.Port.state first) = λ genuine. may_trust c.args.plan m _ (running g.M.Model.meaning g.P.Port.state first) (λ faithful. (opened.consistent genuine faithful).0) only_faithful in
+    let driven : IsGenuine m end old.reads → Recovers m end first.front.time (state first.log.disk) → KeepsRecovery m end first.front.time front.time (state first.log.disk) (state last.log.disk) = λ genuine. driven-on _ _ _ _ first.front front first.log _ _ (ap g.M.Model.meaning opened.same.0) opened.same.1 (c.run_session.ensures.keeps.crashes (trusted genuine)) (opened.written genuine) in
     let genuine = genuine-under m end v first.front front old (state first.log.disk) (state last.log.disk) lawful sound looks opened.replayed opened.exactly driven in
     let under = driven-under m end v first.front front old (state first.log.disk) (state last.log.disk) lawful sound looks opened.replayed opened.exactly driven in
     elim c.match-run_session.branch [
       | in-Ok-run_session w ↦
           let upto : RecoversUnderItsEnd m v.time old → IsUpto m end front.time front × (front.time ≤ end) =
-          λ recovers.
-          (let there : IsUpto m end end front = subst (λ (x : g.row.M.Denot). IsUpto (g.M.Model.meaning x) end end front) opened.same.0 (w.in-Ok-run_session.ensures.finished opened.same.1 (opened.consistent (genuine recovers) are_faithful).0) in
-          let time = there.time in
-          (subst (λ (t : ℕ). IsUpto m end t front) (sym time) there, omega (arith, time))) in
+          λ recovers. front_upto g.M.Model.meaning g.P.Port.state state _ first last m end (ap g.M.Model.meaning opened.same.0) opened.same.1 w.in-Ok-run_session.ensures.in_rounds.3 (trusted (genuine recovers)) (opened.written (genuine recovers)) in
           rw (w.outcome-is, c.into_disk.ensures)
           (kept-front m end v old (state last.log.disk) front upto _ _ (sym (ap (λ (u : World). u.time) w.front-front.ensures)) (sym (ap (λ (u : World). length u.log) w.front-front.ensures)) under)
       | in-Err-run_session w ↦
@@ -277,10 +296,7 @@ returns-clause-kept g c = λ are_faithful v.
           (λ time events cause.
           let stop = w.in-Err-run_session.ensures.stopped time events (ap Err cause) in
           let upto : RecoversUnderItsEnd m v.time old → IsUpto m end front.time front × (front.time ≤ end) =
-          λ recovers.
-          (let here = front_upto g.M.Model.meaning g.P.Port.state state _ first last stop.3.2 (opened.consistent (genuine recovers) are_faithful).0 in
-          let early = stop.0 in
-          (subst (λ (x : g.row.M.Denot). IsUpto (g.M.Model.meaning x) end front.time front) opened.same.0 (subst (λ (e : ℕ). IsUpto (g.M.Model.meaning first.model) e front.time front) opened.same.1 here), omega (arith, early))) in
+          λ recovers. front_upto g.M.Model.meaning g.P.Port.state state _ first last m end (ap g.M.Model.meaning opened.same.0) opened.same.1 stop.3.2 (trusted (genuine recovers)) (opened.written (genuine recovers)) in
           kept-front m end v old (state last.log.disk) front upto time events stop.1 stop.2 under)
           (kept-none m end v old (state last.log.disk) (λ recovers. back-under m v.time front.time old (state last.log.disk) (under recovers))))
     ]

@@ -1,7 +1,7 @@
 use Rattle.std.proofs.Common.{◌≡◌, [], ◌∷◌, ℕ, Option, OnOk, subst}
 use Rattle.std.specs.Prelude.{Some}
 use Rattle.protocol.specs.Moves.Move.{Take}
-use Rattle.runs.specs.Driver.{IsDrivenBy, IsNext, IsPostIf, IsRefusedIn, goes_on, moves_of}
+use Rattle.runs.specs.Driver.{IsDrivenBy, IsNext, IsPostIf, IsRefusedIn, goes_on, moves_of, trusts_by}
 use Rattle.runs.specs.Tallies.{Tallied}
 use Rattle.runs.proofs.Counts.{both_tallied}
 use Rattle.runs.proofs.Drives.{driven_so, on_ok, then_by, then_represents}
@@ -11,7 +11,7 @@ use Rattle.runs.proofs.rounds.next_turn.Goals as goal
 
 pub returns-clause-driven : goal.returns-clause-driven
 returns-clause-driven g c =
-    subst (λ (o : Option ℕ). OnOk c.post_again.result (IsDrivenBy g.M.Model.meaning g.P.Port.state g.D.SectorDisk.state (Tallied c.args.round.plan (IsNext c.args.round c.args.node o) c.args.tally.now c.post_again.new.tally) c.args.session.now c.post_again.new.session)) c.in-Some.ensures
+    subst (λ (o : Option ℕ). OnOk c.post_again.result (IsDrivenBy g.M.Model.meaning g.P.Port.state g.D.SectorDisk.state (trusts_by c.args.round.plan) (Tallied c.args.round.plan (IsNext c.args.round c.args.node o) c.args.tally.now c.post_again.new.tally) c.args.session.now c.post_again.new.session)) c.in-Some.ensures
     (on_ok c.post_again.result
     (then_by g.M.Model.meaning g.P.Port.state g.D.SectorDisk.state _ _ _ c.args.session.now c.take.new.session c.post_again.new.session
     (both_tallied c.args.round.plan (λ taken. moves_of taken ≡ Take c.args.node ∷ []) (IsPostIf (goes_on c.args.round c.in-Some.floor) c.args.round.plan c.args.node) (IsNext c.args.round c.args.node (Some c.in-Some.floor)) c.args.tally.now c.take.new.tally c.post_again.new.tally

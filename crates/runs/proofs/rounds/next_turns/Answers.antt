@@ -1,5 +1,5 @@
 use Rattle.std.proofs.Common.{◌≡◌, ◌+◌, arith, refl, subst}
-use Rattle.runs.specs.Driver.{AreNext, IsDrivenBy, IsNext}
+use Rattle.runs.specs.Driver.{AreNext, IsDrivenBy, IsNext, trusts_by}
 use Rattle.std.specs.Prelude.{None, get_or}
 use Rattle.runs.specs.Tallies.{Tallied}
 use Rattle.runs.proofs.Counts.{both_after, no_move}
@@ -32,7 +32,7 @@ nodes-preserved g c = record {
 pub returns-clause-driven : goal.returns-clause-driven
 returns-clause-driven g c =
     let whole : c.nodes.node ≡ c.args.round.plan.nodes = omega (arith, c.nodes-test.false, c.nodes.auto.node-end) in
-    subst (λ n. IsDrivenBy g.M.Model.meaning g.P.Port.state g.D.SectorDisk.state (Tallied c.args.round.plan (AreNext c.args.round c.args.tally.now.outstanding.items n) c.args.tally.now c.nodes.tally) c.args.session.now c.nodes.session) whole c.nodes.invariant.driven
+    subst (λ n. IsDrivenBy g.M.Model.meaning g.P.Port.state g.D.SectorDisk.state (trusts_by c.args.round.plan) (Tallied c.args.round.plan (AreNext c.args.round c.args.tally.now.outstanding.items n) c.args.tally.now c.nodes.tally) c.args.session.now c.nodes.session) whole c.nodes.invariant.driven
 
 pub returns-clause-keeps : goal.returns-clause-keeps
 returns-clause-keeps g c = driven_represents g.M.Model.meaning g.P.Port.state g.D.SectorDisk.state c.args.session.now c.nodes.session (driven_so g.M.Model.meaning g.P.Port.state g.D.SectorDisk.state _ c.args.session.now c.nodes.session c.nodes.invariant.driven)

@@ -1,5 +1,5 @@
 use Rattle.std.proofs.Common.{Bool, [], false, refl, subst}
-use Rattle.runs.specs.Driver.{IsDrivenBy, IsPostIf, IsRefusedIn}
+use Rattle.runs.specs.Driver.{IsDrivenBy, IsPostIf, IsRefusedIn, trusts_by}
 use Rattle.runs.specs.Tallies.{Tallied}
 use Rattle.runs.proofs.Counts.{no_move}
 use Rattle.runs.proofs.Drives.{stood_by}
@@ -8,7 +8,7 @@ use Rattle.runs.proofs.rounds.post_again.Goals as goal
 
 pub returns-in_ok-post-clause-driven : goal.returns-in_ok-post-clause-driven
 returns-in_ok-post-clause-driven g c =
-    subst (λ (b : Bool). IsDrivenBy g.M.Model.meaning g.P.Port.state g.D.SectorDisk.state (Tallied c.args.round.plan (IsPostIf b c.args.round.plan c.args.node) c.args.tally.now c.post.new.tally) c.args.session.now c.post.new.session) c.if-goes_on.ensures c.in_ok-post.ensures.driven
+    subst (λ (b : Bool). IsDrivenBy g.M.Model.meaning g.P.Port.state g.D.SectorDisk.state (trusts_by c.args.round.plan) (Tallied c.args.round.plan (IsPostIf b c.args.round.plan c.args.node) c.args.tally.now c.post.new.tally) c.args.session.now c.post.new.session) c.if-goes_on.ensures c.in_ok-post.ensures.driven
 
 pub returns-else-goes_on-clause-driven : goal.returns-else-goes_on-clause-driven
 returns-else-goes_on-clause-driven g c =

@@ -1,5 +1,5 @@
 use Rattle.std.proofs.Common.{Bool, [], false, refl, subst, sym}
-use Rattle.runs.specs.Driver.{AreFirst, IsDrivenBy, IsRefusedIn}
+use Rattle.runs.specs.Driver.{AreFirst, IsDrivenBy, IsRefusedIn, trusts_by}
 use Rattle.runs.specs.Tallies.{Tallied}
 use Rattle.runs.proofs.Counts.{no_move}
 use Rattle.runs.proofs.Drives.{stood_by}
@@ -8,7 +8,7 @@ use Rattle.runs.proofs.rounds.post_first.Goals as goal
 
 pub returns-in_ok-post_all-clause-driven : goal.returns-in_ok-post_all-clause-driven
 returns-in_ok-post_all-clause-driven g c =
-    subst (λ (b : Bool). IsDrivenBy g.M.Model.meaning g.P.Port.state g.D.SectorDisk.state (Tallied c.args.round.plan (AreFirst b c.args.round.plan) c.args.tally.now c.post_all.new.tally) c.args.session.now c.post_all.new.session) (sym c.if-round.true) c.in_ok-post_all.ensures.driven
+    subst (λ (b : Bool). IsDrivenBy g.M.Model.meaning g.P.Port.state g.D.SectorDisk.state (trusts_by c.args.round.plan) (Tallied c.args.round.plan (AreFirst b c.args.round.plan) c.args.tally.now c.post_all.new.tally) c.args.session.now c.post_all.new.session) (sym c.if-round.true) c.in_ok-post_all.ensures.driven
 
 pub returns-else-round-clause-driven : goal.returns-else-round-clause-driven
 returns-else-round-clause-driven g c =

@@ -1,6 +1,6 @@
 use Rattle.std.proofs.Common.{◌≡◌, [], ◌∷◌, arith, refl}
 use Rattle.protocol.specs.Moves.Move.{Take}
-use Rattle.runs.specs.Driver.{moves_of}
+use Rattle.runs.specs.Driver.{moves_of, trusts_by}
 use Rattle.runs.specs.Tallies.{Tallied}
 use Rattle.runs.proofs.Counts.{take_counted}
 use Rattle.runs.proofs.Drives.{one_step_by, step-keeps}
@@ -22,14 +22,14 @@ returns-clause-driven g c =
         handled = take_counted c.args.node c.args.tally.now.handled_per_node.items c.taken.new.self.handled_per_node.items c.in_ok-answer.answer (omega (arith, c.requires.node, c.requires.sized.handled)) c.taken.ensures.handled;
       };
       floor = c.taken.ensures.floor;
-    }) c.in_ok-answer.ensures
+    }) c.in_ok-answer.ensures (λ is. refl)
 
 pub returns-in_err-answer-clause-refused : goal.returns-in_err-answer-clause-refused
 returns-in_err-answer-clause-refused g c = λ fault is.
     refused_at_once g.M.Model.meaning g.P.Port.state g.D.SectorDisk.state (λ taken. moves_of taken ≡ Take c.args.node ∷ []) _ (AlreadyAt 0) [] c.args.session.now c.step.new.self c.in_err-answer.field-0.0 fault refl (of_step c.from_residual.result c.in_err-answer.field-0.0 fault c.from_residual.ensures.1 is) c.in_err-answer.ensures
 
 pub returns-in_err-answer-clause-keeps : goal.returns-in_err-answer-clause-keeps
-returns-in_err-answer-clause-keeps g c = step-keeps g.M.Model.meaning g.P.Port.state g.D.SectorDisk.state _ c.args.session.now c.step.new.self _ c.step.ensures
+returns-in_err-answer-clause-keeps g c = step-keeps g.M.Model.meaning g.P.Port.state g.D.SectorDisk.state (trusts_by c.args.round.plan) _ c.args.session.now c.step.new.self _ c.step.ensures (λ is. refl)
 
 pub returns-clause-keeps : goal.returns-clause-keeps
-returns-clause-keeps g c = step-keeps g.M.Model.meaning g.P.Port.state g.D.SectorDisk.state _ c.args.session.now c.step.new.self _ c.step.ensures
+returns-clause-keeps g c = step-keeps g.M.Model.meaning g.P.Port.state g.D.SectorDisk.state (trusts_by c.args.round.plan) _ c.args.session.now c.step.new.self _ c.step.ensures (λ is. refl)

@@ -1,11 +1,11 @@
 use Rattle.std.proofs.Common.{◌≡◌}
-use Rattle.runs.specs.Driver.{IsDrivenBy, moves_of, takes_of}
+use Rattle.runs.specs.Driver.{IsDrivenBy, moves_of, takes_of, trusts_by}
 use Rattle.runs.specs.Tallies.{IsSized, Tallied}
 use Rattle.runs.proofs.rounds.take_all.Given as goal
 
 abbrev pub invariant-nodes : goal.invariant-nodes
 invariant-nodes g l = record {
-  driven : IsDrivenBy g.M.Model.meaning g.P.Port.state g.D.SectorDisk.state (Tallied l.round.plan (λ taken. moves_of taken ≡ takes_of l.node) l.fn.tally l.tally) l.fn.session l.session;
+  driven : IsDrivenBy g.M.Model.meaning g.P.Port.state g.D.SectorDisk.state (trusts_by l.round.plan) (Tallied l.round.plan (λ taken. moves_of taken ≡ takes_of l.node) l.fn.tally l.tally) l.fn.session l.session;
   commits : l.tally.commits ≡ l.fn.tally.commits;
   sized : IsSized l.round.plan.nodes l.tally;
 }

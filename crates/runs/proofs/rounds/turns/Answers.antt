@@ -1,5 +1,5 @@
 use Rattle.std.proofs.Common.{◌≡◌, ◌+◌, arith, refl, subst}
-use Rattle.runs.specs.Driver.{IsDrivenBy, AreTurns, IsTurn}
+use Rattle.runs.specs.Driver.{IsDrivenBy, AreTurns, IsTurn, trusts_by}
 use Rattle.runs.specs.Tallies.{Tallied}
 use Rattle.runs.proofs.Counts.{both_tallied, no_move}
 use Rattle.runs.proofs.Drives.{driven_so, driven_represents, stood_by, then_by, then_represents}
@@ -31,7 +31,7 @@ nodes-preserved g c = record {
 pub returns-clause-driven : goal.returns-clause-driven
 returns-clause-driven g c =
     let whole : c.nodes.node ≡ c.args.round.plan.nodes = omega (arith, c.nodes-test.false, c.nodes.auto.node-end) in
-    subst (λ n. IsDrivenBy g.M.Model.meaning g.P.Port.state g.D.SectorDisk.state (Tallied c.args.round.plan (AreTurns c.args.round.plan n) c.args.tally.now c.nodes.tally) c.args.session.now c.nodes.session) whole c.nodes.invariant.driven
+    subst (λ n. IsDrivenBy g.M.Model.meaning g.P.Port.state g.D.SectorDisk.state (trusts_by c.args.round.plan) (Tallied c.args.round.plan (AreTurns c.args.round.plan n) c.args.tally.now c.nodes.tally) c.args.session.now c.nodes.session) whole c.nodes.invariant.driven
 
 pub returns-clause-keeps : goal.returns-clause-keeps
 returns-clause-keeps g c = driven_represents g.M.Model.meaning g.P.Port.state g.D.SectorDisk.state c.args.session.now c.nodes.session (driven_so g.M.Model.meaning g.P.Port.state g.D.SectorDisk.state _ c.args.session.now c.nodes.session c.nodes.invariant.driven)
