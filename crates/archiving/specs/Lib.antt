@@ -1,0 +1,2 @@
+-- For callers: how a full disk is archived
+pub mod Archiving
