@@ -1,7 +1,8 @@
-// What was last noted of the connections to node programs: when one is lost, which; and what the
-// system says when one is not made.
+// What was last noted of the connections to node programs: when one is lost, which; what the system
+// says when one is not made; and how the simulations of a run and a node differ.
 
 use crate::fault::{NodesFault, unreadable};
+use crate::simulation::{Apart, Simulation};
 use disk::SystemError;
 use sockets::ReadAhead;
 use std::cell::Cell;
@@ -33,11 +34,13 @@ pub struct Call {
 
 /// Keeps the last call on the connections of a run. A session makes no call after a port has
 /// failed, so after such a fault this is the call on the connection of the node that was lost. Keeps
-/// too what the system says when no connection is made.
+/// too what the system says when no connection is made, and in which simulations a run and a node
+/// take part if these differ.
 #[derive(Drop)]
 pub struct Calls {
     last: Cell<Option<Call>>,
     unmet: Cell<Option<Unmet>>,
+    apart: Cell<Option<Apart>>,
 }
 
 impl Calls {
@@ -46,6 +49,7 @@ impl Calls {
         Calls {
             last: Cell::new(None),
             unmet: Cell::new(None),
+            apart: Cell::new(None),
         }
     }
 
@@ -57,6 +61,16 @@ impl Calls {
     /// What the system says, if a call failed with which nodes or a run are met.
     pub fn unmet(&self) -> Option<Unmet> {
         self.unmet.get()
+    }
+
+    /// In which simulations the run and a node take part, if these differ.
+    pub fn apart(&self) -> Option<Apart> {
+        self.apart.get()
+    }
+
+    /// Notes that a node takes part in another simulation than its run.
+    pub(crate) fn note_apart(&self, run: Simulation, node: Simulation) {
+        self.apart.set(Some(Apart { run, node }));
     }
 
     fn note(&self, node: usize, end: CallEnd) {

@@ -2,13 +2,13 @@
 
 ghost use Rattle.std.specs.IoError.{error_kind};
 ghost use Rattle.std.specs.Prelude.{◌≡◌, ◌≢◌};
-ghost use Rattle.node_programs.specs.declared.fault.NodesFault.TheVariants.{NoMemory};
+ghost use Rattle.node_programs.specs.declared.fault.NodesFault.TheVariants.{Lost as LostCase, NoMemory};
 ghost use Rattle.node_programs.specs.declared.fault.NodesFault.TheVariants.{Wire as WireCase};
 
 use std::alloc::{AllocError, AllocFailed};
 use std::io::{Error as IoError, ErrorKind};
 use thiserror::Error;
-use wire::WireFault;
+use wire::{PortFault, WireFault};
 
 /// Why connecting to node programs, or serving a node, failed.
 #[derive(Clone, Copy, Debug, PartialEq, Eq, Error)]
@@ -23,6 +23,19 @@ pub enum NodesFault {
     /// What a node received is not a frame allowed at that point, or its connection failed.
     #[error("Wire {0}")]
     Wire(WireFault),
+    /// The run takes part in another simulation than the node that is served.
+    #[error("OtherModel")]
+    OtherModel,
+    /// A node program takes part in another simulation than the run.
+    #[error("Node {node} OtherModel")]
+    OtherNode {
+        /// The number of the node.
+        node: usize,
+    },
+    /// A node program was lost before it said in which simulation it takes part, or answered
+    /// something else.
+    #[error("Port {0}")]
+    Lost(PortFault),
 }
 
 impl From<WireFault> for NodesFault {
@@ -30,6 +43,15 @@ impl From<WireFault> for NodesFault {
 
     fn from(fault: WireFault) -> NodesFault {
         NodesFault::Wire(fault)
+    }
+}
+
+/// A node program did not take or answer a hello.
+impl From<PortFault> for NodesFault {
+    ghost from_gives = { λ fault e. e ≡ LostCase fault };
+
+    fn from(fault: PortFault) -> NodesFault {
+        NodesFault::Lost(fault)
     }
 }
 

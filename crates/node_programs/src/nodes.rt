@@ -6,10 +6,13 @@ ghost use Rattle.sockets.specs.declared.port.Held.TheVariants.{Fresh};
 
 use crate::calls::{Calls, NodeStream};
 use crate::fault::{NodesFault, unreadable};
+use crate::greeting::ports_of;
+use crate::model_text::{path_of_text, place_text};
 use crate::processors::{command_on, processor_of, processors};
-use frames::serve;
+use crate::simulation::Simulation;
+use frames::{Ending, Hello, serve_greeted};
 use model::Model as Simulated;
-use sockets::{ReadAhead, SocketPort};
+use sockets::{ReadAhead, SocketPort, say_hello};
 use std::alloc::{AllocError, Global};
 use std::fs::{self, File};
 use std::io::{self, BufReader, Error as IoError, ErrorKind};
@@ -27,8 +30,8 @@ use terminal::Progress;
 pub struct Behind<'a> {
     /// The program to start for each node, with the command `node`.
     pub program: &'a str,
-    /// The path of the model file.
-    pub model: &'a str,
+    /// The text of the model file, as the run has read it. The programs that are started get it.
+    pub text: &'a [u8],
     /// The folder of the sockets.
     pub folder: &'a str,
     /// The node whose program is started to end after one reply.
@@ -45,24 +48,30 @@ pub struct Behind<'a> {
 
 /// What must be cleared up for a node: the socket file that this run made, its listener, the
 /// program if it was started, and the connection if it arrived before it was asked for. The first
-/// node also has the locked folder of the sockets, which is kept until their files are removed.
+/// node also has the file of the model's text, if it was written, and the locked folder of the
+/// sockets, which is kept until these files are removed.
 #[derive(Drop)]
 pub struct Met<P: OpenProcess + Drop> {
     path: String,
     listener: Option<UnixListener>,
     child: Option<Child<P>>,
     stream: Option<UnixStream>,
+    text: Option<String>,
     lock: Option<File>,
 }
 
 /// Returns a port to each of `nodes` node programs: makes all sockets, starts or awaits all
-/// programs, and accepts a connection of each. Whatever the result, `met` has what must be cleared
-/// up.
+/// programs, accepts a connection of each, says the run's hello `own` to it, and takes their answers
+/// in the order of nodes. Nothing is loaded. Whatever the result, `met` has what must be cleared up.
 ///
-/// Fails with `File` if a socket cannot be made, a program does not start, or one ends before it
-/// connects, and with `NoMemory` if an allocation failed. If programs are not started, the call
-/// waits without limit until each node has connected, in any order, and reports to `progress` which
-/// nodes it waits for.
+/// The programs that it starts get the text of the model in a file of the folder,
+/// `.timewarp-model`, which replaces one that a killed run left.
+///
+/// Fails with `File` if a socket or that file cannot be made, a program does not start, or one ends
+/// before it connects; with `OtherNode` if a node answers that it takes part in another simulation;
+/// with `Lost` if a connection fails or ends before its answer, or brings no hello; and with
+/// `NoMemory` if an allocation failed. If programs are not started, the call waits without limit
+/// until each node has connected, in any order, and reports to `progress` which nodes it waits for.
 ///
 /// A call on a connection that waits longer than `silence` seconds fails, as if the connection had.
 ///
@@ -72,6 +81,7 @@ pub struct Met<P: OpenProcess + Drop> {
 pub fn meet<'a, R, P>(
     rt: &R,
     behind: Behind<'a>,
+    own: &Hello,
     nodes: u32,
     met: &mut Vec<Met<R::Started>>,
     progress: &mut P,
@@ -90,7 +100,8 @@ where
     }
     let met = met.as_mut_slice();
     gather(rt, behind, met, progress)?;
-    accept_all(rt, behind, met)
+    let streams = accept_all(rt, behind, own, met)?;
+    ports_of(rt.alloc(), own, streams, behind.calls)
 }
 
 /// Locks the folder of the sockets for this run. Returns `None` if another program has the lock, or
@@ -130,6 +141,7 @@ where
         listener: Some(listener),
         child: None,
         stream: None,
+        text: None,
         lock,
     });
     nonblocking.map_err(|error| calls.no_socket(error))
@@ -267,8 +279,29 @@ where
     }
 }
 
-/// Starts the program of each node, on a processor of its own if that is asked for.
+/// Writes the text of the model, and starts the program of each node on it.
 fn start_all<R>(rt: &R, behind: Behind<'_>, met: &mut [Met<R::Started>]) -> Result<(), NodesFault>
+where
+    R: Files<File = File> + Processes + AllocGlobal,
+{
+    let calls = behind.calls;
+    let text = path_of_text(rt.alloc(), behind.folder)?;
+    let kept = path_of_text(rt.alloc(), behind.folder)?;
+    place_text(rt, text.as_str(), behind.text).map_err(|error| calls.no_socket(error))?;
+    if let Some(first) = met.first_mut() {
+        first.text = Some(kept);
+    }
+    start_on(rt, behind, text.as_str(), met)
+}
+
+/// Starts the program of each node on this model file, on a processor of its own if that is asked
+/// for.
+fn start_on<R>(
+    rt: &R,
+    behind: Behind<'_>,
+    model: &str,
+    met: &mut [Met<R::Started>],
+) -> Result<(), NodesFault>
 where
     R: Files<File = File> + Processes + AllocGlobal,
 {
@@ -284,7 +317,8 @@ where
             None => false,
         };
         let processor = processor_of(processors.as_slice(), node);
-        let child = start(rt, behind, met.path.as_str(), is_cut, processor).map_err(
+        let path = met.path.as_str();
+        let child = start(rt, behind.program, model, path, is_cut, processor).map_err(
             |error| calls.no_program(error),
         )?;
         met.child = Some(child);
@@ -292,11 +326,12 @@ where
     Ok(())
 }
 
-/// Starts the program of the node behind this socket, without standard streams, and on this
-/// processor if there is one.
+/// Starts the program of the node behind this socket, on this model file, without standard streams,
+/// and on this processor if there is one.
 fn start<R>(
     rt: &R,
-    behind: Behind<'_>,
+    program: &str,
+    model: &str,
     path: &str,
     is_cut: bool,
     processor: Option<u32>,
@@ -305,10 +340,10 @@ where
     R: Processes + AllocGlobal,
 {
     let mut command = match processor {
-        Some(processor) => command_on(rt.alloc(), processor, behind.program)?,
-        None => Command::new(rt.alloc(), behind.program)?,
+        Some(processor) => command_on(rt.alloc(), processor, program)?,
+        None => Command::new(rt.alloc(), program)?,
     };
-    command.arg("node")?.arg(behind.model)?.arg(path)?;
+    command.arg("node")?.arg(model)?.arg(path)?;
     if is_cut {
         command.arg("--parcels")?.arg("1")?;
     }
@@ -319,27 +354,29 @@ where
     command.spawn(rt)
 }
 
-/// Waits for the program of each node to connect. Returns a port to each.
+/// Waits for the program of each node to connect, and says the run's hello to it, before any answer
+/// is taken: so all nodes begin at once. Returns the connections.
 fn accept_all<'a, R>(
     rt: &R,
     behind: Behind<'a>,
+    own: &Hello,
     met: &mut [Met<R::Started>],
-) -> Result<Vec<SocketPort<NodeStream<'a>>>, NodesFault>
+) -> Result<Vec<NodeStream<'a>>, NodesFault>
 where
     R: Processes + Clock + AllocGlobal,
-    ensures { IfOk result (λ ports.
-        map (λ p. state_of p.held) ports.items ≡ replicate (length met.old) (state_of Fresh)) }
+    ensures { IfOk result (λ streams. length streams.items ≡ length met.old) }
 {
     let calls = behind.calls;
-    let mut ports = Vec::with_capacity(rt.alloc(), met.len())?;
+    let mut streams = Vec::with_capacity(rt.alloc(), met.len())?;
     'nodes: for node in 0..met.len() {
         let stream = accept(rt, &mut met[node]).map_err(|error| calls.no_socket(error))?;
         limit(&stream, behind.silence).map_err(|error| calls.no_socket(error))?;
         let stream = ReadAhead::new(rt.alloc(), stream).map_err(unreadable)?;
-        let stream = NodeStream::new(node, calls, stream);
-        ports.push(SocketPort::new(rt.alloc(), stream))?;
+        let mut stream = NodeStream::new(node, calls, stream);
+        say_hello(rt.alloc(), own, &mut stream)?;
+        streams.push(stream)?;
     }
-    Ok(ports)
+    Ok(streams)
 }
 
 /// Lets no read and no write of a connection wait longer than this many seconds.
@@ -392,7 +429,7 @@ where
 }
 
 /// Clears up after node programs, once all ports to them are dropped: waits for each program that
-/// was started, and removes each socket that was made.
+/// was started, and removes the text of the model and each socket that was made.
 ///
 /// Where a program that is silent for some seconds counts as lost, the call waits for so long, and
 /// then kills those that have not ended.
@@ -413,7 +450,11 @@ where
             let _ = child.wait();
         }
     }
+    // the sockets keep other runs out, so they are removed last
     for node in met.iter() {
+        if let Some(text) = &node.text {
+            let _ = fs::remove_file(rt, text.as_str());
+        }
         let _ = fs::remove_file(rt, node.path.as_str());
     }
 }
@@ -460,14 +501,17 @@ where
     true
 }
 
-/// Serves a node of this model behind this socket, until at most `parcels` parcels are answered.
+/// Serves a node of this model, up to an end in ticks, behind this socket, until at most `parcels`
+/// parcels are answered. The hello of a run is answered by that of the node.
 ///
 /// Fails with `File` if no connection is made, with `NoMemory` if an allocation for it failed, and
-/// then with `Wire`. A node's own refusal is reported to the other end, and is not a fault here.
-/// `calls` keeps what the system says if no connection is made.
+/// then with `Wire`, or with `OtherModel` if the run takes part in another simulation. A node's own
+/// refusal is reported to the other end, and is not a fault here. `calls` keeps what the system says
+/// if no connection is made, and how the simulations differ.
 pub fn serve_on<M, R>(
     rt: &R,
     model: &M,
+    end: u64,
     socket: &str,
     parcels: u32,
     calls: &Calls,
@@ -479,12 +523,21 @@ where
     let stream = UnixStream::connect(rt, socket).map_err(|error| calls.no_socket(error))?;
     let mut reader = BufReader::new(rt.alloc(), &stream).map_err(unreadable)?;
     let mut writer = &stream;
-    serve(
+    let ending = serve_greeted(
         rt.alloc(),
         model,
+        end,
         &mut reader,
         &mut writer,
         u64::from(parcels),
     )?;
-    Ok(())
+    match ending {
+        Ending::Replies(_) => Ok(()),
+        Ending::OtherModel(asked) => {
+            if let Ok(own) = Hello::of(rt.alloc(), model, end) {
+                calls.note_apart(Simulation::of(&asked), Simulation::of(&own));
+            }
+            Err(NodesFault::OtherModel)
+        }
+    }
 }

@@ -6,7 +6,7 @@ ghost use Rattle.judging.specs.Judged.{judged_state};
 
 use crate::loads::{load, round};
 use crate::opened::{END, formatted, ring};
-use crate::steps::{MADE, MIXED, steps_of};
+use crate::steps::{MADE, MIXED, judged_steps_of, steps_of};
 use commitlog::LogFault;
 use coordinator::{Answer, NotOpened, Session, SessionFault, Step};
 use disk::MemDisk;
@@ -104,6 +104,45 @@ fn nodes_of_the_model_pass_also_after_rollbacks(rt: HostRuntime) -> Result<(), F
     Ok(())
 }
 
+/// Whether two sessions give the same answers, one to steps with judged commits and the other to the
+/// same steps with plain ones, and have the same log after them.
+fn commit_alike(
+    one: &mut Judging<'_>,
+    other: &mut Judging<'_>,
+    judged: &[Step],
+    plain: &[Step],
+) -> Result<bool, SessionFault> {
+    for (step, same) in judged.iter().zip(plain) {
+        if stepped(one, step)? != stepped(other, same)? {
+            return Ok(false);
+        }
+    }
+    Ok(one.front().log == other.front().log)
+}
+
+/// Whether judged commits over nodes of the same ring do what plain ones do.
+fn judged_as_plain(alloc: Global, rows: &str) -> Result<bool, Fail> {
+    let ring = ring();
+    let judging = judged_steps_of(alloc, rows)?;
+    let trusting = steps_of(alloc, rows)?;
+    let mut one = judged(alloc, &ring, &ring, 0, None)?;
+    let mut other = judged(alloc, &ring, &ring, 0, None)?;
+    Ok(commit_alike(
+        &mut one,
+        &mut other,
+        judging.as_slice(),
+        trusting.as_slice(),
+    )?)
+}
+
+#[test]
+fn judged_commits_over_nodes_of_the_model_are_plain_ones(rt: HostRuntime) -> Result<(), Fail> {
+    for rows in [MADE, MIXED] {
+        assert!(rt; judged_as_plain(rt.alloc(), rows)?);
+    }
+    Ok(())
+}
+
 /// Watches nothing.
 #[derive(Drop)]
 struct Nobody;
@@ -122,6 +161,7 @@ const PLAN: Plan = Plan {
     checkpoint_every: 0,
     seals: false,
     commit_every: 0,
+    judged: false,
 };
 
 /// Runs the ring over nodes that hold the tokens for `hold` ticks instead of 2. Returns the fault,

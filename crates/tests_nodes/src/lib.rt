@@ -10,9 +10,13 @@ mod errors;
 #[cfg(test)]
 mod frames_of_ring;
 #[cfg(test)]
+mod hellos;
+#[cfg(test)]
 mod in_memory;
 #[cfg(test)]
 mod judged;
+#[cfg(test)]
+mod lies;
 #[cfg(test)]
 mod loads;
 #[cfg(test)]

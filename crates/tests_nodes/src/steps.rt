@@ -79,3 +79,18 @@ pub fn steps_of(alloc: Global, rows: &str) -> Result<Vec<Step>, AllocError> {
     }
     Ok(steps)
 }
+
+/// The same steps, with judged commits.
+pub fn judged_steps_of(alloc: Global, rows: &str) -> Result<Vec<Step>, AllocError> {
+    let mut steps = steps_of(alloc, rows)?;
+    for step in steps.as_mut_slice() {
+        judge(step);
+    }
+    Ok(steps)
+}
+
+fn judge(step: &mut Step) {
+    if let Step::Commit = step {
+        *step = Step::JudgedCommit;
+    }
+}

@@ -89,8 +89,9 @@ where
     Some(found.time)
 }
 
-/// The simulation in the header of a disk.
-fn simulation_in(header: &[u8; 512]) -> Option<Simulation> {
+/// Returns the simulation in the header of a disk, sector 1; none if it does not begin as a header
+/// does.
+pub fn simulation_in(header: &[u8; 512]) -> Option<Simulation> {
     let (mark, fields) = header.split_at(8);
     if mark != b"TIMEWARP".as_slice() {
         return None;

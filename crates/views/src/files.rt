@@ -14,8 +14,9 @@ use crate::fault::{ViewFault, unreadable};
 use disk::FileDisk;
 use model::{World, WorldFault, WorldParts};
 use std::alloc::Global;
-use std::fs::{self, File};
+use std::fs::{self, File, OpenOptions};
 use std::io::{Read, Result as IoResult, Write};
+use std::os::unix::fs::FileTypeExt;
 use std::rt::Files;
 use texts::{
     Described, LONGEST_MODEL_FILE, Mistake, Mistakes, ModelFault, find_mistakes, read_model,
@@ -116,18 +117,40 @@ where
     Some(Wrong { text, mistakes })
 }
 
-/// Reads a model file. Returns `File` if it cannot be read, or has more than 16,777,216 bytes, of
-/// which then no more are read; and `NoMemory`.
+/// Reads a model file. Returns `File` if it cannot be read, is neither a plain file nor a pipe that
+/// gives bytes, or has more than 16,777,216 bytes, of which then no more are read; and `NoMemory`.
 fn read_bytes<R: Files + AllocGlobal>(rt: &R, path: &str) -> Result<Vec<u8>, ViewFault> {
-    let file = fs::open(rt, path).map_err(unreadable)?;
+    let kind = fs::metadata(rt, path).map_err(unreadable)?.file_type();
+    let is_pipe = kind.is_fifo();
+    if !kind.is_file() && !is_pipe {
+        return Err(ViewFault::File);
+    }
+    let file = open_model(rt, path, is_pipe)?;
     let mut bytes = Vec::new(rt.alloc());
     file.take(LONGEST_MODEL_FILE + 1)
         .read_to_end(&mut bytes)
         .map_err(unreadable)?;
-    if bytes.len() as u64 > LONGEST_MODEL_FILE {
+    if bytes.len() as u64 > LONGEST_MODEL_FILE || (is_pipe && bytes.is_empty()) {
         return Err(ViewFault::File);
     }
     Ok(bytes)
+}
+
+/// Opens a model file to read it.
+///
+/// To open a named pipe for reading waits for a writer, which may never come. To open it for both
+/// does not wait, and nor does the other opening meanwhile. Without a writer the pipe then ends at
+/// once.
+fn open_model<R: Files>(rt: &R, path: &str, is_pipe: bool) -> Result<R::File, ViewFault> {
+    if !is_pipe {
+        return fs::open(rt, path).map_err(unreadable);
+    }
+    let _both = OpenOptions::new()
+        .read(true)
+        .write(true)
+        .open(rt, path)
+        .map_err(unreadable)?;
+    fs::open(rt, path).map_err(unreadable)
 }
 
 /// Opens a disk of at most `most` sectors to read it. Returns `File` if it is not a plain file, as a
@@ -255,8 +278,8 @@ fn write_checked<O: Write>(values: &str, out: &mut O) -> IoResult<()>
 
 /// Reads the model and its end from a model file. A program's own command starts with this call.
 ///
-/// Returns `File` if the file cannot be read or has more than 16,777,216 bytes, `BadModel` if it is
-/// not a model file, and `NoMemory`.
+/// Returns `File` if the file cannot be read, is neither a plain file nor a pipe that gives bytes, or
+/// has more than 16,777,216 bytes; `BadModel` if it is not a model file; and `NoMemory`.
 pub fn read_model_file<M, R>(rt: &R, path: &str) -> Result<(M, u64), ViewFault>
 where
     M: Described,
@@ -268,6 +291,39 @@ where
     let bytes = read_bytes(rt, path)?;
     let text = text_of(bytes.as_slice()).map_err(ModelFault::BadModel)?;
     Ok(read_model(rt.alloc(), text)?)
+}
+
+/// A model and its end, with the text of the file that describes them.
+#[derive(Drop)]
+pub struct ModelText<M> {
+    /// The model.
+    pub model: M,
+    /// The end in ticks.
+    pub end: u64,
+    /// All bytes of the file, as they were read.
+    pub text: Vec<u8>,
+}
+
+/// Reads the model and its end from a model file, and keeps its text: what is read later under the
+/// same path may be another model, or nothing more, as from a pipe.
+///
+/// The faults are those of `read_model_file`.
+pub fn read_model_text<M, R>(rt: &R, path: &str) -> Result<ModelText<M>, ViewFault>
+where
+    M: Described,
+    R: Files + AllocGlobal,
+    ensures file { IfOk result (λ of. IsModelFile M.says of.text.items of.model of.end) }
+    ensures some { IfOk result (λ of. 1 ≤ of.end) }
+    ensures short { IfOk result (λ of. of.end ≤ 2 ^ 40) }
+{
+    let bytes = read_bytes(rt, path)?;
+    let text = text_of(bytes.as_slice()).map_err(ModelFault::BadModel)?;
+    let (model, end): (M, u64) = read_model(rt.alloc(), text)?;
+    Ok(ModelText {
+        model,
+        end,
+        text: bytes,
+    })
 }
 
 /// Returns the text of a model file. Bytes that are not UTF-8 are not TOML.

@@ -8,8 +8,11 @@ mod files;
 mod looking;
 mod named;
 
-pub use differing::{Difference, Identity, Simulation, committed_on, difference_of};
+pub use differing::{Difference, Identity, Simulation, committed_on, difference_of, simulation_in};
 pub use fault::{ViewFault, unreadable};
-pub use files::{Wrong, check, check_of, mistakes_of, open_disk, read_model_file, seq, seq_of};
+pub use files::{
+    ModelText, Wrong, check, check_of, mistakes_of, open_disk, read_model_file, read_model_text,
+    seq, seq_of,
+};
 pub use looking::{Part, Seen, Shows, course_of, draw_of, log_of, stats_of, status_of, verify_of};
 pub use named::{log_named_of, show_named_of, write_word_figures_of};

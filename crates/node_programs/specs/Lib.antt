@@ -1,0 +1,2 @@
+-- For callers
+pub mod Greeting
