@@ -33,7 +33,14 @@ tree_cost_is c (e.Not' p x) = ap (λ n. step_cost c + n) (tree_cost_is c x)
 tree_cost_is c (e.Two' o p x q y) =
     ap (λ n. step_cost c + n + tree_cost c (tree_of y)) (tree_cost_is c x) ∙ ap (λ n. step_cost c + cost c x + n) (tree_cost_is c y)
 tree_cost_is c (e.Entry' table p x) = ap (λ n. step_cost c + n) (tree_cost_is c x)
-tree_cost_is c (e.Draw' p x) = ap (λ n. draw_cost c + n) (tree_cost_is c x)
+tree_cost_is c (e.Draw' law p x) = ap (λ n. draw_cost c + n) (tree_cost_is c x)
+tree_cost_is c (e.Normal' p x q y) =
+    ap (λ n. draw_cost c + n + tree_cost c (tree_of y)) (tree_cost_is c x) ∙ ap (λ n. draw_cost c + cost c x + n) (tree_cost_is c y)
+tree_cost_is c (e.Triangular' p x q y r z) =
+    ap (λ n. draw_cost c + draw_cost c + n + tree_cost c (tree_of y) + tree_cost c (tree_of z)) (tree_cost_is c x)
+    ∙ ap (λ n. draw_cost c + draw_cost c + cost c x + n + tree_cost c (tree_of z)) (tree_cost_is c y)
+    ∙ ap (λ n. draw_cost c + draw_cost c + cost c x + cost c y + n) (tree_cost_is c z)
+tree_cost_is c (e.Choose table) = refl
 
 six : (k a b d f g h a2 b2 d2 f2 g2 h2 : ℕ) → a ≡ a2 → b ≡ b2 → d ≡ d2 → f ≡ f2 → g ≡ g2 → h ≡ h2
     → k + (a + b + d + f + g + h) ≡ k + (a2 + b2 + d2 + f2 + g2 + h2)

@@ -20,7 +20,8 @@ abbrev pub reserved : List (List ℕ)
 reserved =
     codes "let" ∷ codes "send" ∷ codes "to" ∷ codes "after" ∷ codes "with" ∷ codes "if"
     ∷ codes "else" ∷ codes "repeat" ∷ codes "min" ∷ codes "max" ∷ codes "draw" ∷ codes "key"
-    ∷ codes "self" ∷ codes "sender" ∷ codes "now" ∷ codes "lps" ∷ []
+    ∷ codes "self" ∷ codes "sender" ∷ codes "now" ∷ codes "lps" ∷ codes "exponential"
+    ∷ codes "geometric" ∷ codes "normal" ∷ codes "triangular" ∷ codes "choose" ∷ []
 
 -- a name: a letter or an underscore, then letters, digits and underscores, at most 64 in all, and
 -- no word of the language

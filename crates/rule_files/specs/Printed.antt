@@ -13,9 +13,12 @@ use Rattle.rule_files.specs.declared.scope.Named.{Named}
 use Rattle.rules.specs.Rules.{Description}
 use Rattle.rules.specs.declared.tree.Expression.{Expression}
 use Rattle.rules.specs.declared.tree.Expression.TheVariants.{Number, Word, Content, Local, Read}
-use Rattle.rules.specs.declared.tree.Expression.TheVariants.{Not', Two', Entry', Draw'}
+use Rattle.rules.specs.declared.tree.Expression.TheVariants.{Not', Two', Entry', Draw', Normal'}
+use Rattle.rules.specs.declared.tree.Expression.TheVariants.{Triangular', Choose}
 use Rattle.rules.specs.declared.tree.Known.{Known}
 use Rattle.rules.specs.declared.tree.Known.TheVariants.{Process, Sender, Now, Processes}
+use Rattle.rules.specs.declared.tree.Law.{Law}
+use Rattle.rules.specs.declared.tree.Law.TheVariants.{Uniform, Exponential, Geometric}
 use Rattle.rules.specs.declared.tree.Operator.{Operator}
 use Rattle.rules.specs.declared.tree.Operator.TheVariants.{Plus, Minus, Times, Over, Modulo}
 use Rattle.rules.specs.declared.tree.Operator.TheVariants.{ShiftLeft, ShiftRight, BitAnd, BitXor}
@@ -79,6 +82,11 @@ known_text Process = codes "self"
 known_text Sender = codes "sender"
 known_text Now = codes "now"
 known_text Processes = codes "lps"
+
+abbrev pub law_name : Law → List ℕ
+law_name Uniform = codes "draw("
+law_name Exponential = codes "exponential("
+law_name Geometric = codes "geometric("
 
 -- 2. Names
 
@@ -201,7 +209,14 @@ module _ (names : FileNames) (given : List (List ℕ)) where
   with_value at most text (Entry' t p x) =
       with_value at 9
       ((text ++ name_at (map string_bytes names.tables.items) t) ++ codes "[") x ++ codes "]"
-  with_value at most text (Draw' p x) = with_value at 9 (text ++ codes "draw(") x ++ codes ")"
+  with_value at most text (Draw' law p x) = with_value at 9 (text ++ law_name law) x ++ codes ")"
+  with_value at most text (Normal' p x q y) =
+      with_value at 9 (with_value at 9 (text ++ codes "normal(") x ++ codes ", ") y ++ codes ")"
+  with_value at most text (Triangular' p x q y r z) =
+      with_value at 9 (with_value at 9 (with_value at 9 (text ++ codes "triangular(") x
+      ++ codes ", ") y ++ codes ", ") z ++ codes ")"
+  with_value at most text (Choose t) =
+      ((text ++ codes "choose(") ++ name_at (map string_bytes names.tables.items) t) ++ codes ")"
 
   -- a word of content behind its mark, or nothing
   abbrev pub with_word : Layout → List ℕ → List ℕ → Expression → List ℕ

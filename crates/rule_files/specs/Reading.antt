@@ -10,6 +10,7 @@ use Rattle.rules.specs.declared.limits.Limit.TheVariants.{Draws, Sends, Steps}
 use Rattle.rules.specs.declared.limits.TheConstants.{MAX_DRAWS, MAX_SENDS, MAX_STEPS}
 use Rattle.rules.specs.declared.tree.Statement.{Statement}
 use Rattle.rules_text.specs.Grammar.{Tree, Number, Word, Content, Local, Read, Not, Two, Entry, Draw}
+use Rattle.rules_text.specs.Grammar.{Normal, Triangular, Choose}
 use Rattle.rules_text.specs.Scopes.{Dictionary}
 use Rattle.rules_text.specs.Statements.{Act, Acts, Let, Set, Send, If, Repeat, empty, cons, acts_of}
 use Rattle.rules_text.specs.Texts.{IsRule, read_at}
@@ -68,7 +69,11 @@ tree_cost c (Read known) = step_cost c
 tree_cost c (Not x) = step_cost c + tree_cost c x
 tree_cost c (Two o x y) = step_cost c + tree_cost c x + tree_cost c y
 tree_cost c (Entry table x) = step_cost c + tree_cost c x
-tree_cost c (Draw x) = draw_cost c + tree_cost c x
+tree_cost c (Draw law x) = draw_cost c + tree_cost c x
+tree_cost c (Normal x y) = draw_cost c + tree_cost c x + tree_cost c y
+tree_cost c (Triangular x y z) =
+    draw_cost c + draw_cost c + tree_cost c x + tree_cost c y + tree_cost c z
+tree_cost c (Choose table) = draw_cost c
 
 abbrev mutual
   pub act_cost : Limit → Act → ℕ

@@ -265,11 +265,13 @@ fn body_of(alloc: Global, table: &Table) -> Result<Result<Body, Mistake>, AllocE
     let Some(rules) = rules_at(table) else {
         return Ok(Err(NO_RULES));
     };
-    let Ok(start) = rule_at(alloc, &scope, rules, "start")? else {
-        return Ok(Err(NO_START));
+    let start = match rule_at(alloc, &scope, rules, "start")? {
+        Ok(start) => start,
+        Err(mistake) => return Ok(Err(no_rule("rules.start", &mistake))),
     };
-    let Ok(handle) = rule_at(alloc, &scope, rules, "handle")? else {
-        return Ok(Err(NO_HANDLE));
+    let handle = match rule_at(alloc, &scope, rules, "handle")? {
+        Ok(handle) => handle,
+        Err(mistake) => return Ok(Err(no_rule("rules.handle", &mistake))),
     };
     let tables = tables_in(alloc, scope.tables.as_slice())?;
     let digest = digest_of(
@@ -330,10 +332,14 @@ const NO_START: Mistake = Mistake::Not {
     expected: RULE,
 };
 
-const NO_HANDLE: Mistake = Mistake::Not {
-    key: "rules.handle",
-    expected: RULE,
-};
+/// Returns the mistake at the key of a rule: the length is named where it is the cause.
+fn no_rule(key: &'static str, mistake: &RuleMistake) -> Mistake {
+    let expected = match mistake {
+        RuleMistake::NoText => RULE,
+        RuleMistake::Text(_) | RuleMistake::Exceeds(_) => "a rule",
+    };
+    Mistake::Not { key, expected }
+}
 
 const SEED: &str =
     "a whole number from 0 to 9223372036854775807 if the state has key, otherwise nothing";

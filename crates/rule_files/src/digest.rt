@@ -1,7 +1,7 @@
 // The digest that distinguishes models by rules from each other.
 
 use crate::scope::Scope;
-use rules::{Expression, Known, Operator, Sending, Statement, Table};
+use rules::{Expression, Known, Law, Operator, Sending, Statement, Table};
 use sha2::{Digest, Sha256};
 
 /// Returns the SHA-256 of what the file of a model by rules means, as four words: the names of the
@@ -84,10 +84,22 @@ fn put_expression(hasher: &mut Sha256, e: &Expression) {
             put(hasher, 8, u64::from(*table));
             put_expression(hasher, x);
         }
-        Expression::Draw(x) => {
-            put(hasher, 9, 0);
+        Expression::Draw(law, x) => {
+            put(hasher, 9, law_number(*law));
             put_expression(hasher, x);
         }
+        Expression::Normal(x, y) => {
+            put(hasher, 15, 0);
+            put_expression(hasher, x);
+            put_expression(hasher, y);
+        }
+        Expression::Triangular(x, y, z) => {
+            put(hasher, 16, 0);
+            put_expression(hasher, x);
+            put_expression(hasher, y);
+            put_expression(hasher, z);
+        }
+        Expression::Choose(table) => put(hasher, 17, u64::from(*table)),
     }
 }
 
@@ -145,6 +157,15 @@ fn known_number(known: Known) -> u64 {
         Known::Sender => 1,
         Known::Now => 2,
         Known::Processes => 3,
+    }
+}
+
+/// Returns the number of a law. `draw` has 0, as it had before there were others.
+fn law_number(law: Law) -> u64 {
+    match law {
+        Law::Uniform => 0,
+        Law::Exponential => 1,
+        Law::Geometric => 2,
     }
 }
 

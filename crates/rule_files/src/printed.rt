@@ -2,7 +2,8 @@
 
 ghost use Rattle.std.specs.Prelude.{◌≡◌, ◌++◌, OnOk, decimal, map, string_bytes};
 ghost use Rattle.rule_files.specs.Printed.{before, behind, content_name, deeper, function_name};
-ghost use Rattle.rule_files.specs.Printed.{in_line, is_choice, is_zero, known_text, left_looseness, mark_if, name_at};
+ghost use Rattle.rule_files.specs.Printed.{in_line, is_choice, is_zero, known_text, law_name};
+ghost use Rattle.rule_files.specs.Printed.{left_looseness, mark_if, name_at};
 ghost use Rattle.rule_files.specs.Printed.{local_name as local_name_of, named};
 ghost use Rattle.rule_files.specs.Printed.{named_all, next as next_of, opening, otherwise_of};
 ghost use Rattle.rule_files.specs.Printed.{otherwise_layout, outermost, passed, right_looseness};
@@ -19,7 +20,7 @@ use crate::dictionary::value_of;
 use crate::file_model::FileNames;
 use crate::scope::{Named, OTHERS};
 use itoa::Buffer;
-use rules::{Expression, Known, Operator, Rules, Sending, Statement, Table};
+use rules::{Expression, Known, Law, Operator, Rules, Sending, Statement, Table};
 use std::alloc::AllocError;
 
 /// Where a statement stands.
@@ -357,6 +358,17 @@ fn known_text(known: Known) -> &'static str
     }
 }
 
+/// Returns what stands before the parameter of a law.
+fn law_name(law: Law) -> &'static str
+    ensures { result.now ≡ law_name law }
+{
+    match law {
+        Law::Uniform => "draw(",
+        Law::Exponential => "exponential(",
+        Law::Geometric => "geometric(",
+    }
+}
+
 /// Appends a value, with parentheses if it binds more loosely than `most`.
 fn put_value(
     names: &FileNames,
@@ -395,9 +407,30 @@ fn put_value(
             put_value(names, given, at, 9, x, text)?;
             put("]", text)
         }
-        Expression::Draw(x) => {
-            put("draw(", text)?;
+        Expression::Draw(law, x) => {
+            put(law_name(*law), text)?;
             put_value(names, given, at, 9, x, text)?;
+            put(")", text)
+        }
+        Expression::Normal(x, y) => {
+            put("normal(", text)?;
+            put_value(names, given, at, 9, x, text)?;
+            put(", ", text)?;
+            put_value(names, given, at, 9, y, text)?;
+            put(")", text)
+        }
+        Expression::Triangular(x, y, z) => {
+            put("triangular(", text)?;
+            put_value(names, given, at, 9, x, text)?;
+            put(", ", text)?;
+            put_value(names, given, at, 9, y, text)?;
+            put(", ", text)?;
+            put_value(names, given, at, 9, z, text)?;
+            put(")", text)
+        }
+        Expression::Choose(table) => {
+            put("choose(", text)?;
+            put(name_at(names.tables.as_slice(), *table as usize), text)?;
             put(")", text)
         }
     }

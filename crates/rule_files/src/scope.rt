@@ -33,9 +33,28 @@ pub struct Scope {
 }
 
 /// The words of the language, which are no names. `key` may be a word of the state.
-const RESERVED: [&str; 16] = [
-    "let", "send", "to", "after", "with", "if", "else", "repeat", "min", "max", "draw", "key",
-    "self", "sender", "now", "lps",
+const RESERVED: [&str; 21] = [
+    "let",
+    "send",
+    "to",
+    "after",
+    "with",
+    "if",
+    "else",
+    "repeat",
+    "min",
+    "max",
+    "draw",
+    "key",
+    "self",
+    "sender",
+    "now",
+    "lps",
+    "exponential",
+    "geometric",
+    "normal",
+    "triangular",
+    "choose",
 ];
 
 /// Returns whether a text is a name: a letter or an underscore, then letters, digits and

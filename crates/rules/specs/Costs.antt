@@ -8,9 +8,10 @@ use Rattle.rules.specs.declared.tree.Statement.{Statement, Row_of-Statement, end
 use Rattle.rules.specs.declared.tree.Statement.{more_of-Statement}
 use Rattle.rules.specs.declared.tree.Statement.TheVariants.{Let, Set, Send, If', Repeat'}
 use Rattle.rules.specs.declared.tree.Expression.TheVariants.{Number, Word, Content, Local, Read}
-use Rattle.rules.specs.declared.tree.Expression.TheVariants.{Not', Two', Entry', Draw'}
+use Rattle.rules.specs.declared.tree.Expression.TheVariants.{Not', Two', Entry', Draw', Normal'}
+use Rattle.rules.specs.declared.tree.Expression.TheVariants.{Triangular', Choose}
 
--- the cost of a send, of a draw, and of everything else
+-- the cost of a send, of a drawn word, and of everything else
 abbrev pub send_cost : Limit → ℕ
 send_cost Sends = 1
 send_cost Draws = 0
@@ -36,7 +37,11 @@ cost c (Read k) = step_cost c
 cost c (Not' p e) = step_cost c + cost c e
 cost c (Two' o p x q y) = step_cost c + cost c x + cost c y
 cost c (Entry' t p e) = step_cost c + cost c e
-cost c (Draw' p e) = draw_cost c + cost c e
+cost c (Draw' law p e) = draw_cost c + cost c e
+cost c (Normal' p x q y) = draw_cost c + cost c x + cost c y
+cost c (Triangular' p x q y r z) =
+    draw_cost c + draw_cost c + cost c x + cost c y + cost c z
+cost c (Choose t) = draw_cost c
 
 -- the number of words that an expression draws
 abbrev pub draws : Expression → ℕ

@@ -4,7 +4,8 @@ use Rattle.std.specs.Prelude.{ℕ, zero, suc, ◌+◌, ◌-◌, ◌%◌, ◌^◌
 use Rattle.std.specs.Prelude.{slice_set, if◌then◌else◌}
 use Rattle.model.specs.declared.Outgoing.{Outgoing}
 use Rattle.rules.specs.Costs.{draws}
-use Rattle.rules.specs.Values.{saturated, is_true, value_of}
+use Rattle.rules.specs.Distributions.{saturated}
+use Rattle.rules.specs.Values.{is_true, value_of}
 use Rattle.rules.specs.declared.evaluate.Context.{Context}
 use Rattle.rules.specs.declared.tree.Sending.{Sending}
 use Rattle.rules.specs.declared.tree.Statement.{Statement, Row_of-Statement, end_of-Statement}

@@ -1,7 +1,7 @@
 -- Every model that is described by rules obeys the laws of a model.
 use Rattle.std.specs.List.{AllByRecursion as Every}
 use Rattle.std.specs.Prelude.{◌≡◌, ℕ, zero, suc, ◌+◌, ◌*◌, ◌/◌, ◌%◌, ◌^◌, ◌<◌, ◌≤◌, List, [], ◌∷◌}
-use Rattle.std.specs.Prelude.{Bool, true, false, Option, Some, None}
+use Rattle.std.specs.Prelude.{◌-◌, Bool, true, false, Option, Some, None}
 use Rattle.std.specs.Prelude.{drop, length, replicate, slice_get, slice_index, if◌then◌else◌, eqb}
 use Rattle.std.specs.Prelude.{nat_lt, refl}
 use Rattle.std.specs.Int.Bits.{and_lt}
@@ -20,16 +20,21 @@ use Rattle.rules.specs.Effects.{Progress, after, after_all, after_row, at_turn, 
 use Rattle.rules.specs.Effects.{turns, with_local, with_word}
 use Rattle.rules.specs.Rules.{Description, GoodRules, IsDescription, ended, handled, opening}
 use Rattle.rules.specs.Rules.{padded, rules_meaning, started, with_key}
-use Rattle.rules.specs.Values.{drawn_below, entry, saturated, is_true, known_of, operate, truth}
+use Rattle.rules.specs.Distributions.{choice, choice_of, exponential, geometric, normal, saturated}
+use Rattle.rules.specs.Distributions.{standard_normal, triangular}
+use Rattle.rules.specs.Values.{drawn_below, drawn_by, entry, is_true, known_of, operate, truth}
 use Rattle.rules.specs.Values.{value_of}
 use Rattle.rules.specs.declared.evaluate.Context.{Context}
 use Rattle.rules.specs.declared.limits.Limit.TheVariants.{Sends}
 use Rattle.rules.specs.declared.limits.TheConstants.{MAX_LPS}
 use Rattle.rules.specs.declared.tree.Expression.{Expression}
 use Rattle.rules.specs.declared.tree.Expression.TheVariants.{Number, Word, Content, Local, Read}
-use Rattle.rules.specs.declared.tree.Expression.TheVariants.{Not', Two', Entry', Draw'}
+use Rattle.rules.specs.declared.tree.Expression.TheVariants.{Not', Two', Entry', Draw', Normal'}
+use Rattle.rules.specs.declared.tree.Expression.TheVariants.{Triangular', Choose}
 use Rattle.rules.specs.declared.tree.Known.{Known}
 use Rattle.rules.specs.declared.tree.Known.TheVariants.{Process, Sender, Now, Processes}
+use Rattle.rules.specs.declared.tree.Law.{Law}
+use Rattle.rules.specs.declared.tree.Law.TheVariants.{Uniform, Exponential, Geometric}
 use Rattle.rules.specs.declared.tree.Operator.{Operator}
 use Rattle.rules.specs.declared.tree.Operator.TheVariants.{Plus, Minus, Times, Over, Modulo}
 use Rattle.rules.specs.declared.tree.Operator.TheVariants.{ShiftLeft, ShiftRight, BitAnd, BitXor}
@@ -97,6 +102,40 @@ entry_fits (Some table) i = omega arith
 drawn_fits : (w n : ℕ) → w < 2 ^ 32 → IsWord (drawn_below w n)
 drawn_fits w n small = either_fits (eqb n 0) 0 (w % n) (lit< tt) (omega (arith, mod-le w n))
 
+saturated_fits : (n : ℕ) → IsWord (saturated n)
+saturated_fits n = omega arith
+
+exponential_fits : (mean w : ℕ) → IsWord (exponential mean w)
+unfolding exponential
+exponential_fits mean w = saturated_fits _
+
+geometric_fits : (mean w : ℕ) → IsWord (geometric mean w)
+unfolding geometric
+geometric_fits mean w = either_fits (eqb mean 0) 0 _ (lit< tt) (saturated_fits _)
+
+drawn_by_fits : (law : Law) (w n : ℕ) → w < 2 ^ 32 → IsWord (drawn_by law w n)
+drawn_by_fits Uniform w n small = drawn_fits w n small
+drawn_by_fits Exponential w n small = exponential_fits n w
+drawn_by_fits Geometric w n small = geometric_fits n w
+
+normal_fits : (mean deviation w : ℕ) → IsWord mean → IsWord (normal mean deviation w)
+unfolding normal
+normal_fits mean deviation w fits =
+    either_fits (nat_lt w (2 ^ 31)) (mean - (deviation * standard_normal w + 2 ^ 27) / 2 ^ 28) _
+    (omega arith) (saturated_fits _)
+
+triangular_fits : (least mode most v w : ℕ) → IsWord (triangular least mode most v w)
+unfolding triangular
+triangular_fits least mode most v w = saturated_fits _
+
+choice_of_fits : (table : List ℕ) (w : ℕ) → IsWord (choice_of table w)
+unfolding choice_of
+choice_of_fits table w = saturated_fits _
+
+choice_fits : (table : Option (List ℕ)) (w : ℕ) → IsWord (choice table w)
+choice_fits None w = lit< tt
+choice_fits (Some table) w = choice_of_fits table w
+
 module _ (lps : ℕ) (some : 1 ≤ lps) (few : lps ≤ MAX_LPS) (tables : List (List ℕ)) where
   known_fits : (s : Context) → IsContext lps s → (k : Known) → IsWord (known_of s k)
   known_fits s context Process = context.process
@@ -115,8 +154,12 @@ module _ (lps : ℕ) (some : 1 ≤ lps) (few : lps ≤ MAX_LPS) (tables : List (
   value_fits s context (Two' o p x q y) k =
       operate_fits o _ _ (value_fits s context x k) (value_fits s context y (k + draws x))
   value_fits s context (Entry' t p x) k = entry_fits (slice_get tables t) _
-  value_fits s context (Draw' p x) k =
-      drawn_fits _ _ (word_lt s.key (16 * s.process + (k + draws x)))
+  value_fits s context (Draw' law p x) k =
+      drawn_by_fits law _ _ (word_lt s.key (16 * s.process + (k + draws x)))
+  value_fits s context (Normal' p x q y) k =
+      normal_fits _ _ _ (value_fits s context x k)
+  value_fits s context (Triangular' p x q y r z) k = triangular_fits _ _ _ _ _
+  value_fits s context (Choose t) k = choice_fits (slice_get tables t) _
 
   sent_lawful : (s : Context) → IsContext lps s → (x : Sending) (k : ℕ) →
       IsSend lps (sent tables s x k)

@@ -5,22 +5,22 @@ use Rattle.std.specs.Prelude.{bit_and, bit_or, bit_xor, eqb, nat_lt, nat_le, max
 use Rattle.std.specs.Prelude.{slice_index, if◌then◌else◌}
 use Rattle.models.specs.Words.{word}
 use Rattle.rules.specs.Costs.{draws}
+use Rattle.rules.specs.Distributions.{choice, exponential, geometric, normal, saturated, triangular}
 use Rattle.rules.specs.declared.evaluate.Context.{Context}
 use Rattle.rules.specs.declared.tree.Expression.{Expression}
 use Rattle.rules.specs.declared.tree.Expression.TheVariants.{Number, Word, Content, Local, Read}
-use Rattle.rules.specs.declared.tree.Expression.TheVariants.{Not', Two', Entry', Draw'}
+use Rattle.rules.specs.declared.tree.Expression.TheVariants.{Not', Two', Entry', Draw', Normal'}
+use Rattle.rules.specs.declared.tree.Expression.TheVariants.{Triangular', Choose}
 use Rattle.rules.specs.declared.tree.Known.{Known}
 use Rattle.rules.specs.declared.tree.Known.TheVariants.{Process, Sender, Now, Processes}
+use Rattle.rules.specs.declared.tree.Law.{Law}
+use Rattle.rules.specs.declared.tree.Law.TheVariants.{Uniform, Exponential, Geometric}
 use Rattle.rules.specs.declared.tree.Operator.{Operator}
 use Rattle.rules.specs.declared.tree.Operator.TheVariants.{Plus, Minus, Times, Over, Modulo}
 use Rattle.rules.specs.declared.tree.Operator.TheVariants.{ShiftLeft, ShiftRight, BitAnd, BitXor}
 use Rattle.rules.specs.declared.tree.Operator.TheVariants.{BitOr, Same, Different, Below, AtMost}
 use Rattle.rules.specs.declared.tree.Operator.TheVariants.{Above, AtLeast, Both, Either, Least}
 use Rattle.rules.specs.declared.tree.Operator.TheVariants.{Greatest}
-
--- a sum or product that is too great stops here
-abbrev pub saturated : ℕ → ℕ
-saturated n = min n (2 ^ 64 - 1)
 
 abbrev pub truth : Bool → ℕ
 truth b = if b then 1 else 0
@@ -62,6 +62,12 @@ entry (Some table) i = entry_of table i
 abbrev pub drawn_below : ℕ → ℕ → ℕ
 drawn_below w n = if eqb n 0 then 0 else w % n
 
+-- a number by a law with one parameter, from a drawn word w
+abbrev pub drawn_by : Law → ℕ → ℕ → ℕ
+drawn_by Uniform w n = drawn_below w n
+drawn_by Exponential w mean = exponential mean w
+drawn_by Geometric w mean = geometric mean w
+
 -- a number about the handling
 abbrev pub known_of : Context → Known → ℕ
 known_of s Process = s.process
@@ -80,5 +86,14 @@ value_of tables s (Not' p x) k = truth (eqb (value_of tables s x k) 0)
 value_of tables s (Two' o p x q y) k =
     operate o (value_of tables s x k) (value_of tables s y (k + draws x))
 value_of tables s (Entry' t p x) k = entry (slice_get tables t) (value_of tables s x k)
-value_of tables s (Draw' p x) k =
-    drawn_below (word s.key s.process (k + draws x)) (value_of tables s x k)
+value_of tables s (Draw' law p x) k =
+    drawn_by law (word s.key s.process (k + draws x)) (value_of tables s x k)
+value_of tables s (Normal' p x q y) k =
+    normal (value_of tables s x k) (value_of tables s y (k + draws x))
+    (word s.key s.process (k + draws x + draws y))
+value_of tables s (Triangular' p x q y r z) k =
+    triangular (value_of tables s x k) (value_of tables s y (k + draws x))
+    (value_of tables s z (k + draws x + draws y))
+    (word s.key s.process (k + draws x + draws y + draws z))
+    (word s.key s.process (k + draws x + draws y + draws z + 1))
+value_of tables s (Choose t) k = choice (slice_get tables t) (word s.key s.process k)

@@ -1,16 +1,18 @@
 // The evaluator of rules, by recursion over their trees.
 
 ghost use Rattle.std.specs.Prelude.{◌≡◌, ◌≤◌, ◌<◌, ◌+◌, [], ◌∷◌, ◌++◌, length, slice_index};
-ghost use Rattle.std.specs.Prelude.{slice_set};
+ghost use Rattle.std.specs.Prelude.{slice_get, slice_set};
 ghost use Rattle.rules.specs.Costs.{cost_of, cost_of_all, draws};
 ghost use Rattle.rules.specs.Effects.{after, after_all, progress, sent, send_draws};
 ghost use Rattle.rules.specs.declared.limits.Limit.TheVariants.{Draws, Sends as SendCount};
-ghost use Rattle.rules.specs.Values.{drawn_below, known_of, value_of};
+ghost use Rattle.rules.specs.Distributions.{choice};
+ghost use Rattle.rules.specs.Values.{drawn_below, drawn_by, known_of, value_of};
 ghost use Rattle.models.specs.Words.{word as drawn_word};
 
+use crate::distributions::{exponential, geometric, normal, triangular};
 use crate::operate::{operate, truth};
 use crate::tables::Table;
-use crate::tree::{Expression, Known, Sending, Statement};
+use crate::tree::{Expression, Known, Law, Sending, Statement};
 use model::{Outgoing, Sends};
 use models::word;
 
@@ -56,13 +58,43 @@ fn at(numbers: &[u64], place: u8) -> u64
     numbers.get(usize::from(place)).copied().unwrap_or(0)
 }
 
-/// Returns drawn word `j` mod `n`, or 0 if `n` is 0.
-fn draw(context: &Context, j: u64, n: u64) -> u64
+/// Returns drawn word `j`.
+fn word_at(context: &Context, j: u64) -> u32
     requires { j < 16 }
-    ensures { result ≡ drawn_below (drawn_word context.now.key context.now.process j) n }
+    ensures { result ≡ drawn_word context.now.key context.now.process j }
 {
-    let drawn = u64::from(word(context.key, context.process, j));
-    if n == 0 { 0 } else { drawn % n }
+    word(context.key, context.process, j)
+}
+
+/// Returns a number by a law with one parameter, from drawn word `j`.
+fn draw(context: &Context, j: u64, law: Law, parameter: u64) -> u64
+    requires { j < 16 }
+    ensures { result
+        ≡ drawn_by law (drawn_word context.now.key context.now.process j) parameter }
+{
+    let drawn = word_at(context, j);
+    match law {
+        Law::Uniform => below(drawn, parameter),
+        Law::Exponential => exponential(parameter, drawn),
+        Law::Geometric => geometric(parameter, drawn),
+    }
+}
+
+/// Returns a drawn word mod `n`, or 0 if `n` is 0.
+fn below(drawn: u32, n: u64) -> u64
+    ensures { result ≡ drawn_below drawn n }
+{
+    if n == 0 { 0 } else { u64::from(drawn) % n }
+}
+
+/// Returns an index of the table at a place, from a drawn word, or 0 if there is no such table.
+fn chosen(tables: &[Table], place: u32, drawn: u32) -> u64
+    ensures { result ≡ choice (slice_get tables.now place) drawn }
+{
+    match tables.get(place as usize) {
+        Some(table) => table.choose(drawn),
+        None => 0,
+    }
 }
 
 /// Returns the value of an expression; `drawn` is the number of words drawn so far.
@@ -111,11 +143,37 @@ fn compound(tables: &[Table], context: &Context, drawn: &mut u64, e: &Expression
                 None => 0,
             }
         }
-        Expression::Draw(x) => {
-            let n = value(tables, context, drawn, x);
+        Expression::Draw(law, x) => {
+            let parameter = value(tables, context, drawn, x);
             let j = *drawn;
             *drawn += 1;
-            draw(context, j, n)
+            draw(context, j, *law, parameter)
+        }
+        Expression::Normal(x, y) => {
+            let mean = value(tables, context, drawn, x);
+            let deviation = value(tables, context, drawn, y);
+            let j = *drawn;
+            *drawn += 1;
+            normal(mean, deviation, word_at(context, j))
+        }
+        Expression::Triangular(x, y, z) => {
+            let least = value(tables, context, drawn, x);
+            let mode = value(tables, context, drawn, y);
+            let most = value(tables, context, drawn, z);
+            let j = *drawn;
+            *drawn += 2;
+            triangular(
+                least,
+                mode,
+                most,
+                word_at(context, j),
+                word_at(context, j + 1),
+            )
+        }
+        Expression::Choose(table) => {
+            let j = *drawn;
+            *drawn += 1;
+            chosen(tables, *table, word_at(context, j))
         }
     }
 }

@@ -2,10 +2,12 @@
 //! one what it does with a message.
 #![tactic(auto)]
 
+mod distributions;
 mod evaluate;
 mod limits;
 mod operate;
 mod parts;
+mod quantiles;
 mod rules;
 mod tables;
 mod tree;
@@ -14,4 +16,4 @@ pub use limits::{Limit, MAX_DRAWS, MAX_LPS, MAX_SENDS, MAX_STEPS, RulesFault, ex
 pub use parts::RulesParts;
 pub use rules::Rules;
 pub use tables::Table;
-pub use tree::{Expression, Known, Operator, Sending, Statement};
+pub use tree::{Expression, Known, Law, Operator, Sending, Statement};

@@ -19,8 +19,8 @@ pub const MAX_SENDS: u64 = 8;
 pub const MAX_DRAWS: u64 = 14;
 
 /// The most steps on any way through a rule. A step is each statement but a send, each operator,
-/// each number or name that is read, each table entry, each draw, each send, and each turn of a
-/// `repeat`.
+/// each number or name that is read, each table entry, each drawn word, each send, and each turn of
+/// a `repeat`.
 pub const MAX_STEPS: u64 = 65_536;
 
 /// A limit on any way through a rule. An `if` counts its costlier block, and a `repeat` its block
@@ -101,7 +101,18 @@ fn expression_cost(limit: Limit, e: &Expression) -> u64
             .saturating_add(expression_cost(limit, x))
             .saturating_add(expression_cost(limit, y)),
         Expression::Entry(_, x) => limit.step_cost().saturating_add(expression_cost(limit, x)),
-        Expression::Draw(x) => limit.draw_cost().saturating_add(expression_cost(limit, x)),
+        Expression::Draw(_, x) => limit.draw_cost().saturating_add(expression_cost(limit, x)),
+        Expression::Normal(x, y) => limit
+            .draw_cost()
+            .saturating_add(expression_cost(limit, x))
+            .saturating_add(expression_cost(limit, y)),
+        Expression::Triangular(x, y, z) => limit
+            .draw_cost()
+            .saturating_add(limit.draw_cost())
+            .saturating_add(expression_cost(limit, x))
+            .saturating_add(expression_cost(limit, y))
+            .saturating_add(expression_cost(limit, z)),
+        Expression::Choose(_) => limit.draw_cost(),
     }
 }
 

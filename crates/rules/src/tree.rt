@@ -46,6 +46,18 @@ pub enum Operator {
     Greatest,
 }
 
+/// The law of a drawn number that has one parameter.
+#[derive(Clone, Copy, Debug, PartialEq, Eq)]
+pub enum Law {
+    /// `draw(n)`: the word mod `n`, or 0 if `n` is 0.
+    Uniform,
+    /// `exponential(mean)`: rounded to the nearest number, at most 2^64 - 1.
+    Exponential,
+    /// `geometric(mean)`: the failures before the first success, where this is their mean; at most
+    /// 2^64 - 1, and 0 if the mean is 0.
+    Geometric,
+}
+
 /// A number that a rule can read about the handling.
 #[derive(Clone, Copy, Debug, PartialEq, Eq)]
 pub enum Known {
@@ -80,9 +92,19 @@ pub enum Expression {
     /// The number of a table, by the table's place and an index in it. It is 0 if there is no such
     /// table or no such index.
     Entry(u32, Box<Expression>),
-    /// `draw(x)`: the next drawn word mod the value, or 0 if the value is 0. A word is drawn in
-    /// both cases.
-    Draw(Box<Expression>),
+    /// `draw(x)`, `exponential(x)`, `geometric(x)`: a number by this law from the next drawn word.
+    /// A word is drawn for every value.
+    Draw(Law, Box<Expression>),
+    /// `normal(x, y)`: a number by the normal law with this mean and this standard deviation, from
+    /// the next drawn word; rounded to the nearest number, at least 0 and at most 2^64 - 1.
+    Normal(Box<Expression>, Box<Expression>),
+    /// `triangular(x, y, z)`: a number by the triangular law with this least value, this mode and
+    /// this greatest value, from the next two drawn words; rounded to the nearest number. A
+    /// greatest value below the least one counts as that, and a mode outside as the nearer end.
+    Triangular(Box<Expression>, Box<Expression>, Box<Expression>),
+    /// `choose(TABLE)`: an index of the table at this place by its weights, from the next drawn
+    /// word. It is 0 if there is no such table or all its weights are 0.
+    Choose(u32),
 }
 
 /// A message to send. Its values are computed in the order of the fields.

@@ -6,8 +6,8 @@ use Rattle.rules_text.specs.declared.token.Mark.{Mark}
 use Rattle.rules_text.specs.declared.token.Mark.TheVariants as m
 use Rattle.rules_text.specs.declared.token.Token.{Token}
 use Rattle.rules_text.specs.declared.token.Token.TheVariants as t
-use Rattle.rules_text.specs.Grammar.{Tree, Not, Two, Entry, Draw, height, leaf, looseness, Spells, a_leaf, a_not, in_brackets, an_entry, a_draw, the_least, the_greatest, compared, joined, tighter}
-use Rattle.rules_text.specs.Reading.{Reader, ◌>>=◌, and_rest, behind, chain, enclosed, go, inside, level, made, pair_at, primary, turns, value_at}
+use Rattle.rules_text.specs.Grammar.{Tree, Not, Two, Entry, Draw, Normal, Triangular, height, leaf, looseness, Spells, a_leaf, a_not, in_brackets, an_entry, a_draw, a_normal, a_triangular, a_chosen, the_least, the_greatest, compared, joined, tighter}
+use Rattle.rules_text.specs.Reading.{Reader, ◌>>=◌, and_rest, behind, chain, enclosed, go, inside, level, made, pair_at, primary, three_at, turns, value_at}
 use Rattle.rules_text.proofs.Marks.{behind_is, made_is, other_number, same_number}
 
 -- what follows is no operator that binds more tightly than k
@@ -122,18 +122,40 @@ module _ (names : List ℕ) (n : ℕ) where
       ap (enclosed closing (inside names n (suc d) 9)) (append_assoc ts (t.Mark closing ∷ []) rest)
       ∙ enclosed_is closing (inside names n (suc d) 9) (ts ++ (t.Mark closing ∷ rest)) rest x (whole d 9 x ts (t.Mark closing ∷ rest) here tt)
 
-  pairs : (d : ℕ) (o : Operator) (x y : Tree) (ts us rest : List Token) → height (Two o x y) ≤ 256 →
+  pairs : (d : ℕ) (make : Tree → Tree → Tree) (x y : Tree) (ts us rest : List Token) → height (make x y) ≤ 256 →
       Reads d 9 x ts (t.Mark m.Comma ∷ ((us ++ t.Mark m.Close ∷ []) ++ rest)) → Reads d 9 y us (t.Mark m.Close ∷ rest) →
-      pair_at o (inside names n (suc d) 9) (t.Mark m.Open ∷ ((ts ++ t.Mark m.Comma ∷ (us ++ t.Mark m.Close ∷ [])) ++ rest)) ≡ Some (Two o x y, rest)
-  pairs d o x y ts us rest low one two =
+      pair_at make (inside names n (suc d) 9) (t.Mark m.Open ∷ ((ts ++ t.Mark m.Comma ∷ (us ++ t.Mark m.Close ∷ [])) ++ rest)) ≡ Some (make x y, rest)
+  pairs d make x y ts us rest low one two =
       let inner = inside names n (suc d) 9 in
-      ap (λ vs. enclosed m.Comma inner vs >>= λ p. enclosed m.Close inner p.1 >>= λ q. made (Two o p.0 q.0) q.1)
+      ap (λ vs. enclosed m.Comma inner vs >>= λ p. enclosed m.Close inner p.1 >>= λ q. made (make p.0 q.0) q.1)
       (append_assoc ts (t.Mark m.Comma ∷ (us ++ t.Mark m.Close ∷ [])) rest)
-      ∙ ap (λ r. r >>= λ p. enclosed m.Close inner p.1 >>= λ q. made (Two o p.0 q.0) q.1)
+      ∙ ap (λ r. r >>= λ p. enclosed m.Close inner p.1 >>= λ q. made (make p.0 q.0) q.1)
       (enclosed_is m.Comma inner (ts ++ (t.Mark m.Comma ∷ ((us ++ t.Mark m.Close ∷ []) ++ rest))) ((us ++ t.Mark m.Close ∷ []) ++ rest) x
       (whole d 9 x ts (t.Mark m.Comma ∷ ((us ++ t.Mark m.Close ∷ []) ++ rest)) one tt))
-      ∙ ap (λ r. r >>= λ q. made (Two o x q.0) q.1) (within d m.Close y us rest two)
-      ∙ made_is (Two o x y) rest low
+      ∙ ap (λ r. r >>= λ q. made (make x q.0) q.1) (within d m.Close y us rest two)
+      ∙ made_is (make x y) rest low
+
+  -- a value before a comma, and what follows
+  before_comma : (d : ℕ) (x : Tree) (ts more rest : List Token) → Reads d 9 x ts (t.Mark m.Comma ∷ (more ++ rest)) →
+      enclosed m.Comma (inside names n (suc d) 9) ((ts ++ t.Mark m.Comma ∷ more) ++ rest) ≡ Some (x, more ++ rest)
+  before_comma d x ts more rest here =
+      ap (enclosed m.Comma (inside names n (suc d) 9)) (append_assoc ts (t.Mark m.Comma ∷ more) rest)
+      ∙ enclosed_is m.Comma (inside names n (suc d) 9) (ts ++ (t.Mark m.Comma ∷ (more ++ rest))) (more ++ rest) x
+      (whole d 9 x ts (t.Mark m.Comma ∷ (more ++ rest)) here tt)
+
+  threes : (d : ℕ) (x y z : Tree) (ts us vs rest : List Token) → height (Triangular x y z) ≤ 256 →
+      Reads d 9 x ts (t.Mark m.Comma ∷ ((us ++ t.Mark m.Comma ∷ (vs ++ t.Mark m.Close ∷ [])) ++ rest)) →
+      Reads d 9 y us (t.Mark m.Comma ∷ ((vs ++ t.Mark m.Close ∷ []) ++ rest)) → Reads d 9 z vs (t.Mark m.Close ∷ rest) →
+      three_at (inside names n (suc d) 9) (t.Mark m.Open ∷ ((ts ++ t.Mark m.Comma ∷ (us ++ t.Mark m.Comma ∷ (vs ++ t.Mark m.Close ∷ []))) ++ rest))
+      ≡ Some (Triangular x y z, rest)
+  threes d x y z ts us vs rest low one two three =
+      let inner = inside names n (suc d) 9 in
+      let last = vs ++ t.Mark m.Close ∷ [] in
+      ap (λ r. r >>= λ p. enclosed m.Comma inner p.1 >>= λ q. enclosed m.Close inner q.1 >>= λ r. made (Triangular p.0 q.0 r.0) r.1)
+      (before_comma d x ts (us ++ t.Mark m.Comma ∷ last) rest one)
+      ∙ ap (λ r. r >>= λ q. enclosed m.Close inner q.1 >>= λ r. made (Triangular x q.0 r.0) r.1) (before_comma d y us last rest two)
+      ∙ ap (λ r. r >>= λ r. made (Triangular x y r.0) r.1) (within d m.Close z vs rest three)
+      ∙ made_is (Triangular x y z) rest low
 
   complete : (d k : ℕ) (x : Tree) (ts : List Token) → Spells names d k x ts → length ts ≤ n → (rest : List Token) → Heads k rest → Reads d k x ts rest
   complete _ _ _ _ (a_leaf d x token e) fits rest h = record { left = n; read = leaf_read names (inside names n d) token x rest e; enough = λ _. omega arith }
@@ -155,17 +177,39 @@ module _ (names : List ℕ) (n : ℕ) where
         read = ap (λ r. r >>= λ p. made (Entry table p.0) p.1) (within d m.CloseIndex x ts rest here) ∙ made_is (Entry table x) rest low;
         enough = λ _. omega arith;
       }
-  complete _ _ _ _ (a_draw d x ts low inner) fits rest h =
+  complete _ _ _ _ (a_draw d law x ts low inner) fits rest h =
       let here = complete d 9 x ts inner (omega (arith, length-append ts (t.Mark m.Close ∷ []))) (t.Mark m.Close ∷ rest) tt in record {
         left = n;
-        read = ap (λ r. r >>= λ p. made (Draw p.0) p.1) (within d m.Close x ts rest here) ∙ made_is (Draw x) rest low;
+        read = ap (λ r. r >>= λ p. made (Draw law p.0) p.1) (within d m.Close x ts rest here) ∙ made_is (Draw law x) rest low;
         enough = λ _. omega arith;
       }
+  complete _ _ _ _ (a_normal d x y ts us low one two) fits rest h =
+      let all = length-append ts (t.Mark m.Comma ∷ (us ++ t.Mark m.Close ∷ [])) in
+      let second = length-append us (t.Mark m.Close ∷ []) in record {
+        left = n;
+        read = pairs d Normal x y ts us rest low
+            (complete d 9 x ts one (omega (arith, all, second)) (t.Mark m.Comma ∷ ((us ++ t.Mark m.Close ∷ []) ++ rest)) tt)
+            (complete d 9 y us two (omega (arith, all, second)) (t.Mark m.Close ∷ rest) tt);
+        enough = λ _. omega arith;
+      }
+  complete _ _ _ _ (a_triangular d x y z ts us vs low one two three) fits rest h =
+      let last = vs ++ t.Mark m.Close ∷ [] in
+      let all = length-append ts (t.Mark m.Comma ∷ (us ++ t.Mark m.Comma ∷ last)) in
+      let second = length-append us (t.Mark m.Comma ∷ last) in
+      let third = length-append vs (t.Mark m.Close ∷ []) in record {
+        left = n;
+        read = threes d x y z ts us vs rest low
+            (complete d 9 x ts one (omega (arith, all, second, third)) (t.Mark m.Comma ∷ ((us ++ t.Mark m.Comma ∷ last) ++ rest)) tt)
+            (complete d 9 y us two (omega (arith, all, second, third)) (t.Mark m.Comma ∷ (last ++ rest)) tt)
+            (complete d 9 z vs three (omega (arith, all, second, third)) (t.Mark m.Close ∷ rest) tt);
+        enough = λ _. omega arith;
+      }
+  complete _ _ _ _ (a_chosen d table) fits rest h = record { left = n; read = refl; enough = λ _. omega arith }
   complete _ _ _ _ (the_least d x y ts us low one two) fits rest h =
       let all = length-append ts (t.Mark m.Comma ∷ (us ++ t.Mark m.Close ∷ [])) in
       let second = length-append us (t.Mark m.Close ∷ []) in record {
         left = n;
-        read = pairs d o.Least x y ts us rest low
+        read = pairs d (Two o.Least) x y ts us rest low
             (complete d 9 x ts one (omega (arith, all, second)) (t.Mark m.Comma ∷ ((us ++ t.Mark m.Close ∷ []) ++ rest)) tt)
             (complete d 9 y us two (omega (arith, all, second)) (t.Mark m.Close ∷ rest) tt);
         enough = λ _. omega arith;
@@ -174,7 +218,7 @@ module _ (names : List ℕ) (n : ℕ) where
       let all = length-append ts (t.Mark m.Comma ∷ (us ++ t.Mark m.Close ∷ [])) in
       let second = length-append us (t.Mark m.Close ∷ []) in record {
         left = n;
-        read = pairs d o.Greatest x y ts us rest low
+        read = pairs d (Two o.Greatest) x y ts us rest low
             (complete d 9 x ts one (omega (arith, all, second)) (t.Mark m.Comma ∷ ((us ++ t.Mark m.Close ∷ []) ++ rest)) tt)
             (complete d 9 y us two (omega (arith, all, second)) (t.Mark m.Close ∷ rest) tt);
         enough = λ _. omega arith;

@@ -2,6 +2,7 @@
 use Rattle.std.proofs.Common.{◌≡◌, ◌≤◌, ℕ, suc, List, [], ◌∷◌, Option, Some, None, true, false, eqb, ltb, refl, sym, ap, ◌∙◌, arith, if◌then◌else◌, inl, inr}
 use Rattle.std.proofs.lemmas.Bool.{cases_Bool}
 use Rattle.std.proofs.lemmas.Bool.Decides.{nat_tests}
+use Rattle.rules.specs.declared.tree.Law.TheVariants as l
 use Rattle.rules_text.specs.declared.token.Mark.{Mark}
 use Rattle.rules_text.specs.declared.token.Mark.TheVariants as m
 use Rattle.rules_text.specs.declared.token.Token.{Token}
@@ -31,7 +32,12 @@ mark_of n =
     if eqb n 16 then m.Repeat else
     if eqb n 17 then m.Min else
     if eqb n 18 then m.Max else
-    if eqb n 19 then m.Draw else
+    if eqb n 19 then m.Draw l.Uniform else
+    if eqb n 21 then m.Draw l.Exponential else
+    if eqb n 22 then m.Draw l.Geometric else
+    if eqb n 23 then m.Normal else
+    if eqb n 24 then m.Triangular else
+    if eqb n 25 then m.Choose else
     m.Kept
 
 mark_back : (k : Mark) → mark_of (code k) ≡ k
@@ -54,7 +60,12 @@ mark_back m.Else = refl
 mark_back m.Repeat = refl
 mark_back m.Min = refl
 mark_back m.Max = refl
-mark_back m.Draw = refl
+mark_back (m.Draw l.Uniform) = refl
+mark_back (m.Draw l.Exponential) = refl
+mark_back (m.Draw l.Geometric) = refl
+mark_back m.Normal = refl
+mark_back m.Triangular = refl
+mark_back m.Choose = refl
 mark_back m.Kept = refl
 
 pub equal_number : (k n : ℕ) → eqb n k ≡ true → n ≡ k

@@ -2,14 +2,15 @@
 use Rattle.std.proofs.Common.{◌≡◌, ◌≤◌, ◌⊎◌, ℕ, zero, suc, List, [], ◌∷◌, ◌++◌, Option, Some, None, eqb, length, refl, sym, ap, ◌∙◌, subst, arith, append_assoc, if◌then◌else◌, inl, inr}
 use Rattle.std.proofs.lemmas.Bool.{cases_Bool}
 use Rattle.eventkey.proofs.Fields.{bind_some}
+use Rattle.rules.specs.declared.tree.Law.{Law}
 use Rattle.rules.specs.declared.tree.Operator.{Operator}
 use Rattle.rules.specs.declared.tree.Operator.TheVariants as o
 use Rattle.rules_text.specs.declared.token.Mark.{Mark}
 use Rattle.rules_text.specs.declared.token.Mark.TheVariants as m
 use Rattle.rules_text.specs.declared.token.Token.{Token}
 use Rattle.rules_text.specs.declared.token.Token.TheVariants as t
-use Rattle.rules_text.specs.Grammar.{Tree, Not, Two, Entry, Draw, height, leaf, looseness, Spells, a_leaf, a_not, in_brackets, an_entry, a_draw, the_least, the_greatest, compared, joined, tighter}
-use Rattle.rules_text.specs.Reading.{Reader, ◌>>=◌, and_rest, behind, by_mark, chain, enclosed, go, inside, level, made, pair_at, primary, turns, value_at}
+use Rattle.rules_text.specs.Grammar.{Tree, Not, Two, Entry, Draw, Normal, Triangular, Choose, height, leaf, looseness, Spells, a_leaf, a_not, in_brackets, an_entry, a_draw, a_normal, a_triangular, a_chosen, the_least, the_greatest, compared, joined, tighter}
+use Rattle.rules_text.specs.Reading.{Reader, ◌>>=◌, and_rest, behind, by_mark, chain, enclosed, go, chosen_at, inside, level, made, pair_at, primary, table_at, three_at, turns, value_at}
 use Rattle.rules_text.proofs.Marks.{behind_only, equal_number, made_only, not_six, some_is}
 
 -- the tokens begin with a spelling, and the others follow it
@@ -164,14 +165,14 @@ module _ (names : List ℕ) where
     spelled = an_entry d table x h.front low h.spelled;
   }
 
-  draw_within : (d : ℕ) (x : Tree) (ts us rest : List Token) → height (Draw x) ≤ 256 → ts ≡ t.Mark m.Open ∷ us → Closed d x m.Close us rest →
-      Begins names d 0 (Draw x) (t.Mark m.Draw ∷ ts) rest
-  draw_within zero x ts us rest low e h = absurd h
-  draw_within (suc d) x ts us rest low e h = record {
-    front = t.Mark m.Draw ∷ t.Mark m.Open ∷ (h.front ++ t.Mark m.Close ∷ []);
-    parts = ap (λ vs. t.Mark m.Draw ∷ vs) e
-        ∙ ap (λ vs. t.Mark m.Draw ∷ t.Mark m.Open ∷ vs) (h.parts ∙ sym (append_assoc h.front (t.Mark m.Close ∷ []) rest));
-    spelled = a_draw d x h.front low h.spelled;
+  draw_within : (d : ℕ) (law : Law) (x : Tree) (ts us rest : List Token) → height (Draw law x) ≤ 256 → ts ≡ t.Mark m.Open ∷ us → Closed d x m.Close us rest →
+      Begins names d 0 (Draw law x) (t.Mark (m.Draw law) ∷ ts) rest
+  draw_within zero law x ts us rest low e h = absurd h
+  draw_within (suc d) law x ts us rest low e h = record {
+    front = t.Mark (m.Draw law) ∷ t.Mark m.Open ∷ (h.front ++ t.Mark m.Close ∷ []);
+    parts = ap (λ vs. t.Mark (m.Draw law) ∷ vs) e
+        ∙ ap (λ vs. t.Mark (m.Draw law) ∷ t.Mark m.Open ∷ vs) (h.parts ∙ sym (append_assoc h.front (t.Mark m.Close ∷ []) rest));
+    spelled = a_draw d law x h.front low h.spelled;
   }
 
   -- two values in brackets, behind a mark
@@ -200,6 +201,64 @@ module _ (names : List ℕ) where
     spelled = the_greatest d x y h.front i.front low h.spelled i.spelled;
   }
 
+  normal_within : (d : ℕ) (x y : Tree) (ts us vs rest : List Token) → height (Normal x y) ≤ 256 → ts ≡ t.Mark m.Open ∷ us →
+      Closed d x m.Comma us vs → Closed d y m.Close vs rest → Begins names d 0 (Normal x y) (t.Mark m.Normal ∷ ts) rest
+  normal_within zero x y ts us vs rest low e h i = absurd h
+  normal_within (suc d) x y ts us vs rest low e h i = record {
+    front = t.Mark m.Normal ∷ t.Mark m.Open ∷ (h.front ++ t.Mark m.Comma ∷ (i.front ++ t.Mark m.Close ∷ []));
+    parts = ap (λ xs. t.Mark m.Normal ∷ xs) (pair_parts ts us vs rest h.front i.front e h.parts i.parts);
+    spelled = a_normal d x y h.front i.front low h.spelled i.spelled;
+  }
+
+  -- three values in brackets, behind a mark
+  three_parts : (ts us vs ws rest one two three : List Token) → ts ≡ t.Mark m.Open ∷ us → us ≡ one ++ (t.Mark m.Comma ∷ vs) →
+      vs ≡ two ++ (t.Mark m.Comma ∷ ws) → ws ≡ three ++ (t.Mark m.Close ∷ rest) →
+      ts ≡ (t.Mark m.Open ∷ (one ++ t.Mark m.Comma ∷ (two ++ t.Mark m.Comma ∷ (three ++ t.Mark m.Close ∷ [])))) ++ rest
+  three_parts ts us vs ws rest one two three e f g h =
+      let last = three ++ t.Mark m.Close ∷ [] in
+      e ∙ ap (λ xs. t.Mark m.Open ∷ xs) (f
+      ∙ ap (λ xs. one ++ (t.Mark m.Comma ∷ xs)) (g
+      ∙ ap (λ xs. two ++ (t.Mark m.Comma ∷ xs)) (h ∙ sym (append_assoc three (t.Mark m.Close ∷ []) rest))
+      ∙ sym (append_assoc two (t.Mark m.Comma ∷ last) rest))
+      ∙ sym (append_assoc one (t.Mark m.Comma ∷ (two ++ t.Mark m.Comma ∷ last)) rest))
+
+  triangular_within : (d : ℕ) (x y z : Tree) (ts us vs ws rest : List Token) → height (Triangular x y z) ≤ 256 → ts ≡ t.Mark m.Open ∷ us →
+      Closed d x m.Comma us vs → Closed d y m.Comma vs ws → Closed d z m.Close ws rest → Begins names d 0 (Triangular x y z) (t.Mark m.Triangular ∷ ts) rest
+  triangular_within zero x y z ts us vs ws rest low e h i j = absurd h
+  triangular_within (suc d) x y z ts us vs ws rest low e h i j = record {
+    front = t.Mark m.Triangular ∷ t.Mark m.Open ∷ (h.front ++ t.Mark m.Comma ∷ (i.front ++ t.Mark m.Comma ∷ (j.front ++ t.Mark m.Close ∷ [])));
+    parts = ap (λ xs. t.Mark m.Triangular ∷ xs) (three_parts ts us vs ws rest h.front i.front j.front e h.parts i.parts j.parts);
+    spelled = a_triangular d x y z h.front i.front j.front low h.spelled i.spelled j.spelled;
+  }
+
+  table_only : (ts : List Token) (p : ℕ × List Token) → table_at ts ≡ Some p → ts ≡ t.Table p.0 ∷ p.1
+  table_only [] p e = absurd cc
+  table_only (t.Number n ∷ ts) p e = absurd cc
+  table_only (t.Sign n ∷ ts) p e = absurd cc
+  table_only (t.Mark n ∷ ts) p e = absurd cc
+  table_only (t.Known n ∷ ts) p e = absurd cc
+  table_only (t.Word n ∷ ts) p e = absurd cc
+  table_only (t.Content n ∷ ts) p e = absurd cc
+  table_only (t.Name n ∷ ts) p e = absurd cc
+  table_only (t.Table n ∷ ts) p e =
+      let same : ◌≡◌ {A = ℕ × List Token} (n, ts) p = some_is (n, ts) p e in
+      ap (λ (q : ℕ × List Token). t.Table q.0 ∷ q.1) same
+
+  chosen_sound : (d : ℕ) (ts : List Token) (x : Tree) (rest : List Token) → chosen_at ts ≡ Some (x, rest) → Begins names d 0 x (t.Mark m.Choose ∷ ts) rest
+  chosen_sound d ts x rest e =
+      let one = bind_some (behind m.Open ts) (λ us. table_at us >>= λ p. behind m.Close p.1 >>= λ r. Some (Choose p.0, r)) (x, rest) e in
+      let two = bind_some (table_at one.0) (λ p. behind m.Close p.1 >>= λ r. Some (Choose p.0, r)) (x, rest) one.2 in
+      let three = bind_some (behind m.Close two.0.1) (λ r. Some (Choose two.0.0, r)) (x, rest) two.2 in
+      let end = both_are (Choose two.0.0) x three.0 rest three.2 in
+      let first = behind_only m.Open ts one.0 one.1 in
+      let second = table_only one.0 two.0 two.1 in
+      let third = behind_only m.Close two.0.1 three.0 three.1 ∙ ap (λ us. t.Mark m.Close ∷ us) end.1 in
+      subst (λ z. Begins names d 0 z (t.Mark m.Choose ∷ ts) rest) end.0 (record {
+        front = t.Mark m.Choose ∷ t.Mark m.Open ∷ t.Table two.0.0 ∷ t.Mark m.Close ∷ [];
+        parts = ap (λ us. t.Mark m.Choose ∷ us) (first ∙ ap (λ us. t.Mark m.Open ∷ us) (second ∙ ap (λ us. t.Table two.0.0 ∷ us) third));
+        spelled = a_chosen d two.0.0;
+      })
+
   module _ (d : ℕ) (inner : ℕ → Reader)
       (sound : (k : ℕ) (ts : List Token) (x : Tree) (rest : List Token) → inner k ts ≡ Some (x, rest) → Within d k x ts rest) where
     enclosed_sound : (closing : Mark) (ts : List Token) (x : Tree) (rest : List Token) → enclosed closing (inner 9) ts ≡ Some (x, rest) → Closed d x closing ts rest
@@ -211,23 +270,23 @@ module _ (names : List ℕ) where
         (closed d one.0.0 closing ts one.0.1 rest (sound 9 ts one.0.0 one.0.1 one.1) (behind_only closing one.0.1 two.0 two.1 ∙ ap (λ vs. t.Mark closing ∷ vs) end.1))
 
     -- the parts of a pair
-    record Pair (o : Operator) (ts : List Token) (z : Tree) (rest : List Token) : Type 0 where
+    record Pair (make : Tree → Tree → Tree) (ts : List Token) (z : Tree) (rest : List Token) : Type 0 where
       x : Tree
       y : Tree
       us : List Token
       vs : List Token
-      low : height (Two o x y) ≤ 256
+      low : height (make x y) ≤ 256
       opened : ts ≡ t.Mark m.Open ∷ us
       one : Closed d x m.Comma us vs
       two : Closed d y m.Close vs rest
-      same : Two o x y ≡ z
+      same : make x y ≡ z
 
-    pair_sound : (o : Operator) (ts : List Token) (z : Tree) (rest : List Token) → pair_at o (inner 9) ts ≡ Some (z, rest) → Pair o ts z rest
-    pair_sound o ts z rest e =
-        let a = bind_some (behind m.Open ts) (λ us. enclosed m.Comma (inner 9) us >>= λ p. enclosed m.Close (inner 9) p.1 >>= λ q. made (Two o p.0 q.0) q.1) (z, rest) e in
-        let b = bind_some (enclosed m.Comma (inner 9) a.0) (λ p. enclosed m.Close (inner 9) p.1 >>= λ q. made (Two o p.0 q.0) q.1) (z, rest) a.2 in
-        let c = bind_some (enclosed m.Close (inner 9) b.0.1) (λ q. made (Two o b.0.0 q.0) q.1) (z, rest) b.2 in
-        let put = made_only (Two o b.0.0 c.0.0) c.0.1 (z, rest) c.2 in
+    pair_sound : (make : Tree → Tree → Tree) (ts : List Token) (z : Tree) (rest : List Token) → pair_at make (inner 9) ts ≡ Some (z, rest) → Pair make ts z rest
+    pair_sound make ts z rest e =
+        let a = bind_some (behind m.Open ts) (λ us. enclosed m.Comma (inner 9) us >>= λ p. enclosed m.Close (inner 9) p.1 >>= λ q. made (make p.0 q.0) q.1) (z, rest) e in
+        let b = bind_some (enclosed m.Comma (inner 9) a.0) (λ p. enclosed m.Close (inner 9) p.1 >>= λ q. made (make p.0 q.0) q.1) (z, rest) a.2 in
+        let c = bind_some (enclosed m.Close (inner 9) b.0.1) (λ q. made (make b.0.0 q.0) q.1) (z, rest) b.2 in
+        let put = made_only (make b.0.0 c.0.0) c.0.1 (z, rest) c.2 in
         record {
           x = b.0.0;
           y = c.0.0;
@@ -240,6 +299,17 @@ module _ (names : List ℕ) where
           same = ap (λ (p : Tree × List Token). p.0) put.1;
         }
 
+    three_sound : (ts : List Token) (z : Tree) (rest : List Token) → three_at (inner 9) ts ≡ Some (z, rest) → Begins names d 0 z (t.Mark m.Triangular ∷ ts) rest
+    three_sound ts z rest e =
+        let one = bind_some (behind m.Open ts) (λ us. enclosed m.Comma (inner 9) us >>= λ p. enclosed m.Comma (inner 9) p.1 >>= λ q. enclosed m.Close (inner 9) q.1 >>= λ r. made (Triangular p.0 q.0 r.0) r.1) (z, rest) e in
+        let a = bind_some (enclosed m.Comma (inner 9) one.0) (λ p. enclosed m.Comma (inner 9) p.1 >>= λ q. enclosed m.Close (inner 9) q.1 >>= λ r. made (Triangular p.0 q.0 r.0) r.1) (z, rest) one.2 in
+        let b = bind_some (enclosed m.Comma (inner 9) a.0.1) (λ q. enclosed m.Close (inner 9) q.1 >>= λ r. made (Triangular a.0.0 q.0 r.0) r.1) (z, rest) a.2 in
+        let c = bind_some (enclosed m.Close (inner 9) b.0.1) (λ r. made (Triangular a.0.0 b.0.0 r.0) r.1) (z, rest) b.2 in
+        let put = made_only (Triangular a.0.0 b.0.0 c.0.0) c.0.1 (z, rest) c.2 in
+        subst (λ (p : Tree × List Token). Begins names d 0 p.0 (t.Mark m.Triangular ∷ ts) p.1) put.1
+        (triangular_within d a.0.0 b.0.0 c.0.0 ts one.0 a.0.1 b.0.1 c.0.1 put.0 (behind_only m.Open ts one.0 one.1)
+        (enclosed_sound m.Comma one.0 a.0.0 a.0.1 a.1) (enclosed_sound m.Comma a.0.1 b.0.0 b.0.1 b.1) (enclosed_sound m.Close b.0.1 c.0.0 c.0.1 c.1))
+
     mark_sound : (mark : Mark) (ts : List Token) (x : Tree) (rest : List Token) → by_mark mark inner ts ≡ Some (x, rest) → Begins names d 0 x (t.Mark mark ∷ ts) rest
     mark_sound m.Not ts x rest e =
         let one = bind_some (inner 0 ts) (λ p. made (Not p.0) p.1) (x, rest) e in
@@ -247,18 +317,23 @@ module _ (names : List ℕ) where
         subst (λ (p : Tree × List Token). Begins names d 0 p.0 (t.Mark m.Not ∷ ts) p.1) put.1
         (not_within d one.0.0 ts one.0.1 put.0 (sound 0 ts one.0.0 one.0.1 one.1))
     mark_sound m.Open ts x rest e = brackets_within d x ts rest (enclosed_sound m.Close ts x rest e)
-    mark_sound m.Draw ts x rest e =
-        let one = bind_some (behind m.Open ts) (λ us. enclosed m.Close (inner 9) us >>= λ p. made (Draw p.0) p.1) (x, rest) e in
-        let two = bind_some (enclosed m.Close (inner 9) one.0) (λ p. made (Draw p.0) p.1) (x, rest) one.2 in
-        let put = made_only (Draw two.0.0) two.0.1 (x, rest) two.2 in
-        subst (λ (p : Tree × List Token). Begins names d 0 p.0 (t.Mark m.Draw ∷ ts) p.1) put.1
-        (draw_within d two.0.0 ts one.0 two.0.1 put.0 (behind_only m.Open ts one.0 one.1) (enclosed_sound m.Close one.0 two.0.0 two.0.1 two.1))
+    mark_sound (m.Draw law) ts x rest e =
+        let one = bind_some (behind m.Open ts) (λ us. enclosed m.Close (inner 9) us >>= λ p. made (Draw law p.0) p.1) (x, rest) e in
+        let two = bind_some (enclosed m.Close (inner 9) one.0) (λ p. made (Draw law p.0) p.1) (x, rest) one.2 in
+        let put = made_only (Draw law two.0.0) two.0.1 (x, rest) two.2 in
+        subst (λ (p : Tree × List Token). Begins names d 0 p.0 (t.Mark (m.Draw law) ∷ ts) p.1) put.1
+        (draw_within d law two.0.0 ts one.0 two.0.1 put.0 (behind_only m.Open ts one.0 one.1) (enclosed_sound m.Close one.0 two.0.0 two.0.1 two.1))
     mark_sound m.Min ts x rest e =
-        let p = pair_sound o.Least ts x rest e in
+        let p = pair_sound (Two o.Least) ts x rest e in
         subst (λ z. Begins names d 0 z (t.Mark m.Min ∷ ts) rest) p.same (least_within d p.x p.y ts p.us p.vs rest p.low p.opened p.one p.two)
     mark_sound m.Max ts x rest e =
-        let p = pair_sound o.Greatest ts x rest e in
+        let p = pair_sound (Two o.Greatest) ts x rest e in
         subst (λ z. Begins names d 0 z (t.Mark m.Max ∷ ts) rest) p.same (greatest_within d p.x p.y ts p.us p.vs rest p.low p.opened p.one p.two)
+    mark_sound m.Normal ts x rest e =
+        let p = pair_sound Normal ts x rest e in
+        subst (λ z. Begins names d 0 z (t.Mark m.Normal ∷ ts) rest) p.same (normal_within d p.x p.y ts p.us p.vs rest p.low p.opened p.one p.two)
+    mark_sound m.Triangular ts x rest e = three_sound ts x rest e
+    mark_sound m.Choose ts x rest e = chosen_sound d ts x rest e
     mark_sound m.Is ts x rest e = absurd cc
     mark_sound m.Comma ts x rest e = absurd cc
     mark_sound m.Close ts x rest e = absurd cc

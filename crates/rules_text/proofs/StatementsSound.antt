@@ -372,7 +372,10 @@ module _ (d : ℕ) (block : Reads Acts) (choice : Reads Act)
   start_sound m.Else names ts p rest e = absurd cc
   start_sound m.Min names ts p rest e = absurd cc
   start_sound m.Max names ts p rest e = absurd cc
-  start_sound m.Draw names ts p rest e = absurd cc
+  start_sound (m.Draw law) names ts p rest e = absurd cc
+  start_sound m.Normal names ts p rest e = absurd cc
+  start_sound m.Triangular names ts p rest e = absurd cc
+  start_sound m.Choose names ts p rest e = absurd cc
   start_sound m.Kept names ts p rest e = absurd cc
 
   one_sound : (names : List ℕ) (ts : List Token) (p : Done) (rest : List Token) → one d block choice names ts ≡ Some (p, rest) → Starts names d p ts rest

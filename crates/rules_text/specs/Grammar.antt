@@ -3,6 +3,8 @@ use Rattle.std.specs.Prelude.{◌≡◌, ℕ, suc, ◌+◌, ◌≤◌, List, [],
 use Rattle.rules.specs.declared.tree.Expression.{Expression}
 use Rattle.rules.specs.declared.tree.Expression.TheVariants as e
 use Rattle.rules.specs.declared.tree.Known.{Known as Knowledge}
+use Rattle.rules.specs.declared.tree.Law.{Law}
+use Rattle.rules.specs.declared.tree.Law.TheVariants as l
 use Rattle.rules.specs.declared.tree.Operator.{Operator}
 use Rattle.rules.specs.declared.tree.Operator.TheVariants as o
 use Rattle.rules_text.specs.declared.token.Mark.{Mark as MarkKind}
@@ -20,7 +22,10 @@ pub data Tree : Type 0 where
   Not : (x : Tree) → Tree
   Two : (o : Operator) (x y : Tree) → Tree
   Entry : (table : ℕ) (x : Tree) → Tree
-  Draw : (x : Tree) → Tree
+  Draw : (law : Law) (x : Tree) → Tree
+  Normal : (x y : Tree) → Tree
+  Triangular : (x y z : Tree) → Tree
+  Choose : (table : ℕ) → Tree
 
 -- the tree of an expression
 abbrev pub tree_of : Expression → Tree
@@ -32,14 +37,19 @@ tree_of (e.Read known) = Read known
 tree_of (e.Not' p x) = Not (tree_of x)
 tree_of (e.Two' o p x q y) = Two o (tree_of x) (tree_of y)
 tree_of (e.Entry' table p x) = Entry table (tree_of x)
-tree_of (e.Draw' p x) = Draw (tree_of x)
+tree_of (e.Draw' law p x) = Draw law (tree_of x)
+tree_of (e.Normal' p x q y) = Normal (tree_of x) (tree_of y)
+tree_of (e.Triangular' p x q y r z) = Triangular (tree_of x) (tree_of y) (tree_of z)
+tree_of (e.Choose table) = Choose table
 
 -- how many operators deep a value is
 abbrev pub height : Tree → ℕ
 height (Not x) = height x + 1
 height (Two o x y) = max (height x) (height y) + 1
 height (Entry table x) = height x + 1
-height (Draw x) = height x + 1
+height (Draw law x) = height x + 1
+height (Normal x y) = max (height x) (height y) + 1
+height (Triangular x y z) = max (max (height x) (height y)) (height z) + 1
 height _ = 0
 
 -- how loosely an operator binds, from 1
@@ -59,6 +69,11 @@ looseness o.Either = 9
 looseness o.Least = 0
 looseness o.Greatest = 0
 looseness _ = 7
+
+abbrev pub law_code : Law → ℕ
+law_code l.Uniform = 19
+law_code l.Exponential = 21
+law_code l.Geometric = 22
 
 -- marks as numbers, by which they are compared
 abbrev pub code : MarkKind → ℕ
@@ -81,8 +96,11 @@ code m.Else = 15
 code m.Repeat = 16
 code m.Min = 17
 code m.Max = 18
-code m.Draw = 19
+code (m.Draw law) = law_code law
 code m.Kept = 20
+code m.Normal = 23
+code m.Triangular = 24
+code m.Choose = 25
 
 -- the place of a name among those in scope, from the outermost; the first of these has place i
 abbrev pub place_from : ℕ → ℕ → List ℕ → Option ℕ
@@ -114,8 +132,15 @@ pub data Spells (names : List ℕ) : (d k : ℕ) → Tree → List Token → Typ
   in_brackets : (d : ℕ) (x : Tree) (ts : List Token) → Spells names d 9 x ts → Spells names (suc d) 0 x (t.Mark m.Open ∷ (ts ++ t.Mark m.Close ∷ []))
   an_entry : (d table : ℕ) (x : Tree) (ts : List Token) → height (Entry table x) ≤ 256 → Spells names d 9 x ts →
       Spells names (suc d) 0 (Entry table x) (t.Table table ∷ t.Mark m.OpenIndex ∷ (ts ++ t.Mark m.CloseIndex ∷ []))
-  a_draw : (d : ℕ) (x : Tree) (ts : List Token) → height (Draw x) ≤ 256 → Spells names d 9 x ts →
-      Spells names (suc d) 0 (Draw x) (t.Mark m.Draw ∷ t.Mark m.Open ∷ (ts ++ t.Mark m.Close ∷ []))
+  a_draw : (d : ℕ) (law : Law) (x : Tree) (ts : List Token) → height (Draw law x) ≤ 256 → Spells names d 9 x ts →
+      Spells names (suc d) 0 (Draw law x) (t.Mark (m.Draw law) ∷ t.Mark m.Open ∷ (ts ++ t.Mark m.Close ∷ []))
+  a_normal : (d : ℕ) (x y : Tree) (ts us : List Token) → height (Normal x y) ≤ 256 → Spells names d 9 x ts → Spells names d 9 y us →
+      Spells names (suc d) 0 (Normal x y) (t.Mark m.Normal ∷ t.Mark m.Open ∷ (ts ++ t.Mark m.Comma ∷ (us ++ t.Mark m.Close ∷ [])))
+  a_triangular : (d : ℕ) (x y z : Tree) (ts us vs : List Token) → height (Triangular x y z) ≤ 256 →
+      Spells names d 9 x ts → Spells names d 9 y us → Spells names d 9 z vs →
+      Spells names (suc d) 0 (Triangular x y z)
+      (t.Mark m.Triangular ∷ t.Mark m.Open ∷ (ts ++ t.Mark m.Comma ∷ (us ++ t.Mark m.Comma ∷ (vs ++ t.Mark m.Close ∷ []))))
+  a_chosen : (d table : ℕ) → Spells names d 0 (Choose table) (t.Mark m.Choose ∷ t.Mark m.Open ∷ t.Table table ∷ t.Mark m.Close ∷ [])
   the_least : (d : ℕ) (x y : Tree) (ts us : List Token) → height (Two o.Least x y) ≤ 256 → Spells names d 9 x ts → Spells names d 9 y us →
       Spells names (suc d) 0 (Two o.Least x y) (t.Mark m.Min ∷ t.Mark m.Open ∷ (ts ++ t.Mark m.Comma ∷ (us ++ t.Mark m.Close ∷ [])))
   the_greatest : (d : ℕ) (x y : Tree) (ts us : List Token) → height (Two o.Greatest x y) ≤ 256 → Spells names d 9 x ts → Spells names d 9 y us →

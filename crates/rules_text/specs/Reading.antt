@@ -8,7 +8,7 @@ use Rattle.rules_text.specs.declared.token.Mark.{Mark as MarkKind}
 use Rattle.rules_text.specs.declared.token.Mark.TheVariants as m
 use Rattle.rules_text.specs.declared.token.Token.{Token}
 use Rattle.rules_text.specs.declared.token.Token.TheVariants as t
-use Rattle.rules_text.specs.Grammar.{Tree, Not, Two, Entry, Draw, code, height, leaf, looseness}
+use Rattle.rules_text.specs.Grammar.{Tree, Not, Two, Entry, Draw, Normal, Triangular, Choose, code, height, leaf, looseness}
 
 -- what a function returned, seen by view, is what reading gives, unless memory ran out
 abbrev pub Fails : {Y : Type 0} → Stop → Option Y → Type 0
@@ -46,18 +46,36 @@ sign_at k _ = None
 abbrev pub enclosed : MarkKind → Reader → Reader
 enclosed closing inner ts = inner ts >>= λ p. behind closing p.1 >>= λ rest. Some (p.0, rest)
 
--- two values in brackets
-abbrev pub pair_at : Operator → Reader → Reader
-pair_at o inner ts =
-    behind m.Open ts >>= λ us. enclosed m.Comma inner us >>= λ p. enclosed m.Close inner p.1 >>= λ q. made (Two o p.0 q.0) q.1
+-- what is made of two values in brackets
+abbrev pub pair_at : (Tree → Tree → Tree) → Reader → Reader
+pair_at make inner ts =
+    behind m.Open ts >>= λ us. enclosed m.Comma inner us >>= λ p. enclosed m.Close inner p.1 >>= λ q. made (make p.0 q.0) q.1
+
+-- three values in brackets
+abbrev pub three_at : Reader → Reader
+three_at inner ts =
+    behind m.Open ts >>= λ us. enclosed m.Comma inner us >>= λ p. enclosed m.Comma inner p.1 >>= λ q. enclosed m.Close inner q.1 >>= λ r.
+    made (Triangular p.0 q.0 r.0) r.1
+
+-- the table that comes first
+abbrev pub table_at : List Token → Option (ℕ × List Token)
+table_at (t.Table table ∷ rest) = Some (table, rest)
+table_at _ = None
+
+-- a table in brackets
+abbrev pub chosen_at : Reader
+chosen_at ts = behind m.Open ts >>= λ us. table_at us >>= λ p. behind m.Close p.1 >>= λ rest. Some (Choose p.0, rest)
 
 -- what begins with a mark
 abbrev pub by_mark : MarkKind → (ℕ → Reader) → Reader
 by_mark m.Not inner ts = inner 0 ts >>= λ p. made (Not p.0) p.1
 by_mark m.Open inner ts = enclosed m.Close (inner 9) ts
-by_mark m.Draw inner ts = behind m.Open ts >>= λ us. enclosed m.Close (inner 9) us >>= λ p. made (Draw p.0) p.1
-by_mark m.Min inner ts = pair_at o.Least (inner 9) ts
-by_mark m.Max inner ts = pair_at o.Greatest (inner 9) ts
+by_mark (m.Draw law) inner ts = behind m.Open ts >>= λ us. enclosed m.Close (inner 9) us >>= λ p. made (Draw law p.0) p.1
+by_mark m.Normal inner ts = pair_at Normal (inner 9) ts
+by_mark m.Triangular inner ts = three_at (inner 9) ts
+by_mark m.Choose inner ts = chosen_at ts
+by_mark m.Min inner ts = pair_at (Two o.Least) (inner 9) ts
+by_mark m.Max inner ts = pair_at (Two o.Greatest) (inner 9) ts
 by_mark _ inner ts = None
 
 abbrev pub and_rest : Option Tree → Reader

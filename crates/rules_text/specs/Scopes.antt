@@ -2,12 +2,14 @@
 use Rattle.std.specs.Prelude.{ℕ, List, [], ◌∷◌, ◌++◌, Option, Some, None, Bool, true, false, ◌&&◌, ◌-◌, codes, map, take, drop, if◌then◌else◌}
 use Rattle.std.specs.Str.{bytes_eq}
 use Rattle.rules.specs.declared.tree.Known.TheVariants as k
+use Rattle.rules.specs.declared.tree.Law.TheVariants as l
 use Rattle.rules_text.specs.declared.lexemes.Lexeme.{Lexeme}
 use Rattle.rules_text.specs.declared.lexemes.Lexeme.TheVariants as x
 use Rattle.rules_text.specs.declared.lexemes.Placed.{Placed}
 use Rattle.rules_text.specs.declared.scope.Entry.{Entry}
 use Rattle.rules_text.specs.declared.scope.Meaning.{Meaning}
 use Rattle.rules_text.specs.declared.scope.Meaning.TheVariants as w
+use Rattle.rules_text.specs.declared.token.Mark.{Mark as MarkKind}
 use Rattle.rules_text.specs.declared.token.Mark.TheVariants as m
 use Rattle.rules_text.specs.declared.token.Token.{Token}
 use Rattle.rules_text.specs.declared.token.Token.TheVariants as t
@@ -45,11 +47,26 @@ statement_word name =
     if bytes_eq name (codes "repeat") then Some (t.Mark m.Repeat) else
     None
 
-abbrev pub value_word : Bool → List ℕ → Option Token
-value_word draws name =
+-- the words that draw
+abbrev pub drawing_word : List ℕ → Option MarkKind
+drawing_word name =
+    if bytes_eq name (codes "draw") then Some (m.Draw l.Uniform) else
+    if bytes_eq name (codes "exponential") then Some (m.Draw l.Exponential) else
+    if bytes_eq name (codes "geometric") then Some (m.Draw l.Geometric) else
+    if bytes_eq name (codes "normal") then Some m.Normal else
+    if bytes_eq name (codes "triangular") then Some m.Triangular else
+    if bytes_eq name (codes "choose") then Some m.Choose else
+    None
+
+-- a word that draws is kept from rules without a key
+abbrev pub with_draws : Bool → Option MarkKind → Option Token
+with_draws draws None = None
+with_draws draws (Some mark) = Some (t.Mark (if draws then mark else m.Kept))
+
+abbrev pub known_word : List ℕ → Option Token
+known_word name =
     if bytes_eq name (codes "min") then Some (t.Mark m.Min) else
     if bytes_eq name (codes "max") then Some (t.Mark m.Max) else
-    if bytes_eq name (codes "draw") then Some (t.Mark (if draws then m.Draw else m.Kept)) else
     if bytes_eq name (codes "key") then Some (t.Mark m.Kept) else
     if bytes_eq name (codes "self") then Some (t.Known k.Process) else
     if bytes_eq name (codes "sender") then Some (t.Known k.Sender) else
@@ -57,13 +74,17 @@ value_word draws name =
     if bytes_eq name (codes "lps") then Some (t.Known k.Processes) else
     None
 
-abbrev pub lookup : List ℕ → List (List ℕ × Token) → Option Token
-lookup name [] = None
-lookup name (e ∷ es) = if bytes_eq e.0 name then Some e.1 else lookup name es
-
 abbrev pub or_else : Option Token → Option Token → Option Token
 or_else None other = other
 or_else (Some token) other = Some token
+
+-- a word that stands in values
+unfoldable pub value_word : Bool → List ℕ → Option Token
+value_word draws name = or_else (with_draws draws (drawing_word name)) (known_word name)
+
+abbrev pub lookup : List ℕ → List (List ℕ × Token) → Option Token
+lookup name [] = None
+lookup name (e ∷ es) = if bytes_eq e.0 name then Some e.1 else lookup name es
 
 -- what a name means
 abbrev pub meaning : Dictionary → List ℕ → Option Token

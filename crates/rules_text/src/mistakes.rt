@@ -5,7 +5,7 @@ use crate::scope::Scope;
 use crate::stop::{Refusal, Stop, Wanted};
 use crate::token::{Mark, Token};
 use crate::words::{part, words};
-use rules::Operator;
+use rules::{Law, Operator};
 use std::alloc::{AllocError, Global};
 use std::fmt;
 use strsim::levenshtein;
@@ -19,6 +19,8 @@ pub enum Kind {
     Kept(String),
     /// A name that is in use.
     InUse(String),
+    /// A name of `let` or `repeat` that is set.
+    Fixed(String),
     /// A second comparison in a row.
     Chain,
     /// The text ends, where something else was wanted.
@@ -67,12 +69,40 @@ pub(crate) fn find_mistake(
     let tokens = words(alloc, scope, bytes, &lexemes)?;
     let index = tokens.len().saturating_sub(refusal.left);
     match (lexemes.get(index), tokens.get(index)) {
+        (Some(lexeme), Some(_)) if is_set(tokens.as_slice(), index, refusal.wanted) => {
+            let name = owned(alloc, part(bytes, lexeme.start, lexeme.end))?;
+            Ok(at(bytes, lexeme.start, Kind::Fixed(name)))
+        }
         (Some(lexeme), Some(token)) => {
             let kind = kind_at(alloc, scope, bytes, lexeme, token, refusal.wanted)?;
             Ok(at(bytes, lexeme.start, kind))
         }
         _ => Ok(at(bytes, bytes.len(), Kind::End(refusal.wanted))),
     }
+}
+
+/// Whether the statements of a rule or a block end, and one more or the end was wanted.
+fn ends_statements(wanted: Wanted) -> bool {
+    wanted == Wanted::Statement || wanted == Wanted::Mark(Mark::CloseBlock)
+}
+
+/// Whether a name that `let` or `repeat` gives before is followed by `=`, where a statement is
+/// wanted.
+fn is_set(tokens: &[Token], index: usize, wanted: Wanted) -> bool {
+    let (Some(name), Some(sign)) = (tokens.get(index), tokens.get(index.saturating_add(1))) else {
+        return false;
+    };
+    if !ends_statements(wanted) || *sign != Token::Mark(Mark::Is) {
+        return false;
+    }
+    let mut gives = false;
+    'tokens: for (i, token) in tokens.iter().enumerate() {
+        if i < index && gives && *token == *name {
+            return true;
+        }
+        gives = *token == Token::Mark(Mark::Let) || *token == Token::Mark(Mark::Repeat);
+    }
+    false
 }
 
 /// What is wrong at a token.
@@ -85,14 +115,14 @@ fn kind_at(
     wanted: Wanted,
 ) -> Result<Kind, AllocError> {
     let name = part(text, lexeme.start, lexeme.end);
-    let is_read = wanted == Wanted::Value || wanted == Wanted::Statement;
+    let is_read = wanted == Wanted::Value || ends_statements(wanted);
     match *token {
         Token::Mark(Mark::Kept) => Ok(Kind::Kept(owned(alloc, name)?)),
         Token::Name(_) if is_read => {
             let near = nearest(alloc, scope, name)?;
             Ok(Kind::Unknown(owned(alloc, name)?, near))
         }
-        Token::Sign(operator) if is_comparison(operator) && wanted == Wanted::Statement => Ok(
+        Token::Sign(operator) if is_comparison(operator) && ends_statements(wanted) => Ok(
             Kind::Chain,
         ),
         _ if lexeme.lexeme == Lexeme::Name && wanted == Wanted::NewName => Ok(Kind::InUse(owned(
@@ -181,15 +211,22 @@ impl fmt::Display for Kind {
             }
             Kind::Kept(name) => {
                 let name = name.as_str();
-                if name == "draw" {
-                    f.write_str("draw wants the word key in the state")
+                if name == "key" {
+                    f.write_str("\"key\" is neither read nor set")
                 } else {
-                    write!(f, "\"{name}\" is neither read nor set")
+                    write!(f, "{name} wants the word key in the state")
                 }
             }
             Kind::InUse(name) => {
                 let name = name.as_str();
                 write!(f, "the name \"{name}\" is in use")
+            }
+            Kind::Fixed(name) => {
+                let name = name.as_str();
+                write!(
+                    f,
+                    "\"{name}\" is a name of let or repeat, and only words of the state are set"
+                )
             }
             Kind::Chain => f.write_str("comparisons do not chain: use brackets"),
             Kind::End(wanted) => write!(f, "the text ends, but {wanted}"),
@@ -206,6 +243,7 @@ impl fmt::Display for Wanted {
             ),
             Wanted::LessText => f.write_str("a rule has at most 65,536 bytes"),
             Wanted::Value => f.write_str("a value is wanted here"),
+            Wanted::Table => f.write_str("a table is wanted here"),
             Wanted::Statement => f.write_str("a statement is wanted here"),
             Wanted::Mark(mark) => {
                 let sign = spelling(*mark);
@@ -242,7 +280,12 @@ fn spelling(mark: Mark) -> &'static str {
         Mark::Repeat => "repeat",
         Mark::Min => "min",
         Mark::Max => "max",
-        Mark::Draw => "draw",
+        Mark::Draw(Law::Uniform) => "draw",
+        Mark::Draw(Law::Exponential) => "exponential",
+        Mark::Draw(Law::Geometric) => "geometric",
+        Mark::Normal => "normal",
+        Mark::Triangular => "triangular",
+        Mark::Choose => "choose",
         Mark::Kept => "key",
     }
 }

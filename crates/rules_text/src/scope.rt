@@ -4,12 +4,12 @@ ghost use Rattle.std.specs.Prelude.{◌≡◌, [], None, IsSome, OnErr, OnOk, tr
 ghost use Rattle.std.specs.Result.{IsErrOf};
 ghost use Rattle.std.specs.Str.{bytes_eq};
 ghost use Rattle.rules_text.specs.Lexical.{is_name};
-ghost use Rattle.rules_text.specs.Scopes.{dictionary_of, entries_of, lookup, meaning, statement_word, token_meant, value_word, with_entry};
+ghost use Rattle.rules_text.specs.Scopes.{dictionary_of, drawing_word, entries_of, lookup, meaning, statement_word, token_meant, value_word, with_entry};
 ghost use Rattle.rules_text.specs.declared.scope.ScopeError.TheVariants.{Memory, InUse, NotAName};
 
 use crate::lexemes::is_whole_name;
 use crate::token::{Mark, Token};
-use rules::Known;
+use rules::{Known, Law};
 use std::alloc::{AllocError, AllocFailed, Global};
 use thiserror::Error;
 
@@ -112,18 +112,44 @@ fn word_of_statement(name: &[u8]) -> Option<Token>
     None
 }
 
+/// A word of the language that draws.
+fn word_that_draws(name: &[u8]) -> Option<Mark>
+    ensures { result ≡ drawing_word name.now }
+{
+    if is(name, "draw") {
+        return Some(Mark::Draw(Law::Uniform));
+    }
+    if is(name, "exponential") {
+        return Some(Mark::Draw(Law::Exponential));
+    }
+    if is(name, "geometric") {
+        return Some(Mark::Draw(Law::Geometric));
+    }
+    if is(name, "normal") {
+        return Some(Mark::Normal);
+    }
+    if is(name, "triangular") {
+        return Some(Mark::Triangular);
+    }
+    if is(name, "choose") {
+        return Some(Mark::Choose);
+    }
+    None
+}
+
 /// A word of the language that stands in values.
+#[tactic(auto, unfolding(crate::specs::Scopes::value_word))]
 fn word_of_value(draws: bool, name: &[u8]) -> Option<Token>
     ensures { result ≡ value_word draws name.now }
 {
+    if let Some(mark) = word_that_draws(name) {
+        return Some(Token::Mark(if draws { mark } else { Mark::Kept }));
+    }
     if is(name, "min") {
         return Some(Token::Mark(Mark::Min));
     }
     if is(name, "max") {
         return Some(Token::Mark(Mark::Max));
-    }
-    if is(name, "draw") {
-        return Some(Token::Mark(if draws { Mark::Draw } else { Mark::Kept }));
     }
     if is(name, "key") {
         return Some(Token::Mark(Mark::Kept));

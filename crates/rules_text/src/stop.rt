@@ -17,6 +17,8 @@ pub enum Wanted {
     Value,
     /// A statement.
     Statement,
+    /// A table.
+    Table,
     /// This sign or word.
     Mark(Mark),
     /// A name that is not in use.

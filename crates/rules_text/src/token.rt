@@ -1,6 +1,6 @@
 //! What the tokens of a rule mean.
 
-use rules::{Known, Operator};
+use rules::{Known, Law, Operator};
 
 /// A token of a rule by what it means in the rule's scope.
 #[derive(Clone, Copy, Debug, PartialEq, Eq)]
@@ -54,7 +54,12 @@ pub enum Mark {
     Repeat,
     Min,
     Max,
-    Draw,
-    /// A word that this scope keeps from rules: `key`, and `draw` where the state has no `key`.
+    /// `draw`, `exponential` or `geometric`, by its law.
+    Draw(Law),
+    Normal,
+    Triangular,
+    Choose,
+    /// A word that this scope keeps from rules: `key`, and the words that draw where the state has
+    /// no `key`.
     Kept,
 }

@@ -1,12 +1,12 @@
 // Reads a value, from the left.
 
 ghost use Rattle.std.specs.Prelude.{◌≡◌, ◌+◌, ◌-◌, ◌^◌, ◌≤◌, [], ◌∷◌, None, Some, length, min, MatchOption};
-ghost use Rattle.rules_text.specs.Grammar.{Two, code, height as height_of, looseness as looseness_of, place_of, tree_of};
-ghost use Rattle.rules_text.specs.Reading.{Gives, behind as behind_mark, chain as chained, enclosed as enclosed_at, inside, level as level_at, made, by_mark, pair_at, primary as primary_at, sign_at, turns as turns_of, value_at};
+ghost use Rattle.rules_text.specs.Grammar.{Normal, Two, code, height as height_of, law_code, looseness as looseness_of, place_of, tree_of};
+ghost use Rattle.rules_text.specs.Reading.{Gives, behind as behind_mark, chain as chained, chosen_at, enclosed as enclosed_at, inside, level as level_at, made, by_mark, pair_at, primary as primary_at, sign_at, table_at, three_at, turns as turns_of, value_at};
 
 use crate::stop::{Stop, Wanted, refused};
 use crate::token::{Mark, Token};
-use rules::{Expression, Operator};
+use rules::{Expression, Law, Operator};
 use std::alloc::Global;
 
 /// What was read, and the tokens after it.
@@ -59,8 +59,22 @@ fn code_of(mark: Mark) -> u32
         Mark::Repeat => 16,
         Mark::Min => 17,
         Mark::Max => 18,
-        Mark::Draw => 19,
+        Mark::Draw(law) => code_of_law(law),
         Mark::Kept => 20,
+        Mark::Normal => 23,
+        Mark::Triangular => 24,
+        Mark::Choose => 25,
+    }
+}
+
+/// The number of the mark of a law.
+fn code_of_law(law: Law) -> u32
+    ensures { result ≡ law_code law }
+{
+    match law {
+        Law::Uniform => 19,
+        Law::Exponential => 21,
+        Law::Geometric => 22,
     }
 }
 
@@ -124,11 +138,17 @@ fn height(e: &Expression) -> u64
         | Expression::Word(_)
         | Expression::Content(_)
         | Expression::Local(_)
-        | Expression::Read(_) => 0,
-        Expression::Not(x) | Expression::Entry(_, x) | Expression::Draw(x) => {
+        | Expression::Read(_)
+        | Expression::Choose(_) => 0,
+        Expression::Not(x) | Expression::Entry(_, x) | Expression::Draw(_, x) => {
             height(x).saturating_add(1)
         }
-        Expression::Two(_, x, y) => height(x).max(height(y)).saturating_add(1),
+        Expression::Two(_, x, y) | Expression::Normal(x, y) => {
+            height(x).max(height(y)).saturating_add(1)
+        }
+        Expression::Triangular(x, y, z) => {
+            height(x).max(height(y)).max(height(z)).saturating_add(1)
+        }
     }
 }
 
@@ -299,11 +319,14 @@ fn marked<'a>(
             checked(Expression::Not(Box::new(alloc, x)?), rest)
         }
         Mark::Open => enclosed(alloc, names, most, depth, Mark::Close, tokens),
-        Mark::Draw => {
+        Mark::Draw(law) => {
             let rest = expect(Mark::Open, tokens)?;
             let (x, rest) = enclosed(alloc, names, most, depth, Mark::Close, rest)?;
-            checked(Expression::Draw(Box::new(alloc, x)?), rest)
+            checked(Expression::Draw(law, Box::new(alloc, x)?), rest)
         }
+        Mark::Normal => normal(alloc, names, most, depth, tokens),
+        Mark::Triangular => triangular(alloc, names, most, depth, tokens),
+        Mark::Choose => choice(tokens),
         Mark::Min => pair(alloc, names, most, depth, Operator::Least, tokens),
         Mark::Max => pair(alloc, names, most, depth, Operator::Greatest, tokens),
         _ => Err(refused(all, Wanted::Value)),
@@ -321,12 +344,79 @@ fn pair<'a>(
     tokens: &'a [Token],
 ) -> Reads<'a, Expression>
     requires { length names.now ≤ 16 }
-    ensures { Gives (λ p. (tree_of p.0, p.1.now)) result (pair_at operator (inside names.now most depth 9) tokens.now) }
+    ensures { Gives (λ p. (tree_of p.0, p.1.now)) result (pair_at (Two operator) (inside names.now most depth 9) tokens.now) }
 {
     let rest = expect(Mark::Open, tokens)?;
     let (left, rest) = enclosed(alloc, names, most, depth, Mark::Comma, rest)?;
     let (right, rest) = enclosed(alloc, names, most, depth, Mark::Close, rest)?;
     two(alloc, operator, left, right, rest)
+}
+
+/// A mean and a deviation in brackets, with a comma between them.
+#[cycle(values)]
+fn normal<'a>(
+    alloc: Global,
+    names: &[usize],
+    most: usize,
+    depth: u32,
+    tokens: &'a [Token],
+) -> Reads<'a, Expression>
+    requires { length names.now ≤ 16 }
+    ensures { Gives (λ p. (tree_of p.0, p.1.now)) result (pair_at Normal (inside names.now most depth 9) tokens.now) }
+{
+    let rest = expect(Mark::Open, tokens)?;
+    let (mean, rest) = enclosed(alloc, names, most, depth, Mark::Comma, rest)?;
+    let (deviation, rest) = enclosed(alloc, names, most, depth, Mark::Close, rest)?;
+    checked(
+        Expression::Normal(Box::new(alloc, mean)?, Box::new(alloc, deviation)?),
+        rest,
+    )
+}
+
+/// A least value, a mode and a greatest value in brackets, with commas between them.
+#[cycle(values)]
+fn triangular<'a>(
+    alloc: Global,
+    names: &[usize],
+    most: usize,
+    depth: u32,
+    tokens: &'a [Token],
+) -> Reads<'a, Expression>
+    requires { length names.now ≤ 16 }
+    ensures { Gives (λ p. (tree_of p.0, p.1.now)) result (three_at (inside names.now most depth 9) tokens.now) }
+{
+    let rest = expect(Mark::Open, tokens)?;
+    let (least, rest) = enclosed(alloc, names, most, depth, Mark::Comma, rest)?;
+    let (mode, rest) = enclosed(alloc, names, most, depth, Mark::Comma, rest)?;
+    let (greatest, rest) = enclosed(alloc, names, most, depth, Mark::Close, rest)?;
+    checked(
+        Expression::Triangular(
+            Box::new(alloc, least)?,
+            Box::new(alloc, mode)?,
+            Box::new(alloc, greatest)?,
+        ),
+        rest,
+    )
+}
+
+/// The table that comes first, and the tokens after it.
+fn table<'a>(tokens: &'a [Token]) -> Reads<'a, u32>
+    ensures { Gives (λ p. (p.0, p.1.now)) result (table_at tokens.now) }
+{
+    match first(tokens) {
+        Some((Token::Table(table), rest)) => Ok((table, rest)),
+        _ => Err(refused(tokens, Wanted::Table)),
+    }
+}
+
+/// A table in brackets.
+fn choice<'a>(tokens: &'a [Token]) -> Reads<'a, Expression>
+    ensures { Gives (λ p. (tree_of p.0, p.1.now)) result (chosen_at tokens.now) }
+{
+    let rest = expect(Mark::Open, tokens)?;
+    let (table, rest) = table(rest)?;
+    let rest = expect(Mark::Close, rest)?;
+    Ok((Expression::Choose(table), rest))
 }
 
 /// A value that is nested once more, and the mark that closes it.

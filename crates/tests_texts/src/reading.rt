@@ -1,7 +1,10 @@
 // Command lines and what they are read as.
 
 use clap::error::ErrorKind;
-use cli::{Command, ModelArgs, Texts, hint_of, read_command, says_advice};
+use cli::{
+    Command, ModelArgs, TOPICS, Texts, asks_help, help_text, hint_of, read_command, says_advice,
+    says_quiet, topic_of,
+};
 use std::alloc::{AllocError, Global};
 use std::test::Fail;
 
@@ -23,6 +26,10 @@ enum Asked {
     Hint,
     /// Whether they ask for advice.
     Advice,
+    /// Whether they ask for faults without their causes.
+    Quiet,
+    /// The first line that `help` prints, or the kind of the mistake.
+    Help,
 }
 
 /// The words of a line; `''` is the empty one.
@@ -40,8 +47,8 @@ const PLAIN: &str = "\
 Run(RunArgs { on: DiskArgs { model: \"a\", disk: \"b\", large: false }, nodes: 1, batch: \
 Fixed(16), rounds: 1000000, checkpoint: None, seal: false, commit_every: None, sockets: None, \
 cut: None, together: false, overlap: false, plain: false, attach: false, bind: false, judge: \
-None, silence: None, retries: None, grow_when_full: false, trace: None, stop_file: None, \
-progress: None, create: false, sectors: 4096, reserve: false })
+None, silence: None, retries: None, grow_when_full: false, archive_when_full: false, keep: None, \
+trace: None, stop_file: None, progress: None, create: false, sectors: 4096, reserve: false })
 Log(LogArgs { on: DiskArgs { model: \"a\", disk: \"b\", large: false }, from: None, to: None, \
 process: None, names: false })
 Draw(DrawArgs { of: SourceArgs { model: \"a\", disk: None, large: false }, from: None, to: None, \
@@ -49,14 +56,17 @@ processes: None, load: false, trace: None })
 Stats(StatsArgs { of: SourceArgs { model: \"a\", disk: None, large: false }, csv: false, names: \
 false })
 New(NewArgs { on: DiskArgs { model: \"a\", disk: \"b\", large: false }, sectors: 4096, reserve: \
-false })
+false, over: false, from: None })
 Migrate(MigrateArgs { model: \"a\", old: \"b\", new: \"c\", sectors: 4096, reserve: false, large: \
+false })
+Recover(RecoverArgs { model: \"a\", old: \"b\", new: \"c\", sectors: 4096, reserve: false, large: \
 false })
 Node(NodeArgs { model: \"a\", socket: \"b\", parcels: 4294967295 })
 Extend(DiskArgs { model: \"a\", disk: \"b\", large: false })
 Status(DiskArgs { model: \"a\", disk: \"b\", large: false })
 Reopen(DiskArgs { model: \"a\", disk: \"b\", large: false })
-Verify(DiskArgs { model: \"a\", disk: \"b\", large: false })
+Cut(DiskArgs { model: \"a\", disk: \"b\", large: false })
+Verify(VerifyArgs { on: DiskArgs { model: \"a\", disk: \"b\", large: false }, after: None })
 Show(ShowArgs { on: DiskArgs { model: \"a\", disk: \"b\", large: false }, names: false })
 Grow(GrowArgs { on: DiskArgs { model: \"a\", disk: \"b\", large: false }, sectors: 131072 })
 ";
@@ -99,6 +109,11 @@ fn answer(alloc: Global, asked: Asked, words: &[&str]) -> Result<String, AllocEr
     match asked {
         Asked::Hint => format!(in alloc; "{:?}", hint_of(words)),
         Asked::Advice => format!(in alloc; "{}", says_advice(words)),
+        Asked::Quiet => format!(in alloc; "{}", says_quiet(words)),
+        Asked::Help => match help_text(alloc, TEXTS, words) {
+            Ok(text) => first_line(alloc, text.as_str()),
+            Err(error) => format!(in alloc; "{:?}", error.kind()),
+        },
         Asked::Command => match read_command(alloc, TEXTS, words) {
             Ok(command) => shortened(alloc, format!(in alloc; "{command:?}")?.as_str()),
             Err(error) => format!(in alloc; "{:?}", error.kind()),
@@ -150,6 +165,12 @@ timewarp log a --to=1099511627776 b --process 4294967295 --from 0 => Log, from: 
 timewarp reopen a b => Reopen
 timewarp status a b => Status
 timewarp verify a b => Verify
+timewarp verify a --after=c b => Verify, after: Some("c")
+timewarp cut a b => Cut
+timewarp cut a --large b => Cut, large: true
+timewarp recover a b c => Recover
+timewarp recover --large a b --sectors 131073 c --reserve => Recover, sectors: 131073, reserve: true, large: true
+timewarp status a b --quiet => Status
 timewarp stats a => Stats
 timewarp stats a b --format=csv --names => Stats, disk: Some("b"), csv: true, names: true
 timewarp draw a => Draw
@@ -160,6 +181,8 @@ timewarp check a => Check(ModelArgs { model: "a" })
 timewarp new a b => New
 timewarp new a b --sectors 131072 => New, sectors: 131072
 timewarp new a --reserve b => New, reserve: true
+timewarp new --over a b => New, over: true
+timewarp new a b --from c --sectors=8 => New, sectors: 8, from: Some("c")
 timewarp migrate a b c --reserve => Migrate, reserve: true
 timewarp extend a b => Extend
 timewarp migrate a b c => Migrate
@@ -200,6 +223,16 @@ timewarp run a b --sockets=c --overlap --bind --judge=0 --silence=86400 --retrie
 timewarp run --attach a b --sockets=c => Run, sockets: Some("c"), attach: true
 timewarp run a b --commit-every=400000 --batch auto --trace c => Run, batch: Auto, commit_every: Some(400000), trace: Some("c")
 timewarp run --stop-file=s a b --progress 86400 --sectors=8 --create => Run, stop_file: Some("s"), progress: Some(86400), create: true, sectors: 8
+# The numbers that a word can stand for, at most and at least.
+timewarp run a b --rounds unlimited => Run, rounds: 4294967295
+timewarp run a b --rounds=4294967295 => Run, rounds: 4294967295
+timewarp run a b --rounds=+1 => Run, rounds: 1
+timewarp run a b --sockets=c --judge all => Run, sockets: Some("c"), judge: Some(1)
+timewarp run a b --judge=1 --sockets=c => Run, sockets: Some("c"), judge: Some(1)
+timewarp run a b --judge=4294967295 --sockets=c => Run, sockets: Some("c"), judge: Some(4294967295)
+timewarp run a b --archive-when-full => Run, archive_when_full: true
+timewarp run a b --keep=0 --archive-when-full => Run, archive_when_full: true, keep: Some(0)
+timewarp run a b --archive-when-full --keep 4294967295 => Run, archive_when_full: true, keep: Some(4294967295)
 timewarp run a b --create --reserve => Run, create: true, reserve: true
 timewarp run a b --large --create --sectors 16777216 => Run, large: true, create: true, sectors: 16777216
 timewarp run --batch=auto a b => Run, batch: Auto
@@ -224,7 +257,16 @@ timewarp node a '' => InvalidValue
 timewarp draw a '' => InvalidValue
 timewarp run a b --sockets '' => InvalidValue
 timewarp run a b --trace= => InvalidValue
+timewarp new a b --from= => InvalidValue
+timewarp verify a b --after '' => InvalidValue
+timewarp recover a b '' => InvalidValue
 # Options that do not go together.
+timewarp run a b --keep 2 => MissingRequiredArgument
+timewarp run a b --grow-when-full --keep=0 => MissingRequiredArgument
+timewarp run a b --judge all => MissingRequiredArgument
+timewarp run a b --archive-when-full --grow-when-full => ArgumentConflict
+timewarp run a b --quiet --advice => ArgumentConflict
+timewarp check a --advice --quiet => ArgumentConflict
 timewarp run a b --attach => MissingRequiredArgument
 timewarp run a b --bind => MissingRequiredArgument
 timewarp run a b --judge=0 => MissingRequiredArgument
@@ -292,6 +334,22 @@ timewarp seq a --large => UnknownArgument
 timewarp check a --large => UnknownArgument
 timewarp node a b --large => UnknownArgument
 timewarp run a b --nodes 65 => ValueValidation
+timewarp run a b --rounds=0 => ValueValidation
+timewarp run a b --rounds= => ValueValidation
+timewarp run a b --rounds Unlimited => ValueValidation
+timewarp run a b --rounds all => ValueValidation
+timewarp run a b --rounds unlimited --rounds=4 => ArgumentConflict
+timewarp run a b --sockets=s --judge every => ValueValidation
+timewarp run a b --judge=4294967296 --sockets=s => ValueValidation
+timewarp run a b --archive-when-full --keep all => ValueValidation
+timewarp run a b --archive-when-full --keep=4294967296 => ValueValidation
+timewarp recover a b => MissingRequiredArgument
+timewarp recover a b c d => UnknownArgument
+timewarp recover a b c --sectors=131073 => ValueValidation
+timewarp cut a => MissingRequiredArgument
+timewarp cut a b --reserve => UnknownArgument
+timewarp new a b --over=true => TooManyValues
+timewarp log a b --after c => UnknownArgument
 timewarp run a b --batch=0 => ValueValidation
 timewarp run a b --rounds 4294967296 => ValueValidation
 timewarp run a b --commit-every 400001 => ValueValidation
@@ -310,7 +368,7 @@ timewarp draw a --processes 3..2 => InvalidValue
 timewarp draw a --processes=3 => InvalidValue
 timewarp draw a --processes=0..4294967296 => InvalidValue
 timewarp --version => DisplayVersion
-# `help` is not a command.
+# `help` is no command: `help_text` answers it.
 timewarp help => InvalidSubcommand
 timewarp --help => DisplayHelp
 timewarp seq -h => DisplayHelp
@@ -330,6 +388,11 @@ timewarp run a b --batch atuo => error: invalid value 'atuo' for '--batch <N>': 
 timewarp run a b --batch= => error: invalid value '' for '--batch <N>': cannot parse integer from empty string
 timewarp new a b --sectors 7 => error: invalid value '7' for '--sectors <N>': 7 is not in 8..=131072
 timewarp run a b --create --sectors=131073 => error: invalid value '131073' for '--sectors <N>': 131073 is not in 8..=131072
+timewarp run a b --rounds=0 => error: invalid value '0' for '--rounds <N>': 0 is not in 1..=4294967295
+timewarp run a b --sockets=c --judge most => error: invalid value 'most' for '--judge <N>': invalid digit found in string
+timewarp run a b --keep 2 => error: the argument '--keep <K>' needs '--archive-when-full', which makes archived parts
+timewarp run a b --archive-when-full --grow-when-full => error: the argument '--archive-when-full' cannot be used with '--grow-when-full'
+timewarp seq a --advice --quiet => error: the argument '--advice' cannot be used with '--quiet'
 timewarp grow a b --sectors=4 --large => error: invalid value '4' for '--sectors <N>': 4 is not in 8..=16777216
 "#;
 
@@ -349,7 +412,19 @@ timewarp grow a b --sectors=131073 => Some(Large)
 timewarp new a b --sectors 131072 => None
 timewarp new a b --sectors 16777217 => None
 timewarp new a b --sectors 200000 --large => None
+timewarp run a b --rounds=0 => Some(Rounds)
+timewarp run a b --rounds unlimted => Some(Rounds)
+timewarp run a b --rounds unlimited => None
+timewarp run a b --judge=every => Some(Judge)
+timewarp run a b --judge all => None
+timewarp run a b --judge=0 => None
+timewarp draw a --processes 3 => Some(Processes)
+timewarp draw a --processes=4..3 => Some(Processes)
+timewarp draw a --processes=3..3 => None
+timewarp run a b --keep -1 => Some(Negative("keep"))
 timewarp log a b --from -1 => Some(Negative("from"))
+# It is a file there.
+timewarp new a b --from -1 => None
 timewarp run a b --nodes=-2 => Some(Negative("nodes"))
 timewarp run a b --trace -1 => None
 timewarp log a b -- --from -1 => None
@@ -377,6 +452,70 @@ timewarp seq -- --advice => false
 fn words_ask_for_advice_before_two_hyphens(rt: HostRuntime) -> Result<(), Fail> {
     assert_eq!(rt; wrong_row(rt.alloc(), Asked::Advice, ADVISED)?, None);
     Ok(())
+}
+
+/// Words, and whether they ask for faults without their causes.
+const QUIET: &str = r#"
+timewarp seq a --quiet => true
+timewarp run --quiet => true
+timewarp seq -- --quiet => false
+--quiet seq a => false
+timewarp seq a --advice => false
+"#;
+
+#[test]
+fn words_ask_for_quiet_before_two_hyphens(rt: HostRuntime) -> Result<(), Fail> {
+    assert_eq!(rt; wrong_row(rt.alloc(), Asked::Quiet, QUIET)?, None);
+    Ok(())
+}
+
+/// Words behind `help`, and the first line that is printed, or the kind of the mistake.
+const HELPED: &str = r#"
+timewarp help => Simulates logical processes that send one another messages stamped with virtual times
+timewarp help run => Runs a model on its disk, from the last commit to its end
+timewarp help verify => Checks all that a disk holds, from its first record on
+timewarp help unattended => A run of days, that nobody watches:
+timewarp help nonsense => InvalidSubcommand
+timewarp help help => InvalidSubcommand
+timewarp help run nodes => TooManyValues
+timewarp help --large => UnknownArgument
+timewarp help '' => InvalidSubcommand
+"#;
+
+#[test]
+fn help_prints_what_a_word_names(rt: HostRuntime) -> Result<(), Fail> {
+    assert_eq!(rt; wrong_row(rt.alloc(), Asked::Help, HELPED)?, None);
+    Ok(())
+}
+
+/// Whether some line is wider than a page.
+fn is_wide(text: &str) -> bool {
+    for line in text.lines() {
+        if line.chars().count() > 100 {
+            return true;
+        }
+    }
+    false
+}
+
+/// The first topic that has no text, or a text of lines that are too wide.
+fn wrong_topic() -> Option<&'static str> {
+    for name in TOPICS.split(", ") {
+        match topic_of(&["timewarp", "help", name]) {
+            Some(topic) if !topic.text().is_empty() && !is_wide(topic.text()) => {}
+            _ => return Some(name),
+        }
+    }
+    None
+}
+
+#[test]
+fn each_topic_has_a_text(rt: HostRuntime) {
+    assert_eq!(rt; wrong_topic(), None);
+    assert_eq!(rt; topic_of(&["timewarp", "help", "run"]), None);
+    assert_eq!(rt; topic_of(&["timewarp", "help", "nodes", "nodes"]), None);
+    assert!(rt; asks_help(&["timewarp", "help"]));
+    assert!(rt; !asks_help(&["help"]) && !asks_help(&["timewarp", "run", "help"]));
 }
 
 /// Whether the words run `ring.toml`, or the kind of their error.

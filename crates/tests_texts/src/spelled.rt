@@ -41,7 +41,7 @@ const VALUES: &str = "\
 !1 % 2 / 3 => Two(Over, Two(Modulo, Not(Number(1)), Number(2)), Number(3))
 !(1 != 2) => Not(Two(Different, Number(1), Number(2)))
 min(1, 2 >> 1) <= max(x, job) => Two(AtMost, Two(Least, Number(1), Two(ShiftRight, Number(2), Number(1))), Two(Greatest, Local(0), Content(0)))
-speed[self + now] > draw(jobs) => Two(Above, Entry(3, Two(Plus, Read(Process), Read(Now))), Draw(Number(2)))
+speed[self + now] > draw(jobs) => Two(Above, Entry(3, Two(Plus, Read(Process), Read(Now))), Draw(Uniform, Number(2)))
 (free_at - lps) * sender => Two(Times, Two(Minus, Word(0), Read(Processes)), Read(Sender))
 18_446_744_073_709_551_615 # the most => Number(18446744073709551615)
 ";

@@ -24,6 +24,12 @@ decreases-marked l = l.depth * 40 + 4
 abbrev pub decreases-pair : goal.decreases-pair
 decreases-pair l = l.depth * 40 + 3
 
+abbrev pub decreases-normal : goal.decreases-normal
+decreases-normal l = l.depth * 40 + 3
+
+abbrev pub decreases-triangular : goal.decreases-triangular
+decreases-triangular l = l.depth * 40 + 3
+
 abbrev pub decreases-enclosed : goal.decreases-enclosed
 decreases-enclosed l = l.depth * 40 + 2
 
