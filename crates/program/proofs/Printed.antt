@@ -1,16 +1,18 @@
 -- What the commands print, in a common form.
 use Rattle.std.specs.Io.KnownBytes.{Appends}
-use Rattle.std.specs.Prelude.{◌≡◌, ◌⊎◌, ◌≢◌, ◌++◌, [], ℕ, List, None, Option, Result, Ok, Err, OnOk, OnErr, Some, length}
+use Rattle.std.specs.Prelude.{◌≡◌, ◌⊎◌, ◌≢◌, ◌++◌, ◌&&◌, [], ℕ, List, None, Option, Result, Ok, Err, IfOk, OnOk, OnErr, Some, is_some, length}
 use Rattle.std.proofs.Common.{Bool, false, true, ap, append_assoc, arith, refl, subst, sym, inl, inr, ◌∙◌}
 use Rattle.std.proofs.lemmas.List.{append-nil}
 use Rattle.commands.specs.Commands.{BeginsCommitted, PrintsCommitted, PrintsExtended, PrintsEndOfRun, PrintsEndOfRunOver, extended_text, ran_text, stopped_text}
 use Rattle.commands.specs.Migrating.{PrintsMigrated, migrated_text}
 use Rattle.commands.specs.declared.fault.CommandFault.{CommandFault}
 use Rattle.commands.specs.declared.fault.CommandFault.TheVariants as on_disk
+use Rattle.coordinator.specs.declared.SessionFault.{SessionFault}
 use Rattle.commitlog.specs.Records.{Holds}
 use Rattle.commitlog.specs.declared.records.Entry.{Entry}
 use Rattle.disk.specs.Disk.{DiskState}
 use Rattle.runs.specs.declared.rounds.Plan.{Plan}
+use Rattle.eventkey.proofs.Writers.{wrote}
 use Rattle.eventkey.specs.Writing.{TakesBeginning, Writes}
 use Rattle.migration.specs.Old.{IsOldLog}
 use Rattle.model.specs.World.{World}
@@ -18,7 +20,7 @@ use Rattle.model.specs.Meaning.{Meaning}
 use Rattle.texts.specs.ModelFile.{IsModelFile}
 use Rattle.wire.specs.Port.{PortState}
 use Rattle.views.specs.Views.{Begins, Describes, IsCommitted, IsNamed, Prints}
-use Rattle.program.specs.Command.{IsEnded, IsExtendedText, IsMigratedText, IsNotEnded, IsRan, IsRanBehind, IsStoppedBehind, IsStoppedText}
+use Rattle.program.specs.Command.{IsEnded, IsExtendedText, IsMigratedText, IsNotEnded, IsRan, IsRanBehind, IsStoppedBehind, IsStoppedText, IsTried, judges_all}
 use Rattle.program.specs.declared.fault.Fault.{Fault}
 use Rattle.recovery.specs.Represents.{IsGenuine}
 use Rattle.runs.specs.Driver.{IsStoppedOver}
@@ -53,6 +55,15 @@ module _ (P : List ℕ → Type 0) (text : List ℕ) (is : P text) {T E : Type 0
   pub begins_written : (A : Type 0) → (r : Result T E) → Writes old new r text → OnErr r (A ⊎ Begins P old new)
   begins_written A (Ok x) h = tt
   begins_written A (Err e) h = inr (text, is, h.part)
+
+-- what holds of the value of a call that succeeds
+pub if_ok : {T E : Type 0} (P : T → Type 0) {r : Result T E} {x : T} → r ≡ Ok x → IfOk r P → P x
+if_ok P {r = Ok y} {x} e h = let same : y ≡ x = cc in subst P same h
+if_ok P {r = Err y} e h = cc
+
+-- a text that is written whole before a fault, without the one behind it
+pub writes_before_fault : {T E U F : Type 0} {s : Result T E} {old new : Option (List ℕ)} {a : List ℕ} {x : T} (e : F) (b : List ℕ) → Writes old new s a → s ≡ Ok x → Writes {T = U} {E = F} old new (Err e) (a ++ b)
+writes_before_fault {a = a} e b h is = record { all = tt; part = record { taken = a; left = b; whole = refl; appended = wrote h is } }
 
 module _ {T A B : Type 0} where
   -- a fault is `Output`, or another one
@@ -102,6 +113,20 @@ module _ {T U : Type 0} (Ran Stopped : List ℕ → Type 0) (old mid new : Optio
   ended_begun (Err (on_disk.Session f)) (Err e) stops same all begun unwritten stopped still none ended = inl (none (on_disk.Session f) refl (λ e. cc) ended)
   ended_begun (Err on_disk.Rounds) (Err e) stops same all begun unwritten stopped still none ended = inl (none on_disk.Rounds refl (λ e. cc) ended)
   ended_begun (Err (on_disk.Migrate f)) (Err e) stops same all begun unwritten stopped still none ended = inl (none (on_disk.Migrate f) refl (λ e. cc) ended)
+
+-- a run has printed all of its output, a beginning of it or nothing, from `old` to `new`; `all` says the last
+module _ {T : Type 0} (Ran Stopped : List ℕ → Type 0) (stops : Bool) (all : Type 0) (old new : Option (List ℕ)) where
+  pub tried_begun : (outcome : Result T CommandFault) → OnOk outcome (Prints Ran old new) → (outcome ≡ Err on_disk.Output → Begins Ran old new) → ((f : CommandFault) → outcome ≡ Err f → f ≢ on_disk.Output → all)
+      → all ⊎ Begins (λ text. Ran text ⊎ ((stops ≡ true) × Stopped text)) old new
+  tried_begun (Ok x) ran begun none = inr (ran.0, inl ran.1, record { taken = ran.0; left = []; whole = sym (append-nil ran.0); appended = ran.2 })
+  tried_begun (Err on_disk.Output) ran begun none = (let part = begun refl in inr (part.0, inl part.1, part.2))
+  tried_begun (Err on_disk.NoMemory) ran begun none = inl (none on_disk.NoMemory refl (λ e. cc))
+  tried_begun (Err (on_disk.Log f)) ran begun none = inl (none (on_disk.Log f) refl (λ e. cc))
+  tried_begun (Err (on_disk.Recovery f)) ran begun none = inl (none (on_disk.Recovery f) refl (λ e. cc))
+  tried_begun (Err (on_disk.Session f)) ran begun none = inl (none (on_disk.Session f) refl (λ e. cc))
+  tried_begun (Err on_disk.Rounds) ran begun none = inl (none on_disk.Rounds refl (λ e. cc))
+  tried_begun (Err (on_disk.Stopped t n)) ran begun none = inl (none (on_disk.Stopped t n) refl (λ e. cc))
+  tried_begun (Err (on_disk.Migrate f)) ran begun none = inl (none (on_disk.Migrate f) refl (λ e. cc))
 
 -- the output of a run, for the model of a file
 module _ {M : Type 0} (meaning : M → Meaning) (says : Describes M) (source : List ℕ) (model : M) (end : ℕ) (file : IsModelFile says source model end) where
@@ -229,6 +254,15 @@ module _ {M : Type 0} (meaning : M → Meaning) (says : Describes M) {old new : 
       p.part,
     )
 
+-- what holds of a run whose commits are judged, and of one whose commits are not
+pub by_judged : (F : Bool → Type 0) (judged : Bool) → (judged ≡ true → F true) → (judged ≡ false → F false) → F judged
+by_judged F true holds other = holds refl
+by_judged F false holds other = other refl
+
+-- the commits of a run over node programs are judged if all reported events are
+pub judged_apart : {S : Type 0} (sockets : Option S) (folder : S) (judge : Option ℕ) → sockets ≡ Some folder → (is_some sockets && judges_all judge) ≡ judges_all judge
+judged_apart {S} sockets folder judge is = ap (λ (s : Option S). is_some s && judges_all judge) is
+
 -- the output of a run over any ports
 module _ {M P D : Type 0} (meaning : M → Meaning) (says : Describes M) (state : P → PortState) (disk : D → DiskState) (source : List ℕ) (model : M) (end : ℕ) (file : IsModelFile says source model end) (plan : Plan) (begun left : D) where
   behind : {Taken : List ℕ → Type 0} → PrintsEndOfRunOver meaning state disk model end plan begun left Taken → (text : List ℕ) × IsRanBehind says plan.nodes text × Taken text
@@ -295,3 +329,12 @@ pub named_part : {T : Type 0} (First : List ℕ → Type 0) (old new : Option (L
 named_part First old new A (Ok x) q = tt
 named_part First old new A (Err e) (inl a) = inl a
 named_part First old new A (Err e) (inr q) = inr (q.0, tt, q.2)
+
+-- An attempt that lost a node before its session has printed nothing.
+pub lost_tried : {T : Type 0} (Ran Stopped : List ℕ → Type 0) (old new : Option (List ℕ)) (same : Type 0) (f : SessionFault) → same → IsTried {T = T} Ran Stopped (Err (on_disk.Session f)) same old new
+lost_tried Ran Stopped old new same f unchanged = record {
+  printed = tt;
+  output = λ e. cc;
+  unwritten = λ g e other. unchanged;
+  stopped = λ time events e. cc;
+}

@@ -1,18 +1,20 @@
 // What a user reads below a fault: what to do about it, and what the files of the command say.
 
 use crate::fault::Fault;
+use crate::running::has_few_rounds;
 use cli::{Command, most_sectors};
 use commitlog::LogFault;
 use coordinator::SessionFault;
 use disk::{GrowthFault, SystemError};
 use judging::Difference;
 use migration::MigrateFault;
-use node_programs::{Call, CallEnd};
+use node_programs::{Apart, Call, CallEnd};
 use recovery::RecoveryFault;
+use std::fs;
 use std::fs::File;
 use std::io::Write;
 use std::rt::Files;
-use terminal::{Cause, Progress, Unmet, cause_of, cause_of_device};
+use terminal::{Cause, Progress, Refusal, Unmet, cause_of, cause_of_device, cause_of_refusal};
 use texts::{Described, Printable, Report};
 use views::{committed_on, difference_of, mistakes_of};
 use wire::{PortFault, WireFault};
@@ -28,6 +30,86 @@ pub(crate) struct Noted {
     pub system: Option<SystemError>,
     /// The system's error of the call that failed as node programs or a run were met.
     pub unmet: Option<Unmet>,
+    /// In which simulations a node program and a run take part, if these differ.
+    pub apart: Option<Apart>,
+    /// Why the command refused a file, or lost its disk.
+    pub refusal: Option<Refusal>,
+}
+
+/// What the words of a command ask to follow its fault.
+#[derive(Clone, Copy)]
+pub(crate) struct Asked {
+    /// What to do about it.
+    pub advice: bool,
+    /// Nothing.
+    pub quiet: bool,
+}
+
+/// What follows a fault.
+#[derive(Clone, Copy)]
+enum Below {
+    /// Nothing.
+    Nothing,
+    /// Which file or node it is about, and what the system says.
+    Cause,
+    /// That, and what to do.
+    Advice,
+}
+
+/// What follows a fault that a user sees or not, where nothing follows it otherwise if it is bare.
+fn told_below(asked: Asked, is_seen: bool, is_bare: bool) -> Below {
+    if asked.quiet {
+        Below::Nothing
+    } else if is_seen || asked.advice {
+        Below::Advice
+    } else if is_bare {
+        Below::Nothing
+    } else {
+        Below::Cause
+    }
+}
+
+/// Prints what follows the fault of a command: nothing, its cause, or advice.
+pub(crate) fn advise<M, R, P, E>(
+    rt: &R,
+    command: Command<'_>,
+    fault: Fault,
+    noted: Noted,
+    asked: Asked,
+    progress: &mut P,
+    err: &mut E,
+)
+where
+    M: Described,
+    R: Files<File = File> + AllocGlobal,
+    P: Progress,
+    E: Write,
+{
+    match told_below(asked, progress.is_seen(), progress.is_bare()) {
+        Below::Nothing => progress.failed(None, None),
+        Below::Cause => {
+            print_node(command, fault, noted, err);
+            print_apart(command, fault, noted, err);
+            print_system(command, fault, noted, err);
+            print_advice(None, cause_below(rt, command, fault, noted), err);
+            progress.failed(None, None);
+        }
+        Below::Advice => {
+            advise_all::<M, R, P, E>(rt, command, fault, noted, asked.advice, progress, err);
+        }
+    }
+}
+
+/// The cause of a `File`, by what was noted or by the files of the command.
+fn cause_below<'a, R>(rt: &R, command: Command<'a>, fault: Fault, noted: Noted) -> Option<Cause<'a>>
+where
+    R: Files<File = File> + AllocGlobal,
+{
+    match (fault, noted.refusal) {
+        (Fault::File, Some(refusal)) => cause_of_refusal(command, refusal),
+        (Fault::File, None) => cause_of(rt, command, noted.system, noted.unmet),
+        _ => None,
+    }
 }
 
 /// Passes the advice for the fault of a command to `progress`, and the cause of a `File` if
@@ -35,8 +117,9 @@ pub(crate) struct Noted {
 ///
 /// In both cases `err` gets what the files of the command say about the fault, if they say
 /// something, in place of the advice; which node failed in a run over node programs, and how, by
-/// what was noted of them; and what the system says of a disk that could not be written.
-pub(crate) fn advise<M, R, P, E>(
+/// what was noted of them; how the simulations of a run and a node differ; and what the system says
+/// of a disk that could not be written.
+fn advise_all<M, R, P, E>(
     rt: &R,
     command: Command<'_>,
     fault: Fault,
@@ -52,20 +135,14 @@ where
     E: Write,
 {
     let is_seen = progress.is_seen();
-    let is_wanted = is_seen || is_asked;
-    let is_explained = is_wanted && explain::<M, R, E>(rt, command, fault, err);
-    if is_wanted {
-        print_node(command, fault, noted, err);
-        print_system(command, fault, noted, err);
-    }
-    if is_wanted && stops_a_run(command, fault) {
+    let is_explained = explain::<M, R, E>(rt, command, fault, err);
+    print_node(command, fault, noted, err);
+    print_apart(command, fault, noted, err);
+    print_system(command, fault, noted, err);
+    if stops_a_run(command, fault) {
         print_committed::<M, R, E>(rt, paths_of(command), err);
     }
-    let cause = if is_wanted && matches!(fault, Fault::File) {
-        cause_of(rt, command, noted.system, noted.unmet)
-    } else {
-        None
-    };
+    let cause = cause_below(rt, command, fault, noted);
     let advice = if is_explained {
         None
     } else {
@@ -112,6 +189,26 @@ fn print_node<E: Write>(command: Command<'_>, fault: Fault, noted: Noted, err: &
     };
 }
 
+/// Prints in which simulations a node program and its run take part, if these differ.
+fn print_apart<E: Write>(command: Command<'_>, fault: Fault, noted: Noted, err: &mut E) {
+    let Some(Apart { run, node }) = noted.apart else {
+        return;
+    };
+    let _ = match (command, fault) {
+        (Command::Run(args), Fault::OtherNode { node: number }) => {
+            let folder = Printable(args.sockets.unwrap_or("."));
+            writeln!(
+                err,
+                "node {number} ({folder}/node{number}) is {node}; the run is {run}"
+            )
+        }
+        (Command::Node(_), Fault::OtherModel) => {
+            writeln!(err, "this node is {node}; the run is {run}")
+        }
+        _ => Ok(()),
+    };
+}
+
 /// Prints what the system says of the disk that could not be written.
 fn print_system<E: Write>(command: Command<'_>, fault: Fault, noted: Noted, err: &mut E) {
     if let (true, Some(error)) = (is_of_device(fault), noted.system) {
@@ -131,6 +228,7 @@ fn is_of_device(fault: Fault) -> bool {
             | Fault::Session(SessionFault::Recovery(RecoveryFault::Log(LogFault::Disk(_))))
             | Fault::Migrate(MigrateFault::New(LogFault::Disk(_)))
             | Fault::Grow(GrowthFault::Device)
+            | Fault::Recover(LogFault::Disk(_))
     )
 }
 
@@ -188,8 +286,13 @@ fn advice_of(command: Command<'_>, fault: Fault) -> Option<&'static str> {
             | Command::Extend(_)
             | Command::Grow(_)
             | Command::Migrate(_)
+            | Command::Recover(_)
             | Command::Reopen(_),
         ) => Some("the command is done: only its report was not printed"),
+        (Fault::Rounds, Command::Run(args)) if has_few_rounds(&args) => Some(
+            "the run has made 1000000 rounds, as many as it makes if no number is given: what is \
+             committed stays; run it again with --rounds unlimited",
+        ),
         (Fault::Log(LogFault::NotBlank), Command::Migrate(_)) => Some(
             "the disk NEW has a log already: if an earlier `migrate` to it was stopped, it is \
              partial: remove its file, and call `migrate` again",
@@ -231,6 +334,7 @@ where
             let _ = writeln!(err, "the model has the processes 0 to {last}");
             true
         }
+        Fault::Session(SessionFault::Full) => explain_full(rt, paths, err),
         _ => false,
     }
 }
@@ -251,6 +355,35 @@ where
         mistakes: &wrong.mistakes,
     };
     let _ = write!(err, "{report}");
+    true
+}
+
+/// Prints what to do if a full disk has the most sectors already.
+fn explain_full<R, E>(rt: &R, paths: Paths<'_>, err: &mut E) -> bool
+where
+    R: Files<File = File>,
+    E: Write,
+{
+    let Some(disk) = paths.disk else {
+        return false;
+    };
+    let sectors = match fs::metadata(rt, disk) {
+        Ok(found) => found.len() / 512,
+        Err(_) => 0,
+    };
+    if sectors < u64::from(most_sectors(paths.large)) {
+        return false;
+    }
+    let text = if paths.large {
+        "the disk is full and has the most sectors that a disk may have: what is committed stays; \
+         with --archive-when-full a run goes on, and puts disks that are full aside"
+    } else {
+        "the disk is full and has the most sectors that a disk has without --large: what is \
+         committed stays; `grow --large` makes it longer, of up to 16777216 sectors, and then \
+         `run --large` goes on; with --archive-when-full a run goes on, and puts disks that are \
+         full aside"
+    };
+    let _ = writeln!(err, "{text}");
     true
 }
 
@@ -288,11 +421,13 @@ fn paths_of<'a>(command: Command<'a>) -> Paths<'a> {
         Command::Run(args) => (args.on.model, Some(args.on.disk), args.on.large),
         Command::Extend(args)
         | Command::Reopen(args)
-        | Command::Status(args)
-        | Command::Verify(args) => { (args.model, Some(args.disk), args.large) }
+        | Command::Cut(args)
+        | Command::Status(args) => { (args.model, Some(args.disk), args.large) }
+        Command::Verify(args) => (args.on.model, Some(args.on.disk), args.on.large),
         Command::Show(args) => (args.on.model, Some(args.on.disk), args.on.large),
         Command::Grow(args) => (args.on.model, Some(args.on.disk), args.on.large),
         Command::Migrate(args) => (args.model, Some(args.old), args.large),
+        Command::Recover(args) => (args.model, Some(args.old), args.large),
         Command::Log(args) => (args.on.model, Some(args.on.disk), args.on.large),
         Command::Stats(args) => (args.of.model, args.of.disk, args.of.large),
         Command::Draw(args) => (args.of.model, args.of.disk, args.of.large),

@@ -1,24 +1,27 @@
 // The attempts of a run: each begins at the last commit on the disk. Another one follows if a node
-// program was lost, or the disk was full and is longer now.
+// program was lost, or the disk was full and is longer now, or archived.
 
 ghost use Rattle.std.specs.Prelude.{◌≡◌, ◌≤◌, ◌^◌, ℕ, List, IfErr, IfOk, OnErr, OnOk, map, replicate};
-ghost use Rattle.program.specs.Command.{IsRan, IsRanBehind, IsRanBy, IsStoppedBehind, IsStoppedBy};
+ghost use Rattle.program.specs.Command.{IsRan, IsRanApart, IsRanBy, IsStoppedApart, IsStoppedBy};
 ghost use Rattle.program.specs.Command.{IsStoppedText, IsTried, IsWithoutOutput};
 ghost use Rattle.sockets.specs.Socket.{state_of};
 ghost use Rattle.sockets.specs.declared.port.Held.TheVariants.{Fresh};
 ghost use Rattle.texts.specs.ModelFile.{IsModelFile};
 
 use crate::fault::Fault;
+use crate::parts::{Archive, archived};
 use crate::plainly::attempt_plainly;
-use crate::running::plan_of;
+use crate::running::{judges_all, plan_of};
 use crate::watching::Watching;
+use archiving::Place;
 use cli::{RunArgs, most_sectors};
 use commands::{CommandFault, Ended, Simulated};
 use coordinator::SessionFault;
-use disk::{FileDisk, SectorDisk};
+use disk::{FileDisk, Room, SectorDisk};
+use frames::Hello;
 use growing::{Grown, NotGrown, grow};
 use judging::{Differences, judged_ports};
-use node_programs::{Behind, Calls, NodeStream, clear, meet};
+use node_programs::{Behind, Calls, NodeStream, NodesFault, clear, meet};
 use runs::Plan;
 use sockets::SocketPort;
 use std::alloc::Global;
@@ -32,28 +35,33 @@ use terminal::Progress;
 use texts::Described;
 use wire::{PortFault, WireFault};
 
-/// The program that a run starts for each node, the calls on the connections to them, and what they
-/// reported that the model does not do.
+/// The program that a run starts for each node, the text of the run's model file once it is read,
+/// the calls on the connections to them, and what they reported that the model does not do.
 #[derive(Clone, Copy)]
 pub(crate) struct NodePrograms<'a> {
     pub program: &'a str,
+    pub text: &'a [u8],
     pub calls: &'a Calls,
     pub differences: &'a Differences,
 }
 
 /// After which faults a run goes on.
 #[derive(Clone, Copy)]
-struct GoingOn {
+struct GoingOn<'a> {
     /// How often after a node program was lost, and how often it has.
     retries: u32,
     retried: u32,
     /// Up to how many sectors a full disk is made longer; none if it is not.
     most: Option<u32>,
+    /// Whether the run goes on after all rounds of an attempt.
+    is_unlimited: bool,
+    /// How a full disk is archived; none if it is not.
+    archive: Option<Archive<'a>>,
 }
 
-impl GoingOn {
+impl<'a> GoingOn<'a> {
     /// As the options of a run say.
-    fn of(args: &RunArgs<'_>) -> GoingOn {
+    fn of(args: &RunArgs<'a>) -> GoingOn<'a> {
         GoingOn {
             retries: args.retries.unwrap_or(0),
             retried: 0,
@@ -62,13 +70,38 @@ impl GoingOn {
             } else {
                 None
             },
+            is_unlimited: args.rounds == UNLIMITED,
+            archive: archive_of(args),
         }
     }
 }
 
-/// More attempts than a run makes: at most 1,000,000 after a lost node program, and fewer than 32
-/// on a disk that is twice as long as before.
-const MOST_ATTEMPTS: u32 = 1_000_032;
+/// How the options of a run say that a full disk is archived.
+fn archive_of<'a>(args: &RunArgs<'a>) -> Option<Archive<'a>> {
+    if !args.archive_when_full {
+        return None;
+    }
+    Some(Archive {
+        place: Place {
+            path: args.on.disk,
+            room: if args.reserve {
+                Room::Reserved
+            } else {
+                Room::Sparse
+            },
+            most: most_sectors(args.on.large),
+        },
+        keep: args.keep,
+    })
+}
+
+/// The number of rounds of a run without a limit.
+const UNLIMITED: u32 = u32::MAX;
+
+/// More attempts than a run makes: at most 1,000,000 after a lost node program, fewer than 32 on a
+/// disk that is twice as long as before, one after each 2^32 - 1 rounds without a limit, which take
+/// hours, and one for each archived disk, which has at least an event and takes some syncs.
+const MOST_ATTEMPTS: u32 = u32::MAX;
 
 /// Makes attempts of a run until one ends after which the run does not go on. Returns that one, or
 /// why the node programs of an attempt were not met.
@@ -100,7 +133,7 @@ where
     let mut disk = disk;
     'attempts: for _ in 0..MOST_ATTEMPTS {
         let ended = attempt::<M, R, P, O>(rt, nodes, of, disk, args, watch, out)?;
-        match next_disk(rt.alloc(), of, ended, &mut going, nodes.calls, watch) {
+        match next_disk(rt, of, ended, &mut going, nodes.calls, watch) {
             Ok(next) => disk = next,
             Err(last) => return Ok(last),
         }
@@ -143,7 +176,7 @@ where
         Some(folder) => {
             let behind = Behind {
                 program: nodes.program,
-                model: args.on.model,
+                text: nodes.text,
                 folder,
                 cut: args.cut,
                 attach: args.attach,
@@ -152,7 +185,7 @@ where
                 calls: nodes.calls,
             };
             let judge = Judge {
-                every: args.judge.unwrap_or(JUDGED),
+                every: judged_one_in(args.judge),
                 differences: nodes.differences,
             };
             attempt_behind::<M, R, P, O>(rt, behind, of, disk, plan, judge, watch, out)
@@ -189,7 +222,18 @@ where
 /// otherwise.
 const JUDGED: u32 = 64;
 
-/// How reports of node programs are judged.
+/// Returns in how many reports of each process one is judged as it arrives, or 0 if none is. Where
+/// commits judge all of them, this only finds some wrong reports earlier, and which event they are
+/// of.
+fn judged_one_in(judge: Option<u32>) -> u32 {
+    if judges_all(judge) {
+        JUDGED
+    } else {
+        judge.unwrap_or(JUDGED)
+    }
+}
+
+/// How reports of node programs are judged as they arrive.
 #[derive(Clone, Copy)]
 struct Judge<'a> {
     /// One in this many reports of each process is judged, or none for 0.
@@ -198,11 +242,13 @@ struct Judge<'a> {
     differences: &'a Differences,
 }
 
-/// Makes an attempt over node programs, and judges their reports.
+/// Makes an attempt over node programs of the same simulation, and judges their reports.
 ///
 /// Returns `File` if a socket is not made, a program does not start, or one ends before it connects,
-/// or `NoMemory`. At every exit it then closes the connections, waits for each program that it
-/// started, and removes each socket that it made. Failures of this cleanup are not reported.
+/// `OtherNode` if one takes part in another simulation, or `NoMemory`. If one is lost before it has
+/// answered the run's hello, the outcome is that of a node which is lost later. At every exit it then
+/// closes the connections, waits for each program that it started, and removes each socket and file
+/// that it made. Failures of this cleanup are not reported.
 ///
 /// If no program is to be started, the attempt waits without limit until each node has connected, in
 /// any order, and reports which ones it waits for.
@@ -226,14 +272,16 @@ where
     requires file { (text : List ℕ) × IsModelFile M.says text of.now.model of.now.end }
     requires some { 1 ≤ of.now.end }
     requires short { of.now.end ≤ 2 ^ 40 }
-    ensures tried { IfOk result (λ ended. IsTried (IsRanBehind M.says plan.nodes)
-        (IsStoppedBehind M.says) ended.outcome (out.new ≡ out.old) (O.contents out.old)
-        (O.contents out.new)) }
+    ensures tried { IfOk result (λ ended. IsTried
+        (IsRanApart M.meaning M.says plan.judged plan.nodes)
+        (IsStoppedApart M.meaning M.says plan.judged) ended.outcome (out.new ≡ out.old)
+        (O.contents out.old) (O.contents out.new)) }
     ensures unmet { OnErr result (out.new ≡ out.old) }
 {
+    let own = Hello::of(rt.alloc(), &of.model, of.end)?;
     let mut met = Vec::with_capacity(rt.alloc(), plan.nodes as usize)?;
     // every exit from here on passes the cleanup
-    let tried = match meet(rt, behind, plan.nodes, &mut met, watch.progress) {
+    let tried = match meet(rt, behind, &own, plan.nodes, &mut met, watch.progress) {
         Ok(ports) => attempt_over::<M, R, P, O>(
             rt.alloc(),
             of,
@@ -244,6 +292,10 @@ where
             watch,
             out,
         ),
+        Err(NodesFault::Lost(fault)) => Ok(Ended {
+            disk,
+            outcome: Err(CommandFault::Session(SessionFault::Port(fault))),
+        }),
         Err(fault) => Err(Fault::from(fault)),
     };
     clear(rt, behind.silence, met);
@@ -274,9 +326,10 @@ where
     requires file { (text : List ℕ) × IsModelFile M.says text of.now.model of.now.end }
     requires some { 1 ≤ of.now.end }
     requires short { of.now.end ≤ 2 ^ 40 }
-    ensures tried { IfOk result (λ ended. IsTried (IsRanBehind M.says plan.nodes)
-        (IsStoppedBehind M.says) ended.outcome (out.new ≡ out.old) (O.contents out.old)
-        (O.contents out.new)) }
+    ensures tried { IfOk result (λ ended. IsTried
+        (IsRanApart M.meaning M.says plan.judged plan.nodes)
+        (IsStoppedApart M.meaning M.says plan.judged) ended.outcome (out.new ≡ out.old)
+        (O.contents out.old) (O.contents out.new)) }
     ensures unmet { OnErr result (out.new ≡ out.old) }
 {
     let Judge { every, differences } = judge;
@@ -286,32 +339,58 @@ where
 
 /// Returns the disk from which the run goes on after this attempt, or the attempt if it does not.
 fn next_disk<M, R, P>(
-    alloc: Global,
+    rt: &R,
     of: &Simulated<M>,
     ended: Ended<FileDisk>,
-    going: &mut GoingOn,
+    going: &mut GoingOn<'_>,
     calls: &Calls,
     watch: &mut Watching<'_, R, P>,
 ) -> Result<FileDisk, Ended<FileDisk>>
 where
     M: Described,
-    R: Files<File = File> + Clock,
+    R: Files<File = File> + Clock + AllocGlobal,
     P: Progress,
+    requires some { 1 ≤ of.now.end }
+    requires short { of.now.end ≤ 2 ^ 40 }
     ensures next { OnOk result (IsWithoutOutput ended.outcome) }
     ensures last { IfErr result (λ last. last.outcome ≡ ended.outcome) }
 {
     match ended.outcome {
-        Err(CommandFault::Session(SessionFault::Full)) => lengthened(
-            alloc,
-            of,
-            ended,
-            going.most,
-            watch.progress,
-        ),
+        Err(CommandFault::Session(SessionFault::Full)) => full(rt, of, ended, *going, watch),
         Err(CommandFault::Session(SessionFault::Port(fault))) => retried(
-            alloc, fault, ended, going, calls, watch,
+            rt.alloc(),
+            fault,
+            ended,
+            going,
+            calls,
+            watch,
         ),
+        Err(CommandFault::Rounds) if going.is_unlimited => Ok(ended.disk),
         _ => Err(ended),
+    }
+}
+
+/// Returns the disk from which the run goes on after an attempt that found its disk full: the next one
+/// after that is archived, or the same one after it is made longer. Returns the attempt if neither is
+/// asked for, or is done.
+fn full<M, R, P>(
+    rt: &R,
+    of: &Simulated<M>,
+    ended: Ended<FileDisk>,
+    going: GoingOn<'_>,
+    watch: &mut Watching<'_, R, P>,
+) -> Result<FileDisk, Ended<FileDisk>>
+where
+    M: Described,
+    R: Files<File = File> + Clock + AllocGlobal,
+    P: Progress,
+    requires some { 1 ≤ of.now.end }
+    requires short { of.now.end ≤ 2 ^ 40 }
+    ensures { IfErr result (λ last. last.outcome ≡ ended.outcome) }
+{
+    match going.archive {
+        Some(into) => archived(rt, of, ended, into, watch),
+        None => lengthened(rt.alloc(), of, ended, going.most, watch.progress),
     }
 }
 
@@ -360,7 +439,7 @@ fn retried<R, P>(
     alloc: Global,
     fault: PortFault,
     ended: Ended<FileDisk>,
-    going: &mut GoingOn,
+    going: &mut GoingOn<'_>,
     calls: &Calls,
     watch: &mut Watching<'_, R, P>,
 ) -> Result<FileDisk, Ended<FileDisk>>
@@ -390,7 +469,7 @@ pub(crate) fn is_lost(fault: PortFault) -> bool {
 fn say_retry<R, P>(
     alloc: Global,
     fault: PortFault,
-    going: GoingOn,
+    going: GoingOn<'_>,
     calls: &Calls,
     watch: &mut Watching<'_, R, P>,
 )
@@ -401,7 +480,7 @@ where
     let GoingOn {
         retries,
         retried,
-        most: _,
+        ..
     } = going;
     let node = match calls.last() {
         Some(call) => call.node,

@@ -7,7 +7,7 @@ use crate::fault::Fault;
 use commands::Simulated;
 use std::rt::Files;
 use texts::Described;
-use views::read_model_file;
+use views::{ModelText, read_model_file, read_model_text};
 
 /// Reads the model and its end from a model file. A program's own command starts with this call.
 ///
@@ -22,4 +22,27 @@ where
 {
     let (model, end) = read_model_file(rt, path)?;
     Ok(Simulated { model, end })
+}
+
+/// A model and its end, with the text of the file that describes them.
+#[derive(Drop)]
+pub(crate) struct WithText<M> {
+    pub of: Simulated<M>,
+    pub text: Vec<u8>,
+}
+
+/// Reads the model and its end from a model file, and keeps its text. The faults are those of
+/// `simulated`.
+pub(crate) fn simulated_with_text<M, R>(rt: &R, path: &str) -> Result<WithText<M>, Fault>
+where
+    M: Described,
+    R: Files + AllocGlobal,
+    ensures file { IfOk result (λ read.
+        IsModelFile M.says read.text.items read.of.model read.of.end) }
+    ensures some { IfOk result (λ read. 1 ≤ read.of.end) }
+    ensures short { IfOk result (λ read. read.of.end ≤ 2 ^ 40) }
+{
+    let ModelText { model, end, text } = read_model_text(rt, path)?;
+    let of = Simulated { model, end };
+    Ok(WithText { of, text })
 }

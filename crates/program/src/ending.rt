@@ -47,7 +47,7 @@ fn end_failed<P: Progress, O: Write>(
     match fault {
         CommandFault::Stopped { time, events } => match stop {
             Some(file) => {
-                progress.stopped(file);
+                progress.stopped(file, time);
                 Ok(write_stopped(time, events, out)?)
             }
             None => Err(Fault::from(fault)),

@@ -1,10 +1,13 @@
 // Why a command failed.
 
 ghost use Rattle.std.specs.Prelude.{◌≡◌};
-ghost use Rattle.program.specs.Command.{of_command, of_file, of_growing, of_nodes, of_view};
+ghost use Rattle.program.specs.Command.{of_archive, of_command, of_file, of_growing, of_nodes};
+ghost use Rattle.program.specs.Command.{of_view};
+ghost use Rattle.program.specs.Repairing.{of_cut, of_salvage};
 ghost use Rattle.program.specs.declared.fault.Fault.TheVariants.{NoMemory, Output};
 ghost use Rattle.program.specs.declared.fault.Fault.TheVariants.{World as WorldCase};
 
+use archiving::ArchiveFault;
 use commands::CommandFault;
 use commitlog::LogFault;
 use coordinator::SessionFault;
@@ -18,9 +21,20 @@ use std::alloc::{AllocError, AllocFailed};
 use std::io::Error as IoError;
 use texts::Mistake;
 use thiserror::Error;
-use upkeep::{ReopenFault, VerifyFault};
+use upkeep::{CutFault, ReopenFault, SalvageFault, VerifyFault};
 use views::ViewFault;
 use wire::{PortFault, WireFault};
+
+/// Why a disk is no segment of a simulation.
+#[derive(Clone, Copy, Debug, PartialEq, Eq, Error)]
+pub enum SegmentFault {
+    /// Its origin is not the world that the disk before it represents.
+    #[error("NotTheNext")]
+    NotTheNext,
+    /// Its origin would have more than 2^24 bytes.
+    #[error("TooLong")]
+    TooLong,
+}
 
 /// Why a command failed. Printed as its name, followed by a space and the fault that it carries, if
 /// any.
@@ -48,6 +62,15 @@ pub enum Fault {
     /// A node received something other than the expected frame, or its connection failed.
     #[error("Wire {0}")]
     Wire(WireFault),
+    /// The run takes part in another simulation than the node that is served.
+    #[error("OtherModel")]
+    OtherModel,
+    /// A node program takes part in another simulation than the run.
+    #[error("Node {node} OtherModel")]
+    OtherNode {
+        /// The number of the node.
+        node: usize,
+    },
     /// The run made all its rounds before everything was committed.
     #[error("Rounds")]
     Rounds,
@@ -61,12 +84,21 @@ pub enum Fault {
     /// A disk was not made longer.
     #[error("Grow {0}")]
     Grow(GrowthFault),
+    /// A segment was not made, or does not go on from the disk that it should go on from.
+    #[error("Segment {0}")]
+    Segment(SegmentFault),
     /// `new` found records behind a closed gate.
     #[error("Shut")]
     Shut,
     /// The gate of a disk's header was not opened again.
     #[error("Reopen {0}")]
     Reopen(ReopenFault),
+    /// `recover` refused to use a file as its new disk, or did not write all good records to it.
+    #[error("Recover New {0}")]
+    Recover(LogFault),
+    /// `cut` found no record at fault.
+    #[error("NothingToCut")]
+    NothingToCut,
     /// `status` or `verify` found a fault in a record of a disk.
     #[error("Record {number} {fault}")]
     Record {
@@ -112,18 +144,37 @@ impl Fault {
             Fault::Recovery(fault) => of_recovery(fault),
             Fault::Session(fault) => of_session(fault),
             Fault::Wire(fault) => of_wire(fault),
+            Fault::OtherModel => Some(
+                "start this node on the model file of its run, with the same end, by the same \
+                 program: nothing was loaded",
+            ),
+            Fault::OtherNode { .. } => Some(
+                "start this node on the model file of the run, with the same end, by the same \
+                 program: nothing was loaded, and what is committed stays",
+            ),
             Fault::Rounds => Some("what is committed stays: run it again, with more --rounds"),
             Fault::Stopped => None,
             Fault::Migrate(fault) => of_migration(fault),
             Fault::Grow(fault) => Some(of_growth(fault)),
+            Fault::Segment(SegmentFault::NotTheNext) => Some(
+                "the segment does not go on from the disk before it: of `run --archive-when-full`, the \
+                 file DISK.next is another one, which stays as it is: move it away; of `verify \
+                 --after`, see that both disks are the right ones",
+            ),
+            Fault::Segment(SegmentFault::TooLong) => Some(
+                "the states and the pending messages have more than the 16777216 bytes of a record: \
+                 `grow` makes the disk longer instead, and --large lets it grow further",
+            ),
             Fault::Shut => Some(
                 "the disk has records, but the gate of its header is closed: `reopen` looks at \
                  all of them and opens it again; nothing is written",
             ),
             Fault::Reopen(fault) => Some(of_reopening(fault)),
+            Fault::Recover(fault) => of_recovered(fault),
+            Fault::NothingToCut => Some("no record is at fault: nothing is written"),
             Fault::Record { .. } => Some(
-                "the disk is damaged at this record: go on with a copy that was made before, or \
-                 begin anew on another disk",
+                "this record is at fault: `cut` takes it and all behind it away from the disk, \
+                 `recover` writes the records before it to a new one",
             ),
             Fault::BadTrace => Some("the file is not as `run --trace` writes one"),
             Fault::Mistake(_) => None,
@@ -147,13 +198,14 @@ const NO_DEVICE: &str = "the disk's file could not be written: see that its devi
                          below the disk's (`ulimit -f`); what is committed stays";
 
 /// Advice if a record of a disk is at fault.
-const DAMAGED: &str = "the disk is damaged: `status` says at which record";
+const DAMAGED: &str = "the disk is damaged: `verify` says at which record, and then `cut` or \
+                       `recover` saves those before it";
 
 /// Advice if a log is cut off, or a seal is not that of the records before it.
 const CHANGED: &str =
     "the disk is damaged at the beginning of a record, or a seal differs from the \
-                       records before it: the file was changed after it was written; restore a \
-                       copy, or begin anew on another disk";
+                       records before it: the file was changed after it was written; `recover` \
+                       writes its good records to a new disk";
 
 /// Advice for a fault of the plain runner.
 fn of_world(fault: WorldFault) -> Option<&'static str> {
@@ -168,7 +220,10 @@ fn of_log(fault: LogFault) -> Option<&'static str> {
     match fault {
         LogFault::NotBlank => Some("the disk has a log already, which `new` keeps"),
         LogFault::NotFormatted => {
-            Some("`new` makes a log on a disk; if this disk had one, `reopen` opens it again")
+            Some(
+                "`new` makes a log on a disk; if this disk had one, `reopen` opens it again, or \
+                 `recover` writes its good records to a new disk",
+            )
         }
         LogFault::Corrupt => Some(CHANGED),
         LogFault::Disk(_) => Some(NO_DEVICE),
@@ -209,6 +264,11 @@ fn of_session(fault: SessionFault) -> Option<&'static str> {
              lower --batch or --commit-every",
         ),
         SessionFault::Port(fault) => Some(of_port(fault)),
+        SessionFault::Reports => Some(
+            "a node reported what the model does not do, or left out what it does: none of that is \
+             committed, and what is committed stays; see that each node runs this program with \
+             this model file",
+        ),
         SessionFault::Disk => Some(NO_DEVICE),
         SessionFault::NoMemory => Some(NO_MEMORY),
         SessionFault::Recovery(fault) => of_recovery(fault),
@@ -220,6 +280,10 @@ fn of_session(fault: SessionFault) -> Option<&'static str> {
 fn of_port(fault: PortFault) -> &'static str {
     match fault {
         PortFault::Wire(WireFault::NoMemory) => NO_MEMORY,
+        PortFault::Wire(WireFault::TooLong) => {
+            "what is sent to a node at its beginning has more than 16777216 bytes: what is committed \
+             stays; run it with more --nodes, or with --plain"
+        }
         PortFault::Peer(_) => {
             "a node refused its work, as where its memory ran out: what is committed stays; run it \
              again"
@@ -274,11 +338,26 @@ fn of_reopening(fault: ReopenFault) -> &'static str {
              of the disk; nothing is written"
         }
         ReopenFault::Behind(_) => {
-            "what is behind the gate is damaged too: go on with a copy that was made before; \
-             nothing is written"
+            "what is behind the gate is damaged too: `recover` writes its good records to a new \
+             disk; nothing is written"
         }
         ReopenFault::Disk(_) => NO_DEVICE,
         ReopenFault::NoMemory => NO_MEMORY,
+    }
+}
+
+/// Advice if good records are not written to a new disk.
+fn of_recovered(fault: LogFault) -> Option<&'static str> {
+    match fault {
+        LogFault::NotBlank => Some(
+            "the file of the new disk holds something already: if an earlier `recover` to it was \
+             stopped, it has a part of the records: remove it, or name another file",
+        ),
+        LogFault::Full => Some(
+            "the new disk has the first of the good records, and no room for all: remove its file, \
+             and try again with more --sectors",
+        ),
+        fault => of_log(fault),
     }
 }
 
@@ -322,6 +401,9 @@ impl From<NodesFault> for Fault {
             NodesFault::File => Fault::File,
             NodesFault::NoMemory => Fault::NoMemory,
             NodesFault::Wire(fault) => Fault::Wire(fault),
+            NodesFault::OtherModel => Fault::OtherModel,
+            NodesFault::OtherNode { node } => Fault::OtherNode { node },
+            NodesFault::Lost(fault) => Fault::Session(SessionFault::Port(fault)),
         }
     }
 }
@@ -371,6 +453,23 @@ impl From<GrowingFault> for Fault {
     }
 }
 
+/// A segment that would be full too leaves the run at its fault.
+impl From<ArchiveFault> for Fault {
+    ghost from_gives = { λ fault e. e ≡ of_archive fault };
+
+    fn from(fault: ArchiveFault) -> Fault {
+        match fault {
+            ArchiveFault::File => Fault::File,
+            ArchiveFault::Full => Fault::Session(SessionFault::Full),
+            ArchiveFault::TooLong => Fault::Segment(SegmentFault::TooLong),
+            ArchiveFault::NotTheNext => Fault::Segment(SegmentFault::NotTheNext),
+            ArchiveFault::Recovery(fault) => Fault::Recovery(fault),
+            ArchiveFault::Log(fault) => Fault::Log(fault),
+            ArchiveFault::NoMemory => Fault::NoMemory,
+        }
+    }
+}
+
 impl From<ReopenFault> for Fault {
     ghost use Rattle.program.specs.declared.fault.Fault.TheVariants.{Reopen};
 
@@ -378,6 +477,32 @@ impl From<ReopenFault> for Fault {
 
     fn from(fault: ReopenFault) -> Fault {
         Fault::Reopen(fault)
+    }
+}
+
+impl From<SalvageFault> for Fault {
+    ghost from_gives = { λ fault e. e ≡ of_salvage fault };
+
+    fn from(fault: SalvageFault) -> Fault {
+        match fault {
+            SalvageFault::OtherModel => Fault::Recovery(RecoveryFault::OtherModel),
+            SalvageFault::Disk(fault) => Fault::Log(LogFault::Disk(fault)),
+            SalvageFault::NoMemory => Fault::NoMemory,
+            SalvageFault::New(fault) => Fault::Recover(fault),
+        }
+    }
+}
+
+impl From<CutFault> for Fault {
+    ghost from_gives = { λ fault e. e ≡ of_cut fault };
+
+    fn from(fault: CutFault) -> Fault {
+        match fault {
+            CutFault::NothingToCut => Fault::NothingToCut,
+            CutFault::Log(fault) => Fault::Log(fault),
+            CutFault::Recovery(fault) => Fault::Recovery(fault),
+            CutFault::Disk(fault) => Fault::Log(LogFault::Disk(fault)),
+        }
     }
 }
 

@@ -1,29 +1,31 @@
 // Runs without nodes, over nodes in this program or behind sockets, with or without a trace; and a
 // node.
 
-ghost use Rattle.std.specs.Prelude.{◌≡◌, ◌≤◌, ◌⊎◌, OnErr, OnOk};
-ghost use Rattle.program.specs.Command.{are_rounds_cheap, most_of, plan_of, schedule_of};
+ghost use Rattle.std.specs.Prelude.{◌≡◌, ◌≤◌, ◌⊎◌, ◌&&◌, OnErr, OnOk};
+ghost use Rattle.program.specs.Command.{are_rounds_cheap, judges_all, most_of, plan_of};
+ghost use Rattle.program.specs.Command.{schedule_of};
 ghost use Rattle.program.specs.Command.{IsRunOutput};
 ghost use Rattle.views.specs.Views.{Begins, Prints};
 
 use crate::attempts::{NodePrograms, run_attempts};
-use crate::described::simulated;
+use crate::described::{WithText, simulated, simulated_with_text};
 use crate::disks::{NewFile, disk_of};
 use crate::ending::end_run;
 use crate::fault::Fault;
+use crate::parts::counted;
 use crate::said::SystemErrors;
 use crate::watching::Watching;
 use cli::{BatchOption, NodeArgs, RunArgs};
-use commands::Simulated;
+use commands::{CommandFault, Simulated};
 use node_programs::{Calls, count_processors, is_open_to_all};
 use runs::{Batch as DriverBatch, Plan, Schedule};
-use std::fs::{File, OpenOptions};
-use std::io::{BufWriter, Error as IoError, Write};
+use std::fs::{self, File};
+use std::io::Write;
 use std::net::Net;
 use std::process::Processes;
 use std::rt::Files;
 use std::time::Clock;
-use terminal::{Earlier, Progress, Traced, Way, are_one_file};
+use terminal::{NoTrace, Progress, Refusal, TraceFile, Traced, Way, are_one_file};
 use texts::Described;
 use views::unreadable;
 
@@ -58,8 +60,25 @@ fn schedule_of(together: bool, overlap: bool) -> Schedule
     }
 }
 
+/// Whether each event that node programs report is judged: one in one.
+pub(crate) fn judges_all(judge: Option<u32>) -> bool
+    ensures { result ≡ judges_all judge }
+{
+    judge.unwrap_or(0) == 1
+}
+
+/// Whether the commits of a run are judged: its nodes are programs of their own, and each event that
+/// they report is judged.
+fn is_judged(apart: bool, judge: Option<u32>) -> bool
+    ensures { result ≡ (apart && judges_all judge) }
+{
+    let all = judges_all(judge);
+    apart && all
+}
+
 /// Returns the plan of a run by the options of its command. A commit has room for 299,592 events,
-/// and takes all those of a round at once, so one is due at 250,000 at the latest.
+/// and takes all those of a round at once, so one is due at 250,000 at the latest. Commits are
+/// judged if all reported events of node programs are.
 pub(crate) fn plan_of(args: &RunArgs<'_>) -> Plan
     ensures is { result ≡ plan_of args.now }
     ensures nodes { result.nodes ≡ args.now.nodes }
@@ -79,10 +98,44 @@ pub(crate) fn plan_of(args: &RunArgs<'_>) -> Plan
         checkpoint_every: args.checkpoint.unwrap_or(0),
         seals: args.seal,
         commit_every: args.commit_every.unwrap_or(0).min(250_000),
+        judged: is_judged(args.sockets.is_some(), args.judge),
     }
 }
 
-/// Runs a model on its disk, with a trace if one is asked for.
+/// The number of rounds of a run for which none is given.
+const DEFAULT_ROUNDS: u32 = 1_000_000;
+
+/// Whether a run may go on for days, by its options, but ends after the rounds that it has if no number
+/// is given.
+pub(crate) fn has_few_rounds(args: &RunArgs<'_>) -> bool {
+    let may_be_long = args.create
+        || args.progress.is_some()
+        || args.grow_when_full
+        || args.archive_when_full;
+    may_be_long && args.rounds == DEFAULT_ROUNDS
+}
+
+/// Says at the beginning of such a run when it ends, if somebody reads what it prints.
+fn warn_of_rounds<P: Progress>(args: &RunArgs<'_>, progress: &mut P) {
+    if has_few_rounds(args) && (args.progress.is_some() || progress.is_seen()) {
+        progress.goes_on("ends after 1000000 rounds: with --rounds unlimited it does not");
+    }
+}
+
+/// Returns the fault if the file that ends a run is there before it.
+fn refuse_stop_file<R: Files>(
+    rt: &R,
+    stop: Option<&str>,
+    said: &SystemErrors,
+) -> Result<(), Fault> {
+    match stop {
+        Some(path) if fs::exists(rt, path).unwrap_or(false) => Err(said.refuse(Refusal::Stop)),
+        _ => Ok(()),
+    }
+}
+
+/// Runs a model on its disk, with a trace if one is asked for. Refuses, before anything else, a stop
+/// file that is there already.
 pub(crate) fn run_as<M, R, P, O>(
     rt: &R,
     nodes: NodePrograms<'_>,
@@ -104,6 +157,7 @@ where
         ⊎ Begins (IsRunOutput M.meaning M.says args.entry)
         (O.contents out.old) (O.contents out.new)) }
 {
+    refuse_stop_file(rt, args.stop_file, said)?;
     if let Some(seconds) = args.progress {
         progress.every(seconds);
     }
@@ -154,7 +208,8 @@ where
 }
 
 /// Runs the model of a file on its disk, which is made first if that is asked for and it is not
-/// there.
+/// there. The file is read once: node programs that the run starts, also after a fault, get the text
+/// that was read.
 ///
 /// Returns, in this order, the faults of the model file, of the disk's file, of the node programs,
 /// and of the run.
@@ -179,22 +234,45 @@ where
         ⊎ Begins (IsRunOutput M.meaning M.says args.entry)
         (O.contents out.old) (O.contents out.new)) }
 {
-    let of: Simulated<M> = simulated(rt, args.on.model)?;
+    let WithText { of, text }: WithText<M> = simulated_with_text(rt, args.on.model)?;
+    let nodes = NodePrograms {
+        program: nodes.program,
+        text: text.as_slice(),
+        calls: nodes.calls,
+        differences: nodes.differences,
+    };
     let disk = disk_of(rt, &of, args.on, create_of(&args), said)?;
+    let (before, disk) = counted(rt.alloc(), &of.model, disk);
     progress.begin(of.end);
     progress.takes(way_of(rt, &args, of.model.lps()));
     warn_of_folder(rt, args.sockets, progress);
-    let mut watch = Watching::new(rt, progress, args.stop_file);
+    warn_of_rounds(&args, progress);
+    let mut watch = Watching::new(rt, progress, &args);
+    watch.before = before;
     let ended = run_attempts::<M, R, P, O>(rt, nodes, &of, disk, args, &mut watch, out)?;
     said.note(ended.disk.last_error());
+    if watch.is_renamed() {
+        return Err(renamed(ended.outcome, watch.time, said));
+    }
     end_run(ended.outcome, args.stop_file, watch.progress, out)
 }
 
+/// Returns the fault of a run whose disk has lost its name, with the time up to which everything is
+/// committed: `File`, if the run did not fail for another reason.
+fn renamed(outcome: Result<(), CommandFault>, time: u64, said: &SystemErrors) -> Fault {
+    match outcome {
+        Ok(()) | Err(CommandFault::Stopped { .. }) => said.refuse(Refusal::Renamed { time }),
+        Err(fault) => Fault::from(fault),
+    }
+}
+
 /// Makes a run, and writes its trace to a file, which is created if it is not there. A trace of
-/// earlier runs of this disk is continued; anything else in the file is replaced.
+/// earlier runs of this disk is continued. One of other runs is replaced at the end, whatever the
+/// outcome, by the whole trace of this run.
 ///
-/// Returns `File` if the trace file is the file of the model or of the disk, if it cannot be made,
-/// or, after a run that reached its end, if a part of the trace was not written.
+/// Returns `File` if the trace file is the file of the model or of the disk, if it holds anything but
+/// a trace, if it cannot be made, or, after a run that reached its end, if a part of the trace was not
+/// written.
 fn run_traced<M, R, P, O>(
     rt: &R,
     nodes: NodePrograms<'_>,
@@ -220,13 +298,13 @@ where
     if are_one_file(rt, args.on.model, trace) || are_one_file(rt, args.on.disk, trace) {
         return Err(Fault::File);
     }
-    let earlier = Earlier::of(rt, trace);
-    let opened = OpenOptions::new().write(true).create(true).open(rt, trace);
-    let file = opened.map_err(unwritable)?;
-    let rows = BufWriter::new(rt.alloc(), file).map_err(unwritable)?;
-    let mut traced = Traced::to(progress, rows, earlier);
+    let file = match TraceFile::open(rt, trace) {
+        Ok(file) => file,
+        Err(refused) => return Err(untraced(refused, said)),
+    };
+    let mut traced = Traced::to(progress, file);
     let outcome = run_with::<M, R, _, O>(rt, nodes, args, said, &mut traced, out);
-    let is_whole = traced.is_whole();
+    let is_whole = traced.is_whole(rt);
     outcome?;
     if is_whole { Ok(()) } else { Err(Fault::File) }
 }
@@ -234,18 +312,23 @@ where
 /// Serves as a node that runs the model of a file, behind a socket.
 ///
 /// Returns, in this order, the faults of the model file; `File` if no connection is made; and
-/// `Wire`. A refusal by the node itself is reported at the other end, and is not a fault here. `calls`
-/// keeps what the system says if no connection is made.
+/// `Wire`, or `OtherModel` if the run takes part in another simulation. A refusal by the node itself
+/// is reported at the other end, and is not a fault here. `calls` keeps what the system says if no
+/// connection is made, and how the simulations differ.
 pub(crate) fn serve_on<M, R>(rt: &R, calls: &Calls, args: NodeArgs<'_>) -> Result<(), Fault>
 where
     M: Described,
     R: Files<File = File> + Net + AllocGlobal,
 {
     let of: Simulated<M> = simulated(rt, args.model)?;
-    Ok(node_programs::serve_on(rt, &of.model, args.socket, args.parcels, calls)?)
+    Ok(node_programs::serve_on(rt, &of.model, of.end, args.socket, args.parcels, calls)?)
 }
 
 /// Returns why a trace is not made: `NoMemory` if an allocation failed, otherwise `File`.
-fn unwritable(error: IoError) -> Fault {
-    Fault::from(unreadable(error))
+fn untraced(refused: NoTrace, said: &SystemErrors) -> Fault {
+    match refused {
+        NoTrace::Other => said.refuse(Refusal::Trace),
+        NoTrace::OtherUnfinished => said.refuse(Refusal::UnfinishedTrace),
+        NoTrace::System(error) => Fault::from(unreadable(error)),
+    }
 }

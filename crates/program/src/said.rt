@@ -1,13 +1,17 @@
-// What the system says of the disk that a command writes.
+// What is behind the fault of a command, beyond its name.
 
+use crate::fault::Fault;
 use disk::SystemError;
 use std::cell::Cell;
+use terminal::Refusal;
 
 /// Keeps the system's error behind the fault of a command, if a system call on the disk that it
-/// writes has failed. A cell, so that the contracts of the commands do not see it.
+/// writes has failed, and why the command refused a file. Cells, so that the contracts of the commands
+/// do not see them.
 #[derive(Drop)]
 pub(crate) struct SystemErrors {
     last: Cell<Option<SystemError>>,
+    refusal: Cell<Option<Refusal>>,
 }
 
 impl SystemErrors {
@@ -15,6 +19,7 @@ impl SystemErrors {
     pub(crate) fn none() -> SystemErrors {
         SystemErrors {
             last: Cell::new(None),
+            refusal: Cell::new(None),
         }
     }
 
@@ -28,5 +33,16 @@ impl SystemErrors {
         if error.is_some() {
             self.last.set(error);
         }
+    }
+
+    /// Why a file was refused, if one was.
+    pub(crate) fn refusal(&self) -> Option<Refusal> {
+        self.refusal.get()
+    }
+
+    /// Notes why a file is refused, and returns the fault.
+    pub(crate) fn refuse(&self, refusal: Refusal) -> Fault {
+        self.refusal.set(Some(refusal));
+        Fault::File
     }
 }

@@ -7,15 +7,19 @@ ghost use Rattle.cli.specs.Command.{refusal_of, IsRanged};
 ghost use Rattle.program.specs.Command.{BeginsSaid, IsOutput, PrintsSaid};
 ghost use Rattle.views.specs.Views.{Begins, Prints};
 
-use crate::advising::{Noted, advise};
+use crate::advising::{Asked, Noted, advise};
 use crate::attempts::NodePrograms;
-use crate::disks::{extend_on, grow_on, migrate_on, new_on, reopen_on, show_on};
+use crate::disks::{extend_on, grow_on, migrate_on, reopen_on, show_on};
 use crate::fault::Fault;
 use crate::looking::{draw_on, log_on, stats_on, status_on, verify_on};
+use crate::parts::new_as;
+use crate::repairing::{cut_on, recover_on};
 use crate::running::{run_as, serve_on};
 use crate::said::SystemErrors;
 use clap::error::{Error as LineError, ErrorKind as LineFault};
-use cli::{Command, Hint, Texts, hint_of, program_help, read_command, says_advice, seq_help};
+use cli::{
+    Command, Hint, Texts, hint_of, program_help, read_command, says_advice, says_quiet, seq_help,
+};
 use judging::Differences;
 use node_programs::Calls;
 use std::convert::AsStr;
@@ -31,7 +35,7 @@ use texts::{Described, Report};
 use views::{Wrong, check_of, seq_of};
 
 /// The version of this program and of programs over other models, and the format of their disks.
-const VERSION: &str = "0.4.0 (disks of format 2)";
+pub const VERSION: &str = "0.4.0 (disks of format 2)";
 
 /// What distinguishes a program over one kind of model from another.
 #[derive(Clone, Copy)]
@@ -57,14 +61,16 @@ pub fn words<R: Env + AllocGlobal>(rt: &R) -> IoResult<Vec<String>> {
 /// program's name, `: ` and its text; and 2 if the words are no command or ask for help, with
 /// `clap`'s text on `err`. Below a mistake that `check` finds all mistakes of the model file are
 /// printed, each beside its line. With `--advice`, or if `progress` is seen, what to do about a fault
-/// follows it, and `progress` gets a hint during a run that another way would be faster.
+/// follows it, and `progress` gets a hint during a run that another way would be faster. Otherwise a
+/// second line says which file a fault is about and what the system says, unless `progress` is bare.
+/// With `--quiet` nothing follows a fault.
 ///
 /// The command writes its results to `out`, which is flushed at the end. A run reports its progress
 /// to `progress`, and each command its fault, after that is printed.
 ///
 /// A run over node programs starts the program of the first word for each node, or waits until
 /// programs that others started have connected. At its end, and after any fault, it waits for those
-/// that it started, and removes the sockets that it made. If it goes on after a fault, as its options
+/// that it started, and removes the files that it made for them. If it goes on after a fault, as its options
 /// say, that is only reported to `progress`.
 pub fn command<M, R, S, P, O, E>(
     rt: &R,
@@ -115,14 +121,18 @@ where
         }
     };
     let program = words.first().map(AsStr::as_str).unwrap_or("");
-    let is_asked = says_advice(words);
-    if is_asked {
+    let asked = Asked {
+        advice: says_advice(words),
+        quiet: says_quiet(words),
+    };
+    if asked.advice {
         progress.with_advice();
     }
     let calls = Calls::none();
     let differences = Differences::none();
     let nodes = NodePrograms {
         program,
+        text: &[],
         calls: &calls,
         differences: &differences,
     };
@@ -139,8 +149,10 @@ where
                 refused: differences.first(),
                 system: said.last(),
                 unmet: calls.unmet(),
+                apart: calls.apart(),
+                refusal: said.refusal(),
             };
-            advise::<M, R, P, E>(rt, command, fault, noted, is_asked, progress, err);
+            advise::<M, R, P, E>(rt, command, fault, noted, asked, progress, err);
             status
         }
     }
@@ -201,12 +213,14 @@ where
         (O.contents out.old) (O.contents out.new)) }
 {
     match command {
-        Command::New(args) => new_on::<M, R, O>(rt, args, said, out),
+        Command::New(args) => new_as::<M, R, O>(rt, args, said, out),
         Command::Run(args) => run_as::<M, R, P, O>(rt, nodes, args, said, progress, out),
         Command::Extend(args) => extend_on::<M, R, O>(rt, args, said, out),
-        Command::Grow(args) => grow_on::<M, R, O>(rt, args, said, out),
+        Command::Grow(args) => grow_on::<M, R, P, O>(rt, args, said, progress, out),
         Command::Migrate(args) => migrate_on::<M, R, O>(rt, args, said, out),
-        Command::Reopen(args) => reopen_on::<M, R, P, O>(rt, args, progress, out),
+        Command::Reopen(args) => reopen_on::<M, R, P, O>(rt, args, said, progress, out),
+        Command::Cut(args) => cut_on::<M, R, P, O>(rt, args, said, progress, out),
+        Command::Recover(args) => recover_on::<M, R, P, O>(rt, args, said, progress, out),
         Command::Status(args) => status_on::<M, R, O>(rt, args, out),
         Command::Verify(args) => verify_on::<M, R, P, O>(rt, args, progress, out),
         Command::Log(args) => log_on::<M, R, O>(rt, args, out),
@@ -230,10 +244,11 @@ fn refuse_line<E: Write>(name: &str, error: LineError, hint: Option<Hint>, err: 
         LineFault::OutOfMemory => print_fault(name, Fault::NoMemory, err),
         _ => {
             let _ = write!(err, "{error}");
-            if let (LineFault::ValueValidation | LineFault::UnknownArgument, Some(hint)) = (
-                error.kind(),
-                hint,
-            ) {
+            if let (
+                LineFault::ValueValidation | LineFault::UnknownArgument | LineFault::InvalidValue,
+                Some(hint),
+            ) = (error.kind(), hint)
+            {
                 let _ = writeln!(err, "{hint}");
             }
             2

@@ -1,17 +1,20 @@
-// Passes the progress of a run on to what displays it, and looks for the file that ends it.
+// Passes the progress of a run on to what displays it, and looks for the file that ends it and for the
+// name of its disk.
 
 ghost use Rattle.std.specs.Prelude.{◌≡◌};
 ghost use Rattle.program.specs.Turns.{row_of, row_of_commit};
 
+use cli::RunArgs;
 use pictures::Row;
 use plain::Watch as PlainWatch;
 use runs::{Turn, Watch};
 use std::fs;
 use std::rt::Files;
 use std::time::{Clock, Duration};
-use terminal::Progress;
+use terminal::{Place, Progress, is_elsewhere, place_of};
 
-/// Passes all that a run reports on to a `Progress`, and ends the run once a file is there.
+/// Passes all that a run reports on to a `Progress`, and ends the run once a file is there, or once the
+/// name of its disk leads to another file or to none.
 #[derive(Drop)]
 pub(crate) struct Watching<'p, R, P> {
     rt: &'p R,
@@ -20,49 +23,73 @@ pub(crate) struct Watching<'p, R, P> {
     pub time: u64,
     /// After how many events a run without nodes commits; 0 for a run over nodes.
     pub commit_every: u32,
+    /// The number of events before the disk, which a `Progress` sees too.
+    pub before: u64,
     // The number of commits that it made, and of events in the log.
     number: u64,
     events: usize,
-    // The path of the file that ends the run, if there is one, and when it was last looked for.
+    // The path of the disk, the file to which it leads, and whether that changes with an attempt.
+    disk: &'p str,
+    place: Option<Place>,
+    is_archived: bool,
+    is_begun: bool,
+    // The path of the file that ends the run, if there is one, and when both were last looked for.
     stop: Option<&'p str>,
     looked: Option<Duration>,
     is_stopped: bool,
 }
 
 impl<'p, R: Files + Clock, P> Watching<'p, R, P> {
-    /// Passes on to `progress`, and ends the run once the file `stop` is there.
-    pub(crate) fn new(rt: &'p R, progress: &'p mut P, stop: Option<&'p str>) -> Watching<'p, R, P> {
+    /// Passes on to `progress`, and ends the run of these arguments once its stop file is there, or its
+    /// disk, which is open, has lost its name.
+    pub(crate) fn new(rt: &'p R, progress: &'p mut P, args: &RunArgs<'p>) -> Watching<'p, R, P> {
+        let disk = args.on.disk;
         Watching {
             rt,
             progress,
             time: 0,
             commit_every: 0,
+            before: 0,
             number: 0,
             events: 0,
-            stop,
+            disk,
+            place: place_of(rt, disk).ok(),
+            is_archived: args.archive_when_full,
+            is_begun: false,
+            stop: args.stop_file,
             looked: None,
             is_stopped: false,
         }
     }
 
-    /// Looks for a file, unless it was looked for in the last tenth of a second.
-    fn look_for(&mut self, path: &str) {
+    /// Whether the last look was a tenth of a second ago, or there was none. Notes the time.
+    fn is_due(&mut self) -> bool {
         let now = self.rt.monotonic().ok();
         if let (Some(now), Some(looked)) = (now, self.looked) {
             if now.saturating_sub(looked) < Duration::from_millis(100) {
-                return;
+                return false;
             }
         }
         self.looked = now;
-        self.is_stopped = fs::exists(self.rt, path).unwrap_or(false);
+        true
     }
 
-    /// Returns whether the file that ends the run is there.
+    /// Returns whether the name of the disk leads to another file than when the run began, or to none.
+    pub(crate) fn is_renamed(&self) -> bool {
+        match self.place {
+            Some(place) => is_elsewhere(self.rt, self.disk, place),
+            None => false,
+        }
+    }
+
+    /// Returns whether the run ends: the file that ends it is there, or its disk has lost its name.
     fn is_ended(&mut self) -> bool {
-        if let Some(path) = self.stop {
-            if !self.is_stopped {
-                self.look_for(path);
-            }
+        if !self.is_stopped && self.is_due() {
+            let is_asked = match self.stop {
+                Some(path) => fs::exists(self.rt, path).unwrap_or(false),
+                None => false,
+            };
+            self.is_stopped = is_asked || self.is_renamed();
         }
         self.is_stopped
     }
@@ -71,16 +98,28 @@ impl<'p, R: Files + Clock, P> Watching<'p, R, P> {
 impl<R: Files + Clock, P: Progress> Watching<'_, R, P> {
     /// Passes on what a run begins with.
     fn begin(&mut self, time: u64, events: usize) {
+        // a disk that was full may have been put aside, and another one have its name
+        if self.is_begun && self.is_archived {
+            self.place = place_of(self.rt, self.disk).ok();
+        }
+        self.is_begun = true;
         self.time = time;
         self.events = events;
-        self.progress.opened(time, events);
+        let all = self.of_all(events);
+        self.progress.opened(time, all);
     }
 
     /// Passes a commit on.
     fn commit(&mut self, time: u64, events: usize) {
         self.time = time;
         self.events = events;
-        self.progress.committed(time, events);
+        let all = self.of_all(events);
+        self.progress.committed(time, all);
+    }
+
+    /// The number of events of the simulation, of which the disk has this number.
+    fn of_all(&self, events: usize) -> usize {
+        events.saturating_add(self.before as usize)
     }
 }
 

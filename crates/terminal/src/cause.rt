@@ -2,11 +2,15 @@
 // command has failed, so the answer is only advice, and a check that itself fails gives no cause.
 
 use crate::paths::are_one_file;
-use cli::{Command, DiskArgs, DrawArgs, MigrateArgs, NewArgs, RunArgs, SourceArgs, most_sectors};
+use cli::{
+    Command, DiskArgs, DrawArgs, MigrateArgs, NewArgs, RecoverArgs, RunArgs, SourceArgs,
+    most_sectors,
+};
 use disk::{MOST_SECTORS, MOST_SECTORS_OF_LARGE, SystemError};
 use std::fmt;
 use std::fs::{self, File, Metadata, OpenOptions, TryLockError};
 use std::io::{Error as IoError, ErrorKind};
+use std::os::unix::fs::FileTypeExt;
 use std::path::Path;
 use std::rt::Files;
 use texts::{LONGEST_MODEL_FILE, Printable};
@@ -69,6 +73,9 @@ enum Reason {
     LongPath,
     #[error("node{node} is there already: remove it, if no other run has it")]
     OldSocket { node: u32 },
+    #[error(".timewarp-model, where the run puts the model for its node programs, is no plain file: \
+             remove it")]
+    NotText,
     #[error("no node program starts: {0}")]
     NotStarted(SystemError),
     #[error("no socket is made in this folder, or no node program starts or connects")]
@@ -80,6 +87,72 @@ enum Reason {
     NoSocket,
     #[error("no run waits behind this socket")]
     NotHeard,
+    #[error("a model file is a plain file or a pipe, and this is neither")]
+    NotModel,
+    #[error("a model file is read from this pipe, and it gives no bytes")]
+    NoBytes,
+    #[error("the file of this name with .unfinished-disk behind it is there, and it is none that a \
+             killed command left, or another command has it: remove it if it is not yours")]
+    OldUnfinished,
+    #[error("this is no trace of a run, and nothing is written over it")]
+    NotTrace,
+    #[error("the file of this name with .unfinished-trace behind it is no trace of a run, and \
+             nothing is written over it")]
+    NotUnfinishedTrace,
+    #[error("this file is there already, and the run would end at its first commit: remove it")]
+    StopThere,
+    #[error("this holds the header of a disk of format {format}, of {lps} processes with the end \
+             {end}, and more behind it, and nothing is written over it: `reopen` opens a disk \
+             whose gate is closed, and `new --over` makes an empty one of it")]
+    HoldsHeader { format: u32, lps: u32, end: u64 },
+    #[error("this holds records of a disk whose header is lost, and nothing is written over them: \
+             `recover` copies what is good to another disk, and `new --over` makes an empty one \
+             of it")]
+    HoldsRecords,
+    #[error("this holds other bytes than a disk without records, and nothing is written over them: \
+             `new --over` makes an empty disk of it")]
+    HoldsBytes,
+    #[error("this name does not lead to the file of the run any more, which has all events before \
+             {time} ticks")]
+    Renamed { time: u64 },
+}
+
+/// Why a command refused a file by what it found there, or a run lost its disk. The files may not
+/// show it after the command.
+#[derive(Clone, Copy, Debug, PartialEq, Eq)]
+pub enum Refusal {
+    /// The file of a trace is no trace.
+    Trace,
+    /// The file under whose name a trace is made anew is no trace.
+    UnfinishedTrace,
+    /// The file that ends a run is there before the run.
+    Stop,
+    /// The file of a new disk is not empty.
+    Holds(Held),
+    /// The name of the disk of a run leads to another file by now, or to none. The file of the run
+    /// has all events before this virtual time, in ticks.
+    Renamed {
+        /// The virtual time.
+        time: u64,
+    },
+}
+
+/// What a file holds that is not made a disk.
+#[derive(Clone, Copy, Debug, PartialEq, Eq)]
+pub enum Held {
+    /// The header of a disk, whose gate is closed, and other bytes than zeros behind it.
+    Header {
+        /// The format.
+        format: u32,
+        /// The number of processes.
+        lps: u32,
+        /// The end in the header, in ticks.
+        end: u64,
+    },
+    /// No header, and a record behind an open gate.
+    Records,
+    /// Other bytes.
+    Bytes,
 }
 
 /// Why a run did not meet its node programs, or a node its run, by what the system says.
@@ -134,10 +207,81 @@ where
     }
     match (seen, noted) {
         (None, Some(error)) => cause_of_device(command, error),
+        (None, None) => cause_of_pipe(rt, command),
         (Some(cause), Some(error)) if cause.reason == Reason::NotMade && is_of_room(error) => {
             cause_of_device(command, error)
         }
+        (Some(cause), _) if cause.reason == Reason::NotMade => {
+            let unfinished = cause_of_unfinished(rt, command);
+            if unfinished.is_some() {
+                unfinished
+            } else {
+                seen
+            }
+        }
         _ => seen,
+    }
+}
+
+/// The cause of the fault `File` with which a command refused a file, or lost its disk.
+pub fn cause_of_refusal<'a>(command: Command<'a>, refusal: Refusal) -> Option<Cause<'a>> {
+    let (path, reason) = match refusal {
+        Refusal::Trace => (trace_of(command), Reason::NotTrace),
+        Refusal::UnfinishedTrace => (trace_of(command), Reason::NotUnfinishedTrace),
+        Refusal::Stop => (stop_file_of(command), Reason::StopThere),
+        Refusal::Holds(held) => (written_disk(command), reason_of_held(held)),
+        Refusal::Renamed { time } => (written_disk(command), Reason::Renamed { time }),
+    };
+    caused(path?, Some(reason))
+}
+
+/// Why a file is not made a disk.
+fn reason_of_held(held: Held) -> Reason {
+    match held {
+        Held::Header { format, lps, end } => Reason::HoldsHeader { format, lps, end },
+        Held::Records => Reason::HoldsRecords,
+        Held::Bytes => Reason::HoldsBytes,
+    }
+}
+
+/// The path of the trace that a run makes.
+fn trace_of<'a>(command: Command<'a>) -> Option<&'a str> {
+    match command {
+        Command::Run(args) => args.trace,
+        _ => None,
+    }
+}
+
+/// The path of the file that ends a run.
+fn stop_file_of<'a>(command: Command<'a>) -> Option<&'a str> {
+    match command {
+        Command::Run(args) => args.stop_file,
+        _ => None,
+    }
+}
+
+/// The cause where the model file is a pipe, and nothing else is found: it gave no bytes.
+fn cause_of_pipe<'a, R>(rt: &R, command: Command<'a>) -> Option<Cause<'a>>
+where
+    R: Files<File = File>,
+{
+    let model = model_of(command);
+    match fs::metadata(rt, model) {
+        Ok(found) if found.file_type().is_fifo() => caused(model, Some(Reason::NoBytes)),
+        _ => None,
+    }
+}
+
+/// The cause where a disk is not made because of the file under whose name it would be made.
+fn cause_of_unfinished<'a, R>(rt: &R, command: Command<'a>) -> Option<Cause<'a>>
+where
+    R: Files<File = File> + AllocGlobal,
+{
+    let disk = written_disk(command)?;
+    let unfinished = format!(in rt.alloc(); "{disk}.unfinished-disk").ok()?;
+    match fs::symlink_metadata(rt, unfinished.as_str()) {
+        Ok(_) => caused(disk, Some(Reason::OldUnfinished)),
+        Err(_) => None,
     }
 }
 
@@ -194,10 +338,33 @@ fn written_disk<'a>(command: Command<'a>) -> Option<&'a str> {
     match command {
         Command::New(args) => Some(args.on.disk),
         Command::Run(args) => Some(args.on.disk),
-        Command::Extend(args) | Command::Reopen(args) => Some(args.disk),
+        Command::Extend(args) | Command::Reopen(args) | Command::Cut(args) => Some(args.disk),
         Command::Grow(args) => Some(args.on.disk),
         Command::Migrate(args) => Some(args.new),
+        Command::Recover(args) => Some(args.new),
         _ => None,
+    }
+}
+
+/// The path of the model file.
+fn model_of<'a>(command: Command<'a>) -> &'a str {
+    match command {
+        Command::New(args) => args.on.model,
+        Command::Run(args) => args.on.model,
+        Command::Grow(args) => args.on.model,
+        Command::Extend(args)
+        | Command::Reopen(args)
+        | Command::Status(args)
+        | Command::Cut(args) => args.model,
+        Command::Verify(args) => args.on.model,
+        Command::Migrate(args) => args.model,
+        Command::Recover(args) => args.model,
+        Command::Log(args) => args.on.model,
+        Command::Show(args) => args.on.model,
+        Command::Stats(args) => args.of.model,
+        Command::Draw(args) => args.of.model,
+        Command::Seq(args) | Command::Check(args) => args.model,
+        Command::Node(args) => args.model,
     }
 }
 
@@ -221,8 +388,10 @@ where
         Command::Grow(args) => first_of_writer(rt, args.on),
         Command::Migrate(args) => first_of_migration(rt, args),
         Command::Reopen(args) => first_of_writer(rt, args),
+        Command::Cut(args) => first_of_writer(rt, args),
+        Command::Recover(args) => first_of_recovery(rt, args),
         Command::Status(args) => first_of_reader(rt, args),
-        Command::Verify(args) => first_of_reader(rt, args),
+        Command::Verify(args) => first_of_reader(rt, args.on),
         Command::Log(args) => first_of_reader(rt, args.on),
         Command::Show(args) => first_of_reader(rt, args.on),
         Command::Stats(args) => first_of_source(rt, args.of),
@@ -270,6 +439,23 @@ where
         &[
             Step::ReadsModel(args.model),
             Step::LooksAt(args.old, most_sectors(args.large)),
+            Step::AreTwoFiles(args.new, args.model),
+            Step::AreTwoFiles(args.new, args.old),
+            Step::Makes(args.new, args.sectors),
+        ],
+    )
+}
+
+/// The first cause of `recover`, which takes the lock of the damaged disk.
+fn first_of_recovery<'a, R>(rt: &R, args: RecoverArgs<'a>) -> Option<Cause<'a>>
+where
+    R: Files<File = File>,
+{
+    first(
+        rt,
+        &[
+            Step::ReadsModel(args.model),
+            Step::Writes(args.old, most_sectors(args.large)),
             Step::AreTwoFiles(args.new, args.model),
             Step::AreTwoFiles(args.new, args.old),
             Step::Makes(args.new, args.sectors),
@@ -369,6 +555,9 @@ where
             if seen.is_some() {
                 return caused(folder, seen);
             }
+            if !args.attach && is_taken(rt, folder) {
+                return caused(folder, Some(Reason::NotText));
+            }
             if args.attach || args.trace.is_some() {
                 return None;
             }
@@ -429,9 +618,14 @@ fn reason_of_model<R: Files<File = File>>(rt: &R, path: &str) -> Option<Reason> 
     if reason.is_some() {
         return reason;
     }
-    let bytes = fs::metadata(rt, path).ok()?.len();
+    let found = fs::metadata(rt, path).ok()?;
+    let bytes = found.len();
     if bytes > LONGEST_MODEL_FILE {
         return Some(Reason::LongModel(bytes));
+    }
+    // a pipe may have given its bytes
+    if !found.is_file() && !found.file_type().is_fifo() {
+        return Some(Reason::NotModel);
     }
     None
 }
@@ -444,6 +638,11 @@ fn reason_of_file<R: Files<File = File>>(rt: &R, path: &str) -> Option<Reason> {
         Ok(metadata) if metadata.is_file() => reason_of_reader(rt, path),
         Ok(_) => None,
     }
+}
+
+/// Whether another program has the lock of a file.
+pub fn is_locked<R: Files<File = File>>(rt: &R, path: &str) -> bool {
+    reason_of_lock(rt, path) == Some(Reason::Taken)
 }
 
 /// What is wrong with a plain file that is opened for reading.
@@ -647,6 +846,21 @@ where
         }
     }
     None
+}
+
+/// Whether something that is no plain file has the name, in the folder of the sockets, of the model
+/// that a run writes there.
+fn is_taken<R>(rt: &R, folder: &str) -> bool
+where
+    R: Files<File = File> + AllocGlobal,
+{
+    let Ok(path) = format!(in rt.alloc(); "{folder}/.timewarp-model") else {
+        return false;
+    };
+    match fs::symlink_metadata(rt, path.as_str()) {
+        Ok(metadata) => !metadata.is_file(),
+        Err(_) => false,
+    }
 }
 
 /// The maximum length of a socket's path in bytes, set by the system.

@@ -8,8 +8,10 @@ mod paths;
 mod progress;
 mod tracing;
 
-pub use cause::{Cause, Unmet, cause_of, cause_of_device};
+pub use cause::{
+    Cause, Held, Refusal, Unmet, cause_of, cause_of_device, cause_of_refusal, is_locked,
+};
 pub use hints::{Hint, Way, Work, hint_of};
-pub use paths::are_one_file;
+pub use paths::{Place, are_one_file, is_elsewhere, place_of};
 pub use progress::{Progress, TerminalProgress};
-pub use tracing::{Earlier, Traced};
+pub use tracing::{NoTrace, TraceFile, Traced};

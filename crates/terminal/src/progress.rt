@@ -54,8 +54,9 @@ pub trait Progress {
     /// A run has reached its end, and its output is printed.
     fn finished(&mut self);
 
-    /// A run has ended because this file is there; its output comes next.
-    fn stopped(&mut self, _file: &str) {}
+    /// A run has ended because this file is there. All events before this virtual time, in ticks,
+    /// are committed. Its output comes next.
+    fn stopped(&mut self, _file: &str, _time: u64) {}
 
     /// A run goes on after a fault: this line says after which, and how. It is for the reader of
     /// what the run printed, also where there is no terminal.
@@ -63,6 +64,12 @@ pub trait Progress {
 
     /// Whether a user sees what is shown.
     fn is_seen(&self) -> bool;
+
+    /// Whether nothing follows the fault of a command that no user sees: otherwise a second line says
+    /// which file it is about, and what the system says.
+    fn is_bare(&self) -> bool {
+        true
+    }
 
     /// A command has failed, and its fault is printed. There may be advice for it, and for `File`
     /// the cause may be known.
@@ -85,8 +92,9 @@ pub struct TerminalProgress<'c, C, T> {
     // What gets whole lines instead of the terminal, and the time between two of progress.
     lines: Option<T>,
     every: Option<Duration>,
-    // Whether advice is wanted where there is no terminal.
+    // Whether advice is wanted where there is no terminal, and whether nothing follows a fault there.
     is_advised: bool,
+    is_bare: bool,
     // How the run is made, until it is known whether another way would be faster, and the first
     // opening of its disk.
     way: Option<Way>,
@@ -173,6 +181,13 @@ impl<'c, C: Clock + CpuClock, T: Write> TerminalProgress<'c, C, T> {
         named
     }
 
+    /// The same with nothing behind a fault where there is no terminal.
+    pub fn bare(self) -> TerminalProgress<'c, C, T> {
+        let mut bare = self;
+        bare.is_bare = true;
+        bare
+    }
+
     fn to(clock: &'c C, terminal: Option<T>, lines: Option<T>) -> TerminalProgress<'c, C, T> {
         TerminalProgress {
             clock,
@@ -181,6 +196,7 @@ impl<'c, C: Clock + CpuClock, T: Write> TerminalProgress<'c, C, T> {
             lines,
             every: None,
             is_advised: false,
+            is_bare: false,
             way: None,
             begun: None,
             end: 0,
@@ -612,17 +628,22 @@ impl<C: Clock + CpuClock, T: Write> Progress for TerminalProgress<'_, C, T> {
         }
     }
 
-    fn stopped(&mut self, file: &str) {
+    fn stopped(&mut self, file: &str, time: u64) {
         self.clear();
+        let file = Printable(file);
         if let Some(terminal) = &mut self.terminal {
-            let _ = writeln!(terminal, "stopped at {file}");
+            let _ = writeln!(terminal, "stopped by {file} at {time}");
         } else if let Some(lines) = &mut self.lines {
-            let _ = writeln!(lines, "stopped at {file}");
+            let _ = writeln!(lines, "stopped by {file} at {time}");
         }
     }
 
     fn is_seen(&self) -> bool {
         self.terminal.is_some()
+    }
+
+    fn is_bare(&self) -> bool {
+        self.is_bare || self.lines.is_none()
     }
 
     fn failed(&mut self, advice: Option<&'static str>, cause: Option<Cause<'_>>) {

@@ -58,7 +58,7 @@ fn report<P: Progress>(shown: &mut P, name: &str, numbers: &[u32; 6]) {
         "turned" => shown.turned(&turn(time, u64::from(b), u64::from(c))),
         "committed" => shown.committed(time, events),
         "stored" => shown.stored(a, b),
-        "stopped" => shown.stopped("halt"),
+        "stopped" => shown.stopped("halt", time),
         "clear" => shown.clear(),
         "finished" => shown.finished(),
         "failed" => shown.failed(Fault::Rounds.advice(), None),

@@ -50,7 +50,7 @@ fn fault_of(name: &str) -> Fault {
 /// Faults, some with the end of the advice after them.
 const FAULTS: &str = "\
 World NumberLimit
-Recovery Log Corrupt => or begin anew on another disk
+Recovery Log Corrupt => good records to a new disk
 Recovery Log Disk Device
 Session Port Peer NumberLimit
 Session Port Closed => a node's program ended, or its connection failed: what is committed stays; \

@@ -1,6 +1,7 @@
 // The printed name of each fault. A fault that carries another is printed with that one's name
 // after a space; a mistake in a model file is printed in plain words, with the key.
 
+use archiving::ArchiveFault;
 use commands::CommandFault;
 use commitlog::LogFault;
 use coordinator::SessionFault;
@@ -19,7 +20,7 @@ use runs::{RunFault, SimulationFault};
 use std::alloc::Global;
 use std::fmt::{Display, Write};
 use texts::{Mistake, ModelFault};
-use upkeep::{ReopenFault, VerifyFault};
+use upkeep::{CutFault, ReopenFault, SalvageFault, VerifyFault};
 use wire::{PortFault, WireFault};
 
 /// The names of faults as they are printed, and as they have to be, a line each.
@@ -50,14 +51,15 @@ fn put<T: Display>(text: &mut String, items: &[T]) {
 }
 
 /// Puts the faults of one enum and their names into `$names`. The match has no wildcard arm, so
-/// that it does not compile if a variant has no row.
+/// that it does not compile if a variant has no row, unless it is named behind the rows.
 macro_rules! put_names {
     ($names:expr; $kind:ident {
         $($name:ident $(($($carried:tt)*))? $({ $($field:tt)* })? => $text:literal,)*
-    }) => {{
+    } $(and $more:ident)?) => {{
         let faults = [$($kind::$name $(($($carried)*))? $({ $($field)* })?),*];
         match &faults[0] {
             $($kind::$name { .. } => {})*
+            $($kind::$more { .. } => {})?
         }
         put(&mut $names.printed, &faults);
         put(&mut $names.wanted, &[$($text),*]);
@@ -206,6 +208,18 @@ fn put_recovery_and_upkeep_faults(names: &mut Names) {
         Disk(DiskFault::Device) => "Disk Device",
         NoMemory => "NoMemory",
     });
+    put_names!(names; CutFault {
+        NothingToCut => "NothingToCut",
+        Log(LogFault::Corrupt) => "Log Corrupt",
+        Recovery(RecoveryFault::OtherModel) => "Recovery OtherModel",
+        Disk(DiskFault::Device) => "Disk Device",
+    });
+    put_names!(names; SalvageFault {
+        OtherModel => "OtherModel",
+        Disk(DiskFault::Device) => "Disk Device",
+        NoMemory => "NoMemory",
+        New(LogFault::Full) => "New Full",
+    });
     put_names!(names; GrowingFault {
         Recovery(RecoveryFault::OtherModel) => "OtherModel",
         Growth(GrowthFault::Device) => "Device",
@@ -304,6 +318,15 @@ fn put_command_and_program_faults(names: &mut Names) {
         NoMemory => "NoMemory",
         Output => "Output",
     });
+    put_names!(names; ArchiveFault {
+        File => "File",
+        Full => "Full",
+        TooLong => "TooLong",
+        NotTheNext => "NotTheNext",
+        Recovery(RecoveryFault::OtherModel) => "OtherModel",
+        Log(LogFault::NotBlank) => "NotBlank",
+        NoMemory => "NoMemory",
+    });
     put_names!(names; Fault {
         BadModel => "BadModel",
         File => "File",
@@ -312,19 +335,32 @@ fn put_command_and_program_faults(names: &mut Names) {
         Recovery(RecoveryFault::OtherModel) => "Recovery OtherModel",
         Session(SessionFault::Full) => "Session Full",
         Wire(WireFault::BadKind) => "Wire BadKind",
+        OtherModel => "OtherModel",
+        OtherNode { node: 1 } => "Node 1 OtherModel",
         Rounds => "Rounds",
         Stopped => "Stopped",
         Migrate(MigrateFault::Old(RecoveryFault::BadEnd)) => "Migrate Old BadEnd",
         Grow(GrowthFault::Fewer) => "Grow Fewer",
         Shut => "Shut",
         Reopen(ReopenFault::NotShut) => "Reopen NotShut",
+        Recover(LogFault::Full) => "Recover New Full",
+        NothingToCut => "NothingToCut",
         Record { number: 7, fault: RecoveryFault::BadRecord } => "Record 7 BadRecord",
         BadTrace => "BadTrace",
         Mistake(Mistake::Missing("hold")) => "hold: missing",
         NoSuchProcess { processes: 3 } => "NoSuchProcess",
         NoMemory => "NoMemory",
         Output => "Output",
-    });
+    } and Segment);
+    let segments = [
+        Fault::from(ArchiveFault::NotTheNext),
+        Fault::from(ArchiveFault::TooLong),
+    ];
+    put(&mut names.printed, &segments);
+    put(
+        &mut names.wanted,
+        &["Segment NotTheNext", "Segment TooLong"],
+    );
 }
 
 #[test]

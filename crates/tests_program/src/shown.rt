@@ -80,7 +80,7 @@ const LINES: &str = "\
     8 antimessages/s\n\
     committed 200 (20%), 60 events (0/s), 16 s to go, efficiency 75%, disk 4% full, \
     8 antimessages/s\n\
-    stopped at halt\n";
+    stopped by halt at 0\n";
 
 /// Whether these lines are printed of it where there is no terminal, after these calls.
 fn prints(alloc: Global, before: &str, lines: &str) -> bool {
@@ -94,7 +94,7 @@ fn prints(alloc: Global, before: &str, lines: &str) -> bool {
 
 #[test]
 fn lines_of_progress_are_printed_where_there_is_no_terminal(rt: HostRuntime) {
-    assert!(rt; prints(rt.alloc(), "", "stopped at halt\n"));
+    assert!(rt; prints(rt.alloc(), "", "stopped by halt at 0\n"));
     assert!(rt; prints(rt.alloc(), "every 1", LINES));
 }
 
@@ -103,7 +103,7 @@ fn a_terminal_shows_which_file_ended_a_run(rt: HostRuntime) {
     let calls = "every 1, begin 9, opened, committed 1 1, committed 1 1, committed 1 1, \
                  committed 1 1, stopped";
     let text = "\rcommitted 1 (11%), 1 events (0/s), 0 antimessages/s\x1b[K\
-         \r\x1b[Kstopped at halt\n";
+         \r\x1b[Kstopped by halt at 0\n";
     assert!(rt; shows(rt.alloc(), calls, text));
 }
 

@@ -50,6 +50,15 @@ fn nothing_is_shown_of_a_verification_once_its_result_is_printed(
         .write_all(b"\0")?;
     let text = "reopened: committed 7 events 3\n";
     assert!(rt; is_shown(&rt, &["timewarp", "reopen", model, disk], text));
+    let new = file(&rt, "timewarp-recovered.disk", None)?;
+    let new = new.as_str();
+    let text = "\
+recovered 3 of 3 whole records: committed 7 events 3
+record 3: none, its gate is closed
+";
+    let words = ["timewarp", "recover", model, disk, new, "--sectors", "64"];
+    assert!(rt; is_shown(&rt, &words, text));
+    fs::remove_file(&rt, new)?;
     fs::remove_file(&rt, disk)?;
     Ok(fs::remove_file(&rt, model)?)
 }

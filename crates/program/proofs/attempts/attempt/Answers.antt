@@ -1,6 +1,8 @@
-use Rattle.std.proofs.Common.{ℕ, ◌≡◌, subst}
+use Rattle.std.proofs.Common.{ℕ, ◌≡◌, ◌∙◌, ap, subst, Bool}
 use Rattle.std.specs.Prelude.{IfOk}
-use Rattle.program.specs.Command.{IsRan, IsRanBehind, IsStoppedBehind, IsStoppedText, IsTried}
+use Rattle.program.proofs.Printed.{judged_apart}
+use Rattle.runs.specs.declared.rounds.Plan.{Plan}
+use Rattle.program.specs.Command.{IsRan, IsRanApart, IsStoppedApart, IsStoppedText, IsTried, judges_all}
 use Rattle.program.proofs.attempts.attempt.Goals as goal
 
 pub returns-then-args-clause-tried : goal.returns-then-args-clause-tried
@@ -14,4 +16,10 @@ returns-in-None-clause-tried g c =
 pub returns-in-Some-clause-tried : goal.returns-in-Some-clause-tried
 returns-in-Some-clause-tried g c =
     let says = g.M.Described.says in
-    rw (c.if-args.false, c.in-Some.is) (subst (λ (n : ℕ). IfOk c.attempt_behind.result (λ ended. IsTried (IsRanBehind says n) (IsStoppedBehind says) ended.outcome (c.attempt_behind.new.out ≡ c.args.out.now) (g.O.Write.contents c.args.out.now) (g.O.Write.contents c.attempt_behind.new.out))) c.plan_of-plan.ensures.nodes c.attempt_behind.ensures.tried)
+    let meaning = g.M.Model.meaning in
+    let judge = c.args.args.judge in
+    let plan = c.plan_of-plan.result in
+    let judged : plan.judged ≡ judges_all judge =
+    ap (λ (p : Plan). p.judged) c.plan_of-plan.ensures.is ∙ judged_apart c.args.args.sockets _ judge c.in-Some.is in
+    let Tried : Bool → ℕ → Type 0 = λ b n. IfOk c.attempt_behind.result (λ ended. IsTried (IsRanApart meaning says b n) (IsStoppedApart meaning says b) ended.outcome (c.attempt_behind.new.out ≡ c.args.out.now) (g.O.Write.contents c.args.out.now) (g.O.Write.contents c.attempt_behind.new.out)) in
+    rw (c.if-args.false, c.in-Some.is) (subst (λ (b : Bool). Tried b c.args.args.nodes) judged (subst (λ (n : ℕ). Tried plan.judged n) c.plan_of-plan.ensures.nodes c.attempt_behind.ensures.tried))

@@ -1,4 +1,4 @@
-use Rattle.std.proofs.Common.{refl, sym, ◌∙◌}
+use Rattle.std.proofs.Common.{Bool, OnOk, inl, refl, sym, ◌∙◌}
 use Rattle.std.proofs.lemmas.List.{length-map}
 use Rattle.std.specs.Prelude.{false}
 use Rattle.judging.proofs.Alike.{judged_alike}
@@ -6,7 +6,10 @@ use Rattle.judging.specs.Judged.{judged_state}
 use Rattle.runs.proofs.Ports.{all_fresh, so_many}
 use Rattle.sockets.specs.Socket.{state_of}
 use Rattle.sockets.specs.declared.port.Held.TheVariants.{Fresh}
-use Rattle.program.proofs.Printed.{behind_begun, behind_printed, behind_stopped, on_ok_so}
+use Rattle.commands.specs.Commands.{stopped_text}
+use Rattle.views.specs.Views.{Begins, Prints}
+use Rattle.program.specs.Command.{IsRanApart, IsStoppedApart}
+use Rattle.program.proofs.Printed.{behind_begun, behind_printed, behind_stopped, by_judged, on_ok_so, ran_begun, ran_printed, stopped_printed}
 use Rattle.program.proofs.attempts.attempt_over.Goals as goal
 
 pub run_over-requires : goal.run_over-requires
@@ -26,9 +29,18 @@ returns-clause-tried g c =
     let of = c.args.of.now in
     let file = c.requires.file in
     let run = c.run_over.ensures in
+    let meaning = g.M.Model.meaning in
+    let says = g.M.Described.says in
+    let plan = c.args.plan in
     record {
-      printed = on_ok_so c.run_over.result.outcome (λ p. behind_printed g.M.Model.meaning g.M.Described.says _ _ file.0 of.model of.end file.1 c.args.plan _ _ _ _ p) run.over;
-      output = λ e. behind_begun g.M.Model.meaning g.M.Described.says _ _ file.0 of.model of.end file.1 c.args.plan _ _ _ _ (run.over_err e);
+      printed = by_judged (λ (b : Bool). OnOk c.run_over.result.outcome (Prints (IsRanApart meaning says b plan.nodes) (g.O.Write.contents c.args.out.now) (g.O.Write.contents c.run_over.new.out))) plan.judged
+          (λ judged. on_ok_so c.run_over.result.outcome (λ p. ran_printed meaning says file.0 of.model of.end file.1 _ plan.nodes _ _ p) (run.printed (inl judged)))
+          (λ trusting. on_ok_so c.run_over.result.outcome (λ p. behind_printed meaning says _ _ file.0 of.model of.end file.1 plan _ _ _ _ p) run.over);
+      output = λ e. by_judged (λ (b : Bool). Begins (IsRanApart meaning says b plan.nodes) (g.O.Write.contents c.args.out.now) (g.O.Write.contents c.run_over.new.out)) plan.judged
+          (λ judged. ran_begun meaning says file.0 of.model of.end file.1 _ plan.nodes _ _ (run.output (inl judged) e))
+          (λ trusting. behind_begun meaning says _ _ file.0 of.model of.end file.1 plan _ _ _ _ (run.over_err e));
       unwritten = run.unwritten;
-      stopped = λ time events is. behind_stopped g.M.Model.meaning g.M.Described.says _ _ file.0 of.model of.end file.1 c.args.plan _ _ time events (run.stopped_over time events is);
+      stopped = λ time events is. by_judged (λ (b : Bool). IsStoppedApart meaning says b (stopped_text time events)) plan.judged
+          (λ judged. stopped_printed meaning says file.0 of.model of.end file.1 _ time events (λ genuine. (run.stopped (inl judged) genuine time events is).0))
+          (λ trusting. behind_stopped meaning says _ _ file.0 of.model of.end file.1 plan _ _ time events (run.stopped_over time events is));
     }
