@@ -135,7 +135,8 @@ class Player:
         os.symlink(os.path.realpath(program), f"{room}/bin/timewarp")
         os.symlink(SCRIPTS, f"{room}/data")
         path = [f"{room}/bin", f"{room}/data/tools", "/usr/local/bin", "/usr/bin", "/bin", os.path.dirname(sys.executable)]
-        self.environment = {**environment, "PATH": ":".join(path), "DATA": f"{room}/data", "HOME": room}
+        # below a fault is nothing, unless a command asks for it: most scripts are about the fault alone
+        self.environment = {"TIMEWARP_ADVICE": "0", **environment, "PATH": ":".join(path), "DATA": f"{room}/data", "HOME": room}
 
     def play(self, name, commands=2, lines=20):
         """Plays a script in a folder of its own. It goes on after a command that differs, but not after one that does not end. It shows
