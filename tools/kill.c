@@ -1,9 +1,11 @@
-// Ends the program by SIGKILL at one of its calls that change a file or wait for the device: call KILL_AT, counted from 1 over all such
+// Ends the program by SIGKILL at one of its calls that change a file or a name, or wait for the device: call KILL_AT, counted from 1 over all such
 // calls, in one of three ways KILL_WAY: 0 before the call, 1 after half of the bytes of a write, 2 after the call.
 // If the program ends by itself first, the number of its calls is written to the file KILL_COUNT.
 #define _GNU_SOURCE
 #include <dlfcn.h>
+#include <fcntl.h>
 #include <signal.h>
+#include <stdarg.h>
 #include <stdio.h>
 #include <stdlib.h>
 #include <sys/types.h>
@@ -68,9 +70,48 @@ __attribute__((destructor)) static void write_count(void) {
         return done;                                                      \
     }
 
+#define NAMES(name)                                                       \
+    int name(const char *from, const char *to) {                          \
+        int (*real)(const char *, const char *) = dlsym(RTLD_NEXT, #name); \
+        calls++;                                                          \
+        if (ends(0) || ends(1)) end();                                    \
+        int done = real(from, to);                                        \
+        if (ends(2)) end();                                               \
+        return done;                                                      \
+    }
+
+// Only an open that may make a file is counted.
+#define OPENS(name)                                                       \
+    int name(const char *path, int flags, ...) {                          \
+        int (*real)(const char *, int, ...) = dlsym(RTLD_NEXT, #name);    \
+        va_list more;                                                     \
+        va_start(more, flags);                                            \
+        mode_t mode = flags & O_CREAT ? va_arg(more, mode_t) : 0;         \
+        va_end(more);                                                     \
+        if (!(flags & O_CREAT)) return real(path, flags, mode);           \
+        calls++;                                                          \
+        if (ends(0) || ends(1)) end();                                    \
+        int done = real(path, flags, mode);                               \
+        if (ends(2)) end();                                               \
+        return done;                                                      \
+    }
+
+int unlink(const char *path) {
+    int (*real)(const char *) = dlsym(RTLD_NEXT, "unlink");
+    calls++;
+    if (ends(0) || ends(1)) end();
+    int done = real(path);
+    if (ends(2)) end();
+    return done;
+}
+
 WRITES(pwrite, off_t)
 WRITES(pwrite64, off64_t)
 WAITS(fsync)
 WAITS(fdatasync)
 SIZES(ftruncate, off_t)
 SIZES(ftruncate64, off64_t)
+NAMES(link)
+NAMES(rename)
+OPENS(open)
+OPENS(open64)

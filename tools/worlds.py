@@ -4,6 +4,7 @@ sequential simulation says about a disk.
 The world at a time is what `seq` prints for the model whose end is that time, and a log is the lines
 of `seq` whose time is below it. So a disk is judged by the plain runner alone."""
 import concurrent.futures
+import glob
 import os
 import re
 import subprocess
@@ -114,9 +115,10 @@ class Judge:
     def log_below(self, time):
         return [line for line in self.lines if int(line.split(b" ", 1)[0]) < time]
 
-    def judge(self, log, show):
-        """Returns the time and the number of events that `log` and `show` print, or None and the fault with
-        which both refuse the disk. Anything but the sequential simulation up to that time is wrong."""
+    def judge(self, log, show, origin=0):
+        """Returns the time that `show` prints and the number of events up to there, or None and the fault with
+        which both refuse the disk. Anything but the sequential simulation up to that time is wrong. The log of a
+        disk that goes on from another one begins at the time `origin`."""
         if log[0] == 1 and show[0] == 1:
             for _, out, err in (log, show):
                 if out or not re.fullmatch(rb"timewarp: [A-Za-z ]+\n", err):
@@ -135,7 +137,7 @@ class Judge:
         if show[1] != self.world_at(time):
             raise Wrong(f"the world of {time} is wrong")
         expected = self.log_below(time)
-        if log[1] != b"".join(expected):
+        if log[1] != b"".join(expected[len(self.log_below(origin)):]):
             raise Wrong(f"the log up to {time} is wrong")
         return time, len(expected)
 
@@ -156,6 +158,102 @@ class Judge:
         log, show = start(self.program, "log", self.path, disk), start(self.program, "show", self.path, disk)
         if log[1] + show[1] != self.whole:
             raise Wrong(f"run {' '.join(map(str, options))} does not end like seq")
+        return out
+
+
+def origin_in(image):
+    """Returns the time from which a disk goes on, by its bytes: that of its second record, which has no events, if its first one is
+    a checkpoint; 0 if it begins as its model does."""
+    def record(gate):
+        at = 512 * (gate + 1)
+        size = int.from_bytes(image[at + 1:at + 5], "big")
+        return (image[at], image[at + 5:at + 5 + size]) if image[at - 512:at - 511] == b"\1" else (0, b"")
+
+    kind, body = record(2)
+    if kind != 2:
+        return 0
+    kind, body = record(3 + (5 + len(body) + 511) // 512)
+    return int.from_bytes(body[:8], "big") if kind == 1 and len(body) == 12 and body[8:] == bytes(4) else 0
+
+
+class Archive(Judge):
+    """Judges a disk and the parts beside it that a run has archived: all of them, or if it removes older ones, the newest `keep`."""
+
+    def __init__(self, program, text, folder, name="model", keep=None):
+        super().__init__(program, text, folder, name)
+        self.keep = keep
+
+    @staticmethod
+    def origin_of(disk):
+        if not os.path.exists(disk):
+            return 0
+        with open(disk, "rb") as file:
+            return origin_in(file.read())
+
+    @staticmethod
+    def parts_of(disk):
+        """Returns the paths of the archived parts by their times. A disk that has the name of a part too, is none yet."""
+        parts = {}
+        for path in sorted(glob.glob(f"{glob.escape(disk)}.{'[0-9]' * 13}")):
+            if not os.path.exists(disk) or not os.path.samefile(path, disk):
+                parts[int(path[-13:])] = path
+        return parts
+
+    def look(self, disk):
+        """Judges the file of a disk, or of a part."""
+        origin = self.origin_of(disk)
+        return self.judge(start(self.program, "log", self.path, disk), start(self.program, "show", self.path, disk), origin)
+
+    def look_with_end(self, disk):
+        """Judges a disk and its parts: each goes on from the one before it, and none is missing. Parts that are not removed yet are
+        whole too."""
+        when, detail = self.look(disk)
+        if when is None:
+            return when, detail, 0
+        parts, before, kept = self.parts_of(disk), self.origin_of(disk), 0
+        while before and (self.keep is None or kept < self.keep):
+            if before not in parts:
+                raise Wrong(f"the disk or a part goes on from {before}, but there is no part up to there, only {sorted(parts)}")
+            before, kept = self.look_at_part(parts.pop(before), before), kept + 1
+        if parts and self.keep is None:
+            raise Wrong(f"the parts {sorted(parts)} are those of no disk")
+        for time, path in parts.items():
+            self.look_at_part(path, time)
+        return when, detail, self.end
+
+    def look_at_part(self, path, time):
+        """Judges a part. Returns the time from which it goes on."""
+        seen = self.look(path)
+        if seen[0] != time:
+            raise Wrong(f"the part up to {time} has {seen}")
+        return self.origin_of(path)
+
+    def verify(self, disk):
+        """Checks that `verify` finds a disk and each part to go on from the part before it, if that is there."""
+        parts = self.parts_of(disk)
+        for path in [disk, *parts.values()]:
+            origin = self.origin_of(path)
+            before = ["--after", parts[origin]] if origin in parts else []
+            when, events = self.look(path)
+            earlier = len(self.log_below(origin))
+            expected = b"verified: committed %d events %d\n" % (when, events - earlier)
+            if before:
+                expected += b"goes on from %d events %d\n" % (origin, earlier)
+            elif origin:
+                expected += b"from the origin at %d\n" % origin
+            result = start(self.program, "verify", self.path, path, *before)
+            if result != (0, expected, b""):
+                raise Wrong(f"verify ends with {result}, in place of {expected!r}")
+
+    def run_to_end(self, disk, *options):
+        """Runs a disk to its end, and compares the disk and its parts with what `seq` prints."""
+        words = ["run", self.path, disk, "--archive-when-full", *options]
+        status, out, err = start(self.program, *words, *(["--keep", self.keep] if self.keep is not None else []))
+        if status or not re.fullmatch(rb"(archived up to \d+, with \d+ events so far\n)*", err):
+            raise Wrong(f"run {' '.join(map(str, options))} prints {err!r} with status {status}")
+        when, events, _ = self.look_with_end(disk)
+        if when != self.end or events != len(self.lines):
+            raise Wrong(f"run {' '.join(map(str, options))} ends at {when} with {events} events")
         return out
 
 
