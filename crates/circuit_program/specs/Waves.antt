@@ -1,5 +1,6 @@
 -- What the command `wave` prints.
-use Rattle.std.specs.Prelude.{◌≡◌, ◌≤◌, ◌⊎◌, ℕ, List, map, string_bytes}
+use Rattle.std.specs.Prelude.{◌≡◌, ◌≤◌, ◌⊎◌, ℕ, List, None, map, string_bytes}
+use Rattle.segments.specs.Archiving.{IsOriginOn}
 use Rattle.circuit.specs.Circuit.{circuit_meaning, netlist_of}
 use Rattle.circuit.specs.CircuitFile.{IsCircuitTable}
 use Rattle.circuit.specs.Wave.{wave_text}
@@ -14,9 +15,11 @@ use Rattle.texts.specs.ModelFile.{IsModelFile}
 abbrev pub meaning_of : Circuit → Meaning
 meaning_of c = circuit_meaning (netlist_of c.gates.items c.wires.items c.digest)
 
--- The image of some disk is replayed to this world. A genuine image represents it.
+-- The image of some disk is replayed to this world, and begins with no origin, so that its log has
+-- all events up to there. A genuine image represents the world.
 pub record IsOnDisk (m : Meaning) (end : ℕ) (w : World) : Type 0 where
   pub image : List (List ℕ)
+  pub begins : IsOriginOn m.lps image None
   pub replayed : IsReplayedTo m end image w
   pub genuine : IsGenuine m end image → RepresentsUpto m end image w
 

@@ -1,18 +1,21 @@
 // The command `wave`.
 
-ghost use Rattle.std.specs.Prelude.{◌≡◌, ◌≤◌, ◌⊎◌, ◌^◌, IfOk, IsOkUnless, OnErr, OnOk};
+ghost use Rattle.std.specs.Prelude.{◌≡◌, ◌≤◌, ◌⊎◌, ◌^◌, ℕ, IfOk, IsOkUnless, None, Ok, OnErr, OnOk};
 ghost use Rattle.std.specs.Prelude.{string_bytes};
 ghost use Rattle.circuit_program.specs.Waves.{meaning_of, IsWave, IsWaveOf};
 ghost use Rattle.eventkey.specs.Writing.{Writes};
 ghost use Rattle.model.specs.World.{IsUpto};
-ghost use Rattle.program.specs.declared.fault.Fault.TheVariants.{Output};
+ghost use Rattle.disk_commands.specs.declared.fault.Fault.TheVariants.{Output};
 ghost use Rattle.views.specs.Views.{Begins, Prints};
 
 use circuit::Circuit;
+use cli::ModelFile;
 use commands::{Simulated, committed};
 use disk::FileDisk;
-use model::World;
-use program::{Fault, print_fault, simulated};
+use model::{Origin, World};
+use program::{Fault, SegmentFault, of_command, print_fault, simulated};
+use recovery::RecoveryFault;
+use segments::archiving::origin_on;
 use std::alloc::Global;
 use std::fs::File;
 use std::io::{self, BufWriter, Print, Write};
@@ -58,7 +61,8 @@ Usage: circuits wave MODEL [DISK]
 /// whole simulation.
 ///
 /// Returns, in this order, the faults of the model file (`File`, `BadModel`), those of the disk
-/// (`File`, `Log`, `Recovery`) or the plain runner (`World`), and `Output` if the writer refuses.
+/// (`File`, `Log`, `Recovery`, `Segment Begins`) or the plain runner (`World`), and `Output` if the
+/// writer refuses.
 /// Returns `NoMemory` if an allocation fails. At every fault but `Output` nothing is written.
 fn print_wave<R, O>(rt: &R, model: &str, disk: Option<&str>, out: &mut O) -> Result<(), Fault>
 where
@@ -68,7 +72,7 @@ where
     ensures err { OnErr result ((out.new ≡ out.old)
         ⊎ Begins IsWave (O.contents out.old) (O.contents out.new)) }
 {
-    let of: Simulated<Circuit> = simulated(rt, model)?;
+    let of: Simulated<Circuit> = simulated(rt, ModelFile::at(model))?;
     let text = match disk {
         Some(disk) => committed_wave(rt, &of, disk)?,
         None => whole_wave(rt, &of)?,
@@ -76,7 +80,8 @@ where
     print(text.as_str(), out)
 }
 
-/// Returns the wave up to the time committed on a disk.
+/// Returns the wave up to the time committed on a disk. Returns `Segment Begins` for one that begins
+/// with an origin: which values its pins had before is not on it.
 fn committed_wave<R>(rt: &R, of: &Simulated<Circuit>, disk: &str) -> Result<String, Fault>
 where
     R: Files<File = File> + AllocGlobal,
@@ -85,8 +90,25 @@ where
     ensures { IfOk result (λ text. IsWaveOf of.now.model of.now.end (string_bytes text)) }
 {
     let disk = FileDisk::open_to_read(rt, rt.alloc(), disk)?;
-    let front = committed(rt.alloc(), of, disk)?;
+    let (found, disk) = origin_on(rt.alloc(), &of.model, disk);
+    let front = match committed(rt.alloc(), of, disk) {
+        Ok(front) => front,
+        Err(fault) => return Err(of_command(fault)),
+    };
+    refuse_origin(found)?;
     Ok(circuit::wave(rt.alloc(), &of.model, front.g, front.log.as_slice())?)
+}
+
+/// Refuses a disk that begins with an origin. Returns the fault if that was not read.
+fn refuse_origin(found: Result<(Option<Origin>, u64), RecoveryFault>) -> Result<(), Fault>
+    ensures { OnOk result ((time : ℕ) × (found ≡ Ok (None, time))) }
+{
+    match found {
+        Ok((None, _)) => Ok(()),
+        Ok((Some(_), _)) => Err(Fault::Segment(SegmentFault::Begins)),
+        Err(RecoveryFault::Log(fault)) => Err(Fault::Log(fault)),
+        Err(fault) => Err(Fault::Recovery(fault)),
+    }
 }
 
 /// Returns the wave of a circuit's simulation up to its end.

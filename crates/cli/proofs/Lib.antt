@@ -1,3 +1,4 @@
 mod Flags
+mod Givens
 mod Lines
 mod Readings

@@ -3,7 +3,7 @@
 use Rattle.std.specs.Prelude.{◌≡◌, ◌⊎◌, ◌≤◌, ◌==◌, ◌&&◌, ◌||◌, ℕ, List, [], ◌∷◌, Option, Some, None}
 use Rattle.std.specs.Prelude.{Bool, true, false, not, nat_le, nat_lt, is_some, codes, option_map}
 use Rattle.std.specs.Prelude.{unwrap_or, option_and_then, if◌then◌else◌, IfSome, IsOkAnd, Result, ⊤}
-use Rattle.std.specs.List.{after_first, before_first}
+use Rattle.std.specs.List.{after_first, before_first, list_any}
 use Rattle.std.specs.Str.{bytes_eq}
 use Rattle.std.specs.Str.Parse.{digits_value, without_leading_plus}
 use Rattle.clap.specs.Kinds.{or_else}
@@ -14,7 +14,7 @@ use Rattle.clap.specs.Words.{AddsArg, AddsSubcommand, App, Kinds, Row, Rule, Tex
 use Rattle.clap.specs.Words.{fault_of, first_of, new_app, new_rule, one_of, subcommand_of}
 use Rattle.clap.specs.Words.{with_rule, with_subcommand}
 use Rattle.clap.specs.ValueTests.{accepts}
-use Rattle.clap.specs.declared.builder.action.ArgAction.TheVariants.{SetTrue}
+use Rattle.clap.specs.declared.builder.action.ArgAction.TheVariants.{Append, SetTrue}
 use Rattle.clap.specs.declared.builder.value_parser.ValueParser.{ValueParser}
 use Rattle.clap.specs.declared.builder.value_parser.ValueParser.TheVariants.{NonEmptyString}
 use Rattle.clap.specs.declared.builder.value_parser.ValueParser.TheVariants.{Unsigned}
@@ -33,6 +33,7 @@ use Rattle.cli.specs.declared.command.GrowArgs.{GrowArgs}
 use Rattle.cli.specs.declared.command.LogArgs.{LogArgs}
 use Rattle.cli.specs.declared.command.MigrateArgs.{MigrateArgs}
 use Rattle.cli.specs.declared.command.ModelArgs.{ModelArgs}
+use Rattle.cli.specs.declared.command.ModelFile.{ModelFile}
 use Rattle.cli.specs.declared.command.NewArgs.{NewArgs}
 use Rattle.cli.specs.declared.command.NodeArgs.{NodeArgs}
 use Rattle.cli.specs.declared.command.RecoverArgs.{RecoverArgs}
@@ -114,6 +115,14 @@ advice_option = flag (codes "advice")
 abbrev pub quiet_option : Rule
 quiet_option = flag (codes "quiet")
 
+-- values of the model file are set, as often as this is said
+abbrev pub set_option : Rule
+set_option = record (any_text (codes "set")) { action = Some Append; parser = Some NonEmptyString }
+
+-- the key of drawn numbers is set, 0 to 2^63 - 1
+abbrev pub seed_option : Rule
+seed_option = optional_number (codes "seed") 0 9223372036854775807
+
 -- disks may be large ones
 abbrev pub large_option : Rule
 large_option = flag (codes "large")
@@ -124,10 +133,12 @@ reserve_option = flag (codes "reserve")
 
 -- ---- the commands
 
--- a command on a model file, with or without advice, or quiet
+-- a command on a model file, of which values are set or not; with or without advice, or quiet
 abbrev pub on_model : Text → App
-on_model name = with_rule (with_rule (with_rule (new_app name)
+on_model name = with_rule (with_rule (with_rule (with_rule (with_rule (new_app name)
     (path_argument (codes "MODEL")))
+    set_option)
+    seed_option)
     advice_option)
     quiet_option
 
@@ -337,6 +348,49 @@ says_advice = says_flag (codes "--advice")
 -- faults are to be printed without their causes
 abbrev pub says_quiet : List Text → Bool
 says_quiet = says_flag (codes "--quiet")
+
+-- ---- what is set among the words
+
+-- the name of a value, and the text that it gets
+abbrev pub Setting : Type 0
+Setting = Text × Text
+
+-- the name before the first `=`, and the value after it
+abbrev pub setting_of : Text → Setting
+setting_of text = (before_first (λ b. b == 61) text, after_first (λ b. b == 61) text)
+
+-- what an option with this value sets
+abbrev pub setting_said : Text → Text → Option Setting
+setting_said option value = if bytes_eq option (codes "--set") then Some (setting_of value)
+    else if bytes_eq option (codes "--seed") then Some (codes "seed", value) else None
+
+-- what a word sets that is an option with its value after `=`
+abbrev pub set_alone : Text → Option Setting
+set_alone word = if list_any (λ b. b == 61) word
+    then setting_said (before_first (λ b. b == 61) word) (after_first (λ b. b == 61) word)
+    else None
+
+-- what a word sets that follows this one: it is the value of the option before it, or an option
+-- with its value
+abbrev pub set_by : Text → Text → Option Setting
+set_by before word = if bytes_eq before (codes "--set") then Some (setting_of word)
+    else if bytes_eq before (codes "--seed") then Some (codes "seed", word)
+    else set_alone word
+
+-- a setting, if there is one, and then these
+abbrev pub with_setting : Option Setting → List Setting → List Setting
+with_setting None settings = settings
+with_setting (Some setting) settings = setting ∷ settings
+
+-- what is set by words that follow this one, before any word `--`
+unfoldable pub settings_after : Text → List Text → List Setting
+settings_after before [] = []
+settings_after before (word ∷ rest) = if bytes_eq word (codes "--") then []
+    else with_setting (set_by before word) (settings_after word rest)
+
+-- what the words after the program's name set: `--set NAME=VALUE`, and `--seed N`
+abbrev pub settings_of : List Text → List Setting
+settings_of = settings_after []
 
 -- ---- building them
 
@@ -603,19 +657,22 @@ pub record IsFlagIn (id : Text) (rows : List Row) (value : Bool) : Type 0 where
   pub unused : one_of id rows ≡ Some (codes "false") → value ≡ false
   pub unread : one_of id rows ≡ None → value ≡ false
 
--- the model file, as clap gives it
+-- the path of the model file, as clap gives it
+abbrev pub SaysFile : ModelFile → List Row → Type 0
+SaysFile file rows = file.path.now ≡ text_in (codes "MODEL") rows
+
 abbrev pub SaysModel : ModelArgs → List Row → Type 0
-SaysModel args rows = args.model.now ≡ text_in (codes "MODEL") rows
+SaysModel args rows = SaysFile args.model rows
 
 -- the model file and the disk, and whether it may be a large one
 abbrev pub SaysDisk : DiskArgs → List Row → Type 0
-SaysDisk args rows = (args.model.now ≡ text_in (codes "MODEL") rows)
+SaysDisk args rows = SaysFile args.model rows
     × (args.disk.now ≡ text_in (codes "DISK") rows)
     × IsFlagIn (codes "large") rows args.large
 
 -- the same where a disk need not be given
 abbrev pub SaysSource : SourceArgs → List Row → Type 0
-SaysSource args rows = (args.model.now ≡ text_in (codes "MODEL") rows)
+SaysSource args rows = SaysFile args.model rows
     × (option_map (λ path. path.now) args.disk ≡ first_of (codes "DISK") rows)
     × IsFlagIn (codes "large") rows args.large
 
@@ -667,7 +724,7 @@ SaysGrow args rows = SaysDisk args.on rows × (args.sectors ≡ number_or (codes
     (most_sectors args.on.large) (most_sectors args.on.large) rows)
 
 abbrev pub SaysMigrate : MigrateArgs → List Row → Type 0
-SaysMigrate args rows = (args.model.now ≡ text_in (codes "MODEL") rows)
+SaysMigrate args rows = SaysFile args.model rows
     × (args.old.now ≡ text_in (codes "OLD") rows)
     × (args.new.now ≡ text_in (codes "NEW") rows)
     × SaysSectors args.sectors args.large rows
@@ -675,7 +732,7 @@ SaysMigrate args rows = (args.model.now ≡ text_in (codes "MODEL") rows)
     × IsFlagIn (codes "large") rows args.large
 
 abbrev pub SaysRecover : RecoverArgs → List Row → Type 0
-SaysRecover args rows = (args.model.now ≡ text_in (codes "MODEL") rows)
+SaysRecover args rows = SaysFile args.model rows
     × (args.old.now ≡ text_in (codes "DISK") rows)
     × (args.new.now ≡ text_in (codes "NEW") rows)
     × SaysSectors args.sectors args.large rows
@@ -708,7 +765,7 @@ SaysDraw args rows = SaysSource args.of rows
     × (option_map (λ path. path.now) args.trace ≡ first_of (codes "trace") rows)
 
 abbrev pub SaysNode : NodeArgs → List Row → Type 0
-SaysNode args rows = (args.model.now ≡ text_in (codes "MODEL") rows)
+SaysNode args rows = SaysFile args.model rows
     × (args.socket.now ≡ text_in (codes "SOCKET") rows)
     × (args.parcels ≡ number_in (codes "parcels") 1 4294967295 rows)
 
@@ -731,6 +788,26 @@ SaysRows (Draw args) name rows = (name ≡ codes "draw") × SaysDraw args rows
 SaysRows (Seq args) name rows = (name ≡ codes "seq") × SaysModel args rows
 SaysRows (Check args) name rows = (name ≡ codes "check") × SaysModel args rows
 SaysRows (Node args) name rows = (name ≡ codes "node") × SaysNode args rows
+
+-- the model file of a command
+abbrev pub model_of : Command → ModelFile
+model_of (New args) = args.on.model
+model_of (Run args) = args.on.model
+model_of (Extend args) = args.model
+model_of (Grow args) = args.on.model
+model_of (Migrate args) = args.model
+model_of (Reopen args) = args.model
+model_of (Cut args) = args.model
+model_of (Recover args) = args.model
+model_of (Status args) = args.model
+model_of (Verify args) = args.on.model
+model_of (Log args) = args.on.model
+model_of (Show args) = args.on.model
+model_of (Stats args) = args.of.model
+model_of (Draw args) = args.of.model
+model_of (Seq args) = args.model
+model_of (Check args) = args.model
+model_of (Node args) = args.model
 
 -- the command is the subcommand that clap finds in the words, for the program of this name, with
 -- its values

@@ -1,5 +1,8 @@
 // The commands and their arguments.
 
+ghost use Rattle.std.specs.Prelude.{◌≡◌, []};
+ghost use Rattle.cli.specs.Command.{model_of};
+
 /// A parsed command.
 #[derive(Clone, Copy, Debug, PartialEq, Eq)]
 pub enum Command<'a> {
@@ -39,18 +42,69 @@ pub enum Command<'a> {
     Node(NodeArgs<'a>),
 }
 
+impl<'a> Command<'a> {
+    /// The model file of the command.
+    pub fn model(self) -> ModelFile<'a>
+        ensures { result ≡ model_of self.entry }
+    {
+        match self {
+            Command::New(args) => args.on.model,
+            Command::Run(args) => args.on.model,
+            Command::Grow(args) => args.on.model,
+            Command::Migrate(args) => args.model,
+            Command::Recover(args) => args.model,
+            Command::Verify(args) => args.on.model,
+            Command::Log(args) => args.on.model,
+            Command::Show(args) => args.on.model,
+            Command::Stats(args) => args.of.model,
+            Command::Draw(args) => args.of.model,
+            Command::Seq(args) | Command::Check(args) => args.model,
+            Command::Node(args) => args.model,
+            Command::Extend(args)
+            | Command::Reopen(args)
+            | Command::Cut(args)
+            | Command::Status(args) => args.model,
+        }
+    }
+}
+
+/// What is set, in this order: each time the name of a value, and the text of the new one.
+pub type Settings<'a> = &'a [(&'a str, &'a str)];
+
+/// A model file, and what is set in place of values of its own.
+#[derive(Clone, Copy, Debug, PartialEq, Eq)]
+pub struct ModelFile<'a> {
+    /// The path of the file.
+    pub path: &'a str,
+    /// What is set.
+    pub settings: Settings<'a>,
+}
+
+impl<'a> ModelFile<'a> {
+    /// The model file of this path as it is.
+    pub fn at(path: &'a str) -> ModelFile<'a>
+        ensures path { result.path ≡ path.entry }
+        ensures unset { result.settings.now ≡ [] }
+    {
+        ModelFile {
+            path,
+            settings: &[],
+        }
+    }
+}
+
 /// The argument of a command on a model file alone.
 #[derive(Clone, Copy, Debug, PartialEq, Eq)]
 pub struct ModelArgs<'a> {
-    /// The path of the model file.
-    pub model: &'a str,
+    /// The model file.
+    pub model: ModelFile<'a>,
 }
 
 /// The arguments of a command on a model file and a disk, which other commands have too.
 #[derive(Clone, Copy, Debug, PartialEq, Eq)]
 pub struct DiskArgs<'a> {
-    /// The path of the model file.
-    pub model: &'a str,
+    /// The model file.
+    pub model: ModelFile<'a>,
     /// The path of the disk's file.
     pub disk: &'a str,
     /// Whether the disk may have up to 16,777,216 sectors instead of 131,072.
@@ -60,8 +114,8 @@ pub struct DiskArgs<'a> {
 /// The arguments of a command on the run of a disk, or on a run that the plain runner makes.
 #[derive(Clone, Copy, Debug, PartialEq, Eq)]
 pub struct SourceArgs<'a> {
-    /// The path of the model file.
-    pub model: &'a str,
+    /// The model file.
+    pub model: ModelFile<'a>,
     /// The path of the disk's file; none for a run by the plain runner.
     pub disk: Option<&'a str>,
     /// Whether the disk may have up to 16,777,216 sectors instead of 131,072.
@@ -172,8 +226,8 @@ pub struct GrowArgs<'a> {
 /// The arguments of `migrate`.
 #[derive(Clone, Copy, Debug, PartialEq, Eq)]
 pub struct MigrateArgs<'a> {
-    /// The path of the model file.
-    pub model: &'a str,
+    /// The model file.
+    pub model: ModelFile<'a>,
     /// The path of the file of the disk of format 1.
     pub old: &'a str,
     /// The path of the file of the disk of format 2.
@@ -190,8 +244,8 @@ pub struct MigrateArgs<'a> {
 /// The arguments of `recover`.
 #[derive(Clone, Copy, Debug, PartialEq, Eq)]
 pub struct RecoverArgs<'a> {
-    /// The path of the model file.
-    pub model: &'a str,
+    /// The model file.
+    pub model: ModelFile<'a>,
     /// The path of the file of the damaged disk.
     pub old: &'a str,
     /// The path of the file of the new disk.
@@ -270,8 +324,8 @@ pub struct DrawArgs<'a> {
 /// The arguments of `node`.
 #[derive(Clone, Copy, Debug, PartialEq, Eq)]
 pub struct NodeArgs<'a> {
-    /// The path of the model file.
-    pub model: &'a str,
+    /// The model file.
+    pub model: ModelFile<'a>,
     /// The path of the socket.
     pub socket: &'a str,
     /// The maximum number of parcels that are answered, at least 1.

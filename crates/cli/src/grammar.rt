@@ -9,7 +9,8 @@ ghost use Rattle.cli.specs.Command.{grow_command, large_option, migrate_command,
 ghost use Rattle.cli.specs.Command.{most_sectors, on_any_disk, origin_option};
 ghost use Rattle.cli.specs.Command.{new_command, node_command, number_option, on_disk, on_model};
 ghost use Rattle.cli.specs.Command.{optional_argument, optional_number, optional_text};
-ghost use Rattle.cli.specs.Command.{quiet_option, recover_command, reserve_option};
+ghost use Rattle.cli.specs.Command.{quiet_option, recover_command, reserve_option, seed_option};
+ghost use Rattle.cli.specs.Command.{set_option};
 ghost use Rattle.cli.specs.Command.{reserved_option, run_apart, run_command, run_kept, run_made};
 ghost use Rattle.cli.specs.Command.{run_stored, path_argument, program_of};
 ghost use Rattle.cli.specs.Command.{show_command, stats_command, text_option, time_option};
@@ -119,6 +120,8 @@ Faults:
                nodes reported what the model does not do); or 'extend' does: EndRefused (the end
                is not a later one), or as a run
   Node N OtherModel  the program of node N is of another simulation than its run
+  Setting N ..  the Nth of --set and --seed: NoSuchKey (the model file has neither a key nor a number
+               of this name), OtherKind (it has another kind of value there)
   Segment ..   NotTheNext (a disk does not go on from the one before it), or TooLong (a world has
                no room in the first record of a disk)
   Rounds       all rounds of a run are made, and it is not at its end
@@ -506,7 +509,10 @@ Output, all numbers decimal:
   events before N                           and how many events came before that
 
 In place of 'full at about ..' it prints 'room to the end at the pace of the last L commits' where
-the rest of the run has room, and neither where nothing is committed or the run is at its end.";
+the rest of the run has room, and neither where nothing is committed or the run is at its end.
+
+Room is counted in sectors of the disk, and not in bytes of the device with its file: a device
+that is full sooner ends the run, unless 'new --reserve' has reserved the whole file.";
 
 /// The command `log`.
 fn log<'a>(alloc: Global) -> Result<ClapCommand<'a>, AllocError>
@@ -742,6 +748,8 @@ fn on_model<'a>(
 {
     let command = ClapCommand::new(alloc, name).about(about).after_help(help);
     let command = with_argument(Ok(command), path(alloc, "MODEL", MODEL_HELP));
+    let command = with_argument(command, set_option(alloc));
+    let command = with_argument(command, seed_option(alloc));
     let command = with_argument(command, advice_option(alloc));
     with_argument(command, quiet_option(alloc))
 }
@@ -797,6 +805,28 @@ fn with_option<'a>(
 {
     with_argument(command, option.help_heading(heading))
 }
+
+/// The option for values of the model file, which each command has, as often as it is said.
+fn set_option<'a>(alloc: Global) -> Arg<'a>
+    ensures rule { rule_of result ≡ set_option }
+    ensures local { result.global ≡ false }
+{
+    optional_text(alloc, "set", "K=V", SET_HELP)
+        .action(ArgAction::Append)
+        .display_order(997)
+}
+
+/// The option for the key of the numbers that a model draws, which each command has.
+fn seed_option<'a>(alloc: Global) -> Arg<'a>
+    ensures rule { rule_of result ≡ seed_option }
+    ensures local { result.global ≡ false }
+{
+    optional_number(alloc, "seed", "N", 0, 9_223_372_036_854_775_807, SEED_HELP).display_order(997)
+}
+
+const SET_HELP: &str = "Sets the key K of MODEL, or K of its [numbers], to V; may be repeated";
+
+const SEED_HELP: &str = "Sets the key seed of MODEL to N, 0 to 9223372036854775807";
 
 /// The flag for advice after a fault, which each command has. In the help it comes before `--help`.
 fn advice_option<'a>(alloc: Global) -> Arg<'a>

@@ -35,7 +35,7 @@ pub fn help_text<S: AsStr>(alloc: Global, texts: Texts<'_>, words: &[S]) -> Resu
 
 /// The help that these words ask `clap` for, or its error.
 fn text_of<'a>(alloc: Global, texts: Texts<'a>, words: &'a [&'a str]) -> Result<String, Error> {
-    match read_command(alloc, texts, words) {
+    match read_command(alloc, texts, words, &[]) {
         Ok(_) => Err(error_of(
             alloc,
             texts.name,

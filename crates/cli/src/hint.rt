@@ -45,6 +45,7 @@ const NUMBERS: &[&str] = &[
     "to",
     "process",
     "parcels",
+    "seed",
 ];
 
 /// What to write in place of the first word for which there is a hint. The first word is the

@@ -8,17 +8,19 @@ mod grammar;
 mod helping;
 mod hint;
 mod reading;
+mod settings;
 mod topics;
 mod values;
 mod words;
 
 pub use command::{
-    BatchOption, Command, DiskArgs, DrawArgs, GrowArgs, LogArgs, MigrateArgs, ModelArgs, NewArgs,
-    NodeArgs, RecoverArgs, RunArgs, ShowArgs, SourceArgs, StatsArgs, VerifyArgs,
+    BatchOption, Command, DiskArgs, DrawArgs, GrowArgs, LogArgs, MigrateArgs, ModelArgs, ModelFile,
+    NewArgs, NodeArgs, RecoverArgs, RunArgs, Settings, ShowArgs, SourceArgs, StatsArgs, VerifyArgs,
 };
 pub use grammar::{Texts, most_sectors, program_help, seq_help};
 pub use helping::help_text;
 pub use hint::{Hint, hint_of};
 pub use reading::read_command;
+pub use settings::settings_of;
 pub use topics::{TOPICS, Topic, asks_help, topic_of};
 pub use words::{says_advice, says_quiet};

@@ -2,15 +2,16 @@
 
 ghost use Rattle.std.specs.Prelude.{◌≡◌, ◌≤◌, map, IfOk};
 ghost use Rattle.clap.specs.Words.{found_of, rows_of, FailsBy};
-ghost use Rattle.cli.specs.Command.{refusal_of, IsDrawRanged, IsLogRanged, IsNamed, IsRanged};
+ghost use Rattle.cli.specs.Command.{model_of, refusal_of, IsDrawRanged, IsLogRanged, IsNamed};
+ghost use Rattle.cli.specs.Command.{IsRanged, SaysFile};
 ghost use Rattle.cli.specs.Command.{IsRunRanged, IsSized, Says, SaysDisk, SaysDraw, SaysGrow};
 ghost use Rattle.cli.specs.Command.{SaysLog, SaysMigrate, SaysModel, SaysNew, SaysNode};
 ghost use Rattle.cli.specs.Command.{SaysRecover, SaysRows, SaysRun, SaysShow, SaysSource};
 ghost use Rattle.cli.specs.Command.{SaysStats, SaysVerify};
 
 use crate::command::{
-    Command, DiskArgs, DrawArgs, GrowArgs, LogArgs, MigrateArgs, ModelArgs, NewArgs, NodeArgs,
-    RecoverArgs, RunArgs, ShowArgs, SourceArgs, StatsArgs, VerifyArgs,
+    Command, DiskArgs, DrawArgs, GrowArgs, LogArgs, MigrateArgs, ModelArgs, ModelFile, NewArgs,
+    NodeArgs, RecoverArgs, RunArgs, Settings, ShowArgs, SourceArgs, StatsArgs, VerifyArgs,
 };
 use crate::company::LAST_TIME;
 use crate::grammar::{Texts, most_sectors, program};
@@ -23,7 +24,8 @@ use std::alloc::Global;
 use std::convert::AsStr;
 
 /// Returns the command that the words name, with its values. The first word is the program's own
-/// name, and `texts` are the texts of its help.
+/// name, and `texts` are the texts of its help. The model file of the command gets these settings,
+/// which `settings_of` finds in the words.
 ///
 /// If they name none, returns `clap`'s error: its text says what is wrong, or is the help or the
 /// version that was asked for (of the kinds `DisplayHelp` and `DisplayVersion`). Then come an invalid
@@ -38,9 +40,11 @@ pub fn read_command<'a, S: AsStr>(
     alloc: Global,
     texts: Texts<'a>,
     words: &'a [S],
+    settings: Settings<'a>,
 ) -> Result<Command<'a>, Error>
     ensures ok { IfOk result (Says texts.entry.name.now (map S.text words.entry.now)) }
     ensures ranged { IfOk result IsRanged }
+    ensures set { IfOk result (λ command. (model_of command).settings ≡ settings.entry) }
     ensures refused { FailsBy (refusal_of texts.entry.name.now (map S.text words.entry.now))
         result }
 {
@@ -48,76 +52,92 @@ pub fn read_command<'a, S: AsStr>(
     match matches.subcommand() {
         Some((name, values)) => match refusal(alloc, texts.name, values) {
             Some(error) => Err(error),
-            None => Ok(command_of(name, values)),
+            None => Ok(command_of(name, values, settings)),
         },
         None => unreachable!(),
     }
 }
 
 /// The command of this name with these values.
-fn command_of<'a>(name: &str, values: &ArgMatches<'a>) -> Command<'a>
+fn command_of<'a>(name: &str, values: &ArgMatches<'a>, settings: Settings<'a>) -> Command<'a>
     requires { IsNamed name.now }
     ensures says { SaysRows result name.now (rows_of (found_of values.now)) }
     ensures ranged { IsRanged result }
+    ensures set { (model_of result).settings ≡ settings.entry }
 {
     match name {
-        "new" => Command::New(new_args(values)),
-        "run" => Command::Run(run_args(values)),
-        "extend" => Command::Extend(disk_args(values)),
-        "grow" => Command::Grow(grow_args(values)),
-        "migrate" => Command::Migrate(migrate_args(values)),
-        "reopen" => Command::Reopen(disk_args(values)),
-        "cut" => Command::Cut(disk_args(values)),
-        "recover" => Command::Recover(recover_args(values)),
-        "status" => Command::Status(disk_args(values)),
-        "verify" => Command::Verify(verify_args(values)),
-        "log" => Command::Log(log_args(values)),
-        "show" => Command::Show(show_args(values)),
-        "stats" => Command::Stats(stats_args(values)),
-        "draw" => Command::Draw(draw_args(values)),
-        "seq" => Command::Seq(model_args(values)),
-        "check" => Command::Check(model_args(values)),
-        _ => Command::Node(node_args(values)),
+        "new" => Command::New(new_args(values, settings)),
+        "run" => Command::Run(run_args(values, settings)),
+        "extend" => Command::Extend(disk_args(values, settings)),
+        "grow" => Command::Grow(grow_args(values, settings)),
+        "migrate" => Command::Migrate(migrate_args(values, settings)),
+        "reopen" => Command::Reopen(disk_args(values, settings)),
+        "cut" => Command::Cut(disk_args(values, settings)),
+        "recover" => Command::Recover(recover_args(values, settings)),
+        "status" => Command::Status(disk_args(values, settings)),
+        "verify" => Command::Verify(verify_args(values, settings)),
+        "log" => Command::Log(log_args(values, settings)),
+        "show" => Command::Show(show_args(values, settings)),
+        "stats" => Command::Stats(stats_args(values, settings)),
+        "draw" => Command::Draw(draw_args(values, settings)),
+        "seq" => Command::Seq(model_args(values, settings)),
+        "check" => Command::Check(model_args(values, settings)),
+        _ => Command::Node(node_args(values, settings)),
+    }
+}
+
+/// The model file of a command.
+fn model_file<'a>(values: &ArgMatches<'a>, settings: Settings<'a>) -> ModelFile<'a>
+    ensures says { SaysFile result (rows_of (found_of values.now)) }
+    ensures set { result.settings ≡ settings.entry }
+{
+    ModelFile {
+        path: text(values, "MODEL"),
+        settings,
     }
 }
 
 /// The argument of a command on a model file alone.
-fn model_args<'a>(values: &ArgMatches<'a>) -> ModelArgs<'a>
-    ensures { SaysModel result (rows_of (found_of values.now)) }
+fn model_args<'a>(values: &ArgMatches<'a>, settings: Settings<'a>) -> ModelArgs<'a>
+    ensures says { SaysModel result (rows_of (found_of values.now)) }
+    ensures set { result.model.settings ≡ settings.entry }
 {
     ModelArgs {
-        model: text(values, "MODEL"),
+        model: model_file(values, settings),
     }
 }
 
 /// The arguments of a command on a model file and a disk.
-fn disk_args<'a>(values: &ArgMatches<'a>) -> DiskArgs<'a>
-    ensures { SaysDisk result (rows_of (found_of values.now)) }
+fn disk_args<'a>(values: &ArgMatches<'a>, settings: Settings<'a>) -> DiskArgs<'a>
+    ensures says { SaysDisk result (rows_of (found_of values.now)) }
+    ensures set { result.model.settings ≡ settings.entry }
 {
     DiskArgs {
-        model: text(values, "MODEL"),
+        model: model_file(values, settings),
         disk: text(values, "DISK"),
         large: is_flagged(values, "large"),
     }
 }
 
 /// The arguments of a command on a run of a model file, on a disk or not.
-fn source_args<'a>(values: &ArgMatches<'a>) -> SourceArgs<'a>
-    ensures { SaysSource result (rows_of (found_of values.now)) }
+fn source_args<'a>(values: &ArgMatches<'a>, settings: Settings<'a>) -> SourceArgs<'a>
+    ensures says { SaysSource result (rows_of (found_of values.now)) }
+    ensures set { result.model.settings ≡ settings.entry }
 {
     SourceArgs {
-        model: text(values, "MODEL"),
+        model: model_file(values, settings),
         disk: optional_text(values, "DISK"),
         large: is_flagged(values, "large"),
     }
 }
 
 /// The arguments of `new`.
-fn new_args<'a>(values: &ArgMatches<'a>) -> NewArgs<'a>
+fn new_args<'a>(values: &ArgMatches<'a>, settings: Settings<'a>) -> NewArgs<'a>
     ensures says { SaysNew result (rows_of (found_of values.now)) }
     ensures ranged { IsSized result.sectors result.on.large }
+    ensures set { result.on.model.settings ≡ settings.entry }
 {
-    let on = disk_args(values);
+    let on = disk_args(values, settings);
     let sectors = small_number(values, "sectors", 8, most_sectors(on.large));
     NewArgs {
         on,
@@ -129,11 +149,12 @@ fn new_args<'a>(values: &ArgMatches<'a>) -> NewArgs<'a>
 }
 
 /// The arguments of `run`.
-fn run_args<'a>(values: &ArgMatches<'a>) -> RunArgs<'a>
+fn run_args<'a>(values: &ArgMatches<'a>, settings: Settings<'a>) -> RunArgs<'a>
     ensures says { SaysRun result (rows_of (found_of values.now)) }
     ensures ranged { IsRunRanged result }
+    ensures set { result.on.model.settings ≡ settings.entry }
 {
-    let on = disk_args(values);
+    let on = disk_args(values, settings);
     RunArgs {
         on,
         nodes: small_number_or(values, "nodes", 1, 64, 1),
@@ -165,24 +186,26 @@ fn run_args<'a>(values: &ArgMatches<'a>) -> RunArgs<'a>
 }
 
 /// The arguments of `grow`.
-fn grow_args<'a>(values: &ArgMatches<'a>) -> GrowArgs<'a>
+fn grow_args<'a>(values: &ArgMatches<'a>, settings: Settings<'a>) -> GrowArgs<'a>
     ensures says { SaysGrow result (rows_of (found_of values.now)) }
     ensures ranged { IsSized result.sectors result.on.large }
+    ensures set { result.on.model.settings ≡ settings.entry }
 {
-    let on = disk_args(values);
+    let on = disk_args(values, settings);
     let most = most_sectors(on.large);
     let sectors = small_number_or(values, "sectors", 8, most, most);
     GrowArgs { on, sectors }
 }
 
 /// The arguments of `migrate`.
-fn migrate_args<'a>(values: &ArgMatches<'a>) -> MigrateArgs<'a>
+fn migrate_args<'a>(values: &ArgMatches<'a>, settings: Settings<'a>) -> MigrateArgs<'a>
     ensures says { SaysMigrate result (rows_of (found_of values.now)) }
     ensures ranged { IsSized result.sectors result.large }
+    ensures set { result.model.settings ≡ settings.entry }
 {
     let large = is_flagged(values, "large");
     MigrateArgs {
-        model: text(values, "MODEL"),
+        model: model_file(values, settings),
         old: text(values, "OLD"),
         new: text(values, "NEW"),
         sectors: small_number(values, "sectors", 8, most_sectors(large)),
@@ -192,13 +215,14 @@ fn migrate_args<'a>(values: &ArgMatches<'a>) -> MigrateArgs<'a>
 }
 
 /// The arguments of `recover`.
-fn recover_args<'a>(values: &ArgMatches<'a>) -> RecoverArgs<'a>
+fn recover_args<'a>(values: &ArgMatches<'a>, settings: Settings<'a>) -> RecoverArgs<'a>
     ensures says { SaysRecover result (rows_of (found_of values.now)) }
     ensures ranged { IsSized result.sectors result.large }
+    ensures set { result.model.settings ≡ settings.entry }
 {
     let large = is_flagged(values, "large");
     RecoverArgs {
-        model: text(values, "MODEL"),
+        model: model_file(values, settings),
         old: text(values, "DISK"),
         new: text(values, "NEW"),
         sectors: small_number(values, "sectors", 8, most_sectors(large)),
@@ -208,22 +232,24 @@ fn recover_args<'a>(values: &ArgMatches<'a>) -> RecoverArgs<'a>
 }
 
 /// The arguments of `verify`.
-fn verify_args<'a>(values: &ArgMatches<'a>) -> VerifyArgs<'a>
-    ensures { SaysVerify result (rows_of (found_of values.now)) }
+fn verify_args<'a>(values: &ArgMatches<'a>, settings: Settings<'a>) -> VerifyArgs<'a>
+    ensures says { SaysVerify result (rows_of (found_of values.now)) }
+    ensures set { result.on.model.settings ≡ settings.entry }
 {
     VerifyArgs {
-        on: disk_args(values),
+        on: disk_args(values, settings),
         after: optional_text(values, "after"),
     }
 }
 
 /// The arguments of `log`.
-fn log_args<'a>(values: &ArgMatches<'a>) -> LogArgs<'a>
+fn log_args<'a>(values: &ArgMatches<'a>, settings: Settings<'a>) -> LogArgs<'a>
     ensures says { SaysLog result (rows_of (found_of values.now)) }
     ensures ranged { IsLogRanged result }
+    ensures set { result.on.model.settings ≡ settings.entry }
 {
     LogArgs {
-        on: disk_args(values),
+        on: disk_args(values, settings),
         from: optional_number(values, "from", 0, LAST_TIME),
         to: optional_number(values, "to", 0, LAST_TIME),
         process: optional_small_number(values, "process", 0, u32::MAX),
@@ -232,33 +258,36 @@ fn log_args<'a>(values: &ArgMatches<'a>) -> LogArgs<'a>
 }
 
 /// The arguments of `show`.
-fn show_args<'a>(values: &ArgMatches<'a>) -> ShowArgs<'a>
-    ensures { SaysShow result (rows_of (found_of values.now)) }
+fn show_args<'a>(values: &ArgMatches<'a>, settings: Settings<'a>) -> ShowArgs<'a>
+    ensures says { SaysShow result (rows_of (found_of values.now)) }
+    ensures set { result.on.model.settings ≡ settings.entry }
 {
     ShowArgs {
-        on: disk_args(values),
+        on: disk_args(values, settings),
         names: is_flagged(values, "names"),
     }
 }
 
 /// The arguments of `stats`.
-fn stats_args<'a>(values: &ArgMatches<'a>) -> StatsArgs<'a>
-    ensures { SaysStats result (rows_of (found_of values.now)) }
+fn stats_args<'a>(values: &ArgMatches<'a>, settings: Settings<'a>) -> StatsArgs<'a>
+    ensures says { SaysStats result (rows_of (found_of values.now)) }
+    ensures set { result.of.model.settings ≡ settings.entry }
 {
     StatsArgs {
-        of: source_args(values),
+        of: source_args(values, settings),
         csv: is_text(optional_text(values, "format"), "csv"),
         names: is_flagged(values, "names"),
     }
 }
 
 /// The arguments of `draw`.
-fn draw_args<'a>(values: &ArgMatches<'a>) -> DrawArgs<'a>
+fn draw_args<'a>(values: &ArgMatches<'a>, settings: Settings<'a>) -> DrawArgs<'a>
     ensures says { SaysDraw result (rows_of (found_of values.now)) }
     ensures ranged { IsDrawRanged result }
+    ensures set { result.of.model.settings ≡ settings.entry }
 {
     DrawArgs {
-        of: source_args(values),
+        of: source_args(values, settings),
         from: optional_number(values, "from", 0, LAST_TIME),
         to: optional_number(values, "to", 0, LAST_TIME),
         processes: range(values),
@@ -268,12 +297,13 @@ fn draw_args<'a>(values: &ArgMatches<'a>) -> DrawArgs<'a>
 }
 
 /// The arguments of `node`.
-fn node_args<'a>(values: &ArgMatches<'a>) -> NodeArgs<'a>
+fn node_args<'a>(values: &ArgMatches<'a>, settings: Settings<'a>) -> NodeArgs<'a>
     ensures says { SaysNode result (rows_of (found_of values.now)) }
     ensures ranged { 1 ≤ result.parcels }
+    ensures set { result.model.settings ≡ settings.entry }
 {
     NodeArgs {
-        model: text(values, "MODEL"),
+        model: model_file(values, settings),
         socket: text(values, "SOCKET"),
         parcels: small_number(values, "parcels", 1, u32::MAX),
     }

@@ -5,7 +5,7 @@ use Rattle.std.specs.Prelude.{◌≡◌, ◌≢◌, ◌≤◌, ◌^◌, ℕ, Lis
 use Rattle.commands.specs.Commands.{IsBlankOrRepresents, IsNotRecovered, PrintsExtended, extended_text}
 use Rattle.commands.specs.Commands.{IsKeptCommand, of_run, stopped_in}
 use Rattle.commands.specs.declared.fault.CommandFault.{CommandFault}
-use Rattle.commands.specs.declared.fault.CommandFault.TheVariants.{Stopped}
+use Rattle.commands.specs.declared.fault.CommandFault.TheVariants.{Rounds, Session, Stopped}
 use Rattle.runs.specs.declared.rounds.RunFault.{RunFault}
 use Rattle.runs.specs.declared.rounds.RunFault.TheVariants as run
 use Rattle.std.specs.Result.{IsErrOf}
@@ -20,6 +20,7 @@ use Rattle.recovery.specs.Crashes.{KeepsRecovery}
 use Rattle.recovery.specs.Represents.{Recovers, RepresentsAtLeast}
 use Rattle.coordinator.specs.Extending.{IsExtended, KeepsRecords}
 use Rattle.coordinator.specs.Opening.{IsAtFault, LeavesExactly}
+use Rattle.coordinator.specs.declared.SessionFault.{SessionFault}
 use Rattle.disk.specs.Disk.{DiskState, IsDisk, IsSynced, LeavesOnly, MayLeave, OnlyLooks}
 use Rattle.disk.specs.Laws.{reads_left, weaker}
 use Rattle.eventkey.specs.Message.{Message}
@@ -60,6 +61,29 @@ stop_of (run.Stopped t n) time events is = cc
 
 pub asked_to_stop : {T : Type 0} (fault : RunFault) (own : CommandFault) (time events : ℕ) → own ≡ of_run fault → ◌≡◌ {A = Result T CommandFault} (Err own) (Err (Stopped time events)) → fault ≡ run.Stopped time events
 asked_to_stop fault own time events own_is is = (let same : own ≡ Stopped time events = cc in stop_of fault time events (sym own_is ∙ same))
+
+-- only a session's fault is reported as one, and only the last round as `Rounds`
+session_of : (fault : RunFault) (cause : SessionFault) → of_run fault ≡ Session cause → fault ≡ run.Session cause
+session_of (run.Session f) cause is = cc
+session_of run.Rounds cause is = absurd cc
+session_of run.NoMemory cause is = absurd cc
+session_of (run.Stopped t n) cause is = absurd cc
+
+rounds_of : (fault : RunFault) → of_run fault ≡ Rounds → fault ≡ run.Rounds
+rounds_of (run.Session f) is = absurd cc
+rounds_of run.Rounds is = refl
+rounds_of run.NoMemory is = absurd cc
+rounds_of (run.Stopped t n) is = absurd cc
+
+pub refused_by_session : {T : Type 0} (fault : RunFault) (own : CommandFault) (cause : SessionFault) → own ≡ of_run fault → ◌≡◌ {A = Result T CommandFault} (Err own) (Err (Session cause)) → fault ≡ run.Session cause
+refused_by_session fault own cause own_is is = (let same : own ≡ Session cause = cc in session_of fault cause (sym own_is ∙ same))
+
+pub made_all_rounds : {T : Type 0} (fault : RunFault) (own : CommandFault) → own ≡ of_run fault → ◌≡◌ {A = Result T CommandFault} (Err own) (Err Rounds) → fault ≡ run.Rounds
+made_all_rounds fault own own_is is = (let same : own ≡ Rounds = cc in rounds_of fault (sym own_is ∙ same))
+
+-- a run failed with this fault of its own
+pub failed_with : {T : Type 0} (r : Result T RunFault) (fault own : RunFault) → r ≡ Err fault → fault ≡ own → IsErrOf r own
+failed_with r fault own is same = is ∙ ap Err same
 
 pub stopped_first : {T : Type 0} (r : Result T RunFault) (fault : RunFault) (time events : ℕ) → r ≡ Err fault → fault ≡ run.Stopped time events → IsErrOf r (run.Stopped time events)
 stopped_first r fault time events is same = is ∙ ap Err same
@@ -187,6 +211,12 @@ stopped-same run.NoMemory = refl
 module _ (m : Meaning) (end : ℕ) (v : World) (old new : DiskState) (before after : Option (List ℕ)) where
   pub kept-faulty : (fault : RunFault) (own : CommandFault) → own ≡ of_run fault → IsKeptRun m end v old new (acknowledged (Err fault)) → IsKeptCommand m end v old new before after (Err own)
   kept-faulty fault own is kept = inr (own, refl, subst (IsKeptRun m end v old new) (sym (ap stopped_in is ∙ stopped-same fault)) kept)
+
+-- after a stop the front has the numbers of the fault
+pub kept-stopped : {T : Type 0} (m : Meaning) (end : ℕ) (v : World) (old new : DiskState) (fault : RunFault) (own : CommandFault) (time events : ℕ) → own ≡ of_run fault → IsKeptRun m end v old new (acknowledged (Err fault)) → ◌≡◌ {A = Result T CommandFault} (Err own) (Err (Stopped time events))
+    → IsKeptRun m end v old new (Some (time, events))
+kept-stopped m end v old new fault own time events own_is kept is =
+    subst (λ (f : RunFault). IsKeptRun m end v old new (acknowledged (Err f))) (asked_to_stop fault own time events own_is is) kept
 
 -- an extended disk acknowledges its front also if nothing could be printed
 pub kept-extended : {T : Type 0} (m : Meaning) (end : ℕ) (v front : World) (old new : DiskState) (r : Result T CommandFault) → IsKept m v (record { begun = old; ended = new; front = Some (in_force end front) })

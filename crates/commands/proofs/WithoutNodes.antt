@@ -1,6 +1,6 @@
 -- Runs without nodes, in the terms of runs over nodes.
 use Rattle.std.proofs.Common.{ap, inr, refl, subst, sym, ◌∙◌}
-use Rattle.std.specs.Prelude.{◌≡◌, ℕ, List, Option, Result, Err}
+use Rattle.std.specs.Prelude.{◌≡◌, ℕ, List, Option, Result, Err, Some}
 use Rattle.commands.specs.Commands.{IsKeptCommand, of_plain, stopped_in}
 use Rattle.disk.specs.Disk.{DiskState}
 use Rattle.model.specs.Meaning.{Meaning}
@@ -36,6 +36,12 @@ stopped-same plain.Disk = refl
 stopped-same plain.Commits = refl
 stopped-same (plain.Stopped time events) = refl
 stopped-same plain.NoMemory = refl
+
+-- after a stop the front has the numbers of the fault
+pub kept-stopped : {T : Type 0} (m : Meaning) (end : ℕ) (v : World) (old new : DiskState) (fault : PlainFault) (own : CommandFault) (time events : ℕ) → own ≡ of_plain fault → IsKeptRun m end v old new (acknowledged (Err fault)) → ◌≡◌ {A = Result T CommandFault} (Err own) (Err (Stopped time events))
+    → IsKeptRun m end v old new (Some (time, events))
+kept-stopped m end v old new fault own time events own_is kept is =
+    subst (λ (f : PlainFault). IsKeptRun m end v old new (acknowledged (Err f))) (asked_plainly fault own time events own_is is) kept
 
 module _ (m : Meaning) (end : ℕ) (v : World) (old new : DiskState) (before after : Option (List ℕ)) where
   pub kept-plainly : (fault : PlainFault) (own : CommandFault) → own ≡ of_plain fault → IsKeptRun m end v old new (acknowledged (Err fault)) → IsKeptCommand m end v old new before after (Err own)

@@ -19,7 +19,7 @@ use Rattle.plain.specs.Runs.{RunIsRefused}
 use Rattle.plain.specs.declared.PlainFault.{PlainFault}
 use Rattle.plain.specs.declared.PlainFault.TheVariants as plain
 use Rattle.plain.specs.declared.whole.Plan.{Plan as PlainPlan}
-use Rattle.runs.specs.Driver.{IsRunOver}
+use Rattle.runs.specs.Driver.{HasCounted, IsRunOver, RunHasCause}
 use Rattle.recovery.specs.Histories.{IsKeptRun, IsRunOf}
 use Rattle.runs.specs.declared.rounds.Plan.{Plan}
 use Rattle.runs.specs.declared.rounds.RunFault.{RunFault}
@@ -86,21 +86,24 @@ pub record BeginsCommitted (m : Meaning) (end : ℕ) (image : List (List ℕ)) (
   pub within : world.time ≤ end
   pub part : TakesBeginning old new (text world)
 
--- `Taken` holds of the output of a run from this image: how many messages each of `nodes` nodes
--- handled, the time reached, and the number of committed events. If the image is genuine, they are
--- those of the sequential simulation up to the end. A run without nodes is one over 0.
-pub record PrintsEndOfRun (m : Meaning) (end nodes : ℕ) (image : List (List ℕ))
+-- `Taken` holds of the output of a run on this disk: how many messages each of `nodes` nodes handled,
+-- the time reached, and the number of committed events. If the records were genuine, they are those
+-- of the sequential simulation up to the end. As a call of a history the run acknowledges the front
+-- that has them, whatever front was acknowledged last. A run without nodes is one over 0.
+pub record PrintsEndOfRun (m : Meaning) (end nodes : ℕ) (old new : DiskState)
     (Taken : List ℕ → Type 0) : Type 0 where
   pub ran : List ℕ
   pub time : ℕ
   pub events : ℕ
   pub each : length ran ≡ nodes
   pub reached : end ≤ time
-  pub genuine : IsGenuine m end image → IsRunOf m end time events
+  pub genuine : IsGenuine m end old.reads → IsRunOf m end time events
+  pub kept : (v : World) → IsKeptRun m end v old new (Some (time, events))
   pub taken : Taken (ran_text ran time events)
 
--- `Taken` holds of the output of a run over any ports: how many messages each node reported as
--- handled, the time reached, not before the end, and the number of committed events.
+-- `Taken` holds of the output of a run over any ports: how many messages each node handled, by its
+-- replies in the rounds that were made; the time reached, not before the end; and the number of
+-- committed events.
 pub record PrintsEndOfRunOver {M P D : Type 0} (meaning : M → Meaning) (state : P → PortState)
     (disk : D → DiskState) (model : M) (end : ℕ) (plan : Plan) (begun left : D)
     (Taken : List ℕ → Type 0) : Type 0 where
@@ -108,6 +111,7 @@ pub record PrintsEndOfRunOver {M P D : Type 0} (meaning : M → Meaning) (state 
   pub time : ℕ
   pub events : ℕ
   pub each : length ran ≡ plan.nodes
+  pub counted : HasCounted meaning state disk model end plan begun left ran
   pub over : IsRunOver meaning state disk model end plan begun left time events
   pub taken : Taken (ran_text ran time events)
 
@@ -180,6 +184,13 @@ of_plain plain.Disk = Session session.Disk
 of_plain plain.Commits = Rounds
 of_plain (plain.Stopped time events) = Stopped time events
 of_plain plain.NoMemory = Session session.NoMemory
+
+-- why a run over ports in these states stopped before its end, or its output was not written
+abbrev pub RunOverIsRefused : {M P D : Type 0} → (M → Meaning) → (P → PortState) → (D → DiskState) →
+    M → ℕ → Plan → List PortState → D → D → CommandFault → Type 0
+RunOverIsRefused meaning state disk model end plan ports old new fault = (fault ≡ Output)
+    ⊎ ((cause : RunFault) × (fault ≡ of_run cause)
+    × RunHasCause meaning state disk model end plan ports old new cause)
 
 -- why a run without nodes stopped before its end, or its output was not written
 abbrev pub PlainRunIsRefused : {M D : Type 0} → (M → Meaning) → (D → DiskState) → M → ℕ → PlainPlan →

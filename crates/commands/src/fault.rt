@@ -4,13 +4,13 @@ ghost use Rattle.std.specs.Prelude.{◌≡◌};
 
 use commitlog::LogFault;
 use coordinator::SessionFault;
-use migration::MigrateFault;
 use plain::PlainFault;
 use recovery::RecoveryFault;
 use runs::RunFault;
 use std::alloc::{AllocError, AllocFailed};
 use std::io::Error as IoError;
 use thiserror::Error;
+use upkeep::migration::MigrateFault;
 
 /// Why a command failed. Printed as its name, followed by a space and the fault that it carries, if
 /// any.

@@ -1,6 +1,6 @@
 // A run without nodes.
 
-ghost use Rattle.std.specs.Prelude.{◌≡◌, ◌≢◌, ◌≤◌, ◌^◌, ℕ, Err, IfErr, OnOk};
+ghost use Rattle.std.specs.Prelude.{◌≡◌, ◌≢◌, ◌≤◌, ◌^◌, ℕ, Err, IfErr, OnOk, Some};
 ghost use Rattle.commands.specs.Commands.{IsKeptCommand, PlainRunIsRefused, PrintsEndOfRun};
 ghost use Rattle.model.specs.World.{World};
 ghost use Rattle.commands.specs.declared.fault.CommandFault.{CommandFault};
@@ -8,7 +8,7 @@ ghost use Rattle.commands.specs.declared.fault.CommandFault.TheVariants.{Output,
 ghost use Rattle.recovery.specs.Crashes.{KeepsRecovery};
 ghost use Rattle.recovery.specs.Represents.{Recovers, IsGenuine};
 ghost use Rattle.eventkey.specs.Writing.{TakesBeginning};
-ghost use Rattle.recovery.specs.Histories.{IsStoppedAt};
+ghost use Rattle.recovery.specs.Histories.{IsKeptRun, IsStoppedAt};
 ghost use Rattle.std.specs.Io.KnownBytes.{Appends};
 
 use crate::CommandFault;
@@ -42,9 +42,9 @@ pub fn run_plain<M: Modelled, D: SectorDisk + Drop, O: Write, W: Watch>(
     // If the records of the disk are genuine, the printed numbers are those of the sequential
     // simulation up to the end.
     ensures printed { OnOk result.outcome (PrintsEndOfRun (M.meaning of.now.model) of.now.end 0
-        (D.state disk).reads (Appends (O.contents out.old) (O.contents out.new))) }
+        (D.state disk) (D.state result.disk) (Appends (O.contents out.old) (O.contents out.new))) }
     ensures output { result.outcome ≡ Err Output → PrintsEndOfRun (M.meaning of.now.model) of.now.end
-        0 (D.state disk).reads (TakesBeginning (O.contents out.old) (O.contents out.new)) }
+        0 (D.state disk) (D.state result.disk) (TakesBeginning (O.contents out.old) (O.contents out.new)) }
     ensures unwritten { (fault : CommandFault) → result.outcome ≡ Err fault → fault ≢ Output →
         out.new ≡ out.old }
     // Crash safety: a disk that recovers to at least time a before the run does so at each moment
@@ -68,6 +68,10 @@ pub fn run_plain<M: Modelled, D: SectorDisk + Drop, O: Write, W: Watch>(
     ensures kept { (v : World) → IsKeptCommand (M.meaning of.now.model) of.now.end v
         (D.state disk) (D.state result.disk) (O.contents out.old) (O.contents out.new)
         result.outcome }
+    // After a stop it acknowledges the front with the numbers of the fault.
+    ensures kept_stop { (time events : ℕ) → result.outcome ≡ Err (Stopped time events) →
+        (v : World) → IsKeptRun (M.meaning of.now.model) of.now.end v (D.state disk)
+        (D.state result.disk) (Some (time, events)) }
     ensures refused { IfErr result.outcome (λ fault. PlainRunIsRefused M.meaning D.state of.now.model
         of.now.end plan disk result.disk fault) }
 {

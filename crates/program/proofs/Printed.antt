@@ -1,30 +1,25 @@
 -- What the commands print, in a common form.
 use Rattle.std.specs.Io.KnownBytes.{Appends}
-use Rattle.std.specs.Prelude.{◌≡◌, ◌⊎◌, ◌≢◌, ◌++◌, ◌&&◌, [], ℕ, List, None, Option, Result, Ok, Err, IfOk, OnOk, OnErr, Some, is_some, length}
-use Rattle.std.proofs.Common.{Bool, false, true, ap, append_assoc, arith, refl, subst, sym, inl, inr, ◌∙◌}
+use Rattle.std.specs.Prelude.{◌≡◌, ◌⊎◌, ◌≢◌, ◌++◌, ◌&&◌, [], ℕ, List, Option, Result, Ok, Err, OnOk, OnErr, Some, is_some, length}
+use Rattle.std.proofs.Common.{Bool, false, true, ap, arith, refl, subst, sym, inl, inr, ◌∙◌}
 use Rattle.std.proofs.lemmas.List.{append-nil}
-use Rattle.commands.specs.Commands.{BeginsCommitted, PrintsCommitted, PrintsExtended, PrintsEndOfRun, PrintsEndOfRunOver, extended_text, ran_text, stopped_text}
+use Rattle.commands.specs.Commands.{PrintsExtended, extended_text, stopped_text}
 use Rattle.commands.specs.Migrating.{PrintsMigrated, migrated_text}
 use Rattle.commands.specs.declared.fault.CommandFault.{CommandFault}
 use Rattle.commands.specs.declared.fault.CommandFault.TheVariants as on_disk
-use Rattle.coordinator.specs.declared.SessionFault.{SessionFault}
 use Rattle.commitlog.specs.Records.{Holds}
 use Rattle.commitlog.specs.declared.records.Entry.{Entry}
 use Rattle.disk.specs.Disk.{DiskState}
-use Rattle.runs.specs.declared.rounds.Plan.{Plan}
-use Rattle.eventkey.proofs.Writers.{wrote}
-use Rattle.eventkey.specs.Writing.{TakesBeginning, Writes}
-use Rattle.migration.specs.Old.{IsOldLog}
-use Rattle.model.specs.World.{World}
+use Rattle.eventkey.specs.Writing.{TakesBeginning}
+use Rattle.upkeep.specs.Old.{IsOldLog}
 use Rattle.model.specs.Meaning.{Meaning}
+use Rattle.model.specs.declared.origin.Origin.{Origin}
 use Rattle.texts.specs.ModelFile.{IsModelFile}
-use Rattle.wire.specs.Port.{PortState}
-use Rattle.views.specs.Views.{Begins, Describes, IsCommitted, IsNamed, Prints}
-use Rattle.program.specs.Command.{IsEnded, IsExtendedText, IsMigratedText, IsNotEnded, IsRan, IsRanBehind, IsStoppedBehind, IsStoppedText, IsTried, judges_all}
-use Rattle.program.specs.declared.fault.Fault.{Fault}
-use Rattle.recovery.specs.Represents.{IsGenuine}
-use Rattle.runs.specs.Driver.{IsStoppedOver}
-use Rattle.recovery.specs.Histories.{IsStoppedAt}
+use Rattle.views.specs.Reading.{IsOn}
+use Rattle.views.specs.Views.{Begins, Describes, Prints}
+use Rattle.program.specs.Attempts.{judges_all}
+use Rattle.program.specs.Command.{IsEnded, IsExtendedText, IsMigratedText, IsNotEnded}
+use Rattle.disk_commands.specs.declared.fault.Fault.{Fault}
 
 pub at_ok : {T E X : Type 0} {r : Result T E} {x : T} → r ≡ Ok x → OnOk r X → X
 at_ok {r = Ok x} e h = h
@@ -45,25 +40,6 @@ on_ok_so (Err e) so h = tt
 pub on_any : {T E X : Type 0} (r : Result T E) → X → OnErr r X
 on_any (Ok x) h = tt
 on_any (Err e) h = h
-
--- what is written of a text with this property
-module _ (P : List ℕ → Type 0) (text : List ℕ) (is : P text) {T E : Type 0} {old new : Option (List ℕ)} where
-  pub prints_written : (r : Result T E) → Writes old new r text → OnOk r (Prints P old new)
-  prints_written (Ok x) h = (text, is, h.all)
-  prints_written (Err e) h = tt
-
-  pub begins_written : (A : Type 0) → (r : Result T E) → Writes old new r text → OnErr r (A ⊎ Begins P old new)
-  begins_written A (Ok x) h = tt
-  begins_written A (Err e) h = inr (text, is, h.part)
-
--- what holds of the value of a call that succeeds
-pub if_ok : {T E : Type 0} (P : T → Type 0) {r : Result T E} {x : T} → r ≡ Ok x → IfOk r P → P x
-if_ok P {r = Ok y} {x} e h = let same : y ≡ x = cc in subst P same h
-if_ok P {r = Err y} e h = cc
-
--- a text that is written whole before a fault, without the one behind it
-pub writes_before_fault : {T E U F : Type 0} {s : Result T E} {old new : Option (List ℕ)} {a : List ℕ} {x : T} (e : F) (b : List ℕ) → Writes old new s a → s ≡ Ok x → Writes {T = U} {E = F} old new (Err e) (a ++ b)
-writes_before_fault {a = a} e b h is = record { all = tt; part = record { taken = a; left = b; whole = refl; appended = wrote h is } }
 
 module _ {T A B : Type 0} where
   -- a fault is `Output`, or another one
@@ -130,47 +106,21 @@ module _ {T : Type 0} (Ran Stopped : List ℕ → Type 0) (stops : Bool) (all : 
 
 -- the output of a run, for the model of a file
 module _ {M : Type 0} (meaning : M → Meaning) (says : Describes M) (source : List ℕ) (model : M) (end : ℕ) (file : IsModelFile says source model end) where
-  ran_taken : {Taken : List ℕ → Type 0} (image : List (List ℕ)) (nodes : ℕ) → PrintsEndOfRun (meaning model) end nodes image Taken → (text : List ℕ) × IsRan meaning says nodes text × Taken text
-  ran_taken image nodes p = (
-    ran_text p.ran p.time p.events,
-    record {
-      source = source;
-      model = model;
-      end = end;
-      image = image;
-      ran = p.ran;
-      time = p.time;
-      events = p.events;
-      file = file;
-      each = p.each;
-      reached = p.reached;
-      genuine = p.genuine;
-      is = refl;
-    },
-    p.taken,
-  )
-
-  pub ran_printed : (image : List (List ℕ)) (nodes : ℕ) (old new : Option (List ℕ)) → PrintsEndOfRun (meaning model) end nodes image (Appends old new) → Prints (IsRan meaning says nodes) old new
-  ran_printed image nodes old new p = ran_taken image nodes p
-
-  pub stopped_printed : (image : List (List ℕ)) (time events : ℕ) → (IsGenuine (meaning model) end image → IsStoppedAt (meaning model) end time events) → IsStoppedText meaning says (stopped_text time events)
-  stopped_printed image time events genuine = record { source = source; model = model; end = end; image = image; time = time; events = events; file = file; genuine = genuine; is = refl }
-
-  pub ran_begun : (image : List (List ℕ)) (nodes : ℕ) (old new : Option (List ℕ)) → PrintsEndOfRun (meaning model) end nodes image (TakesBeginning old new) → Begins (IsRan meaning says nodes) old new
-  ran_begun image nodes old new p = ran_taken image nodes p
-
   -- the output for a later end
-  carried_taken : {Taken : List ℕ → Type 0} (begun left : DiskState) → PrintsExtended (meaning model) end begun left Taken → (text : List ℕ) × IsExtendedText meaning says text × Taken text
-  carried_taken begun left p = (
+  carried_taken : {Taken : List ℕ → Type 0} (origin : Option Origin) (on : Meaning) (begun left : DiskState) → IsOn (meaning model) begun.reads origin on → PrintsExtended on end begun left Taken → (text : List ℕ) × IsExtendedText meaning says text × Taken text
+  carried_taken origin on begun left is_on p = (
     extended_text p.before end,
     record {
       source = source;
       model = model;
       end = end;
       image = begun.reads;
+      origin = origin;
+      on = on;
       before = p.before;
       front = p.front;
       file = file;
+      is_on = is_on;
       rises = p.rises;
       replayed = p.replayed;
       is = refl;
@@ -178,11 +128,11 @@ module _ {M : Type 0} (meaning : M → Meaning) (says : Describes M) (source : L
     p.taken,
   )
 
-  pub carried_printed : (begun left : DiskState) (old new : Option (List ℕ)) → PrintsExtended (meaning model) end begun left (Appends old new) → Prints (IsExtendedText meaning says) old new
-  carried_printed begun left old new p = carried_taken begun left p
+  pub carried_printed : (origin : Option Origin) (on : Meaning) (begun left : DiskState) → IsOn (meaning model) begun.reads origin on → (old new : Option (List ℕ)) → PrintsExtended on end begun left (Appends old new) → Prints (IsExtendedText meaning says) old new
+  carried_printed origin on begun left is_on old new p = carried_taken origin on begun left is_on p
 
-  pub carried_begun : (begun left : DiskState) (old new : Option (List ℕ)) → PrintsExtended (meaning model) end begun left (TakesBeginning old new) → Begins (IsExtendedText meaning says) old new
-  carried_begun begun left old new p = carried_taken begun left p
+  pub carried_begun : (origin : Option Origin) (on : Meaning) (begun left : DiskState) → IsOn (meaning model) begun.reads origin on → (old new : Option (List ℕ)) → PrintsExtended on end begun left (TakesBeginning old new) → Begins (IsExtendedText meaning says) old new
+  carried_begun origin on begun left is_on old new p = carried_taken origin on begun left is_on p
 
   -- the output of a migration
   module _ (image : List (List ℕ)) (header : List ℕ) (olds : List Entry) (held : Holds header olds image) (ours : IsOldLog (meaning model) end header olds) (left : DiskState) where
@@ -214,46 +164,6 @@ module _ {M : Type 0} (meaning : M → Meaning) (says : Describes M) (source : L
     pub anew_begun : (old new : Option (List ℕ)) → PrintsMigrated (meaning model) header olds left (TakesBeginning old new) → Begins (IsMigratedText meaning says) old new
     anew_begun old new p = anew_taken p
 
-module _ {M : Type 0} (meaning : M → Meaning) (says : Describes M) {old new : Option (List ℕ)} where
-  module _ (source : List ℕ) (model : M) (end : ℕ) (file : IsModelFile says source model end) where
-    pub committed_printed : (image : List (List ℕ)) (shown : World → List ℕ) → PrintsCommitted (meaning model) end image shown old new → Prints (IsCommitted meaning says shown) old new
-    committed_printed image shown p = (
-      shown p.world,
-      record {
-        source = source;
-        model = model;
-        end = end;
-        image = image;
-        world = p.world;
-        file = file;
-        replayed = p.replayed;
-        represents = λ genuine. (p.genuine genuine).represents;
-        upto = λ genuine. (p.genuine genuine).upto;
-        within = p.within;
-        is = refl;
-      },
-      p.printed,
-    )
-
-    pub committed_begun : (image : List (List ℕ)) (shown : World → List ℕ) → BeginsCommitted (meaning model) end image shown old new → Begins (IsCommitted meaning says shown) old new
-    committed_begun image shown p = (
-      shown p.world,
-      record {
-        source = source;
-        model = model;
-        end = end;
-        image = image;
-        world = p.world;
-        file = file;
-        replayed = p.replayed;
-        represents = λ genuine. (p.genuine genuine).represents;
-        upto = λ genuine. (p.genuine genuine).upto;
-        within = p.within;
-        is = refl;
-      },
-      p.part,
-    )
-
 -- what holds of a run whose commits are judged, and of one whose commits are not
 pub by_judged : (F : Bool → Type 0) (judged : Bool) → (judged ≡ true → F true) → (judged ≡ false → F false) → F judged
 by_judged F true holds other = holds refl
@@ -262,79 +172,3 @@ by_judged F false holds other = other refl
 -- the commits of a run over node programs are judged if all reported events are
 pub judged_apart : {S : Type 0} (sockets : Option S) (folder : S) (judge : Option ℕ) → sockets ≡ Some folder → (is_some sockets && judges_all judge) ≡ judges_all judge
 judged_apart {S} sockets folder judge is = ap (λ (s : Option S). is_some s && judges_all judge) is
-
--- the output of a run over any ports
-module _ {M P D : Type 0} (meaning : M → Meaning) (says : Describes M) (state : P → PortState) (disk : D → DiskState) (source : List ℕ) (model : M) (end : ℕ) (file : IsModelFile says source model end) (plan : Plan) (begun left : D) where
-  behind : {Taken : List ℕ → Type 0} → PrintsEndOfRunOver meaning state disk model end plan begun left Taken → (text : List ℕ) × IsRanBehind says plan.nodes text × Taken text
-  behind p = (
-    ran_text p.ran p.time p.events,
-    record {
-      source = source;
-      model = model;
-      end = end;
-      ran = p.ran;
-      time = p.time;
-      events = p.events;
-      file = file;
-      each = p.each;
-      reached = p.over.reached;
-      is = refl;
-    },
-    p.taken,
-  )
-
-  pub behind_stopped : (time events : ℕ) → IsStoppedOver meaning state disk model end plan begun left time events → IsStoppedBehind says (stopped_text time events)
-  behind_stopped time events over = record { source = source; model = model; end = end; time = time; events = events; file = file; early = omega (arith, over.early, over.time_is); is = refl }
-
-  pub behind_printed : (old new : Option (List ℕ)) → PrintsEndOfRunOver meaning state disk model end plan begun left (Appends old new) → Prints (IsRanBehind says plan.nodes) old new
-  behind_printed old new p = behind p
-
-  pub behind_begun : (old new : Option (List ℕ)) → PrintsEndOfRunOver meaning state disk model end plan begun left (TakesBeginning old new) → Begins (IsRanBehind says plan.nodes) old new
-  behind_begun old new p = behind p
-
--- what is printed first, and then with names
-appended_both : (old mid new : Option (List ℕ)) (a b : List ℕ) → Appends old mid a → Appends mid new b → Appends old new (a ++ b)
-appended_both None mid new a b h k = tt
-appended_both (Some xs) None new a b h k = absurd h
-appended_both (Some xs) (Some ys) None a b h k = absurd k
-appended_both (Some xs) (Some ys) (Some zs) a b h k = k ∙ ap (λ s. s ++ b) h ∙ append_assoc xs a b
-
-begun_after : (old mid new : Option (List ℕ)) (a b : List ℕ) → Appends old mid a → TakesBeginning mid new b → TakesBeginning old new (a ++ b)
-begun_after old mid new a b h k = record {
-  taken = a ++ k.taken;
-  left = k.left;
-  whole = ap (λ s. a ++ s) k.whole ∙ sym (append_assoc a k.taken k.left);
-  appended = appended_both old mid new a k.taken h k.appended;
-}
-
-whole_begun : (old mid new : Option (List ℕ)) (a : List ℕ) → Appends old mid a → new ≡ mid → TakesBeginning old new a
-whole_begun old mid new a h same = record {
-  taken = a;
-  left = [];
-  whole = sym (append-nil a);
-  appended = subst (λ (o : Option (List ℕ)). Appends old o a) (sym same) h;
-}
-
-module _ (First : List ℕ → Type 0) (old mid new : Option (List ℕ)) {T : Type 0} where
-  pub named_printed : (r : Result T Fault) → Prints First old mid → OnOk r (Prints IsNamed mid new) → OnOk r (Prints IsNamed old new)
-  named_printed (Ok x) p q = (p.0 ++ q.0, tt, appended_both old mid new p.0 q.0 p.2 q.2)
-  named_printed (Err e) p q = tt
-
-  pub named_begun : (A B : Type 0) → (A → new ≡ mid) → (r : Result T Fault) → Prints First old mid → OnErr r (A ⊎ Begins IsNamed mid new) → OnErr r (B ⊎ Begins IsNamed old new)
-  named_begun A B same (Ok x) p q = tt
-  named_begun A B same (Err e) p (inl a) = inr (p.0, tt, whole_begun old mid new p.0 p.2 (same a))
-  named_begun A B same (Err e) p (inr q) = inr (p.0 ++ q.0, tt, begun_after old mid new p.0 q.0 p.2 q.2)
-
-pub named_part : {T : Type 0} (First : List ℕ → Type 0) (old new : Option (List ℕ)) (A : Type 0) (r : Result T Fault) → OnErr r (A ⊎ Begins First old new) → OnErr r (A ⊎ Begins IsNamed old new)
-named_part First old new A (Ok x) q = tt
-named_part First old new A (Err e) (inl a) = inl a
-named_part First old new A (Err e) (inr q) = inr (q.0, tt, q.2)
-
--- An attempt that lost a node before its session has printed nothing.
-pub lost_tried : {T : Type 0} (Ran Stopped : List ℕ → Type 0) (old new : Option (List ℕ)) (same : Type 0) (f : SessionFault) → same → IsTried {T = T} Ran Stopped (Err (on_disk.Session f)) same old new
-lost_tried Ran Stopped old new same f unchanged = record {
-  printed = tt;
-  output = λ e. cc;
-  unwritten = λ g e other. unchanged;
-  stopped = λ time events e. cc;
-}

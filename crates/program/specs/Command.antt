@@ -1,23 +1,16 @@
--- What the program prints (this project's profile).
+-- What the program prints.
 use Rattle.std.specs.Io.KnownBytes.{Appends}
 use Rattle.std.specs.Prelude.{◌≡◌, ◌≤◌, ◌*◌, ◌&&◌, ◌==◌, ℕ, Bool, List, [], ◌++◌, nat_le, not}
 use Rattle.std.specs.Prelude.{Err, None, Ok, Option, Result, Some, codes, decimal, false, true}
 use Rattle.std.specs.Prelude.{if◌then◌else◌, ◌<◌, ◌⊎◌, ◌≢◌}
 use Rattle.std.specs.Prelude.{OnOk, is_some, length, min, replicate, slice_index_or, unwrap_or}
-use Rattle.archiving.specs.Archiving.{IsBegunAt, IsOriginOn, events_before}
-use Rattle.archiving.specs.declared.fault.ArchiveFault.{ArchiveFault}
-use Rattle.archiving.specs.declared.fault.ArchiveFault.TheVariants as archiving
 use Rattle.commands.specs.Commands.{extended_text, formatted_text, ran_text, stopped_text}
 use Rattle.commands.specs.Migrating.{migrated_text}
 use Rattle.commands.specs.declared.fault.CommandFault.{CommandFault}
 use Rattle.commands.specs.declared.fault.CommandFault.TheVariants as on_disk
 use Rattle.commitlog.specs.Records.{Holds}
 use Rattle.commitlog.specs.declared.records.Entry.{Entry}
-use Rattle.coordinator.specs.declared.SessionFault.TheVariants as session
-use Rattle.disk.specs.declared.file.FileFault.{FileFault}
-use Rattle.disk.specs.declared.file.FileFault.TheVariants as opening
 use Rattle.plain.specs.declared.whole.Plan.{Plan as PlainPlan}
-use Rattle.recovery.specs.Histories.{IsRunOf, IsStoppedAt}
 use Rattle.runs.specs.declared.rounds.Batch.{Batch as DriverBatch}
 use Rattle.runs.specs.declared.rounds.Batch.TheVariants as driver
 use Rattle.runs.specs.declared.rounds.Plan.{Plan}
@@ -25,7 +18,6 @@ use Rattle.runs.specs.declared.rounds.Schedule.{Schedule}
 use Rattle.runs.specs.declared.rounds.Schedule.TheVariants.{InTurn, Overlapped, Together}
 use Rattle.recovery.specs.Ends.{IsLater}
 use Rattle.recovery.specs.Replay.{IsReplayedTo}
-use Rattle.recovery.specs.Represents.{IsGenuine}
 use Rattle.cli.specs.Command.{Says}
 use Rattle.cli.specs.declared.command.BatchOption.{BatchOption}
 use Rattle.cli.specs.declared.command.BatchOption.TheVariants.{Auto, Fixed}
@@ -33,62 +25,27 @@ use Rattle.cli.specs.declared.command.Command.{Command}
 use Rattle.cli.specs.declared.command.Command.TheVariants.{Check, Cut, Draw, Extend, Grow, Log}
 use Rattle.cli.specs.declared.command.Command.TheVariants.{Migrate, Recover}
 use Rattle.cli.specs.declared.command.Command.TheVariants.{New, Node, Reopen, Run, Seq, Show, Stats, Status, Verify}
-use Rattle.cli.specs.declared.command.DrawArgs.{DrawArgs}
-use Rattle.cli.specs.declared.command.LogArgs.{LogArgs}
 use Rattle.cli.specs.declared.command.NewArgs.{NewArgs}
 use Rattle.cli.specs.declared.command.RunArgs.{RunArgs}
-use Rattle.cli.specs.declared.command.StatsArgs.{StatsArgs}
-use Rattle.cli.specs.declared.command.VerifyArgs.{VerifyArgs}
-use Rattle.growing.specs.declared.GrowingFault.{GrowingFault}
-use Rattle.growing.specs.declared.GrowingFault.TheVariants as growing
-use Rattle.migration.specs.Migrated.{IsMigrated}
-use Rattle.migration.specs.Old.{IsOldLog}
-use Rattle.inspection.specs.Inspected.{IsInspected}
-use Rattle.inspection.specs.Text.{inspection_text}
-use Rattle.inspection.specs.declared.inspecting.Inspection.{Inspection}
+use Rattle.upkeep.specs.Migrated.{IsMigrated}
+use Rattle.upkeep.specs.Old.{IsOldLog}
 use Rattle.model.specs.Meaning.{Meaning}
-use Rattle.model.specs.Origins.{as_origin, continued}
+use Rattle.model.specs.Origins.{continued}
 use Rattle.model.specs.World.{World}
 use Rattle.model.specs.declared.origin.Origin.{Origin}
-use Rattle.node_programs.specs.declared.fault.NodesFault.{NodesFault}
-use Rattle.node_programs.specs.declared.fault.NodesFault.TheVariants as nodes
+use Rattle.disk.specs.Disk.{DiskState}
 use Rattle.texts.specs.ModelFile.{IsModelFile}
-use Rattle.texts.specs.Text.{world_text}
-use Rattle.views.specs.Views.{Begins, Describes, IsCommitted, IsCourse, IsDrawn, IsLogged}
-use Rattle.upkeep.specs.Verified.{IsOfWorld}
-use Rattle.upkeep.specs.declared.verifying.Verified.{Verified}
-use Rattle.views.specs.Views.{IsNamed, IsSomeChecked, IsStats, IsWholeSimulation, Prints, Shows, verified_text}
-use Rattle.views.specs.declared.fault.ViewFault.{ViewFault}
-use Rattle.views.specs.declared.fault.ViewFault.TheVariants as view
-use Rattle.program.specs.Repairing.{IsCutText, IsRecoveredText}
-use Rattle.program.specs.declared.fault.Fault.{Fault}
-use Rattle.program.specs.declared.fault.Fault.TheVariants as fault
-use Rattle.program.specs.declared.fault.SegmentFault.TheVariants as segment
+use Rattle.views.specs.Reading.{IsOn, IsSeen}
+use Rattle.views.specs.Views.{Begins, Describes, Prints, Shows}
+use Rattle.views.specs.declared.looks.Look.TheVariants as look
+use Rattle.program.specs.Attempts.{HasCome, IsRanAsReported, IsRanOn, IsStoppedAsReported, IsStoppedOn}
+use Rattle.program.specs.Attempts.{judges_all, nodes_of, trusts_nodes}
+use Rattle.disk_commands.specs.Disks.{IsGrown, IsNewSegment, IsReopenedText}
+use Rattle.disk_commands.specs.Repairing.{IsCutText, IsRecoveredText}
+use Rattle.disk_commands.specs.declared.fault.Fault.{Fault}
+use Rattle.disk_commands.specs.declared.fault.Fault.TheVariants as fault
 
--- the program's fault for a fault of `views`
-abbrev pub of_view : ViewFault → Fault
-of_view view.BadModel = fault.BadModel
-of_view view.File = fault.File
-of_view (view.World f) = fault.World f
-of_view (view.Log f) = fault.Log f
-of_view (view.Recovery f) = fault.Recovery f
-of_view (view.Record number f) = fault.Record number f
-of_view view.BadTrace = fault.BadTrace
-of_view (view.Mistake mistake) = fault.Mistake mistake
-of_view (view.NoSuchProcess processes) = fault.NoSuchProcess processes
-of_view view.NoMemory = fault.NoMemory
-of_view view.Output = fault.Output
-
--- for a fault of node programs
-abbrev pub of_nodes : NodesFault → Fault
-of_nodes nodes.File = fault.File
-of_nodes nodes.NoMemory = fault.NoMemory
-of_nodes (nodes.Wire f) = fault.Wire f
-of_nodes nodes.OtherModel = fault.OtherModel
-of_nodes (nodes.OtherNode node) = fault.OtherNode node
-of_nodes (nodes.Lost f) = fault.Session (session.Port f)
-
--- for a fault of a command on a disk
+-- the program's fault for a fault of a command on a disk
 abbrev pub of_command : CommandFault → Fault
 of_command on_disk.NoMemory = fault.NoMemory
 of_command (on_disk.Log f) = fault.Log f
@@ -99,68 +56,10 @@ of_command (on_disk.Stopped time events) = fault.Stopped
 of_command (on_disk.Migrate f) = fault.Migrate f
 of_command on_disk.Output = fault.Output
 
--- for a fault of making a disk longer
-abbrev pub of_growing : GrowingFault → Fault
-of_growing (growing.Recovery f) = fault.Recovery f
-of_growing (growing.Growth f) = fault.Grow f
-
--- for a fault of archiving a disk
-abbrev pub of_archive : ArchiveFault → Fault
-of_archive archiving.File = fault.File
-of_archive archiving.Full = fault.Session session.Full
-of_archive archiving.TooLong = fault.Segment segment.TooLong
-of_archive archiving.NotTheNext = fault.Segment segment.NotTheNext
-of_archive (archiving.Recovery f) = fault.Recovery f
-of_archive (archiving.Log f) = fault.Log f
-of_archive archiving.NoMemory = fault.NoMemory
-
--- for a fault of a disk's file
-abbrev pub of_file : FileFault → Fault
-of_file opening.File = fault.File
-of_file opening.NoMemory = fault.NoMemory
-
 -- ---- what the commands print, for some model file and some disk
 
 abbrev pub IsFormatted : ℕ → List ℕ → Type 0
 IsFormatted sectors text = text ≡ formatted_text sectors
-
--- An image begins with this origin, if one was read from it. Without one the simulation on it begins
--- as its model does.
-abbrev pub BeginsWith : ℕ → List (List ℕ) → Option Origin → Type 0
-BeginsWith lps image None = Unit {0}
-BeginsWith lps image (Some o) = IsOriginOn lps image (Some o)
-
--- The simulation on an image is that of this model: the one of the file, which begins with the
--- origin that the image has.
-abbrev pub IsOn : Meaning → List (List ℕ) → Option Origin → Meaning → Type 0
-IsOn m image origin on = BeginsWith m.lps image origin × (on ≡ continued m origin)
-
--- a world to which the image of some disk is replayed, which may be a segment
-pub record IsFrontOn (m : Meaning) (end : ℕ) (world : World) : Type 0 where
-  pub image : List (List ℕ)
-  pub origin : Option Origin
-  pub on : Meaning
-  pub is_on : IsOn m image origin on
-  pub replayed : IsReplayedTo on end image world
-
--- The number of sectors of a new disk, and the time from which it goes on, with the number of events
--- before it.
-abbrev pub segment_text : ℕ → ℕ → ℕ → List ℕ
-segment_text sectors time events = (codes "formatted " ++ decimal sectors)
-    ++ (codes " sectors\ngoes on from " ++ decimal time) ++ (codes " events " ++ decimal events)
-    ++ codes "\n"
-
--- The text of a new disk that goes on from the world to which the image of another one is replayed.
-pub record IsNewSegment {M : Type 0} (meaning : M → Meaning) (says : Describes M) (sectors : ℕ)
-    (text : List ℕ) : Type 0 where
-  pub source : List ℕ
-  pub model : M
-  pub end : ℕ
-  pub world : World
-  pub file : IsModelFile says source model end
-  pub front : IsFrontOn (meaning model) end world
-  pub is : text ≡ segment_text sectors world.time
-      (events_before world.numbers (length world.pending))
 
 -- what `new` prints, of a disk that goes on from another one or of an empty one
 abbrev pub IsNewBehind : {M : Type 0} → (M → Meaning) → Describes M → {S : Type 0} → Option S → ℕ →
@@ -171,82 +70,55 @@ IsNewBehind meaning says (Some from) sectors = IsNewSegment meaning says sectors
 abbrev pub IsNew : {M : Type 0} → (M → Meaning) → Describes M → NewArgs → List ℕ → Type 0
 IsNew meaning says args = IsNewBehind meaning says args.from args.sectors
 
--- What each node handled, the time reached, and the number of committed events. If the image from
--- which the run began is genuine, they are those of the sequential simulation up to the end.
+-- What each node handled, the time reached, and the number of committed events, of a run that began
+-- on a disk of the model of a file. Its attempts are calls of a history on that disk, and on each next
+-- one if it was archived. The last of them printed these numbers, and acknowledges the front that
+-- has them. If its records were genuine, they are those of the sequential simulation up to the end.
 pub record IsRan {M : Type 0} (meaning : M → Meaning) (says : Describes M)
     (nodes : ℕ) (text : List ℕ) : Type 0 where
   pub source : List ℕ
   pub model : M
   pub end : ℕ
-  pub image : List (List ℕ)
-  pub ran : List ℕ
-  pub time : ℕ
-  pub events : ℕ
   pub file : IsModelFile says source model end
-  pub each : length ran ≡ nodes
-  pub reached : end ≤ time
-  pub genuine : IsGenuine (meaning model) end image → IsRunOf (meaning model) end time events
-  pub is : text ≡ ran_text ran time events
+  pub begun : DiskState
+  pub origin : Option Origin
+  pub now : DiskState
+  pub come : HasCome (meaning model) end begun origin now
+  pub left : DiskState
+  pub ran : IsRanOn (continued (meaning model) origin) end nodes now left text
 
--- the sectors from this number on have only zeros
-abbrev pub IsZeroFrom : ℕ → List (List ℕ) → Type 0
-IsZeroFrom first image = (n : ℕ) → first ≤ n → n < length image →
-    slice_index_or image n [] ≡ replicate 512 0
-
--- the time and the number of events of the world that a reopened disk represents
-abbrev pub reopened_text : Verified → List ℕ
-reopened_text seen = (codes "reopened: committed " ++ decimal seen.time)
-    ++ (codes " events " ++ decimal seen.events) ++ codes "\n"
-
--- The text of the world that the image of a disk represents, once its gate is open.
-pub record IsReopenedText {M : Type 0} (meaning : M → Meaning) (says : Describes M)
-    (text : List ℕ) : Type 0 where
-  pub source : List ℕ
-  pub model : M
-  pub end : ℕ
-  pub image : List (List ℕ)
-  pub seen : Verified
-  pub file : IsModelFile says source model end
-  pub of_world : IsOfWorld (meaning model) end image seen
-  pub is : text ≡ reopened_text seen
-
--- What is committed after a run that a file ended, before the end of its simulation. If the image
--- from which the run began is genuine, it is the sequential simulation up to that time.
+-- What is committed after such a run that a file ended, before the end of its simulation. If the
+-- records were genuine, it is the sequential simulation up to that time.
 pub record IsStoppedText {M : Type 0} (meaning : M → Meaning) (says : Describes M)
     (text : List ℕ) : Type 0 where
   pub source : List ℕ
   pub model : M
   pub end : ℕ
-  pub image : List (List ℕ)
-  pub time : ℕ
-  pub events : ℕ
   pub file : IsModelFile says source model end
-  pub genuine : IsGenuine (meaning model) end image → IsStoppedAt (meaning model) end time events
-  pub is : text ≡ stopped_text time events
+  pub begun : DiskState
+  pub origin : Option Origin
+  pub now : DiskState
+  pub come : HasCome (meaning model) end begun origin now
+  pub left : DiskState
+  pub stopped : IsStoppedOn (continued (meaning model) origin) end now left text
 
--- The end that was in force on a disk, whose image is replayed under it, and the later end of the
--- model file.
+-- The end that was in force on a disk, which may be a segment and whose image is replayed under it,
+-- and the later end of the model file.
 pub record IsExtendedText {M : Type 0} (meaning : M → Meaning) (says : Describes M)
     (text : List ℕ) : Type 0 where
   pub source : List ℕ
   pub model : M
   pub end : ℕ
   pub image : List (List ℕ)
+  pub origin : Option Origin
+  pub on : Meaning
   pub before : ℕ
   pub front : World
   pub file : IsModelFile says source model end
+  pub is_on : IsOn (meaning model) image origin on
   pub rises : IsLater before end
-  pub replayed : IsReplayedTo (meaning model) before image front
+  pub replayed : IsReplayedTo on before image front
   pub is : text ≡ extended_text before end
-
--- the former and the present number of sectors of a disk
-abbrev pub grown_text : ℕ → ℕ → List ℕ
-grown_text before sectors =
-    (codes "grown " ++ decimal before) ++ (codes " to " ++ decimal sectors) ++ codes " sectors\n"
-
--- the text says that the disk has this number of sectors now, no fewer than before
-abbrev pub IsGrown : ℕ → List ℕ → Type 0
-IsGrown sectors text = (before : ℕ) × (before ≤ sectors) × (text ≡ grown_text before sectors)
 
 -- The time of a world, and the number of events of its log. The image of an old disk holds a log of
 -- format 1 of the model, on which the model file's end is in force. Its widened records represent
@@ -268,88 +140,39 @@ pub record IsMigratedText {M : Type 0} (meaning : M → Meaning) (says : Describ
   pub migrated : IsMigrated (meaning model) old_header new_header olds news front
   pub is : text ≡ migrated_text front.time (length front.log)
 
--- What each node handled as node programs reported it, the time reached, not before the end, and a
--- number of events. Nothing more is promised of a run over such programs whose commits are not
--- judged.
+-- What a run over node programs prints at its end if its commits are not judged, of the model of a
+-- file, and after a file ended it.
 pub record IsRanBehind {M : Type 0} (says : Describes M) (nodes : ℕ) (text : List ℕ) : Type 0 where
   pub source : List ℕ
   pub model : M
   pub end : ℕ
-  pub ran : List ℕ
-  pub time : ℕ
-  pub events : ℕ
   pub file : IsModelFile says source model end
-  pub each : length ran ≡ nodes
-  pub reached : end ≤ time
-  pub is : text ≡ ran_text ran time events
+  pub ran : IsRanAsReported end nodes text
 
--- The same of a run over node programs: a time before the end, and a number of events.
 pub record IsStoppedBehind {M : Type 0} (says : Describes M) (text : List ℕ) : Type 0 where
   pub source : List ℕ
   pub model : M
   pub end : ℕ
-  pub time : ℕ
-  pub events : ℕ
   pub file : IsModelFile says source model end
-  pub early : time < end
-  pub is : text ≡ stopped_text time events
+  pub stopped : IsStoppedAsReported end text
 
--- What a run over node programs prints at its end. If its commits are judged, it is what a run over
--- nodes in this program prints, whatever the node programs answer.
-abbrev pub IsRanApart : {M : Type 0} → (M → Meaning) → Describes M → Bool → ℕ → List ℕ → Type 0
-IsRanApart meaning says true nodes = IsRan meaning says nodes
-IsRanApart meaning says false nodes = IsRanBehind says nodes
-
--- what it prints if a file ends it
-abbrev pub IsStoppedApart : {M : Type 0} → (M → Meaning) → Describes M → Bool → List ℕ → Type 0
-IsStoppedApart meaning says true = IsStoppedText meaning says
-IsStoppedApart meaning says false = IsStoppedBehind says
-
--- whether each event that node programs report is judged: one in one
-abbrev pub judges_all : Option ℕ → Bool
-judges_all judge = unwrap_or judge 0 == 1
-
--- what a run prints at its end, in this program or behind sockets in a folder, by how many of the
--- reported events are judged
-abbrev pub IsRanOver : {M : Type 0} → (M → Meaning) → Describes M → {S : Type 0} → Option S →
-    Option ℕ → ℕ → List ℕ → Type 0
-IsRanOver meaning says None judge nodes = IsRan meaning says nodes
-IsRanOver meaning says (Some folder) judge nodes = IsRanApart meaning says (judges_all judge) nodes
+-- What a run prints at its end, by whether it trusts node programs. If its commits are judged, that
+-- is what a run over nodes in this program prints, whatever the node programs answer.
+abbrev pub IsRanAs : {M : Type 0} → (M → Meaning) → Describes M → Bool → ℕ → List ℕ → Type 0
+IsRanAs meaning says false nodes = IsRan meaning says nodes
+IsRanAs meaning says true nodes = IsRanBehind says nodes
 
 -- what it prints if a file ends it
-abbrev pub IsStoppedOver : {M : Type 0} → (M → Meaning) → Describes M → {S : Type 0} → Option S →
-    Option ℕ → List ℕ → Type 0
-IsStoppedOver meaning says None judge = IsStoppedText meaning says
-IsStoppedOver meaning says (Some folder) judge = IsStoppedApart meaning says (judges_all judge)
+abbrev pub IsStoppedAs : {M : Type 0} → (M → Meaning) → Describes M → Bool → List ℕ → Type 0
+IsStoppedAs meaning says false = IsStoppedText meaning says
+IsStoppedAs meaning says true = IsStoppedBehind says
 
--- the same without nodes, when there is no line of one, or over nodes
-abbrev pub IsRanAs : {M : Type 0} → (M → Meaning) → Describes M → Bool → {S : Type 0} → Option S →
-    Option ℕ → ℕ → List ℕ → Type 0
-IsRanAs meaning says true folder judge nodes = IsRan meaning says 0
-IsRanAs meaning says false folder judge nodes = IsRanOver meaning says folder judge nodes
-
-abbrev pub IsStoppedAs : {M : Type 0} → (M → Meaning) → Describes M → Bool → {S : Type 0} →
-    Option S → Option ℕ → List ℕ → Type 0
-IsStoppedAs meaning says true folder judge = IsStoppedText meaning says
-IsStoppedAs meaning says false folder judge = IsStoppedOver meaning says folder judge
-
--- the same by the arguments of `run`
+-- the same by the arguments of `run`; without nodes there is no line of one
 abbrev pub IsRanBy : {M : Type 0} → (M → Meaning) → Describes M → RunArgs → List ℕ → Type 0
-IsRanBy meaning says args = IsRanAs meaning says args.plain args.sockets args.judge args.nodes
+IsRanBy meaning says args = IsRanAs meaning says (trusts_nodes args) (nodes_of args)
 
 abbrev pub IsStoppedBy : {M : Type 0} → (M → Meaning) → Describes M → RunArgs → List ℕ → Type 0
-IsStoppedBy meaning says args = IsStoppedAs meaning says args.plain args.sockets args.judge
-
--- What an attempt of a run has printed, by its outcome: `Ran` says what at its end, of which a
--- writer that refuses has taken a beginning, and otherwise nothing (`same`). After a stop `Stopped`
--- holds of what is printed next.
-pub record IsTried {T : Type 0} (Ran Stopped : List ℕ → Type 0) (outcome : Result T CommandFault)
-    (same : Type 0) (old new : Option (List ℕ)) : Type 0 where
-  pub printed : OnOk outcome (Prints Ran old new)
-  pub output : outcome ≡ Err on_disk.Output → Begins Ran old new
-  pub unwritten : (f : CommandFault) → outcome ≡ Err f → f ≢ on_disk.Output → same
-  pub stopped : (time events : ℕ) → outcome ≡ Err (on_disk.Stopped time events) →
-      Stopped (stopped_text time events)
+IsStoppedBy meaning says args = IsStoppedAs meaning says (trusts_nodes args)
 
 -- an attempt failed, and not because the writer refused
 abbrev pub IsWithoutOutput : {T : Type 0} → Result T CommandFault → Type 0
@@ -370,9 +193,6 @@ abbrev pub IsNotEnded : {T : Type 0} → Result T CommandFault → Bool → Type
 IsNotEnded (Ok x) stops same part = ⊥
 IsNotEnded (Err (on_disk.Stopped time events)) true same part = part (stopped_text time events)
 IsNotEnded (Err fault) stops same part = same
-
-abbrev pub IsShown : {M : Type 0} → (M → Meaning) → Describes M → List ℕ → Type 0
-IsShown meaning says = IsCommitted meaning says world_text
 
 -- Whether a round costs little: the nodes are in this process, and at 128 messages each they report
 -- no more in a round than a commit waits for.
@@ -425,122 +245,6 @@ abbrev pub IsRunOutput : {M : Type 0} → (M → Meaning) → Describes M → Ru
 IsRunOutput meaning says args text = IsRanBy meaning says args text
     ⊎ ((is_some args.stop_file ≡ true) × IsStoppedBy meaning says args text)
 
--- what `draw` prints: the picture of a run, or the course in a trace
-abbrev pub IsPicture : {M : Type 0} → (M → Meaning) → Describes M → DrawArgs → {S : Type 0} →
-    Option S → List ℕ → Type 0
-IsPicture meaning says args None text =
-    IsDrawn meaning says args.of.disk args.load args.from args.to args.processes text
-IsPicture meaning says args (Some trace) text = IsCourse text
-
--- The time from which a segment goes on and the number of events before it, for its origin.
-pub record IsBegun (lps : ℕ) (image : List (List ℕ)) (o : Origin) (time events : ℕ) : Type 0 where
-  pub begins : IsOriginOn lps image (Some o)
-  pub at : IsBegunAt image time
-  pub events_are : events ≡ events_before o.numbers (length o.pending)
-
--- the lines of `status` on a segment
-abbrev pub origin_text : ℕ → ℕ → List ℕ
-origin_text time events =
-    (codes "origin " ++ decimal time) ++ (codes "\nevents before " ++ decimal events) ++ codes "\n"
-
--- none of them without an origin
-abbrev pub lines_text : Option (ℕ × ℕ) → List ℕ
-lines_text None = []
-lines_text (Some (time, events)) = origin_text time events
-
--- the lines behind those of a disk that begins as its model does, and behind those of a segment
-abbrev pub IsOriginText : ℕ → List (List ℕ) → Option Origin → List ℕ → Type 0
-IsOriginText lps image None text = text ≡ []
-IsOriginText lps image (Some o) text =
-    (time : ℕ) × (events : ℕ) × IsBegun lps image o time events × (text ≡ origin_text time events)
-
--- The text of the inspection of a disk, and of its origin if it has one.
-pub record IsStatusText {M : Type 0} (meaning : M → Meaning) (says : Describes M)
-    (text : List ℕ) : Type 0 where
-  pub source : List ℕ
-  pub model : M
-  pub end : ℕ
-  pub image : List (List ℕ)
-  pub origin : Option Origin
-  pub on : Meaning
-  pub found_there : Inspection
-  pub behind : List ℕ
-  pub file : IsModelFile says source model end
-  pub is_on : IsOn (meaning model) image origin on
-  pub inspected : IsInspected on end image found_there
-  pub behind_is : IsOriginText (meaning model).lps image origin behind
-  pub is : text ≡ inspection_text found_there ++ behind
-
--- the line of `verify` on a segment whose origin is believed, and on one that goes on from another
--- disk
-abbrev pub believed_text : ℕ → List ℕ
-believed_text time = (codes "from the origin at " ++ decimal time) ++ codes "\n"
-
-abbrev pub followed_text : ℕ → ℕ → List ℕ
-followed_text time events = (codes "goes on from " ++ decimal time)
-    ++ (codes " events " ++ decimal events) ++ codes "\n"
-
--- The image of a segment goes on from the world to which the image of the disk before it is
--- replayed.
-pub record GoesOn (m : Meaning) (end : ℕ) (image : List (List ℕ)) (o : Origin) (time events : ℕ) :
-    Type 0 where
-  pub world : World
-  pub front : IsFrontOn m end world
-  pub same : as_origin world ≡ o
-  pub later : time ≡ world.time
-  pub begun : IsBegun m.lps image o time events
-
--- the line by what is known of the origin: its time, and the events before it if it is not believed
-abbrev pub line_text : Option (ℕ × Option ℕ) → List ℕ
-line_text None = []
-line_text (Some (time, None)) = believed_text time
-line_text (Some (time, Some events)) = followed_text time events
-
--- the line behind those of a verified disk
-abbrev pub IsLineBehind : Meaning → ℕ → {S : Type 0} → Option S → List (List ℕ) → Option Origin →
-    List ℕ → Type 0
-IsLineBehind m end None image None line = line ≡ []
-IsLineBehind m end None image (Some o) line =
-    (time : ℕ) × (events : ℕ) × IsBegun m.lps image o time events × (line ≡ believed_text time)
-IsLineBehind m end (Some before) image None line = ⊥
-IsLineBehind m end (Some before) image (Some o) line = (time : ℕ) × (events : ℕ)
-    × GoesOn m end image o time events × (line ≡ followed_text time events)
-
--- The text of the world that the image of a disk represents, and of its origin. A checkpoint in it,
--- but for the origin, holds what the records before it reach.
-pub record IsVerifiedAs {M S : Type 0} (meaning : M → Meaning) (says : Describes M)
-    (after : Option S) (text : List ℕ) : Type 0 where
-  pub source : List ℕ
-  pub model : M
-  pub end : ℕ
-  pub image : List (List ℕ)
-  pub origin : Option Origin
-  pub on : Meaning
-  pub seen : Verified
-  pub line : List ℕ
-  pub file : IsModelFile says source model end
-  pub is_on : IsOn (meaning model) image origin on
-  pub of_world : IsOfWorld on end image seen
-  pub line_is : IsLineBehind (meaning model) end after image origin line
-  pub is : text ≡ verified_text seen ++ line
-
-abbrev pub IsVerifiedBy : {M : Type 0} → (M → Meaning) → Describes M → VerifyArgs → List ℕ → Type 0
-IsVerifiedBy meaning says args = IsVerifiedAs meaning says args.after
-
--- what `log`, `show` and `stats` print, with the model's names or without them
-abbrev pub IsLoggedAs : {M : Type 0} → (M → Meaning) → Describes M → Bool → LogArgs → List ℕ → Type 0
-IsLoggedAs meaning says true args = IsNamed
-IsLoggedAs meaning says false args = IsLogged meaning says args.from args.to args.process
-
-abbrev pub IsShownAs : {M : Type 0} → (M → Meaning) → Describes M → Bool → List ℕ → Type 0
-IsShownAs meaning says true = IsNamed
-IsShownAs meaning says false = IsShown meaning says
-
-abbrev pub IsStatsAs : {M : Type 0} → (M → Meaning) → Describes M → Bool → StatsArgs → List ℕ →
-    Type 0
-IsStatsAs meaning says true args = IsNamed
-IsStatsAs meaning says false args = IsStats meaning says args.of.disk args.csv
-
 -- a text that a command prints
 abbrev pub IsOutput : {M : Type 0} → (M → Meaning) → Describes M → Shows M → Command → List ℕ →
     Type 0
@@ -552,14 +256,14 @@ IsOutput meaning says shows (Migrate args) text = IsMigratedText meaning says te
 IsOutput meaning says shows (Reopen args) text = IsReopenedText meaning says text
 IsOutput meaning says shows (Cut args) text = IsCutText meaning says text
 IsOutput meaning says shows (Recover args) text = IsRecoveredText meaning says text
-IsOutput meaning says shows (Status args) text = IsStatusText meaning says text
-IsOutput meaning says shows (Verify args) text = IsVerifiedBy meaning says args text
-IsOutput meaning says shows (Log args) text = IsLoggedAs meaning says args.names args text
-IsOutput meaning says shows (Show args) text = IsShownAs meaning says args.names text
-IsOutput meaning says shows (Stats args) text = IsStatsAs meaning says args.names args text
-IsOutput meaning says shows (Draw args) text = IsPicture meaning says args args.trace text
-IsOutput meaning says shows (Seq args) text = IsWholeSimulation meaning says text
-IsOutput meaning says shows (Check args) text = IsSomeChecked says shows text
+IsOutput meaning says shows (Status args) text = IsSeen meaning says shows (look.Status args) text
+IsOutput meaning says shows (Verify args) text = IsSeen meaning says shows (look.Verify args) text
+IsOutput meaning says shows (Log args) text = IsSeen meaning says shows (look.Log args) text
+IsOutput meaning says shows (Show args) text = IsSeen meaning says shows (look.Show args) text
+IsOutput meaning says shows (Stats args) text = IsSeen meaning says shows (look.Stats args) text
+IsOutput meaning says shows (Draw args) text = IsSeen meaning says shows (look.Draw args) text
+IsOutput meaning says shows (Seq args) text = IsSeen meaning says shows (look.Seq args) text
+IsOutput meaning says shows (Check args) text = IsSeen meaning says shows (look.Check args) text
 IsOutput meaning says shows (Node args) text = text ≡ []
 
 -- The words give a command of the program of this name, and the writer has taken a text that the

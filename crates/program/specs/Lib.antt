@@ -1,4 +1,4 @@
 -- For callers
+pub mod Attempts  -- what the attempts of a run do on its disks
 pub mod Command  -- what the commands print
-pub mod Repairing  -- what `recover` and `cut` print
 pub mod Turns  -- the rows of turns

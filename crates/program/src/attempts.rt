@@ -1,28 +1,36 @@
 // The attempts of a run: each begins at the last commit on the disk. Another one follows if a node
 // program was lost, or the disk was full and is longer now, or archived.
 
-ghost use Rattle.std.specs.Prelude.{◌≡◌, ◌≤◌, ◌^◌, ℕ, List, IfErr, IfOk, OnErr, OnOk, map, replicate};
-ghost use Rattle.program.specs.Command.{IsRan, IsRanApart, IsRanBy, IsStoppedApart, IsStoppedBy};
-ghost use Rattle.program.specs.Command.{IsStoppedText, IsTried, IsWithoutOutput};
+ghost use Rattle.std.specs.Prelude.{◌≡◌, ◌≤◌, ◌^◌, ℕ, IfErr, IfOk, OnErr, OnOk, map, replicate};
+ghost use Rattle.std.specs.Prelude.{not};
+ghost use Rattle.std.specs.Option.{option_map};
+ghost use Rattle.disk.specs.FileDisks.{disk_of_file};
+ghost use Rattle.disk.specs.Growth.{grown_to};
+ghost use Rattle.model.specs.Meaning.{CanBegin};
+ghost use Rattle.model.specs.Origins.{continued};
+ghost use Rattle.program.specs.Attempts.{GoesOnWith, IsAttempt, IsAttemptBy};
+ghost use Rattle.program.specs.Attempts.{IsFollowedBy, IsGoneOn, IsLastBy, IsRunBy, KeepsAll};
+ghost use Rattle.program.specs.Attempts.{nodes_of, trusts_nodes};
+ghost use Rattle.program.specs.Command.{IsWithoutOutput};
 ghost use Rattle.sockets.specs.Socket.{state_of};
 ghost use Rattle.sockets.specs.declared.port.Held.TheVariants.{Fresh};
-ghost use Rattle.texts.specs.ModelFile.{IsModelFile};
+ghost use Rattle.views.specs.Reading.{BeginsWith};
 
-use crate::fault::Fault;
 use crate::parts::{Archive, archived};
 use crate::plainly::attempt_plainly;
 use crate::running::{judges_all, plan_of};
 use crate::watching::Watching;
-use archiving::Place;
 use cli::{RunArgs, most_sectors};
 use commands::{CommandFault, Ended, Simulated};
 use coordinator::SessionFault;
 use disk::{FileDisk, Room, SectorDisk};
+use disk_commands::Fault;
 use frames::Hello;
-use growing::{Grown, NotGrown, grow};
 use judging::{Differences, judged_ports};
+use model::{Continued, Model as Modelled, Origin};
 use node_programs::{Behind, Calls, NodeStream, NodesFault, clear, meet};
 use runs::Plan;
+use segments::archiving::Place;
 use sockets::SocketPort;
 use std::alloc::Global;
 use std::fs::File;
@@ -32,7 +40,8 @@ use std::process::Processes;
 use std::rt::Files;
 use std::time::Clock;
 use terminal::Progress;
-use texts::Described;
+use upkeep::growing::{Grown, NotGrown, grow};
+use views::Begun;
 use wire::{PortFault, WireFault};
 
 /// The program that a run starts for each node, the text of the run's model file once it is read,
@@ -103,42 +112,174 @@ const UNLIMITED: u32 = u32::MAX;
 /// hours, and one for each archived disk, which has at least an event and takes some syncs.
 const MOST_ATTEMPTS: u32 = u32::MAX;
 
+/// The disk from which a run goes on after an attempt.
+enum Next {
+    /// The disk of the attempt, which may be longer now.
+    Same(FileDisk),
+    /// The next disk, after that of the attempt is archived.
+    Other(FileDisk),
+}
+
 /// Makes attempts of a run until one ends after which the run does not go on. Returns that one, or
 /// why the node programs of an attempt were not met.
+///
+/// Each attempt simulates the model as the simulation on its disk begins. The origin of a disk is
+/// read once, when the run comes to it; only the disk of a segment is opened once more for that.
 pub(crate) fn run_attempts<M, R, P, O>(
     rt: &R,
     nodes: NodePrograms<'_>,
     of: &Simulated<M>,
+    begun: Begun,
+    args: RunArgs<'_>,
+    watch: &mut Watching<'_, R, P>,
+    out: &mut O,
+) -> Result<Ended<FileDisk>, Fault>
+where
+    M: Modelled,
+    R: Files<File = File> + Net + Processes + Clock + AllocGlobal,
+    P: Progress,
+    O: Write,
+    requires nodes { 1 ≤ args.nodes }
+    requires few { args.nodes ≤ 64 }
+    requires some { 1 ≤ of.now.end }
+    requires short { of.now.end ≤ 2 ^ 40 }
+    requires sound { CanBegin (M.meaning of.now.model).lps begun.origin }
+    requires begins { BeginsWith (M.meaning of.now.model).lps begun.disk.reads begun.origin }
+    // Unless node programs are trusted, the run is a list of calls of a history on its disk, and on
+    // each next one if it is archived; the last of them has printed the numbers that it acknowledges.
+    ensures run { IfOk result (λ ended. IsRunBy (trusts_nodes args.entry) (M.meaning of.now.model)
+        of.now.end (nodes_of args.entry) (disk_of_file begun.disk) (disk_of_file ended.disk)
+        ended.outcome (out.new ≡ out.old) (O.contents out.old) (O.contents out.new)) }
+    ensures unmet { OnErr result (out.new ≡ out.old) }
+{
+    let mut going = GoingOn::of(&args);
+    let Begun {
+        disk,
+        origin,
+        time: _,
+    } = begun;
+    let mut disk = disk;
+    let mut origin = origin;
+    'attempts: for _ in 0..MOST_ATTEMPTS {
+        let next = match attempt_and_go_on::<M, R, P, O>(
+            rt,
+            nodes,
+            of,
+            origin.as_ref(),
+            disk,
+            args,
+            &mut going,
+            watch,
+            out,
+        )? {
+            Ok(next) => next,
+            Err(last) => return Ok(last),
+        };
+        let (following, first) = gone_on(rt.alloc(), &of.model, origin, next);
+        disk = following;
+        origin = first;
+    }
+    attempt_last::<M, R, P, O>(rt, nodes, of, origin.as_ref(), disk, args, watch, out)
+}
+
+/// Returns the disk from which a run goes on, and the origin with which the simulation on it begins:
+/// that of the disk before, if it is the same one.
+fn gone_on<M: Modelled>(
+    alloc: Global,
+    model: &M,
+    origin: Option<Origin>,
+    next: Next,
+) -> (FileDisk, Option<Origin>)
+    requires sound { CanBegin (M.meaning model.now).lps origin }
+    ensures sound { CanBegin (M.meaning model.now).lps result.1 }
+    ensures is { IsGoneOn (M.meaning model.now).lps origin next result.0 result.1 }
+{
+    match next {
+        Next::Same(disk) => (disk, origin),
+        Next::Other(disk) => {
+            let Begun {
+                disk,
+                origin,
+                time: _,
+            } = Begun::of(alloc, model, disk);
+            (disk, origin)
+        }
+    }
+}
+
+/// Makes one attempt of a run on a disk whose simulation begins with this origin, and what follows
+/// it. Returns the disk from which the run goes on, or the attempt if it does not.
+fn attempt_and_go_on<M, R, P, O>(
+    rt: &R,
+    nodes: NodePrograms<'_>,
+    of: &Simulated<M>,
+    origin: Option<&Origin>,
+    disk: FileDisk,
+    args: RunArgs<'_>,
+    going: &mut GoingOn<'_>,
+    watch: &mut Watching<'_, R, P>,
+    out: &mut O,
+) -> Result<Result<Next, Ended<FileDisk>>, Fault>
+where
+    M: Modelled,
+    R: Files<File = File> + Net + Processes + Clock + AllocGlobal,
+    P: Progress,
+    O: Write,
+    requires nodes { 1 ≤ args.nodes }
+    requires few { args.nodes ≤ 64 }
+    requires some { 1 ≤ of.now.end }
+    requires short { of.now.end ≤ 2 ^ 40 }
+    requires sound { CanBegin (M.meaning of.now.model).lps (option_map (λ o. o.now) origin) }
+    ensures next { IfOk result (λ ended. IfOk ended (λ next. (out.new ≡ out.old)
+        × IsFollowedBy (trusts_nodes args.entry)
+        (continued (M.meaning of.now.model) (option_map (λ o. o.now) origin.entry)) of.now.end
+        (disk_of_file disk) next)) }
+    ensures last { IfOk result (λ ended. IfErr ended (λ last. IsLastBy (trusts_nodes args.entry)
+        (continued (M.meaning of.now.model) (option_map (λ o. o.now) origin.entry)) of.now.end
+        (nodes_of args.entry) (disk_of_file disk) (disk_of_file last.disk) last.outcome
+        (out.new ≡ out.old) (O.contents out.old) (O.contents out.new))) }
+    ensures unmet { OnErr result (out.new ≡ out.old) }
+{
+    let on = Simulated {
+        model: Continued::new(&of.model, origin),
+        end: of.end,
+    };
+    let ended = attempt::<Continued<'_, M>, R, P, O>(rt, nodes, &on, disk, args, watch, out)?;
+    Ok(next_disk(rt, &on, ended, going, nodes.calls, watch))
+}
+
+/// Makes an attempt of a run on a disk whose simulation begins with this origin.
+fn attempt_last<M, R, P, O>(
+    rt: &R,
+    nodes: NodePrograms<'_>,
+    of: &Simulated<M>,
+    origin: Option<&Origin>,
     disk: FileDisk,
     args: RunArgs<'_>,
     watch: &mut Watching<'_, R, P>,
     out: &mut O,
 ) -> Result<Ended<FileDisk>, Fault>
 where
-    M: Described,
+    M: Modelled,
     R: Files<File = File> + Net + Processes + Clock + AllocGlobal,
     P: Progress,
     O: Write,
     requires nodes { 1 ≤ args.nodes }
     requires few { args.nodes ≤ 64 }
-    requires file { (text : List ℕ) × IsModelFile M.says text of.now.model of.now.end }
     requires some { 1 ≤ of.now.end }
     requires short { of.now.end ≤ 2 ^ 40 }
-    ensures tried { IfOk result (λ ended. IsTried (IsRanBy M.meaning M.says args.entry)
-        (IsStoppedBy M.meaning M.says args.entry) ended.outcome (out.new ≡ out.old)
-        (O.contents out.old) (O.contents out.new)) }
+    requires sound { CanBegin (M.meaning of.now.model).lps (option_map (λ o. o.now) origin) }
+    ensures last { IfOk result (λ last. IsLastBy (trusts_nodes args.entry)
+        (continued (M.meaning of.now.model) (option_map (λ o. o.now) origin.entry)) of.now.end
+        (nodes_of args.entry) (disk_of_file disk) (disk_of_file last.disk) last.outcome
+        (out.new ≡ out.old) (O.contents out.old) (O.contents out.new)) }
     ensures unmet { OnErr result (out.new ≡ out.old) }
 {
-    let mut going = GoingOn::of(&args);
-    let mut disk = disk;
-    'attempts: for _ in 0..MOST_ATTEMPTS {
-        let ended = attempt::<M, R, P, O>(rt, nodes, of, disk, args, watch, out)?;
-        match next_disk(rt, of, ended, &mut going, nodes.calls, watch) {
-            Ok(next) => disk = next,
-            Err(last) => return Ok(last),
-        }
-    }
-    attempt::<M, R, P, O>(rt, nodes, of, disk, args, watch, out)
+    let on = Simulated {
+        model: Continued::new(&of.model, origin),
+        end: of.end,
+    };
+    attempt::<Continued<'_, M>, R, P, O>(rt, nodes, &on, disk, args, watch, out)
 }
 
 /// Makes one attempt of a run: without nodes, over nodes in this program, or over node programs if
@@ -153,18 +294,18 @@ fn attempt<M, R, P, O>(
     out: &mut O,
 ) -> Result<Ended<FileDisk>, Fault>
 where
-    M: Described,
+    M: Modelled,
     R: Files<File = File> + Net + Processes + Clock + AllocGlobal,
     P: Progress,
     O: Write,
     requires nodes { 1 ≤ args.nodes }
     requires few { args.nodes ≤ 64 }
-    requires file { (text : List ℕ) × IsModelFile M.says text of.now.model of.now.end }
     requires some { 1 ≤ of.now.end }
     requires short { of.now.end ≤ 2 ^ 40 }
-    ensures tried { IfOk result (λ ended. IsTried (IsRanBy M.meaning M.says args.entry)
-        (IsStoppedBy M.meaning M.says args.entry) ended.outcome (out.new ≡ out.old)
-        (O.contents out.old) (O.contents out.new)) }
+    ensures tried { IfOk result (λ ended. IsAttemptBy (trusts_nodes args.entry)
+        (M.meaning of.now.model) of.now.end (nodes_of args.entry) (disk_of_file disk)
+        (disk_of_file ended.disk) ended.outcome (out.new ≡ out.old) (O.contents out.old)
+        (O.contents out.new)) }
     ensures unmet { OnErr result (out.new ≡ out.old) }
 {
     if args.plain {
@@ -203,17 +344,17 @@ fn attempt_here<M, R, P, O>(
     out: &mut O,
 ) -> Ended<FileDisk>
 where
-    M: Described,
+    M: Modelled,
     R: Files<File = File> + Clock,
     P: Progress,
     O: Write,
     requires nodes { 1 ≤ plan.nodes }
     requires few { plan.nodes ≤ 64 }
-    requires file { (text : List ℕ) × IsModelFile M.says text of.now.model of.now.end }
     requires some { 1 ≤ of.now.end }
     requires short { of.now.end ≤ 2 ^ 40 }
-    ensures { IsTried (IsRan M.meaning M.says plan.nodes) (IsStoppedText M.meaning M.says)
-        result.outcome (out.new ≡ out.old) (O.contents out.old) (O.contents out.new) }
+    ensures { IsAttempt (M.meaning of.now.model) of.now.end plan.nodes (disk_of_file disk)
+        (disk_of_file result.disk) result.outcome (out.new ≡ out.old) (O.contents out.old)
+        (O.contents out.new) }
 {
     commands::run(alloc, of, disk, plan, watch, out)
 }
@@ -263,19 +404,17 @@ fn attempt_behind<M, R, P, O>(
     out: &mut O,
 ) -> Result<Ended<FileDisk>, Fault>
 where
-    M: Described,
+    M: Modelled,
     R: Files<File = File> + Net + Processes + Clock + AllocGlobal,
     P: Progress,
     O: Write,
     requires nodes { 1 ≤ plan.nodes }
     requires few { plan.nodes ≤ 64 }
-    requires file { (text : List ℕ) × IsModelFile M.says text of.now.model of.now.end }
     requires some { 1 ≤ of.now.end }
     requires short { of.now.end ≤ 2 ^ 40 }
-    ensures tried { IfOk result (λ ended. IsTried
-        (IsRanApart M.meaning M.says plan.judged plan.nodes)
-        (IsStoppedApart M.meaning M.says plan.judged) ended.outcome (out.new ≡ out.old)
-        (O.contents out.old) (O.contents out.new)) }
+    ensures tried { IfOk result (λ ended. IsAttemptBy (not plan.judged) (M.meaning of.now.model)
+        of.now.end plan.nodes (disk_of_file disk) (disk_of_file ended.disk) ended.outcome
+        (out.new ≡ out.old) (O.contents out.old) (O.contents out.new)) }
     ensures unmet { OnErr result (out.new ≡ out.old) }
 {
     let own = Hello::of(rt.alloc(), &of.model, of.end)?;
@@ -315,7 +454,7 @@ fn attempt_over<M, R, P, O>(
     out: &mut O,
 ) -> Result<Ended<FileDisk>, Fault>
 where
-    M: Described,
+    M: Modelled,
     R: Files<File = File> + Clock,
     P: Progress,
     O: Write,
@@ -323,13 +462,11 @@ where
     requires few { plan.nodes ≤ 64 }
     requires ports { map (λ p. state_of p.held) ports.items ≡ replicate plan.nodes
         (state_of Fresh) }
-    requires file { (text : List ℕ) × IsModelFile M.says text of.now.model of.now.end }
     requires some { 1 ≤ of.now.end }
     requires short { of.now.end ≤ 2 ^ 40 }
-    ensures tried { IfOk result (λ ended. IsTried
-        (IsRanApart M.meaning M.says plan.judged plan.nodes)
-        (IsStoppedApart M.meaning M.says plan.judged) ended.outcome (out.new ≡ out.old)
-        (O.contents out.old) (O.contents out.new)) }
+    ensures tried { IfOk result (λ ended. IsAttemptBy (not plan.judged) (M.meaning of.now.model)
+        of.now.end plan.nodes (disk_of_file disk) (disk_of_file ended.disk) ended.outcome
+        (out.new ≡ out.old) (O.contents out.old) (O.contents out.new)) }
     ensures unmet { OnErr result (out.new ≡ out.old) }
 {
     let Judge { every, differences } = judge;
@@ -345,27 +482,29 @@ fn next_disk<M, R, P>(
     going: &mut GoingOn<'_>,
     calls: &Calls,
     watch: &mut Watching<'_, R, P>,
-) -> Result<FileDisk, Ended<FileDisk>>
+) -> Result<Next, Ended<FileDisk>>
 where
-    M: Described,
+    M: Modelled,
     R: Files<File = File> + Clock + AllocGlobal,
     P: Progress,
     requires some { 1 ≤ of.now.end }
     requires short { of.now.end ≤ 2 ^ 40 }
     ensures next { OnOk result (IsWithoutOutput ended.outcome) }
     ensures last { IfErr result (λ last. last.outcome ≡ ended.outcome) }
+    ensures goes_on { IfOk result (GoesOnWith (M.meaning of.now.model) of.now.end
+        (disk_of_file ended.disk)) }
+    ensures rest { IfErr result (λ last. KeepsAll (M.meaning of.now.model)
+        (disk_of_file ended.disk) (disk_of_file last.disk)) }
 {
     match ended.outcome {
         Err(CommandFault::Session(SessionFault::Full)) => full(rt, of, ended, *going, watch),
-        Err(CommandFault::Session(SessionFault::Port(fault))) => retried(
-            rt.alloc(),
-            fault,
-            ended,
-            going,
-            calls,
-            watch,
-        ),
-        Err(CommandFault::Rounds) if going.is_unlimited => Ok(ended.disk),
+        Err(CommandFault::Session(SessionFault::Port(fault))) => {
+            match retried(rt.alloc(), fault, ended, going, calls, watch) {
+                Ok(disk) => Ok(Next::Same(disk)),
+                Err(last) => Err(last),
+            }
+        }
+        Err(CommandFault::Rounds) if going.is_unlimited => Ok(Next::Same(ended.disk)),
         _ => Err(ended),
     }
 }
@@ -379,18 +518,28 @@ fn full<M, R, P>(
     ended: Ended<FileDisk>,
     going: GoingOn<'_>,
     watch: &mut Watching<'_, R, P>,
-) -> Result<FileDisk, Ended<FileDisk>>
+) -> Result<Next, Ended<FileDisk>>
 where
-    M: Described,
+    M: Modelled,
     R: Files<File = File> + Clock + AllocGlobal,
     P: Progress,
     requires some { 1 ≤ of.now.end }
     requires short { of.now.end ≤ 2 ^ 40 }
-    ensures { IfErr result (λ last. last.outcome ≡ ended.outcome) }
+    ensures last { IfErr result (λ last. last.outcome ≡ ended.outcome) }
+    ensures goes_on { IfOk result (GoesOnWith (M.meaning of.now.model) of.now.end
+        (disk_of_file ended.disk)) }
+    ensures rest { IfErr result (λ last. KeepsAll (M.meaning of.now.model)
+        (disk_of_file ended.disk) (disk_of_file last.disk)) }
 {
     match going.archive {
-        Some(into) => archived(rt, of, ended, into, watch),
-        None => lengthened(rt.alloc(), of, ended, going.most, watch.progress),
+        Some(into) => match archived(rt, of, ended, into, watch) {
+            Ok(disk) => Ok(Next::Other(disk)),
+            Err(last) => Err(last),
+        },
+        None => match lengthened(rt.alloc(), of, ended, going.most, watch.progress) {
+            Ok(disk) => Ok(Next::Same(disk)),
+            Err(last) => Err(last),
+        },
     }
 }
 
@@ -404,9 +553,16 @@ fn lengthened<M, P>(
     progress: &mut P,
 ) -> Result<FileDisk, Ended<FileDisk>>
 where
-    M: Described,
+    M: Modelled,
     P: Progress,
-    ensures { IfErr result (λ last. last.outcome ≡ ended.outcome) }
+    ensures last { IfErr result (λ last. last.outcome ≡ ended.outcome) }
+    // The same disk, with zeros behind it; and a call of a history, at every exit.
+    ensures longer { IfOk result (λ disk. (sectors : ℕ)
+        × (disk.reads ≡ grown_to sectors ended.disk.reads)) }
+    ensures kept { IfOk result (λ disk. KeepsAll (M.meaning of.now.model)
+        (disk_of_file ended.disk) (disk_of_file disk)) }
+    ensures kept_err { IfErr result (λ last. KeepsAll (M.meaning of.now.model)
+        (disk_of_file ended.disk) (disk_of_file last.disk)) }
 {
     let Ended { disk, outcome } = ended;
     let before = disk.sectors();
@@ -446,7 +602,8 @@ fn retried<R, P>(
 where
     R: Files<File = File> + Clock,
     P: Progress,
-    ensures { IfErr result (λ last. last.outcome ≡ ended.outcome) }
+    ensures same { IfOk result (λ disk. disk ≡ ended.disk) }
+    ensures last { IfErr result (λ last. last ≡ ended) }
 {
     if !is_lost(fault) || going.retried >= going.retries {
         return Err(ended);

@@ -3,8 +3,9 @@
 ghost use Rattle.std.specs.Prelude.{◌≤◌, ◌^◌, ℕ, List, IfOk};
 ghost use Rattle.texts.specs.ModelFile.{IsModelFile};
 
-use crate::fault::Fault;
+use cli::ModelFile;
 use commands::Simulated;
+use disk_commands::Fault;
 use std::rt::Files;
 use texts::Described;
 use views::{ModelText, read_model_file, read_model_text};
@@ -12,7 +13,7 @@ use views::{ModelText, read_model_file, read_model_text};
 /// Reads the model and its end from a model file. A program's own command starts with this call.
 ///
 /// Returns `File` if the file cannot be read, `BadModel` if it is not a model file, and `NoMemory`.
-pub fn simulated<M, R>(rt: &R, path: &str) -> Result<Simulated<M>, Fault>
+pub fn simulated<M, R>(rt: &R, file: ModelFile<'_>) -> Result<Simulated<M>, Fault>
 where
     M: Described,
     R: Files + AllocGlobal,
@@ -20,7 +21,7 @@ where
     ensures some { IfOk result (λ of. 1 ≤ of.end) }
     ensures short { IfOk result (λ of. of.end ≤ 2 ^ 40) }
 {
-    let (model, end) = read_model_file(rt, path)?;
+    let (model, end) = read_model_file(rt, file)?;
     Ok(Simulated { model, end })
 }
 
@@ -33,7 +34,7 @@ pub(crate) struct WithText<M> {
 
 /// Reads the model and its end from a model file, and keeps its text. The faults are those of
 /// `simulated`.
-pub(crate) fn simulated_with_text<M, R>(rt: &R, path: &str) -> Result<WithText<M>, Fault>
+pub(crate) fn simulated_with_text<M, R>(rt: &R, file: ModelFile<'_>) -> Result<WithText<M>, Fault>
 where
     M: Described,
     R: Files + AllocGlobal,
@@ -42,7 +43,7 @@ where
     ensures some { IfOk result (λ read. 1 ≤ read.of.end) }
     ensures short { IfOk result (λ read. read.of.end ≤ 2 ^ 40) }
 {
-    let ModelText { model, end, text } = read_model_text(rt, path)?;
+    let ModelText { model, end, text } = read_model_text(rt, file)?;
     let of = Simulated { model, end };
     Ok(WithText { of, text })
 }

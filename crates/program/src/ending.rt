@@ -5,8 +5,9 @@ ghost use Rattle.commands.specs.declared.fault.CommandFault.{CommandFault};
 ghost use Rattle.eventkey.specs.Writing.{TakesBeginning};
 ghost use Rattle.program.specs.Command.{IsEnded, IsNotEnded};
 
-use crate::fault::Fault;
+use crate::outcomes::of_command;
 use commands::{CommandFault, write_stopped};
+use disk_commands::Fault;
 use std::io::Write;
 use terminal::Progress;
 
@@ -48,10 +49,13 @@ fn end_failed<P: Progress, O: Write>(
         CommandFault::Stopped { time, events } => match stop {
             Some(file) => {
                 progress.stopped(file, time);
-                Ok(write_stopped(time, events, out)?)
+                match write_stopped(time, events, out) {
+                    Ok(()) => Ok(()),
+                    Err(fault) => Err(of_command(fault)),
+                }
             }
-            None => Err(Fault::from(fault)),
+            None => Err(of_command(fault)),
         },
-        _ => Err(Fault::from(fault)),
+        _ => Err(of_command(fault)),
     }
 }

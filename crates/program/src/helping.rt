@@ -2,10 +2,10 @@
 
 ghost use Rattle.std.specs.Prelude.{◌≤◌};
 
-use crate::fault::Fault;
 use crate::status::{About, VERSION, print_fault};
 use clap::error::ErrorKind;
 use cli::{TOPICS, Texts, help_text, program_help, seq_help};
+use disk_commands::Fault;
 use std::io::Write;
 
 /// Prints on `out` the help that the words ask for, whose second one is `help`, and returns the

@@ -1,13 +1,15 @@
 // Attempts of runs without nodes.
 
-ghost use Rattle.std.specs.Prelude.{◌≡◌, ◌≤◌, ◌^◌, ℕ, List};
-ghost use Rattle.program.specs.Command.{plain_plan_of, IsRan, IsStoppedText, IsTried};
-ghost use Rattle.texts.specs.ModelFile.{IsModelFile};
+ghost use Rattle.std.specs.Prelude.{◌≡◌, ◌≤◌, ◌^◌};
+ghost use Rattle.disk.specs.FileDisks.{disk_of_file};
+ghost use Rattle.program.specs.Attempts.{IsAttempt};
+ghost use Rattle.program.specs.Command.{plain_plan_of};
 
 use crate::watching::Watching;
 use cli::RunArgs;
 use commands::{Ended, Simulated};
 use disk::FileDisk;
+use model::Model as Modelled;
 use plain::Plan;
 use std::alloc::Global;
 use std::fs::File;
@@ -15,7 +17,6 @@ use std::io::Write;
 use std::rt::Files;
 use std::time::Clock;
 use terminal::Progress;
-use texts::Described;
 
 /// Returns the plan of a run without nodes by the options of its command. A commit has room for
 /// 299,592 events, and takes all those of a virtual time at once, so one is due at 250,000 at the
@@ -41,15 +42,15 @@ pub(crate) fn attempt_plainly<M, R, P, O>(
     out: &mut O,
 ) -> Ended<FileDisk>
 where
-    M: Described,
+    M: Modelled,
     R: Files<File = File> + Clock,
     P: Progress,
     O: Write,
-    requires file { (text : List ℕ) × IsModelFile M.says text of.now.model of.now.end }
     requires some { 1 ≤ of.now.end }
     requires short { of.now.end ≤ 2 ^ 40 }
-    ensures { IsTried (IsRan M.meaning M.says 0) (IsStoppedText M.meaning M.says)
-        result.outcome (out.new ≡ out.old) (O.contents out.old) (O.contents out.new) }
+    ensures { IsAttempt (M.meaning of.now.model) of.now.end 0 (disk_of_file disk)
+        (disk_of_file result.disk) result.outcome (out.new ≡ out.old) (O.contents out.old)
+        (O.contents out.new) }
 {
     let plan = plain_plan_of(args);
     watch.commit_every = plan.commit_every;

@@ -2,21 +2,20 @@
 // node.
 
 ghost use Rattle.std.specs.Prelude.{◌≡◌, ◌≤◌, ◌⊎◌, ◌&&◌, OnErr, OnOk};
-ghost use Rattle.program.specs.Command.{are_rounds_cheap, judges_all, most_of, plan_of};
-ghost use Rattle.program.specs.Command.{schedule_of};
+ghost use Rattle.program.specs.Attempts.{judges_all};
+ghost use Rattle.program.specs.Command.{are_rounds_cheap, most_of, plan_of, schedule_of};
 ghost use Rattle.program.specs.Command.{IsRunOutput};
 ghost use Rattle.views.specs.Views.{Begins, Prints};
 
 use crate::attempts::{NodePrograms, run_attempts};
 use crate::described::{WithText, simulated, simulated_with_text};
-use crate::disks::{NewFile, disk_of};
 use crate::ending::end_run;
-use crate::fault::Fault;
-use crate::parts::counted;
-use crate::said::SystemErrors;
+use crate::making::disk_of;
+use crate::outcomes::of_command;
 use crate::watching::Watching;
 use cli::{BatchOption, NodeArgs, RunArgs};
 use commands::{CommandFault, Simulated};
+use disk_commands::{Fault, NewFile, SystemErrors, has_few_rounds};
 use node_programs::{Calls, count_processors, is_open_to_all};
 use runs::{Batch as DriverBatch, Plan, Schedule};
 use std::fs::{self, File};
@@ -27,7 +26,7 @@ use std::rt::Files;
 use std::time::Clock;
 use terminal::{NoTrace, Progress, Refusal, TraceFile, Traced, Way, are_one_file};
 use texts::Described;
-use views::unreadable;
+use views::{Begun, unreadable};
 
 /// Whether a round costs little: the nodes are in this process, and at 128 messages each they
 /// report no more in a round than a commit waits for. Rounds of more messages would save no sync
@@ -102,20 +101,7 @@ pub(crate) fn plan_of(args: &RunArgs<'_>) -> Plan
     }
 }
 
-/// The number of rounds of a run for which none is given.
-const DEFAULT_ROUNDS: u32 = 1_000_000;
-
-/// Whether a run may go on for days, by its options, but ends after the rounds that it has if no number
-/// is given.
-pub(crate) fn has_few_rounds(args: &RunArgs<'_>) -> bool {
-    let may_be_long = args.create
-        || args.progress.is_some()
-        || args.grow_when_full
-        || args.archive_when_full;
-    may_be_long && args.rounds == DEFAULT_ROUNDS
-}
-
-/// Says at the beginning of such a run when it ends, if somebody reads what it prints.
+/// Says at the beginning of a run that may go on for days when it ends, if somebody reads what it prints.
 fn warn_of_rounds<P: Progress>(args: &RunArgs<'_>, progress: &mut P) {
     if has_few_rounds(args) && (args.progress.is_some() || progress.is_seen()) {
         progress.goes_on("ends after 1000000 rounds: with --rounds unlimited it does not");
@@ -212,7 +198,7 @@ where
 /// that was read.
 ///
 /// Returns, in this order, the faults of the model file, of the disk's file, of the node programs,
-/// and of the run.
+/// and of the run, or of its archive if its disk was full.
 fn run_with<M, R, P, O>(
     rt: &R,
     nodes: NodePrograms<'_>,
@@ -234,25 +220,30 @@ where
         ⊎ Begins (IsRunOutput M.meaning M.says args.entry)
         (O.contents out.old) (O.contents out.new)) }
 {
-    let WithText { of, text }: WithText<M> = simulated_with_text(rt, args.on.model)?;
+    let read: WithText<M> = simulated_with_text(rt, args.on.model)?;
+    let of = &read.of;
     let nodes = NodePrograms {
         program: nodes.program,
-        text: text.as_slice(),
+        text: read.text.as_slice(),
         calls: nodes.calls,
         differences: nodes.differences,
     };
-    let disk = disk_of(rt, &of, args.on, create_of(&args), said)?;
-    let (before, disk) = counted(rt.alloc(), &of.model, disk);
+    let disk = disk_of(rt, of, args.on, create_of(&args), said)?;
+    let begun = Begun::of(rt.alloc(), &of.model, disk);
     progress.begin(of.end);
     progress.takes(way_of(rt, &args, of.model.lps()));
     warn_of_folder(rt, args.sockets, progress);
     warn_of_rounds(&args, progress);
     let mut watch = Watching::new(rt, progress, &args);
-    watch.before = before;
-    let ended = run_attempts::<M, R, P, O>(rt, nodes, &of, disk, args, &mut watch, out)?;
+    watch.before = begun.events_before();
+    let ended = run_attempts::<M, R, P, O>(rt, nodes, of, begun, args, &mut watch, out)?;
     said.note(ended.disk.last_error());
     if watch.is_renamed() {
         return Err(renamed(ended.outcome, watch.time, said));
+    }
+    if let Some((fault, system)) = watch.not_archived {
+        said.note(system);
+        return Err(Fault::from(fault));
     }
     end_run(ended.outcome, args.stop_file, watch.progress, out)
 }
@@ -262,7 +253,7 @@ where
 fn renamed(outcome: Result<(), CommandFault>, time: u64, said: &SystemErrors) -> Fault {
     match outcome {
         Ok(()) | Err(CommandFault::Stopped { .. }) => said.refuse(Refusal::Renamed { time }),
-        Err(fault) => Fault::from(fault),
+        Err(fault) => of_command(fault),
     }
 }
 
@@ -295,7 +286,7 @@ where
         ⊎ Begins (IsRunOutput M.meaning M.says args.entry)
         (O.contents out.old) (O.contents out.new)) }
 {
-    if are_one_file(rt, args.on.model, trace) || are_one_file(rt, args.on.disk, trace) {
+    if are_one_file(rt, args.on.model.path, trace) || are_one_file(rt, args.on.disk, trace) {
         return Err(Fault::File);
     }
     let file = match TraceFile::open(rt, trace) {

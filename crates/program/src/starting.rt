@@ -2,10 +2,10 @@
 
 ghost use Rattle.std.specs.Prelude.{◌≤◌};
 
-use crate::fault::Fault;
 use crate::helping::print_help;
 use crate::status::{About, answer, print_fault, words};
 use cli::{asks_help, says_advice, says_quiet};
+use disk_commands::Fault;
 use std::env;
 use std::fs::File;
 use std::io::{self, BufWriter, IsTerminal, Print, Result as IoResult, Write};

@@ -5,20 +5,20 @@ ghost use Rattle.std.specs.Prelude.{◌≡◌, ◌≤◌, ◌≢◌, ◌⊎◌, 
 ghost use Rattle.clap.specs.Values.{kind_of};
 ghost use Rattle.cli.specs.Command.{refusal_of, IsRanged};
 ghost use Rattle.program.specs.Command.{BeginsSaid, IsOutput, PrintsSaid};
+ghost use Rattle.views.specs.Reading.{IsSeen};
 ghost use Rattle.views.specs.Views.{Begins, Prints};
 
-use crate::advising::{Asked, Noted, advise};
 use crate::attempts::NodePrograms;
-use crate::disks::{extend_on, grow_on, migrate_on, reopen_on, show_on};
-use crate::fault::Fault;
-use crate::looking::{draw_on, log_on, stats_on, status_on, verify_on};
+use crate::making::{extend_on, migrate_on};
 use crate::parts::new_as;
-use crate::repairing::{cut_on, recover_on};
 use crate::running::{run_as, serve_on};
-use crate::said::SystemErrors;
 use clap::error::{Error as LineError, ErrorKind as LineFault};
 use cli::{
     Command, Hint, Texts, hint_of, program_help, read_command, says_advice, says_quiet, seq_help,
+    settings_of,
+};
+use disk_commands::{
+    Asked, Fault, Noted, SystemErrors, Verifying, advise, cut_on, grow_on, recover_on, reopen_on,
 };
 use judging::Differences;
 use node_programs::Calls;
@@ -32,7 +32,7 @@ use std::rt::{Env, Files};
 use std::time::Clock;
 use terminal::Progress;
 use texts::{Described, Report};
-use views::{Wrong, check_of, seq_of};
+use views::{Look, Wrong, look_at};
 
 /// The version of this program and of programs over other models, and the format of their disks.
 pub const VERSION: &str = "0.4.0 (disks of format 2)";
@@ -113,7 +113,10 @@ where
         help: help.as_str(),
         seq_help: seq_help.as_str(),
     };
-    let command = match read_command(rt.alloc(), texts, words) {
+    let Ok(settings) = settings_of(rt.alloc(), words) else {
+        return print_fault(about.name, Fault::NoMemory, err);
+    };
+    let command = match read_command(rt.alloc(), texts, words, settings.as_slice()) {
         Ok(command) => command,
         Err(error) => {
             let hint = hint_of(words);
@@ -221,16 +224,39 @@ where
         Command::Reopen(args) => reopen_on::<M, R, P, O>(rt, args, said, progress, out),
         Command::Cut(args) => cut_on::<M, R, P, O>(rt, args, said, progress, out),
         Command::Recover(args) => recover_on::<M, R, P, O>(rt, args, said, progress, out),
-        Command::Status(args) => status_on::<M, R, O>(rt, args, out),
-        Command::Verify(args) => verify_on::<M, R, P, O>(rt, args, progress, out),
-        Command::Log(args) => log_on::<M, R, O>(rt, args, out),
-        Command::Show(args) => show_on::<M, R, O>(rt, args, out),
-        Command::Stats(args) => stats_on::<M, R, O>(rt, args, out),
-        Command::Draw(args) => draw_on::<M, R, O>(rt, args, out),
-        Command::Seq(args) => Ok(seq_of::<M, R, O>(rt, args.model, out)?),
-        Command::Check(args) => Ok(check_of::<M, R, O>(rt, args.model, out, found)?),
+        Command::Status(args) => looked::<M, R, P, O>(rt, Look::Status(args), progress, out, found),
+        Command::Verify(args) => looked::<M, R, P, O>(rt, Look::Verify(args), progress, out, found),
+        Command::Log(args) => looked::<M, R, P, O>(rt, Look::Log(args), progress, out, found),
+        Command::Show(args) => looked::<M, R, P, O>(rt, Look::Show(args), progress, out, found),
+        Command::Stats(args) => looked::<M, R, P, O>(rt, Look::Stats(args), progress, out, found),
+        Command::Draw(args) => looked::<M, R, P, O>(rt, Look::Draw(args), progress, out, found),
+        Command::Seq(args) => looked::<M, R, P, O>(rt, Look::Seq(args), progress, out, found),
+        Command::Check(args) => looked::<M, R, P, O>(rt, Look::Check(args), progress, out, found),
         Command::Node(args) => serve_on::<M, R>(rt, nodes.calls, args),
     }
+}
+
+/// Runs a command that only reads.
+fn looked<M, R, P, O>(
+    rt: &R,
+    look: Look<'_>,
+    progress: &mut P,
+    out: &mut O,
+    found: &mut Option<Wrong>,
+) -> Result<(), Fault>
+where
+    M: Described,
+    R: Files<File = File> + AllocGlobal,
+    P: Progress,
+    O: Write,
+    ensures ok { OnOk result (Prints (IsSeen M.meaning M.says M.shows look.entry)
+        (O.contents out.old) (O.contents out.new)) }
+    ensures err { OnErr result ((out.new ≡ out.old)
+        ⊎ Begins (IsSeen M.meaning M.says M.shows look.entry)
+        (O.contents out.old) (O.contents out.new)) }
+{
+    let mut watch = Verifying { progress };
+    Ok(look_at::<M, R, _, O>(rt, look, &mut watch, out, found)?)
 }
 
 /// Prints on `err` why the words are no command, and for a mistake in a value what to write instead,
@@ -294,7 +320,7 @@ pub fn print_fault<E: Write>(name: &str, fault: Fault, err: &mut E) -> u8
 fn print_mistakes<E: Write>(command: Command<'_>, found: &Option<Wrong>, err: &mut E) {
     if let (Command::Check(args), Some(found)) = (command, found) {
         let report = Report {
-            path: args.model,
+            path: args.model.path,
             text: found.text.as_slice(),
             mistakes: &found.mistakes,
         };

@@ -5,9 +5,11 @@ ghost use Rattle.std.specs.Prelude.{◌≡◌};
 ghost use Rattle.program.specs.Turns.{row_of, row_of_commit};
 
 use cli::RunArgs;
+use disk::SystemError;
 use pictures::Row;
 use plain::Watch as PlainWatch;
 use runs::{Turn, Watch};
+use segments::archiving::ArchiveFault;
 use std::fs;
 use std::rt::Files;
 use std::time::{Clock, Duration};
@@ -25,6 +27,8 @@ pub(crate) struct Watching<'p, R, P> {
     pub commit_every: u32,
     /// The number of events before the disk, which a `Progress` sees too.
     pub before: u64,
+    /// Why its full disk was not archived, and what the system says.
+    pub not_archived: Option<(ArchiveFault, Option<SystemError>)>,
     // The number of commits that it made, and of events in the log.
     number: u64,
     events: usize,
@@ -50,6 +54,7 @@ impl<'p, R: Files + Clock, P> Watching<'p, R, P> {
             time: 0,
             commit_every: 0,
             before: 0,
+            not_archived: None,
             number: 0,
             events: 0,
             disk,

@@ -1,5 +1,5 @@
 -- Model files of both kinds.
-use Rattle.std.proofs.Common.{◌≡◌, ℕ, List, [], true, false, option_and_then, Result, Ok, Err, IfOk, ap, sym, ◌∙◌, if◌then◌else◌}
+use Rattle.std.proofs.Common.{◌≡◌, ℕ, List, [], true, false, option_and_then, Result, Ok, Err, IfOk, ap, codes, sym, ◌∙◌, if◌then◌else◌}
 use Rattle.models.specs.declared.any_model.AnyModel.{AnyModel}
 use Rattle.models.specs.declared.any_model.AnyModel.TheVariants.{JobShop, Phold, TokenRing}
 use Rattle.rule_files.proofs.Right.{table_right}
@@ -8,7 +8,7 @@ use Rattle.rule_files.specs.declared.file_model.FileModel.{FileModel}
 use Rattle.rule_files.specs.declared.file_model.FileModel.TheVariants.{BuiltIn, Rules}
 use Rattle.rules.specs.Limits.{IsWithin}
 use Rattle.rules.specs.Rules.{Description, GoodRules}
-use Rattle.texts.specs.AnyModel.{IsTableOf, any_wrong}
+use Rattle.texts.specs.AnyModel.{IsTableOf, wrong_among}
 use Rattle.texts.specs.ModelFile.{Wrong}
 use Rattle.toml.specs.Data.{Members, as_str}
 
@@ -24,7 +24,7 @@ built_in t (JobShop s) end h = ap (λ o. is_rules_kind (option_and_then as_str o
 module _ (t : Members) where
   pub file_right : (r : GoodRules) (end : ℕ) → IsRulesTable t r.description end → file_wrong t ≡ []
   file_right r end h =
-      ap (λ b. if b then rules_table_wrong t else any_wrong t) h.kind ∙ table_right t r.description end h r.good.start r.good.handle
+      ap (λ b. if b then rules_table_wrong t else wrong_among (codes "\"ring\", \"phold\", \"jobshop\" or \"rules\"") t) h.kind ∙ table_right t r.description end h r.good.start r.good.handle
 
   module _ (kind : is_rules t ≡ true) where
     not_built_in : (m : AnyModel) (end : ℕ) → IsTableOf t m end → ⊥

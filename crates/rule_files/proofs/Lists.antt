@@ -1,5 +1,5 @@
 -- Lists that are gone through item by item.
-use Rattle.std.proofs.Common.{◌≡◌, ℕ, ◌+◌, List, [], ◌∷◌, ◌++◌, Bool, true, false, Option, None, Some, ap, sym, ◌∙◌, refl, drop, string_bytes, String, Global, append_assoc, append-nil, if◌then◌else◌, option_and_then}
+use Rattle.std.proofs.Common.{◌≡◌, ℕ, List, [], ◌∷◌, ◌++◌, Bool, true, false, Option, None, Some, ap, sym, ◌∙◌, refl, drop, string_bytes, String, Global, append_assoc, append-nil, if◌then◌else◌, option_and_then}
 use Rattle.std.specs.Prelude.{option_map}
 use Rattle.rule_files.specs.Names.{is_name}
 use Rattle.rule_files.specs.RuleFile.{all_of, named_in, numbers_in}

@@ -6,8 +6,9 @@ use Rattle.texts.proofs.Right.{none_before, none_behind, numbers_right, numbers_
 use Rattle.texts.specs.ModelFile.{Wrong, number_at, number_key, numbers_wrong, unknown_wrong, words_wrong}
 use Rattle.toml.specs.Data.{Members}
 use Rattle.rule_files.proofs.Seam.{spelled}
+use Rattle.rule_files.specs.Arrays.{State}
 use Rattle.rule_files.specs.FileTable.{IsBody, IsRuleAt, IsRulesTable, body_fits, fits_names, head_wrong, key_of, names_fit, names_wrong, parts_fit, rest_of, rest_wrong, rule_fits, rule_wrong, rules_keys, rules_of, rules_table_wrong, rules_wrong, seed_of, seed_wrong, text_fits}
-use Rattle.rule_files.specs.RuleFile.{Parts, content_of, distinct, numbers_of, parts_of, tables_of, words_of}
+use Rattle.rule_files.specs.RuleFile.{Parts, content_of, distinct, numbers_of, parts_of, state_of, tables_of}
 use Rattle.rules.specs.Limits.{Exceeds, IsFault, IsWithin}
 use Rattle.rules.specs.Rules.{Description}
 use Rattle.rules.specs.declared.limits.Limit.{Limit}
@@ -52,9 +53,9 @@ module _ (t : Members) (none : head_wrong t ≡ []) where
 rule_right : (key : List ℕ) (p : Parts) (rules : Members) (rule : List Statement) → IsRuleAt key p rules rule → IsWithin rule → rule_fits key rules p ≡ true
 rule_right key p rules rule h within = ap (λ o. text_fits o p) h.1 ∙ spelled p h.0 rule h.2 within
 
-all_some : (a b : Option (List (List ℕ))) (c d : Option (List (List ℕ × List ℕ))) (p : Parts)
-    → option_and_then (λ words. option_and_then (λ content. option_and_then (λ numbers. option_and_then (λ tables.
-    distinct (record { words = words; content = content; numbers = numbers; tables = tables })) d) c) b) a ≡ Some p
+all_some : (a : Option State) (b : Option (List (List ℕ))) (c d : Option (List (List ℕ × List ℕ))) (p : Parts)
+    → option_and_then (λ state. option_and_then (λ content. option_and_then (λ numbers. option_and_then (λ tables.
+    distinct (record { words = state.words; arrays = state.arrays; content = content; numbers = numbers; tables = tables })) d) c) b) a ≡ Some p
     → (is_some a ≡ true) × (is_some b ≡ true) × (is_some c ≡ true) × (is_some d ≡ true)
 all_some None b c d p h = cc
 all_some (Some w) None c d p h = cc
@@ -63,15 +64,15 @@ all_some (Some w) (Some x) (Some y) None p h = cc
 all_some (Some w) (Some x) (Some y) (Some z) p h = (refl, refl, refl, refl)
 
 parts_there : (t : Members) (p : Parts) → parts_of t ≡ Some p
-    → (is_some (words_of t) ≡ true) × (is_some (content_of t) ≡ true) × (is_some (numbers_of t) ≡ true) × (is_some (tables_of t) ≡ true)
+    → (is_some (state_of t) ≡ true) × (is_some (content_of t) ≡ true) × (is_some (numbers_of t) ≡ true) × (is_some (tables_of t) ≡ true)
 unfolding parts_of
-parts_there t p h = all_some (words_of t) (content_of t) (numbers_of t) (tables_of t) p h
+parts_there t p h = all_some (state_of t) (content_of t) (numbers_of t) (tables_of t) p h
 
 names_right : (t : Members) (p : Parts) → parts_of t ≡ Some p → names_wrong t ≡ []
 names_right t p h =
     let (a, b, c, d) = parts_there t p h in
     let e : names_fit t ≡ true
-    = ap (λ o. fits_names (is_some o) (is_some (words_of t)) (is_some (content_of t)) (is_some (numbers_of t)) (is_some (tables_of t))) h in
+    = ap (λ o. fits_names (is_some o) (is_some (state_of t)) (is_some (content_of t)) (is_some (numbers_of t)) (is_some (tables_of t))) h in
     nils _ _ (nils _ _ (nils _ _ (nils _ _ (right_words _ _ _ t a) (right_words _ _ _ t b)) (right_words _ _ _ t c)) (right_words _ _ _ t d)) (right_words _ _ _ t e)
 
 module _ (t : Members) (d : Description) (b : IsBody t d) (s : IsWithin d.start) (h : IsWithin d.handle) where
@@ -118,7 +119,7 @@ fitting false true true true false p q r s h = s
 
 module _ (t : Members) where
   abbrev words_part : List Wrong
-  words_part = words_wrong (is_some (words_of t)) (codes "state") (codes "a list of at most 16 names") t
+  words_part = words_wrong (is_some (state_of t)) (codes "state") (codes "a list of names and arrays, at most 16 words") t
 
   abbrev content_part : List Wrong
   content_part = words_wrong (is_some (content_of t)) (codes "message") (codes "a list of at most 4 names") t
@@ -138,7 +139,7 @@ module _ (t : Members) where
       let three_none = none_before (words_part ++ content_part ++ numbers_part) tables_part four in
       let two = none_before (words_part ++ content_part) numbers_part three_none in
       some_of (parts_of t)
-      (fitting (is_some (parts_of t)) (is_some (words_of t)) (is_some (content_of t)) (is_some (numbers_of t)) (is_some (tables_of t))
+      (fitting (is_some (parts_of t)) (is_some (state_of t)) (is_some (content_of t)) (is_some (numbers_of t)) (is_some (tables_of t))
       (words_there _ _ _ t (none_before words_part content_part two))
       (words_there _ _ _ t (none_behind words_part content_part two))
       (words_there _ _ _ t (none_behind (words_part ++ content_part) numbers_part three_none))

@@ -41,6 +41,7 @@ tree_cost_is c (e.Triangular' p x q y r z) =
     ∙ ap (λ n. draw_cost c + draw_cost c + cost c x + n + tree_cost c (tree_of z)) (tree_cost_is c y)
     ∙ ap (λ n. draw_cost c + draw_cost c + cost c x + cost c y + n) (tree_cost_is c z)
 tree_cost_is c (e.Choose table) = refl
+tree_cost_is c (e.Element' array p x) = ap (λ n. step_cost c + n) (tree_cost_is c x)
 
 six : (k a b d f g h a2 b2 d2 f2 g2 h2 : ℕ) → a ≡ a2 → b ≡ b2 → d ≡ d2 → f ≡ f2 → g ≡ g2 → h ≡ h2
     → k + (a + b + d + f + g + h) ≡ k + (a2 + b2 + d2 + f2 + g2 + h2)
@@ -57,6 +58,8 @@ mutual
       ∙ ap (λ n. step_cost c + cost c x + max n (acts_cost c (acts_of_row unmet))) (row_cost_is c met)
       ∙ ap (λ n. step_cost c + cost c x + max (cost_of_row c met) n) (row_cost_is c unmet)
   act_cost_is c (s.Repeat' i n p body) = ap (λ k. step_cost c + n * (step_cost c + k)) (row_cost_is c body)
+  act_cost_is c (s.Put array i x) =
+      ap (λ n. step_cost c + n + tree_cost c (tree_of x)) (tree_cost_is c i) ∙ ap (λ n. step_cost c + cost c i + n) (tree_cost_is c x)
 
   row_cost_is : (c : Limit) {m : _} (row : Row_of-Statement m) → acts_cost c (acts_of_row row) ≡ cost_of_row c row
   row_cost_is c end_of-Statement = refl

@@ -7,13 +7,13 @@ use Rattle.std.specs.Cmp.Lexicographic.{pointwise}
 use Rattle.rule_files.specs.Names.{is_key}
 use Rattle.rule_files.specs.Printed.{with_model}
 use Rattle.rule_files.specs.Reading.{Spells, is_rule}
-use Rattle.rule_files.specs.RuleFile.{Parts, content_of, numbers_of, parts_of, tables_of, words_of}
+use Rattle.rule_files.specs.RuleFile.{Parts, content_of, numbers_of, parts_of, state_of, tables_of}
 use Rattle.rule_files.specs.declared.file_model.FileModel.{FileModel}
 use Rattle.rule_files.specs.declared.file_model.FileNames.{FileNames}
 use Rattle.rule_files.specs.declared.file_model.FileModel.TheVariants.{BuiltIn, Rules}
 use Rattle.rules.specs.Rules.{Description}
 use Rattle.rules.specs.declared.tree.Statement.{Statement}
-use Rattle.texts.specs.AnyModel.{IsTableOf, any_wrong, kind_of, line_then, model_text}
+use Rattle.texts.specs.AnyModel.{IsTableOf, kind_of, line_then, model_text, wrong_among}
 use Rattle.texts.specs.ModelFile.{Wrong, number_at, number_key, numbers_wrong, unknown_wrong}
 use Rattle.texts.specs.ModelFile.{words_wrong}
 use Rattle.toml.specs.Data.{Members, as_str, as_table, get_member}
@@ -109,7 +109,7 @@ fits_names distinct words content numbers tables =
 
 -- no name is there twice, if all names can be read
 abbrev pub names_fit : Members → Bool
-names_fit t = fits_names (is_some (parts_of t)) (is_some (words_of t)) (is_some (content_of t))
+names_fit t = fits_names (is_some (parts_of t)) (is_some (state_of t)) (is_some (content_of t))
     (is_some (numbers_of t)) (is_some (tables_of t))
 
 -- whether the body of a table can be read
@@ -129,7 +129,7 @@ head_wrong t =
 
 abbrev pub names_wrong : Members → List Wrong
 names_wrong t =
-    words_wrong (is_some (words_of t)) (codes "state") (codes "a list of at most 16 names") t
+    words_wrong (is_some (state_of t)) (codes "state") (codes "a list of names and arrays, at most 16 words") t
     ++ words_wrong (is_some (content_of t)) (codes "message") (codes "a list of at most 4 names") t
     ++ words_wrong (is_some (numbers_of t)) (codes "numbers")
     (codes "at most 1024 names with numbers from 0 to 9223372036854775807") t
@@ -172,7 +172,9 @@ rules_table_wrong t =
 
 -- the mistakes in the table of a model file
 abbrev pub file_wrong : Members → List Wrong
-file_wrong t = if is_rules t then rules_table_wrong t else any_wrong t
+file_wrong t =
+    if is_rules t then rules_table_wrong t
+    else wrong_among (codes "\"ring\", \"phold\", \"jobshop\" or \"rules\"") t
 
 -- 3. What `check` prints
 

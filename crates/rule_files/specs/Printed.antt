@@ -1,9 +1,11 @@
 -- What `check` prints of a model by rules (this project's profile): its names, its tables, and its
 -- rules laid out. Each definition is a text with something behind it.
-use Rattle.std.specs.Prelude.{ℕ, zero, suc, ◌+◌, ◌-◌, ◌^◌, ◌==◌, ◌||◌, List, [], ◌∷◌, ◌++◌, Bool}
+use Rattle.std.specs.Prelude.{ℕ, zero, suc, ◌+◌, ◌-◌, ◌*◌, ◌^◌, ◌==◌, ◌||◌, List, [], ◌∷◌, ◌++◌, Bool}
 use Rattle.std.specs.Prelude.{true, false, codes, decimal, if◌then◌else◌, get_or, length, map, min}
 use Rattle.std.specs.Prelude.{nat_lt, not, slice_index, slice_set, string_bytes, take}
+use Rattle.rule_files.specs.Arrays.{array_view}
 use Rattle.rule_files.specs.Reading.{value_of}
+use Rattle.rules.specs.declared.arrays.Array.{Array}
 use Rattle.rule_files.specs.RuleFile.{other_names}
 use Rattle.rule_files.specs.declared.file_model.FileNames.{FileNames}
 use Rattle.rule_files.specs.declared.printed.Layout.{Layout}
@@ -14,7 +16,7 @@ use Rattle.rules.specs.Rules.{Description}
 use Rattle.rules.specs.declared.tree.Expression.{Expression}
 use Rattle.rules.specs.declared.tree.Expression.TheVariants.{Number, Word, Content, Local, Read}
 use Rattle.rules.specs.declared.tree.Expression.TheVariants.{Not', Two', Entry', Draw', Normal'}
-use Rattle.rules.specs.declared.tree.Expression.TheVariants.{Triangular', Choose}
+use Rattle.rules.specs.declared.tree.Expression.TheVariants.{Triangular', Choose, Element'}
 use Rattle.rules.specs.declared.tree.Known.{Known}
 use Rattle.rules.specs.declared.tree.Known.TheVariants.{Process, Sender, Now, Processes}
 use Rattle.rules.specs.declared.tree.Law.{Law}
@@ -28,7 +30,7 @@ use Rattle.rules.specs.declared.tree.Operator.TheVariants.{Greatest}
 use Rattle.rules.specs.declared.tree.Sending.{Sending}
 use Rattle.rules.specs.declared.tree.Statement.{Statement, Row_of-Statement, end_of-Statement}
 use Rattle.rules.specs.declared.tree.Statement.{more_of-Statement}
-use Rattle.rules.specs.declared.tree.Statement.TheVariants.{Let, Set, Send, If', Repeat'}
+use Rattle.rules.specs.declared.tree.Statement.TheVariants.{Let, Set, Send, If', Repeat', Put}
 use Rattle.rules_text.specs.Grammar.{looseness}
 
 -- 1. Signs
@@ -125,6 +127,7 @@ abbrev mutual
   named (Send x) k = k
   named (If' e s met t unmet) k = named_row unmet (named_row met k)
   named (Repeat' i n s body) k = named_row body (next k)
+  named (Put a i e) k = k
 
   pub named_row : {m : _} → Row_of-Statement m → ℕ → ℕ
   named_row end_of-Statement k = k
@@ -189,6 +192,12 @@ mark_if stands mark = if stands then mark else []
 abbrev pub local_name : List (List ℕ) → Layout → ℕ → List ℕ
 local_name given at i = name_at given (slice_index at.scope i)
 
+-- the name of the array at the place of this one, or nothing
+abbrev pub array_name : List (List ℕ × Array) → Array → List ℕ
+array_name [] a = []
+array_name (named ∷ others) a =
+    if named.1.place == a.place then named.0 else array_name others a
+
 -- the names of a model, and the names that `let` and `repeat` give in this rule, in their order
 module _ (names : FileNames) (given : List (List ℕ)) where
   abbrev pub word_name : ℕ → List ℕ
@@ -217,6 +226,15 @@ module _ (names : FileNames) (given : List (List ℕ)) where
       ++ codes ", ") y ++ codes ", ") z ++ codes ")"
   with_value at most text (Choose t) =
       ((text ++ codes "choose(") ++ name_at (map string_bytes names.tables.items) t) ++ codes ")"
+  with_value at most text (Element' a p x) =
+      with_value at 9
+      ((text ++ array_name (map array_view names.arrays.items) a) ++ codes "[") x ++ codes "]"
+
+  -- an element of an array
+  abbrev pub with_element : Layout → List ℕ → Array → Expression → List ℕ
+  with_element at text a i =
+      with_value at 9
+      ((text ++ array_name (map array_view names.arrays.items) a) ++ codes "[") i ++ codes "]"
 
   -- a word of content behind its mark, or nothing
   abbrev pub with_word : Layout → List ℕ → List ℕ → Expression → List ℕ
@@ -247,6 +265,8 @@ module _ (names : FileNames) (given : List (List ℕ)) where
         ++ codes "\n"
     with_statement at k text (Set i e) =
         with_value at 9 ((with_margin at text ++ word_name i) ++ codes " = ") e ++ codes "\n"
+    with_statement at k text (Put a i e) =
+        with_value at 9 (with_element at (with_margin at text) a i ++ codes " = ") e ++ codes "\n"
     with_statement at k text (Send x) = with_sending at (with_margin at text) x
     with_statement at k text (If' e s met t unmet) =
         with_closing (otherwise_row unmet) at
@@ -277,6 +297,30 @@ with_names text (name ∷ names) = with_names ((text ++ codes " ") ++ name) name
 
 abbrev pub with_words : List ℕ → List (List ℕ) → List ℕ
 with_words text words = with_names (text ++ codes "state:") words ++ codes "\n"
+
+abbrev pub unit : ℕ → List ℕ
+unit bits = if bits == 1 then codes " bit\n" else codes " bits\n"
+
+abbrev pub with_array : List ℕ → List ℕ × Array → List ℕ
+with_array text a =
+    ((((((text ++ codes "array ") ++ a.0) ++ codes "[") ++ decimal a.1.count) ++ codes "]: ")
+    ++ decimal a.1.bits) ++ unit a.1.bits
+
+abbrev pub each_array : List ℕ → List (List ℕ × Array) → List ℕ
+each_array text [] = text
+each_array text (a ∷ others) = each_array (with_array text a) others
+
+-- the bits of a state with so many words
+abbrev pub with_bits : List ℕ → ℕ → List ℕ
+with_bits text words =
+    ((text ++ codes "bits of state: ") ++ decimal (min (words * 64) (2 ^ 64 - 1)))
+    ++ codes " of 1024\n"
+
+-- the arrays, and the bits of the state, if there are arrays
+abbrev pub with_arrays : List ℕ → List (List ℕ × Array) → ℕ → List ℕ
+with_arrays text arrays words =
+    if length arrays == 0 then each_array text arrays
+    else with_bits (each_array text arrays) words
 
 abbrev pub with_contents : List ℕ → List (List ℕ) → List ℕ
 with_contents text names =
@@ -326,5 +370,6 @@ with_rules names d text =
 abbrev pub with_model : FileNames → Description → List ℕ → List ℕ
 with_model names d text =
     with_rules names d (with_tables 0 (map string_bytes names.tables.items)
-    (with_numbers (with_contents (with_words text (map string_bytes names.words.items))
+    (with_numbers (with_contents (with_arrays (with_words text (map string_bytes names.words.items))
+    (map array_view names.arrays.items) (length names.words.items))
     (map string_bytes names.content.items)) names.numbers.items) d.tables)

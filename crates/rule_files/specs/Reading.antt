@@ -2,28 +2,30 @@
 use Rattle.std.specs.Prelude.{ℕ, ◌+◌, ◌*◌, List, [], ◌∷◌, ◌++◌, Option, Some, None, Bool, false}
 use Rattle.std.specs.Prelude.{◌&&◌, drop, if◌then◌else◌, length, map, max, nat_le}
 use Rattle.std.specs.List.{list_any}
-use Rattle.rule_files.specs.Names.{is_key}
+use Rattle.rule_files.specs.Names.{is_key, is_name}
 use Rattle.rule_files.specs.RuleFile.{Parts, other_names}
+use Rattle.rules.specs.declared.arrays.Array.{Array}
 use Rattle.rules.specs.Costs.{draw_cost, send_cost, step_cost}
 use Rattle.rules.specs.declared.limits.Limit.{Limit}
 use Rattle.rules.specs.declared.limits.Limit.TheVariants.{Draws, Sends, Steps}
 use Rattle.rules.specs.declared.limits.TheConstants.{MAX_DRAWS, MAX_SENDS, MAX_STEPS}
 use Rattle.rules.specs.declared.tree.Statement.{Statement}
 use Rattle.rules_text.specs.Grammar.{Tree, Number, Word, Content, Local, Read, Not, Two, Entry, Draw}
-use Rattle.rules_text.specs.Grammar.{Normal, Triangular, Choose}
+use Rattle.rules_text.specs.Grammar.{Normal, Triangular, Choose, Element}
 use Rattle.rules_text.specs.Scopes.{Dictionary}
-use Rattle.rules_text.specs.Statements.{Act, Acts, Let, Set, Send, If, Repeat, empty, cons, acts_of}
+use Rattle.rules_text.specs.Statements.{Act, Acts, Let, Set, Send, If, Repeat, Put, empty, cons}
+use Rattle.rules_text.specs.Statements.{acts_of}
 use Rattle.rules_text.specs.Texts.{IsRule, read_at}
 use Rattle.rules_text.specs.declared.token.Token.{Token}
 use Rattle.rules_text.specs.declared.token.Token.TheVariants as t
 
 -- 1. What the names of a file mean
 
--- the words of the state, by their places; the key has a place but no name
+-- the words of the state, by their places; the key and the words of arrays have a place but no name
 abbrev pub words_from : ℕ → List (List ℕ) → List (List ℕ × Token)
 words_from i [] = []
 words_from i (word ∷ words) =
-    if is_key word then words_from (i + 1) words else (word, t.Word i) ∷ words_from (i + 1) words
+    if is_name word then (word, t.Word i) ∷ words_from (i + 1) words else words_from (i + 1) words
 
 -- the words of content, by their places
 abbrev pub content_from : ℕ → List (List ℕ) → List (List ℕ × Token)
@@ -42,15 +44,19 @@ value_of (n ∷ ns) = n
 abbrev pub number_names : List (List ℕ × List ℕ) → List (List ℕ × Token)
 number_names ns = map (λ n. (n.0, t.Number (value_of n.1))) ns
 
+abbrev pub array_names : List (List ℕ × Array) → List (List ℕ × Token)
+array_names arrays = map (λ a. (a.0, t.Array a.1)) arrays
+
 -- all names; rules may draw if the state has a key
 abbrev pub dictionary : Parts → Dictionary
 dictionary p = record {
   draws = list_any is_key p.words;
   entries =
-      (((words_from 0 p.words ++ content_from 0 p.content)
+      ((((words_from 0 p.words ++ content_from 0 p.content)
       ++ content_from (length p.content) (drop (length p.content) other_names))
       ++ number_names p.numbers)
-      ++ tables_from 0 p.tables;
+      ++ tables_from 0 p.tables)
+      ++ array_names p.arrays;
 }
 
 -- the text spells this rule, by these names
@@ -74,6 +80,7 @@ tree_cost c (Normal x y) = draw_cost c + tree_cost c x + tree_cost c y
 tree_cost c (Triangular x y z) =
     draw_cost c + draw_cost c + tree_cost c x + tree_cost c y + tree_cost c z
 tree_cost c (Choose table) = draw_cost c
+tree_cost c (Element array x) = step_cost c + tree_cost c x
 
 abbrev mutual
   pub act_cost : Limit → Act → ℕ
@@ -85,6 +92,7 @@ abbrev mutual
   act_cost c (If x met unmet) =
       step_cost c + tree_cost c x + max (acts_cost c met) (acts_cost c unmet)
   act_cost c (Repeat i n body) = step_cost c + n * (step_cost c + acts_cost c body)
+  act_cost c (Put array i x) = step_cost c + tree_cost c i + tree_cost c x
 
   pub acts_cost : Limit → Acts → ℕ
   acts_cost c empty = 0

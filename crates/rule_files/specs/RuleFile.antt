@@ -3,9 +3,11 @@ use Rattle.std.specs.Prelude.{ℕ, ◌+◌, ◌-◌, ◌^◌, List, [], ◌∷�
 use Rattle.std.specs.Prelude.{false, Option, Some, None, codes, drop, if◌then◌else◌}
 use Rattle.std.specs.Prelude.{length}
 use Rattle.std.specs.Prelude.{map, nat_le, option_and_then, option_map, string_bytes}
-use Rattle.rule_files.specs.Names.{are_distinct, is_name, is_word}
+use Rattle.rule_files.specs.Arrays.{State, array_view, no_state, with_item}
+use Rattle.rule_files.specs.Names.{are_distinct, is_name}
 use Rattle.rule_files.specs.declared.scope.Named.{Named}
 use Rattle.rule_files.specs.declared.scope.Scope.{Scope}
+use Rattle.rules.specs.declared.arrays.Array.{Array}
 use Rattle.texts.specs.ModelFile.{in_range}
 use Rattle.toml.specs.Data.{Data, Items, Members, as_array, as_integer, as_str, as_table}
 use Rattle.toml.specs.Data.{get_member, item, member, no_items, no_members}
@@ -20,26 +22,29 @@ all_of read (item d ds) =
 abbrev pub at_most : {X : Type 0} → ℕ → List X → Option (List X)
 at_most n xs = if nat_le (length xs) n then Some xs else None
 
--- 1. Names of words. A name `is_state`, if it may be `key`.
+-- 1. Names of words
 
-abbrev pub fits_word : Bool → List ℕ → Bool
-fits_word is_state text = if is_state then is_word text else is_name text
+unfoldable pub word_in : Data → Option (List ℕ)
+word_in d = option_and_then (λ text. if is_name text then Some text else None) (as_str d)
 
-unfoldable pub word_in : Bool → Data → Option (List ℕ)
-word_in is_state d =
-    option_and_then (λ text. if fits_word is_state text then Some text else None) (as_str d)
+abbrev pub words_in : Data → Option (List (List ℕ))
+words_in d = option_and_then (all_of word_in) (as_array d)
 
-abbrev pub words_in : Bool → Data → Option (List (List ℕ))
-words_in is_state d = option_and_then (all_of (word_in is_state)) (as_array d)
+-- the state, item by item: words and arrays, at most 16 words in all
+abbrev pub state_behind : State → Items → Option State
+state_behind s no_items = Some s
+state_behind s (item d ds) =
+    option_and_then (λ text. option_and_then (λ more. state_behind more ds) (with_item text s))
+    (as_str d)
 
--- the words of the state: at most 16
-unfoldable pub words_of : Members → Option (List (List ℕ))
-words_of t =
-    option_and_then (at_most 16) (option_and_then (words_in true) (get_member (codes "state") t))
+unfoldable pub state_of : Members → Option State
+state_of t =
+    option_and_then (state_behind no_state)
+    (option_and_then as_array (get_member (codes "state") t))
 
 abbrev pub content_in : Option Data → Option (List (List ℕ))
 content_in None = Some []
-content_in (Some d) = option_and_then (at_most 4) (words_in false d)
+content_in (Some d) = option_and_then (at_most 4) (words_in d)
 
 -- the words of content that have a name: at most 4
 unfoldable pub content_of : Members → Option (List (List ℕ))
@@ -94,6 +99,7 @@ tables_of t = option_and_then few_numbers (named_or_none true (get_member (codes
 
 pub record Parts : Type 0 where
   pub words : List (List ℕ)
+  pub arrays : List (List ℕ × Array)
   pub content : List (List ℕ)
   pub numbers : List (List ℕ × List ℕ)
   pub tables : List (List ℕ × List ℕ)
@@ -105,6 +111,7 @@ named_view n = (string_bytes n.name, n.numbers.items)
 abbrev pub parts_view : Scope → Parts
 parts_view s = record {
   words = map string_bytes s.words.items;
+  arrays = map array_view s.arrays.items;
   content = map string_bytes s.content.items;
   numbers = map named_view s.numbers.items;
   tables = map named_view s.tables.items;
@@ -117,17 +124,18 @@ other_names = codes "a" ∷ codes "b" ∷ codes "c" ∷ codes "d" ∷ []
 -- all names: the words of content without a name are called by their places
 abbrev pub names_of : Parts → List (List ℕ)
 names_of p =
-    (((p.words ++ p.content) ++ drop (length p.content) other_names) ++ map (λ n. n.0) p.numbers)
-    ++ map (λ n. n.0) p.tables
+    ((((p.words ++ p.content) ++ drop (length p.content) other_names) ++ map (λ n. n.0) p.numbers)
+    ++ map (λ n. n.0) p.tables) ++ map (λ n. n.0) p.arrays
 
 abbrev pub distinct : Parts → Option Parts
 distinct p = if are_distinct (names_of p) then Some p else None
 
 unfoldable pub parts_of : Members → Option Parts
-parts_of t = option_and_then (λ words. option_and_then (λ content. option_and_then (λ numbers.
+parts_of t = option_and_then (λ state. option_and_then (λ content. option_and_then (λ numbers.
     option_and_then (λ tables. distinct (record {
-      words = words;
+      words = state.words;
+      arrays = state.arrays;
       content = content;
       numbers = numbers;
       tables = tables;
-    })) (tables_of t)) (numbers_of t)) (content_of t)) (words_of t)
+    })) (tables_of t)) (numbers_of t)) (content_of t)) (state_of t)

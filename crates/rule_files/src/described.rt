@@ -16,7 +16,7 @@ ghost use Rattle.rule_files.specs.FileTable.{seed_wrong, text_in};
 ghost use Rattle.rule_files.specs.RuleFile.{named_view, parts_of, parts_view};
 ghost use Rattle.rules.specs.Limits.{IsWithin};
 ghost use Rattle.rules.specs.Rules.{Description};
-ghost use Rattle.texts.specs.ModelFile.{number_at, unknown_wrong};
+ghost use Rattle.texts.specs.ModelFile.{number_at, unknown_wrong, words_wrong};
 ghost use Rattle.toml.specs.Data.{as_table, get_member, string};
 ghost use Rattle.toml.specs.View.{table_view};
 
@@ -27,6 +27,7 @@ use crate::entries::{
 };
 use crate::file_model::{FileModel, FileNames};
 use crate::given::given_names;
+use crate::naming::{mistake_in, twice_in};
 use crate::printed::put_model;
 use crate::reading::{RuleMistake, read_rule};
 use crate::scope::{Named, Scope, is_key};
@@ -36,7 +37,10 @@ use models::AnyModel;
 use rules::{MAX_LPS, Rules, RulesParts, Statement, Table as Numbers};
 use rules_text::Mistake as Place;
 use std::alloc::{AllocError, Global};
-use texts::{Described, Findings, Mistake, ModelFault, TextMistake, number_at, only, string_at};
+use texts::{
+    Described, Findings, Inside, Mistake, ModelFault, TextMistake, mistakes_among, number_at, only,
+    string_at,
+};
 use toml::Table;
 
 /// The part of a program's help about the keys of the file of a model by rules.
@@ -44,7 +48,8 @@ pub const RULES_KEYS: &str = "\
 A model by rules (model = \"rules\") has these keys:
   lps         processes, 1 to 65536
   end         ticks at which the run ends, 1 to 1099511627776
-  state       names of the words of a state, at most 16; key is the key of drawn words
+  state       names of the words of a state, at most 16; key is the key of drawn words;
+              NAME[COUNT]: BITS bits is an array, whose elements share words
   seed        the first key, 0 to 9223372036854775807, if the state has the word key
   message     names of the words of a message, at most 4; the others are a, b, c and d
   numbers     a table of at most 1024 named numbers, 0 to 9223372036854775807
@@ -54,9 +59,9 @@ A model by rules (model = \"rules\") has these keys:
 
 /// A model file is TOML with the keys of its model. The files of this project's models are those of
 /// `AnyModel`. The file of a model by rules has `model = "rules"`, `lps` (1 to 65,536 processes),
-/// `end` (1 to 2^40 ticks), `state` (at most 16 names), `seed` (0 to 2^63 - 1) if the state has the
-/// word `key`, `rules` with the texts `start` and `handle`, and maybe `message` (at most 4 names),
-/// `numbers` and `tables`. No name may be there twice.
+/// `end` (1 to 2^40 ticks), `state` (names and arrays, at most 16 words), `seed` (0 to 2^63 - 1) if
+/// the state has the word `key`, `rules` with the texts `start` and `handle`, and maybe `message`
+/// (at most 4 names), `numbers` and `tables`. No name may be there twice.
 impl Described for FileModel {
     ghost says = { IsFileTable };
 
@@ -73,7 +78,8 @@ impl Described for FileModel {
         } else {
             match AnyModel::describe(alloc, table) {
                 Ok((model, end)) => Ok((FileModel::BuiltIn(model), end)),
-                Err(fault) => Err(fault),
+                Err(ModelFault::BadModel(mistake)) => Err(ModelFault::BadModel(of_all(mistake))),
+                Err(ModelFault::NoMemory) => Err(ModelFault::NoMemory),
             }
         }
     }
@@ -86,7 +92,7 @@ impl Described for FileModel {
                 Err(ModelFault::NoMemory) => Err(AllocError),
             }
         } else {
-            AnyModel::mistakes(alloc, table)
+            mistakes_among(alloc, table, KINDS)
         }
     }
 
@@ -109,6 +115,21 @@ impl Described for FileModel {
             FileModel::BuiltIn(model) => model.content_names(),
             FileModel::Rules(_, names) => names.content.as_slice(),
         }
+    }
+}
+
+/// The allowed values of the key `model`, as a mistake lists them.
+const KINDS: &str = "\"ring\", \"phold\", \"jobshop\" or \"rules\"";
+
+/// Returns the mistake of a table that is not one of the other models, or the one that lists all
+/// models if it names none.
+fn of_all(mistake: Mistake) -> Mistake {
+    match mistake {
+        Mistake::Not { key: "model", .. } => Mistake::Not {
+            key: "model",
+            expected: KINDS,
+        },
+        other => other,
     }
 }
 
@@ -299,6 +320,7 @@ fn body_of(alloc: Global, table: &Table) -> Result<Result<Body, Mistake>, AllocE
 fn names_of(alloc: Global, scope: Scope, rules: &Table) -> Result<FileNames, AllocError> {
     let Scope {
         words,
+        arrays,
         content,
         numbers,
         tables,
@@ -309,6 +331,7 @@ fn names_of(alloc: Global, scope: Scope, rules: &Table) -> Result<FileNames, All
     }
     Ok(FileNames {
         words,
+        arrays,
         content,
         numbers,
         tables: table_names,
@@ -467,11 +490,46 @@ fn look_at_names(alloc: Global, table: &Table, found: &mut Findings) -> Result<(
     let numbers = has_numbers(alloc, table)?;
     let tables = has_tables(alloc, table)?;
     let fit = fits_names(has_scope(alloc, table)?, words, content, numbers, tables);
-    found.words_at(alloc, table, "state", WORDS, words)?;
-    found.words_at(alloc, table, "message", CONTENT, content)?;
-    found.words_at(alloc, table, "numbers", NUMBERS, numbers)?;
-    found.words_at(alloc, table, "tables", TABLES, tables)?;
-    found.words_at(alloc, table, "state", TWICE, fit)
+    look_at_list(alloc, table, "state", WORDS, words, found)?;
+    look_at_list(alloc, table, "message", CONTENT, content, found)?;
+    look_at_list(alloc, table, "numbers", NUMBERS, numbers, found)?;
+    look_at_list(alloc, table, "tables", TABLES, tables, found)?;
+    look_for_twice(alloc, table, fit, found)
+}
+
+/// Adds a finding for the list or the table of names at a key unless it can be read.
+fn look_at_list(
+    alloc: Global,
+    table: &Table,
+    key: &'static str,
+    expected: &'static str,
+    right: bool,
+    found: &mut Findings,
+) -> Result<(), AllocError>
+    ensures { OnOk result (found.new
+        ≡ found.old ++ words_wrong right key.now expected.now (table_view table.now)) }
+{
+    let inside = if right {
+        None
+    } else {
+        mistake_in(alloc, table, key)?
+    };
+    found.inside_at(alloc, table, key, expected, right, inside)
+}
+
+/// Adds a finding for a name that is there twice unless there is none.
+fn look_for_twice(
+    alloc: Global,
+    table: &Table,
+    fit: bool,
+    found: &mut Findings,
+) -> Result<(), AllocError>
+    ensures { OnOk result (found.new ≡ found.old ++ words_wrong fit (codes "state")
+        (codes "names that are nowhere else in state, message, numbers and tables")
+        (table_view table.now)) }
+{
+    let inside = if fit { None } else { twice_in(alloc, table)? };
+    found.inside_at(alloc, table, "state", TWICE, fit, inside)
 }
 
 /// Returns whether no name is there twice, or some names cannot be read.
@@ -532,7 +590,7 @@ fn look_at_rule(
         Ok(_) => found.words_at(alloc, rules, key, RULE, true),
         Err(mistake) => {
             let inside = inside_of(alloc, rules, key, &mistake)?;
-            found.text_at(alloc, rules, key, RULE, false, inside)
+            found.inside_at(alloc, rules, key, RULE, false, inside)
         }
     }
 }
@@ -543,7 +601,7 @@ fn inside_of(
     rules: &Table,
     key: &str,
     mistake: &RuleMistake,
-) -> Result<Option<TextMistake>, AllocError> {
+) -> Result<Option<Inside>, AllocError> {
     let Some(text) = text_at(rules, key) else {
         return Ok(None);
     };
@@ -555,10 +613,10 @@ fn inside_of(
         RuleMistake::Exceeds(_) => (1, 1, format!(in alloc; "{mistake}")?),
     };
     let text = String::from_str(alloc, text)?;
-    Ok(Some(TextMistake {
+    Ok(Some(Inside::Text(TextMistake {
         text,
         line,
         column,
         why,
-    }))
+    })))
 }

@@ -2,13 +2,15 @@
 
 ghost use Rattle.std.specs.Prelude.{◌≡◌, ◌<◌, ◌+◌, ◌∷◌, ◌++◌, IfOk, OnOk, drop, map, string_bytes};
 ghost use Rattle.std.specs.List.{list_any};
-ghost use Rattle.rule_files.specs.Names.{is_key};
-ghost use Rattle.rule_files.specs.Reading.{content_from, dictionary, number_names, tables_from};
+ghost use Rattle.rule_files.specs.Arrays.{array_view};
+ghost use Rattle.rule_files.specs.Names.{is_key, is_name};
+ghost use Rattle.rule_files.specs.Reading.{array_names, content_from, dictionary, number_names, tables_from};
 ghost use Rattle.rule_files.specs.Reading.{value_of, words_from};
 ghost use Rattle.rule_files.specs.RuleFile.{named_view, other_names, parts_view};
 ghost use Rattle.rules_text.specs.Scopes.{token_meant, with_entry};
 
-use crate::scope::{Named, OTHERS, Scope, is_key};
+use crate::arrays::NamedArray;
+use crate::scope::{Named, OTHERS, Scope, is_key, is_name};
 use rules_text::{Meaning, Scope as Dictionary};
 use std::alloc::{AllocError, Global};
 
@@ -22,6 +24,7 @@ pub(crate) fn dictionary_of(alloc: Global, scope: &Scope) -> Result<Dictionary, 
     add_others(alloc, &mut names, scope.content.len())?;
     add_numbers(alloc, &mut names, scope.numbers.as_slice())?;
     add_tables(alloc, &mut names, scope.tables.as_slice())?;
+    add_arrays(alloc, &mut names, scope.arrays.as_slice())?;
     Ok(names)
 }
 
@@ -58,14 +61,14 @@ fn byte(place: usize) -> Result<u8, AllocError>
     }
 }
 
-/// Adds the words of the state but the key.
+/// Adds the words of the state but the key and those of arrays, which have no name.
 fn add_words(alloc: Global, names: &mut Dictionary, words: &[String]) -> Result<(), AllocError>
     ensures draws { OnOk result (names.new.draws ≡ names.old.draws) }
     ensures entries { OnOk result (names.new.entries
         ≡ names.old.entries ++ words_from 0 (map string_bytes words.now)) }
 {
     for (place, word) in words.iter().enumerate() {
-        if !is_key(word.as_str()) {
+        if is_name(word.as_str()) {
             add(alloc, names, word.as_str(), Meaning::Word(byte(place)?))?;
         }
     }
@@ -143,6 +146,23 @@ fn add_tables(alloc: Global, names: &mut Dictionary, more: &[Named]) -> Result<(
             return Err(AllocError);
         };
         add(alloc, names, named.name.as_str(), Meaning::Table(place))?;
+    }
+    Ok(())
+}
+
+/// Adds the arrays.
+fn add_arrays(alloc: Global, names: &mut Dictionary, more: &[NamedArray]) -> Result<(), AllocError>
+    ensures draws { OnOk result (names.new.draws ≡ names.old.draws) }
+    ensures entries { OnOk result (names.new.entries
+        ≡ names.old.entries ++ array_names (map array_view more.now)) }
+{
+    for named in more {
+        add(
+            alloc,
+            names,
+            named.name.as_str(),
+            Meaning::Array(named.array),
+        )?;
     }
     Ok(())
 }

@@ -1,15 +1,17 @@
 // The digest that distinguishes models by rules from each other.
 
-use crate::scope::Scope;
-use rules::{Expression, Known, Law, Operator, Sending, Statement, Table};
+use crate::scope::{Scope, is_word};
+use rules::{Array, Expression, Known, Law, Operator, Sending, Statement, Table};
 use sha2::{Digest, Sha256};
 
 /// Returns the SHA-256 of what the file of a model by rules means, as four words: the names of the
-/// state words in their order, the seed, the tables, and both rules as trees.
+/// state words in their order, the places, bits and lengths of its arrays, the seed, the tables, and
+/// both rules as trees.
 ///
 /// Comments, white space, the names of anything but state words, and the order of keys do not
 /// matter. Each part has a fixed length or is preceded by its length, and each node of a tree
-/// begins with its kind, so that two meanings never have the same bytes.
+/// begins with its kind, so that two meanings never have the same bytes. The words of arrays count
+/// as words without a name; a state without them has no bytes for arrays.
 pub(crate) fn digest_of(
     scope: &Scope,
     seed: u64,
@@ -20,8 +22,10 @@ pub(crate) fn digest_of(
     let mut hasher = Sha256::new();
     put_number(&mut hasher, scope.words.len() as u64);
     for word in scope.words.iter() {
-        put_number(&mut hasher, word.len() as u64);
-        hasher.update(word.as_bytes());
+        put_word(&mut hasher, word.as_str());
+    }
+    for named in scope.arrays.iter() {
+        put_array(&mut hasher, 20, named.array);
     }
     put_number(&mut hasher, seed);
     put_number(&mut hasher, tables.len() as u64);
@@ -48,10 +52,24 @@ fn put_number(hasher: &mut Sha256, number: u64) {
     hasher.update(number.to_be_bytes());
 }
 
+/// Puts the name of a state word, if it has one of its own.
+fn put_word(hasher: &mut Sha256, word: &str) {
+    let name = if is_word(word) { word } else { "" };
+    put_number(hasher, name.len() as u64);
+    hasher.update(name.as_bytes());
+}
+
 /// Puts the kind of a node and a number.
 fn put(hasher: &mut Sha256, kind: u8, number: u64) {
     hasher.update([kind]);
     put_number(hasher, number);
+}
+
+/// Puts the kind of a node and an array.
+fn put_array(hasher: &mut Sha256, kind: u8, array: Array) {
+    put(hasher, kind, u64::from(array.place));
+    put_number(hasher, u64::from(array.bits));
+    put_number(hasher, u64::from(array.count));
 }
 
 fn put_table(hasher: &mut Sha256, table: &Table) {
@@ -100,6 +118,10 @@ fn put_expression(hasher: &mut Sha256, e: &Expression) {
             put_expression(hasher, z);
         }
         Expression::Choose(table) => put(hasher, 17, u64::from(*table)),
+        Expression::Element(array, x) => {
+            put_array(hasher, 18, *array);
+            put_expression(hasher, x);
+        }
     }
 }
 
@@ -138,6 +160,11 @@ fn put_statement(hasher: &mut Sha256, statement: &Statement) {
             put(hasher, 14, u64::from(*place));
             put_number(hasher, u64::from(*count));
             put_block(hasher, body);
+        }
+        Statement::Put(array, index, e) => {
+            put_array(hasher, 19, *array);
+            put_expression(hasher, index);
+            put_expression(hasher, e);
         }
     }
 }

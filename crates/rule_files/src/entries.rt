@@ -3,14 +3,17 @@
 ghost use Rattle.std.specs.Prelude.{◌≡◌, ◌+◌, ◌-◌, ◌^◌, ◌≤◌, IfOk, codes, map, min};
 ghost use Rattle.std.specs.Prelude.{option_and_then, option_map};
 ghost use Rattle.std.specs.Prelude.{IfSome, is_some, IsErr, None, length, Some, string_bytes, true};
-ghost use Rattle.rule_files.specs.RuleFile.{all_numbers, all_of, content_of, fits_word, named_in};
+ghost use Rattle.rule_files.specs.Arrays.{no_state, state_view};
+ghost use Rattle.rule_files.specs.RuleFile.{all_numbers, all_of, content_of, named_in};
+ghost use Rattle.rule_files.specs.RuleFile.{state_behind, state_of};
 ghost use Rattle.rule_files.specs.RuleFile.{named_or_none, named_view, number_in, numbers_in};
 ghost use Rattle.rule_files.specs.RuleFile.{numbers_of, parts_of, parts_view, tables_of, word_in};
-ghost use Rattle.rule_files.specs.RuleFile.{at_most, some_numbers, words_in, words_of};
+ghost use Rattle.rule_files.specs.RuleFile.{at_most, some_numbers, words_in};
 ghost use Rattle.toml.specs.Data.{as_array, as_integer, as_str, as_table, get_member};
 ghost use Rattle.toml.specs.View.{items_view, table_view, view};
 
-use crate::scope::{Named, Scope, has_distinct_names, is_name, is_word};
+use crate::arrays::{StateNames, put_item};
+use crate::scope::{Named, Scope, has_distinct_names, is_name};
 use std::alloc::{AllocError, Global};
 use texts::Mistake;
 use toml::{Table, Value};
@@ -24,7 +27,7 @@ pub(crate) fn scope_of(alloc: Global, table: &Table) -> Result<Result<Scope, Mis
     ensures few { IfOk result (λ read. IfOk read (λ scope. length scope.words.items ≤ 16)) }
     ensures bad { IfOk result (λ read. IsErr read → parts_of (table_view table.now) ≡ None) }
 {
-    let Some(words) = words_of(alloc, table)? else {
+    let Some(StateNames { words, arrays }) = state_of(alloc, table)? else {
         return Ok(Err(NO_STATE));
     };
     let Some(content) = content_of(alloc, table)? else {
@@ -38,6 +41,7 @@ pub(crate) fn scope_of(alloc: Global, table: &Table) -> Result<Result<Scope, Mis
     };
     let scope = Scope {
         words,
+        arrays,
         content,
         numbers,
         tables,
@@ -49,7 +53,7 @@ pub(crate) fn scope_of(alloc: Global, table: &Table) -> Result<Result<Scope, Mis
     }
 }
 
-pub(crate) const WORDS: &str = "a list of at most 16 names";
+pub(crate) const WORDS: &str = "a list of names and arrays, at most 16 words";
 
 pub(crate) const CONTENT: &str = "a list of at most 4 names";
 
@@ -85,17 +89,41 @@ const NAMED_TWICE: Mistake = Mistake::Not {
     expected: TWICE,
 };
 
-#[tactic(auto, unfolding(crate::specs::RuleFile::words_of))]
-/// Reads the words of the state, at most 16.
-pub(crate) fn words_of(alloc: Global, table: &Table) -> Result<Option<Vec<String>>, AllocError>
-    ensures words { IfOk result (λ found. option_map (λ v. map string_bytes v.items) found
-        ≡ words_of (table_view table.now)) }
-    ensures few { IfOk result (λ found. IfSome found (λ v. length v.items ≤ 16)) }
+#[tactic(auto, unfolding(crate::specs::RuleFile::state_of))]
+/// Reads the words and the arrays of the state.
+pub(crate) fn state_of(alloc: Global, table: &Table) -> Result<Option<StateNames>, AllocError>
+    ensures state { IfOk result (λ found. option_map state_view found
+        ≡ state_of (table_view table.now)) }
+    ensures few { IfOk result (λ found. IfSome found (λ s. length s.words.items ≤ 16)) }
 {
     match value_at(table, "state") {
-        Some(value) => words_in(alloc, value, true, 16),
+        Some(value) => match value.as_array() {
+            Some(items) => state_among(alloc, items.as_slice()),
+            None => Ok(None),
+        },
         None => Ok(None),
     }
+}
+
+/// Reads the words and the arrays that items declare.
+fn state_among(alloc: Global, items: &[Value]) -> Result<Option<StateNames>, AllocError>
+    ensures state { IfOk result (λ found. option_map state_view found
+        ≡ state_behind no_state (items_view items.now)) }
+    ensures few { IfOk result (λ found. IfSome found (λ s. length s.words.items ≤ 16)) }
+{
+    let mut state = StateNames {
+        words: Vec::new(alloc),
+        arrays: Vec::new(alloc),
+    };
+    'items: for item in items {
+        let Some(text) = item.as_str() else {
+            return Ok(None);
+        };
+        if !put_item(alloc, text, &mut state)? {
+            return Ok(None);
+        }
+    }
+    Ok(Some(state))
 }
 
 #[tactic(auto, unfolding(crate::specs::RuleFile::content_of))]
@@ -105,26 +133,21 @@ pub(crate) fn content_of(alloc: Global, table: &Table) -> Result<Option<Vec<Stri
         ≡ content_of (table_view table.now)) }
 {
     match value_at(table, "message") {
-        Some(value) => words_in(alloc, value, false, 4),
+        Some(value) => words_in(alloc, value, 4),
         None => Ok(Some(Vec::new(alloc))),
     }
 }
 
-/// Reads a list of at most `most` names. The words of a state may be `key`.
-fn words_in(
-    alloc: Global,
-    value: &Value,
-    is_state: bool,
-    most: usize,
-) -> Result<Option<Vec<String>>, AllocError>
+/// Reads a list of at most `most` names.
+fn words_in(alloc: Global, value: &Value, most: usize) -> Result<Option<Vec<String>>, AllocError>
     ensures words { IfOk result (λ found. option_map (λ v. map string_bytes v.items) found
-        ≡ option_and_then (at_most most) (words_in is_state (view value.now))) }
+        ≡ option_and_then (at_most most) (words_in (view value.now))) }
     ensures few { IfOk result (λ found. IfSome found (λ v. length v.items ≤ most)) }
 {
     let Some(items) = value.as_array() else {
         return Ok(None);
     };
-    let Some(words) = words_among(alloc, items.as_slice(), is_state)? else {
+    let Some(words) = words_among(alloc, items.as_slice())? else {
         return Ok(None);
     };
     if words.len() <= most {
@@ -135,17 +158,13 @@ fn words_in(
 }
 
 /// Reads a name from each item.
-fn words_among(
-    alloc: Global,
-    items: &[Value],
-    is_state: bool,
-) -> Result<Option<Vec<String>>, AllocError>
+fn words_among(alloc: Global, items: &[Value]) -> Result<Option<Vec<String>>, AllocError>
     ensures { IfOk result (λ found. option_map (λ v. map string_bytes v.items) found
-        ≡ all_of (word_in is_state) (items_view items.now)) }
+        ≡ all_of word_in (items_view items.now)) }
 {
     let mut words = Vec::new(alloc);
     for item in items {
-        match word_in(item, is_state) {
+        match word_in(item) {
             Some(word) => words.push(String::from_str(alloc, word)?)?,
             None => return Ok(None),
         }
@@ -155,22 +174,12 @@ fn words_among(
 
 #[tactic(auto, unfolding(crate::specs::RuleFile::word_in))]
 /// Reads a name from a value.
-fn word_in(value: &Value, is_state: bool) -> Option<&str>
-    ensures { option_map (λ s. s.now) result ≡ word_in is_state (view value.now) }
+fn word_in(value: &Value) -> Option<&str>
+    ensures { option_map (λ s. s.now) result ≡ word_in (view value.now) }
 {
     match value.as_str() {
-        Some(word) if fits_word(word, is_state) => Some(word),
+        Some(word) if is_name(word) => Some(word),
         _ => None,
-    }
-}
-
-fn fits_word(word: &str, is_state: bool) -> bool
-    ensures { result ≡ fits_word is_state word.now }
-{
-    if is_state {
-        is_word(word)
-    } else {
-        is_name(word)
     }
 }
 
@@ -331,7 +340,7 @@ fn numbers_among(alloc: Global, items: &[Value]) -> Result<Option<Vec<u64>>, All
 }
 
 /// Reads a number from 0 to 2^63 - 1.
-fn number_in(value: &Value) -> Option<u64>
+pub(crate) fn number_in(value: &Value) -> Option<u64>
     ensures { result ≡ number_in (view value.now) }
 {
     match value.as_integer() {
@@ -340,11 +349,11 @@ fn number_in(value: &Value) -> Option<u64>
     }
 }
 
-/// Returns whether the words of the state can be read.
+/// Returns whether the words and the arrays of the state can be read.
 pub(crate) fn has_words(alloc: Global, table: &Table) -> Result<bool, AllocError>
-    ensures { IfOk result (λ holds. holds ≡ is_some (words_of (table_view table.now))) }
+    ensures { IfOk result (λ holds. holds ≡ is_some (state_of (table_view table.now))) }
 {
-    match words_of(alloc, table)? {
+    match state_of(alloc, table)? {
         Some(_) => Ok(true),
         None => Ok(false),
     }

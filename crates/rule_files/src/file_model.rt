@@ -1,5 +1,6 @@
 // The models that a model file can describe.
 
+use crate::arrays::NamedArray;
 use crate::scope::Named;
 use eventkey::Message;
 use model::{Model as Simulated, Origin, Sends, Words};
@@ -23,6 +24,8 @@ pub enum FileModel {
 pub struct FileNames {
     /// The names of the words of a state, by their places.
     pub words: Vec<String>,
+    /// The arrays of a state, by their places.
+    pub arrays: Vec<NamedArray>,
     /// The names of the words of a message's content, by their places.
     pub content: Vec<String>,
     /// The named numbers, in the order of the bytes of their names.

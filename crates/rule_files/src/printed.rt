@@ -1,6 +1,9 @@
 // What is printed of a model by rules: its names, its tables, and its rules laid out.
 
 ghost use Rattle.std.specs.Prelude.{◌≡◌, ◌++◌, OnOk, decimal, map, string_bytes};
+ghost use Rattle.rule_files.specs.Arrays.{array_view};
+ghost use Rattle.rule_files.specs.Printed.{array_name, unit, with_array, with_arrays, with_bits};
+ghost use Rattle.rule_files.specs.Printed.{with_element};
 ghost use Rattle.rule_files.specs.Printed.{before, behind, content_name, deeper, function_name};
 ghost use Rattle.rule_files.specs.Printed.{in_line, is_choice, is_zero, known_text, law_name};
 ghost use Rattle.rule_files.specs.Printed.{left_looseness, mark_if, name_at};
@@ -16,11 +19,12 @@ ghost use Rattle.rule_files.specs.Printed.{with_words};
 ghost use Rattle.rule_files.specs.RuleFile.{other_names};
 ghost use Rattle.rules_text.specs.Grammar.{looseness as looseness_of};
 
+use crate::arrays::NamedArray;
 use crate::dictionary::value_of;
 use crate::file_model::FileNames;
 use crate::scope::{Named, OTHERS};
 use itoa::Buffer;
-use rules::{Expression, Known, Law, Operator, Rules, Sending, Statement, Table};
+use rules::{Array, Expression, Known, Law, Operator, Rules, Sending, Statement, Table};
 use std::alloc::AllocError;
 
 /// Where a statement stands.
@@ -54,6 +58,7 @@ pub(crate) fn put_model(
         ≡ with_model names.now rules.now.description (string_bytes text.old)) }
 {
     put_words(names.words.as_slice(), text)?;
+    put_arrays(names.arrays.as_slice(), names.words.len(), text)?;
     put_contents(names.content.as_slice(), text)?;
     put_numbers(names.numbers.as_slice(), text)?;
     put_tables(names.tables.as_slice(), rules.tables(), text)?;
@@ -116,6 +121,18 @@ fn name_at(names: &[String], place: usize) -> &str
     }
 }
 
+/// Returns the name of the array at the place of this one, or nothing.
+fn array_name(arrays: &[NamedArray], array: Array) -> &str
+    ensures { result.now ≡ array_name (map array_view arrays.now) array }
+{
+    'arrays: for one in arrays {
+        if one.array.place == array.place {
+            return one.name.as_str();
+        }
+    }
+    ""
+}
+
 /// Returns the name of a word of content: its own, or the one by its place.
 fn content_name(names: &[String], place: usize) -> &str
     ensures { result.now ≡ content_name (map string_bytes names.now) place }
@@ -147,6 +164,51 @@ fn put_words(words: &[String], text: &mut String) -> Result<(), AllocError>
     put("state:", text)?;
     put_names(words, text)?;
     put("\n", text)
+}
+
+/// Appends the arrays, and the bits of the state, if there are arrays.
+fn put_arrays(arrays: &[NamedArray], words: usize, text: &mut String) -> Result<(), AllocError>
+    ensures { OnOk result (string_bytes text.new
+        ≡ with_arrays (string_bytes text.old) (map array_view arrays.now) words) }
+{
+    'arrays: for array in arrays {
+        put_array(array, text)?;
+    }
+    if arrays.is_empty() {
+        Ok(())
+    } else {
+        put_bits(words, text)
+    }
+}
+
+/// Appends the bits of a state with so many words.
+fn put_bits(words: usize, text: &mut String) -> Result<(), AllocError>
+    ensures { OnOk result (string_bytes text.new ≡ with_bits (string_bytes text.old) words) }
+{
+    put("bits of state: ", text)?;
+    put_number((words as u64).saturating_mul(64), text)?;
+    put(" of 1024\n", text)
+}
+
+/// Appends an array.
+fn put_array(named: &NamedArray, text: &mut String) -> Result<(), AllocError>
+    ensures { OnOk result (string_bytes text.new
+        ≡ with_array (string_bytes text.old) (array_view named.now)) }
+{
+    put("array ", text)?;
+    put(named.name.as_str(), text)?;
+    put("[", text)?;
+    put_number(u64::from(named.array.count), text)?;
+    put("]: ", text)?;
+    put_number(u64::from(named.array.bits), text)?;
+    put(unit(named.array.bits), text)
+}
+
+/// Returns the word behind the bits of an element.
+fn unit(bits: u8) -> &'static str
+    ensures { result.now ≡ unit bits }
+{
+    if bits == 1 { " bit\n" } else { " bits\n" }
 }
 
 /// Appends names, each behind a space.
@@ -428,12 +490,37 @@ fn put_value(
             put_value(names, given, at, 9, z, text)?;
             put(")", text)
         }
+        Expression::Element(array, x) => {
+            put(array_name(names.arrays.as_slice(), *array), text)?;
+            put("[", text)?;
+            put_value(names, given, at, 9, x, text)?;
+            put("]", text)
+        }
         Expression::Choose(table) => {
             put("choose(", text)?;
             put(name_at(names.tables.as_slice(), *table as usize), text)?;
             put(")", text)
         }
     }
+}
+
+/// Appends an element of an array.
+fn put_element(
+    names: &FileNames,
+    given: &[String],
+    at: Layout,
+    array: Array,
+    index: &Expression,
+    text: &mut String,
+) -> Result<(), AllocError>
+    ensures { OnOk result (string_bytes text.new
+        ≡ with_element names.now (map string_bytes given.now) at (string_bytes text.old) array
+        index.now) }
+{
+    put(array_name(names.arrays.as_slice(), array), text)?;
+    put("[", text)?;
+    put_value(names, given, at, 9, index, text)?;
+    put("]", text)
 }
 
 /// Returns the name of `let` or `repeat` at a place.
@@ -689,6 +776,13 @@ fn put_statement(
         Statement::Set(place, e) => {
             put_margin(at, text)?;
             put(name_at(names.words.as_slice(), usize::from(*place)), text)?;
+            put(" = ", text)?;
+            put_value(names, given, at, 9, e, text)?;
+            put("\n", text)
+        }
+        Statement::Put(array, i, e) => {
+            put_margin(at, text)?;
+            put_element(names, given, at, *array, i, text)?;
             put(" = ", text)?;
             put_value(names, given, at, 9, e, text)?;
             put("\n", text)

@@ -3,9 +3,11 @@
 ghost use Rattle.std.specs.Prelude.{◌≡◌, IfOk, OnOk, ◌++◌, drop, map, string_bytes};
 ghost use Rattle.std.specs.List.{list_all};
 ghost use Rattle.rule_files.specs.Names.{are_distinct, is_among, is_key, is_letter, is_name};
-ghost use Rattle.rule_files.specs.Names.{is_word, is_word_byte};
+ghost use Rattle.rule_files.specs.Names.{is_word, is_word_byte, reserved};
+ghost use Rattle.rule_files.specs.Arrays.{array_view};
 ghost use Rattle.rule_files.specs.RuleFile.{named_view, names_of, other_names, parts_view};
 
+use crate::arrays::NamedArray;
 use std::alloc::{AllocError, Global};
 
 /// A name with numbers: one for a named number, one or more for a table.
@@ -23,6 +25,8 @@ pub struct Scope {
     /// The words of the state, by their places. One of them may be `key`, which rules neither read
     /// nor set.
     pub words: Vec<String>,
+    /// The arrays of the state, by their places.
+    pub arrays: Vec<NamedArray>,
     /// The words of a message's content that have a name, by their places, at most 4. Those behind
     /// them are called `a`, `b`, `c` and `d`, by their places.
     pub content: Vec<String>,
@@ -66,7 +70,14 @@ pub(crate) fn is_name(text: &str) -> bool
     if bytes.is_empty() {
         return false;
     }
-    bytes.len() <= 64 && is_letter(bytes[0]) && are_word_bytes(bytes) && !is_among(text, &RESERVED)
+    bytes.len() <= 64 && is_letter(bytes[0]) && are_word_bytes(bytes) && !is_reserved(text)
+}
+
+/// Returns whether a text is a word of the language.
+pub(crate) fn is_reserved(text: &str) -> bool
+    ensures { result ≡ is_among text.now reserved }
+{
+    is_among(text, &RESERVED)
 }
 
 /// Returns whether a text is a name or `key`.
@@ -131,6 +142,7 @@ pub(crate) fn has_distinct_names(alloc: Global, scope: &Scope) -> Result<bool, A
     put_others(&mut names, scope.content.len())?;
     put_named(&mut names, scope.numbers.as_slice())?;
     put_named(&mut names, scope.tables.as_slice())?;
+    put_arrays(&mut names, scope.arrays.as_slice())?;
     Ok(are_distinct(names.as_slice()))
 }
 
@@ -166,6 +178,17 @@ fn put_named<'a>(names: &mut Vec<&'a str>, more: &'a [Named]) -> Result<(), Allo
 {
     for named in more {
         names.push(named.name.as_str())?;
+    }
+    Ok(())
+}
+
+/// Appends the names of arrays to a list.
+fn put_arrays<'a>(names: &mut Vec<&'a str>, more: &'a [NamedArray]) -> Result<(), AllocError>
+    ensures { OnOk result (map (λ n. n.now) names.new.items
+        ≡ map (λ n. n.now) names.old.items ++ map (λ n. n.0) (map array_view more.now)) }
+{
+    for array in more {
+        names.push(array.name.as_str())?;
     }
     Ok(())
 }

@@ -6,10 +6,10 @@ use Rattle.rules.specs.declared.limits.Limit.TheVariants.{Sends, Draws, Steps}
 use Rattle.rules.specs.declared.tree.Expression.{Expression}
 use Rattle.rules.specs.declared.tree.Statement.{Statement, Row_of-Statement, end_of-Statement}
 use Rattle.rules.specs.declared.tree.Statement.{more_of-Statement}
-use Rattle.rules.specs.declared.tree.Statement.TheVariants.{Let, Set, Send, If', Repeat'}
+use Rattle.rules.specs.declared.tree.Statement.TheVariants.{Let, Set, Send, If', Repeat', Put}
 use Rattle.rules.specs.declared.tree.Expression.TheVariants.{Number, Word, Content, Local, Read}
 use Rattle.rules.specs.declared.tree.Expression.TheVariants.{Not', Two', Entry', Draw', Normal'}
-use Rattle.rules.specs.declared.tree.Expression.TheVariants.{Triangular', Choose}
+use Rattle.rules.specs.declared.tree.Expression.TheVariants.{Triangular', Choose, Element'}
 
 -- the cost of a send, of a drawn word, and of everything else
 abbrev pub send_cost : Limit → ℕ
@@ -42,6 +42,7 @@ cost c (Normal' p x q y) = draw_cost c + cost c x + cost c y
 cost c (Triangular' p x q y r z) =
     draw_cost c + draw_cost c + cost c x + cost c y + cost c z
 cost c (Choose t) = draw_cost c
+cost c (Element' a p x) = step_cost c + cost c x
 
 -- the number of words that an expression draws
 abbrev pub draws : Expression → ℕ
@@ -58,6 +59,7 @@ abbrev mutual
   cost_of c (If' e s met t unmet) =
       step_cost c + cost c e + max (cost_of_row c met) (cost_of_row c unmet)
   cost_of c (Repeat' i n s body) = step_cost c + n * (step_cost c + cost_of_row c body)
+  cost_of c (Put a i e) = step_cost c + cost c i + cost c e
 
   -- the cost of the statements of a block
   pub cost_of_row : Limit → {m : _} → Row_of-Statement m → ℕ

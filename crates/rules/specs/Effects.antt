@@ -5,12 +5,14 @@ use Rattle.std.specs.Prelude.{slice_set, if◌then◌else◌}
 use Rattle.model.specs.declared.Outgoing.{Outgoing}
 use Rattle.rules.specs.Costs.{draws}
 use Rattle.rules.specs.Distributions.{saturated}
+use Rattle.rules.specs.Elements.{with_element}
 use Rattle.rules.specs.Values.{is_true, value_of}
+use Rattle.rules.specs.declared.arrays.Array.{Array}
 use Rattle.rules.specs.declared.evaluate.Context.{Context}
 use Rattle.rules.specs.declared.tree.Sending.{Sending}
 use Rattle.rules.specs.declared.tree.Statement.{Statement, Row_of-Statement, end_of-Statement}
 use Rattle.rules.specs.declared.tree.Statement.{more_of-Statement}
-use Rattle.rules.specs.declared.tree.Statement.TheVariants.{Let, Set, Send, If', Repeat'}
+use Rattle.rules.specs.declared.tree.Statement.TheVariants.{Let, Set, Send, If', Repeat', Put}
 
 -- the progress of a handling
 pub record Progress : Type 0 where
@@ -50,6 +52,9 @@ with_local place n s = record s { locals = slice_set s.locals place n }
 abbrev pub with_word : ℕ → ℕ → Context → Context
 with_word place n s = record s { words = slice_set s.words place n }
 
+abbrev pub with_array : Array → ℕ → ℕ → Context → Context
+with_array a i n s = record s { words = with_element a s.words i n }
+
 -- turn after turn, from number 0
 abbrev pub turns : ℕ → (ℕ → Progress → Progress) → Progress → Progress
 turns zero turn p = p
@@ -83,6 +88,13 @@ abbrev mutual
       else after_row tables unmet q
   after tables (Repeat' i n s body) p =
       turns n (λ k q. after_row tables body (at_turn i k q)) p
+  after tables (Put a i e) p = record {
+    context =
+        with_array a (value_of tables p.context i p.drawn)
+        (value_of tables p.context e (p.drawn + draws i)) p.context;
+    drawn = p.drawn + draws i + draws e;
+    sends = p.sends;
+  }
 
   -- after the statements of a block
   pub after_row : List (List ℕ) → {m : _} → Row_of-Statement m → Progress → Progress

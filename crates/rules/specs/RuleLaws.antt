@@ -17,7 +17,9 @@ use Rattle.models.specs.WordLaws.{key_lt, word_lt}
 use Rattle.models.specs.Words.{next_key}
 use Rattle.rules.specs.Costs.{cost_of, cost_of_all, cost_of_row, draws}
 use Rattle.rules.specs.Effects.{Progress, after, after_all, after_row, at_turn, progress, sent}
-use Rattle.rules.specs.Effects.{turns, with_local, with_word}
+use Rattle.rules.specs.Effects.{turns, with_array, with_local, with_word}
+use Rattle.rules.specs.ElementLaws.{element_fits, written_fits}
+use Rattle.rules.specs.declared.arrays.Array.{Array}
 use Rattle.rules.specs.Rules.{Description, GoodRules, IsDescription, ended, handled, opening}
 use Rattle.rules.specs.Rules.{padded, rules_meaning, started, with_key}
 use Rattle.rules.specs.Distributions.{choice, choice_of, exponential, geometric, normal, saturated}
@@ -30,7 +32,7 @@ use Rattle.rules.specs.declared.limits.TheConstants.{MAX_LPS}
 use Rattle.rules.specs.declared.tree.Expression.{Expression}
 use Rattle.rules.specs.declared.tree.Expression.TheVariants.{Number, Word, Content, Local, Read}
 use Rattle.rules.specs.declared.tree.Expression.TheVariants.{Not', Two', Entry', Draw', Normal'}
-use Rattle.rules.specs.declared.tree.Expression.TheVariants.{Triangular', Choose}
+use Rattle.rules.specs.declared.tree.Expression.TheVariants.{Triangular', Choose, Element'}
 use Rattle.rules.specs.declared.tree.Known.{Known}
 use Rattle.rules.specs.declared.tree.Known.TheVariants.{Process, Sender, Now, Processes}
 use Rattle.rules.specs.declared.tree.Law.{Law}
@@ -44,7 +46,7 @@ use Rattle.rules.specs.declared.tree.Operator.TheVariants.{Greatest}
 use Rattle.rules.specs.declared.tree.Sending.{Sending}
 use Rattle.rules.specs.declared.tree.Statement.{Statement, Row_of-Statement, end_of-Statement}
 use Rattle.rules.specs.declared.tree.Statement.{more_of-Statement}
-use Rattle.rules.specs.declared.tree.Statement.TheVariants.{Let, Set, Send, If', Repeat'}
+use Rattle.rules.specs.declared.tree.Statement.TheVariants.{Let, Set, Send, If', Repeat', Put}
 
 -- a number of 64 bits
 abbrev IsWord : ℕ → Type 0
@@ -160,6 +162,8 @@ module _ (lps : ℕ) (some : 1 ≤ lps) (few : lps ≤ MAX_LPS) (tables : List (
       normal_fits _ _ _ (value_fits s context x k)
   value_fits s context (Triangular' p x q y r z) k = triangular_fits _ _ _ _ _
   value_fits s context (Choose t) k = choice_fits (slice_get tables t) _
+  value_fits s context (Element' a p x) k =
+      element_fits a s.words _ (index_fits s.words _ context.words)
 
   sent_lawful : (s : Context) → IsContext lps s → (x : Sending) (k : ℕ) →
       IsSend lps (sent tables s x k)
@@ -200,6 +204,18 @@ module _ (lps : ℕ) (some : 1 ≤ lps) (few : lps ≤ MAX_LPS) (tables : List (
     time = context.time;
     content = context.content;
     words = Every-set IsWord s.words place n fits context.words;
+    locals = context.locals;
+  }
+
+  array_context : (a : Array) (i n : ℕ) (s : Context) → IsContext lps s →
+      IsContext lps (with_array a i n s)
+  array_context a i n s context = record {
+    processes = context.processes;
+    process = context.process;
+    sender = context.sender;
+    time = context.time;
+    content = context.content;
+    words = written_fits a s.words i n context.words;
     locals = context.locals;
   }
 
@@ -245,6 +261,10 @@ module _ (lps : ℕ) (some : 1 ≤ lps) (few : lps ≤ MAX_LPS) (tables : List (
     after_lawful (Repeat' i n s body) p h =
         turns_lawful (λ k q. after_row tables body (at_turn i k q))
         (λ k q here. row_lawful body (at_turn i k q) (at_turn_lawful i k q here)) n p h
+    after_lawful (Put a i e) p h = record {
+      context = array_context a _ _ p.context h.context;
+      sends = h.sends;
+    }
 
     row_lawful : {m : _} (row : Row_of-Statement m) (p : Progress) → IsProgress p →
         IsProgress (after_row tables row p)
@@ -290,6 +310,7 @@ module _ (tables : List (List ℕ)) where
         let few =
         turns_few turn (cost_of_row Sends body) (λ k q. row_few body (at_turn i k q)) n p in
         omega arith
+    after_few (Put a i e) p = omega arith
 
     row_few : {m : _} (row : Row_of-Statement m) (p : Progress) →
         sends_in (after_row tables row p) ≤ sends_in p + cost_of_row Sends row

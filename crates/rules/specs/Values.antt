@@ -5,12 +5,13 @@ use Rattle.std.specs.Prelude.{bit_and, bit_or, bit_xor, eqb, nat_lt, nat_le, max
 use Rattle.std.specs.Prelude.{slice_index, if◌then◌else◌}
 use Rattle.models.specs.Words.{word}
 use Rattle.rules.specs.Costs.{draws}
+use Rattle.rules.specs.Elements.{element}
 use Rattle.rules.specs.Distributions.{choice, exponential, geometric, normal, saturated, triangular}
 use Rattle.rules.specs.declared.evaluate.Context.{Context}
 use Rattle.rules.specs.declared.tree.Expression.{Expression}
 use Rattle.rules.specs.declared.tree.Expression.TheVariants.{Number, Word, Content, Local, Read}
 use Rattle.rules.specs.declared.tree.Expression.TheVariants.{Not', Two', Entry', Draw', Normal'}
-use Rattle.rules.specs.declared.tree.Expression.TheVariants.{Triangular', Choose}
+use Rattle.rules.specs.declared.tree.Expression.TheVariants.{Triangular', Choose, Element'}
 use Rattle.rules.specs.declared.tree.Known.{Known}
 use Rattle.rules.specs.declared.tree.Known.TheVariants.{Process, Sender, Now, Processes}
 use Rattle.rules.specs.declared.tree.Law.{Law}
@@ -97,3 +98,4 @@ value_of tables s (Triangular' p x q y r z) k =
     (word s.key s.process (k + draws x + draws y + draws z))
     (word s.key s.process (k + draws x + draws y + draws z + 1))
 value_of tables s (Choose t) k = choice (slice_get tables t) (word s.key s.process k)
+value_of tables s (Element' a p x) k = element a s.words (value_of tables s x k)

@@ -175,6 +175,10 @@ fn compound(tables: &[Table], context: &Context, drawn: &mut u64, e: &Expression
             *drawn += 1;
             chosen(tables, *table, word_at(context, j))
         }
+        Expression::Element(array, x) => {
+            let index = value(tables, context, drawn, x);
+            array.get(&context.words, index)
+        }
     }
 }
 
@@ -257,6 +261,11 @@ fn run(
                 put(&mut context.locals, *place, u64::from(k));
                 run_all(tables, context, drawn, sends, body);
             }
+        }
+        Statement::Put(array, i, e) => {
+            let index = value(tables, context, drawn, i);
+            let number = value(tables, context, drawn, e);
+            array.set(&mut context.words, index, number);
         }
     }
 }

@@ -2,6 +2,7 @@
 //! one what it does with a message.
 #![tactic(auto)]
 
+mod arrays;
 mod distributions;
 mod evaluate;
 mod limits;
@@ -12,6 +13,7 @@ mod rules;
 mod tables;
 mod tree;
 
+pub use arrays::Array;
 pub use limits::{Limit, MAX_DRAWS, MAX_LPS, MAX_SENDS, MAX_STEPS, RulesFault, exceeded};
 pub use parts::RulesParts;
 pub use rules::Rules;

@@ -100,7 +100,9 @@ fn expression_cost(limit: Limit, e: &Expression) -> u64
             .step_cost()
             .saturating_add(expression_cost(limit, x))
             .saturating_add(expression_cost(limit, y)),
-        Expression::Entry(_, x) => limit.step_cost().saturating_add(expression_cost(limit, x)),
+        Expression::Entry(_, x) | Expression::Element(_, x) => {
+            limit.step_cost().saturating_add(expression_cost(limit, x))
+        }
         Expression::Draw(_, x) => limit.draw_cost().saturating_add(expression_cost(limit, x)),
         Expression::Normal(x, y) => limit
             .draw_cost()
@@ -146,6 +148,10 @@ fn statement_cost(limit: Limit, statement: &Statement) -> u64
                 .step_cost()
                 .saturating_add(u64::from(*count).saturating_mul(turn))
         }
+        Statement::Put(_, index, e) => limit
+            .step_cost()
+            .saturating_add(expression_cost(limit, index))
+            .saturating_add(expression_cost(limit, e)),
     }
 }
 

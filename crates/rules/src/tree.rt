@@ -1,5 +1,7 @@
 // The tree of a rule, its names resolved to places.
 
+use crate::arrays::Array;
+
 /// An operator on two numbers of 64 bits without sign. A comparison and a truth value are 1 if they
 /// hold and 0 if not, and every number but 0 counts as true.
 #[derive(Clone, Copy, Debug, PartialEq, Eq)]
@@ -105,6 +107,8 @@ pub enum Expression {
     /// `choose(TABLE)`: an index of the table at this place by its weights, from the next drawn
     /// word. It is 0 if there is no such table or all its weights are 0.
     Choose(u32),
+    /// The element of an array in the state at an index, or 0 if there is no such element.
+    Element(Array, Box<Expression>),
 }
 
 /// A message to send. Its values are computed in the order of the fields.
@@ -138,4 +142,7 @@ pub enum Statement {
     /// Runs the block a number of times. The local name at the place has the number of the turn,
     /// from 0 on.
     Repeat(u8, u32, Vec<Statement>),
+    /// Gives the element of an array in the state at an index, the first value, the second value.
+    /// Does nothing if there is no such element.
+    Put(Array, Expression, Expression),
 }

@@ -6,7 +6,7 @@ use Rattle.rules_text.specs.declared.token.Mark.{Mark}
 use Rattle.rules_text.specs.declared.token.Mark.TheVariants as m
 use Rattle.rules_text.specs.declared.token.Token.{Token}
 use Rattle.rules_text.specs.declared.token.Token.TheVariants as t
-use Rattle.rules_text.specs.Grammar.{Tree, Not, Two, Entry, Draw, Normal, Triangular, height, leaf, looseness, Spells, a_leaf, a_not, in_brackets, an_entry, a_draw, a_normal, a_triangular, a_chosen, the_least, the_greatest, compared, joined, tighter}
+use Rattle.rules_text.specs.Grammar.{Tree, Not, Two, Entry, Draw, Normal, Triangular, Element, height, leaf, looseness, Spells, a_leaf, a_not, in_brackets, an_entry, an_element, a_draw, a_normal, a_triangular, a_chosen, the_least, the_greatest, compared, joined, tighter}
 use Rattle.rules_text.specs.Reading.{Reader, ◌>>=◌, and_rest, behind, chain, enclosed, go, inside, level, made, pair_at, primary, three_at, turns, value_at}
 use Rattle.rules_text.proofs.Marks.{behind_is, made_is, other_number, same_number}
 
@@ -23,6 +23,7 @@ looser k (t.Known n ∷ rest) h = tt
 looser k (t.Word n ∷ rest) h = tt
 looser k (t.Content n ∷ rest) h = tt
 looser k (t.Table n ∷ rest) h = tt
+looser k (t.Array n ∷ rest) h = tt
 looser k (t.Name n ∷ rest) h = tt
 looser k (t.Sign o ∷ rest) h = omega arith
 
@@ -40,6 +41,7 @@ leaf_read names inner (t.Name n) x rest e = ap (λ o. and_rest o rest) e
 leaf_read names inner (t.Sign n) x rest e = absurd cc
 leaf_read names inner (t.Mark n) x rest e = absurd cc
 leaf_read names inner (t.Table n) x rest e = absurd cc
+leaf_read names inner (t.Array n) x rest e = absurd cc
 
 enclosed_is : (closing : Mark) (inner : Reader) (ts rest : List Token) (x : Tree) → inner ts ≡ Some (x, t.Mark closing ∷ rest) →
     enclosed closing inner ts ≡ Some (x, rest)
@@ -63,6 +65,7 @@ module _ (names : List ℕ) (n : ℕ) (inner : ℕ → Reader) where
   stops (suc k) (suc j) x (t.Word m ∷ rest) h = refl
   stops (suc k) (suc j) x (t.Content m ∷ rest) h = refl
   stops (suc k) (suc j) x (t.Table m ∷ rest) h = refl
+  stops (suc k) (suc j) x (t.Array m ∷ rest) h = refl
   stops (suc k) (suc j) x (t.Name m ∷ rest) h = refl
   stops (suc k) (suc j) x (t.Sign o ∷ rest) h =
       ap (λ b. go (if b then Some (o, rest) else None) x (t.Sign o ∷ rest) (level names n inner k) (chain (suc k) (level names n inner k) j))
@@ -175,6 +178,12 @@ module _ (names : List ℕ) (n : ℕ) where
       let here = complete d 9 x ts inner (omega (arith, length-append ts (t.Mark m.CloseIndex ∷ []))) (t.Mark m.CloseIndex ∷ rest) tt in record {
         left = n;
         read = ap (λ r. r >>= λ p. made (Entry table p.0) p.1) (within d m.CloseIndex x ts rest here) ∙ made_is (Entry table x) rest low;
+        enough = λ _. omega arith;
+      }
+  complete _ _ _ _ (an_element d array x ts low inner) fits rest h =
+      let here = complete d 9 x ts inner (omega (arith, length-append ts (t.Mark m.CloseIndex ∷ []))) (t.Mark m.CloseIndex ∷ rest) tt in record {
+        left = n;
+        read = ap (λ r. r >>= λ p. made (Element array p.0) p.1) (within d m.CloseIndex x ts rest here) ∙ made_is (Element array x) rest low;
         enough = λ _. omega arith;
       }
   complete _ _ _ _ (a_draw d law x ts low inner) fits rest h =

@@ -94,6 +94,7 @@ behind_only k (t.Known n ∷ ts) rest e = cc
 behind_only k (t.Word n ∷ ts) rest e = cc
 behind_only k (t.Content n ∷ ts) rest e = cc
 behind_only k (t.Table n ∷ ts) rest e = cc
+behind_only k (t.Array n ∷ ts) rest e = cc
 behind_only k (t.Name n ∷ ts) rest e = cc
 behind_only k (t.Mark j ∷ ts) rest e = elim (cases_Bool (eqb (code j) (code k))) [
   | inl same ↦

@@ -2,6 +2,7 @@
 use Rattle.std.proofs.Common.{◌≡◌, ◌≤◌, ◌⊎◌, ℕ, zero, suc, List, [], ◌∷◌, ◌++◌, Option, Some, None, eqb, length, refl, sym, ap, ◌∙◌, subst, arith, append_assoc, if◌then◌else◌, inl, inr}
 use Rattle.std.proofs.lemmas.Bool.{cases_Bool}
 use Rattle.eventkey.proofs.Fields.{bind_some}
+use Rattle.rules.specs.declared.arrays.Array.{Array}
 use Rattle.rules.specs.declared.tree.Law.{Law}
 use Rattle.rules.specs.declared.tree.Operator.{Operator}
 use Rattle.rules.specs.declared.tree.Operator.TheVariants as o
@@ -9,7 +10,7 @@ use Rattle.rules_text.specs.declared.token.Mark.{Mark}
 use Rattle.rules_text.specs.declared.token.Mark.TheVariants as m
 use Rattle.rules_text.specs.declared.token.Token.{Token}
 use Rattle.rules_text.specs.declared.token.Token.TheVariants as t
-use Rattle.rules_text.specs.Grammar.{Tree, Not, Two, Entry, Draw, Normal, Triangular, Choose, height, leaf, looseness, Spells, a_leaf, a_not, in_brackets, an_entry, a_draw, a_normal, a_triangular, a_chosen, the_least, the_greatest, compared, joined, tighter}
+use Rattle.rules_text.specs.Grammar.{Tree, Not, Two, Entry, Draw, Normal, Triangular, Choose, Element, height, leaf, looseness, Spells, a_leaf, a_not, in_brackets, an_entry, an_element, a_draw, a_normal, a_triangular, a_chosen, the_least, the_greatest, compared, joined, tighter}
 use Rattle.rules_text.specs.Reading.{Reader, ◌>>=◌, and_rest, behind, by_mark, chain, enclosed, go, chosen_at, inside, level, made, pair_at, primary, table_at, three_at, turns, value_at}
 use Rattle.rules_text.proofs.Marks.{behind_only, equal_number, made_only, not_six, some_is}
 
@@ -48,6 +49,7 @@ one_step k n operand x (t.Known m ∷ ts) y rest e = inl (both_are x y _ rest e)
 one_step k n operand x (t.Word m ∷ ts) y rest e = inl (both_are x y _ rest e)
 one_step k n operand x (t.Content m ∷ ts) y rest e = inl (both_are x y _ rest e)
 one_step k n operand x (t.Table m ∷ ts) y rest e = inl (both_are x y _ rest e)
+one_step k n operand x (t.Array m ∷ ts) y rest e = inl (both_are x y _ rest e)
 one_step k n operand x (t.Name m ∷ ts) y rest e = inl (both_are x y _ rest e)
 one_step k n operand x (t.Sign o ∷ ts) y rest e = elim (cases_Bool (eqb (looseness o) k)) [
   | inl here ↦
@@ -165,6 +167,16 @@ module _ (names : List ℕ) where
     spelled = an_entry d table x h.front low h.spelled;
   }
 
+  element_within : (d : ℕ) (array : Array) (x : Tree) (ts us rest : List Token) → height (Element array x) ≤ 256 → ts ≡ t.Mark m.OpenIndex ∷ us →
+      Closed d x m.CloseIndex us rest → Begins names d 0 (Element array x) (t.Array array ∷ ts) rest
+  element_within zero array x ts us rest low e h = absurd h
+  element_within (suc d) array x ts us rest low e h = record {
+    front = t.Array array ∷ t.Mark m.OpenIndex ∷ (h.front ++ t.Mark m.CloseIndex ∷ []);
+    parts = ap (λ vs. t.Array array ∷ vs) e
+        ∙ ap (λ vs. t.Array array ∷ t.Mark m.OpenIndex ∷ vs) (h.parts ∙ sym (append_assoc h.front (t.Mark m.CloseIndex ∷ []) rest));
+    spelled = an_element d array x h.front low h.spelled;
+  }
+
   draw_within : (d : ℕ) (law : Law) (x : Tree) (ts us rest : List Token) → height (Draw law x) ≤ 256 → ts ≡ t.Mark m.Open ∷ us → Closed d x m.Close us rest →
       Begins names d 0 (Draw law x) (t.Mark (m.Draw law) ∷ ts) rest
   draw_within zero law x ts us rest low e h = absurd h
@@ -240,6 +252,7 @@ module _ (names : List ℕ) where
   table_only (t.Word n ∷ ts) p e = absurd cc
   table_only (t.Content n ∷ ts) p e = absurd cc
   table_only (t.Name n ∷ ts) p e = absurd cc
+  table_only (t.Array n ∷ ts) p e = absurd cc
   table_only (t.Table n ∷ ts) p e =
       let same : ◌≡◌ {A = ℕ × List Token} (n, ts) p = some_is (n, ts) p e in
       ap (λ (q : ℕ × List Token). t.Table q.0 ∷ q.1) same
@@ -375,6 +388,12 @@ module _ (names : List ℕ) where
         let put = made_only (Entry table two.0.0) two.0.1 (x, rest) two.2 in
         subst (λ (p : Tree × List Token). Begins names d 0 p.0 (t.Table table ∷ ts) p.1) put.1
         (entry_within d table two.0.0 ts one.0 two.0.1 put.0 (behind_only m.OpenIndex ts one.0 one.1) (enclosed_sound m.CloseIndex one.0 two.0.0 two.0.1 two.1))
+    primary_sound (t.Array array ∷ ts) x rest e =
+        let one = bind_some (behind m.OpenIndex ts) (λ us. enclosed m.CloseIndex (inner 9) us >>= λ p. made (Element array p.0) p.1) (x, rest) e in
+        let two = bind_some (enclosed m.CloseIndex (inner 9) one.0) (λ p. made (Element array p.0) p.1) (x, rest) one.2 in
+        let put = made_only (Element array two.0.0) two.0.1 (x, rest) two.2 in
+        subst (λ (p : Tree × List Token). Begins names d 0 p.0 (t.Array array ∷ ts) p.1) put.1
+        (element_within d array two.0.0 ts one.0 two.0.1 put.0 (behind_only m.OpenIndex ts one.0 one.1) (enclosed_sound m.CloseIndex one.0 two.0.0 two.0.1 two.1))
 
     level_sound : (n k : ℕ) → IsSound d k (level names n inner k)
     level_sound n zero ts x rest e = primary_sound ts x rest e

@@ -8,7 +8,7 @@ use Rattle.rules_text.specs.declared.token.Token.TheVariants as t
 use Rattle.rules_text.specs.Grammar.{Tree, Spells, place_of}
 use Rattle.rules_text.specs.Reading.{◌>>=◌, behind, value_at}
 use Rattle.rules_text.specs.ReadingStatements.{Done, Reads, all_of, begins, block_at, choice_at, choice_with, content, contents, count_at, else_at, given_at, new_name, one, otherwise, room, row, rule_at, sending, unnamed, with_name}
-use Rattle.rules_text.specs.Statements.{Act, Acts, Four, Let, Set, Send, If, Repeat, cons, empty, Part, Statements, Choice, Otherwise, SpellsContent, not_given, is_given, SpellsSending, SpellsPart, nothing, a_let, a_set, a_send, an_if, a_repeat, a_choice, no_else, an_else, an_else_if, SpellsRule}
+use Rattle.rules_text.specs.Statements.{Act, Acts, Four, Let, Set, Send, If, Repeat, Put, cons, empty, Part, Statements, Choice, Otherwise, SpellsContent, not_given, is_given, SpellsSending, SpellsPart, nothing, a_let, a_set, a_put, a_send, an_if, a_repeat, a_choice, no_else, an_else, an_else_if, SpellsRule}
 use Rattle.rules_text.proofs.Complete.{Heads, value_is}
 use Rattle.rules_text.proofs.Marks.{behind_is}
 use Rattle.rules_text.proofs.Turns.{row_stops}
@@ -39,6 +39,7 @@ quiet_before : (names : List ℕ) (d : ℕ) (part : Part) (ts : List Token) → 
 quiet_before _ _ _ _ (nothing names d) h rest end = end.quiet
 quiet_before _ _ _ _ (a_let names d name x acts ts us fresh few value more) h rest end = record { no_sign = tt; no_else = refl; no_with = refl; no_comma = refl }
 quiet_before _ _ _ _ (a_set names d place x acts ts us value more) h rest end = record { no_sign = tt; no_else = refl; no_with = refl; no_comma = refl }
+quiet_before _ _ _ _ (a_put names d array index x acts ts us vs place value more) h rest end = record { no_sign = tt; no_else = refl; no_with = refl; no_comma = refl }
 quiet_before _ _ _ _ (a_send names d to after content acts ts us sent more) h rest end = record { no_sign = tt; no_else = refl; no_with = refl; no_comma = refl }
 quiet_before _ _ _ _ (an_if names d act acts ts us chosen more) h rest end = record { no_sign = tt; no_else = refl; no_with = refl; no_comma = refl }
 quiet_before _ _ _ _ (a_repeat names d name count body acts ts us fresh few small inner more) h rest end = record { no_sign = tt; no_else = refl; no_with = refl; no_comma = refl }
@@ -187,6 +188,15 @@ complete _ _ _ _ (a_set names d place x acts ts us value more) rest end = λ n f
     row_takes (first_at d) n names _ (us ++ rest) rest (Set place x) None acts (omega arith) refl
     (ap (λ r. r >>= λ q. Some ((Set place q.0, None), q.1)) (value_step names d x ts us rest value quiet.no_sign))
     (complete names d (Statements acts) us more rest end (n - 1) (omega (arith, length-append ts us)))
+complete _ _ _ _ (a_put names d array index x acts ts us vs place value more) rest end = λ n fits.
+    let quiet = quiet_before names d (Statements acts) vs more tt rest end in
+    let behind_index = t.Mark m.CloseIndex ∷ t.Mark m.Is ∷ (us ++ vs) in
+    row_takes (first_at d) n names _ (vs ++ rest) rest (Put array index x) None acts (omega arith) refl
+    (ap (λ r. r >>= λ p. behind m.CloseIndex p.1 >>= λ qs. behind m.Is qs >>= λ ws. value_at names d ws >>= λ q. Some ((Put array p.0 q.0, None), q.1))
+    (value_step names d index ts behind_index rest place tt)
+    ∙ ap (λ r. r >>= λ q. Some ((Put array index q.0, None), q.1)) (value_step names d x us vs rest value quiet.no_sign))
+    (complete names d (Statements acts) vs more rest end (n - 1)
+    (omega (arith, length-append ts behind_index, length-append us vs)))
 complete _ _ _ _ (a_send names d to after four acts ts us sent more) rest end = λ n fits.
     let quiet = quiet_before names d (Statements acts) us more tt rest end in
     row_takes (first_at d) n names _ (us ++ rest) rest (Send to after four) None acts (omega arith) refl

@@ -3,14 +3,15 @@ use Rattle.std.proofs.Common.{◌≡◌, ◌<◌, ℕ, zero, suc, ◌^◌, List,
 use Rattle.std.proofs.lemmas.Bool.{cases_Bool}
 use Rattle.std.proofs.lemmas.Bool.Decides.{nat_tests}
 use Rattle.eventkey.proofs.Fields.{bind_some}
+use Rattle.rules.specs.declared.arrays.Array.{Array}
 use Rattle.rules_text.specs.declared.token.Mark.{Mark}
 use Rattle.rules_text.specs.declared.token.Mark.TheVariants as m
 use Rattle.rules_text.specs.declared.token.Token.{Token}
 use Rattle.rules_text.specs.declared.token.Token.TheVariants as t
 use Rattle.rules_text.specs.Grammar.{Tree, Number, place_of}
 use Rattle.rules_text.specs.Reading.{◌>>=◌, behind, value_at}
-use Rattle.rules_text.specs.ReadingStatements.{Done, Reads, all_of, assignment, begins, block_at, by_start, choice_at, choice_with, content, contents, count_at, else_at, else_if, given_at, naming, new_name, one, otherwise, repetition, room, row, rule_at, sending, statements_at, unnamed, with_name}
-use Rattle.rules_text.specs.Statements.{Act, Acts, Four, Let, Set, Send, If, Repeat, cons, empty, Part, Statements, Choice, Otherwise, SpellsContent, not_given, is_given, SpellsSending, SpellsPart, nothing, a_let, a_set, a_send, an_if, a_repeat, a_choice, no_else, an_else, an_else_if, SpellsRule}
+use Rattle.rules_text.specs.ReadingStatements.{Done, Reads, all_of, assignment, begins, block_at, by_start, choice_at, choice_with, content, contents, count_at, else_at, else_if, given_at, naming, new_name, one, otherwise, placing, repetition, room, row, rule_at, sending, statements_at, unnamed, with_name}
+use Rattle.rules_text.specs.Statements.{Act, Acts, Four, Let, Set, Send, If, Repeat, Put, cons, empty, Part, Statements, Choice, Otherwise, SpellsContent, not_given, is_given, SpellsSending, SpellsPart, nothing, a_let, a_set, a_put, a_send, an_if, a_repeat, a_choice, no_else, an_else, an_else_if, SpellsRule}
 use Rattle.rules_text.proofs.Sound.{Begins, value_only}
 use Rattle.rules_text.proofs.Marks.{behind_only, some_is}
 
@@ -63,6 +64,7 @@ new_only names (t.Known n ∷ ts) p e = absurd cc
 new_only names (t.Word n ∷ ts) p e = absurd cc
 new_only names (t.Content n ∷ ts) p e = absurd cc
 new_only names (t.Table n ∷ ts) p e = absurd cc
+new_only names (t.Array n ∷ ts) p e = absurd cc
 new_only names (t.Name name ∷ ts) p e = at (place_of name names) refl e
   where
     at : (o : Option ℕ) → place_of name names ≡ o → room o name names ts ≡ Some p → NewName names (t.Name name ∷ ts) p
@@ -88,6 +90,7 @@ count_only (t.Known n ∷ ts) p e = absurd cc
 count_only (t.Word n ∷ ts) p e = absurd cc
 count_only (t.Content n ∷ ts) p e = absurd cc
 count_only (t.Table n ∷ ts) p e = absurd cc
+count_only (t.Array n ∷ ts) p e = absurd cc
 count_only (t.Name n ∷ ts) p e = absurd cc
 count_only (t.Number n ∷ ts) p e = elim (cases_Bool (ltb n (2 ^ 32))) [
   | inl small ↦
@@ -125,6 +128,32 @@ assignment_sound names d place ts p rest e =
       front = t.Word place ∷ t.Mark m.Is ∷ value.front;
       parts = ap (λ us. t.Word place ∷ us) (behind_only m.Is ts b.0 b.1 ∙ ap (λ us. t.Mark m.Is ∷ us) (value.parts ∙ ap (λ us. value.front ++ us) end.1));
       before = λ acts us more. a_set names d place c.0.0 acts value.front us value.spelled more;
+    })
+
+placing_sound : (names : List ℕ) (d : ℕ) (array : Array) (ts : List Token) (p : Done) (rest : List Token) → placing d array names ts ≡ Some (p, rest) →
+    Starts names d p (t.Array array ∷ ts) rest
+placing_sound names d array ts p rest e =
+    let a = bind_some (behind m.OpenIndex ts) (λ us. value_at names d us >>= λ p. behind m.CloseIndex p.1 >>= λ vs. behind m.Is vs >>= λ ws.
+    value_at names d ws >>= λ q. Some ((Put array p.0 q.0, None), q.1)) (p, rest) e in
+    let b = bind_some (value_at names d a.0) (λ p. behind m.CloseIndex p.1 >>= λ vs. behind m.Is vs >>= λ ws.
+    value_at names d ws >>= λ q. Some ((Put array p.0 q.0, None), q.1)) (p, rest) a.2 in
+    let c = bind_some (behind m.CloseIndex b.0.1) (λ vs. behind m.Is vs >>= λ ws.
+    value_at names d ws >>= λ q. Some ((Put array b.0.0 q.0, None), q.1)) (p, rest) b.2 in
+    let f = bind_some (behind m.Is c.0) (λ ws. value_at names d ws >>= λ q. Some ((Put array b.0.0 q.0, None), q.1)) (p, rest) c.2 in
+    let g = bind_some (value_at names d f.0) (λ q. Some ((Put array b.0.0 q.0, None), q.1)) (p, rest) f.2 in
+    let end = two_are (Put array b.0.0 g.0.0, None) p g.0.1 rest g.2 in
+    let index = value_only names d a.0 b.0.0 b.0.1 b.1 in
+    let value = value_only names d f.0 g.0.0 g.0.1 g.1 in
+    let second = t.Mark m.CloseIndex ∷ t.Mark m.Is ∷ value.front in
+    subst (λ (q : Done). Starts names d q (t.Array array ∷ ts) rest) end.0 (record {
+      front = t.Array array ∷ t.Mark m.OpenIndex ∷ (index.front ++ second);
+      parts = ap (λ us. t.Array array ∷ us) (behind_only m.OpenIndex ts a.0 a.1 ∙ ap (λ us. t.Mark m.OpenIndex ∷ us) (index.parts
+          ∙ ap (λ us. index.front ++ us) (behind_only m.CloseIndex b.0.1 c.0 c.1 ∙ ap (λ us. t.Mark m.CloseIndex ∷ us)
+          (behind_only m.Is c.0 f.0 f.1 ∙ ap (λ us. t.Mark m.Is ∷ us) (value.parts ∙ ap (λ us. value.front ++ us) end.1)))
+          ∙ sym (append_assoc index.front second rest)));
+      before = λ acts us more. subst (λ vs. SpellsPart names d (Statements (cons (Put array b.0.0 g.0.0) acts)) (t.Array array ∷ t.Mark m.OpenIndex ∷ vs))
+          (sym (append_assoc index.front second us))
+          (a_put names d array b.0.0 g.0.0 acts index.front value.front us index.spelled value.spelled more);
     })
 
 module _ (names : List ℕ) (d : ℕ) where
@@ -387,6 +416,7 @@ module _ (d : ℕ) (block : Reads Acts) (choice : Reads Act)
   one_sound names (t.Table n ∷ ts) p rest e = absurd cc
   one_sound names (t.Name n ∷ ts) p rest e = absurd cc
   one_sound names (t.Word place ∷ ts) p rest e = assignment_sound names d place ts p rest e
+  one_sound names (t.Array array ∷ ts) p rest e = placing_sound names d array ts p rest e
   one_sound names (t.Mark mark ∷ ts) p rest e = start_sound mark names ts p rest e
 
   nothing_more : (names : List ℕ) (ts : List Token) (acts : Acts) (rest : List Token) → ◌≡◌ {A = Option (Acts × List Token)} (Some (empty, ts)) (Some (acts, rest)) →

@@ -1,5 +1,6 @@
 -- Which tokens spell which value, as the grammar's own rules.
 use Rattle.std.specs.Prelude.{◌≡◌, ℕ, suc, ◌+◌, ◌≤◌, List, [], ◌∷◌, ◌++◌, Option, Some, None, eqb, max, if◌then◌else◌}
+use Rattle.rules.specs.declared.arrays.Array.{Array}
 use Rattle.rules.specs.declared.tree.Expression.{Expression}
 use Rattle.rules.specs.declared.tree.Expression.TheVariants as e
 use Rattle.rules.specs.declared.tree.Known.{Known as Knowledge}
@@ -26,6 +27,7 @@ pub data Tree : Type 0 where
   Normal : (x y : Tree) → Tree
   Triangular : (x y z : Tree) → Tree
   Choose : (table : ℕ) → Tree
+  Element : (array : Array) (x : Tree) → Tree
 
 -- the tree of an expression
 abbrev pub tree_of : Expression → Tree
@@ -41,6 +43,7 @@ tree_of (e.Draw' law p x) = Draw law (tree_of x)
 tree_of (e.Normal' p x q y) = Normal (tree_of x) (tree_of y)
 tree_of (e.Triangular' p x q y r z) = Triangular (tree_of x) (tree_of y) (tree_of z)
 tree_of (e.Choose table) = Choose table
+tree_of (e.Element' array p x) = Element array (tree_of x)
 
 -- how many operators deep a value is
 abbrev pub height : Tree → ℕ
@@ -48,6 +51,7 @@ height (Not x) = height x + 1
 height (Two o x y) = max (height x) (height y) + 1
 height (Entry table x) = height x + 1
 height (Draw law x) = height x + 1
+height (Element array x) = height x + 1
 height (Normal x y) = max (height x) (height y) + 1
 height (Triangular x y z) = max (max (height x) (height y)) (height z) + 1
 height _ = 0
@@ -132,6 +136,8 @@ pub data Spells (names : List ℕ) : (d k : ℕ) → Tree → List Token → Typ
   in_brackets : (d : ℕ) (x : Tree) (ts : List Token) → Spells names d 9 x ts → Spells names (suc d) 0 x (t.Mark m.Open ∷ (ts ++ t.Mark m.Close ∷ []))
   an_entry : (d table : ℕ) (x : Tree) (ts : List Token) → height (Entry table x) ≤ 256 → Spells names d 9 x ts →
       Spells names (suc d) 0 (Entry table x) (t.Table table ∷ t.Mark m.OpenIndex ∷ (ts ++ t.Mark m.CloseIndex ∷ []))
+  an_element : (d : ℕ) (array : Array) (x : Tree) (ts : List Token) → height (Element array x) ≤ 256 → Spells names d 9 x ts →
+      Spells names (suc d) 0 (Element array x) (t.Array array ∷ t.Mark m.OpenIndex ∷ (ts ++ t.Mark m.CloseIndex ∷ []))
   a_draw : (d : ℕ) (law : Law) (x : Tree) (ts : List Token) → height (Draw law x) ≤ 256 → Spells names d 9 x ts →
       Spells names (suc d) 0 (Draw law x) (t.Mark (m.Draw law) ∷ t.Mark m.Open ∷ (ts ++ t.Mark m.Close ∷ []))
   a_normal : (d : ℕ) (x y : Tree) (ts us : List Token) → height (Normal x y) ≤ 256 → Spells names d 9 x ts → Spells names d 9 y us →

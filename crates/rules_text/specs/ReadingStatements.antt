@@ -1,12 +1,13 @@
 -- The reader of statements: one pass from the left.
 use Rattle.std.specs.Prelude.{ℕ, zero, suc, ◌^◌, List, [], ◌∷◌, ◌++◌, Option, Some, None, Bool, true, false, length, nat_lt, if◌then◌else◌}
+use Rattle.rules.specs.declared.arrays.Array.{Array}
 use Rattle.rules_text.specs.declared.token.Mark.{Mark}
 use Rattle.rules_text.specs.declared.token.Mark.TheVariants as m
 use Rattle.rules_text.specs.declared.token.Token.{Token}
 use Rattle.rules_text.specs.declared.token.Token.TheVariants as t
 use Rattle.rules_text.specs.Grammar.{Tree, Number, place_of}
 use Rattle.rules_text.specs.Reading.{◌>>=◌, behind, value_at}
-use Rattle.rules_text.specs.Statements.{Act, Acts, Four, empty, cons, Let, Set, Send, If, Repeat}
+use Rattle.rules_text.specs.Statements.{Act, Acts, Four, empty, cons, Let, Set, Send, If, Repeat, Put}
 
 -- with names in scope: what is read, and the tokens after it
 abbrev pub Reads : Type 0 → Type 0
@@ -35,6 +36,12 @@ naming d names ts =
 
 abbrev pub assignment : ℕ → ℕ → Reads Done
 assignment d place names ts = behind m.Is ts >>= λ us. value_at names d us >>= λ q. Some ((Set place q.0, None), q.1)
+
+-- an element, behind its array
+abbrev pub placing : ℕ → Array → Reads Done
+placing d array names ts =
+    behind m.OpenIndex ts >>= λ us. value_at names d us >>= λ p. behind m.CloseIndex p.1 >>= λ vs. behind m.Is vs >>= λ ws.
+    value_at names d ws >>= λ q. Some ((Put array p.0 q.0, None), q.1)
 
 -- a word of content, and whether it is given
 abbrev pub given_at : Option (List Token) → ℕ → List ℕ → List Token → Option ((Tree × Bool) × List Token)
@@ -91,6 +98,7 @@ starts _ = false
 abbrev pub begins : List Token → Bool
 begins (t.Mark mark ∷ rest) = starts mark
 begins (t.Word place ∷ rest) = true
+begins (t.Array array ∷ rest) = true
 begins _ = false
 
 abbrev pub unnamed : Option (Act × List Token) → Option (Done × List Token)
@@ -106,6 +114,7 @@ by_start _ d block choice names ts = None
 abbrev pub one : ℕ → Reads (Acts) → Reads Act → Reads Done
 one d block choice names (t.Mark mark ∷ rest) = by_start mark d block choice names rest
 one d block choice names (t.Word place ∷ rest) = assignment d place names rest
+one d block choice names (t.Array array ∷ rest) = placing d array names rest
 one d block choice names _ = None
 
 -- at most n statements, one after the other

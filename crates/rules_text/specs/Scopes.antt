@@ -33,6 +33,7 @@ token_meant (w.Word place) = t.Word place
 token_meant (w.Content place) = t.Content place
 token_meant (w.Number n) = t.Number n
 token_meant (w.Table place) = t.Table place
+token_meant (w.Array array) = t.Array array
 
 -- the words of the language
 abbrev pub statement_word : List ℕ → Option Token

@@ -1,5 +1,6 @@
 -- Which tokens spell which statements, as the grammar's own rules.
 use Rattle.std.specs.Prelude.{◌≡◌, ℕ, suc, ◌<◌, ◌^◌, List, [], ◌∷◌, ◌++◌, None, Bool, true, false, length}
+use Rattle.rules.specs.declared.arrays.Array.{Array}
 use Rattle.rules.specs.declared.tree.Sending.{Sending}
 use Rattle.rules.specs.declared.tree.Statement.{Statement, Row_of-Statement, end_of-Statement, more_of-Statement}
 use Rattle.rules.specs.declared.tree.Statement.TheVariants as s
@@ -24,6 +25,7 @@ mutual
     Send : (to after : Tree) (content : Four) → Act
     If : (x : Tree) (met unmet : Acts) → Act
     Repeat : (place count : ℕ) (body : Acts) → Act
+    Put : (array : Array) (index x : Tree) → Act
 
   pub data Acts : Type 0 where
     empty : Acts
@@ -39,6 +41,7 @@ abbrev mutual
   act_of (s.Send x) = Send (tree_of x.to) (tree_of x.after) (content_of x)
   act_of (s.If' e p met q unmet) = If (tree_of e) (acts_of_row met) (acts_of_row unmet)
   act_of (s.Repeat' i n p body) = Repeat i n (acts_of_row body)
+  act_of (s.Put array i e) = Put array (tree_of i) (tree_of e)
 
   pub acts_of_row : {n : _} → Row_of-Statement n → Acts
   acts_of_row end_of-Statement = empty
@@ -89,6 +92,10 @@ pub data SpellsPart : (names : List ℕ) (d : ℕ) → Part → List Token → T
   a_set : (names : List ℕ) (d place : ℕ) (x : Tree) (acts : Acts) (ts us : List Token) →
       Spells names d 9 x ts → SpellsPart names d (Statements acts) us →
       SpellsPart names d (Statements (cons (Set place x) acts)) (t.Word place ∷ t.Mark m.Is ∷ (ts ++ us))
+  a_put : (names : List ℕ) (d : ℕ) (array : Array) (index x : Tree) (acts : Acts) (ts us vs : List Token) →
+      Spells names d 9 index ts → Spells names d 9 x us → SpellsPart names d (Statements acts) vs →
+      SpellsPart names d (Statements (cons (Put array index x) acts))
+      (t.Array array ∷ t.Mark m.OpenIndex ∷ (ts ++ (t.Mark m.CloseIndex ∷ t.Mark m.Is ∷ (us ++ vs))))
   a_send : (names : List ℕ) (d : ℕ) (to after : Tree) (content : Four) (acts : Acts) (ts us : List Token) →
       SpellsSending names d to after content ts → SpellsPart names d (Statements acts) us →
       SpellsPart names d (Statements (cons (Send to after content) acts)) (t.Mark m.Send ∷ (ts ++ us))

@@ -9,7 +9,7 @@ ghost use Rattle.rules_text.specs.declared.scope.ScopeError.TheVariants.{Memory,
 
 use crate::lexemes::is_whole_name;
 use crate::token::{Mark, Token};
-use rules::{Known, Law};
+use rules::{Array, Known, Law};
 use std::alloc::{AllocError, AllocFailed, Global};
 use thiserror::Error;
 
@@ -24,6 +24,8 @@ pub enum Meaning {
     Number(u64),
     /// A table, by its place.
     Table(u32),
+    /// An array in the state.
+    Array(Array),
 }
 
 impl Meaning {
@@ -35,6 +37,7 @@ impl Meaning {
             Meaning::Content(place) => Token::Content(place),
             Meaning::Number(n) => Token::Number(n),
             Meaning::Table(place) => Token::Table(place),
+            Meaning::Array(array) => Token::Array(array),
         }
     }
 }

@@ -3,13 +3,13 @@
 ghost use Rattle.std.specs.Prelude.{◌≡◌, ◌<◌, ◌≤◌, ◌++◌, ◌∷◌, [], None, Some, IfOk, IfSome, OnOk, length};
 ghost use Rattle.rules_text.specs.Grammar.{tree_of};
 ghost use Rattle.rules_text.specs.Reading.{Gives};
-ghost use Rattle.rules_text.specs.ReadingStatements.{assignment as assignment_at, begins as begins_at, block_at, choice_at, choice_with, content as content_at, contents as contents_at, count_at, naming as naming_at, new_name as new_name_at, one as one_at, otherwise as otherwise_at, repetition as repetition_at, rule_at, sending as sending_at, statements_at, with_name as with_name_of};
+ghost use Rattle.rules_text.specs.ReadingStatements.{assignment as assignment_at, begins as begins_at, block_at, choice_at, choice_with, content as content_at, contents as contents_at, count_at, naming as naming_at, new_name as new_name_at, one as one_at, otherwise as otherwise_at, placing as placing_at, repetition as repetition_at, rule_at, sending as sending_at, statements_at, with_name as with_name_of};
 ghost use Rattle.rules_text.specs.Statements.{If, Repeat, act_of, acts_of};
 
 use crate::stop::{Stop, Wanted, refused};
 use crate::token::{Mark, Token};
 use crate::values::{Reads, behind, expect, first, place, value};
-use rules::{Expression, Sending, Statement};
+use rules::{Array, Expression, Sending, Statement};
 use std::alloc::{AllocError, Global};
 
 /// A statement, and the name that it gives to what follows.
@@ -35,7 +35,7 @@ fn begins(tokens: &[Token]) -> bool
     ensures { result ≡ begins_at tokens.now }
 {
     match first(tokens) {
-        Some((Token::Word(_), _)) => true,
+        Some((Token::Word(_), _)) | Some((Token::Array(_), _)) => true,
         Some((Token::Mark(mark), _)) => match mark {
             Mark::Let | Mark::Send | Mark::If | Mark::Repeat => true,
             _ => false,
@@ -90,6 +90,7 @@ fn one<'a>(alloc: Global, names: &[usize], depth: u32, tokens: &'a [Token]) -> R
 {
     match first(tokens) {
         Some((Token::Word(place), rest)) => assignment(alloc, names, depth, place, rest),
+        Some((Token::Array(array), rest)) => placing(alloc, names, depth, array, rest),
         Some((Token::Mark(Mark::Let), rest)) => naming(alloc, names, depth, rest),
         Some((Token::Mark(Mark::Send), rest)) => sending(alloc, names, depth, rest),
         Some((Token::Mark(Mark::If), rest)) => {
@@ -149,6 +150,26 @@ fn assignment<'a>(
     let rest = expect(Mark::Is, tokens)?;
     let (x, rest) = value(alloc, names, depth, rest)?;
     Ok(((Statement::Set(place, x), None), rest))
+}
+
+/// The index and the value of an element, behind its array.
+fn placing<'a>(
+    alloc: Global,
+    names: &[usize],
+    depth: u32,
+    array: Array,
+    tokens: &'a [Token],
+) -> Reads<'a, Named>
+    requires { length names.now ≤ 16 }
+    ensures read { Gives (λ p. ((act_of p.0.0, p.0.1), p.1.now)) result (placing_at depth array names.now tokens.now) }
+    ensures none { IfOk result (λ p. p.0.1 ≡ None) }
+{
+    let rest = expect(Mark::OpenIndex, tokens)?;
+    let (index, rest) = value(alloc, names, depth, rest)?;
+    let rest = expect(Mark::CloseIndex, rest)?;
+    let rest = expect(Mark::Is, rest)?;
+    let (x, rest) = value(alloc, names, depth, rest)?;
+    Ok(((Statement::Put(array, index, x), None), rest))
 }
 
 /// A word of content behind its mark, if it may be given and is; or else 0.

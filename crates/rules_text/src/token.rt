@@ -1,6 +1,6 @@
 //! What the tokens of a rule mean.
 
-use rules::{Known, Law, Operator};
+use rules::{Array, Known, Law, Operator};
 
 /// A token of a rule by what it means in the rule's scope.
 #[derive(Clone, Copy, Debug, PartialEq, Eq)]
@@ -19,6 +19,8 @@ pub enum Token {
     Content(u8),
     /// A table, by its place.
     Table(u32),
+    /// An array in the state.
+    Array(Array),
     /// A name that the scope lacks; equal names have equal numbers.
     Name(usize),
 }

@@ -140,9 +140,10 @@ fn height(e: &Expression) -> u64
         | Expression::Local(_)
         | Expression::Read(_)
         | Expression::Choose(_) => 0,
-        Expression::Not(x) | Expression::Entry(_, x) | Expression::Draw(_, x) => {
-            height(x).saturating_add(1)
-        }
+        Expression::Not(x)
+        | Expression::Entry(_, x)
+        | Expression::Draw(_, x)
+        | Expression::Element(_, x) => height(x).saturating_add(1),
         Expression::Two(_, x, y) | Expression::Normal(x, y) => {
             height(x).max(height(y)).saturating_add(1)
         }
@@ -293,6 +294,11 @@ fn primary<'a>(
             let rest = expect(Mark::OpenIndex, rest)?;
             let (x, rest) = enclosed(alloc, names, most, depth, Mark::CloseIndex, rest)?;
             checked(Expression::Entry(table, Box::new(alloc, x)?), rest)
+        }
+        Some((Token::Array(array), rest)) => {
+            let rest = expect(Mark::OpenIndex, rest)?;
+            let (x, rest) = enclosed(alloc, names, most, depth, Mark::CloseIndex, rest)?;
+            checked(Expression::Element(array, Box::new(alloc, x)?), rest)
         }
         Some((Token::Mark(mark), rest)) => { marked(alloc, names, most, depth, mark, tokens, rest) }
         _ => Err(refused(tokens, Wanted::Value)),

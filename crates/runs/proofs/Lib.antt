@@ -1,3 +1,4 @@
+mod Causes
 mod Counts
 mod Drives
 mod Faults

@@ -16,7 +16,8 @@ use Rattle.runs.specs.Budgets.{budget_answered, first_budget, messages_for}
 use Rattle.runs.specs.declared.budgets.NodeBudget.{NodeBudget}
 use Rattle.runs.specs.declared.over.Finished.{Finished}
 use Rattle.runs.specs.declared.rounds.RunFault.{RunFault}
-use Rattle.runs.specs.declared.rounds.RunFault.TheVariants.{Stopped}
+use Rattle.runs.specs.declared.rounds.RunFault.TheVariants.{NoMemory, Rounds, Stopped}
+use Rattle.runs.specs.declared.rounds.RunFault.TheVariants.{Session as RefusedBySession}
 use Rattle.runs.specs.declared.rounds.Batch.{Batch}
 use Rattle.runs.specs.declared.rounds.Batch.TheVariants.{Adjusting, Fixed}
 use Rattle.runs.specs.declared.rounds.Plan.{Plan}
@@ -445,6 +446,16 @@ module _ {M P D : Type 0} (meaning : M → Meaning) (state : P → PortState) wh
       OpeningIsRefused (meaning model) end (disk old).reads ports
       ((disk old).failures < (disk new).failures) fault
       ⊎ HasStopped disk model end plan old new fault
+
+  -- why a run over ports in these states did not reach its end, over any ports
+  abbrev pub RunHasCause : (D → DiskState) → M → ℕ → Plan → List PortState → D → D → RunFault →
+      Type 0
+  RunHasCause disk model end plan ports old new (RefusedBySession fault) =
+      SessionRefused disk model end plan ports old new fault
+  RunHasCause disk model end plan ports old new Rounds = IsShortOver disk model end plan old new
+  RunHasCause disk model end plan ports old new (Stopped time events) =
+      IsStoppedOver disk model end plan old new time events
+  RunHasCause disk model end plan ports old new NoMemory = Unit {0}
 
 -- 4. Over faithful ports, or with judged commits
 

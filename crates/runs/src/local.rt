@@ -7,7 +7,8 @@ ghost use Rattle.coordinator.specs.declared.SessionFault.TheVariants.{Port as Of
 ghost use Rattle.recovery.specs.Crashes.{KeepsRecovery};
 ghost use Rattle.recovery.specs.Represents.{Recovers, IsGenuine};
 ghost use Rattle.coordinator.specs.PortFaults.{IsFaultInProgram};
-ghost use Rattle.runs.specs.Driver.{HasCounted, IsUnfinished, SessionRefused, acknowledged};
+ghost use Rattle.runs.specs.Driver.{HasCounted, IsRunOver, IsUnfinished, RunHasCause};
+ghost use Rattle.runs.specs.Driver.{SessionRefused, acknowledged};
 ghost use Rattle.model.specs.World.{World};
 ghost use Rattle.recovery.specs.Histories.{IsKeptRun, IsRunOf, IsStoppedAt};
 ghost use Rattle.wire.specs.Local.{state_by, state_of};
@@ -47,10 +48,18 @@ pub fn run_local<M: Simulated, D: SectorDisk + Drop, W: Watch>(
     // The counts are what the replies of the nodes said in the rounds that were made.
     ensures counts { IfOk result.outcome (λ outcome. HasCounted M.meaning (state_by M.meaning)
         D.state model.now end plan disk result.disk outcome.ran.items) }
+    // The session makes the plan's rounds and nothing else, until it reaches the end or all of them
+    // are made.
+    ensures over { IfOk result.outcome (λ outcome. IsRunOver M.meaning (state_by M.meaning) D.state
+        model.now end plan disk result.disk outcome.time outcome.events) }
     // A fault of the session is that of its opening, or of a step which the plan makes next.
     ensures refused { (fault : SessionFault) → IsErrOf result.outcome (RunFault.Session fault) →
         SessionRefused M.meaning (state_by M.meaning) D.state model.now end plan
         (replicate plan.nodes (state_of (M.meaning model.now) Fresh)) disk result.disk fault }
+    // So each fault has its cause.
+    ensures cause { IfErr result.outcome (λ fault. RunHasCause M.meaning (state_by M.meaning)
+        D.state model.now end plan (replicate plan.nodes (state_of (M.meaning model.now) Fresh))
+        disk result.disk fault) }
     // On a disk whose records are genuine, a fault of a port is that of a node: its memory is
     // exhausted, or a handling would pass the number limit. No commit finds reports that are not
     // those of the model.

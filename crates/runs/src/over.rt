@@ -1,13 +1,15 @@
 // Whole runs on a disk.
 
-ghost use Rattle.std.specs.Prelude.{◌≡◌, ◌<◌, ◌≤◌, ◌^◌, ℕ, IfOk, IsErrOf, OnOk, length, map};
+ghost use Rattle.std.specs.Prelude.{◌≡◌, ◌<◌, ◌≤◌, ◌^◌, ℕ, IfErr, IfOk, IsErrOf, OnOk};
+ghost use Rattle.std.specs.Prelude.{length, map};
 ghost use Rattle.coordinator.specs.declared.SessionFault.{SessionFault};
 ghost use Rattle.coordinator.specs.declared.SessionFault.TheVariants.{Port as OfPort, Reports};
 ghost use Rattle.recovery.specs.Crashes.{KeepsRecovery};
 ghost use Rattle.recovery.specs.Represents.{Recovers, IsGenuine};
 ghost use Rattle.coordinator.specs.Opening.{AllFresh, AllFaithful};
 ghost use Rattle.coordinator.specs.PortFaults.{IsFaultOfPorts};
-ghost use Rattle.runs.specs.Driver.{HasCounted, IsRunOver, IsShortOver, TrustsOnlyFaithful};
+ghost use Rattle.runs.specs.Driver.{HasCounted, IsRunOver, IsShortOver, RunHasCause};
+ghost use Rattle.runs.specs.Driver.{TrustsOnlyFaithful};
 ghost use Rattle.model.specs.World.{World};
 ghost use Rattle.recovery.specs.Histories.{IsKeptRun, IsRunOf, IsStoppedAt};
 ghost use Rattle.runs.specs.Driver.{IsStoppedOver, IsUnfinished, SessionRefused, acknowledged};
@@ -84,6 +86,9 @@ pub fn run_over<M: Simulated, P: Port + Drop, D: SectorDisk + Drop, W: Watch>(
     ensures refused { (fault : SessionFault) → IsErrOf result.outcome (RunFault.Session fault) →
         SessionRefused M.meaning P.state D.state model.now end plan (map P.state ports.items)
         disk result.disk fault }
+    // So each fault has its cause, over any ports.
+    ensures cause { IfErr result.outcome (λ fault. RunHasCause M.meaning P.state D.state model.now
+        end plan (map P.state ports.items) disk result.disk fault) }
     // Over faithful ports, and on a disk whose records are genuine, a fault of a port is a resource
     // fault that ports of this type can have, or a handling would pass the number limit.
     ensures faults { AllFaithful (M.meaning model.now) (map P.state ports.items) →

@@ -348,24 +348,7 @@ fn written_disk<'a>(command: Command<'a>) -> Option<&'a str> {
 
 /// The path of the model file.
 fn model_of<'a>(command: Command<'a>) -> &'a str {
-    match command {
-        Command::New(args) => args.on.model,
-        Command::Run(args) => args.on.model,
-        Command::Grow(args) => args.on.model,
-        Command::Extend(args)
-        | Command::Reopen(args)
-        | Command::Status(args)
-        | Command::Cut(args) => args.model,
-        Command::Verify(args) => args.on.model,
-        Command::Migrate(args) => args.model,
-        Command::Recover(args) => args.model,
-        Command::Log(args) => args.on.model,
-        Command::Show(args) => args.on.model,
-        Command::Stats(args) => args.of.model,
-        Command::Draw(args) => args.of.model,
-        Command::Seq(args) | Command::Check(args) => args.model,
-        Command::Node(args) => args.model,
-    }
+    command.model().path
 }
 
 /// Whether the system says that a file has no room, or may not have its size.
@@ -396,11 +379,14 @@ where
         Command::Show(args) => first_of_reader(rt, args.on),
         Command::Stats(args) => first_of_source(rt, args.of),
         Command::Draw(args) => first_of_drawing(rt, args),
-        Command::Seq(args) => first(rt, &[Step::ReadsModel(args.model)]),
-        Command::Check(args) => first(rt, &[Step::ReadsModel(args.model)]),
+        Command::Seq(args) => first(rt, &[Step::ReadsModel(args.model.path)]),
+        Command::Check(args) => first(rt, &[Step::ReadsModel(args.model.path)]),
         Command::Node(args) => first(
             rt,
-            &[Step::ReadsModel(args.model), Step::Connects(args.socket)],
+            &[
+                Step::ReadsModel(args.model.path),
+                Step::Connects(args.socket),
+            ],
         ),
     }
 }
@@ -422,8 +408,8 @@ fn first_of_new<'a, R: Files<File = File>>(rt: &R, args: NewArgs<'a>) -> Option<
     first(
         rt,
         &[
-            Step::ReadsModel(model),
-            Step::AreTwoFiles(disk, model),
+            Step::ReadsModel(model.path),
+            Step::AreTwoFiles(disk, model.path),
             Step::Makes(disk, args.sectors),
         ],
     )
@@ -437,9 +423,9 @@ where
     first(
         rt,
         &[
-            Step::ReadsModel(args.model),
+            Step::ReadsModel(args.model.path),
             Step::LooksAt(args.old, most_sectors(args.large)),
-            Step::AreTwoFiles(args.new, args.model),
+            Step::AreTwoFiles(args.new, args.model.path),
             Step::AreTwoFiles(args.new, args.old),
             Step::Makes(args.new, args.sectors),
         ],
@@ -454,9 +440,9 @@ where
     first(
         rt,
         &[
-            Step::ReadsModel(args.model),
+            Step::ReadsModel(args.model.path),
             Step::Writes(args.old, most_sectors(args.large)),
-            Step::AreTwoFiles(args.new, args.model),
+            Step::AreTwoFiles(args.new, args.model.path),
             Step::AreTwoFiles(args.new, args.old),
             Step::Makes(args.new, args.sectors),
         ],
@@ -468,7 +454,10 @@ fn first_of_writer<'a, R: Files<File = File>>(rt: &R, args: DiskArgs<'a>) -> Opt
     let most = most_sectors(args.large);
     first(
         rt,
-        &[Step::ReadsModel(args.model), Step::Writes(args.disk, most)],
+        &[
+            Step::ReadsModel(args.model.path),
+            Step::Writes(args.disk, most),
+        ],
     )
 }
 
@@ -477,7 +466,10 @@ fn first_of_reader<'a, R: Files<File = File>>(rt: &R, args: DiskArgs<'a>) -> Opt
     let most = most_sectors(args.large);
     first(
         rt,
-        &[Step::ReadsModel(args.model), Step::LooksAt(args.disk, most)],
+        &[
+            Step::ReadsModel(args.model.path),
+            Step::LooksAt(args.disk, most),
+        ],
     )
 }
 
@@ -485,7 +477,7 @@ fn first_of_reader<'a, R: Files<File = File>>(rt: &R, args: DiskArgs<'a>) -> Opt
 fn first_of_source<'a, R: Files<File = File>>(rt: &R, args: SourceArgs<'a>) -> Option<Cause<'a>> {
     let SourceArgs { model, disk, large } = args;
     match disk {
-        None => first(rt, &[Step::ReadsModel(model)]),
+        None => first(rt, &[Step::ReadsModel(model.path)]),
         Some(disk) => first_of_reader(rt, DiskArgs { model, disk, large }),
     }
 }
@@ -521,7 +513,10 @@ fn first_of_begun<'a, R: Files<File = File>>(rt: &R, args: RunArgs<'a>) -> Optio
     if args.create && !fs::exists(rt, disk).unwrap_or(true) {
         first(
             rt,
-            &[Step::ReadsModel(model), Step::Makes(disk, args.sectors)],
+            &[
+                Step::ReadsModel(model.path),
+                Step::Makes(disk, args.sectors),
+            ],
         )
     } else {
         first_of_writer(rt, args.on)
@@ -534,7 +529,7 @@ fn first_of_trace<'a, R: Files<File = File>>(rt: &R, args: RunArgs<'a>) -> Optio
     first(
         rt,
         &[
-            Step::AreTwoFiles(trace, args.on.model),
+            Step::AreTwoFiles(trace, args.on.model.path),
             Step::AreTwoFiles(trace, args.on.disk),
             Step::Traces(trace),
         ],

@@ -13,6 +13,10 @@ pub trait Progress {
     /// A run begins. It ends at this tick.
     fn begin(&mut self, end: u64);
 
+    /// The command only reads a disk on which it commits nothing: its line says `read` in place of
+    /// `committed`. Called at most once, before `begin`.
+    fn reads(&mut self) {}
+
     /// Called once before a run: a line of progress is wanted every `seconds` seconds, at least 1,
     /// also where there is no terminal.
     fn every(&mut self, _seconds: u32) {}
@@ -99,6 +103,8 @@ pub struct TerminalProgress<'c, C, T> {
     // opening of its disk.
     way: Option<Way>,
     begun: Option<Moment>,
+    // What was done up to the time of a line: `committed` or `read`.
+    done: &'static str,
     end: u64,
     // The virtual time of the last commit, in ticks.
     time: u64,
@@ -199,6 +205,7 @@ impl<'c, C: Clock + CpuClock, T: Write> TerminalProgress<'c, C, T> {
             is_bare: false,
             way: None,
             begun: None,
+            done: "committed",
             end: 0,
             time: 0,
             first: None,
@@ -251,6 +258,7 @@ impl<'c, C: Clock + CpuClock, T: Write> TerminalProgress<'c, C, T> {
     /// since `first`.
     fn show(&mut self, first: Mark, last: Mark, now: Mark) {
         let line = Line {
+            done: self.done,
             first,
             last,
             now,
@@ -330,6 +338,7 @@ const LEAST: u128 = 100_000_000;
 /// What a line of progress says.
 #[derive(Clone, Copy)]
 struct Line {
+    done: &'static str,
     first: Mark,
     last: Mark,
     now: Mark,
@@ -344,6 +353,7 @@ impl Line {
     /// columns, and what follows it.
     fn write<T: Write>(&self, most: usize, out: &mut T) {
         let Line {
+            done,
             first,
             last,
             now,
@@ -356,7 +366,8 @@ impl Line {
         let percent = u128::from(now.time) * 100 / u128::from(end.max(1));
         let events = now.events;
         let rate = per_second(events.saturating_sub(last.events) as u128, past);
-        let begin = Part::Committed {
+        let begin = Part::Done {
+            done,
             time: now.time,
             percent,
             events,
@@ -384,10 +395,11 @@ impl Line {
 /// A part of a line of progress.
 #[derive(Clone, Copy)]
 enum Part {
-    /// What is committed: all events before this virtual time, in ticks and as a percentage, and how
-    /// many events; and events per second. First in the line, since it is what a user wants to know
-    /// where a signal ended the run.
-    Committed {
+    /// What is committed or read: all events before this virtual time, in ticks and as a percentage,
+    /// and how many events; and events per second. First in the line, since it is what a user wants
+    /// to know where a signal ended the run.
+    Done {
+        done: &'static str,
         time: u64,
         percent: u128,
         events: usize,
@@ -415,15 +427,13 @@ impl Part {
 impl fmt::Display for Part {
     fn fmt<W: fmt::Write>(&self, f: &mut fmt::Formatter<W>) -> fmt::Result {
         match *self {
-            Part::Committed {
+            Part::Done {
+                done,
                 time,
                 percent,
                 events,
                 rate,
-            } => write!(
-                f,
-                "committed {time} ({percent}%), {events} events ({rate}/s)"
-            ),
+            } => write!(f, "{done} {time} ({percent}%), {events} events ({rate}/s)"),
             Part::Left(seconds) => write!(f, ", {seconds} s to go"),
             Part::Efficiency(percent) => write!(f, ", efficiency {percent}%"),
             Part::Disk(percent) => write!(f, ", disk {percent}% full"),
@@ -498,6 +508,10 @@ const NAMED: usize = 4;
 impl<C: Clock + CpuClock, T: Write> Progress for TerminalProgress<'_, C, T> {
     fn begin(&mut self, end: u64) {
         self.end = end;
+    }
+
+    fn reads(&mut self) {
+        self.done = "read";
     }
 
     fn every(&mut self, seconds: u32) {

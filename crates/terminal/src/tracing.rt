@@ -408,6 +408,10 @@ impl<P: Progress> Progress for Traced<'_, P> {
         self.progress.begin(end);
     }
 
+    fn reads(&mut self) {
+        self.progress.reads();
+    }
+
     fn every(&mut self, seconds: u32) {
         self.progress.every(seconds);
     }

@@ -4,7 +4,6 @@ use crate::running::Ticking;
 use commitlog::LogFault;
 use coordinator::SessionFault;
 use disk::{DiskFault, GrowthFault};
-use migration::MigrateFault;
 use model::WorldFault;
 use node::NodeFault;
 use program::{Fault, Progress, TerminalProgress, print_fault};
@@ -12,6 +11,7 @@ use recovery::RecoveryFault;
 use std::alloc::Global;
 use std::io::Write;
 use texts::Mistake;
+use upkeep::migration::MigrateFault;
 use wire::{PortFault, WireFault};
 
 /// The fault of a session with a port.

@@ -1,25 +1,25 @@
 // The printed name of each fault. A fault that carries another is printed with that one's name
 // after a space; a mistake in a model file is printed in plain words, with the key.
 
-use archiving::ArchiveFault;
 use commands::CommandFault;
 use commitlog::LogFault;
 use coordinator::SessionFault;
 use disk::{DiskFault, FileFault, GrowthFault};
 use eventkey::KeyFault;
-use growing::GrowingFault;
 use gvt::LedgerFault;
-use inspection::InspectionFault;
-use migration::MigrateFault;
 use model::WorldFault;
 use node::NodeFault;
 use process::ProcessFault;
-use program::Fault;
+use program::{Fault, SegmentFault};
 use recovery::RecoveryFault;
 use runs::{RunFault, SimulationFault};
+use segments::archiving::ArchiveFault;
 use std::alloc::Global;
 use std::fmt::{Display, Write};
-use texts::{Mistake, ModelFault};
+use texts::{Mistake, ModelFault, SettingFault};
+use upkeep::growing::GrowingFault;
+use upkeep::inspection::InspectionFault;
+use upkeep::migration::MigrateFault;
 use upkeep::{CutFault, ReopenFault, SalvageFault, VerifyFault};
 use wire::{PortFault, WireFault};
 
@@ -51,15 +51,14 @@ fn put<T: Display>(text: &mut String, items: &[T]) {
 }
 
 /// Puts the faults of one enum and their names into `$names`. The match has no wildcard arm, so
-/// that it does not compile if a variant has no row, unless it is named behind the rows.
+/// that it does not compile if a variant has no row.
 macro_rules! put_names {
     ($names:expr; $kind:ident {
         $($name:ident $(($($carried:tt)*))? $({ $($field:tt)* })? => $text:literal,)*
-    } $(and $more:ident)?) => {{
+    }) => {{
         let faults = [$($kind::$name $(($($carried)*))? $({ $($field)* })?),*];
         match &faults[0] {
             $($kind::$name { .. } => {})*
-            $($kind::$more { .. } => {})?
         }
         put(&mut $names.printed, &faults);
         put(&mut $names.wanted, &[$($text),*]);
@@ -351,16 +350,18 @@ fn put_command_and_program_faults(names: &mut Names) {
         NoSuchProcess { processes: 3 } => "NoSuchProcess",
         NoMemory => "NoMemory",
         Output => "Output",
-    } and Segment);
-    let segments = [
-        Fault::from(ArchiveFault::NotTheNext),
-        Fault::from(ArchiveFault::TooLong),
-    ];
-    put(&mut names.printed, &segments);
-    put(
-        &mut names.wanted,
-        &["Segment NotTheNext", "Segment TooLong"],
-    );
+        Segment(SegmentFault::TooLong) => "Segment TooLong",
+        Setting(SettingFault::NoSuchKey(2)) => "Setting 2 NoSuchKey",
+    });
+    put_names!(names; SettingFault {
+        NoSuchKey(1) => "1 NoSuchKey",
+        OtherKind(3) => "3 OtherKind",
+    });
+    put_names!(names; SegmentFault {
+        NotTheNext => "NotTheNext",
+        TooLong => "TooLong",
+        Begins => "Begins",
+    });
 }
 
 #[test]

@@ -4,12 +4,12 @@ use crate::disks::{END, Nobody, disk_of, front_of, front_on, left_by, plan, reac
 use commitlog::LogFault;
 use coordinator::SessionFault;
 use disk::{DiskFault, GrowthFault, MOST_SECTORS, MemDisk, Plan as DiskPlan, SectorDisk, Torn};
-use growing::{GrowingFault, Grown, NotGrown, grow};
 use models::TokenRing;
 use recovery::{Front, RecoveryFault};
 use runs::{RunFault, run_local};
 use std::alloc::Global;
 use std::test::Fail;
+use upkeep::growing::{GrowingFault, Grown, NotGrown, grow};
 
 /// What a crash may leave in the sectors that were written since the last sync.
 const TORN: [Torn; 4] = [Torn::Old, Torn::New, Torn::Fill(1), Torn::Cut(7)];

@@ -13,26 +13,28 @@ use segments::{begin, goes_on, origin_of};
 use std::alloc::Global;
 use std::test::Fail;
 
-const END: u64 = 40;
+mod repairs;
+
+pub(crate) const END: u64 = 40;
 
 const SECTORS: u32 = 256;
 
 /// What a crash leaves in the dirty sectors of a disk.
-const TEARINGS: [Torn; 4] = [Torn::Old, Torn::New, Torn::Fill(1), Torn::Cut(7)];
+pub(crate) const TEARINGS: [Torn; 4] = [Torn::Old, Torn::New, Torn::Fill(1), Torn::Cut(7)];
 
-fn ring() -> TokenRing {
+pub(crate) fn ring() -> TokenRing {
     TokenRing::new(3, 2, 2)
 }
 
 #[derive(Clone, Copy)]
-struct Nobody;
+pub(crate) struct Nobody;
 
 impl Watch for Nobody {
     fn committed(&mut self, _time: u64, _events: usize) {}
 }
 
 /// A disk of this image that fails by this plan.
-fn disk_of(alloc: Global, image: Vec<u8>, plan: DiskPlan) -> Result<MemDisk, Fail> {
+pub(crate) fn disk_of(alloc: Global, image: Vec<u8>, plan: DiskPlan) -> Result<MemDisk, Fail> {
     if image.len() > 1 << 24 {
         return Err(Fail::from("the image is too long"));
     }
@@ -50,7 +52,7 @@ fn open(alloc: Global, disk: MemDisk) -> Result<Log<MemDisk>, LogFault>
 }
 
 /// An image with an empty log of the ring.
-fn blank(alloc: Global) -> Result<Vec<u8>, Fail> {
+pub(crate) fn blank(alloc: Global) -> Result<Vec<u8>, Fail> {
     let mut disk = MemDisk::blank(alloc, SECTORS)?;
     format(&mut disk, &header(alloc, &ring(), END))?;
     Ok(disk.crash(alloc, Torn::New)?)
@@ -83,7 +85,7 @@ fn front_on(
 
 /// Goes on from the front of an image with this number of commits, each of one event at least, and appends
 /// its events to `joined`. Returns the new front.
-fn part(
+pub(crate) fn part(
     alloc: Global,
     image: Vec<u8>,
     commits: u32,

@@ -1,8 +1,10 @@
-//! Tests of disks, of the log, of recovery, of segments and of migration through their public functions, over
+//! Tests of disks, of the log, of recovery, of segments, of archives and of migration through their public functions, over
 //! real files and doubles. They have a crate of their own, so that a change of a test does not
 //! prove a library again.
 #![tactic(auto)]
 
+#[cfg(test)]
+mod archives;
 #[cfg(test)]
 mod chains;
 #[cfg(test)]

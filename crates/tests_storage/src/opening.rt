@@ -121,15 +121,27 @@ fn refused_at(
     event: Event<'_>,
     links: bool,
 ) -> (Option<FileFault>, u64) {
-    let calls = Cell::new(0);
     let files = Watched {
         files: rt,
-        calls,
+        calls: Cell::new(0),
         at,
         event,
         links,
     };
     let refused = FileDisk::open(&files, rt.alloc(), path.as_str(), Some(8)).err();
+    (refused, files.calls.get())
+}
+
+/// Opens a disk that is there, of any size, with an event at the second call. Returns the same.
+fn reopened_at(rt: &HostRuntime, path: &PathBuf, event: Event<'_>) -> (Option<FileFault>, u64) {
+    let files = Watched {
+        files: rt,
+        calls: Cell::new(0),
+        at: 1,
+        event,
+        links: true,
+    };
+    let refused = FileDisk::open(&files, rt.alloc(), path.as_str(), None).err();
     (refused, files.calls.get())
 }
 
@@ -195,7 +207,8 @@ fn needs_its_folder(rt: &HostRuntime, path: &PathBuf, event: Event<'_>) -> io::R
     Ok(is_refused(rt, path, 5, event, true, 6) && removed(rt, path)?)
 }
 
-/// Whether an old disk is refused then, and opens otherwise.
+/// Whether an old disk is refused then, and opens otherwise. If no size is asked for, a folder that
+/// may not be read is none that must be synced.
 fn needs_its_folder_again(
     rt: &HostRuntime,
     path: &PathBuf,
@@ -203,7 +216,9 @@ fn needs_its_folder_again(
 ) -> Result<bool, FileFault> {
     drop(opened(rt, path, Some(8))?);
     let needs = is_refused(rt, path, 1, Event::Unsyncable(folder), true, 2)
-        && is_refused(rt, path, 1, Event::Refused, true, 2);
+        && is_refused(rt, path, 1, Event::Refused, true, 2)
+        && reopened_at(rt, path, Event::Unsyncable(folder)) == (Some(FileFault::File), 2)
+        && reopened_at(rt, path, Event::Refused) == (None, 2);
     drop(opened(rt, path, Some(8))?);
     Ok(needs)
 }

@@ -55,7 +55,7 @@ lps = 2
 end = 9
 state = ['a']
 =>
-  state: a list; expected names that are nowhere else in state, message, numbers and tables
+  state: "a" is also the name of a word of a message
 --
 model = 'rules'
 lps = 2
@@ -63,7 +63,7 @@ end = 9
 state = ['now', '1x']
 hold = 3
 =>
-  state: a list; expected a list of at most 16 names
+  state: "now" is a word of the language
   "hold": the model has no such key
 --
 model = 'rules'
@@ -73,7 +73,7 @@ state = []
 [tables]
 t = []
 =>
-  tables: a table; expected at most 1024 names with lists of one or more numbers, at most 1048576 in all
+  tables.t: an empty list; expected one or more numbers
 "#;
 
 #[test]

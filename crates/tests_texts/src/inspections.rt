@@ -1,8 +1,8 @@
 // Texts with numbers that no small disk has.
 
-use inspection::{Inspection, Pace, write_inspection};
 use std::alloc::Global;
 use std::test::Fail;
+use upkeep::inspection::{Inspection, Pace, write_inspection};
 
 fn shown() -> Inspection {
     Inspection {

@@ -23,6 +23,8 @@ mod rings;
 #[cfg(test)]
 mod rows;
 #[cfg(test)]
+mod settings;
+#[cfg(test)]
 mod shapes;
 #[cfg(test)]
 mod spelled;

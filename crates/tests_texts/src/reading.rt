@@ -2,8 +2,8 @@
 
 use clap::error::ErrorKind;
 use cli::{
-    Command, ModelArgs, TOPICS, Texts, asks_help, help_text, hint_of, read_command, says_advice,
-    says_quiet, topic_of,
+    Command, TOPICS, Texts, asks_help, help_text, hint_of, read_command, says_advice, says_quiet,
+    settings_of, topic_of,
 };
 use std::alloc::{AllocError, Global};
 use std::test::Fail;
@@ -28,6 +28,8 @@ enum Asked {
     Advice,
     /// Whether they ask for faults without their causes.
     Quiet,
+    /// What they set.
+    Settings,
     /// The first line that `help` prints, or the kind of the mistake.
     Help,
 }
@@ -44,31 +46,31 @@ fn words_of(alloc: Global, line: &str) -> Result<Vec<&str>, AllocError> {
 /// What most commands are read as if they have no options: with the model file `a` and, where the
 /// command needs them, the disk or the socket `b`, or the disks `b` and `c`.
 const PLAIN: &str = "\
-Run(RunArgs { on: DiskArgs { model: \"a\", disk: \"b\", large: false }, nodes: 1, batch: \
+Run(RunArgs { on: DiskArgs { model: ModelFile { path: \"a\", settings: [] }, disk: \"b\", large: false }, nodes: 1, batch: \
 Fixed(16), rounds: 1000000, checkpoint: None, seal: false, commit_every: None, sockets: None, \
 cut: None, together: false, overlap: false, plain: false, attach: false, bind: false, judge: \
 None, silence: None, retries: None, grow_when_full: false, archive_when_full: false, keep: None, \
 trace: None, stop_file: None, progress: None, create: false, sectors: 4096, reserve: false })
-Log(LogArgs { on: DiskArgs { model: \"a\", disk: \"b\", large: false }, from: None, to: None, \
+Log(LogArgs { on: DiskArgs { model: ModelFile { path: \"a\", settings: [] }, disk: \"b\", large: false }, from: None, to: None, \
 process: None, names: false })
-Draw(DrawArgs { of: SourceArgs { model: \"a\", disk: None, large: false }, from: None, to: None, \
+Draw(DrawArgs { of: SourceArgs { model: ModelFile { path: \"a\", settings: [] }, disk: None, large: false }, from: None, to: None, \
 processes: None, load: false, trace: None })
-Stats(StatsArgs { of: SourceArgs { model: \"a\", disk: None, large: false }, csv: false, names: \
+Stats(StatsArgs { of: SourceArgs { model: ModelFile { path: \"a\", settings: [] }, disk: None, large: false }, csv: false, names: \
 false })
-New(NewArgs { on: DiskArgs { model: \"a\", disk: \"b\", large: false }, sectors: 4096, reserve: \
+New(NewArgs { on: DiskArgs { model: ModelFile { path: \"a\", settings: [] }, disk: \"b\", large: false }, sectors: 4096, reserve: \
 false, over: false, from: None })
-Migrate(MigrateArgs { model: \"a\", old: \"b\", new: \"c\", sectors: 4096, reserve: false, large: \
+Migrate(MigrateArgs { model: ModelFile { path: \"a\", settings: [] }, old: \"b\", new: \"c\", sectors: 4096, reserve: false, large: \
 false })
-Recover(RecoverArgs { model: \"a\", old: \"b\", new: \"c\", sectors: 4096, reserve: false, large: \
+Recover(RecoverArgs { model: ModelFile { path: \"a\", settings: [] }, old: \"b\", new: \"c\", sectors: 4096, reserve: false, large: \
 false })
-Node(NodeArgs { model: \"a\", socket: \"b\", parcels: 4294967295 })
-Extend(DiskArgs { model: \"a\", disk: \"b\", large: false })
-Status(DiskArgs { model: \"a\", disk: \"b\", large: false })
-Reopen(DiskArgs { model: \"a\", disk: \"b\", large: false })
-Cut(DiskArgs { model: \"a\", disk: \"b\", large: false })
-Verify(VerifyArgs { on: DiskArgs { model: \"a\", disk: \"b\", large: false }, after: None })
-Show(ShowArgs { on: DiskArgs { model: \"a\", disk: \"b\", large: false }, names: false })
-Grow(GrowArgs { on: DiskArgs { model: \"a\", disk: \"b\", large: false }, sectors: 131072 })
+Node(NodeArgs { model: ModelFile { path: \"a\", settings: [] }, socket: \"b\", parcels: 4294967295 })
+Extend(DiskArgs { model: ModelFile { path: \"a\", settings: [] }, disk: \"b\", large: false })
+Status(DiskArgs { model: ModelFile { path: \"a\", settings: [] }, disk: \"b\", large: false })
+Reopen(DiskArgs { model: ModelFile { path: \"a\", settings: [] }, disk: \"b\", large: false })
+Cut(DiskArgs { model: ModelFile { path: \"a\", settings: [] }, disk: \"b\", large: false })
+Verify(VerifyArgs { on: DiskArgs { model: ModelFile { path: \"a\", settings: [] }, disk: \"b\", large: false }, after: None })
+Show(ShowArgs { on: DiskArgs { model: ModelFile { path: \"a\", settings: [] }, disk: \"b\", large: false }, names: false })
+Grow(GrowArgs { on: DiskArgs { model: ModelFile { path: \"a\", settings: [] }, disk: \"b\", large: false }, sectors: 131072 })
 ";
 
 fn plain_of(name: &str) -> &'static str {
@@ -110,15 +112,16 @@ fn answer(alloc: Global, asked: Asked, words: &[&str]) -> Result<String, AllocEr
         Asked::Hint => format!(in alloc; "{:?}", hint_of(words)),
         Asked::Advice => format!(in alloc; "{}", says_advice(words)),
         Asked::Quiet => format!(in alloc; "{}", says_quiet(words)),
+        Asked::Settings => format!(in alloc; "{:?}", settings_of(alloc, words)?.as_slice()),
         Asked::Help => match help_text(alloc, TEXTS, words) {
             Ok(text) => first_line(alloc, text.as_str()),
             Err(error) => format!(in alloc; "{:?}", error.kind()),
         },
-        Asked::Command => match read_command(alloc, TEXTS, words) {
+        Asked::Command => match read_command(alloc, TEXTS, words, &[]) {
             Ok(command) => shortened(alloc, format!(in alloc; "{command:?}")?.as_str()),
             Err(error) => format!(in alloc; "{:?}", error.kind()),
         },
-        Asked::Line => match read_command(alloc, TEXTS, words) {
+        Asked::Line => match read_command(alloc, TEXTS, words, &[]) {
             Ok(_) => Ok(String::new(alloc)),
             Err(error) => first_line(alloc, format!(in alloc; "{error}")?.as_str()),
         },
@@ -156,10 +159,10 @@ fn wrong_row<'a>(
 /// Words, and the command that they give.
 const READ: &str = r#"
 timewarp draw a --load --from=5 --to=5 => Draw, from: Some(5), to: Some(5), load: true
-timewarp seq --advice a => Seq(ModelArgs { model: "a" })
+timewarp seq --advice a => Seq(ModelArgs { model: ModelFile { path: "a", settings: [] } })
 timewarp node a b --advice => Node
-timewarp seq examples/ring.toml => Seq(ModelArgs { model: "examples/ring.toml" })
-timewarp seq -- --help => Seq(ModelArgs { model: "--help" })
+timewarp seq examples/ring.toml => Seq(ModelArgs { model: ModelFile { path: "examples/ring.toml", settings: [] } })
+timewarp seq -- --help => Seq(ModelArgs { model: ModelFile { path: "--help", settings: [] } })
 timewarp log a b => Log
 timewarp log a --to=1099511627776 b --process 4294967295 --from 0 => Log, from: Some(0), to: Some(1099511627776), process: Some(4294967295)
 timewarp reopen a b => Reopen
@@ -174,9 +177,9 @@ timewarp status a b --quiet => Status
 timewarp stats a => Stats
 timewarp stats a b --format=csv --names => Stats, disk: Some("b"), csv: true, names: true
 timewarp draw a => Draw
-timewarp draw --processes 3..3 a b --trace=t --from=5 --to 9 => Draw(DrawArgs { of: SourceArgs { model: "a", disk: Some("b"), large: false }, from: Some(5), to: Some(9), processes: Some((3, 3)), load: false, trace: Some("t") })
+timewarp draw --processes 3..3 a b --trace=t --from=5 --to 9 => Draw(DrawArgs { of: SourceArgs { model: ModelFile { path: "a", settings: [] }, disk: Some("b"), large: false }, from: Some(5), to: Some(9), processes: Some((3, 3)), load: false, trace: Some("t") })
 timewarp show a --names b => Show, names: true
-timewarp check a => Check(ModelArgs { model: "a" })
+timewarp check a => Check(ModelArgs { model: ModelFile { path: "a", settings: [] } })
 # The default is 4096 sectors.
 timewarp new a b => New
 timewarp new a b --sectors 131072 => New, sectors: 131072
@@ -237,7 +240,7 @@ timewarp run a b --create --reserve => Run, create: true, reserve: true
 timewarp run a b --large --create --sectors 16777216 => Run, large: true, create: true, sectors: 16777216
 timewarp run --batch=auto a b => Run, batch: Auto
 # After `--` no word is an option.
-timewarp run -- --batch auto => Run, Run(RunArgs { on: DiskArgs { model: "--batch", disk: "auto"
+timewarp run -- --batch auto => Run, Run(RunArgs { on: DiskArgs { model: ModelFile { path: "--batch", disk: "auto"
 timewarp run a b --trace c --large => Run, large: true, trace: Some("c")
 "#;
 
@@ -249,6 +252,10 @@ fn words_give_a_run_and_its_values(rt: HostRuntime) -> Result<(), Fail> {
 
 /// Words that are refused, and the kind of the error.
 const REFUSED: &str = r#"
+timewarp seq a --set => InvalidValue
+timewarp seq a --set= => InvalidValue
+timewarp seq a --seed 9223372036854775808 => ValueValidation
+timewarp seq a --seed 1 --seed 2 => ArgumentConflict
 # No path is empty.
 timewarp seq '' => InvalidValue
 timewarp new a '' => InvalidValue
@@ -469,6 +476,23 @@ fn words_ask_for_quiet_before_two_hyphens(rt: HostRuntime) -> Result<(), Fail> {
     Ok(())
 }
 
+/// Words, and what they set.
+const SET: &str = r#"
+timewarp seq a => []
+timewarp seq a --set end=6 => [("end", "6")]
+timewarp run --set=end=6 a b --seed 3 --set hold=1=2 => [("end", "6"), ("seed", "3"), ("hold", "1=2")]
+timewarp run --seed=18 a --set end b --set=name= => [("seed", "18"), ("end", ""), ("name", "")]
+timewarp seq a --advice -- --set end=6 => []
+timewarp run a b --trace=--set --progress 5 => []
+--set a=1 => []
+"#;
+
+#[test]
+fn words_set_values(rt: HostRuntime) -> Result<(), Fail> {
+    assert_eq!(rt; wrong_row(rt.alloc(), Asked::Settings, SET)?, None);
+    Ok(())
+}
+
 /// Words behind `help`, and the first line that is printed, or the kind of the mistake.
 const HELPED: &str = r#"
 timewarp help => Simulates logical processes that send one another messages stamped with virtual times
@@ -520,8 +544,9 @@ fn each_topic_has_a_text(rt: HostRuntime) {
 
 /// Whether the words run `ring.toml`, or the kind of their error.
 fn runs_ring(alloc: Global, words: &[&str]) -> Result<bool, ErrorKind> {
-    match read_command(alloc, TEXTS, words) {
-        Ok(command) => Ok(command == Command::Seq(ModelArgs { model: "ring.toml" })),
+    match read_command(alloc, TEXTS, words, &[]) {
+        Ok(Command::Seq(args)) => Ok(args.model.path == "ring.toml"),
+        Ok(_) => Ok(false),
         Err(error) => Err(error.kind()),
     }
 }

@@ -1,13 +1,13 @@
 // Texts of rules, and which trees they spell. Their mistakes and limits are in the scripts
 // `rules_read` and `hostile_rules`.
 
-use rules::Statement;
+use rules::{Array, Statement};
 use rules_text::{Kind, Meaning, Mistake, ReadError, Scope, ScopeError, read_rule};
 use std::alloc::Global;
 use std::test::Fail;
 
-/// A scope with the state `served`, `free_at` and `key`, the content `job`, the number `jobs` and
-/// the table `speed`.
+/// A scope with the state `served`, `free_at`, `queue` and `key`, the content `job`, the number
+/// `jobs` and the table `speed`.
 fn scope(alloc: Global) -> Result<Scope, ScopeError> {
     let mut scope = Scope::new(alloc, true);
     scope.add(alloc, "free_at", Meaning::Word(0))?;
@@ -15,6 +15,12 @@ fn scope(alloc: Global) -> Result<Scope, ScopeError> {
     scope.add(alloc, "job", Meaning::Content(0))?;
     scope.add(alloc, "jobs", Meaning::Number(2))?;
     scope.add(alloc, "speed", Meaning::Table(3))?;
+    let queue = Array {
+        place: 4,
+        bits: 16,
+        count: 40,
+    };
+    scope.add(alloc, "queue", Meaning::Array(queue))?;
     Ok(scope)
 }
 
@@ -42,6 +48,7 @@ const VALUES: &str = "\
 !(1 != 2) => Not(Two(Different, Number(1), Number(2)))
 min(1, 2 >> 1) <= max(x, job) => Two(AtMost, Two(Least, Number(1), Two(ShiftRight, Number(2), Number(1))), Two(Greatest, Local(0), Content(0)))
 speed[self + now] > draw(jobs) => Two(Above, Entry(3, Two(Plus, Read(Process), Read(Now))), Draw(Uniform, Number(2)))
+queue[self % jobs] + 1 => Two(Plus, Element(Array { place: 4, bits: 16, count: 40 }, Two(Modulo, Read(Process), Number(2))), Number(1))
 (free_at - lps) * sender => Two(Times, Two(Minus, Word(0), Read(Processes)), Read(Sender))
 18_446_744_073_709_551_615 # the most => Number(18446744073709551615)
 ";

@@ -8,7 +8,7 @@ use Rattle.models.specs.Ring.{Ring}
 use Rattle.models.specs.declared.any_model.AnyModel.{AnyModel}
 use Rattle.models.specs.declared.any_model.AnyModel.TheVariants.{JobShop, Phold, TokenRing}
 use Rattle.toml.specs.Data.{Members, get_member, string}
-use Rattle.texts.specs.AnyModel.{IsHoldTable, IsRingTable, IsShopTable, IsTableOf, any_wrong, common_numbers, hold_keys, hold_numbers, hold_wrong, kind_of, kind_wrong, kindless_wrong, most_tokens, ring_keys, ring_numbers, ring_wrong, shop_keys, shop_numbers, shop_wrong}
+use Rattle.texts.specs.AnyModel.{IsHoldTable, IsRingTable, IsShopTable, IsTableOf, common_numbers, hold_keys, hold_numbers, hold_wrong, kind_of, kind_wrong, kindless_wrong, most_tokens, ring_keys, ring_numbers, ring_wrong, shop_keys, shop_numbers, shop_wrong, wrong_among}
 use Rattle.texts.specs.ModelFile.{Wrong, number_at, numbers_wrong, unknown_wrong, words_wrong}
 use Rattle.texts.proofs.Right.{before_numbers, none_before, none_behind, numbers_right, numbers_there, words_there}
 use Rattle.texts.proofs.Tables.{is_string}
@@ -35,13 +35,13 @@ shop_right table s end h =
     ap (λ l. l ++ unknown_wrong shop_keys table)
     (numbers_right shop_numbers table ((s.lps, h.lps), ((end, h.last), ((s.jobs, h.jobs), ((s.service, h.service), ((s.seed, h.seed), tt)))))) ∙ h.only
 
-kind_is : (table : Members) (name : List ℕ) → get_member (codes "model") table ≡ Some (string name) → any_wrong table ≡ kind_wrong (Some name) table
-kind_is table name is = rw is refl
+kind_is : (kinds : List ℕ) (table : Members) (name : List ℕ) → get_member (codes "model") table ≡ Some (string name) → wrong_among kinds table ≡ kind_wrong kinds (Some name) table
+kind_is kinds table name is = rw is refl
 
-pub any_right : (table : Members) (model : AnyModel) (end : ℕ) → IsTableOf table model end → any_wrong table ≡ []
-any_right table (TokenRing r) end h = kind_is table (codes "ring") h.model ∙ ring_right table r.ring end h
-any_right table (Phold p) end h = kind_is table (codes "phold") h.model ∙ hold_right table p.hold end h
-any_right table (JobShop s) end h = kind_is table (codes "jobshop") h.model ∙ shop_right table s.shop end h
+pub any_right : (kinds : List ℕ) (table : Members) (model : AnyModel) (end : ℕ) → IsTableOf table model end → wrong_among kinds table ≡ []
+any_right kinds table (TokenRing r) end h = kind_is kinds table (codes "ring") h.model ∙ ring_right table r.ring end h
+any_right kinds table (Phold p) end h = kind_is kinds table (codes "phold") h.model ∙ hold_right table p.hold end h
+any_right kinds table (JobShop s) end h = kind_is kinds table (codes "jobshop") h.model ∙ shop_right table s.shop end h
 
 -- 2. A table without mistakes describes a model
 
@@ -99,10 +99,9 @@ shop_there table kind none =
     )
 
 -- a table that names no model always has a mistake
-kindless_there : (table : Members) → kindless_wrong table ≡ [] → IsDescribed table
-kindless_there table none =
-    let text = codes "\"ring\", \"phold\" or \"jobshop\"" in
-    let e = words_there false (codes "model") text table (before_numbers (words_wrong false (codes "model") text table) common_numbers table none) in cc
+kindless_there : (kinds : List ℕ) (table : Members) → kindless_wrong kinds table ≡ [] → IsDescribed table
+kindless_there kinds table none =
+    let e = words_there false (codes "model") kinds table (before_numbers (words_wrong false (codes "model") kinds table) common_numbers table none) in cc
 
 module _ (table : Members) (name : List ℕ) (is : get_member (codes "model") table ≡ Some (string name)) where
   -- the name is the known one, or another one
@@ -114,15 +113,15 @@ module _ (table : Members) (name : List ℕ) (is : get_member (codes "model") ta
         | inr other ↦ there (rw other at none)
       ]
 
-  named_there : kind_wrong (Some name) table ≡ [] → IsDescribed table
-  named_there none =
+  named_there : (kinds : List ℕ) → kind_wrong kinds (Some name) table ≡ [] → IsDescribed table
+  named_there kinds none =
       named (codes "ring") (ring_wrong table) _ (ring_there table)
       (named (codes "phold") (hold_wrong table) _ (hold_there table)
-      (named (codes "jobshop") (shop_wrong table) _ (shop_there table) (kindless_there table))) none
+      (named (codes "jobshop") (shop_wrong table) _ (shop_there table) (kindless_there kinds table))) none
 
-by_kind : (table : Members) (kind : Option (List ℕ)) → kind ≡ kind_of table → kind_wrong kind table ≡ [] → IsDescribed table
-by_kind table None is none = kindless_there table none
-by_kind table (Some name) is none = named_there table name (is_string (get_member (codes "model") table) name is) none
+by_kind : (kinds : List ℕ) (table : Members) (kind : Option (List ℕ)) → kind ≡ kind_of table → kind_wrong kinds kind table ≡ [] → IsDescribed table
+by_kind kinds table None is none = kindless_there kinds table none
+by_kind kinds table (Some name) is none = named_there table name (is_string (get_member (codes "model") table) name is) kinds none
 
-pub any_there : (table : Members) → any_wrong table ≡ [] → IsDescribed table
-any_there table none = by_kind table (kind_of table) refl none
+pub any_there : (kinds : List ℕ) (table : Members) → wrong_among kinds table ≡ [] → IsDescribed table
+any_there kinds table none = by_kind kinds table (kind_of table) refl none

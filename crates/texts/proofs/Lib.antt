@@ -3,3 +3,4 @@ pub mod Lines
 pub mod Tables
 pub mod Right
 pub mod KindsRight
+pub mod Placing

@@ -99,27 +99,32 @@ hold_wrong table = numbers_wrong hold_numbers table ++ unknown_wrong hold_keys t
 abbrev pub shop_wrong : Members → List Wrong
 shop_wrong table = numbers_wrong shop_numbers table ++ unknown_wrong shop_keys table
 
--- the mistakes in a table that names no model: only the keys that all models have are known
-abbrev pub kindless_wrong : Members → List Wrong
-kindless_wrong table = numbers_from
-    (words_wrong false (codes "model") (codes "\"ring\", \"phold\" or \"jobshop\"") table)
+-- the mistakes in a table that names no model: only the keys that all models have are known. The
+-- text lists the models.
+abbrev pub kindless_wrong : List ℕ → Members → List Wrong
+kindless_wrong kinds table = numbers_from
+    (words_wrong false (codes "model") kinds table)
     common_numbers table
 
 -- the model that a table names
 abbrev pub kind_of : Members → Option (List ℕ)
 kind_of table = option_and_then as_str (get_member (codes "model") table)
 
-abbrev pub kind_wrong : Option (List ℕ) → Members → List Wrong
-kind_wrong None table = kindless_wrong table
-kind_wrong (Some name) table =
+abbrev pub kind_wrong : List ℕ → Option (List ℕ) → Members → List Wrong
+kind_wrong kinds None table = kindless_wrong kinds table
+kind_wrong kinds (Some name) table =
     if pointwise nat_eq name (codes "ring") then ring_wrong table
     else (if pointwise nat_eq name (codes "phold") then hold_wrong table
     else (if pointwise nat_eq name (codes "jobshop") then shop_wrong table
-    else kindless_wrong table))
+    else kindless_wrong kinds table))
+
+-- the mistakes in the table of a model file, of a program whose models this text lists
+abbrev pub wrong_among : List ℕ → Members → List Wrong
+wrong_among kinds table = kind_wrong kinds (kind_of table) table
 
 -- the mistakes in the table of a model file
 abbrev pub any_wrong : Members → List Wrong
-any_wrong table = kind_wrong (kind_of table) table
+any_wrong table = wrong_among (codes "\"ring\", \"phold\" or \"jobshop\"") table
 
 -- a line `key: value` before the rest
 abbrev pub line_then : List ℕ → ℕ → List ℕ → List ℕ

@@ -1,13 +1,13 @@
 // The models of this project, as a TOML table describes them.
 
 ghost use Rattle.std.specs.Prelude.{◌≡◌, ◌≤◌, ◌*◌, ◌-◌, ◌^◌, ℕ, Some, None, codes, IfOk, IsErr};
-ghost use Rattle.std.specs.Prelude.{◌++◌, IfSome, OnOk, string_bytes, unwrap_or};
+ghost use Rattle.std.specs.Prelude.{◌++◌, [], IfSome, OnOk, string_bytes, unwrap_or};
 ghost use Rattle.toml.specs.Data.{get_member, string};
 ghost use Rattle.toml.specs.View.{table_view};
 ghost use Rattle.texts.specs.ModelFile.{number_at, numbers_from};
 ghost use Rattle.texts.specs.AnyModel.{model_text, IsHoldTable, IsRingTable, IsShopTable};
 ghost use Rattle.texts.specs.AnyModel.{any_wrong, common_numbers, hold_wrong, kindless_wrong};
-ghost use Rattle.texts.specs.AnyModel.{ring_wrong, shop_wrong, IsTableOf};
+ghost use Rattle.texts.specs.AnyModel.{ring_wrong, shop_wrong, IsTableOf, wrong_among};
 ghost use Rattle.models.specs.JobShop.{Shop};
 ghost use Rattle.models.specs.Phold.{Hold};
 ghost use Rattle.models.specs.Ring.{Ring};
@@ -62,7 +62,7 @@ impl Described for AnyModel {
     }
 
     fn mistakes(alloc: Global, table: &Table) -> Result<Findings, AllocError> {
-        mistakes_of(alloc, table)
+        mistakes_among(alloc, table, KINDS)
     }
 
     fn values(&self, alloc: Global, end: u64) -> Result<String, AllocError> {
@@ -178,15 +178,33 @@ fn shop_of(table: &Table) -> Result<(JobShop, u64), Mistake>
     ))
 }
 
+/// Finds all mistakes in a table, as `mistakes` of `AnyModel` does. If the table names none of its
+/// models, the mistake at `model` expects what `kinds` says: a program that has more models lists
+/// them there.
+pub fn mistakes_among(
+    alloc: Global,
+    table: &Table,
+    kinds: &'static str,
+) -> Result<Findings, AllocError>
+    ensures reported { IfOk result (λ found.
+        found ≡ wrong_among kinds.now (table_view table.now)) }
+    ensures none { IfOk result (λ found. found ≡ [] →
+        (model : AnyModel) × (end : ℕ) × IsTableOf (table_view table.now) model end) }
+    ensures some { IfOk result (λ found. (model : AnyModel) (end : ℕ) →
+        IsTableOf (table_view table.now) model end → found ≡ []) }
+{
+    mistakes_of(alloc, table, kinds)
+}
+
 /// Finds all that is wrong with a table.
-fn mistakes_of(alloc: Global, table: &Table) -> Result<Findings, AllocError>
-    ensures { IfOk result (λ found. found ≡ any_wrong (table_view table.now)) }
+fn mistakes_of(alloc: Global, table: &Table, kinds: &'static str) -> Result<Findings, AllocError>
+    ensures { IfOk result (λ found. found ≡ wrong_among kinds.now (table_view table.now)) }
 {
     match string_at(table, "model") {
         Some(kind) if kind == "ring" => ring_mistakes(alloc, table),
         Some(kind) if kind == "phold" => hold_mistakes(alloc, table),
         Some(kind) if kind == "jobshop" => shop_mistakes(alloc, table),
-        _ => kindless_mistakes(alloc, table),
+        _ => kindless_mistakes(alloc, table, kinds),
     }
 }
 
@@ -262,11 +280,15 @@ fn shop_mistakes(alloc: Global, table: &Table) -> Result<Findings, AllocError>
 }
 
 /// Finds what is wrong with a table that names none of the models: the name, and the keys of all.
-fn kindless_mistakes(alloc: Global, table: &Table) -> Result<Findings, AllocError>
-    ensures { IfOk result (λ found. found ≡ kindless_wrong (table_view table.now)) }
+fn kindless_mistakes(
+    alloc: Global,
+    table: &Table,
+    kinds: &'static str,
+) -> Result<Findings, AllocError>
+    ensures { IfOk result (λ found. found ≡ kindless_wrong kinds.now (table_view table.now)) }
 {
     let mut found = Findings::new(alloc);
-    found.words_at(alloc, table, "model", KINDS, false)?;
+    found.words_at(alloc, table, "model", kinds, false)?;
     look_at_common(alloc, table, &mut found)?;
     Ok(found)
 }

@@ -61,8 +61,32 @@ pub struct Finding {
     pub found: Found,
     /// The value that the key must have.
     pub expected: Expected,
-    /// The mistake inside the text at the key, if its place is known.
-    pub inside: Option<TextMistake>,
+    /// The mistake inside the value at the key, if it is known.
+    pub inside: Option<Inside>,
+}
+
+/// A mistake inside the value at a key.
+#[derive(Debug, PartialEq, Eq, Drop)]
+pub enum Inside {
+    /// A mistake at a place of a text.
+    Text(TextMistake),
+    /// A mistake of a name in a list or a table of names.
+    Name(NameMistake),
+}
+
+/// A mistake of a name in a list or a table of names, or of the value of the name.
+#[derive(Debug, PartialEq, Eq, Drop)]
+pub struct NameMistake {
+    /// The key of the list or the table.
+    pub list: &'static str,
+    /// The name as the file has it. It is empty if the mistake is not one of a name.
+    pub name: String,
+    /// The number of equal names before it in its list.
+    pub before: usize,
+    /// Whether the name's value is at fault, and not the name.
+    pub is_value: bool,
+    /// What is wrong, in words.
+    pub why: String,
 }
 
 /// A mistake at a place of the text at a key.
@@ -154,20 +178,20 @@ impl Findings {
         ensures { OnOk result (self.new
             ≡ self.old ++ words_wrong right key.now expected.now (table_view table.now)) }
     {
-        self.text_at(alloc, table, key, expected, right, None)
+        self.inside_at(alloc, table, key, expected, right, None)
     }
 
     #[tactic(auto, unfolding(crate::specs::ModelFile::words_wrong))]
-    /// Adds a finding for a key unless `right`, as `words_at` does, with the mistake inside the text
+    /// Adds a finding for a key unless `right`, as `words_at` does, with the mistake inside the value
     /// at the key.
-    pub fn text_at(
+    pub fn inside_at(
         &mut self,
         alloc: Global,
         table: &Table,
         key: &str,
         expected: &'static str,
         right: bool,
-        inside: Option<TextMistake>,
+        inside: Option<Inside>,
     ) -> Result<(), AllocError>
         ensures { OnOk result (self.new
             ≡ self.old ++ words_wrong right key.now expected.now (table_view table.now)) }
@@ -241,7 +265,7 @@ impl Findings {
         key: &str,
         found: Found,
         expected: Expected,
-        inside: Option<TextMistake>,
+        inside: Option<Inside>,
     ) -> Result<(), AllocError>
         ensures { OnOk result (self.new ≡ self.old
             ++ record { key = key.now; found = found; expected = expectation_of expected } ∷ []) }
@@ -299,10 +323,16 @@ impl fmt::Display for Finding {
         let key = self.key.as_str();
         let found = self.found;
         let expected = self.expected;
-        if let Some(inside) = &self.inside {
-            let (line, column) = (inside.line, inside.column);
-            let why = inside.why.as_str();
-            return write!(f, "{key}, line {line}, column {column}: {why}");
+        match &self.inside {
+            Some(Inside::Text(inside)) => {
+                let (line, column) = (inside.line, inside.column);
+                let why = inside.why.as_str();
+                return write!(f, "{key}, line {line}, column {column}: {why}");
+            }
+            Some(Inside::Name(inside)) => {
+                return write!(f, "{inside}");
+            }
+            None => {}
         }
         match (found, expected) {
             (_, Expected::Nothing) => write!(f, "{key:?}: the model has no such key"),
@@ -311,6 +341,18 @@ impl fmt::Display for Finding {
             }
             _ => write!(f, "{key}: {found}; expected {expected}"),
         }
+    }
+}
+
+impl fmt::Display for NameMistake {
+    fn fmt<W: fmt::Write>(&self, f: &mut fmt::Formatter<W>) -> fmt::Result {
+        f.write_str(self.list)?;
+        if self.is_value {
+            let name = self.name.as_str();
+            write!(f, ".{name}")?;
+        }
+        let why = self.why.as_str();
+        write!(f, ": {why}")
     }
 }
 

@@ -1,8 +1,9 @@
 // The mistakes of a model file beside its lines.
 
-use crate::findings::{Expected, Finding, Findings, Found};
+use crate::findings::{Expected, Finding, Findings, Found, Inside};
 use crate::inside::write_inside;
 use crate::mistakes::Mistakes;
+use crate::naming::write_named;
 use crate::printable::Printable;
 use std::fmt;
 
@@ -14,7 +15,8 @@ use std::fmt;
 /// place either, since finding one costs a pass over the file.
 ///
 /// A mistake inside the text at a key has its place in the file if the file has the text as it is.
-/// If the file has it with escapes, the line and the column are those in the text.
+/// If the file has it with escapes, the line and the column are those in the text. A mistake of a
+/// name in a list or a table has the place of the name, or of its value.
 #[derive(Clone, Copy)]
 pub struct Report<'a> {
     /// The path of the file.
@@ -106,8 +108,12 @@ impl Report<'_> {
         finding: &Finding,
     ) -> fmt::Result {
         let path = Printable(self.path);
-        if let Some(inside) = &finding.inside {
-            return write_inside(f, self.path, self.text, finding.key.as_str(), inside);
+        match &finding.inside {
+            Some(Inside::Text(inside)) => {
+                return write_inside(f, self.path, self.text, finding.key.as_str(), inside);
+            }
+            Some(Inside::Name(inside)) => return write_named(f, self.path, self.text, inside),
+            None => {}
         }
         let Some(pair) = pair_of(self.text, finding.key.as_str()) else {
             return writeln!(f, "  {path}: {finding}");

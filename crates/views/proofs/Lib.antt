@@ -1,2 +1,3 @@
-mod Printed
+pub mod Printed
 mod Runs
+mod Segments

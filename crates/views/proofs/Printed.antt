@@ -1,17 +1,32 @@
 -- What the commands print, in a common form.
-use Rattle.std.specs.Prelude.{◌≡◌, ◌⊎◌, ◌≢◌, ℕ, List, Option, Result, Ok, Err, OnOk, OnErr, IsErr}
-use Rattle.std.proofs.Common.{refl, inl, inr, subst}
+use Rattle.std.specs.Io.KnownBytes.{Appends}
+use Rattle.std.specs.Prelude.{◌≡◌, ◌⊎◌, ◌≢◌, ◌++◌, [], ℕ, List, None, Option, Result, Some, Ok, Err, OnOk, OnErr, IsErr}
+use Rattle.std.proofs.Common.{ap, append_assoc, refl, inl, inr, subst, sym, ◌∙◌}
+use Rattle.std.proofs.lemmas.List.{append-nil}
 use Rattle.std.proofs.lemmas.Bool.{false≢true}
 use Rattle.commitlog.specs.Records.{Holds}
 use Rattle.commitlog.specs.declared.records.Entry.{Entry}
 use Rattle.eventkey.proofs.Writers.{began}
-use Rattle.eventkey.specs.Writing.{Writes}
+use Rattle.eventkey.specs.Writing.{TakesBeginning, Writes}
 use Rattle.model.specs.World.{World}
 use Rattle.model.specs.Meaning.{Meaning}
 use Rattle.recovery.specs.Ends.{HoldsLog, IsOurs}
-use Rattle.views.specs.Views.{Begins, Describes, IsCommitted, IsWholeSimulation, IsWorldOn, Prints, PrintsBeginning, PrintsRun, run_text}
+use Rattle.views.specs.Views.{Begins, Describes, IsCommitted, IsNamed, IsWholeSimulation, IsWorldOn, Prints, PrintsBeginning, PrintsRun, run_text}
 use Rattle.views.specs.declared.fault.ViewFault.{ViewFault}
 use Rattle.views.specs.declared.fault.ViewFault.TheVariants as fault
+
+-- what is known of the value of a call, or of its fault
+pub at_ok : {T E X : Type 0} {r : Result T E} {x : T} → r ≡ Ok x → OnOk r X → X
+at_ok {r = Ok x} e h = h
+at_ok {r = Err x} e h = cc
+
+pub at_err : {T E X : Type 0} {r : Result T E} {f : E} → r ≡ Err f → OnErr r X → X
+at_err {r = Ok x} e h = cc
+at_err {r = Err x} e h = h
+
+pub on_any : {T E X : Type 0} (r : Result T E) → X → OnErr r X
+on_any (Ok x) h = tt
+on_any (Err e) h = h
 
 pub on_err : {T E A B : Type 0} (r : Result T E) → (A → B) → OnErr r A → OnErr r B
 on_err (Ok x) f h = tt
@@ -24,10 +39,12 @@ module _ {T A B : Type 0} where
   on_fault (Err fault.Output) h k = inr (h refl)
   on_fault (Err fault.BadModel) h k = inl (k fault.BadModel refl (λ e. cc))
   on_fault (Err fault.File) h k = inl (k fault.File refl (λ e. cc))
+  on_fault (Err (fault.Setting f)) h k = inl (k (fault.Setting f) refl (λ e. cc))
   on_fault (Err (fault.World f)) h k = inl (k (fault.World f) refl (λ e. cc))
   on_fault (Err (fault.Log f)) h k = inl (k (fault.Log f) refl (λ e. cc))
   on_fault (Err (fault.Recovery f)) h k = inl (k (fault.Recovery f) refl (λ e. cc))
   on_fault (Err (fault.Record n f)) h k = inl (k (fault.Record n f) refl (λ e. cc))
+  on_fault (Err (fault.Segment f)) h k = inl (k (fault.Segment f) refl (λ e. cc))
   on_fault (Err fault.BadTrace) h k = inl (k fault.BadTrace refl (λ e. cc))
   on_fault (Err (fault.Mistake f)) h k = inl (k (fault.Mistake f) refl (λ e. cc))
   on_fault (Err (fault.NoSuchProcess n)) h k = inl (k (fault.NoSuchProcess n) refl (λ e. cc))
@@ -57,10 +74,7 @@ committed_is meaning says model shown w on = record {
   image = on.image;
   world = w;
   file = on.file;
-  replayed = on.replayed;
-  represents = on.represents;
-  upto = on.upto;
-  within = on.within;
+  of_disk = on.of_disk;
   is = refl;
 }
 
@@ -74,3 +88,41 @@ module _ {M : Type 0} (meaning : M → Meaning) (says : Describes M) {old new : 
 -- an end in force in a log is in force on an image that holds the log
 abbrev pub log_on : (m : Meaning) (end : ℕ) (header : List ℕ) (records : List Entry) (image : List (List ℕ)) → IsOurs m end header records → Holds header records image → HoldsLog m end records image
 log_on m end header records image ours held = record { first = ours.first; possible = ours.possible; holds = subst (λ (h : List ℕ). Holds h records image) ours.is held; behind = ours.behind }
+
+-- what is printed first, and then with names
+appended_both : (old mid new : Option (List ℕ)) (a b : List ℕ) → Appends old mid a → Appends mid new b → Appends old new (a ++ b)
+appended_both None mid new a b h k = tt
+appended_both (Some xs) None new a b h k = absurd h
+appended_both (Some xs) (Some ys) None a b h k = absurd k
+appended_both (Some xs) (Some ys) (Some zs) a b h k = k ∙ ap (λ s. s ++ b) h ∙ append_assoc xs a b
+
+begun_after : (old mid new : Option (List ℕ)) (a b : List ℕ) → Appends old mid a → TakesBeginning mid new b → TakesBeginning old new (a ++ b)
+begun_after old mid new a b h k = record {
+  taken = a ++ k.taken;
+  left = k.left;
+  whole = ap (λ s. a ++ s) k.whole ∙ sym (append_assoc a k.taken k.left);
+  appended = appended_both old mid new a k.taken h k.appended;
+}
+
+written_begun : (old mid new : Option (List ℕ)) (a : List ℕ) → Appends old mid a → new ≡ mid → TakesBeginning old new a
+written_begun old mid new a h same = record {
+  taken = a;
+  left = [];
+  whole = sym (append-nil a);
+  appended = subst (λ (o : Option (List ℕ)). Appends old o a) (sym same) h;
+}
+
+module _ (First : List ℕ → Type 0) (old mid new : Option (List ℕ)) {T : Type 0} where
+  pub named_printed : (r : Result T ViewFault) → Prints First old mid → OnOk r (Prints IsNamed mid new) → OnOk r (Prints IsNamed old new)
+  named_printed (Ok x) p q = (p.0 ++ q.0, tt, appended_both old mid new p.0 q.0 p.2 q.2)
+  named_printed (Err e) p q = tt
+
+  pub named_begun : (A B : Type 0) → (A → new ≡ mid) → (r : Result T ViewFault) → Prints First old mid → OnErr r (A ⊎ Begins IsNamed mid new) → OnErr r (B ⊎ Begins IsNamed old new)
+  named_begun A B same (Ok x) p q = tt
+  named_begun A B same (Err e) p (inl a) = inr (p.0, tt, written_begun old mid new p.0 p.2 (same a))
+  named_begun A B same (Err e) p (inr q) = inr (p.0 ++ q.0, tt, begun_after old mid new p.0 q.0 p.2 q.2)
+
+pub named_part : {T : Type 0} (First : List ℕ → Type 0) (old new : Option (List ℕ)) (A : Type 0) (r : Result T ViewFault) → OnErr r (A ⊎ Begins First old new) → OnErr r (A ⊎ Begins IsNamed old new)
+named_part First old new A (Ok x) q = tt
+named_part First old new A (Err e) (inl a) = inl a
+named_part First old new A (Err e) (inr q) = inr (q.0, tt, q.2)

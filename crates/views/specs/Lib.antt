@@ -1,2 +1,4 @@
 -- For callers
 pub mod Views  -- what the read-only commands print
+pub mod Reading  -- the same by their arguments, of a disk that may be a segment
+pub mod Beginnings  -- where the simulation on a disk begins

@@ -1,17 +1,14 @@
--- What the read-only commands print (this project's profile).
+-- What the read-only commands print.
 use Rattle.std.specs.Io.KnownBytes.{Appends}
-use Rattle.std.specs.Prelude.{◌≡◌, ◌≤◌, ◌^◌, ◌-◌, ◌&&◌, ℕ, Bool, true, false, List}
+use Rattle.std.specs.Prelude.{◌≡◌, ◌^◌, ◌-◌, ◌&&◌, ℕ, Bool, true, false, List}
 use Rattle.std.specs.Prelude.{◌++◌, None, Option, Some, codes, decimal, filter, map, if◌then◌else◌}
-use Rattle.std.specs.Prelude.{is_none, unwrap_or, ⊤}
+use Rattle.std.specs.Prelude.{◌⊎◌, [], is_none, unwrap_or, ⊤}
 use Rattle.disk.specs.declared.file.FileFault.{FileFault}
 use Rattle.disk.specs.declared.file.FileFault.TheVariants as opening
 use Rattle.eventkey.specs.Message.{Message}
 use Rattle.eventkey.specs.Writing.{TakesBeginning}
-use Rattle.inspection.specs.Inspected.{IsInspected}
-use Rattle.inspection.specs.Text.{inspection_text}
-use Rattle.inspection.specs.declared.fault.InspectionFault.{InspectionFault}
-use Rattle.inspection.specs.declared.fault.InspectionFault.TheVariants as inspecting
-use Rattle.inspection.specs.declared.inspecting.Inspection.{Inspection}
+use Rattle.upkeep.specs.declared.inspection.fault.InspectionFault.{InspectionFault}
+use Rattle.upkeep.specs.declared.inspection.fault.InspectionFault.TheVariants as inspecting
 use Rattle.model.specs.Meaning.{Meaning}
 use Rattle.model.specs.World.{IsUpto, World}
 use Rattle.model.specs.declared.runner.WorldParts.{WorldParts}
@@ -29,16 +26,18 @@ use Rattle.pictures.specs.declared.turns.NotRead.{NotRead}
 use Rattle.pictures.specs.declared.turns.NotRead.TheVariants as reading
 use Rattle.pictures.specs.declared.turns.Row.{Row}
 use Rattle.recovery.specs.Replay.{IsReplayedTo}
-use Rattle.recovery.specs.Represents.{IsGenuine, Represents}
+use Rattle.std.specs.Str.{IsUtf8}
 use Rattle.texts.specs.ModelFile.{IsModelFile}
+use Rattle.texts.specs.Settings.{IsTextWith}
 use Rattle.texts.specs.Text.{log_text, world_text}
+use Rattle.toml.specs.Parse.{parse_document}
 use Rattle.texts.specs.declared.model_file.ModelFault.{ModelFault}
 use Rattle.texts.specs.declared.model_file.ModelFault.TheVariants as file
 use Rattle.toml.specs.Data.{Members}
-use Rattle.upkeep.specs.Verified.{IsOfWorld}
 use Rattle.upkeep.specs.declared.verifying.Verified.{Verified}
 use Rattle.upkeep.specs.declared.verifying.VerifyFault.{VerifyFault}
 use Rattle.upkeep.specs.declared.verifying.VerifyFault.TheVariants as verifying
+use Rattle.views.specs.Beginnings.{IsWorldOf}
 use Rattle.views.specs.declared.fault.ViewFault.{ViewFault}
 use Rattle.views.specs.declared.fault.ViewFault.TheVariants.{BadModel, BadTrace, NoMemory}
 use Rattle.views.specs.declared.fault.ViewFault.TheVariants as fault
@@ -131,8 +130,7 @@ pub record PrintsBeginning {M : Type 0} (meaning : M → Meaning) (says : Descri
   pub upto : IsUpto (meaning model) end end world
   pub part : TakesBeginning old new (run_text world)
 
--- The text of the world to which the image of a disk is replayed. A genuine image represents that
--- world, which is the sequential simulation up to its time.
+-- The text of the world to which the image of a disk is replayed, which may be a segment.
 pub record IsCommitted {M : Type 0} (meaning : M → Meaning) (says : Describes M)
     (shown : World → List ℕ) (text : List ℕ) : Type 0 where
   pub source : List ℕ
@@ -141,10 +139,7 @@ pub record IsCommitted {M : Type 0} (meaning : M → Meaning) (says : Describes 
   pub image : List (List ℕ)
   pub world : World
   pub file : IsModelFile says source model end
-  pub replayed : IsReplayedTo (meaning model) end image world
-  pub represents : IsGenuine (meaning model) end image → Represents (meaning model) end image world
-  pub upto : IsGenuine (meaning model) end image → IsUpto (meaning model) end world.time world
-  pub within : world.time ≤ end
+  pub of_disk : IsWorldOf (meaning model) end image world
   pub is : text ≡ shown world
 
 -- the world to which the image of some disk is replayed, of the model of some file
@@ -154,10 +149,7 @@ pub record IsWorldOn {M : Type 0} (meaning : M → Meaning) (says : Describes M)
   pub end : ℕ
   pub image : List (List ℕ)
   pub file : IsModelFile says source model end
-  pub replayed : IsReplayedTo (meaning model) end image world
-  pub represents : IsGenuine (meaning model) end image → Represents (meaning model) end image world
-  pub upto : IsGenuine (meaning model) end image → IsUpto (meaning model) end world.time world
-  pub within : world.time ≤ end
+  pub of_disk : IsWorldOf (meaning model) end image world
 
 -- which events are asked for: from a time on, before a time, and of one process
 abbrev pub choice_of : Option ℕ → Option ℕ → Option ℕ → Choice
@@ -174,35 +166,14 @@ abbrev pub IsLogged : {M : Type 0} → (M → Meaning) → Describes M → Optio
 IsLogged meaning says from to process =
     IsCommitted meaning says (λ w. log_text (log_part from to process w.log))
 
+-- the world
+abbrev pub IsShown : {M : Type 0} → (M → Meaning) → Describes M → List ℕ → Type 0
+IsShown meaning says = IsCommitted meaning says world_text
+
 -- the time and the number of events of a world
 abbrev pub verified_text : Verified → List ℕ
 verified_text seen = (codes "verified: committed " ++ decimal seen.time)
     ++ (codes " events " ++ decimal seen.events) ++ codes "\n"
-
--- The text of the world that the image of a disk represents: a checkpoint in it holds what the
--- records before it reach.
-pub record IsVerifiedText {M : Type 0} (meaning : M → Meaning) (says : Describes M)
-    (text : List ℕ) : Type 0 where
-  pub source : List ℕ
-  pub model : M
-  pub end : ℕ
-  pub image : List (List ℕ)
-  pub seen : Verified
-  pub file : IsModelFile says source model end
-  pub of_world : IsOfWorld (meaning model) end image seen
-  pub is : text ≡ verified_text seen
-
--- the text of the inspection of a disk
-pub record IsStatus {M : Type 0} (meaning : M → Meaning) (says : Describes M)
-    (text : List ℕ) : Type 0 where
-  pub source : List ℕ
-  pub model : M
-  pub end : ℕ
-  pub image : List (List ℕ)
-  pub found_there : Inspection
-  pub file : IsModelFile says source model end
-  pub inspected : IsInspected (meaning model) end image found_there
-  pub is : text ≡ inspection_text found_there
 
 -- The time up to which a run is considered: its end, or the time of a world to which the image of a
 -- disk is replayed.
@@ -280,6 +251,12 @@ checked_text values = codes "ok\n" ++ values
 abbrev pub IsChecked : {M : Type 0} → Describes M → Shows M → List ℕ → List ℕ → Type 0
 IsChecked {M} says shows source text = (model : M) × (end : ℕ) × IsModelFile says source model end
     × (text ≡ checked_text (shows model end))
+
+-- the text of a model file in which these values are set: it is as it was if none are, or if it is
+-- not TOML, and then none of a model file
+abbrev pub IsSetIn : List (List ℕ × List ℕ) → List ℕ → List ℕ → Type 0
+IsSetIn settings text new = IsTextWith settings text new ⊎ ((new ≡ text)
+    × ((settings ≡ []) ⊎ (¬ (IsUtf8 text) ⊎ (parse_document text ≡ None))))
 
 -- the text for some file
 abbrev pub IsSomeChecked : {M : Type 0} → Describes M → Shows M → List ℕ → Type 0

@@ -1,14 +1,15 @@
 // How a disk and a model file that do not belong together differ.
 
 use crate::files::{open_disk, read_model_file};
+use cli::ModelFile;
 use commitlog::Log;
-use inspection::inspect;
 use model::Model as Simulated;
 use recovery::end_of;
 use std::fmt;
 use std::fs::File;
 use std::rt::Files;
 use texts::Described;
+use upkeep::inspection::inspect;
 
 /// What a disk was made for, and what a model file describes, where they differ.
 #[derive(Clone, Copy, Debug, PartialEq, Eq)]
@@ -48,7 +49,7 @@ const FORMAT: u32 = 2;
 /// read, the disk has the header of some model, and they differ.
 pub fn difference_of<M, R>(
     rt: &R,
-    model: &str,
+    model: ModelFile<'_>,
     disk: &str,
     most: u32,
     format: u32,
@@ -78,7 +79,7 @@ where
 
 /// How far the run on a disk has come: the time in ticks up to which everything is committed, if the
 /// disk is of the model of a file, and both can be read.
-pub fn committed_on<M, R>(rt: &R, model: &str, disk: &str, most: u32) -> Option<u64>
+pub fn committed_on<M, R>(rt: &R, model: ModelFile<'_>, disk: &str, most: u32) -> Option<u64>
 where
     M: Described,
     R: Files<File = File> + AllocGlobal,

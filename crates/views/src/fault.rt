@@ -9,15 +9,29 @@ ghost use Rattle.views.specs.declared.fault.ViewFault.TheVariants.{World as Worl
 
 use commitlog::LogFault;
 use disk::FileFault;
-use inspection::InspectionFault;
 use model::WorldFault;
 use pictures::NotRead;
 use recovery::RecoveryFault;
 use std::alloc::{AllocError, AllocFailed};
 use std::io::{Error as IoError, ErrorKind};
-use texts::{Mistake, ModelFault};
+use texts::{Mistake, ModelFault, SettingFault};
 use thiserror::Error;
 use upkeep::VerifyFault;
+use upkeep::inspection::InspectionFault;
+
+/// Why a disk is no segment of a simulation.
+#[derive(Clone, Copy, Debug, PartialEq, Eq, Error)]
+pub enum SegmentFault {
+    /// Its origin is not the world that the disk before it represents.
+    #[error("NotTheNext")]
+    NotTheNext,
+    /// Its origin would have more than 2^24 bytes.
+    #[error("TooLong")]
+    TooLong,
+    /// It begins with an origin, and what was before is not on it.
+    #[error("Begins")]
+    Begins,
+}
 
 /// Why a read-only command failed. Printed as its name, followed by a space and the fault that it
 /// carries, if any.
@@ -46,6 +60,12 @@ pub enum ViewFault {
         /// What is wrong with it.
         fault: RecoveryFault,
     },
+    /// A segment does not go on from the disk that it should go on from.
+    #[error("Segment {0}")]
+    Segment(SegmentFault),
+    /// A value is not set in the model file.
+    #[error("Setting {0}")]
+    Setting(SettingFault),
     /// The text is not a trace of a run.
     #[error("BadTrace")]
     BadTrace,

@@ -1,16 +1,17 @@
 // The commands on a model file alone: `seq` by the plain runner, and `check`.
 
 ghost use Rattle.std.specs.Prelude.{◌≡◌, ◌≤◌, ◌^◌, ◌≢◌, ◌⊎◌, ℕ, List, Option, Err, length};
-ghost use Rattle.std.specs.Prelude.{IfOk, IsOkUnless, IsSomeAnd, MatchResult, OnErr, OnOk};
+ghost use Rattle.std.specs.Prelude.{map, IfOk, IsOkUnless, IsSomeAnd, MatchResult, OnErr, OnOk};
 ghost use Rattle.std.specs.Str.{IsUtf8};
 ghost use Rattle.eventkey.specs.Writing.{Writes};
 ghost use Rattle.texts.specs.Mistakes.{AreMistakes};
 ghost use Rattle.texts.specs.ModelFile.{IsModelFile};
 ghost use Rattle.views.specs.Views.{checked_text, run_text, world_in, Begins, IsChecked};
-ghost use Rattle.views.specs.Views.{IsSomeChecked, IsWholeSimulation, Prints, PrintsBeginning, PrintsRun};
+ghost use Rattle.views.specs.Views.{IsSetIn, IsSomeChecked, IsWholeSimulation, Prints, PrintsBeginning, PrintsRun};
 ghost use Rattle.views.specs.declared.fault.ViewFault.TheVariants.{Output};
 
 use crate::fault::{ViewFault, unreadable};
+use cli::{ModelFile, Settings};
 use disk::FileDisk;
 use model::{World, WorldFault, WorldParts};
 use std::alloc::Global;
@@ -19,12 +20,12 @@ use std::io::{Read, Result as IoResult, Write};
 use std::os::unix::fs::FileTypeExt;
 use std::rt::Files;
 use texts::{
-    Described, LONGEST_MODEL_FILE, Mistake, Mistakes, ModelFault, find_mistakes, read_model,
-    write_log, write_text, write_world,
+    Described, LONGEST_MODEL_FILE, Mistake, Mistakes, ModelFault, SettingsFault, find_mistakes,
+    read_model, with_settings, write_log, write_text, write_world,
 };
 
 /// Runs the model of a file by the plain runner, and writes the log and then the world.
-pub fn seq_of<M, R, O>(rt: &R, model: &str, out: &mut O) -> Result<(), ViewFault>
+pub(crate) fn seq_of<M, R, O>(rt: &R, model: ModelFile<'_>, out: &mut O) -> Result<(), ViewFault>
 where
     M: Described,
     R: Files + AllocGlobal,
@@ -34,7 +35,7 @@ where
     ensures err { OnErr result ((out.new ≡ out.old)
         ⊎ Begins (IsWholeSimulation M.meaning M.says) (O.contents out.old) (O.contents out.new)) }
 {
-    let bytes = read_bytes(rt, model)?;
+    let bytes = read_text(rt, model)?;
     let text = text_of(bytes.as_slice()).map_err(ModelFault::BadModel)?;
     seq::<M, O>(rt.alloc(), text, out)
 }
@@ -50,9 +51,9 @@ pub struct Wrong {
 
 /// Checks whether a file is a model file. At a `Mistake`, `found` gets the file and all its
 /// mistakes.
-pub fn check_of<M, R, O>(
+pub(crate) fn check_of<M, R, O>(
     rt: &R,
-    model: &str,
+    model: ModelFile<'_>,
     out: &mut O,
     found: &mut Option<Wrong>,
 ) -> Result<(), ViewFault>
@@ -65,7 +66,7 @@ where
     ensures err { OnErr result ((out.new ≡ out.old)
         ⊎ Begins (IsSomeChecked M.says M.shows) (O.contents out.old) (O.contents out.new)) }
 {
-    let text = read_bytes(rt, model)?;
+    let text = read_text(rt, model)?;
     let mut mistakes = None;
     let checked = check_bytes::<M, O>(rt.alloc(), text.as_slice(), out, &mut mistakes);
     *found = wrong_of(text, mistakes);
@@ -103,21 +104,47 @@ fn check_bytes<M: Described, O: Write>(
 
 /// Reads a file again that is not a model file, and returns its text with all its mistakes. Returns
 /// `None` if it cannot be read, or is a model file now.
-pub fn mistakes_of<M, R>(rt: &R, path: &str) -> Option<Wrong>
+pub fn mistakes_of<M, R>(rt: &R, model: ModelFile<'_>) -> Option<Wrong>
 where
     M: Described,
     R: Files + AllocGlobal,
 {
     // what is not a plain file may give its bytes once
-    if !fs::metadata(rt, path).ok()?.is_file() {
+    if !fs::metadata(rt, model.path).ok()?.is_file() {
         return None;
     }
-    let text = read_bytes(rt, path).ok()?;
+    let text = read_text(rt, model).ok()?;
     let mistakes = find_mistakes::<M>(rt.alloc(), text.as_slice()).ok()?;
     Some(Wrong { text, mistakes })
 }
 
-/// Reads a model file. Returns `File` if it cannot be read, is neither a plain file nor a pipe that
+/// Reads a model file, and sets in its text what is set. Returns the faults of `read_bytes`, and
+/// `Setting` with the first setting that is refused.
+fn read_text<R: Files + AllocGlobal>(rt: &R, file: ModelFile<'_>) -> Result<Vec<u8>, ViewFault> {
+    set_in(rt.alloc(), read_bytes(rt, file.path)?, file.settings)
+}
+
+/// Returns the text of a model file in which these values are set. A text that is not TOML stays as
+/// it is: it is none of a model file.
+fn set_in(alloc: Global, bytes: Vec<u8>, settings: Settings<'_>) -> Result<Vec<u8>, ViewFault>
+    ensures { IfOk result (λ new.
+        IsSetIn (map (λ s. (s.0.now, s.1.now)) settings.now) bytes.items new.items) }
+{
+    if settings.is_empty() {
+        return Ok(bytes);
+    }
+    let Ok(text) = str::from_utf8(bytes.as_slice()) else {
+        return Ok(bytes);
+    };
+    match with_settings(alloc, text, settings) {
+        Ok(new) => Ok(new.into_bytes()),
+        Err(SettingsFault::Toml) => Ok(bytes),
+        Err(SettingsFault::Setting(fault)) => Err(ViewFault::Setting(fault)),
+        Err(SettingsFault::NoMemory) => Err(ViewFault::NoMemory),
+    }
+}
+
+/// Reads a file as a model file. Returns `File` if it cannot be read, is neither a plain file nor a pipe that
 /// gives bytes, or has more than 16,777,216 bytes, of which then no more are read; and `NoMemory`.
 fn read_bytes<R: Files + AllocGlobal>(rt: &R, path: &str) -> Result<Vec<u8>, ViewFault> {
     let kind = fs::metadata(rt, path).map_err(unreadable)?.file_type();
@@ -280,7 +307,7 @@ fn write_checked<O: Write>(values: &str, out: &mut O) -> IoResult<()>
 ///
 /// Returns `File` if the file cannot be read, is neither a plain file nor a pipe that gives bytes, or
 /// has more than 16,777,216 bytes; `BadModel` if it is not a model file; and `NoMemory`.
-pub fn read_model_file<M, R>(rt: &R, path: &str) -> Result<(M, u64), ViewFault>
+pub fn read_model_file<M, R>(rt: &R, file: ModelFile<'_>) -> Result<(M, u64), ViewFault>
 where
     M: Described,
     R: Files + AllocGlobal,
@@ -288,7 +315,7 @@ where
     ensures some { IfOk result (λ of. 1 ≤ of.1) }
     ensures short { IfOk result (λ of. of.1 ≤ 2 ^ 40) }
 {
-    let bytes = read_bytes(rt, path)?;
+    let bytes = read_text(rt, file)?;
     let text = text_of(bytes.as_slice()).map_err(ModelFault::BadModel)?;
     Ok(read_model(rt.alloc(), text)?)
 }
@@ -308,7 +335,7 @@ pub struct ModelText<M> {
 /// same path may be another model, or nothing more, as from a pipe.
 ///
 /// The faults are those of `read_model_file`.
-pub fn read_model_text<M, R>(rt: &R, path: &str) -> Result<ModelText<M>, ViewFault>
+pub fn read_model_text<M, R>(rt: &R, file: ModelFile<'_>) -> Result<ModelText<M>, ViewFault>
 where
     M: Described,
     R: Files + AllocGlobal,
@@ -316,7 +343,7 @@ where
     ensures some { IfOk result (λ of. 1 ≤ of.end) }
     ensures short { IfOk result (λ of. of.end ≤ 2 ^ 40) }
 {
-    let bytes = read_bytes(rt, path)?;
+    let bytes = read_text(rt, file)?;
     let text = text_of(bytes.as_slice()).map_err(ModelFault::BadModel)?;
     let (model, end): (M, u64) = read_model(rt.alloc(), text)?;
     Ok(ModelText {

@@ -2,17 +2,20 @@
 //! disk, for the figures and the picture of a run, and on its trace. None of them needs a session.
 #![tactic(auto)]
 
+mod beginnings;
 mod differing;
 mod fault;
 mod files;
 mod looking;
+mod looks;
 mod named;
+mod reading;
 
+pub use beginnings::{Beginning, Begun, events_before_origin, front_of, write_believed_line};
 pub use differing::{Difference, Identity, Simulation, committed_on, difference_of, simulation_in};
-pub use fault::{ViewFault, unreadable};
+pub use fault::{SegmentFault, ViewFault, unreadable};
 pub use files::{
-    ModelText, Wrong, check, check_of, mistakes_of, open_disk, read_model_file, read_model_text,
-    seq, seq_of,
+    ModelText, Wrong, check, mistakes_of, open_disk, read_model_file, read_model_text, seq,
 };
-pub use looking::{Part, Seen, Shows, course_of, draw_of, log_of, stats_of, status_of, verify_of};
-pub use named::{log_named_of, show_named_of, write_word_figures_of};
+pub use looks::{Look, look_at};
+pub use reading::Shows;

@@ -1,5 +1,5 @@
 use super::*;
-use migration::{MigrateFault, migrate};
+use upkeep::migration::{MigrateFault, migrate};
 
 /// The place of the lowest byte of the format's number in a header.
 const FORMAT_PLACE: usize = 11;

@@ -1,4 +1,3 @@
-use Rattle.std.proofs.Common.{◌≡◌, ◌++◌, map, string_bytes, codes}
 use Rattle.rule_files.proofs.Right.{on_ok}
 use Rattle.rule_files.proofs.printed.+put_value.Goals as goal
 

@@ -1,13 +1,15 @@
 use Rattle.std.proofs.Common.{List, inr, refl, subst, sym, ◌∙◌}
 use Rattle.std.proofs.lemmas.List.{length-map}
 use Rattle.std.proofs.lemmas.Result.{IfOk-weaker}
+use Rattle.std.specs.Prelude.{IfErr, replicate}
 use Rattle.coordinator.proofs.PortFaults.{local-faults}
 use Rattle.recovery.proofs.Crashes.{kept-none}
 use Rattle.runs.proofs.Kept.{kept-stop, stood-under}
 use Rattle.runs.proofs.Ports.{all_fresh, all_faithful, so_many}
 use Rattle.wire.specs.Local.{state_by, state_of}
 use Rattle.wire.specs.Port.{PortState}
-use Rattle.runs.specs.Driver.{SessionRefused}
+use Rattle.runs.specs.Driver.{RunHasCause, SessionRefused}
+use Rattle.runs.specs.declared.rounds.RunFault.{RunFault}
 use Rattle.wire.specs.declared.local.Held.TheVariants.{Fresh}
 use Rattle.runs.proofs.local.run_local.Goals as goal
 
@@ -43,6 +45,14 @@ returns-clause-reached g c = IfOk-weaker c.run_over.result.outcome _ _ (λ outco
 pub returns-clause-refused : goal.returns-clause-refused
 returns-clause-refused g c = λ fault is.
     subst (λ (ports : List PortState). SessionRefused g.M.Model.meaning (state_by g.M.Model.meaning) g.D.SectorDisk.state c.args.model.now c.args.end c.args.plan ports c.args.disk c.run_over.result.disk fault) c.in-Ok.ensures.ports (c.run_over.ensures.refused fault is)
+
+pub returns-clause-cause : goal.returns-clause-cause
+returns-clause-cause g c =
+    subst (λ (ports : List PortState). IfErr c.run_over.result.outcome (λ fault. RunHasCause g.M.Model.meaning (state_by g.M.Model.meaning) g.D.SectorDisk.state c.args.model.now c.args.end c.args.plan ports c.args.disk c.run_over.result.disk fault)) c.in-Ok.ensures.ports c.run_over.ensures.cause
+
+pub returns-in-Err-clause-cause : goal.returns-in-Err-clause-cause
+returns-in-Err-clause-cause g c =
+    subst (λ (fault : RunFault). RunHasCause g.M.Model.meaning (state_by g.M.Model.meaning) g.D.SectorDisk.state c.args.model.now c.args.end c.args.plan (replicate c.args.plan.nodes (state_of (g.M.Model.meaning c.args.model.now) Fresh)) c.args.disk c.args.disk fault) (sym c.in-Err.ensures.resources) tt
 
 pub returns-clause-faults : goal.returns-clause-faults
 returns-clause-faults g c = λ genuine fault is.

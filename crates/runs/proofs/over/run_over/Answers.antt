@@ -1,4 +1,4 @@
-use Rattle.std.proofs.Common.{inr, ◌<◌, ◌≤◌, Err, ap, arith, length, map, refl, subst, sym, ◌≡◌, ◌∙◌}
+use Rattle.std.proofs.Common.{inl, inr, ◌<◌, ◌≤◌, Err, ap, arith, length, map, refl, subst, sym, ◌≡◌, ◌∙◌}
 use Rattle.coordinator.proofs.Resuming.{driven-on}
 use Rattle.recovery.proofs.Crashes.{back-under, kept-front, kept-none, looked-under, recovers-genuine}
 use Rattle.recovery.specs.Crashes.{KeepsRecovery, RecoversUnderItsEnd}
@@ -6,6 +6,7 @@ use Rattle.recovery.specs.Represents.{IsGenuine, Recovers}
 use Rattle.coordinator.specs.Session.{system_of, running}
 use Rattle.coordinator.specs.Crashes.{IsTrusted}
 use Rattle.coordinator.specs.declared.SessionFault.TheVariants.{Port, Reports}
+use Rattle.runs.proofs.Causes.{cause_of}
 use Rattle.runs.proofs.Faults.{opening_faults, opening_reports, step_faults, step_reports}
 use Rattle.runs.proofs.Drives.{answered, front_upto, goes_by, in_transit, may_trust, reached_upto, shaped_by}
 use Rattle.runs.specs.Driver.{AreRounds, AreRoundsOfRun, trusts_by}
@@ -221,6 +222,12 @@ returns-clause-refused g c = elim c.match-run_session.branch [
         left = c.into_disk.ensures;
       }))
 ]
+
+pub returns-in-Err-clause-cause : goal.returns-in-Err-clause-cause
+returns-in-Err-clause-cause g c = inl c.in-Err.ensures.refused
+
+pub returns-clause-cause : goal.returns-clause-cause
+returns-clause-cause g c = cause_of g.M.Model.meaning g.P.Port.state g.D.SectorDisk.state c.args.model.now c.args.end c.args.plan (map g.P.Port.state c.args.ports.items) c.args.disk _ _ (returns-clause-refused g c) (returns-clause-rounds_over g c) (returns-clause-stopped g c)
 
 pub returns-in-Err-clause-faults : goal.returns-in-Err-clause-faults
 returns-in-Err-clause-faults g c = λ are_faithful genuine fault is.

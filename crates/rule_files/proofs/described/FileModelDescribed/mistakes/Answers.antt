@@ -21,4 +21,4 @@ returns-in-Err-BadModel-clause-some c =
     (rules_right t (sym c.is_rules.ensures ∙ c.if-is_rules.true))
 
 pub returns-else-is_rules-clause-none : goal.returns-else-is_rules-clause-none
-returns-else-is_rules-clause-none c = of_file (table_view c.args.table.now) c.mistakes.result c.mistakes.ensures.none
+returns-else-is_rules-clause-none c = of_file (table_view c.args.table.now) c.mistakes_among.result c.mistakes_among.ensures.none

@@ -1,2 +1,0 @@
--- For callers: how a full disk is archived
-pub mod Archiving

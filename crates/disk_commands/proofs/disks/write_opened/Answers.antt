@@ -1,0 +1,9 @@
+use Rattle.eventkey.proofs.Writers.{writes_failed, writes_then}
+use Rattle.views.specs.Reading.{believed_line}
+use Rattle.disk_commands.proofs.disks.write_opened.Goals as goal
+
+pub returns-in_err-write_seen : goal.returns-in_err-write_seen
+returns-in_err-write_seen g c = writes_failed c.from_residual.result (believed_line c.args.time) c.write_seen.ensures c.in_err-write_seen.was c.from_residual.ensures.0
+
+pub returns : goal.returns
+returns g c = writes_then c.write_seen.ensures c.in_ok-write_seen.was c.write_believed_line.ensures

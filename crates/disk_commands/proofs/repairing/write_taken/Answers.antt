@@ -1,0 +1,4 @@
+use Rattle.disk_commands.proofs.repairing.write_taken.Goals as goal
+
+pub returns-clause-written : goal.returns-clause-written
+returns-clause-written g c = c.flushed.ensures.written _ _ c.write_range.ensures

@@ -1,5 +1,0 @@
-pub mod Counts
-pub mod Lines
-pub mod Refusals
-pub mod Times
-pub mod Stops

@@ -1,0 +1,295 @@
+-- Attempts of a run as calls of a history, one after another.
+use Rattle.std.proofs.Common.{◌≡◌, ◌∙◌, ℕ, Bool, List, [], ◌∷◌, ◌++◌, Err, Ok, None, Option, Result, Some, OnOk, ap, arith, false, inl, inr, refl, subst, sym, true}
+use Rattle.std.specs.Io.KnownBytes.{Appends}
+use Rattle.std.specs.Prelude.{◌≢◌, IfErr, IfOk, OnErr, length, option_map}
+use Rattle.segments.specs.Archiving.{IsNextDisk}
+use Rattle.commands.specs.Commands.{IsKeptCommand, PrintsEndOfRun, PrintsEndOfRunOver, ran_text, stopped_text}
+use Rattle.commands.specs.declared.fault.CommandFault.{CommandFault}
+use Rattle.commands.specs.declared.fault.CommandFault.TheVariants as on_disk
+use Rattle.coordinator.specs.declared.SessionFault.{SessionFault}
+use Rattle.disk.specs.Disk.{DiskState, OnlyLooks}
+use Rattle.disk.specs.FileDisks.{FileState, disk_of_file}
+use Rattle.disk.specs.Laws.{looks_none}
+use Rattle.eventkey.specs.Writing.{TakesBeginning}
+use Rattle.model.specs.Meaning.{Meaning}
+use Rattle.model.specs.Origins.{continued}
+use Rattle.model.specs.Runner.{Simulation}
+use Rattle.model.specs.World.{World}
+use Rattle.model.specs.declared.origin.Origin.{Origin}
+use Rattle.recovery.proofs.Crashes.{kept-none, looked-under}
+use Rattle.recovery.specs.Histories.{Call, Event, IsHistoryOfCalls, IsKept, IsKeptRun, IsStoppedAt, last_acknowledged}
+use Rattle.recovery.specs.Histories.Ending.{Returned}
+use Rattle.recovery.specs.Replay.{in_force}
+use Rattle.recovery.specs.Represents.{IsGenuine}
+use Rattle.runs.specs.Driver.{IsStoppedOver}
+use Rattle.runs.specs.declared.rounds.Plan.{Plan}
+use Rattle.texts.specs.ModelFile.{IsModelFile}
+use Rattle.views.specs.Reading.{BeginsWith}
+use Rattle.views.specs.Views.{Begins, Describes, Prints}
+use Rattle.wire.specs.Port.{PortState}
+use Rattle.program.proofs.Printed.{on_ok_so}
+use Rattle.program.specs.Attempts.{AreArchived, AreCalls, GoesOnWith, HasCome, HasComeBy, IsAttempt, IsAttemptBy, IsFollowed, IsFollowedBy, IsGoneOn, IsLastAttempt, IsLastBy, IsOnImage, IsRanAsReported, IsRanOn, IsRunBy, IsStoppedAsReported, IsStoppedOn, IsTried, IsWholeRun, KeepsAll, Stretch}
+use Rattle.program.specs.Command.{IsRan, IsRanAs, IsRanBehind, IsStoppedAs, IsStoppedBehind, IsStoppedText, IsWithoutOutput}
+use Rattle.program.specs.declared.attempts.Next.{Next}
+use Rattle.program.specs.declared.attempts.Next.TheVariants.{Other, Same}
+
+-- 1. One attempt
+
+-- a disk that is only looked at
+pub looks_keep : (on : Meaning) (old new : DiskState) → OnlyLooks old new → KeepsAll on old new
+looks_keep on old new looks = λ v. record { crashes = looked-under on v.time old new looks; front = λ recovers s is. absurd (cc) }
+
+pub same_keeps : (on : Meaning) (disk : DiskState) → KeepsAll on disk disk
+same_keeps on disk = looks_keep on disk disk (looks_none disk)
+
+module _ (on : Meaning) (end nodes : ℕ) (old new : DiskState) (before after : Option (List ℕ)) where
+  taken_on : {Taken : List ℕ → Type 0} → PrintsEndOfRun on end nodes old new Taken → (text : List ℕ) × IsRanOn on end nodes old new text × Taken text
+  taken_on p = (ran_text p.ran p.time p.events, record { ran = p.ran; time = p.time; events = p.events; each = p.each; reached = p.reached; kept = p.kept; genuine = p.genuine; is = refl }, p.taken)
+
+  pub attempt_is : (outcome : Result (Unit {0}) CommandFault) (same : Type 0) → OnOk outcome (PrintsEndOfRun on end nodes old new (Appends before after)) → (outcome ≡ Err on_disk.Output → PrintsEndOfRun on end nodes old new (TakesBeginning before after))
+      → ((f : CommandFault) → outcome ≡ Err f → f ≢ on_disk.Output → same) → ((time events : ℕ) → outcome ≡ Err (on_disk.Stopped time events) → (v : World) → IsKeptRun on end v old new (Some (time, events)))
+      → (IsGenuine on end old.reads → (time events : ℕ) → outcome ≡ Err (on_disk.Stopped time events) → IsStoppedAt on end time events) → ((v : World) → IsKeptCommand on end v old new before after outcome)
+      → IsAttempt on end nodes old new outcome same before after
+  attempt_is outcome same printed output unwritten stopped genuine kept = record {
+    tried = record {
+      printed = on_ok_so outcome (λ p. taken_on p) printed;
+      output = λ e. taken_on (output e);
+      unwritten = unwritten;
+      stopped = λ time events e. record { time = time; events = events; kept = stopped time events e; genuine = λ is. genuine is time events e; is = refl };
+    };
+    kept = kept;
+  }
+
+-- over node programs that are trusted
+module _ {M P D : Type 0} (meaning : M → Meaning) (state : P → PortState) (disk : D → DiskState) (model : M) (end : ℕ) (plan : Plan) (begun left : D) (before after : Option (List ℕ)) where
+  reported : {Taken : List ℕ → Type 0} → PrintsEndOfRunOver meaning state disk model end plan begun left Taken → (text : List ℕ) × IsRanAsReported end plan.nodes text × Taken text
+  reported p = (ran_text p.ran p.time p.events, record { ran = p.ran; time = p.time; events = p.events; each = p.each; reached = p.over.reached; is = refl }, p.taken)
+
+  pub reported_is : (outcome : Result (Unit {0}) CommandFault) (same : Type 0) → OnOk outcome (PrintsEndOfRunOver meaning state disk model end plan begun left (Appends before after))
+      → (outcome ≡ Err on_disk.Output → PrintsEndOfRunOver meaning state disk model end plan begun left (TakesBeginning before after)) → ((f : CommandFault) → outcome ≡ Err f → f ≢ on_disk.Output → same)
+      → ((time events : ℕ) → outcome ≡ Err (on_disk.Stopped time events) → IsStoppedOver meaning state disk model end plan begun left time events) → IsTried (IsRanAsReported end plan.nodes) (IsStoppedAsReported end) outcome same before after
+  reported_is outcome same printed output unwritten stopped = record {
+    printed = on_ok_so outcome (λ p. reported p) printed;
+    output = λ e. reported (output e);
+    unwritten = unwritten;
+    stopped = λ time events e. (let over = stopped time events e in record { time = time; events = events; early = omega (arith, over.early, over.time_is); is = refl });
+  }
+
+-- an attempt that lost a node before its session has printed nothing, and left the disk
+lost_tried : (Ran Stopped : List ℕ → Type 0) (before after : Option (List ℕ)) (same : Type 0) (f : SessionFault) → same → IsTried {T = Unit {0}} Ran Stopped (Err (on_disk.Session f)) same before after
+lost_tried Ran Stopped before after same f unchanged = record {
+  printed = tt;
+  output = λ e. cc;
+  unwritten = λ g e other. unchanged;
+  stopped = λ time events e. cc;
+}
+
+pub lost_attempt : (trusts : Bool) (on : Meaning) (end nodes : ℕ) (disk : DiskState) (same : Type 0) (before after : Option (List ℕ)) (f : SessionFault) → same → IsAttemptBy trusts on end nodes disk disk (Err (on_disk.Session f)) same before after
+lost_attempt true on end nodes disk same before after f unchanged = lost_tried (IsRanAsReported end nodes) (IsStoppedAsReported end) before after same f unchanged
+lost_attempt false on end nodes disk same before after f unchanged = record {
+  tried = lost_tried (IsRanOn on end nodes disk disk) (IsStoppedOn on end disk disk) before after same f unchanged;
+  kept = λ v. inr (on_disk.Session f, refl, kept-none on end v disk disk (looked-under on v.time disk disk (looks_none disk)));
+}
+
+-- 2. What follows an attempt
+
+-- an attempt is a call that acknowledges some front, or none
+module _ (on : Meaning) (end : ℕ) (v : World) (old left : DiskState) where
+  of_run : (returned : Option (ℕ × ℕ)) → IsKeptRun on end v old left returned → (front : Option Simulation) × IsKept on v (record { begun = old; ended = left; front = front })
+  of_run returned run = (option_map (λ (w : World). in_force end w) run.front, run.kept)
+
+  pub as_call : (before after : Option (List ℕ)) (outcome : Result (Unit {0}) CommandFault) → IsKeptCommand on end v old left before after outcome → (front : Option Simulation) × IsKept on v (record { begun = old; ended = left; front = front })
+  as_call before after outcome kept = elim kept [
+    | inl ended ↦ of_run _ ended.4
+    | inr stopped ↦ of_run _ stopped.2
+  ]
+
+module _ (on : Meaning) (end nodes : ℕ) (old left : DiskState) (outcome : Result (Unit {0}) CommandFault) (same : Type 0) (before after : Option (List ℕ)) where
+  unwritten_by : (trusts : Bool) → IsAttemptBy trusts on end nodes old left outcome same before after → IsWithoutOutput outcome → same
+  unwritten_by true tried without = tried.unwritten without.0 without.1 without.2
+  unwritten_by false attempt without = attempt.tried.unwritten without.0 without.1 without.2
+
+  followed_by : (trusts : Bool) (next : Next) → IsAttemptBy trusts on end nodes old left outcome same before after → GoesOnWith on end left next → IsFollowedBy trusts on end old next
+  followed_by true next tried goes_on = tt
+  followed_by false next attempt goes_on = record { left = left; attempt = λ v. as_call on end v old left before after outcome (attempt.kept v); goes_on = goes_on }
+
+  pub goes_on_by : {E : Type 0} (trusts : Bool) (r : Result Next E) → IsAttemptBy trusts on end nodes old left outcome same before after → OnOk r (IsWithoutOutput outcome) → IfOk r (GoesOnWith on end left) → IfOk r (λ next. same × IsFollowedBy trusts on end old next)
+  goes_on_by trusts (Ok next) attempt without goes_on = (unwritten_by trusts attempt without, followed_by trusts next attempt goes_on)
+  goes_on_by trusts (Err e) attempt without goes_on = tt
+
+  last_of : (trusts : Bool) (new : DiskState) (own : Result (Unit {0}) CommandFault) → IsAttemptBy trusts on end nodes old left outcome same before after → own ≡ outcome → KeepsAll on left new → IsLastBy trusts on end nodes old new own same before after
+  last_of true new own tried is rest = subst (λ (o : Result (Unit {0}) CommandFault). IsTried (IsRanAsReported end nodes) (IsStoppedAsReported end) o same before after) (sym is) tried
+  last_of false new own attempt is rest = record { left = left; attempt = subst (λ (o : Result (Unit {0}) CommandFault). IsAttempt on end nodes old left o same before after) (sym is) attempt; rest = rest }
+
+  pub last_by : {E : Type 0} (disk : E → DiskState) (own : E → Result (Unit {0}) CommandFault) (trusts : Bool) (r : Result Next E) → IsAttemptBy trusts on end nodes old left outcome same before after → IfErr r (λ last. own last ≡ outcome) → IfErr r (λ last. KeepsAll on left (disk last))
+      → IfErr r (λ last. IsLastBy trusts on end nodes old (disk last) (own last) same before after)
+  last_by disk own trusts (Ok next) attempt is rest = tt
+  last_by disk own trusts (Err last) attempt is rest = last_of trusts (disk last) (own last) attempt is rest
+
+  -- the same, of a simulation that is this one
+  pub next_after : {E : Type 0} (real : Meaning) (trusts : Bool) (r : Result Next E) → on ≡ real → IsAttemptBy trusts on end nodes old left outcome same before after → OnOk r (IsWithoutOutput outcome) → IfOk r (GoesOnWith on end left) → IfOk r (λ next. same × IsFollowedBy trusts real end old next)
+  next_after real trusts r is attempt without goes_on = subst (λ (m : Meaning). IfOk r (λ next. same × IsFollowedBy trusts m end old next)) is (goes_on_by trusts r attempt without goes_on)
+
+  pub last_after : {E : Type 0} (disk : E → DiskState) (own : E → Result (Unit {0}) CommandFault) (real : Meaning) (trusts : Bool) (r : Result Next E) → on ≡ real → IsAttemptBy trusts on end nodes old left outcome same before after → IfErr r (λ last. own last ≡ outcome) → IfErr r (λ last. KeepsAll on left (disk last))
+      → IfErr r (λ last. IsLastBy trusts real end nodes old (disk last) (own last) same before after)
+  last_after disk own real trusts r is attempt same_outcome rest = subst (λ (m : Meaning). IfErr r (λ last. IsLastBy trusts m end nodes old (disk last) (own last) same before after)) is (last_by disk own trusts r attempt same_outcome rest)
+
+-- the last attempt of a run is the last one that it makes
+pub last_made : (on : Meaning) (end nodes : ℕ) (old new : DiskState) (outcome : Result (Unit {0}) CommandFault) (same : Type 0) (before after : Option (List ℕ)) (trusts : Bool) → IsAttemptBy trusts on end nodes old new outcome same before after → IsLastBy trusts on end nodes old new outcome same before after
+last_made on end nodes old new outcome same before after true tried = tried
+last_made on end nodes old new outcome same before after false attempt = record { left = new; attempt = attempt; rest = same_keeps on new }
+
+-- what an attempt has made is the last one of a run, of a simulation that is this one
+pub made_last : {E F : Type 0} (disk : E → DiskState) (own : E → Result (Unit {0}) CommandFault) (on real : Meaning) (end nodes : ℕ) (old : DiskState) (same : Type 0) (before after : Option (List ℕ)) (trusts : Bool) (r : Result E F) → on ≡ real
+    → IfOk r (λ e. IsAttemptBy trusts on end nodes old (disk e) (own e) same before after) → IfOk r (λ e. IsLastBy trusts real end nodes old (disk e) (own e) same before after)
+made_last disk own on real end nodes old same before after trusts (Ok e) is tried = subst (λ (m : Meaning). IsLastBy trusts m end nodes old (disk e) (own e) same before after) is (last_made on end nodes old (disk e) (own e) same before after trusts tried)
+made_last disk own on real end nodes old same before after trusts (Err f) is tried = tt
+
+-- the simulation of a model that begins with an origin
+pub continued_as : {M : Type 0} (meaning : M → Meaning) {a b : M} {o p : Option Origin} → a ≡ b → o ≡ p → continued (meaning a) o ≡ continued (meaning b) p
+continued_as meaning {b} {o} e f = ap (λ x. continued (meaning x) o) e ∙ ap (λ (q : Option Origin). continued (meaning b) q) f
+
+-- 3. One call more
+
+abbrev returned : Call → Event
+returned c = record { call = c; ending = Returned }
+
+history_then : (m : Meaning) (v w : World) (disk mid : DiskState) (events : List Event) (c : Call) → IsHistoryOfCalls m v disk events w mid → c.begun ≡ mid → IsKept m w c
+    → IsHistoryOfCalls m v disk (events ++ returned c ∷ []) (last_acknowledged w Returned c) c.ended
+history_then m v w disk mid [] c history begun kept = (
+  begun ∙ history.1,
+  subst (λ (u : World). IsKept m u c) history.0 kept,
+  (c.ended, λ image left. left, (ap (λ (u : World). last_acknowledged u Returned c) history.0, refl)),
+)
+history_then m v w disk mid (e ∷ es) c history begun kept = (
+  history.0,
+  history.1,
+  (history.2.0, history.2.1, history_then m (last_acknowledged v e.ending e.call) w history.2.0 mid es c history.2.2 begun kept),
+)
+
+call_more : (m : Meaning) (v : World) (old mid new : DiskState) → AreCalls m v old mid → ((w : World) → (front : Option Simulation) × IsKept m w (record { begun = mid; ended = new; front = front })) → AreCalls m v old new
+call_more m v old mid new calls call =
+    let next = call calls.last in
+    record {
+      events = calls.events ++ returned (record { begun = mid; ended = new; front = next.0 }) ∷ [];
+      last = last_acknowledged calls.last Returned (record { begun = mid; ended = new; front = next.0 });
+      history = history_then m v calls.last old mid calls.events (record { begun = mid; ended = new; front = next.0 }) calls.history refl next.1;
+    }
+
+none_more : (m : Meaning) (v : World) (old mid new : DiskState) → AreCalls m v old mid → KeepsAll m mid new → AreCalls m v old new
+none_more m v old mid new calls keeps = call_more m v old mid new calls (λ w. (None, keeps w))
+
+no_calls : (m : Meaning) (v : World) (disk : DiskState) → AreCalls m v disk disk
+no_calls m v disk = record { events = []; last = v; history = (refl, refl) }
+
+-- 4. The disks of a run
+
+archived_then : (m : Meaning) (end : ℕ) (old : DiskState) (before : List Stretch) (s : Stretch) (next : DiskState) → AreArchived m end old before s.old → IsOnImage m s.old.reads s.on → ((v : World) → AreCalls s.on v s.old s.new) → IsNextDisk s.on end s.new.reads next
+    → AreArchived m end old (before ++ s ∷ []) next
+archived_then m end old [] s next are is_on calls follows = (are, subst (λ (d : DiskState). IsOnImage m d.reads s.on) are is_on, calls, (next, follows, refl))
+archived_then m end old (b ∷ bs) s next are is_on calls follows = (are.0, are.1, are.2, (are.3.0, are.3.1, archived_then m end are.3.0 bs s next are.3.2 is_on calls follows))
+
+module _ (m : Meaning) (end : ℕ) (old : DiskState) where
+  come_first : (origin : Option Origin) → BeginsWith m.lps old.reads origin → HasCome m end old origin old
+  come_first origin begins = record { archived = []; begun = old; are_archived = refl; begins = begins; calls = λ v. no_calls (continued m origin) v old }
+
+  come_more : (origin : Option Origin) (now left new : DiskState) → HasCome m end old origin now → ((v : World) → (front : Option Simulation) × IsKept (continued m origin) v (record { begun = now; ended = left; front = front })) → KeepsAll (continued m origin) left new
+      → HasCome m end old origin new
+  come_more origin now left new come attempt keeps = record {
+    archived = come.archived;
+    begun = come.begun;
+    are_archived = come.are_archived;
+    begins = come.begins;
+    calls = λ v. none_more (continued m origin) v come.begun left new (call_more (continued m origin) v come.begun now left (come.calls v) attempt) keeps;
+  }
+
+  come_next : (origin first : Option Origin) (now left next new : DiskState) → HasCome m end old origin now → ((v : World) → (front : Option Simulation) × IsKept (continued m origin) v (record { begun = now; ended = left; front = front }))
+      → IsNextDisk (continued m origin) end left.reads next → BeginsWith m.lps new.reads first → OnlyLooks next new → HasCome m end old first new
+  come_next origin first now left next new come attempt follows begins looks =
+      let last : Stretch = record { on = continued m origin; old = come.begun; new = left } in
+      record {
+        archived = come.archived ++ last ∷ [];
+        begun = next;
+        are_archived = archived_then m end old come.archived last next come.are_archived (origin, (come.begins, refl)) (λ v. call_more (continued m origin) v come.begun now left (come.calls v) attempt) follows;
+        begins = subst (λ (image : List (List ℕ)). BeginsWith m.lps image first) looks.same begins;
+        calls = λ v. none_more (continued m first) v next next new (no_calls (continued m first) v next) (looks_keep (continued m first) next new looks);
+      }
+
+  -- the same for a run that may trust node programs
+  pub first_by : (trusts : Bool) (origin : Option Origin) → BeginsWith m.lps old.reads origin → HasComeBy trusts m end old origin old
+  first_by true origin begins = tt
+  first_by false origin begins = come_first origin begins
+
+  gone_on : (origin first : Option Origin) (now : DiskState) (next : Next) (new : FileState) → HasCome m end old origin now → IsFollowed (continued m origin) end now next → IsGoneOn m.lps origin next new first → HasCome m end old first (disk_of_file new)
+  gone_on origin first now (Same disk) new come followed is =
+      subst (λ (o : Option Origin). HasCome m end old o (disk_of_file new)) (sym is.1)
+      (subst (λ (d : FileState). HasCome m end old origin (disk_of_file d)) (sym is.0) (come_more origin now followed.left (disk_of_file disk) come followed.attempt followed.goes_on))
+  gone_on origin first now (Other disk) new come followed is = come_next origin first now followed.left (disk_of_file disk) (disk_of_file new) come followed.attempt followed.goes_on is.0 is.1
+
+  pub gone_on_by : (trusts : Bool) (origin first : Option Origin) (now : DiskState) (next : Next) (new : FileState) → HasComeBy trusts m end old origin now → IsFollowedBy trusts (continued m origin) end now next → IsGoneOn m.lps origin next new first
+      → HasComeBy trusts m end old first (disk_of_file new)
+  gone_on_by true origin first now next new come followed is = tt
+  gone_on_by false origin first now next new come followed is = gone_on origin first now next new come followed is
+
+  pub run_by : (trusts : Bool) (origin : Option Origin) (nodes : ℕ) (now new : DiskState) (outcome : Result (Unit {0}) CommandFault) (same : Type 0) (before after : Option (List ℕ)) → HasComeBy trusts m end old origin now → IsLastBy trusts (continued m origin) end nodes now new outcome same before after
+      → IsRunBy trusts m end nodes old new outcome same before after
+  run_by true origin nodes now new outcome same before after come last = last
+  run_by false origin nodes now new outcome same before after come last = record { origin = origin; now = now; come = come; last = last }
+
+  -- after the attempts before it, which have printed nothing, the last one ends the run
+  pub run_after : {A : Type 0} (contents : A → Option (List ℕ)) (first mid last : A) (trusts : Bool) (origin given : Option Origin) (nodes : ℕ) (now new : DiskState) (outcome : Result (Unit {0}) CommandFault) → mid ≡ first → given ≡ origin → HasComeBy trusts m end old origin now
+      → IsLastBy trusts (continued m given) end nodes now new outcome (last ≡ mid) (contents mid) (contents last) → IsRunBy trusts m end nodes old new outcome (last ≡ first) (contents first) (contents last)
+  run_after {A} contents first mid last trusts origin given nodes now new outcome unprinted is come ended =
+      run_by trusts origin nodes now new outcome (last ≡ first) (contents first) (contents last) come
+      (subst (λ (a : A). IsLastBy trusts (continued m origin) end nodes now new outcome (last ≡ a) (contents a) (contents last)) unprinted
+      (subst (λ (o : Option Origin). IsLastBy trusts (continued m o) end nodes now new outcome (last ≡ mid) (contents mid) (contents last)) is ended))
+
+  -- and after one more attempt the run has come to the next disk
+  pub come_after : (trusts : Bool) (origin given first : Option Origin) (now : DiskState) (next : Next) (new : FileState) → given ≡ origin → HasComeBy trusts m end old origin now → IsFollowedBy trusts (continued m given) end now next → IsGoneOn m.lps origin next new first
+      → HasComeBy trusts m end old first (disk_of_file new)
+  come_after trusts origin given first now next new is come followed gone =
+      gone_on_by trusts origin first now next new come (subst (λ (o : Option Origin). IsFollowedBy trusts (continued m o) end now next) is followed) gone
+
+ok_is : {T E : Type 0} {x y : T} → ◌≡◌ {A = Result T E} (Ok x) (Ok y) → x ≡ y
+ok_is e = cc
+
+err_is : {T E : Type 0} {x y : E} → ◌≡◌ {A = Result T E} (Err x) (Err y) → x ≡ y
+err_is e = cc
+
+pub of_ok : {T E : Type 0} (P : T → Type 0) (r : Result T E) {x : T} → r ≡ Ok x → IfOk r P → P x
+of_ok P (Ok x) e h = subst P (ok_is e) h
+of_ok P (Err f) e h = absurd (cc)
+
+pub of_err : {T E : Type 0} (P : E → Type 0) (r : Result T E) {f : E} → r ≡ Err f → IfErr r P → P f
+of_err P (Ok x) e h = absurd (cc)
+of_err P (Err f) e h = subst P (err_is e) h
+
+pub if_ok_so : {T E : Type 0} {P Q : T → Type 0} (r : Result T E) → ((x : T) → P x → Q x) → IfOk r P → IfOk r Q
+if_ok_so (Ok x) so h = so x h
+if_ok_so (Err f) so h = tt
+
+pub on_err_so : {T E X Y : Type 0} (r : Result T E) → (X → Y) → OnErr r X → OnErr r Y
+on_err_so (Ok x) so h = tt
+on_err_so (Err f) so h = so h
+
+-- 5. What a run prints of the model of a file
+
+tried_as : {T : Type 0} (Ran Own Stopped Ended : List ℕ → Type 0) (outcome : Result T CommandFault) (same : Type 0) (old new : Option (List ℕ)) → ((text : List ℕ) → Ran text → Own text) → ((text : List ℕ) → Stopped text → Ended text) → IsTried Ran Stopped outcome same old new
+    → IsTried Own Ended outcome same old new
+tried_as Ran Own Stopped Ended outcome same old new ran stopped tried = record {
+  printed = on_ok_so outcome (λ (p : Prints Ran old new). (p.0, ran p.0 p.1, p.2)) tried.printed;
+  output = λ e. (let p = tried.output e in (p.0, ran p.0 p.1, p.2));
+  unwritten = tried.unwritten;
+  stopped = λ time events e. stopped (stopped_text time events) (tried.stopped time events e);
+}
+
+pub run_tried : {M : Type 0} (meaning : M → Meaning) (says : Describes M) (source : List ℕ) (model : M) (end : ℕ) (file : IsModelFile says source model end) (trusts : Bool) (nodes : ℕ) (begun new : DiskState) (outcome : Result (Unit {0}) CommandFault) (same : Type 0) (before after : Option (List ℕ))
+    → IsRunBy trusts (meaning model) end nodes begun new outcome same before after → IsTried (IsRanAs meaning says trusts nodes) (IsStoppedAs meaning says trusts) outcome same before after
+run_tried meaning says source model end file true nodes begun new outcome same before after tried = tried_as (IsRanAsReported end nodes) (IsRanBehind says nodes) (IsStoppedAsReported end) (IsStoppedBehind says) outcome same before after
+    (λ text is. record { source = source; model = model; end = end; file = file; ran = is }) (λ text is. record { source = source; model = model; end = end; file = file; stopped = is }) tried
+run_tried meaning says source model end file false nodes begun new outcome same before after run =
+    let last = run.last in
+    let on = continued (meaning model) run.origin in
+    tried_as (IsRanOn on end nodes run.now last.left) (IsRan meaning says nodes) (IsStoppedOn on end run.now last.left) (IsStoppedText meaning says) outcome same before after
+    (λ text is. record { source = source; model = model; end = end; file = file; begun = begun; origin = run.origin; now = run.now; come = run.come; left = last.left; ran = is })
+    (λ text is. record { source = source; model = model; end = end; file = file; begun = begun; origin = run.origin; now = run.now; come = run.come; left = last.left; stopped = is }) last.attempt.tried

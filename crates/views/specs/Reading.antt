@@ -1,0 +1,160 @@
+-- What the read-only commands print by their arguments, of a disk that may be a segment.
+use Rattle.std.specs.Prelude.{◌≡◌, ℕ, Bool, List, [], ◌++◌, None, Option, Some, codes, decimal}
+use Rattle.std.specs.Prelude.{false, length, true}
+use Rattle.segments.specs.Archiving.{IsBegunAt, IsOriginOn, events_before}
+use Rattle.cli.specs.declared.command.DrawArgs.{DrawArgs}
+use Rattle.cli.specs.declared.command.LogArgs.{LogArgs}
+use Rattle.cli.specs.declared.command.StatsArgs.{StatsArgs}
+use Rattle.cli.specs.declared.command.VerifyArgs.{VerifyArgs}
+use Rattle.upkeep.specs.Inspected.{IsInspected}
+use Rattle.upkeep.specs.Text.{inspection_text}
+use Rattle.upkeep.specs.declared.inspection.inspecting.Inspection.{Inspection}
+use Rattle.model.specs.Meaning.{Meaning}
+use Rattle.model.specs.Origins.{as_origin}
+use Rattle.model.specs.World.{World}
+use Rattle.model.specs.declared.origin.Origin.{Origin}
+use Rattle.texts.specs.ModelFile.{IsModelFile}
+use Rattle.upkeep.specs.Verified.{IsOfWorld}
+use Rattle.upkeep.specs.declared.verifying.Verified.{Verified}
+pub use Rattle.views.specs.Beginnings.{BeginsInRow, BeginsWith, IsFrontOn, IsOn, IsOnRow}
+use Rattle.views.specs.Views.{Describes, IsCourse, IsDrawn, IsLogged, IsNamed, IsShown, IsSomeChecked, IsStats}
+use Rattle.views.specs.Views.{IsWholeSimulation, Shows, verified_text}
+use Rattle.views.specs.declared.looks.Look.{Look}
+use Rattle.views.specs.declared.looks.Look.TheVariants.{Check, Draw, Log, Seq, Show, Stats, Status, Verify}
+
+-- what `draw` prints: the picture of a run, or the course in a trace
+abbrev pub IsPicture : {M : Type 0} → (M → Meaning) → Describes M → DrawArgs → {S : Type 0} →
+    Option S → List ℕ → Type 0
+IsPicture meaning says args None text =
+    IsDrawn meaning says args.of.disk args.load args.from args.to args.processes text
+IsPicture meaning says args (Some trace) text = IsCourse text
+
+-- The time from which a segment goes on and the number of events before it, for its origin.
+pub record IsBegun (lps : ℕ) (image : List (List ℕ)) (o : Origin) (time events : ℕ) : Type 0 where
+  pub begins : IsOriginOn lps image (Some o)
+  pub at : IsBegunAt image time
+  pub events_are : events ≡ events_before o.numbers (length o.pending)
+
+-- the lines of `status` on a segment
+abbrev pub origin_text : ℕ → ℕ → List ℕ
+origin_text time events =
+    (codes "origin " ++ decimal time) ++ (codes "\nevents before " ++ decimal events) ++ codes "\n"
+
+-- none of them without an origin
+abbrev pub lines_text : Option (ℕ × ℕ) → List ℕ
+lines_text None = []
+lines_text (Some (time, events)) = origin_text time events
+
+-- the lines behind those of a disk that begins as its model does, and behind those of a segment
+abbrev pub IsOriginText : ℕ → List (List ℕ) → Option Origin → List ℕ → Type 0
+IsOriginText lps image None text = text ≡ []
+IsOriginText lps image (Some o) text =
+    (time : ℕ) × (events : ℕ) × IsBegun lps image o time events × (text ≡ origin_text time events)
+
+-- The text of the inspection of a disk, and of its origin if it has one.
+pub record IsStatusText {M : Type 0} (meaning : M → Meaning) (says : Describes M)
+    (text : List ℕ) : Type 0 where
+  pub source : List ℕ
+  pub model : M
+  pub end : ℕ
+  pub image : List (List ℕ)
+  pub origin : Option Origin
+  pub on : Meaning
+  pub found_there : Inspection
+  pub behind : List ℕ
+  pub file : IsModelFile says source model end
+  pub is_on : IsOn (meaning model) image origin on
+  pub inspected : IsInspected on end image found_there
+  pub behind_is : IsOriginText (meaning model).lps image origin behind
+  pub is : text ≡ inspection_text found_there ++ behind
+
+-- the line of `verify` on a segment whose origin is believed, and on one that goes on from another
+-- disk
+abbrev pub believed_text : ℕ → List ℕ
+believed_text time = (codes "from the origin at " ++ decimal time) ++ codes "\n"
+
+-- nothing without an origin
+abbrev pub believed_line : Option ℕ → List ℕ
+believed_line None = []
+believed_line (Some time) = believed_text time
+
+-- The line of a disk whose origin is believed, by which times are those from which it goes on.
+abbrev pub IsBelieved : (ℕ → Type 0) → Option Origin → List ℕ → Type 0
+IsBelieved At None line = line ≡ []
+IsBelieved At (Some o) line = (time : ℕ) × At time × (line ≡ believed_text time)
+
+abbrev pub followed_text : ℕ → ℕ → List ℕ
+followed_text time events = (codes "goes on from " ++ decimal time)
+    ++ (codes " events " ++ decimal events) ++ codes "\n"
+
+-- The image of a segment goes on from the world to which the image of the disk before it is
+-- replayed.
+pub record GoesOn (m : Meaning) (end : ℕ) (image : List (List ℕ)) (o : Origin) (time events : ℕ) :
+    Type 0 where
+  pub world : World
+  pub front : IsFrontOn m end world
+  pub same : as_origin world ≡ o
+  pub later : time ≡ world.time
+  pub begun : IsBegun m.lps image o time events
+
+-- the line by what is known of the origin: its time, and the events before it if it is not believed
+abbrev pub line_text : Option (ℕ × Option ℕ) → List ℕ
+line_text None = []
+line_text (Some (time, None)) = believed_text time
+line_text (Some (time, Some events)) = followed_text time events
+
+-- the line behind those of a verified disk
+abbrev pub IsLineBehind : Meaning → ℕ → {S : Type 0} → Option S → List (List ℕ) → Option Origin →
+    List ℕ → Type 0
+IsLineBehind m end None image None line = line ≡ []
+IsLineBehind m end None image (Some o) line =
+    (time : ℕ) × (events : ℕ) × IsBegun m.lps image o time events × (line ≡ believed_text time)
+IsLineBehind m end (Some before) image None line = ⊥
+IsLineBehind m end (Some before) image (Some o) line = (time : ℕ) × (events : ℕ)
+    × GoesOn m end image o time events × (line ≡ followed_text time events)
+
+-- The text of the world that the image of a disk represents, and of its origin. A checkpoint in it,
+-- but for the origin, holds what the records before it reach.
+pub record IsVerifiedAs {M S : Type 0} (meaning : M → Meaning) (says : Describes M)
+    (after : Option S) (text : List ℕ) : Type 0 where
+  pub source : List ℕ
+  pub model : M
+  pub end : ℕ
+  pub image : List (List ℕ)
+  pub origin : Option Origin
+  pub on : Meaning
+  pub seen : Verified
+  pub line : List ℕ
+  pub file : IsModelFile says source model end
+  pub is_on : IsOn (meaning model) image origin on
+  pub of_world : IsOfWorld on end image seen
+  pub line_is : IsLineBehind (meaning model) end after image origin line
+  pub is : text ≡ verified_text seen ++ line
+
+abbrev pub IsVerifiedBy : {M : Type 0} → (M → Meaning) → Describes M → VerifyArgs → List ℕ → Type 0
+IsVerifiedBy meaning says args = IsVerifiedAs meaning says args.after
+
+-- what `log`, `show` and `stats` print, with the model's names or without them
+abbrev pub IsLoggedAs : {M : Type 0} → (M → Meaning) → Describes M → Bool → LogArgs → List ℕ → Type 0
+IsLoggedAs meaning says true args = IsNamed
+IsLoggedAs meaning says false args = IsLogged meaning says args.from args.to args.process
+
+abbrev pub IsShownAs : {M : Type 0} → (M → Meaning) → Describes M → Bool → List ℕ → Type 0
+IsShownAs meaning says true = IsNamed
+IsShownAs meaning says false = IsShown meaning says
+
+abbrev pub IsStatsAs : {M : Type 0} → (M → Meaning) → Describes M → Bool → StatsArgs → List ℕ →
+    Type 0
+IsStatsAs meaning says true args = IsNamed
+IsStatsAs meaning says false args = IsStats meaning says args.of.disk args.csv
+
+-- what a command that only reads prints
+abbrev pub IsSeen : {M : Type 0} → (M → Meaning) → Describes M → Shows M → Look → List ℕ → Type 0
+IsSeen meaning says shows (Status args) text = IsStatusText meaning says text
+IsSeen meaning says shows (Verify args) text = IsVerifiedBy meaning says args text
+IsSeen meaning says shows (Log args) text = IsLoggedAs meaning says args.names args text
+IsSeen meaning says shows (Show args) text = IsShownAs meaning says args.names text
+IsSeen meaning says shows (Stats args) text = IsStatsAs meaning says args.names args text
+IsSeen meaning says shows (Draw args) text = IsPicture meaning says args args.trace text
+IsSeen meaning says shows (Seq args) text = IsWholeSimulation meaning says text
+IsSeen meaning says shows (Check args) text = IsSomeChecked says shows text

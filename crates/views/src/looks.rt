@@ -1,0 +1,67 @@
+// The commands that only read, as one call.
+
+ghost use Rattle.std.specs.Prelude.{◌≡◌, ◌⊎◌, OnErr, OnOk};
+ghost use Rattle.views.specs.Reading.{IsSeen};
+ghost use Rattle.views.specs.Views.{Begins, Prints};
+
+use crate::fault::ViewFault;
+use crate::files::{Wrong, check_of, seq_of};
+use crate::reading::{Shows, draw_on, log_on, show_on, stats_on, status_on, verify_on};
+use cli::{DiskArgs, DrawArgs, LogArgs, ModelArgs, ShowArgs, StatsArgs, VerifyArgs};
+use std::fs::File;
+use std::io::Write;
+use std::rt::Files;
+use texts::Described;
+
+/// A command that only reads, with its arguments.
+#[derive(Clone, Copy, Debug, PartialEq, Eq)]
+pub enum Look<'a> {
+    /// How far the run on a disk has come, and how much room is left.
+    Status(DiskArgs<'a>),
+    /// Whether a disk holds what its records say.
+    Verify(VerifyArgs<'a>),
+    /// The committed events on a disk.
+    Log(LogArgs<'a>),
+    /// The committed world of a disk.
+    Show(ShowArgs<'a>),
+    /// The figures of a run.
+    Stats(StatsArgs<'a>),
+    /// The picture of a run.
+    Draw(DrawArgs<'a>),
+    /// The log and the world of a run by the plain runner.
+    Seq(ModelArgs<'a>),
+    /// Whether a file is a model file.
+    Check(ModelArgs<'a>),
+}
+
+/// Runs a command that only reads. `watch` watches a verification. If `check` finds a mistake in a
+/// model file, `found` gets the file and all of them.
+pub fn look_at<M, R, W, O>(
+    rt: &R,
+    look: Look<'_>,
+    watch: &mut W,
+    out: &mut O,
+    found: &mut Option<Wrong>,
+) -> Result<(), ViewFault>
+where
+    M: Described,
+    R: Files<File = File> + AllocGlobal,
+    W: Shows,
+    O: Write,
+    ensures ok { OnOk result (Prints (IsSeen M.meaning M.says M.shows look.entry)
+        (O.contents out.old) (O.contents out.new)) }
+    ensures err { OnErr result ((out.new ≡ out.old)
+        ⊎ Begins (IsSeen M.meaning M.says M.shows look.entry)
+        (O.contents out.old) (O.contents out.new)) }
+{
+    match look {
+        Look::Status(args) => status_on::<M, R, O>(rt, args, out),
+        Look::Verify(args) => verify_on::<M, R, W, O>(rt, args, watch, out),
+        Look::Log(args) => log_on::<M, R, O>(rt, args, out),
+        Look::Show(args) => show_on::<M, R, O>(rt, args, out),
+        Look::Stats(args) => stats_on::<M, R, O>(rt, args, out),
+        Look::Draw(args) => draw_on::<M, R, O>(rt, args, out),
+        Look::Seq(args) => seq_of::<M, R, O>(rt, args.model, out),
+        Look::Check(args) => check_of::<M, R, O>(rt, args.model, out, found),
+    }
+}
