@@ -6,6 +6,7 @@ mod findings;
 mod inside;
 mod mistakes;
 mod model_file;
+mod names;
 mod naming;
 mod printable;
 mod report;
@@ -20,6 +21,7 @@ pub use mistakes::{Mistakes, find_mistakes};
 pub use model_file::{
     Described, LONGEST_MODEL_FILE, Mistake, ModelFault, number_at, only, read_model, string_at,
 };
+pub use names::{Column, Kind, Names, Sort};
 pub use printable::Printable;
 pub use report::Report;
 pub use settings::{SettingFault, SettingsFault, with_settings};

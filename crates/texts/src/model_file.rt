@@ -8,6 +8,7 @@ ghost use Rattle.toml.specs.View.{table_view};
 ghost use Rattle.texts.specs.ModelFile.{in_range, number_at, unknown_wrong, IsModelFile, Wrong};
 
 use crate::findings::{Findings, is_among};
+use crate::names::Names;
 use model::Model as Simulated;
 use std::alloc::{AllocError, Global};
 use thiserror::Error;
@@ -102,15 +103,10 @@ pub trait Described: Simulated + Drop {
     fn values(&self, alloc: Global, end: u64) -> Result<String, AllocError>
         ensures { IfOk result (λ text. string_bytes text ≡ shows self.now end) };
 
-    /// Returns the names of the words of a state, by their places. The words behind them have none.
-    fn state_names(&self) -> &[String] {
-        &[]
-    }
-
-    /// Returns the names of the words of a message's content, by their places. The words behind
-    /// them have none.
-    fn content_names(&self) -> &[String] {
-        &[]
+    /// Returns the names that the model gives to its processes, states and messages, if it gives
+    /// some. Commands print them; they do not change what the model does.
+    fn names(&self) -> Option<&Names> {
+        None
     }
 }
 

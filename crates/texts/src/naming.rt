@@ -66,7 +66,7 @@ fn part_of<'a>(part: Part, line: &'a str, list: &str) -> (Part, Option<&'a str>)
     let begin = line.trim_start();
     match part {
         Part::Value => (
-            if line.contains(']') {
+            if is_closed(line) {
                 Part::Other
             } else {
                 Part::Value
@@ -116,7 +116,28 @@ fn behind_list<'a>(line: &'a str, list: &str) -> Option<&'a str> {
 
 /// Whether a list begins that does not end on this line.
 fn is_open(value: &str) -> bool {
-    value.starts_with('[') && !value.contains(']')
+    value.starts_with('[') && !is_closed(value)
+}
+
+/// Whether a list ends on a line: a bracket closes it, outside of quotes and before a comment.
+fn is_closed(line: &str) -> bool {
+    let mut quote = None;
+    for letter in line.chars() {
+        match quote {
+            Some(mark) => {
+                if letter == mark {
+                    quote = None;
+                }
+            }
+            None => match letter {
+                ']' => return true,
+                '#' => return false,
+                '"' | '\'' => quote = Some(letter),
+                _ => {}
+            },
+        }
+    }
+    false
 }
 
 /// The number of names on a line that are compared, so that a long line costs hardly more than a
