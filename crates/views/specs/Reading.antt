@@ -3,7 +3,10 @@ use Rattle.std.specs.Prelude.{◌≡◌, ℕ, Bool, List, [], ◌++◌, None, Op
 use Rattle.std.specs.Prelude.{false, length, true}
 use Rattle.segments.specs.Archiving.{IsBegunAt, IsOriginOn, events_before}
 use Rattle.cli.specs.declared.command.DrawArgs.{DrawArgs}
+use Rattle.cli.specs.declared.command.Format.{Format}
+use Rattle.cli.specs.declared.command.Format.TheVariants as format
 use Rattle.cli.specs.declared.command.LogArgs.{LogArgs}
+use Rattle.cli.specs.declared.command.ShowArgs.{ShowArgs}
 use Rattle.cli.specs.declared.command.StatsArgs.{StatsArgs}
 use Rattle.cli.specs.declared.command.VerifyArgs.{VerifyArgs}
 use Rattle.upkeep.specs.Inspected.{IsInspected}
@@ -17,10 +20,11 @@ use Rattle.texts.specs.ModelFile.{IsModelFile}
 use Rattle.upkeep.specs.Verified.{IsOfWorld}
 use Rattle.upkeep.specs.declared.verifying.Verified.{Verified}
 pub use Rattle.views.specs.Beginnings.{BeginsInRow, BeginsWith, IsFrontOn, IsOn, IsOnRow}
-use Rattle.views.specs.Views.{Describes, IsCourse, IsDrawn, IsLogged, IsNamed, IsShown, IsSomeChecked, IsStats}
-use Rattle.views.specs.Views.{IsWholeSimulation, Shows, verified_text}
+use Rattle.views.specs.Views.{Describes, IsCourse, IsDrawn, IsLogged, IsNamed, IsPending, IsShown}
+use Rattle.views.specs.Views.{IsSimulationBy, IsSomeChecked, IsStats, Shows, verified_text}
 use Rattle.views.specs.declared.looks.Look.{Look}
-use Rattle.views.specs.declared.looks.Look.TheVariants.{Check, Draw, Log, Seq, Show, Stats, Status, Verify}
+use Rattle.views.specs.declared.looks.Look.TheVariants.{Check, Draw, Info, Log, Seq, Show, Stats}
+use Rattle.views.specs.declared.looks.Look.TheVariants.{Status, Verify}
 
 -- what `draw` prints: the picture of a run, or the course in a trace
 abbrev pub IsPicture : {M : Type 0} → (M → Meaning) → Describes M → DrawArgs → {S : Type 0} →
@@ -28,6 +32,12 @@ abbrev pub IsPicture : {M : Type 0} → (M → Meaning) → Describes M → Draw
 IsPicture meaning says args None text =
     IsDrawn meaning says args.of.disk args.load args.from args.to args.processes text
 IsPicture meaning says args (Some trace) text = IsCourse text
+
+-- what `draw` prints: a value change dump, which scripts hold, or a picture
+abbrev pub IsDrawnBy : {M : Type 0} → (M → Meaning) → Describes M → Bool → DrawArgs → List ℕ →
+    Type 0
+IsDrawnBy meaning says true args = IsNamed
+IsDrawnBy meaning says false args = IsPicture meaning says args args.trace
 
 -- The time from which a segment goes on and the number of events before it, for its origin.
 pub record IsBegun (lps : ℕ) (image : List (List ℕ)) (o : Origin) (time events : ℕ) : Type 0 where
@@ -67,6 +77,12 @@ pub record IsStatusText {M : Type 0} (meaning : M → Meaning) (says : Describes
   pub inspected : IsInspected on end image found_there
   pub behind_is : IsOriginText (meaning model).lps image origin behind
   pub is : text ≡ inspection_text found_there ++ behind
+
+-- what `status` prints in a format
+abbrev pub IsStatusBy : {M : Type 0} → (M → Meaning) → Describes M → Format → List ℕ → Type 0
+IsStatusBy meaning says format.Text = IsStatusText meaning says
+IsStatusBy meaning says format.Csv = IsNamed
+IsStatusBy meaning says format.Json = IsNamed
 
 -- the line of `verify` on a segment whose origin is believed, and on one that goes on from another
 -- disk
@@ -134,27 +150,54 @@ pub record IsVerifiedAs {M S : Type 0} (meaning : M → Meaning) (says : Describ
 abbrev pub IsVerifiedBy : {M : Type 0} → (M → Meaning) → Describes M → VerifyArgs → List ℕ → Type 0
 IsVerifiedBy meaning says args = IsVerifiedAs meaning says args.after
 
--- what `log`, `show` and `stats` print, with the model's names or without them
+-- what `log`, `show` and `stats` print as text, with the model's names or without them
 abbrev pub IsLoggedAs : {M : Type 0} → (M → Meaning) → Describes M → Bool → LogArgs → List ℕ → Type 0
 IsLoggedAs meaning says true args = IsNamed
 IsLoggedAs meaning says false args = IsLogged meaning says args.from args.to args.process
 
-abbrev pub IsShownAs : {M : Type 0} → (M → Meaning) → Describes M → Bool → List ℕ → Type 0
-IsShownAs meaning says true = IsNamed
-IsShownAs meaning says false = IsShown meaning says
+abbrev pub IsShownAs : {M : Type 0} → (M → Meaning) → Describes M → Bool → Bool → List ℕ → Type 0
+IsShownAs meaning says true pending = IsNamed
+IsShownAs meaning says false true = IsPending meaning says
+IsShownAs meaning says false false = IsShown meaning says
 
-abbrev pub IsStatsAs : {M : Type 0} → (M → Meaning) → Describes M → Bool → StatsArgs → List ℕ →
+abbrev pub IsStatsWith : {M S : Type 0} → (M → Meaning) → Describes M → Bool → Option S → Bool →
+    List ℕ → Type 0
+IsStatsWith meaning says true disk csv = IsNamed
+IsStatsWith meaning says false disk csv = IsStats meaning says disk csv
+
+-- and in a format
+abbrev pub IsLoggedBy : {M : Type 0} → (M → Meaning) → Describes M → Format → LogArgs → List ℕ →
     Type 0
-IsStatsAs meaning says true args = IsNamed
-IsStatsAs meaning says false args = IsStats meaning says args.of.disk args.csv
+IsLoggedBy meaning says format.Text args = IsLoggedAs meaning says args.names args
+IsLoggedBy meaning says format.Csv args = IsNamed
+IsLoggedBy meaning says format.Json args = IsNamed
+
+abbrev pub IsShownBy : {M : Type 0} → (M → Meaning) → Describes M → Format → ShowArgs → List ℕ →
+    Type 0
+IsShownBy meaning says format.Text args = IsShownAs meaning says args.names args.pending
+IsShownBy meaning says format.Csv args = IsNamed
+IsShownBy meaning says format.Json args = IsNamed
+
+abbrev pub IsStatsIn : {M : Type 0} → (M → Meaning) → Describes M → Format → StatsArgs → List ℕ →
+    Type 0
+IsStatsIn meaning says format.Text args = IsStatsWith meaning says args.names args.of.disk false
+IsStatsIn meaning says format.Csv args = IsStatsWith meaning says args.names args.of.disk true
+IsStatsIn meaning says format.Json args = IsNamed
+
+-- what `stats` prints: one table, or the figures of the run
+abbrev pub IsStatsBy : {M T : Type 0} → (M → Meaning) → Describes M → Option T → StatsArgs →
+    List ℕ → Type 0
+IsStatsBy meaning says (Some table) args = IsNamed
+IsStatsBy meaning says None args = IsStatsIn meaning says args.format args
 
 -- what a command that only reads prints
 abbrev pub IsSeen : {M : Type 0} → (M → Meaning) → Describes M → Shows M → Look → List ℕ → Type 0
-IsSeen meaning says shows (Status args) text = IsStatusText meaning says text
+IsSeen meaning says shows (Status args) text = IsStatusBy meaning says args.format text
+IsSeen meaning says shows (Info args) text = IsNamed text
 IsSeen meaning says shows (Verify args) text = IsVerifiedBy meaning says args text
-IsSeen meaning says shows (Log args) text = IsLoggedAs meaning says args.names args text
-IsSeen meaning says shows (Show args) text = IsShownAs meaning says args.names text
-IsSeen meaning says shows (Stats args) text = IsStatsAs meaning says args.names args text
-IsSeen meaning says shows (Draw args) text = IsPicture meaning says args args.trace text
-IsSeen meaning says shows (Seq args) text = IsWholeSimulation meaning says text
+IsSeen meaning says shows (Log args) text = IsLoggedBy meaning says args.format args text
+IsSeen meaning says shows (Show args) text = IsShownBy meaning says args.format args text
+IsSeen meaning says shows (Stats args) text = IsStatsBy meaning says args.table args text
+IsSeen meaning says shows (Draw args) text = IsDrawnBy meaning says args.vcd args text
+IsSeen meaning says shows (Seq args) text = IsSimulationBy meaning says args.format text
 IsSeen meaning says shows (Check args) text = IsSomeChecked says shows text

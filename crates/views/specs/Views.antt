@@ -3,6 +3,8 @@ use Rattle.std.specs.Io.KnownBytes.{Appends}
 use Rattle.std.specs.Prelude.{◌≡◌, ◌^◌, ◌-◌, ◌&&◌, ℕ, Bool, true, false, List}
 use Rattle.std.specs.Prelude.{◌++◌, None, Option, Some, codes, decimal, filter, map, if◌then◌else◌}
 use Rattle.std.specs.Prelude.{◌⊎◌, [], is_none, unwrap_or, ⊤}
+use Rattle.cli.specs.declared.command.Format.{Format}
+use Rattle.cli.specs.declared.command.Format.TheVariants as format
 use Rattle.disk.specs.declared.file.FileFault.{FileFault}
 use Rattle.disk.specs.declared.file.FileFault.TheVariants as opening
 use Rattle.eventkey.specs.Message.{Message}
@@ -60,7 +62,12 @@ Prints is old new = (text : List ℕ) × is text × Appends old new text
 abbrev pub Begins : (List ℕ → Type 0) → Option (List ℕ) → Option (List ℕ) → Type 0
 Begins is old new = (text : List ℕ) × is text × TakesBeginning old new text
 
--- a text with the names that a model has for its words: any text, since scripts hold it
+-- the writer has taken some text and nothing else, as a part of one that scripts hold
+pub record Grows (old new : Option (List ℕ)) : Type 0 where
+  pub taken : List ℕ
+  pub appended : Appends old new taken
+
+-- a table, or a text with the names that a model has for its words: any text, since scripts hold it
 abbrev pub IsNamed : List ℕ → Type 0
 IsNamed text = ⊤
 
@@ -166,6 +173,10 @@ abbrev pub IsLogged : {M : Type 0} → (M → Meaning) → Describes M → Optio
 IsLogged meaning says from to process =
     IsCommitted meaning says (λ w. log_text (log_part from to process w.log))
 
+-- the messages that are not handled, as events of a log are written
+abbrev pub IsPending : {M : Type 0} → (M → Meaning) → Describes M → List ℕ → Type 0
+IsPending meaning says = IsCommitted meaning says (λ w. log_text w.pending)
+
 -- the world
 abbrev pub IsShown : {M : Type 0} → (M → Meaning) → Describes M → List ℕ → Type 0
 IsShown meaning says = IsCommitted meaning says world_text
@@ -242,6 +253,12 @@ pub record IsWholeSimulation {M : Type 0} (meaning : M → Meaning) (says : Desc
   pub file : IsModelFile says source model end
   pub upto : IsUpto (meaning model) end end world
   pub is : text ≡ run_text world
+
+-- what `seq` prints in a format
+abbrev pub IsSimulationBy : {M : Type 0} → (M → Meaning) → Describes M → Format → List ℕ → Type 0
+IsSimulationBy meaning says format.Text = IsWholeSimulation meaning says
+IsSimulationBy meaning says format.Csv = IsNamed
+IsSimulationBy meaning says format.Json = IsNamed
 
 -- `ok`, then the values of a model file
 abbrev pub checked_text : List ℕ → List ℕ

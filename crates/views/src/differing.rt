@@ -176,3 +176,16 @@ impl fmt::Display for Simulation {
         write!(f, ", end {}", self.end)
     }
 }
+
+/// The words, with blanks between.
+impl fmt::Display for Identity {
+    fn fmt<W: fmt::Write>(&self, f: &mut fmt::Formatter<W>) -> fmt::Result {
+        for (place, word) in self.words.iter().take(self.count).enumerate() {
+            if place > 0 {
+                f.write_str(" ")?;
+            }
+            write!(f, "{word}")?;
+        }
+        Ok(())
+    }
+}

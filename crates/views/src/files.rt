@@ -6,12 +6,14 @@ ghost use Rattle.std.specs.Str.{IsUtf8};
 ghost use Rattle.eventkey.specs.Writing.{Writes};
 ghost use Rattle.texts.specs.Mistakes.{AreMistakes};
 ghost use Rattle.texts.specs.ModelFile.{IsModelFile};
-ghost use Rattle.views.specs.Views.{checked_text, run_text, world_in, Begins, IsChecked};
-ghost use Rattle.views.specs.Views.{IsSetIn, IsSomeChecked, IsWholeSimulation, Prints, PrintsBeginning, PrintsRun};
+ghost use Rattle.views.specs.Views.{checked_text, run_text, world_in, Begins, IsChecked, IsNamed};
+ghost use Rattle.views.specs.Views.{IsSetIn, IsSimulationBy, IsSomeChecked, IsWholeSimulation};
+ghost use Rattle.views.specs.Views.{Prints, PrintsBeginning, PrintsRun};
 ghost use Rattle.views.specs.declared.fault.ViewFault.TheVariants.{Output};
 
 use crate::fault::{ViewFault, unreadable};
-use cli::{ModelFile, Settings};
+use crate::looking::{ALL, print_events};
+use cli::{Format, ModelFile, SeqArgs, Settings};
 use disk::FileDisk;
 use model::{World, WorldFault, WorldParts};
 use std::alloc::Global;
@@ -24,8 +26,27 @@ use texts::{
     read_model, with_settings, write_log, write_text, write_world,
 };
 
+/// Runs the model of a file by the plain runner, and writes the log and then the world; or the log
+/// alone as a table.
+pub(crate) fn seq_on<M, R, O>(rt: &R, args: SeqArgs<'_>, out: &mut O) -> Result<(), ViewFault>
+where
+    M: Described,
+    R: Files + AllocGlobal,
+    O: Write,
+    ensures ok { OnOk result (Prints (IsSimulationBy M.meaning M.says args.entry.format)
+        (O.contents out.old) (O.contents out.new)) }
+    ensures err { OnErr result ((out.new ≡ out.old)
+        ⊎ Begins (IsSimulationBy M.meaning M.says args.entry.format)
+        (O.contents out.old) (O.contents out.new)) }
+{
+    match args.format {
+        Format::Text => seq_of::<M, R, O>(rt, args.model, out),
+        Format::Csv | Format::Json => seq_table_of::<M, R, O>(rt, args.model, args.format, out),
+    }
+}
+
 /// Runs the model of a file by the plain runner, and writes the log and then the world.
-pub(crate) fn seq_of<M, R, O>(rt: &R, model: ModelFile<'_>, out: &mut O) -> Result<(), ViewFault>
+fn seq_of<M, R, O>(rt: &R, model: ModelFile<'_>, out: &mut O) -> Result<(), ViewFault>
 where
     M: Described,
     R: Files + AllocGlobal,
@@ -38,6 +59,35 @@ where
     let bytes = read_text(rt, model)?;
     let text = text_of(bytes.as_slice()).map_err(ModelFault::BadModel)?;
     seq::<M, O>(rt.alloc(), text, out)
+}
+
+/// Runs the model of a file by the plain runner, and writes the log as a table.
+fn seq_table_of<M, R, O>(
+    rt: &R,
+    file: ModelFile<'_>,
+    format: Format,
+    out: &mut O,
+) -> Result<(), ViewFault>
+where
+    M: Described,
+    R: Files + AllocGlobal,
+    O: Write,
+    ensures ok { OnOk result (Prints IsNamed (O.contents out.old) (O.contents out.new)) }
+    ensures err { OnErr result ((out.new ≡ out.old)
+        ⊎ Begins IsNamed (O.contents out.old) (O.contents out.new)) }
+{
+    let (model, end): (M, u64) = read_model_file(rt, file)?;
+    let mut world = World::open(rt.alloc(), &model, end)?;
+    world.run_to(&model, end)?;
+    let parts = world.into_parts();
+    print_events(
+        rt.alloc(),
+        parts.log.as_slice(),
+        ALL,
+        model.names(),
+        format,
+        out,
+    )
 }
 
 /// A file that is not a model file: what it holds, and all its mistakes.

@@ -6,10 +6,16 @@ mod beginnings;
 mod differing;
 mod fault;
 mod files;
+mod info;
+mod levels;
 mod looking;
 mod looks;
 mod named;
 mod reading;
+mod rows;
+mod statistics;
+mod tables;
+mod totals;
 
 pub use beginnings::{Beginning, Begun, events_before_origin, front_of, write_believed_line};
 pub use differing::{Difference, Identity, Simulation, committed_on, difference_of, simulation_in};

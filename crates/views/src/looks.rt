@@ -5,9 +5,12 @@ ghost use Rattle.views.specs.Reading.{IsSeen};
 ghost use Rattle.views.specs.Views.{Begins, Prints};
 
 use crate::fault::ViewFault;
-use crate::files::{Wrong, check_of, seq_of};
+use crate::files::{Wrong, check_of, seq_on};
+use crate::info::info_on;
 use crate::reading::{Shows, draw_on, log_on, show_on, stats_on, status_on, verify_on};
-use cli::{DiskArgs, DrawArgs, LogArgs, ModelArgs, ShowArgs, StatsArgs, VerifyArgs};
+use cli::{
+    DrawArgs, InfoArgs, LogArgs, ModelArgs, SeqArgs, ShowArgs, StatsArgs, StatusArgs, VerifyArgs,
+};
 use std::fs::File;
 use std::io::Write;
 use std::rt::Files;
@@ -17,7 +20,9 @@ use texts::Described;
 #[derive(Clone, Copy, Debug, PartialEq, Eq)]
 pub enum Look<'a> {
     /// How far the run on a disk has come, and how much room is left.
-    Status(DiskArgs<'a>),
+    Status(StatusArgs<'a>),
+    /// What a disk is, without its model file.
+    Info(InfoArgs<'a>),
     /// Whether a disk holds what its records say.
     Verify(VerifyArgs<'a>),
     /// The committed events on a disk.
@@ -29,7 +34,7 @@ pub enum Look<'a> {
     /// The picture of a run.
     Draw(DrawArgs<'a>),
     /// The log and the world of a run by the plain runner.
-    Seq(ModelArgs<'a>),
+    Seq(SeqArgs<'a>),
     /// Whether a file is a model file.
     Check(ModelArgs<'a>),
 }
@@ -56,12 +61,13 @@ where
 {
     match look {
         Look::Status(args) => status_on::<M, R, O>(rt, args, out),
+        Look::Info(args) => info_on::<R, O>(rt, args, out),
         Look::Verify(args) => verify_on::<M, R, W, O>(rt, args, watch, out),
         Look::Log(args) => log_on::<M, R, O>(rt, args, out),
         Look::Show(args) => show_on::<M, R, O>(rt, args, out),
         Look::Stats(args) => stats_on::<M, R, O>(rt, args, out),
         Look::Draw(args) => draw_on::<M, R, O>(rt, args, out),
-        Look::Seq(args) => seq_of::<M, R, O>(rt, args.model, out),
+        Look::Seq(args) => seq_on::<M, R, O>(rt, args, out),
         Look::Check(args) => check_of::<M, R, O>(rt, args.model, out, found),
     }
 }
