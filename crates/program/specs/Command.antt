@@ -22,8 +22,8 @@ use Rattle.cli.specs.Command.{Says}
 use Rattle.cli.specs.declared.command.BatchOption.{BatchOption}
 use Rattle.cli.specs.declared.command.BatchOption.TheVariants.{Auto, Fixed}
 use Rattle.cli.specs.declared.command.Command.{Command}
-use Rattle.cli.specs.declared.command.Command.TheVariants.{Check, Cut, Draw, Extend, Grow, Log}
-use Rattle.cli.specs.declared.command.Command.TheVariants.{Migrate, Recover}
+use Rattle.cli.specs.declared.command.Command.TheVariants.{Check, Cut, Draw, Extend, Grow, Info}
+use Rattle.cli.specs.declared.command.Command.TheVariants.{Log, Migrate, Recover}
 use Rattle.cli.specs.declared.command.Command.TheVariants.{New, Node, Reopen, Run, Seq, Show, Stats, Status, Verify}
 use Rattle.cli.specs.declared.command.NewArgs.{NewArgs}
 use Rattle.cli.specs.declared.command.RunArgs.{RunArgs}
@@ -257,6 +257,7 @@ IsOutput meaning says shows (Reopen args) text = IsReopenedText meaning says tex
 IsOutput meaning says shows (Cut args) text = IsCutText meaning says text
 IsOutput meaning says shows (Recover args) text = IsRecoveredText meaning says text
 IsOutput meaning says shows (Status args) text = IsSeen meaning says shows (look.Status args) text
+IsOutput meaning says shows (Info args) text = IsSeen meaning says shows (look.Info args) text
 IsOutput meaning says shows (Verify args) text = IsSeen meaning says shows (look.Verify args) text
 IsOutput meaning says shows (Log args) text = IsSeen meaning says shows (look.Log args) text
 IsOutput meaning says shows (Show args) text = IsSeen meaning says shows (look.Show args) text

@@ -225,6 +225,7 @@ where
         Command::Cut(args) => cut_on::<M, R, P, O>(rt, args, said, progress, out),
         Command::Recover(args) => recover_on::<M, R, P, O>(rt, args, said, progress, out),
         Command::Status(args) => looked::<M, R, P, O>(rt, Look::Status(args), progress, out, found),
+        Command::Info(args) => looked::<M, R, P, O>(rt, Look::Info(args), progress, out, found),
         Command::Verify(args) => looked::<M, R, P, O>(rt, Look::Verify(args), progress, out, found),
         Command::Log(args) => looked::<M, R, P, O>(rt, Look::Log(args), progress, out, found),
         Command::Show(args) => looked::<M, R, P, O>(rt, Look::Show(args), progress, out, found),
