@@ -166,7 +166,7 @@ fn statement_cost(limit: Limit, statement: &Statement) -> u64
 
 /// Returns the greatest cost of a block on any way through it, or 2^64 - 1 if it is greater.
 #[cycle(costs)]
-pub(crate) fn block_cost(limit: Limit, block: &[Statement]) -> u64
+pub fn block_cost(limit: Limit, block: &[Statement]) -> u64
     ensures { result ≡ min (cost_of_all limit block.now) (2 ^ 64 - 1) }
 {
     let mut cost: u64 = 0;
