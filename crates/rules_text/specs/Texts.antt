@@ -16,6 +16,11 @@ pub record IsRule (scope : Dictionary) (text : List ℕ) (acts : Acts) : Type 0 
   pub split : Splits 0 text lexemes
   pub spelled : SpellsRule acts (tokens_of scope text lexemes)
 
+-- the text is a rule
+pub record SomeRule (scope : Dictionary) (text : List ℕ) : Type 0 where
+  pub acts : Acts
+  pub rule : IsRule scope text acts
+
 -- an error for lack of memory alone
 abbrev pub IsForMemory : ReadError → Type 0
 IsForMemory Memory = Unit {0}

@@ -19,6 +19,10 @@ pub enum Wanted {
     Statement,
     /// A table.
     Table,
+    /// An index or `.count`, behind a kind of processes.
+    Member,
+    /// A sort of messages, behind `on`.
+    Sort,
     /// This sign or word.
     Mark(Mark),
     /// A name that is not in use.
@@ -29,6 +33,8 @@ pub enum Wanted {
     LessNesting,
     /// A value of fewer operators: 256 deep is the limit.
     LowerValue,
+    /// Fewer blocks, `else if` and `on` around one another: 1,024 in all is the limit.
+    FewerLinks,
     /// Fewer names at once: 16 is the limit.
     FewerNames,
 }
