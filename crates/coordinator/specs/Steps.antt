@@ -2,7 +2,7 @@
 use Rattle.std.specs.Prelude.{Bool, IfErr, IfOk, IsErrOf, List, None, OnErr, OnOk, Option, Result, Some}
 use Rattle.std.specs.Prelude.{Err, [], false, if◌then◌else◌, length, nat_lt, not, true, ℕ, ◌&&◌}
 use Rattle.std.specs.Prelude.{◌*◌, ◌++◌, ◌+◌, ◌<◌, ◌^◌, ◌∷◌, ◌≡◌, ◌≤◌, ◌⊎◌}
-use Rattle.commitlog.specs.Records.{HasRoom, entry_with}
+use Rattle.commitlog.specs.Records.{HasRoom, entry_with, seal_of}
 use Rattle.commitlog.specs.declared.records.Entry.{Entry}
 use Rattle.disk.specs.Disk.{DiskState}
 use Rattle.gvt.specs.Ledger.{least_floor}
@@ -201,6 +201,18 @@ pub record IsReplyTaken (node : ℕ) (old new : Running) (answer : Answer) : Typ
   pub transit : new.ledger.transit ≡ old.ledger.transit ++ reply.out
   pub gathered : new.gathered ≡ old.gathered ++ reply.fossils
   pub answer_is : answer ≡ Taken reply.ran (length reply.out) (length reply.fossils)
+
+-- the record that is appended to these, alone or with the seal that follows it
+abbrev pub with_seal : Bool → List Entry → Entry → List Entry
+with_seal false records entry = entry ∷ []
+with_seal true records entry = entry ∷ seal_of (records ++ entry ∷ []) ∷ []
+
+-- the records that a step appends to these, in order, if there is room for them
+abbrev pub appended_by : Move → Bool → List Entry → Running → List Entry
+appended_by CommitMove sealed records r = next_record r.end (system_of r) ∷ []
+appended_by CheckpointMove sealed records r =
+    with_seal sealed records (entry_with 2 (kept_body (system_of r)))
+appended_by k sealed records r = []
 
 module _ {M P D : Type 0} (meaning : M → Meaning) (state : P → PortState) (disk : D →
     DiskState) where

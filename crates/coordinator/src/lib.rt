@@ -18,7 +18,7 @@ pub use protocol::Answer;
 use recovery::RecoveryFault;
 pub use session::{FrontView, Session};
 pub use sessions::{
-    Resumed, law_of_judged_sessions, law_of_local_sessions, law_of_sessions, resume,
+    Resumed, law_of_judged_sessions, law_of_local_sessions, law_of_records, law_of_sessions, resume,
 };
 use thiserror::Error;
 use wire::PortFault;
