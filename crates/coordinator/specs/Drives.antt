@@ -81,7 +81,7 @@ module _ {M P D : Type 0} (meaning : M → Meaning) (state : P → PortState) (d
     pub taken : (node : ℕ) → move_of step ≡ TakeMove node → IfOk result (λ answer.
         IsReplyTaken node (running meaning state old) (running meaning state new) answer)
     -- A commit that moves the front and a checkpoint append one record, and a sealed checkpoint a
-    -- seal behind it, if there is room for that; every other step leaves the log. `Full` comes only
+    -- seal after it, if there is room for that; every other step leaves the log. `Full` is returned only
     -- if there is no room for the first record, `Disk` exactly if the device has failed.
     pub logged : IsLogged meaning state disk (move_of step) (seals step) old new result
     -- Over any ports, a crash leaves the records from before, alone or followed by those that the
@@ -89,7 +89,7 @@ module _ {M P D : Type 0} (meaning : M → Meaning) (state : P → PortState) (d
     pub appends : AppendsOnly disk
         (appended_by (move_of step) (seals step) old.log.records (running meaning state old))
         old new
-    -- The records go on representing the front, whatever crashes. Only a plain commit trusts the
+    -- The records go on representing the front, whatever crashes. Only an unjudged commit trusts the
     -- nodes for this; any other step does it over any ports. The records from before stay in any
     -- case.
     pub keeps : KeepsRepresentation meaning disk

@@ -50,12 +50,12 @@ move_of JudgedCommit = CommitMove
 move_of Checkpoint = CheckpointMove
 move_of SealedCheckpoint = CheckpointMove
 
--- whether a step appends a seal behind its record
+-- whether a step appends a seal after its record
 abbrev pub seals : Step → Bool
 seals SealedCheckpoint = true
 seals step = false
 
--- whether a step trusts the nodes: a plain commit writes what they reported as it is
+-- whether a step trusts the nodes: an unjudged commit writes what they reported as it is
 abbrev pub trusts : Step → Bool
 trusts Commit = true
 trusts step = false
@@ -255,7 +255,7 @@ module _ {M P D : Type 0} (meaning : M → Meaning) (state : P → PortState) (d
         IsErrOf result Disk
     pub failures : (disk old.log.disk).failures ≤ (disk new.log.disk).failures
 
-  -- What a seal behind the last record does to a session: to the log alone, and to no more than the
+  -- What a seal after the last record does to a session: to the log alone, and to no more than the
   -- seal has room for. A fault leaves the session spent.
   pub record IsSealed (old new : Session M P D) (result : Result (Unit {0}) SessionFault) : Type 0
     where

@@ -1,5 +1,5 @@
 -- What statements do to the words of the state, the local names, the sends and the count of drawn
--- words (this project's profile).
+-- words.
 use Rattle.std.specs.Prelude.{ℕ, zero, suc, ◌+◌, ◌-◌, ◌%◌, ◌^◌, List, [], ◌∷◌, ◌++◌, max, min}
 use Rattle.std.specs.Prelude.{Bool, slice_set, if◌then◌else◌}
 use Rattle.model.specs.declared.Outgoing.{Outgoing}

@@ -67,7 +67,7 @@ fn word_at(context: &Context, j: u64) -> u32
     word(context.key, context.process, j)
 }
 
-/// Returns a number by a law with one parameter, from drawn word `j`.
+/// Returns a number by a distribution with one parameter, from drawn word `j`.
 fn draw(context: &Context, j: u64, law: Law, parameter: u64) -> u64
     requires { j < 16 }
     ensures { result

@@ -48,7 +48,7 @@ pub enum Operator {
     Greatest,
 }
 
-/// The law of a drawn number that has one parameter.
+/// The distribution of a drawn number that has one parameter.
 #[derive(Clone, Copy, Debug, PartialEq, Eq)]
 pub enum Law {
     /// `draw(n)`: the word mod `n`, or 0 if `n` is 0.

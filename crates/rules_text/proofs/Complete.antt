@@ -1,4 +1,4 @@
--- What is spelled is read.
+-- What the tokens form is read.
 use Rattle.std.proofs.Common.{◌≡◌, ◌≤◌, ℕ, zero, suc, ◌+◌, List, [], ◌∷◌, ◌++◌, Option, Some, None, length, refl, ap, ◌∙◌, arith, append_assoc, length-append, if◌then◌else◌}
 use Rattle.rules.specs.declared.tree.Operator.{Operator}
 use Rattle.rules.specs.declared.tree.Operator.TheVariants as o
@@ -56,7 +56,7 @@ enclosed_is closing inner ts rest x read =
     ∙ ap (λ r. r >>= λ q. Some (x, q)) (behind_is closing rest)
 
 module _ (names : List ℕ) (n : ℕ) (inner : ℕ → Reader) where
-  -- where the level goes on behind a value
+  -- where the level goes on after a value
   abbrev going : ℕ → ℕ → Tree → List Token → Option (Tree × List Token)
   going zero j x rest = Some (x, rest)
   going (suc k) j x rest = chain (suc k) (level names n inner k) j x rest

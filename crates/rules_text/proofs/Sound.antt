@@ -1,4 +1,4 @@
--- What is read is spelled so.
+-- What is read is what the text means.
 use Rattle.std.proofs.Common.{◌≡◌, ◌≤◌, ◌⊎◌, ℕ, zero, suc, List, [], ◌∷◌, ◌++◌, Option, Some, None, eqb, length, refl, sym, ap, ◌∙◌, subst, arith, append_assoc, if◌then◌else◌, inl, inr}
 use Rattle.std.proofs.lemmas.Bool.{cases_Bool}
 use Rattle.eventkey.proofs.Fields.{bind_some}
@@ -14,7 +14,7 @@ use Rattle.rules_text.specs.Grammar.{Tree, Number, Not, Two, Entry, Draw, Normal
 use Rattle.rules_text.specs.Reading.{Reader, ◌>>=◌, and_rest, behind, by_mark, chain, enclosed, go, chosen_at, inside, level, made, of_kind, pair_at, primary, table_at, three_at, turns, value_at}
 use Rattle.rules_text.proofs.Marks.{behind_only, equal_number, made_only, not_six, some_is}
 
--- the tokens begin with a spelling, and the others follow it
+-- the tokens begin with what they form, and the others follow it
 pub record Begins (names : List ℕ) (d k : ℕ) (x : Tree) (ts rest : List Token) : Type 0 where
   pub front : List Token
   pub parts : ts ≡ front ++ rest
@@ -92,7 +92,7 @@ module _ (names : List ℕ) where
       ap (λ xs. front ++ xs) first ∙ ap (λ xs. front ++ (t.Sign o ∷ xs)) parts ∙ sym (append_assoc front (t.Sign o ∷ right) vs)
 
   module _ (d k : ℕ) (operand : Reader) (sound : IsSound d k operand) where
-    -- a chain behind what is spelled by front
+    -- a chain after the tokens that form the front
     chain_sound : (k ≡ 6 → ⊥) → (n : ℕ) (x : Tree) (front ts : List Token) → Spells names d (suc k) x front → (y : Tree) (rest : List Token) →
         chain (suc k) operand n x ts ≡ Some (y, rest) → Begins names d (suc k) y (front ++ ts) rest
     chain_sound other zero x front ts spelled y rest e = ended d (suc k) x y front ts rest spelled (both_are x y ts rest e)
@@ -128,12 +128,12 @@ module _ (names : List ℕ) where
           }
     ]
 
-  -- what the reader of the inside reads is spelled one level less deep
+  -- what the reader of the inside reads is nested one level less deep
   abbrev Within : ℕ → ℕ → Tree → List Token → List Token → Type 0
   Within zero k x ts rest = ⊥
   Within (suc d) k x ts rest = Begins names d k x ts rest
 
-  -- what stands before the closing mark
+  -- what is before the closing mark
   record Front (d : ℕ) (x : Tree) (closing : Mark) (ts rest : List Token) : Type 0 where
     front : List Token
     parts : ts ≡ front ++ (t.Mark closing ∷ rest)
@@ -200,7 +200,7 @@ module _ (names : List ℕ) where
     spelled = a_draw d law x h.front low h.spelled;
   }
 
-  -- two values in brackets, behind a mark
+  -- two values in brackets, after a mark
   pair_parts : (ts us vs rest one two : List Token) → ts ≡ t.Mark m.Open ∷ us → us ≡ one ++ (t.Mark m.Comma ∷ vs) → vs ≡ two ++ (t.Mark m.Close ∷ rest) →
       ts ≡ (t.Mark m.Open ∷ (one ++ t.Mark m.Comma ∷ (two ++ t.Mark m.Close ∷ []))) ++ rest
   pair_parts ts us vs rest one two e f g =
@@ -235,7 +235,7 @@ module _ (names : List ℕ) where
     spelled = a_normal d x y h.front i.front low h.spelled i.spelled;
   }
 
-  -- three values in brackets, behind a mark
+  -- three values in brackets, after a mark
   three_parts : (ts us vs ws rest one two three : List Token) → ts ≡ t.Mark m.Open ∷ us → us ≡ one ++ (t.Mark m.Comma ∷ vs) →
       vs ≡ two ++ (t.Mark m.Comma ∷ ws) → ws ≡ three ++ (t.Mark m.Close ∷ rest) →
       ts ≡ (t.Mark m.Open ∷ (one ++ t.Mark m.Comma ∷ (two ++ t.Mark m.Comma ∷ (three ++ t.Mark m.Close ∷ [])))) ++ rest

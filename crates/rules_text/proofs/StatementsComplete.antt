@@ -1,4 +1,4 @@
--- Statements that are spelled are read.
+-- Statements that the tokens form are read.
 use Rattle.std.proofs.Common.{◌≡◌, ◌≤◌, ◌<◌, ℕ, zero, suc, ◌-◌, ◌^◌, List, [], ◌∷◌, ◌++◌, Option, Some, None, Bool, true, false, ltb, length, refl, sym, ap, ◌∙◌, subst, arith, append_assoc, append-nil, length-append, if◌then◌else◌}
 use Rattle.std.proofs.lemmas.Bool.Decides.{nat_tests}
 use Rattle.rules_text.specs.declared.token.Mark.{Mark}
@@ -121,7 +121,7 @@ module _ (names : List ℕ) (d : ℕ) where
   not_may mark _ _ _ _ (not_given may) h = (refl, refl)
   not_may mark _ _ _ _ (is_given x ts value) h = absurd cc
 
-  -- behind a word of content that is not given no other is
+  -- after a word of content that is not given no other is
   pass : (next mark : Mark) (may given : Bool) (x : Tree) (ts : List Token) → SpellsContent names d mark may x given ts → (rest : List Token) → may ≡ false →
       (given ≡ false → behind next rest ≡ None) → behind next (ts ++ rest) ≡ None
   pass next mark may given x ts c rest h none = let e = not_may mark may given x ts c h in ap (λ us. behind next (us ++ rest)) e.0 ∙ none e.1

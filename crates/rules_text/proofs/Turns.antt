@@ -9,7 +9,7 @@ use Rattle.rules_text.specs.Reading.{◌>>=◌, Fails}
 use Rattle.rules_text.specs.ReadingStatements.{Done, Reads, begins, block_at, case_at, case_with, choice_at, choice_with, in_braces, row, statements_at, with_name}
 use Rattle.rules_text.specs.Statements.{Act, Acts, empty, cons, act_of, acts_of}
 
--- statements behind others
+-- statements after others
 abbrev pub join : Acts → Acts → Acts
 join empty ys = ys
 join (cons x xs) ys = cons x (join xs ys)

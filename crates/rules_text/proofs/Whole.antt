@@ -43,7 +43,7 @@ read_only scope text acts e = elim (cases_Bool (ltb 65536 (length text))) [
       record { short = is_short (length text) short; lexemes = a.0; split = split_only text a.0 a.1; spelled = rule_only acts (tokens_of scope text a.0) a.2 }
 ]
 
--- nothing is spelled where nothing is read
+-- nothing is formed where nothing is read
 pub refused_is : {X : Type 0} (scope : Dictionary) (text : List ℕ) (acts : Acts) → read_at scope text ≡ None → IsRule scope text acts → X
 refused_is scope text acts none rule = let some = read_is scope text acts rule in absurd cc
 

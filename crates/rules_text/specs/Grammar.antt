@@ -1,4 +1,4 @@
--- Which tokens spell which value, as the grammar's own rules.
+-- Which tokens form which value, as the grammar's own rules.
 use Rattle.std.specs.Prelude.{◌≡◌, ℕ, suc, ◌+◌, ◌≤◌, List, [], ◌∷◌, ◌++◌, Option, Some, None, eqb, max, if◌then◌else◌}
 use Rattle.rules.specs.declared.arrays.Array.{Array}
 use Rattle.rules.specs.declared.tree.Expression.{Expression}
@@ -139,7 +139,7 @@ leaf names (t.Sort n) = Some (Number n)
 leaf names (t.Name name) = local_at (place_of name names)
 leaf names _ = None
 
--- With these names in scope the tokens spell the value, nested at most d deep, with no operator outside brackets that binds more loosely
+-- With these names in scope the tokens form the value, nested at most d deep, with no operator outside brackets that binds more loosely
 -- than k. Operators of one strength go from the left; comparisons, of looseness 7, have tighter values on both sides. No value is more than
 -- 256 operators deep.
 pub data Spells (names : List ℕ) : (d k : ℕ) → Tree → List Token → Type 0 where

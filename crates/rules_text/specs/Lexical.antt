@@ -149,7 +149,7 @@ Stops kind (b ∷ bs) = belongs kind b ≡ false
 abbrev pub IsOfWord : Bool → ℕ → Type 0
 IsOfWord word b = (is_white b ≡ false) × (eqb b 35 ≡ false) × (belongs Word b ≡ word)
 
--- What stands at the front, before the rest: white space, a comment up to the end of its line, a name or a number as long as it goes, or
+-- What is at the front, before the rest: white space, a comment up to the end of its line, a name or a number as long as it goes, or
 -- the longer of two signs; or `.count`, which no letter follows.
 pub data IsPiece : Option Lexeme → (front rest : List ℕ) → Type 0 where
   white_space : (b : ℕ) (rest : List ℕ) → is_white b ≡ true → IsPiece None (b ∷ []) rest

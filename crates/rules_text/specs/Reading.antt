@@ -32,7 +32,7 @@ Reader = List Token → Option (Tree × List Token)
 abbrev pub made : Tree → Reader
 made x rest = if nat_lt 256 (height x) then None else Some (x, rest)
 
--- the tokens behind a mark that comes first
+-- the tokens after a mark that comes first
 abbrev pub behind : MarkKind → List Token → Option (List Token)
 behind mark (t.Mark other ∷ rest) = if eqb (code other) (code mark) then Some rest else None
 behind mark _ = None
@@ -101,7 +101,7 @@ abbrev pub go : Option (Operator × List Token) → Tree → List Token → Read
 go None x ts operand more = Some (x, ts)
 go (Some p) x ts operand more = operand p.1 >>= λ q. made (Two p.0 x q.0) q.1 >>= λ r. more r.0 r.1
 
--- goes on behind a left side, for at most n operators of this looseness
+-- goes on after a left side, for at most n operators of this looseness
 abbrev pub chain : ℕ → Reader → ℕ → Tree → Reader
 chain k operand zero x ts = Some (x, ts)
 chain k operand (suc n) x ts = go (sign_at k ts) x ts operand (chain k operand n)

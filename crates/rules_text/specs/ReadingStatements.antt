@@ -38,7 +38,7 @@ naming d names ts =
 abbrev pub assignment : ℕ → ℕ → Reads Done
 assignment d place names ts = behind m.Is ts >>= λ us. value_at names d us >>= λ q. Some ((Set place q.0, None), q.1)
 
--- an element, behind its array
+-- an element, after its array
 abbrev pub placing : ℕ → Array → Reads Done
 placing d array names ts =
     behind m.OpenIndex ts >>= λ us. value_at names d us >>= λ p. behind m.CloseIndex p.1 >>= λ vs. behind m.Is vs >>= λ ws.
@@ -167,7 +167,7 @@ abbrev mutual
   block_at (suc n) (suc d) names ts =
       in_braces (λ inner us. row (one d (block_at n d) (choice_at n d) (case_at n d)) (length us) inner us) names ts
 
-  -- what stands behind `else if`
+  -- what follows `else if`
   pub choice_at : (n d : ℕ) → Reads Act
   choice_at zero d names ts = None
   choice_at (suc n) d names ts = choice_with d (block_at n d) (choice_at n d) names ts

@@ -87,7 +87,7 @@ abbrev pub or_else : Option Token → Option Token → Option Token
 or_else None other = other
 or_else (Some token) other = Some token
 
--- a word that stands in values
+-- a word that may be part of a value
 unfoldable pub value_word : Bool → Option ℕ → List ℕ → Option Token
 value_word draws own name = or_else (with_draws draws (drawing_word name)) (known_word own name)
 
@@ -110,7 +110,7 @@ is_name_lexeme _ = false
 abbrev pub is_same_name : List ℕ → List ℕ → Placed → Bool
 is_same_name text letters p = is_name_lexeme p.lexeme && bytes_eq (letters_of text p) letters
 
--- where a name stands first: names with no meaning are told apart by this place
+-- where a name is first used, which distinguishes names without a meaning
 abbrev pub first_place : List ℕ → List ℕ → List Placed → ℕ
 first_place text letters [] = 0
 first_place text letters (p ∷ ps) = if is_same_name text letters p then p.start else first_place text letters ps

@@ -1,4 +1,4 @@
--- Which tokens spell which statements, as the grammar's own rules.
+-- Which tokens form which statements, as the grammar's own rules.
 use Rattle.std.specs.Prelude.{◌≡◌, ℕ, suc, ◌<◌, ◌^◌, List, [], ◌∷◌, ◌++◌, None, Bool, true, false, eqb, length}
 use Rattle.rules.specs.declared.arrays.Array.{Array}
 use Rattle.rules.specs.declared.tree.Operator.TheVariants as o
@@ -55,12 +55,12 @@ abbrev pub acts_of : List Statement → Acts
 acts_of [] = empty
 acts_of (x ∷ xs) = cons (act_of x) (acts_of xs)
 
--- a word of content: behind its mark, where the words before it are given, or else 0
+-- a word of content: after its mark, where the words before it are given, or else 0
 pub data SpellsContent (names : List ℕ) (d : ℕ) (mark : Mark) : (may : Bool) → Tree → (given : Bool) → List Token → Type 0 where
   not_given : (may : Bool) → SpellsContent names d mark may (Number 0) false []
   is_given : (x : Tree) (ts : List Token) → Spells names d 9 x ts → SpellsContent names d mark true x true (t.Mark mark ∷ ts)
 
--- what stands behind `send`
+-- what follows `send`
 pub record SpellsSending (names : List ℕ) (d : ℕ) (receiver delay : Tree) (content : Four) (tokens : List Token) : Type 0 where
   pub ts : List Token
   pub us : List Token

@@ -23,9 +23,9 @@ pub enum Kind {
     Fixed(String),
     /// A second comparison in a row.
     Chain,
-    /// The text ends, where something else was wanted.
+    /// The text ends, where something else was expected.
     End(Wanted),
-    /// Something else was wanted.
+    /// Something else was expected.
     Wanted(Wanted),
 }
 
@@ -109,13 +109,13 @@ fn is_on_without_sort(scope: &Scope, tokens: &[Token], index: usize) -> bool {
     tokens.get(index) == Some(&Token::Name(ON)) && !next_is_sign && scope.has_sort()
 }
 
-/// Whether the statements of a rule or a block end, and one more or the end was wanted.
+/// Whether the statements of a rule or a block end, and one more or the end was expected.
 pub(crate) fn ends_statements(wanted: Wanted) -> bool {
     wanted == Wanted::Statement || wanted == Wanted::Mark(Mark::CloseBlock)
 }
 
 /// Whether a name that `let` or `repeat` gives before is followed by `=`, where a statement is
-/// wanted.
+/// expected.
 fn is_set(tokens: &[Token], index: usize, wanted: Wanted) -> bool {
     let (Some(name), Some(sign)) = (tokens.get(index), tokens.get(index.saturating_add(1))) else {
         return false;

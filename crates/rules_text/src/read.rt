@@ -46,16 +46,16 @@ fn read(alloc: Global, scope: &Scope, text: &str) -> Result<Vec<Statement>, Stop
     rule(alloc, &tokens)
 }
 
-/// The statements that a rule's text spells in this scope.
+/// The statements that a rule's text means in this scope.
 ///
 /// # Errors
 ///
 /// `Mistaken` just where the text is no rule: it has more than 65,536 bytes, is not of names, numbers and signs, or
-/// is not by the grammar, with a place and what was wanted there.
+/// is not by the grammar, with a place and what was expected there.
 pub fn read_rule(alloc: Global, scope: &Scope, text: &str) -> Result<Vec<Statement>, ReadError>
-    // What is read is spelled so.
+    // What is read is what the text means.
     ensures found { IfOk result (λ v. IsRule scope.now text.now (acts_of v.items)) }
-    // What is spelled so is read, unless memory runs out.
+    // What the text means is read, unless memory runs out.
     ensures only { (acts : Acts) → IsRule scope.now text.now acts → Yields (λ v. acts_of v.items) result acts }
 {
     match read(alloc, scope, text) {

@@ -152,7 +152,7 @@ fn word_that_draws(name: &[u8]) -> Option<Mark>
     None
 }
 
-/// A word of the language that stands in values.
+/// A word of the language that may be part of a value.
 #[tactic(auto, unfolding(crate::specs::Scopes::value_word))]
 fn word_of_value(draws: bool, own: Option<u32>, name: &[u8]) -> Option<Token>
     ensures { result ≡ value_word draws own name.now }

@@ -25,7 +25,7 @@ const MOST_BLOCKS: u32 = 64;
 /// How many blocks, `else if` and further `on` may stand around one another.
 const MOST_LINKS: u32 = 1024;
 
-/// The statements that all of these tokens spell.
+/// The statements that all of these tokens form.
 #[tactic(auto, unfolding(crate::specs::ReadingStatements::rule_at))]
 pub(crate) fn rule(alloc: Global, tokens: &[Token]) -> Result<Vec<Statement>, Stop>
     ensures { Gives (λ v. acts_of v.items) result (rule_at tokens.now) }
@@ -152,7 +152,7 @@ fn new_name<'a>(names: &[usize], tokens: &'a [Token]) -> Reads<'a, usize>
     }
 }
 
-/// A name and its value, behind `let`.
+/// A name and its value, after `let`.
 fn naming<'a>(alloc: Global, names: &[usize], depth: u32, tokens: &'a [Token]) -> Reads<'a, Named>
     requires { length names.now ≤ 16 }
     ensures read { Gives (λ p. ((act_of p.0.0, p.0.1), p.1.now)) result (naming_at depth names.now tokens.now) }
@@ -164,7 +164,7 @@ fn naming<'a>(alloc: Global, names: &[usize], depth: u32, tokens: &'a [Token]) -
     Ok(((Statement::Let(names.len() as u8, x), Some(name)), rest))
 }
 
-/// The value of a word of the state, behind the word.
+/// The value of a word of the state, after the word.
 fn assignment<'a>(
     alloc: Global,
     names: &[usize],
@@ -181,7 +181,7 @@ fn assignment<'a>(
     Ok(((Statement::Set(place, x), None), rest))
 }
 
-/// The index and the value of an element, behind its array.
+/// The index and the value of an element, after its array.
 fn placing<'a>(
     alloc: Global,
     names: &[usize],
@@ -201,7 +201,7 @@ fn placing<'a>(
     Ok(((Statement::Put(array, index, x), None), rest))
 }
 
-/// A word of content behind its mark, if it may be given and is; or else 0.
+/// A word of content after its mark, if it may be given and is; or else 0.
 fn content<'a>(
     alloc: Global,
     names: &[usize],
@@ -225,7 +225,7 @@ fn content<'a>(
     }
 }
 
-/// What a send says, behind `send`.
+/// What a send says, after `send`.
 fn sending<'a>(alloc: Global, names: &[usize], depth: u32, tokens: &'a [Token]) -> Reads<'a, Named>
     requires { length names.now ≤ 16 }
     ensures read { Gives (λ p. ((act_of p.0.0, p.0.1), p.1.now)) result (sending_at depth names.now tokens.now) }
@@ -257,7 +257,7 @@ fn chosen(x: Expression, met: Vec<Statement>, unmet: Vec<Statement>) -> Statemen
     Statement::If(x, met, unmet)
 }
 
-/// What stands behind `if`.
+/// What follows `if`.
 #[cycle(statements)]
 fn choice<'a>(
     alloc: Global,
@@ -444,7 +444,7 @@ fn until<'a>(tokens: &'a [Token]) -> Option<&'a [Token]>
     }
 }
 
-/// What stands behind `repeat`.
+/// What follows `repeat`.
 #[cycle(statements)]
 fn repetition<'a>(
     alloc: Global,

@@ -6,7 +6,7 @@ ghost use Rattle.rules_text.specs.declared.stop.Stop.TheVariants.{Memory, Refuse
 use crate::token::{Mark, Token};
 use std::alloc::{AllocError, AllocFailed};
 
-/// What was wanted where a text is no rule.
+/// What was expected where a text is no rule.
 #[derive(Clone, Copy, Debug, PartialEq, Eq)]
 pub enum Wanted {
     /// A name of at most 64 letters, a number below 2^64, a sign or white space.
@@ -39,7 +39,7 @@ pub enum Wanted {
     FewerNames,
 }
 
-/// A place where a text is no rule: how many tokens are left there, and what was wanted.
+/// A place where a text is no rule: how many tokens are left there, and what was expected.
 #[derive(Clone, Copy, Debug, PartialEq, Eq)]
 pub struct Refusal {
     pub left: usize,
@@ -51,7 +51,7 @@ pub struct Refusal {
 pub enum Stop {
     /// An allocation failed.
     Memory,
-    /// The tokens spell nothing.
+    /// The tokens form nothing.
     Refused(Refusal),
 }
 

@@ -62,7 +62,7 @@ pub enum Mark {
     Repeat,
     Min,
     Max,
-    /// `draw`, `exponential` or `geometric`, by its law.
+    /// `draw`, `exponential` or `geometric`, by its distribution.
     Draw(Law),
     Normal,
     Triangular,

@@ -69,7 +69,7 @@ fn code_of(mark: Mark) -> u32
     }
 }
 
-/// The number of the mark of a law.
+/// The number of the mark of a distribution.
 fn code_of_law(law: Law) -> u32
     ensures { result ≡ law_code law }
 {
@@ -226,7 +226,7 @@ fn sign<'a>(looseness_wanted: u32, tokens: &'a [Token]) -> Option<(Operator, &'a
     }
 }
 
-/// Goes on behind a left side, while operators of this looseness follow, one more than `k`.
+/// Goes on after a left side, while operators of this looseness follow, one more than `k`.
 #[cycle(values)]
 fn chain<'a>(
     alloc: Global,

@@ -28,7 +28,7 @@ fn is_same(text: &[u8], letters: &[u8], one: &Placed) -> bool
     }
 }
 
-/// Where a name stands first.
+/// Where a name is first used.
 fn first_place(text: &[u8], letters: &[u8], all: &[Placed]) -> usize
     ensures { result ≡ place_at text.now letters.now all.now }
 {
