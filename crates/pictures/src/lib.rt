@@ -1,10 +1,12 @@
 //! Views of a committed run: parts of its log, figures, and drawings.
 #![tactic(auto)]
 
+mod changes;
 mod chosen;
 mod counted;
 mod courses;
 mod drawn;
+mod dumped;
 mod filled;
 mod levels;
 mod loads;
@@ -16,10 +18,12 @@ mod traced;
 mod turns;
 mod watched;
 
+pub use changes::{Changes, changes_of};
 pub use chosen::{Choice, write_chosen};
 pub use counted::{Busy, Figures, Rate, Spread, figures_of};
 pub use courses::write_course;
 pub use drawn::{View, write_drawing};
+pub use dumped::write_changes;
 pub use levels::Level;
 pub use loads::write_load;
 pub use quotients::Decimal;
