@@ -14,13 +14,18 @@ fn ring() -> TokenRing {
     TokenRing::new(3, 2, 1)
 }
 
-fn ring_names(alloc: Global) -> Result<Names, Fail> {
+/// The names of a ring whose processes have this number.
+fn names_of(alloc: Global, column: Column) -> Result<Names, Fail> {
     let mut columns = Vec::new(alloc);
-    columns.push(Column::word(String::from_str(alloc, "passed")?, 0))?;
+    columns.push(column)?;
     let mut words = Vec::new(alloc);
     words.push(String::new(alloc))?;
     words.push(String::from_str(alloc, "hop")?)?;
     Ok(Names::new(alloc, 3, columns, words)?)
+}
+
+fn ring_names(alloc: Global) -> Result<Names, Fail> {
+    names_of(alloc, Column::word(String::from_str(alloc, "passed")?, 0))
 }
 
 fn decimal<'a>(whole: u64, millionths: u64) -> Cell<'a> {
@@ -123,6 +128,14 @@ b10 !
 #10
 ";
 
+/// Whether the dump of the ring's processes in this range, from a tick on, has this text.
+fn is_dumped(alloc: Global, names: &Names, view: &View, text: &str) -> Result<bool, Fail> {
+    let changes = changes_of(alloc, &ring(), Some(names), 10, 10, view)?;
+    let mut dump = Vec::new(alloc);
+    write_changes(&changes, &mut dump)?;
+    Ok(dump.as_slice() == text.as_bytes())
+}
+
 #[test]
 fn the_changes_of_a_ring_are_dumped(rt: HostRuntime) -> Result<(), Fail> {
     let names = ring_names(rt.alloc())?;
@@ -132,9 +145,55 @@ fn the_changes_of_a_ring_are_dumped(rt: HostRuntime) -> Result<(), Fail> {
         first: 1,
         last: 2,
     };
-    let changes = changes_of(rt.alloc(), &ring(), Some(&names), 10, 10, &view)?;
-    let mut text = Vec::new(rt.alloc());
-    write_changes(&changes, &mut text)?;
-    assert!(rt; text.as_slice() == DUMP.as_bytes());
+    assert!(rt; is_dumped(rt.alloc(), &names, &view, DUMP)?);
+    Ok(())
+}
+
+const FLAG: &str = "\
+$timescale 1 ns $end
+$scope module lp $end
+$scope module lp0 $end
+$var wire 1 ! odd_0 $end
+$upscope $end
+$upscope $end
+$enddefinitions $end
+#0
+$dumpvars
+0!
+$end
+#1
+1!
+#7
+0!
+#9
+";
+
+#[test]
+fn one_bit_of_an_array_is_dumped(rt: HostRuntime) -> Result<(), Fail> {
+    let odd = Column {
+        name: String::from_str(rt.alloc(), "odd[0]")?,
+        place: 0,
+        shift: 0,
+        bits: 1,
+    };
+    let names = names_of(rt.alloc(), odd)?;
+    let view = View {
+        from: 0,
+        to: Some(9),
+        first: 0,
+        last: 0,
+    };
+    assert!(rt; is_dumped(rt.alloc(), &names, &view, FLAG)?);
+    Ok(())
+}
+
+#[test]
+fn a_decimal_has_six_digits(rt: HostRuntime) -> Result<(), Fail> {
+    let decimal = Decimal {
+        whole: 12,
+        millionths: 345,
+    };
+    let text = format!(in rt.alloc(); "{decimal}")?;
+    assert!(rt; text.as_str() == "12.000345");
     Ok(())
 }
