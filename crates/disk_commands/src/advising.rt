@@ -134,8 +134,8 @@ where
     let is_seen = progress.is_seen();
     let is_explained = explain::<M, R, E>(rt, command, fault, err);
     print_noted(command, fault, noted, err);
-    if stops_a_run(command, fault) {
-        print_committed::<M, R, E>(rt, paths_of(command), err);
+    if let (true, Some(paths)) = (stops_a_run(command, fault), paths_of(command)) {
+        print_committed::<M, R, E>(rt, paths, err);
     }
     let cause = cause_below(rt, command, fault, noted);
     let advice = if is_explained {
@@ -237,8 +237,10 @@ fn print_setting<E: Write>(command: Command<'_>, fault: Fault, err: &mut E) {
             "the model file has another kind of value there",
         ),
     };
-    let set = command.model().settings.get(number.saturating_sub(1));
-    if let Some((name, value)) = set {
+    let Some(file) = command.model() else {
+        return;
+    };
+    if let Some((name, value)) = file.settings.get(number.saturating_sub(1)) {
         let _ = writeln!(err, "{}={}: {why}", Printable(name), Printable(value));
     }
 }
@@ -359,7 +361,9 @@ where
     R: Files<File = File> + AllocGlobal,
     E: Write,
 {
-    let paths = paths_of(command);
+    let Some(paths) = paths_of(command) else {
+        return false;
+    };
     match fault {
         Fault::BadModel => explain_model::<M, R, E>(rt, paths.model, err),
         Fault::Recovery(RecoveryFault::OtherModel)
@@ -452,15 +456,16 @@ where
     true
 }
 
-/// The files that a command reads.
-fn paths_of<'a>(command: Command<'a>) -> Paths<'a> {
+/// The files that a command reads; none if it takes no model file.
+fn paths_of<'a>(command: Command<'a>) -> Option<Paths<'a>> {
+    let model = command.model()?;
     let (disk, large) = match command {
         Command::New(_) => (None, false),
         Command::Run(args) => (Some(args.on.disk), args.on.large),
-        Command::Extend(args)
-        | Command::Reopen(args)
-        | Command::Cut(args)
-        | Command::Status(args) => (Some(args.disk), args.large),
+        Command::Extend(args) | Command::Reopen(args) | Command::Cut(args) => {
+            (Some(args.disk), args.large)
+        }
+        Command::Status(args) => (Some(args.on.disk), args.on.large),
         Command::Verify(args) => (Some(args.on.disk), args.on.large),
         Command::Show(args) => (Some(args.on.disk), args.on.large),
         Command::Grow(args) => (Some(args.on.disk), args.on.large),
@@ -469,17 +474,17 @@ fn paths_of<'a>(command: Command<'a>) -> Paths<'a> {
         Command::Log(args) => (Some(args.on.disk), args.on.large),
         Command::Stats(args) => (args.of.disk, args.of.large),
         Command::Draw(args) => (args.of.disk, args.of.large),
-        Command::Seq(_) | Command::Check(_) | Command::Node(_) => (None, false),
+        Command::Info(_) | Command::Seq(_) | Command::Check(_) | Command::Node(_) => (None, false),
     };
     let format = if matches!(command, Command::Migrate(_)) {
         1
     } else {
         2
     };
-    Paths {
-        model: command.model(),
+    Some(Paths {
+        model,
         disk,
         large,
         format,
-    }
+    })
 }

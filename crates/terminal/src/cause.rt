@@ -346,9 +346,12 @@ fn written_disk<'a>(command: Command<'a>) -> Option<&'a str> {
     }
 }
 
-/// The path of the model file.
+/// The path of the model file; empty for a command without one.
 fn model_of<'a>(command: Command<'a>) -> &'a str {
-    command.model().path
+    match command.model() {
+        Some(file) => file.path,
+        None => "",
+    }
 }
 
 /// Whether the system says that a file has no room, or may not have its size.
@@ -373,7 +376,8 @@ where
         Command::Reopen(args) => first_of_writer(rt, args),
         Command::Cut(args) => first_of_writer(rt, args),
         Command::Recover(args) => first_of_recovery(rt, args),
-        Command::Status(args) => first_of_reader(rt, args),
+        Command::Status(args) => first_of_reader(rt, args.on),
+        Command::Info(args) => first(rt, &[Step::LooksAt(args.disk, most_sectors(args.large))]),
         Command::Verify(args) => first_of_reader(rt, args.on),
         Command::Log(args) => first_of_reader(rt, args.on),
         Command::Show(args) => first_of_reader(rt, args.on),
