@@ -1,7 +1,9 @@
 -- Values that clap takes as any text.
-use Rattle.std.specs.Prelude.{◌≡◌, ◌==◌, ◌&&◌, ◌≤◌, ◌<◌, ℕ, nat_le, true, false, [], ◌∷◌, Some, None, Ok, Err}
+use Rattle.std.specs.Prelude.{◌≡◌, ◌==◌, ◌&&◌, ◌≤◌, ◌<◌, ℕ, nat_le, true, false, [], ◌∷◌, Option, Some, None, Ok, Err, is_some}
+use Rattle.std.specs.Str.{bytes_eq}
 use Rattle.std.specs.Str.Parse.{ParsesUnsigned, digits_value, without_leading_plus}
-use Rattle.std.proofs.Common.{refl, ap, inl, inr, arith, sym, ◌∙◌}
+use Rattle.std.proofs.Common.{refl, ap, inl, inr, arith, subst, sym, ◌∙◌}
+use Rattle.std.proofs.lemmas.Slice.Eq.{bytes_eq-Decides}
 use Rattle.std.proofs.lemmas.Bool.{cases_Bool, eqb-true, le-leb, leb-true}
 use Rattle.clap.proofs.OnLiterals.{clap_on_literals}
 use Rattle.clap.proofs.ValueTestLemmas.{Accepts-accepts, accepts-Accepts}
@@ -13,7 +15,8 @@ use Rattle.clap.specs.Words.{Text, fault_of, is_simple_and_free}
 use Rattle.clap.specs.declared.error.Error.{Error}
 use Rattle.clap.specs.declared.builder.value_parser.ValueParser.{ValueParser}
 use Rattle.clap.specs.declared.builder.value_parser.ValueParser.TheVariants.{Unsigned}
-use Rattle.cli.specs.Command.{is_number, written_number, range_between, refusing}
+use Rattle.cli.specs.Command.{is_number, written_number, range_between, refusing, table_named}
+use Rattle.cli.specs.declared.command.Table.{Table}
 
 -- the command with this option alone is simple, and the text is refused
 pub refusing_is_free : (option : Text) (parser : ValueParser) (text : Text) → is_simple_and_free (refusing option parser text) ≡ true
@@ -90,3 +93,17 @@ no_range first (next ∷ last) h = elim (cases_Bool (next == 46)) [
 pub first_kind : (a b : Kinds) (e : Error) → HasKind a e → HasKind (or_else a b) e
 first_kind [] b e h = elim h [ inl none ↦ inl none | inr never ↦ absurd never ]
 first_kind (k ∷ ks) b e h = h
+
+-- a text that names no table has the name of none
+pub not_named : (text name : Text) (found : Table) → table_named name ≡ Some found → table_named text ≡ None → bytes_eq name text ≡ false
+not_named text name found known none = elim (cases_Bool (bytes_eq name text)) [
+  | inl e ↦
+      let same : name ≡ text = (bytes_eq-Decides name text).0 e in
+      let named : table_named text ≡ Some found = subst (λ (t : Text). table_named t ≡ Some found) same known in
+      cc
+  | inr e ↦ e
+]
+
+pub none_there : {X : Type 0} (o : Option X) → is_some o ≡ false → o ≡ None
+none_there None h = refl
+none_there (Some x) h = cc

@@ -24,12 +24,16 @@ use Rattle.clap.specs.declared.error.kind.ErrorKind.TheVariants.{ValueValidation
 use Rattle.cli.specs.declared.command.BatchOption.{BatchOption}
 use Rattle.cli.specs.declared.command.BatchOption.TheVariants.{Auto, Fixed}
 use Rattle.cli.specs.declared.command.Command.{Command}
-use Rattle.cli.specs.declared.command.Command.TheVariants.{Check, Cut, Draw, Extend, Grow, Log}
+use Rattle.cli.specs.declared.command.Command.TheVariants.{Check, Cut, Draw, Extend, Grow, Info}
+use Rattle.cli.specs.declared.command.Command.TheVariants.{Log}
 use Rattle.cli.specs.declared.command.Command.TheVariants.{Migrate, New, Node, Recover, Reopen, Run}
 use Rattle.cli.specs.declared.command.Command.TheVariants.{Seq, Show, Stats, Status, Verify}
 use Rattle.cli.specs.declared.command.DiskArgs.{DiskArgs}
 use Rattle.cli.specs.declared.command.DrawArgs.{DrawArgs}
+use Rattle.cli.specs.declared.command.Format.{Format}
+use Rattle.cli.specs.declared.command.Format.TheVariants as format
 use Rattle.cli.specs.declared.command.GrowArgs.{GrowArgs}
+use Rattle.cli.specs.declared.command.InfoArgs.{InfoArgs}
 use Rattle.cli.specs.declared.command.LogArgs.{LogArgs}
 use Rattle.cli.specs.declared.command.MigrateArgs.{MigrateArgs}
 use Rattle.cli.specs.declared.command.ModelArgs.{ModelArgs}
@@ -38,9 +42,13 @@ use Rattle.cli.specs.declared.command.NewArgs.{NewArgs}
 use Rattle.cli.specs.declared.command.NodeArgs.{NodeArgs}
 use Rattle.cli.specs.declared.command.RecoverArgs.{RecoverArgs}
 use Rattle.cli.specs.declared.command.RunArgs.{RunArgs}
+use Rattle.cli.specs.declared.command.SeqArgs.{SeqArgs}
 use Rattle.cli.specs.declared.command.ShowArgs.{ShowArgs}
 use Rattle.cli.specs.declared.command.SourceArgs.{SourceArgs}
 use Rattle.cli.specs.declared.command.StatsArgs.{StatsArgs}
+use Rattle.cli.specs.declared.command.StatusArgs.{StatusArgs}
+use Rattle.cli.specs.declared.command.Table.{Table}
+use Rattle.cli.specs.declared.command.Table.TheVariants as table
 use Rattle.cli.specs.declared.command.VerifyArgs.{VerifyArgs}
 
 -- ---- the arguments
@@ -130,6 +138,10 @@ large_option = flag (codes "large")
 -- the file of a disk gets its whole room at once
 abbrev pub reserve_option : Rule
 reserve_option = flag (codes "reserve")
+
+-- the format of what is printed
+abbrev pub format_option : Rule
+format_option = text_option (codes "format") (codes "text")
 
 -- ---- the commands
 
@@ -251,6 +263,19 @@ recover_command = with_rule (with_rule (with_rule (with_rule (on_disk (codes "re
     reserve_option)
     large_option
 
+-- how far a disk's run has come, in a format; the disk may be a large one
+abbrev pub status_command : App
+status_command = with_rule (with_rule (on_disk (codes "status")) format_option) large_option
+
+-- a disk alone, in a format; it may be a large one; with or without advice, or quiet
+abbrev pub info_command : App
+info_command = with_rule (with_rule (with_rule (with_rule (with_rule (new_app (codes "info"))
+    (path_argument (codes "DISK")))
+    advice_option)
+    quiet_option)
+    format_option)
+    large_option
+
 -- a disk, and the disk that it goes on from, if any; both may be large ones
 abbrev pub verify_command : App
 verify_command = with_rule (with_rule (on_disk (codes "verify")) (optional_text (codes "after")))
@@ -260,40 +285,62 @@ verify_command = with_rule (with_rule (on_disk (codes "verify")) (optional_text 
 abbrev pub names_option : Rule
 names_option = flag (codes "names")
 
--- the events of a log from one time on, before another time, and of one process, with names or not;
--- the disk may be a large one
+-- the events of a log from one time on, before another time, and of one process, with names or not,
+-- in a format; the disk may be a large one
 abbrev pub log_command : App
-log_command = with_rule (with_rule (with_rule (with_rule (with_rule (on_disk (codes "log"))
+log_command = with_rule (with_rule (with_rule (with_rule (with_rule (with_rule
+    (on_disk (codes "log"))
     (time_option (codes "from")))
     (time_option (codes "to")))
     (optional_number (codes "process") 0 4294967295))
     names_option)
+    format_option)
     large_option
 
--- the committed world, with names or not; the disk may be a large one
+-- the committed world, or its pending messages alone, with names or not, in a format; the disk may
+-- be a large one
 abbrev pub show_command : App
-show_command = with_rule (with_rule (on_disk (codes "show")) names_option) large_option
-
--- the figures of a run, in one of two formats, with names or not; the disk may be a large one
-abbrev pub stats_command : App
-stats_command = with_rule (with_rule (with_rule (with_rule (on_model (codes "stats"))
-    (optional_argument (codes "DISK")))
-    (text_option (codes "format") (codes "text")))
+show_command = with_rule (with_rule (with_rule (with_rule (on_disk (codes "show"))
     names_option)
+    (flag (codes "pending")))
+    format_option)
     large_option
 
--- a picture of a run, from one time on, before another time, of some processes; or of its load; or
--- of the course in a trace; the disk may be a large one
+-- the figures of a run, in a format, with names or not; or one table of them, from a tick on; the
+-- disk may be a large one
+abbrev pub stats_command : App
+stats_command = with_rule (with_rule (with_rule (with_rule (with_rule (with_rule
+    (on_model (codes "stats"))
+    (optional_argument (codes "DISK")))
+    format_option)
+    names_option)
+    (optional_text (codes "table")))
+    (time_option (codes "warm-up")))
+    large_option
+
+-- the format of a picture; the formats of tables are others
+abbrev pub picture_option : Rule
+picture_option = record (text_option (codes "picture") (codes "svg")) {
+  long = Some (codes "format");
+}
+
+-- a picture of a run, in a format, from one time on, before another time, of some processes; or of
+-- its load; or of the course in a trace; the disk may be a large one
 abbrev pub draw_command : App
 draw_command = with_rule (with_rule (with_rule (with_rule (with_rule (with_rule (with_rule
-    (on_model (codes "draw"))
+    (with_rule (on_model (codes "draw"))
     (optional_argument (codes "DISK")))
     (time_option (codes "from")))
     (time_option (codes "to")))
     (optional_text (codes "processes")))
     (flag (codes "load")))
     (optional_text (codes "trace")))
+    picture_option)
     large_option
+
+-- a run by the plain runner, in a format
+abbrev pub seq_command : App
+seq_command = with_rule (on_model (codes "seq")) format_option
 
 -- a node behind a socket, for 1 to 2^32 - 1 replies
 abbrev pub node_command : App
@@ -315,14 +362,14 @@ without_commands called = record (new_app called) {
 -- the program of this name
 unfoldable pub program_of : Text → App
 program_of called = with_subcommand (with_subcommand (with_subcommand (with_subcommand
-    (with_subcommand (with_subcommand (with_subcommand (with_subcommand
+    (with_subcommand (with_subcommand (with_subcommand (with_subcommand (with_subcommand
     (with_subcommand (with_subcommand (with_subcommand (with_subcommand (with_subcommand
     (with_subcommand (with_subcommand (with_subcommand (with_subcommand (without_commands called)
     new_command.top) run_command.top) (on_any_disk (codes "extend")).top)
     grow_command.top) migrate_command.top)
     (on_any_disk (codes "reopen")).top) (on_any_disk (codes "cut")).top) recover_command.top)
-    (on_any_disk (codes "status")).top) verify_command.top) log_command.top) show_command.top)
-    stats_command.top) draw_command.top) (on_model (codes "seq")).top)
+    status_command.top) info_command.top) verify_command.top) log_command.top) show_command.top)
+    stats_command.top) draw_command.top) seq_command.top)
     (on_model (codes "check")).top) node_command.top
 
 -- a program with a single option, whose value passes this parser, and whose default is this text
@@ -459,6 +506,24 @@ abbrev pub judge_in : List Row → Option ℕ
 judge_in rows = if is_text (first_of (codes "judge") rows) (codes "all") then Some 1
     else optional_number_in (codes "judge") 0 4294967295 rows
 
+-- the format of what is printed: `csv`, `json`, or otherwise text
+abbrev pub format_in : List Row → Format
+format_in rows = if is_text (first_of (codes "format") rows) (codes "csv") then format.Csv
+    else if is_text (first_of (codes "format") rows) (codes "json") then format.Json
+    else format.Text
+
+-- the table of this name
+abbrev pub table_named : Text → Option Table
+table_named name = if bytes_eq name (codes "summary") then Some table.Summary
+    else if bytes_eq name (codes "spreads") then Some table.Spreads
+    else if bytes_eq name (codes "busiest") then Some table.Busiest
+    else if bytes_eq name (codes "totals") then Some table.Totals
+    else if bytes_eq name (codes "processes") then Some table.Processes
+    else if bytes_eq name (codes "kinds") then Some table.Kinds
+    else if bytes_eq name (codes "overall") then Some table.Overall
+    else if bytes_eq name (codes "words") then Some table.Words
+    else None
+
 -- ---- a range of processes
 
 -- the number in the text, if it is one below 2^32
@@ -505,7 +570,18 @@ is_no_range (Some text) = not (is_some (range_of text))
 -- an unknown format
 abbrev pub is_no_format : Option Text → Bool
 is_no_format None = false
-is_no_format (Some text) = not (bytes_eq text (codes "text") || bytes_eq text (codes "csv"))
+is_no_format (Some text) = not (bytes_eq text (codes "text") || (bytes_eq text (codes "csv")
+    || bytes_eq text (codes "json")))
+
+-- an unknown format of a picture
+abbrev pub is_no_picture : Option Text → Bool
+is_no_picture None = false
+is_no_picture (Some text) = not (bytes_eq text (codes "svg") || bytes_eq text (codes "vcd"))
+
+-- an unknown table
+abbrev pub is_no_table : Option Text → Bool
+is_no_table None = false
+is_no_table (Some text) = not (is_some (table_named text))
 
 -- an option without a value is used
 abbrev pub is_used : Text → List Row → Bool
@@ -533,10 +609,19 @@ abbrev pub number_fault : List Row → Kinds
 number_fault rows = if has_no_count rows || has_no_size rows
     then ValueValidation ∷ [] else []
 
--- the errors for a range or a format, which clap takes as any text too
+-- the format of a picture, or the table, has no such name
+abbrev pub has_no_name : List Row → Bool
+has_no_name rows = is_no_picture (first_of (codes "picture") rows)
+    || is_no_table (first_of (codes "table") rows)
+
+-- or any other format has none
+abbrev pub has_no_form : List Row → Bool
+has_no_form rows = is_no_format (first_of (codes "format") rows) || has_no_name rows
+
+-- the errors for a range, a format or a table, which clap takes as any text too
 abbrev pub form_fault : List Row → Kinds
-form_fault rows = if is_no_range (first_of (codes "processes") rows)
-    || is_no_format (first_of (codes "format") rows) then InvalidValue ∷ [] else []
+form_fault rows = if is_no_range (first_of (codes "processes") rows) || has_no_form rows
+    then InvalidValue ∷ [] else []
 
 -- the errors for the values of these rows that clap takes as any text
 abbrev pub text_fault : List Row → Kinds
@@ -567,9 +652,14 @@ abbrev pub is_without_archive : List Row → Bool
 is_without_archive rows = not (is_used (codes "archive-when-full") rows)
     && is_there (codes "keep") rows
 
--- something is said of seals or archived parts, but the run makes none of them
+-- a tick is given from which on a table counts, but no table is
+abbrev pub is_without_table : List Row → Bool
+is_without_table rows = not (is_there (codes "table") rows) && is_there (codes "warm-up") rows
+
+-- something is said of what is neither made nor printed: seals, archived parts, a table
 abbrev pub is_without_record : List Row → Bool
-is_without_record rows = is_without_checkpoint rows || is_without_archive rows
+is_without_record rows = is_without_checkpoint rows
+    || (is_without_archive rows || is_without_table rows)
 
 -- an option, apart from those of node programs, says nothing without another one
 abbrev pub is_without_another : List Row → Bool
@@ -608,9 +698,11 @@ is_excluded rows = is_excluded_over_nodes rows || is_excluded_anywhere rows
 abbrev pub excluded_fault : List Row → Kinds
 excluded_fault rows = if is_excluded rows then ArgumentConflict ∷ [] else []
 
--- both the load and the course in a trace are to be drawn
+-- both the load and the course in a trace are to be drawn, or either of them as a value change dump
 abbrev pub is_drawn_twice : List Row → Bool
-is_drawn_twice rows = is_used (codes "load") rows && is_some (first_of (codes "trace") rows)
+is_drawn_twice rows = (is_used (codes "load") rows && is_there (codes "trace") rows)
+    || (is_text (first_of (codes "picture") rows) (codes "vcd")
+    && (is_used (codes "load") rows || is_there (codes "trace") rows))
 
 abbrev pub drawn_fault : List Row → Kinds
 drawn_fault rows = if is_drawn_twice rows then ArgumentConflict ∷ [] else []
@@ -719,6 +811,17 @@ SaysRun args rows = SaysDisk args.on rows
     × (args.sectors ≡ number_or (codes "created") 8 (most_sectors args.on.large) 4096 rows)
     × IsFlagIn (codes "reserved") rows args.reserve
 
+abbrev pub SaysStatus : StatusArgs → List Row → Type 0
+SaysStatus args rows = SaysDisk args.on rows × (args.format ≡ format_in rows)
+
+abbrev pub SaysInfo : InfoArgs → List Row → Type 0
+SaysInfo args rows = (args.disk.now ≡ text_in (codes "DISK") rows)
+    × IsFlagIn (codes "large") rows args.large
+    × (args.format ≡ format_in rows)
+
+abbrev pub SaysSeq : SeqArgs → List Row → Type 0
+SaysSeq args rows = SaysFile args.model rows × (args.format ≡ format_in rows)
+
 abbrev pub SaysGrow : GrowArgs → List Row → Type 0
 SaysGrow args rows = SaysDisk args.on rows × (args.sectors ≡ number_or (codes "sectors") 8
     (most_sectors args.on.large) (most_sectors args.on.large) rows)
@@ -748,14 +851,20 @@ SaysLog args rows = SaysDisk args.on rows
     × SaysTimes args.from args.to rows
     × (args.process ≡ optional_number_in (codes "process") 0 4294967295 rows)
     × IsFlagIn (codes "names") rows args.names
+    × (args.format ≡ format_in rows)
 
 abbrev pub SaysShow : ShowArgs → List Row → Type 0
-SaysShow args rows = SaysDisk args.on rows × IsFlagIn (codes "names") rows args.names
+SaysShow args rows = SaysDisk args.on rows
+    × IsFlagIn (codes "names") rows args.names
+    × IsFlagIn (codes "pending") rows args.pending
+    × (args.format ≡ format_in rows)
 
 abbrev pub SaysStats : StatsArgs → List Row → Type 0
 SaysStats args rows = SaysSource args.of rows
-    × (args.csv ≡ is_text (first_of (codes "format") rows) (codes "csv"))
+    × (args.format ≡ format_in rows)
     × IsFlagIn (codes "names") rows args.names
+    × (args.table ≡ option_and_then table_named (first_of (codes "table") rows))
+    × (args.warm_up ≡ optional_number_in (codes "warm-up") 0 1099511627776 rows)
 
 abbrev pub SaysDraw : DrawArgs → List Row → Type 0
 SaysDraw args rows = SaysSource args.of rows
@@ -763,6 +872,7 @@ SaysDraw args rows = SaysSource args.of rows
     × (args.processes ≡ option_and_then range_of (first_of (codes "processes") rows))
     × IsFlagIn (codes "load") rows args.load
     × (option_map (λ path. path.now) args.trace ≡ first_of (codes "trace") rows)
+    × (args.vcd ≡ is_text (first_of (codes "picture") rows) (codes "vcd"))
 
 abbrev pub SaysNode : NodeArgs → List Row → Type 0
 SaysNode args rows = SaysFile args.model rows
@@ -779,35 +889,37 @@ SaysRows (Migrate args) name rows = (name ≡ codes "migrate") × SaysMigrate ar
 SaysRows (Reopen args) name rows = (name ≡ codes "reopen") × SaysDisk args rows
 SaysRows (Cut args) name rows = (name ≡ codes "cut") × SaysDisk args rows
 SaysRows (Recover args) name rows = (name ≡ codes "recover") × SaysRecover args rows
-SaysRows (Status args) name rows = (name ≡ codes "status") × SaysDisk args rows
+SaysRows (Status args) name rows = (name ≡ codes "status") × SaysStatus args rows
+SaysRows (Info args) name rows = (name ≡ codes "info") × SaysInfo args rows
 SaysRows (Verify args) name rows = (name ≡ codes "verify") × SaysVerify args rows
 SaysRows (Log args) name rows = (name ≡ codes "log") × SaysLog args rows
 SaysRows (Show args) name rows = (name ≡ codes "show") × SaysShow args rows
 SaysRows (Stats args) name rows = (name ≡ codes "stats") × SaysStats args rows
 SaysRows (Draw args) name rows = (name ≡ codes "draw") × SaysDraw args rows
-SaysRows (Seq args) name rows = (name ≡ codes "seq") × SaysModel args rows
+SaysRows (Seq args) name rows = (name ≡ codes "seq") × SaysSeq args rows
 SaysRows (Check args) name rows = (name ≡ codes "check") × SaysModel args rows
 SaysRows (Node args) name rows = (name ≡ codes "node") × SaysNode args rows
 
--- the model file of a command
-abbrev pub model_of : Command → ModelFile
-model_of (New args) = args.on.model
-model_of (Run args) = args.on.model
-model_of (Extend args) = args.model
-model_of (Grow args) = args.on.model
-model_of (Migrate args) = args.model
-model_of (Reopen args) = args.model
-model_of (Cut args) = args.model
-model_of (Recover args) = args.model
-model_of (Status args) = args.model
-model_of (Verify args) = args.on.model
-model_of (Log args) = args.on.model
-model_of (Show args) = args.on.model
-model_of (Stats args) = args.of.model
-model_of (Draw args) = args.of.model
-model_of (Seq args) = args.model
-model_of (Check args) = args.model
-model_of (Node args) = args.model
+-- the model file of a command, if it takes one
+abbrev pub model_of : Command → Option ModelFile
+model_of (New args) = Some args.on.model
+model_of (Run args) = Some args.on.model
+model_of (Extend args) = Some args.model
+model_of (Grow args) = Some args.on.model
+model_of (Migrate args) = Some args.model
+model_of (Reopen args) = Some args.model
+model_of (Cut args) = Some args.model
+model_of (Recover args) = Some args.model
+model_of (Status args) = Some args.on.model
+model_of (Info args) = None
+model_of (Verify args) = Some args.on.model
+model_of (Log args) = Some args.on.model
+model_of (Show args) = Some args.on.model
+model_of (Stats args) = Some args.of.model
+model_of (Draw args) = Some args.of.model
+model_of (Seq args) = Some args.model
+model_of (Check args) = Some args.model
+model_of (Node args) = Some args.model
 
 -- the command is the subcommand that clap finds in the words, for the program of this name, with
 -- its values
@@ -842,6 +954,9 @@ AreTimes from to = IsWithin 0 1099511627776 from × IsWithin 0 1099511627776 to
 abbrev pub IsLogRanged : LogArgs → Type 0
 IsLogRanged args = AreTimes args.from args.to
 
+abbrev pub IsStatsRanged : StatsArgs → Type 0
+IsStatsRanged args = IsWithin 0 1099511627776 args.warm_up
+
 abbrev pub IsDrawRanged : DrawArgs → Type 0
 IsDrawRanged args = AreTimes args.from args.to
     × IfSome args.processes (λ range. range.0 ≤ range.1)
@@ -854,6 +969,7 @@ IsRanged (Grow args) = IsSized args.sectors args.on.large
 IsRanged (Migrate args) = IsSized args.sectors args.large
 IsRanged (Recover args) = IsSized args.sectors args.large
 IsRanged (Log args) = IsLogRanged args
+IsRanged (Stats args) = IsStatsRanged args
 IsRanged (Draw args) = IsDrawRanged args
 IsRanged (Node args) = 1 ≤ args.parcels
 IsRanged _ = ⊤
@@ -863,6 +979,7 @@ abbrev pub IsNamed : Text → Type 0
 IsNamed name = (name ≡ codes "new") ⊎ ((name ≡ codes "run") ⊎ ((name ≡ codes "extend")
     ⊎ ((name ≡ codes "grow") ⊎ ((name ≡ codes "migrate") ⊎ ((name ≡ codes "reopen")
     ⊎ ((name ≡ codes "cut") ⊎ ((name ≡ codes "recover")
-    ⊎ ((name ≡ codes "status") ⊎ ((name ≡ codes "verify") ⊎ ((name ≡ codes "log")
-    ⊎ ((name ≡ codes "show") ⊎ ((name ≡ codes "stats") ⊎ ((name ≡ codes "draw")
-    ⊎ ((name ≡ codes "seq") ⊎ ((name ≡ codes "check") ⊎ (name ≡ codes "node"))))))))))))))))
+    ⊎ ((name ≡ codes "status") ⊎ ((name ≡ codes "info") ⊎ ((name ≡ codes "verify")
+    ⊎ ((name ≡ codes "log") ⊎ ((name ≡ codes "show") ⊎ ((name ≡ codes "stats")
+    ⊎ ((name ≡ codes "draw") ⊎ ((name ≡ codes "seq") ⊎ ((name ≡ codes "check")
+    ⊎ (name ≡ codes "node")))))))))))))))))

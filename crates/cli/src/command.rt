@@ -23,7 +23,9 @@ pub enum Command<'a> {
     /// Write the good records of a damaged disk to a new disk.
     Recover(RecoverArgs<'a>),
     /// Print how far the run of a disk has come.
-    Status(DiskArgs<'a>),
+    Status(StatusArgs<'a>),
+    /// Print what a disk is, without its model file.
+    Info(InfoArgs<'a>),
     /// Check all that a disk holds.
     Verify(VerifyArgs<'a>),
     /// Print the committed events of a disk.
@@ -32,10 +34,10 @@ pub enum Command<'a> {
     Show(ShowArgs<'a>),
     /// Print the figures of a run.
     Stats(StatsArgs<'a>),
-    /// Print a picture of a run, as SVG.
+    /// Print a picture of a run.
     Draw(DrawArgs<'a>),
     /// Run a model by the plain runner.
-    Seq(ModelArgs<'a>),
+    Seq(SeqArgs<'a>),
     /// Print whether a file is a model file, or what is wrong with it.
     Check(ModelArgs<'a>),
     /// Serve as a node behind a socket.
@@ -43,27 +45,27 @@ pub enum Command<'a> {
 }
 
 impl<'a> Command<'a> {
-    /// The model file of the command.
-    pub fn model(self) -> ModelFile<'a>
+    /// The model file of the command; none for `info`.
+    pub fn model(self) -> Option<ModelFile<'a>>
         ensures { result ≡ model_of self.entry }
     {
         match self {
-            Command::New(args) => args.on.model,
-            Command::Run(args) => args.on.model,
-            Command::Grow(args) => args.on.model,
-            Command::Migrate(args) => args.model,
-            Command::Recover(args) => args.model,
-            Command::Verify(args) => args.on.model,
-            Command::Log(args) => args.on.model,
-            Command::Show(args) => args.on.model,
-            Command::Stats(args) => args.of.model,
-            Command::Draw(args) => args.of.model,
-            Command::Seq(args) | Command::Check(args) => args.model,
-            Command::Node(args) => args.model,
-            Command::Extend(args)
-            | Command::Reopen(args)
-            | Command::Cut(args)
-            | Command::Status(args) => args.model,
+            Command::New(args) => Some(args.on.model),
+            Command::Run(args) => Some(args.on.model),
+            Command::Grow(args) => Some(args.on.model),
+            Command::Migrate(args) => Some(args.model),
+            Command::Recover(args) => Some(args.model),
+            Command::Status(args) => Some(args.on.model),
+            Command::Info(_) => None,
+            Command::Verify(args) => Some(args.on.model),
+            Command::Log(args) => Some(args.on.model),
+            Command::Show(args) => Some(args.on.model),
+            Command::Stats(args) => Some(args.of.model),
+            Command::Draw(args) => Some(args.of.model),
+            Command::Seq(args) => Some(args.model),
+            Command::Check(args) => Some(args.model),
+            Command::Node(args) => Some(args.model),
+            Command::Extend(args) | Command::Reopen(args) | Command::Cut(args) => Some(args.model),
         }
     }
 }
@@ -258,6 +260,46 @@ pub struct RecoverArgs<'a> {
     pub large: bool,
 }
 
+/// The format of what a command prints.
+#[derive(Clone, Copy, Debug, PartialEq, Eq)]
+pub enum Format {
+    /// Lines of words.
+    Text,
+    /// Comma-separated values, by RFC 4180.
+    Csv,
+    /// JSON, by RFC 8259.
+    Json,
+}
+
+/// The arguments of `status`.
+#[derive(Clone, Copy, Debug, PartialEq, Eq)]
+pub struct StatusArgs<'a> {
+    /// The model file and the disk.
+    pub on: DiskArgs<'a>,
+    /// The format of what is printed.
+    pub format: Format,
+}
+
+/// The arguments of `info`.
+#[derive(Clone, Copy, Debug, PartialEq, Eq)]
+pub struct InfoArgs<'a> {
+    /// The path of the disk's file.
+    pub disk: &'a str,
+    /// Whether the disk may have up to 16,777,216 sectors instead of 131,072.
+    pub large: bool,
+    /// The format of what is printed.
+    pub format: Format,
+}
+
+/// The arguments of `seq`.
+#[derive(Clone, Copy, Debug, PartialEq, Eq)]
+pub struct SeqArgs<'a> {
+    /// The model file.
+    pub model: ModelFile<'a>,
+    /// The format of what is printed. As a table, that is the log alone.
+    pub format: Format,
+}
+
 /// The arguments of `verify`.
 #[derive(Clone, Copy, Debug, PartialEq, Eq)]
 pub struct VerifyArgs<'a> {
@@ -281,6 +323,8 @@ pub struct LogArgs<'a> {
     pub process: Option<u32>,
     /// Whether the content of an event is printed with the names that the model has for it.
     pub names: bool,
+    /// The format of what is printed.
+    pub format: Format,
 }
 
 /// The arguments of `show`.
@@ -290,6 +334,10 @@ pub struct ShowArgs<'a> {
     pub on: DiskArgs<'a>,
     /// Whether state words are printed with the names that the model has for them.
     pub names: bool,
+    /// Whether only the messages that are not handled are printed, as `log` prints events.
+    pub pending: bool,
+    /// The format of what is printed. As a table, that is either the processes or these messages.
+    pub format: Format,
 }
 
 /// The arguments of `stats`.
@@ -297,10 +345,35 @@ pub struct ShowArgs<'a> {
 pub struct StatsArgs<'a> {
     /// The run that is counted.
     pub of: SourceArgs<'a>,
-    /// Whether the figures are printed as comma-separated values instead of a text.
-    pub csv: bool,
+    /// The format of what is printed.
+    pub format: Format,
     /// Whether the figures of the state words that the model has names for are printed too.
     pub names: bool,
+    /// The only table that is printed; none for those of the run.
+    pub table: Option<Table>,
+    /// The tick from which on a table over virtual time counts, at most 2^40; none for all.
+    pub warm_up: Option<u64>,
+}
+
+/// A table of the figures of a run.
+#[derive(Clone, Copy, Debug, PartialEq, Eq)]
+pub enum Table {
+    /// The run as a whole.
+    Summary,
+    /// How the events and sends of the processes, and the delays of the messages, spread.
+    Spreads,
+    /// The processes that handled the most events.
+    Busiest,
+    /// The sum and the mean of each named number over the processes, at the end.
+    Totals,
+    /// Each named number of each process over virtual time.
+    Processes,
+    /// Each named number over virtual time and the processes of a kind.
+    Kinds,
+    /// Each named number over virtual time and all processes.
+    Overall,
+    /// Each named word of the messages of a sort.
+    Words,
 }
 
 /// The arguments of `draw`.
@@ -319,6 +392,8 @@ pub struct DrawArgs<'a> {
     /// The path of a trace file: only the course of its run is drawn; none for a picture of the
     /// run.
     pub trace: Option<&'a str>,
+    /// Whether a value change dump of the named numbers is printed instead of a picture.
+    pub vcd: bool,
 }
 
 /// The arguments of `node`.

@@ -1,17 +1,18 @@
 // Options that do not go together. `clap` could refuse them itself, but says nothing of the words
 // that it then takes.
 
-ghost use Rattle.std.specs.Prelude.{◌≡◌, ◌∷◌, [], is_some, MatchOption};
+ghost use Rattle.std.specs.Prelude.{◌≡◌, ◌∷◌, ◌||◌, [], is_some, MatchOption};
 ghost use Rattle.clap.specs.Words.{found_of, rows_of, HasKind};
 ghost use Rattle.cli.specs.Command.{company_fault, drawn_fault, excluded_fault, is_drawn_twice};
 ghost use Rattle.cli.specs.Command.{is_excluded, is_excluded_anywhere, is_excluded_over_nodes};
 ghost use Rattle.cli.specs.Command.{is_lonely, is_no_span, is_over_nodes, is_there, is_used};
 ghost use Rattle.cli.specs.Command.{is_without_another, is_without_archive};
 ghost use Rattle.cli.specs.Command.{is_without_checkpoint, is_without_create, is_without_record};
-ghost use Rattle.cli.specs.Command.{is_without_sockets, lonely_fault, looking_fault, span_fault};
+ghost use Rattle.cli.specs.Command.{is_without_sockets, is_without_table, lonely_fault};
+ghost use Rattle.cli.specs.Command.{looking_fault, span_fault};
 ghost use Rattle.cli.specs.Command.{together_fault};
 
-use crate::values::{is_used, optional_number, optional_text};
+use crate::values::{is_text, is_used, optional_number, optional_text};
 use clap::error::ErrorKind;
 use clap::{ArgMatches, Command as ClapCommand, Error};
 use std::alloc::Global;
@@ -84,13 +85,24 @@ fn without_another(values: &ArgMatches<'_>) -> Option<&'static str>
     }
 }
 
-/// What is wrong with an option for seals or archived parts, if a run makes none of them.
+/// What is wrong with an option for seals, archived parts or a table, if there are none.
 fn without_record(values: &ArgMatches<'_>) -> Option<&'static str>
     ensures { is_some result ≡ is_without_record (rows_of (found_of values.now)) }
 {
     match without_checkpoint(values) {
         Some(message) => Some(message),
-        None => without_archive(values),
+        None => without_archive_or_table(values),
+    }
+}
+
+/// What is wrong with an option for archived parts or a table, if there are none.
+fn without_archive_or_table(values: &ArgMatches<'_>) -> Option<&'static str>
+    ensures { is_some result ≡ (is_without_archive (rows_of (found_of values.now))
+        || is_without_table (rows_of (found_of values.now))) }
+{
+    match without_archive(values) {
+        Some(message) => Some(message),
+        None => without_table(values),
     }
 }
 
@@ -160,6 +172,19 @@ fn without_archive(values: &ArgMatches<'_>) -> Option<&'static str>
     }
 }
 
+/// What is wrong with a tick from which on a table counts, if none is named.
+fn without_table(values: &ArgMatches<'_>) -> Option<&'static str>
+    ensures { is_some result ≡ is_without_table (rows_of (found_of values.now)) }
+{
+    if is_there(values, "table") {
+        None
+    } else if is_there(values, "warm-up") {
+        Some("the argument '--warm-up <T>' needs '--table <NAME>', which names a table")
+    } else {
+        None
+    }
+}
+
 /// The error for options that exclude one another.
 fn refused_excluded(alloc: Global, name: &str, values: &ArgMatches<'_>) -> Option<Error>
     ensures { MatchOption result (excluded_fault (rows_of (found_of values.now)) ≡ [])
@@ -224,28 +249,31 @@ fn is_over_nodes(values: &ArgMatches<'_>) -> bool
         || is_used(values, "overlap")
 }
 
-/// The error if both the load and the course in a trace are to be drawn.
+/// The error if two pictures are to be drawn.
 fn refused_drawn(alloc: Global, name: &str, values: &ArgMatches<'_>) -> Option<Error>
     ensures { MatchOption result (drawn_fault (rows_of (found_of values.now)) ≡ [])
         (λ e. HasKind (drawn_fault (rows_of (found_of values.now))) e) }
 {
-    if is_drawn_twice(values) {
-        Some(error_of(
-            alloc,
-            name,
-            ErrorKind::ArgumentConflict,
-            "the argument '--load' cannot be used with '--trace <FILE>'",
-        ))
-    } else {
-        None
+    match drawn_twice(values) {
+        Some(message) => Some(error_of(alloc, name, ErrorKind::ArgumentConflict, message)),
+        None => None,
     }
 }
 
-/// Whether both the load and the course in a trace are to be drawn.
-fn is_drawn_twice(values: &ArgMatches<'_>) -> bool
-    ensures { result ≡ is_drawn_twice (rows_of (found_of values.now)) }
+/// What is wrong if both the load and the course in a trace are to be drawn, or either of them as a
+/// value change dump.
+fn drawn_twice(values: &ArgMatches<'_>) -> Option<&'static str>
+    ensures { is_some result ≡ is_drawn_twice (rows_of (found_of values.now)) }
 {
-    is_used(values, "load") && optional_text(values, "trace").is_some()
+    if is_used(values, "load") && is_there(values, "trace") {
+        Some("the argument '--load' cannot be used with '--trace <FILE>'")
+    } else if is_text(optional_text(values, "picture"), "vcd")
+        && (is_used(values, "load") || is_there(values, "trace"))
+    {
+        Some("the argument '--format vcd' cannot be used with '--load' or '--trace <FILE>'")
+    } else {
+        None
+    }
 }
 
 /// The error if the time of `--to` is before that of `--from`.

@@ -4,7 +4,8 @@ ghost use Rattle.std.specs.Prelude.{◌≡◌, ◌≤◌, false, true, IfOk};
 ghost use Rattle.clap.specs.Words.{app_of, rule_of};
 ghost use Rattle.clap.specs.declared.builder.command.Command.TheViews.{out-Command as fields_of};
 ghost use Rattle.cli.specs.Command.{advice_option, any_text, choice_option};
-ghost use Rattle.cli.specs.Command.{created_option, draw_command, flag, log_command};
+ghost use Rattle.cli.specs.Command.{created_option, draw_command, flag, format_option};
+ghost use Rattle.cli.specs.Command.{info_command, log_command, picture_option, seq_command};
 ghost use Rattle.cli.specs.Command.{grow_command, large_option, migrate_command, refusing};
 ghost use Rattle.cli.specs.Command.{most_sectors, on_any_disk, origin_option};
 ghost use Rattle.cli.specs.Command.{new_command, node_command, number_option, on_disk, on_model};
@@ -13,7 +14,8 @@ ghost use Rattle.cli.specs.Command.{quiet_option, recover_command, reserve_optio
 ghost use Rattle.cli.specs.Command.{set_option};
 ghost use Rattle.cli.specs.Command.{reserved_option, run_apart, run_command, run_kept, run_made};
 ghost use Rattle.cli.specs.Command.{run_stored, path_argument, program_of};
-ghost use Rattle.cli.specs.Command.{show_command, stats_command, text_option, time_option};
+ghost use Rattle.cli.specs.Command.{show_command, stats_command, status_command, text_option};
+ghost use Rattle.cli.specs.Command.{time_option};
 ghost use Rattle.cli.specs.Command.{verify_command, without_commands};
 ghost use Rattle.cli.specs.Command.{AddsArgument, AddsCommand, AddsRule, IsApp};
 
@@ -60,16 +62,14 @@ pub fn program<'a>(alloc: Global, texts: Texts<'a>) -> Result<ClapCommand<'a>, A
     );
     let program = with_command(program, on_any_disk(alloc, "cut", CUT_ABOUT, CUT_DISK_HELP));
     let program = with_command(program, recover(alloc));
-    let program = with_command(
-        program,
-        on_any_disk(alloc, "status", STATUS_ABOUT, STATUS_HELP),
-    );
+    let program = with_command(program, status(alloc));
+    let program = with_command(program, info(alloc));
     let program = with_command(program, verify(alloc));
     let program = with_command(program, log(alloc));
     let program = with_command(program, show(alloc));
     let program = with_command(program, stats(alloc));
     let program = with_command(program, draw(alloc));
-    let program = with_command(program, on_model(alloc, "seq", SEQ_ABOUT, seq_help));
+    let program = with_command(program, seq(alloc, seq_help));
     let program = with_command(program, on_model(alloc, "check", CHECK_ABOUT, CHECK_HELP));
     with_command(program, node(alloc))
 }
@@ -493,6 +493,15 @@ opens the gate. Nothing else on the disk changes.
 
 Output: 'reopened: committed G events N', as 'run' prints what is committed.";
 
+/// The command `status`.
+fn status<'a>(alloc: Global) -> Result<ClapCommand<'a>, AllocError>
+    ensures { IfOk result (IsApp status_command) }
+{
+    let command = on_disk(alloc, "status", STATUS_ABOUT, STATUS_HELP);
+    let command = with_argument(command, format_option(alloc));
+    with_argument(command, large_option(alloc))
+}
+
 const STATUS_ABOUT: &str = "Prints how far a disk's run has come and how much room is left";
 
 const STATUS_HELP: &str = "\
@@ -508,11 +517,45 @@ Output, all numbers decimal:
   origin T                                  where the disk begins, if it goes on from another one
   events before N                           and how many events came before that
 
+With --format csv or json one row has these numbers, with their names.
+
 In place of 'full at about ..' it prints 'room to the end at the pace of the last L commits' where
 the rest of the run has room, and neither where nothing is committed or the run is at its end.
 
 Room is counted in sectors of the disk, and not in bytes of the device with its file: a device
 that is full sooner ends the run, unless 'new --reserve' has reserved the whole file.";
+
+/// The command `info`, which takes no model file.
+fn info<'a>(alloc: Global) -> Result<ClapCommand<'a>, AllocError>
+    ensures { IfOk result (IsApp info_command) }
+{
+    let command = ClapCommand::new(alloc, "info")
+        .about(INFO_ABOUT)
+        .after_help(INFO_HELP);
+    let command = with_argument(Ok(command), path(alloc, "DISK", "The file of the disk"));
+    let command = with_argument(command, advice_option(alloc));
+    let command = with_argument(command, quiet_option(alloc));
+    let command = with_argument(command, format_option(alloc));
+    with_argument(command, large_option(alloc))
+}
+
+const INFO_ABOUT: &str = "Prints what a disk is, without its model file";
+
+const INFO_HELP: &str = "\
+The disk is only read. Nothing is replayed: the events are those that the records say they have.
+
+Output, a line for each name with its value:
+  format         of the disk: 1 or 2
+  identity       the words that identify the model, with blanks between
+  processes      how many the model has
+  end            the end of the simulation, in ticks
+  time           the time up to which the last record goes, in ticks
+  events         in the records of this disk
+  records        in all, and of them checkpoints, ends and seals
+  origin         the time from which the disk goes on, of one that goes on from another disk
+  events_before  and how many events came before that
+  used           sectors, of
+  sectors        in all";
 
 /// The command `log`.
 fn log<'a>(alloc: Global) -> Result<ClapCommand<'a>, AllocError>
@@ -524,6 +567,7 @@ fn log<'a>(alloc: Global) -> Result<ClapCommand<'a>, AllocError>
     let process = optional_number(alloc, "process", "L", 0, 4_294_967_295, PROCESS_HELP);
     let command = with_argument(command, process);
     let command = with_argument(command, flag(alloc, "names", LOG_NAMES_HELP));
+    let command = with_argument(command, format_option(alloc));
     with_argument(command, large_option(alloc))
 }
 
@@ -574,7 +618,12 @@ A disk of format 1 fails with Recovery OtherModel; only 'migrate' reads it.
 If the output is not read to its end, as with '| head', the command fails with Output and status 1.
 
 Output, all numbers decimal:
-  TIME FROM NUMBER TO A B C D   each committed event";
+  TIME FROM NUMBER TO A B C D   each committed event
+
+With --format csv or json a row for each event has 'time', 'sender', 'number', 'receiver' and the
+words of its content: under the names that the model has for them, or else 'a', 'b', 'c' and 'd'. In
+a model with several sorts of messages a row has its 'sort', and the words that this sort has.
+Numbers are below 2^64, and in JSON can exceed 2^53, beyond which some readers round them.";
 
 const SHOW_ABOUT: &str = "Prints the committed world of a disk";
 
@@ -584,7 +633,12 @@ A disk of format 1 fails with Recovery OtherModel; only 'migrate' reads it.
 Output, all numbers decimal:
   virtual time TIME                    ticks
   lp LP sent NUMBER state WORDS        each process
-  pending TIME FROM NUMBER TO A B C D  each message that is not handled";
+  pending TIME FROM NUMBER TO A B C D  each message that is not handled
+
+With --format csv or json a row for each process has 'process', 'kind' in a model with several kinds
+of processes, 'sent', and the numbers in its state: under the names that the model has for them, or
+else 'word0' and so on. With --pending the rows are those of the messages that are not handled, as
+'log' prints events.";
 
 /// The command `show`.
 fn show<'a>(alloc: Global) -> Result<ClapCommand<'a>, AllocError>
@@ -592,8 +646,12 @@ fn show<'a>(alloc: Global) -> Result<ClapCommand<'a>, AllocError>
 {
     let command = on_disk(alloc, "show", SHOW_ABOUT, SHOW_HELP);
     let command = with_argument(command, flag(alloc, "names", SHOW_NAMES_HELP));
+    let command = with_argument(command, flag(alloc, "pending", PENDING_HELP));
+    let command = with_argument(command, format_option(alloc));
     with_argument(command, large_option(alloc))
 }
+
+const PENDING_HELP: &str = "Prints only the messages that are not handled, as 'log' prints events";
 
 const SHOW_NAMES_HELP: &str =
     "Prints each state word with the name that a model by rules has for it";
@@ -604,9 +662,11 @@ fn stats<'a>(alloc: Global) -> Result<ClapCommand<'a>, AllocError>
 {
     let command = on_model(alloc, "stats", STATS_ABOUT, STATS_HELP);
     let command = with_argument(command, optional_argument(alloc, "DISK", MAYBE_DISK_HELP));
-    let format = text_option(alloc, "format", "F", "text", FORMAT_HELP);
-    let command = with_argument(command, format);
+    let command = with_argument(command, format_option(alloc));
     let command = with_argument(command, flag(alloc, "names", STATS_NAMES_HELP));
+    let table = optional_text(alloc, "table", "NAME", TABLE_HELP);
+    let command = with_argument(command, table);
+    let command = with_argument(command, time_option(alloc, "warm-up", WARM_UP_HELP));
     with_argument(command, large_option(alloc))
 }
 
@@ -614,7 +674,9 @@ const STATS_ABOUT: &str = "Prints how many events, sends and delays a run had";
 
 const MAYBE_DISK_HELP: &str = "The file of the disk; without one the model is run to its end";
 
-const FORMAT_HELP: &str = "The format of what is printed: text or csv";
+const TABLE_HELP: &str = "Prints only the table of this name (see below)";
+
+const WARM_UP_HELP: &str = "With --table: leaves out what is before T ticks, 0 to 1099511627776";
 
 const STATS_NAMES_HELP: &str =
     "Prints the sum and the mean of each named state word over the processes too";
@@ -625,7 +687,19 @@ Without one they are those of the whole run, made by the plain runner as by 'seq
 
 Output, all numbers decimal:
   a line of words and a table; or with --format csv rows of values with commas between, and
-  a line with their names above them";
+  a line with their names above them; or with --format json an object that has the tables
+
+Tables for --table:
+  summary     time, processes, events, pending messages, events a tick
+  spreads     the least, the median and the most of what a process handled and sent, and of delays
+  busiest     the processes that handled most
+  totals      the sum and the mean of each named number over the processes, at the end
+  processes   each named number of each process over virtual time: mean, least, most, last
+  kinds       the same over the processes of a kind
+  overall     the same over all processes
+  words       each named word of messages: how many, mean, deviation, least, most, percentiles
+
+--warm-up is about the last four; the others are those of the whole run.";
 
 /// The command `draw`.
 fn draw<'a>(alloc: Global) -> Result<ClapCommand<'a>, AllocError>
@@ -640,8 +714,20 @@ fn draw<'a>(alloc: Global) -> Result<ClapCommand<'a>, AllocError>
     let command = with_argument(command, flag(alloc, "load", LOAD_HELP));
     let trace = optional_text(alloc, "trace", "FILE", COURSE_HELP);
     let command = with_argument(command, trace);
+    let command = with_argument(command, picture_option(alloc));
     with_argument(command, large_option(alloc))
 }
+
+/// The option for the format of a picture. It is `--format`, but has a name of its own for the
+/// other commands' option, which takes the formats of tables.
+fn picture_option<'a>(alloc: Global) -> Arg<'a>
+    ensures rule { rule_of result ≡ picture_option }
+    ensures local { result.global ≡ false }
+{
+    text_option(alloc, "picture", "F", "svg", PICTURE_HELP).long("format")
+}
+
+const PICTURE_HELP: &str = "The format: svg, or vcd for the named numbers over time";
 
 const DRAW_ABOUT: &str = "Prints a picture of a run, as SVG";
 
@@ -658,7 +744,16 @@ With --trace it shows, over the rounds, GVT, the efficiency, antimessages and co
 trace alone.
 
 Output:
-  an SVG document, which a browser shows";
+  an SVG document, which a browser shows; or with --format vcd a value change dump (IEEE 1364) of
+  the named numbers in the states, which waveform viewers show: a tick is a nanosecond there";
+
+/// The command `seq`, with this help.
+fn seq<'a>(alloc: Global, help: &'a str) -> Result<ClapCommand<'a>, AllocError>
+    ensures { IfOk result (IsApp seq_command) }
+{
+    let command = on_model(alloc, "seq", SEQ_ABOUT, help);
+    with_argument(command, format_option(alloc))
+}
 
 const SEQ_ABOUT: &str =
     "Runs a model to its end, one event at a time, and prints its log and its final world";
@@ -673,7 +768,9 @@ Output, all numbers decimal:
   TIME FROM NUMBER TO A B C D          each event that was handled
   virtual time TIME                    ticks
   lp LP sent NUMBER state WORDS        each process
-  pending TIME FROM NUMBER TO A B C D  each message that is not handled"
+  pending TIME FROM NUMBER TO A B C D  each message that is not handled
+
+With --format csv or json it prints the events alone, as 'log' does."
     )
 }
 
@@ -866,6 +963,16 @@ fn optional_argument<'a>(alloc: Global, id: &'a str, help: &'a str) -> Arg<'a>
         .value_parser(ValueParser::NonEmptyString)
         .help(help)
 }
+
+/// The option for the format of what is printed.
+fn format_option<'a>(alloc: Global) -> Arg<'a>
+    ensures rule { rule_of result ≡ format_option }
+    ensures local { result.global ≡ false }
+{
+    text_option(alloc, "format", "F", "text", FORMAT_HELP)
+}
+
+const FORMAT_HELP: &str = "The format of what is printed: text, csv or json";
 
 /// The flag for a disk whose file gets its whole room on the device at once.
 fn reserve_option<'a>(alloc: Global) -> Arg<'a>

@@ -43,6 +43,7 @@ const NUMBERS: &[&str] = &[
     "progress",
     "from",
     "to",
+    "warm-up",
     "process",
     "parcels",
     "seed",

@@ -14,8 +14,9 @@ mod values;
 mod words;
 
 pub use command::{
-    BatchOption, Command, DiskArgs, DrawArgs, GrowArgs, LogArgs, MigrateArgs, ModelArgs, ModelFile,
-    NewArgs, NodeArgs, RecoverArgs, RunArgs, Settings, ShowArgs, SourceArgs, StatsArgs, VerifyArgs,
+    BatchOption, Command, DiskArgs, DrawArgs, Format, GrowArgs, InfoArgs, LogArgs, MigrateArgs,
+    ModelArgs, ModelFile, NewArgs, NodeArgs, RecoverArgs, RunArgs, SeqArgs, Settings, ShowArgs,
+    SourceArgs, StatsArgs, StatusArgs, Table, VerifyArgs,
 };
 pub use grammar::{Texts, most_sectors, program_help, seq_help};
 pub use helping::help_text;

@@ -1,23 +1,24 @@
 // Reads the command line.
 
-ghost use Rattle.std.specs.Prelude.{◌≡◌, ◌≤◌, map, IfOk};
+ghost use Rattle.std.specs.Prelude.{◌≡◌, ◌≤◌, map, IfOk, IfSome};
 ghost use Rattle.clap.specs.Words.{found_of, rows_of, FailsBy};
 ghost use Rattle.cli.specs.Command.{model_of, refusal_of, IsDrawRanged, IsLogRanged, IsNamed};
-ghost use Rattle.cli.specs.Command.{IsRanged, SaysFile};
+ghost use Rattle.cli.specs.Command.{IsRanged, IsStatsRanged, SaysFile, SaysInfo, SaysSeq};
 ghost use Rattle.cli.specs.Command.{IsRunRanged, IsSized, Says, SaysDisk, SaysDraw, SaysGrow};
 ghost use Rattle.cli.specs.Command.{SaysLog, SaysMigrate, SaysModel, SaysNew, SaysNode};
 ghost use Rattle.cli.specs.Command.{SaysRecover, SaysRows, SaysRun, SaysShow, SaysSource};
-ghost use Rattle.cli.specs.Command.{SaysStats, SaysVerify};
+ghost use Rattle.cli.specs.Command.{SaysStats, SaysStatus, SaysVerify};
 
 use crate::command::{
-    Command, DiskArgs, DrawArgs, GrowArgs, LogArgs, MigrateArgs, ModelArgs, ModelFile, NewArgs,
-    NodeArgs, RecoverArgs, RunArgs, Settings, ShowArgs, SourceArgs, StatsArgs, VerifyArgs,
+    Command, DiskArgs, DrawArgs, GrowArgs, InfoArgs, LogArgs, MigrateArgs, ModelArgs, ModelFile,
+    NewArgs, NodeArgs, RecoverArgs, RunArgs, SeqArgs, Settings, ShowArgs, SourceArgs, StatsArgs,
+    StatusArgs, VerifyArgs,
 };
 use crate::company::LAST_TIME;
 use crate::grammar::{Texts, most_sectors, program};
 use crate::values::{
-    batch, is_flagged, is_text, judge, optional_number, optional_small_number, optional_text,
-    range, refusal, rounds, small_number, small_number_or, text,
+    batch, format, is_flagged, is_text, judge, optional_number, optional_small_number,
+    optional_text, range, refusal, rounds, small_number, small_number_or, table, text,
 };
 use clap::{ArgMatches, Error};
 use std::alloc::Global;
@@ -29,12 +30,13 @@ use std::convert::AsStr;
 ///
 /// If they name none, returns `clap`'s error: its text says what is wrong, or is the help or the
 /// version that was asked for (of the kinds `DisplayHelp` and `DisplayVersion`). Then come an invalid
-/// batch and an invalid number of sectors (`ValueValidation`), and an invalid range of processes and
-/// an unknown format (`InvalidValue`), in `clap`'s words; then options that do not go together, each
-/// in `clap`'s form: options of node programs without `--sockets`, `--sectors` or `--reserve` of
-/// `run` without `--create`, and `--seal` without `--checkpoint` (`MissingRequiredArgument`);
-/// `--overlap` with `--together`, `--bind` with `--attach`, `--plain` with an option of nodes, and
-/// `--load` with `--trace` (`ArgumentConflict`); and a time of `--to` before that of `--from`
+/// batch and an invalid number of sectors (`ValueValidation`), and an invalid range of processes,
+/// an unknown format and an unknown table (`InvalidValue`), in `clap`'s words; then options that do
+/// not go together, each in `clap`'s form: options of node programs without `--sockets`,
+/// `--sectors` or `--reserve` of `run` without `--create`, `--seal` without `--checkpoint`, and
+/// `--warm-up` without `--table` (`MissingRequiredArgument`); `--overlap` with `--together`,
+/// `--bind` with `--attach`, `--plain` with an option of nodes, `--load` with `--trace`, and either
+/// with a value change dump (`ArgumentConflict`); and a time of `--to` before that of `--from`
 /// (`ValueValidation`). If an allocation failed, the result is an error of `clap` too.
 pub fn read_command<'a, S: AsStr>(
     alloc: Global,
@@ -44,7 +46,8 @@ pub fn read_command<'a, S: AsStr>(
 ) -> Result<Command<'a>, Error>
     ensures ok { IfOk result (Says texts.entry.name.now (map S.text words.entry.now)) }
     ensures ranged { IfOk result IsRanged }
-    ensures set { IfOk result (λ command. (model_of command).settings ≡ settings.entry) }
+    ensures set { IfOk result (λ command.
+        IfSome (model_of command) (λ file. file.settings ≡ settings.entry)) }
     ensures refused { FailsBy (refusal_of texts.entry.name.now (map S.text words.entry.now))
         result }
 {
@@ -63,7 +66,7 @@ fn command_of<'a>(name: &str, values: &ArgMatches<'a>, settings: Settings<'a>) -
     requires { IsNamed name.now }
     ensures says { SaysRows result name.now (rows_of (found_of values.now)) }
     ensures ranged { IsRanged result }
-    ensures set { (model_of result).settings ≡ settings.entry }
+    ensures set { IfSome (model_of result) (λ file. file.settings ≡ settings.entry) }
 {
     match name {
         "new" => Command::New(new_args(values, settings)),
@@ -74,13 +77,14 @@ fn command_of<'a>(name: &str, values: &ArgMatches<'a>, settings: Settings<'a>) -
         "reopen" => Command::Reopen(disk_args(values, settings)),
         "cut" => Command::Cut(disk_args(values, settings)),
         "recover" => Command::Recover(recover_args(values, settings)),
-        "status" => Command::Status(disk_args(values, settings)),
+        "status" => Command::Status(status_args(values, settings)),
+        "info" => Command::Info(info_args(values)),
         "verify" => Command::Verify(verify_args(values, settings)),
         "log" => Command::Log(log_args(values, settings)),
         "show" => Command::Show(show_args(values, settings)),
         "stats" => Command::Stats(stats_args(values, settings)),
         "draw" => Command::Draw(draw_args(values, settings)),
-        "seq" => Command::Seq(model_args(values, settings)),
+        "seq" => Command::Seq(seq_args(values, settings)),
         "check" => Command::Check(model_args(values, settings)),
         _ => Command::Node(node_args(values, settings)),
     }
@@ -231,6 +235,39 @@ fn recover_args<'a>(values: &ArgMatches<'a>, settings: Settings<'a>) -> RecoverA
     }
 }
 
+/// The arguments of `status`.
+fn status_args<'a>(values: &ArgMatches<'a>, settings: Settings<'a>) -> StatusArgs<'a>
+    ensures says { SaysStatus result (rows_of (found_of values.now)) }
+    ensures set { result.on.model.settings ≡ settings.entry }
+{
+    StatusArgs {
+        on: disk_args(values, settings),
+        format: format(values),
+    }
+}
+
+/// The arguments of `info`.
+fn info_args<'a>(values: &ArgMatches<'a>) -> InfoArgs<'a>
+    ensures { SaysInfo result (rows_of (found_of values.now)) }
+{
+    InfoArgs {
+        disk: text(values, "DISK"),
+        large: is_flagged(values, "large"),
+        format: format(values),
+    }
+}
+
+/// The arguments of `seq`.
+fn seq_args<'a>(values: &ArgMatches<'a>, settings: Settings<'a>) -> SeqArgs<'a>
+    ensures says { SaysSeq result (rows_of (found_of values.now)) }
+    ensures set { result.model.settings ≡ settings.entry }
+{
+    SeqArgs {
+        model: model_file(values, settings),
+        format: format(values),
+    }
+}
+
 /// The arguments of `verify`.
 fn verify_args<'a>(values: &ArgMatches<'a>, settings: Settings<'a>) -> VerifyArgs<'a>
     ensures says { SaysVerify result (rows_of (found_of values.now)) }
@@ -254,6 +291,7 @@ fn log_args<'a>(values: &ArgMatches<'a>, settings: Settings<'a>) -> LogArgs<'a>
         to: optional_number(values, "to", 0, LAST_TIME),
         process: optional_small_number(values, "process", 0, u32::MAX),
         names: is_flagged(values, "names"),
+        format: format(values),
     }
 }
 
@@ -265,18 +303,23 @@ fn show_args<'a>(values: &ArgMatches<'a>, settings: Settings<'a>) -> ShowArgs<'a
     ShowArgs {
         on: disk_args(values, settings),
         names: is_flagged(values, "names"),
+        pending: is_flagged(values, "pending"),
+        format: format(values),
     }
 }
 
 /// The arguments of `stats`.
 fn stats_args<'a>(values: &ArgMatches<'a>, settings: Settings<'a>) -> StatsArgs<'a>
     ensures says { SaysStats result (rows_of (found_of values.now)) }
+    ensures ranged { IsStatsRanged result }
     ensures set { result.of.model.settings ≡ settings.entry }
 {
     StatsArgs {
         of: source_args(values, settings),
-        csv: is_text(optional_text(values, "format"), "csv"),
+        format: format(values),
         names: is_flagged(values, "names"),
+        table: table(values),
+        warm_up: optional_number(values, "warm-up", 0, LAST_TIME),
     }
 }
 
@@ -293,6 +336,7 @@ fn draw_args<'a>(values: &ArgMatches<'a>, settings: Settings<'a>) -> DrawArgs<'a
         processes: range(values),
         load: is_flagged(values, "load"),
         trace: optional_text(values, "trace"),
+        vcd: is_text(optional_text(values, "picture"), "vcd"),
     }
 }
 

@@ -246,11 +246,17 @@ const LOOKING: &str = "\
 These commands only read the disk, and can run beside the run that writes it:
 
   status MODEL DISK    how far the run is, how many records there are, how much room is left
+  info DISK            what a disk is, where its model file is not at hand
   log MODEL DISK       the committed events; --from, --to and --process choose, --names names words
   show MODEL DISK      the committed world: states and pending messages
-  stats MODEL DISK     how many events, sends and delays; --format csv, --names
+  stats MODEL DISK     how many events, sends and delays; --table picks one of the tables, as those
+                       of named numbers over virtual time
   draw MODEL DISK      a picture (SVG): each event and message, or with --load the load of processes
+                       (or with --format vcd a value change dump of the named numbers)
   verify MODEL DISK    whether the disk is what a run leaves ('help repair')
+
+With --format csv or json 'log', 'show', 'status', 'stats', 'info' and 'seq' print tables, with the
+names that the model has.
 
 Without a disk 'stats' and 'draw' run the model themselves, and 'seq' prints its log and world.
 

@@ -7,15 +7,17 @@ ghost use Rattle.clap.specs.ValueTests.{accepts};
 ghost use Rattle.clap.specs.Words.{first_of, found_of, rows_of, HasKind};
 ghost use Rattle.clap.specs.declared.error.kind.ErrorKind.TheVariants.{InvalidValue};
 ghost use Rattle.clap.specs.declared.error.kind.ErrorKind.TheVariants.{ValueValidation};
-ghost use Rattle.cli.specs.Command.{batch_in, form_fault, has_no_count, has_no_size, is_no_count};
-ghost use Rattle.cli.specs.Command.{has_no_count_of_run, is_no_format, is_no_range, is_no_size};
+ghost use Rattle.cli.specs.Command.{batch_in, form_fault, format_in, has_no_count, has_no_size};
+ghost use Rattle.cli.specs.Command.{has_no_count_of_run, has_no_form, has_no_name, is_no_count};
+ghost use Rattle.cli.specs.Command.{is_no_format, is_no_picture, is_no_range, is_no_size};
+ghost use Rattle.cli.specs.Command.{is_no_table, table_named};
 ghost use Rattle.cli.specs.Command.{is_number, is_text, is_used, judge_in, rounds_in};
 ghost use Rattle.cli.specs.Command.{number_fault, number_in, number_or, optional_number_in};
 ghost use Rattle.cli.specs.Command.{range_of, text_in};
 ghost use Rattle.cli.specs.Command.{text_fault, unread_fault, written_number};
 ghost use Rattle.cli.specs.Command.{IsBatchRanged, IsFlagIn, IsWithin};
 
-use crate::command::BatchOption;
+use crate::command::{BatchOption, Format, Table};
 use crate::company::refused_company;
 use crate::grammar::{most_sectors, refusing};
 use clap::builder::ValueParser;
@@ -170,6 +172,48 @@ pub fn judge(values: &ArgMatches<'_>) -> Option<u32>
     }
 }
 
+/// The format of what is printed. Other text yields `Text`, but `refusal` refuses it.
+pub fn format(values: &ArgMatches<'_>) -> Format
+    ensures { result ≡ format_in (rows_of (found_of values.now)) }
+{
+    let text = optional_text(values, "format");
+    if is_text(text, "csv") {
+        Format::Csv
+    } else if is_text(text, "json") {
+        Format::Json
+    } else {
+        Format::Text
+    }
+}
+
+/// The only table that is printed, if one is named.
+pub fn table(values: &ArgMatches<'_>) -> Option<Table>
+    ensures { result ≡ option_and_then table_named
+        (first_of (codes "table") (rows_of (found_of values.now))) }
+{
+    match optional_text(values, "table") {
+        Some(text) => table_named(text),
+        None => None,
+    }
+}
+
+/// The table of this name.
+fn table_named(name: &str) -> Option<Table>
+    ensures { result ≡ table_named name.now }
+{
+    match name {
+        "summary" => Some(Table::Summary),
+        "spreads" => Some(Table::Spreads),
+        "busiest" => Some(Table::Busiest),
+        "totals" => Some(Table::Totals),
+        "processes" => Some(Table::Processes),
+        "kinds" => Some(Table::Kinds),
+        "overall" => Some(Table::Overall),
+        "words" => Some(Table::Words),
+        _ => None,
+    }
+}
+
 /// The range of processes of a picture.
 pub fn range(values: &ArgMatches<'_>) -> Option<(u32, u32)>
     ensures value { result ≡ option_and_then range_of
@@ -297,14 +341,38 @@ fn refused_sizes(alloc: Global, values: &ArgMatches<'_>) -> Option<Error>
     }
 }
 
-/// The error for an invalid range or format.
+/// The error for an invalid range, format or table.
 fn refused_form(alloc: Global, values: &ArgMatches<'_>) -> Option<Error>
     ensures { MatchOption result (form_fault (rows_of (found_of values.now)) ≡ [])
         (λ e. HasKind (form_fault (rows_of (found_of values.now))) e) }
 {
     match refused_range(alloc, optional_text(values, "processes")) {
         Some(error) => Some(error),
-        None => refused_format(alloc, optional_text(values, "format")),
+        None => refused_shape(alloc, values),
+    }
+}
+
+/// The error for an unknown format or table.
+fn refused_shape(alloc: Global, values: &ArgMatches<'_>) -> Option<Error>
+    ensures { MatchOption result (has_no_form (rows_of (found_of values.now)) ≡ false)
+        (λ e. (has_no_form (rows_of (found_of values.now)) ≡ true)
+        × HasKind (InvalidValue ∷ []) e) }
+{
+    match refused_format(alloc, optional_text(values, "format")) {
+        Some(error) => Some(error),
+        None => refused_name(alloc, values),
+    }
+}
+
+/// The error for an unknown format of a picture, or an unknown table.
+fn refused_name(alloc: Global, values: &ArgMatches<'_>) -> Option<Error>
+    ensures { MatchOption result (has_no_name (rows_of (found_of values.now)) ≡ false)
+        (λ e. (has_no_name (rows_of (found_of values.now)) ≡ true)
+        × HasKind (InvalidValue ∷ []) e) }
+{
+    match refused_picture(alloc, optional_text(values, "picture")) {
+        Some(error) => Some(error),
+        None => refused_table(alloc, optional_text(values, "table")),
     }
 }
 
@@ -369,7 +437,7 @@ fn refused_format(alloc: Global, text: Option<&str>) -> Option<Error>
         × HasKind (InvalidValue ∷ []) e) }
 {
     match text {
-        Some(text) if text != "text" && text != "csv" => {
+        Some(text) if text != "text" && text != "csv" && text != "json" => {
             let names = ValueParser::Names(FORMATS);
             Some(no_value(alloc, "format", "F", names, text))
         }
@@ -377,9 +445,52 @@ fn refused_format(alloc: Global, text: Option<&str>) -> Option<Error>
     }
 }
 
+/// The error for an unknown format of a picture.
+fn refused_picture(alloc: Global, text: Option<&str>) -> Option<Error>
+    ensures { MatchOption result (is_no_picture (option_map (λ text. text.now) text.entry) ≡ false)
+        (λ e. (is_no_picture (option_map (λ text. text.now) text.entry) ≡ true)
+        × HasKind (InvalidValue ∷ []) e) }
+{
+    match text {
+        Some(text) if text != "svg" && text != "vcd" => {
+            let names = ValueParser::Names(PICTURES);
+            Some(no_value(alloc, "format", "F", names, text))
+        }
+        _ => None,
+    }
+}
+
+/// The error for an unknown table.
+fn refused_table(alloc: Global, text: Option<&str>) -> Option<Error>
+    ensures { MatchOption result (is_no_table (option_map (λ text. text.now) text.entry) ≡ false)
+        (λ e. (is_no_table (option_map (λ text. text.now) text.entry) ≡ true)
+        × HasKind (InvalidValue ∷ []) e) }
+{
+    match text {
+        Some(text) if table_named(text).is_none() => {
+            let names = ValueParser::Names(TABLES);
+            Some(no_value(alloc, "table", "NAME", names, text))
+        }
+        _ => None,
+    }
+}
+
 const NO_NAMES: &[&str] = &[];
 
-const FORMATS: &[&str] = &["text", "csv"];
+const FORMATS: &[&str] = &["text", "csv", "json"];
+
+const PICTURES: &[&str] = &["svg", "vcd"];
+
+const TABLES: &[&str] = &[
+    "summary",
+    "spreads",
+    "busiest",
+    "totals",
+    "processes",
+    "kinds",
+    "overall",
+    "words",
+];
 
 /// `clap`'s error for a text of an option whose values pass this parser, which refuses the text.
 fn no_value<'a>(

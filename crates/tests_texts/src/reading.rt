@@ -52,11 +52,11 @@ cut: None, together: false, overlap: false, plain: false, attach: false, bind: f
 None, silence: None, retries: None, grow_when_full: false, archive_when_full: false, keep: None, \
 trace: None, stop_file: None, progress: None, create: false, sectors: 4096, reserve: false })
 Log(LogArgs { on: DiskArgs { model: ModelFile { path: \"a\", settings: [] }, disk: \"b\", large: false }, from: None, to: None, \
-process: None, names: false })
+process: None, names: false, format: Text })
 Draw(DrawArgs { of: SourceArgs { model: ModelFile { path: \"a\", settings: [] }, disk: None, large: false }, from: None, to: None, \
-processes: None, load: false, trace: None })
-Stats(StatsArgs { of: SourceArgs { model: ModelFile { path: \"a\", settings: [] }, disk: None, large: false }, csv: false, names: \
-false })
+processes: None, load: false, trace: None, vcd: false })
+Stats(StatsArgs { of: SourceArgs { model: ModelFile { path: \"a\", settings: [] }, disk: None, large: false }, format: Text, names: \
+false, table: None, warm_up: None })
 New(NewArgs { on: DiskArgs { model: ModelFile { path: \"a\", settings: [] }, disk: \"b\", large: false }, sectors: 4096, reserve: \
 false, over: false, from: None })
 Migrate(MigrateArgs { model: ModelFile { path: \"a\", settings: [] }, old: \"b\", new: \"c\", sectors: 4096, reserve: false, large: \
@@ -65,11 +65,13 @@ Recover(RecoverArgs { model: ModelFile { path: \"a\", settings: [] }, old: \"b\"
 false })
 Node(NodeArgs { model: ModelFile { path: \"a\", settings: [] }, socket: \"b\", parcels: 4294967295 })
 Extend(DiskArgs { model: ModelFile { path: \"a\", settings: [] }, disk: \"b\", large: false })
-Status(DiskArgs { model: ModelFile { path: \"a\", settings: [] }, disk: \"b\", large: false })
+Status(StatusArgs { on: DiskArgs { model: ModelFile { path: \"a\", settings: [] }, disk: \"b\", large: false }, format: Text })
 Reopen(DiskArgs { model: ModelFile { path: \"a\", settings: [] }, disk: \"b\", large: false })
 Cut(DiskArgs { model: ModelFile { path: \"a\", settings: [] }, disk: \"b\", large: false })
 Verify(VerifyArgs { on: DiskArgs { model: ModelFile { path: \"a\", settings: [] }, disk: \"b\", large: false }, after: None })
-Show(ShowArgs { on: DiskArgs { model: ModelFile { path: \"a\", settings: [] }, disk: \"b\", large: false }, names: false })
+Show(ShowArgs { on: DiskArgs { model: ModelFile { path: \"a\", settings: [] }, disk: \"b\", large: false }, names: false, pending: false, format: Text })
+Info(InfoArgs { disk: \"b\", large: false, format: Text })
+Seq(SeqArgs { model: ModelFile { path: \"a\", settings: [] }, format: Text })
 Grow(GrowArgs { on: DiskArgs { model: ModelFile { path: \"a\", settings: [] }, disk: \"b\", large: false }, sectors: 131072 })
 ";
 
@@ -159,14 +161,19 @@ fn wrong_row<'a>(
 /// Words, and the command that they give.
 const READ: &str = r#"
 timewarp draw a --load --from=5 --to=5 => Draw, from: Some(5), to: Some(5), load: true
-timewarp seq --advice a => Seq(ModelArgs { model: ModelFile { path: "a", settings: [] } })
+timewarp seq --advice a => Seq
 timewarp node a b --advice => Node
-timewarp seq examples/ring.toml => Seq(ModelArgs { model: ModelFile { path: "examples/ring.toml", settings: [] } })
-timewarp seq -- --help => Seq(ModelArgs { model: ModelFile { path: "--help", settings: [] } })
+timewarp seq examples/ring.toml => Seq, Seq(SeqArgs { model: ModelFile { path: "examples/ring.toml"
+timewarp seq a --format=json => Seq, format: Json
+timewarp seq -- --help => Seq, Seq(SeqArgs { model: ModelFile { path: "--help"
 timewarp log a b => Log
 timewarp log a --to=1099511627776 b --process 4294967295 --from 0 => Log, from: Some(0), to: Some(1099511627776), process: Some(4294967295)
 timewarp reopen a b => Reopen
 timewarp status a b => Status
+timewarp status a b --format csv => Status, format: Csv
+timewarp info b => Info
+timewarp info --format=json --large b --quiet => Info, large: true, format: Json
+timewarp log a b --format json --names => Log, names: true, format: Json
 timewarp verify a b => Verify
 timewarp verify a --after=c b => Verify, after: Some("c")
 timewarp cut a b => Cut
@@ -175,9 +182,14 @@ timewarp recover a b c => Recover
 timewarp recover --large a b --sectors 131073 c --reserve => Recover, sectors: 131073, reserve: true, large: true
 timewarp status a b --quiet => Status
 timewarp stats a => Stats
-timewarp stats a b --format=csv --names => Stats, disk: Some("b"), csv: true, names: true
+timewarp stats a b --format=csv --names => Stats, disk: Some("b"), format: Csv, names: true
+timewarp stats a --table totals => Stats, table: Some(Totals)
+timewarp stats a --warm-up=5 --table kinds --format=json => Stats, format: Json, table: Some(Kinds), warm_up: Some(5)
 timewarp draw a => Draw
-timewarp draw --processes 3..3 a b --trace=t --from=5 --to 9 => Draw(DrawArgs { of: SourceArgs { model: ModelFile { path: "a", settings: [] }, disk: Some("b"), large: false }, from: Some(5), to: Some(9), processes: Some((3, 3)), load: false, trace: Some("t") })
+timewarp draw --processes 3..3 a b --trace=t --from=5 --to 9 => Draw(DrawArgs { of: SourceArgs { model: ModelFile { path: "a", settings: [] }, disk: Some("b"), large: false }, from: Some(5), to: Some(9), processes: Some((3, 3)), load: false, trace: Some("t"), vcd: false })
+timewarp draw a --format vcd --to=9 => Draw, to: Some(9), vcd: true
+timewarp draw a --format=svg => Draw
+timewarp show a b --pending --format csv => Show, pending: true, format: Csv
 timewarp show a --names b => Show, names: true
 timewarp check a => Check(ModelArgs { model: ModelFile { path: "a", settings: [] } })
 # The default is 4096 sectors.
@@ -291,6 +303,9 @@ timewarp run a b --cut=0 --plain => ArgumentConflict
 timewarp run a b --plain --together => ArgumentConflict
 timewarp run a b --overlap --plain => ArgumentConflict
 timewarp draw a --load --trace t => ArgumentConflict
+timewarp draw a --load --format vcd => ArgumentConflict
+timewarp draw a --trace=t --format=vcd => ArgumentConflict
+timewarp stats a --warm-up 5 => MissingRequiredArgument
 timewarp log a b --from 5 --to 4 => ValueValidation
 timewarp draw a --from=200 --to=100 => ValueValidation
 timewarp log a b --to=0 --from=1 => ValueValidation
@@ -301,6 +316,12 @@ timewarp seq a --advice --advice => ArgumentConflict
 timewarp log a b --from -1 => UnknownArgument
 timewarp seq => MissingRequiredArgument
 timewarp seq a b => UnknownArgument
+timewarp info => MissingRequiredArgument
+timewarp info a b => UnknownArgument
+timewarp info a --seed 1 => UnknownArgument
+timewarp stats a --format xml => InvalidValue
+timewarp draw a --format csv => InvalidValue
+timewarp stats a --table sums => InvalidValue
 timewarp seq --nodes 2 a => UnknownArgument
 timewarp node a => MissingRequiredArgument
 timewarp run a b --cut=4294967296 => ValueValidation
@@ -369,7 +390,6 @@ timewarp seq a --batch auto => UnknownArgument
 timewarp log a b --from 1099511627777 => ValueValidation
 timewarp log a b --process=4294967296 => ValueValidation
 timewarp status a => MissingRequiredArgument
-timewarp stats a --format json => InvalidValue
 timewarp stats a b c => UnknownArgument
 timewarp draw a --processes 3..2 => InvalidValue
 timewarp draw a --processes=3 => InvalidValue

@@ -2,7 +2,7 @@
 // `rules_read` and `hostile_rules`.
 
 use rules::{Array, Statement};
-use rules_text::{Kind, Meaning, Mistake, ReadError, Scope, ScopeError, read_rule};
+use rules_text::{Kind, Meaning, Mistake, ReadError, Scope, ScopeError, find_mistakes, read_rule};
 use std::alloc::Global;
 use std::test::Fail;
 
@@ -71,6 +71,89 @@ fn is_right(alloc: Global, row: &str) -> Result<bool, Fail> {
 fn operators_bind_by_strength_and_from_the_left(rt: HostRuntime) -> Result<(), Fail> {
     for row in VALUES.lines() {
         assert!(rt; is_right(rt.alloc(), row)?, "{row}");
+    }
+    Ok(())
+}
+
+/// A scope of the rules of a kind that begins at process 1, in a model with the kind `teller` of
+/// processes 1 to 3, the sorts `arrive` and `leave` and the state `served`.
+fn scope_of_kind(alloc: Global) -> Result<Scope, ScopeError> {
+    let mut scope = Scope::of_kind(alloc, false, 1);
+    scope.add(alloc, "served", Meaning::Word(0))?;
+    scope.add(alloc, "teller", Meaning::Kind { first: 1, count: 3 })?;
+    scope.add(alloc, "arrive", Meaning::Sort(7))?;
+    scope.add(alloc, "leave", Meaning::Sort(8))?;
+    Ok(scope)
+}
+
+/// Rules in that scope, and the trees that they spell.
+const RULES: &str = "\
+served = teller[self + 1] => [Set(0, Two(Plus, Number(1), Two(Modulo, Two(Plus, Two(Minus, Read(Process), Number(1)), Number(1)), Number(3))))]
+served = teller.count + leave => [Set(0, Two(Plus, Number(3), Number(8)))]
+on arrive { served = 1 } on leave { } => [If(Two(Same, Content(0), Number(7)), [Set(0, Number(1))], [If(Two(Same, Content(0), Number(8)), [], [])])]
+on arrive { } served = 1 on leave { } => [If(Two(Same, Content(0), Number(7)), [], []), Set(0, Number(1)), If(Two(Same, Content(0), Number(8)), [], [])]
+repeat i 5 until served > i { served = i } => [RepeatUntil(0, 5, Two(Above, Word(0), Local(0)), [Set(0, Local(0))])]
+if 1 { let a = 1 } else if 2 { let a = 2 } let a = 3 => [If(Number(1), [Let(0, Number(1))], [If(Number(2), [Let(0, Number(2))], [])]), Let(0, Number(3))]
+let on = 1 repeat until 2 until until { } => [Let(0, Number(1)), RepeatUntil(1, 2, Local(1), [])]
+";
+
+/// Whether a row, `rule => tree`, is right.
+fn is_rule(alloc: Global, row: &str) -> Result<bool, Fail> {
+    let (text, tree) = row.split_once(" => ").ok_or("a row")?;
+    let scope = scope_of_kind(alloc).ok().ok_or("the names are free")?;
+    let rule = read_rule(alloc, &scope, text)
+        .ok()
+        .ok_or("a rule was wanted")?;
+    Ok(format!(in alloc; "{rule:?}")?.as_str() == tree)
+}
+
+#[test]
+fn kinds_sorts_and_ends_of_repeats_are_read(rt: HostRuntime) -> Result<(), Fail> {
+    for row in RULES.lines() {
+        assert!(rt; is_rule(rt.alloc(), row)?, "{row}");
+    }
+    Ok(())
+}
+
+/// Texts in that scope, and their mistakes.
+const MISTAKES: [(&str, &str); 4] = [
+    ("served = 1\nserved = 2", ""),
+    (
+        "served = )\nlet y = 1 < 2 < 3\nlet z = y + )\nserved = z + y + w",
+        "line 1, column 10: a value is wanted here; \
+         line 2, column 15: comparisons do not chain: use brackets; \
+         line 3, column 13: a value is wanted here; \
+         line 4, column 18: there is nothing named \"w\"; ",
+    ),
+    (
+        "if served < {\nlet a = 1\nserved = a }\nrepeat i served {\nserved = i\n}\nfoo = 1",
+        "line 1, column 13: a value is wanted here; \
+         line 4, column 10: a number below 2^32 is wanted here; \
+         line 7, column 1: there is nothing named \"foo\"; ",
+    ),
+    (
+        "served = ?\nserved = teller +\non served { }",
+        "line 1, column 10: a sign, a name of at most 64 letters or a number below 2^64 is wanted here; \
+         line 2, column 17: \"[\" or \".count\" is wanted here, behind a kind of processes; \
+         line 3, column 4: a sort of messages is wanted here, behind on; ",
+    ),
+];
+
+/// The mistakes of a text, each with `; ` behind it.
+fn mistakes_of(alloc: Global, text: &str) -> Result<String, Fail> {
+    let scope = scope_of_kind(alloc).ok().ok_or("the names are free")?;
+    let mut out = String::new(alloc);
+    for mistake in &find_mistakes(alloc, &scope, text)? {
+        out.push_str(format!(in alloc; "{mistake}; ")?.as_str())?;
+    }
+    Ok(out)
+}
+
+#[test]
+fn reading_goes_on_behind_a_mistake(rt: HostRuntime) -> Result<(), Fail> {
+    for (text, mistakes) in MISTAKES {
+        let found = mistakes_of(rt.alloc(), text)?;
+        assert_eq!(rt; found.as_str(), mistakes);
     }
     Ok(())
 }

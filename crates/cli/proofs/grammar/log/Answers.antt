@@ -4,10 +4,12 @@ use Rattle.cli.proofs.grammar.log.Goals as goal
 pub returns : goal.returns
 returns c =
     argument_added _ _ _ _ _ c.with_argument.ensures
+    (argument_added _ _ _ _ _ c.with_argument-command-5.ensures
     (argument_added _ _ _ _ _ c.with_argument-command-4.ensures
     (argument_added _ _ _ _ _ c.with_argument-command-3.ensures
     (argument_added _ _ _ _ _ c.with_argument-command-2.ensures
     (argument_added _ _ _ _ _ c.with_argument-command.ensures
     c.on_disk-command.ensures c.time_option.ensures.rule c.time_option.ensures.local) c.time_option-2.ensures.rule c.time_option-2.ensures.local) c.optional_number-process.ensures.rule c.optional_number-process.ensures.local)
     c.flag.ensures.rule c.flag.ensures.local)
+    c.format_option.ensures.rule c.format_option.ensures.local)
     c.large_option.ensures.rule c.large_option.ensures.local

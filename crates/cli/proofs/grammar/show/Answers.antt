@@ -4,6 +4,10 @@ use Rattle.cli.proofs.grammar.show.Goals as goal
 pub returns : goal.returns
 returns c =
     argument_added _ _ _ _ _ c.with_argument.ensures
+    (argument_added _ _ _ _ _ c.with_argument-command-3.ensures
+    (argument_added _ _ _ _ _ c.with_argument-command-2.ensures
     (argument_added _ _ _ _ _ c.with_argument-command.ensures
     c.on_disk-command.ensures c.flag.ensures.rule c.flag.ensures.local)
+    c.flag-2.ensures.rule c.flag-2.ensures.local)
+    c.format_option.ensures.rule c.format_option.ensures.local)
     c.large_option.ensures.rule c.large_option.ensures.local

@@ -13,14 +13,15 @@ returns-in_default-clause-says c = (
     | inr (inr (inr (inr (inr (inr (inl e)))))) ↦ absurd (c.in_default.not-cut e)
     | inr (inr (inr (inr (inr (inr (inr (inl e))))))) ↦ absurd (c.in_default.not-recover e)
     | inr (inr (inr (inr (inr (inr (inr (inr (inl e)))))))) ↦ absurd (c.in_default.not-status e)
-    | inr (inr (inr (inr (inr (inr (inr (inr (inr (inl e))))))))) ↦ absurd (c.in_default.not-verify e)
-    | inr (inr (inr (inr (inr (inr (inr (inr (inr (inr (inl e)))))))))) ↦ absurd (c.in_default.not-log e)
-    | inr (inr (inr (inr (inr (inr (inr (inr (inr (inr (inr (inl e))))))))))) ↦ absurd (c.in_default.not-show e)
-    | inr (inr (inr (inr (inr (inr (inr (inr (inr (inr (inr (inr (inl e)))))))))))) ↦ absurd (c.in_default.not-stats e)
-    | inr (inr (inr (inr (inr (inr (inr (inr (inr (inr (inr (inr (inr (inl e))))))))))))) ↦ absurd (c.in_default.not-draw e)
-    | inr (inr (inr (inr (inr (inr (inr (inr (inr (inr (inr (inr (inr (inr (inl e)))))))))))))) ↦ absurd (c.in_default.not-seq e)
-    | inr (inr (inr (inr (inr (inr (inr (inr (inr (inr (inr (inr (inr (inr (inr (inl e))))))))))))))) ↦ absurd (c.in_default.not-check e)
-    | inr (inr (inr (inr (inr (inr (inr (inr (inr (inr (inr (inr (inr (inr (inr (inr e))))))))))))))) ↦ e
+    | inr (inr (inr (inr (inr (inr (inr (inr (inr (inl e))))))))) ↦ absurd (c.in_default.not-info e)
+    | inr (inr (inr (inr (inr (inr (inr (inr (inr (inr (inl e)))))))))) ↦ absurd (c.in_default.not-verify e)
+    | inr (inr (inr (inr (inr (inr (inr (inr (inr (inr (inr (inl e))))))))))) ↦ absurd (c.in_default.not-log e)
+    | inr (inr (inr (inr (inr (inr (inr (inr (inr (inr (inr (inr (inl e)))))))))))) ↦ absurd (c.in_default.not-show e)
+    | inr (inr (inr (inr (inr (inr (inr (inr (inr (inr (inr (inr (inr (inl e))))))))))))) ↦ absurd (c.in_default.not-stats e)
+    | inr (inr (inr (inr (inr (inr (inr (inr (inr (inr (inr (inr (inr (inr (inl e)))))))))))))) ↦ absurd (c.in_default.not-draw e)
+    | inr (inr (inr (inr (inr (inr (inr (inr (inr (inr (inr (inr (inr (inr (inr (inl e))))))))))))))) ↦ absurd (c.in_default.not-seq e)
+    | inr (inr (inr (inr (inr (inr (inr (inr (inr (inr (inr (inr (inr (inr (inr (inr (inl e)))))))))))))))) ↦ absurd (c.in_default.not-check e)
+    | inr (inr (inr (inr (inr (inr (inr (inr (inr (inr (inr (inr (inr (inr (inr (inr (inr e)))))))))))))))) ↦ e
   ],
   c.node_args.ensures.says,
 )
