@@ -280,7 +280,6 @@ module _ (names : FileNames) (given : List (List ℕ)) where
         with_indent at.depth (with_row (deeper (with_local i k at)) (next k)
         (((((with_margin at text ++ codes "repeat ") ++ name_at given k) ++ codes " ") ++ decimal n)
         ++ codes " {\n") body) ++ codes "}\n"
-
     with_statement at k text (RepeatUntil' i n e s body) =
         with_indent at.depth (with_row (deeper (with_local i k at)) (next k)
         (with_value (with_local i k at) 9

@@ -39,8 +39,8 @@ use rules::{MAX_LPS, Rules, RulesParts, Statement, Table as Numbers};
 use rules_text::Mistake as Place;
 use std::alloc::{AllocError, Global};
 use texts::{
-    Described, Findings, Inside, Mistake, ModelFault, Names, TextMistake, mistakes_among, number_at,
-    only, string_at,
+    Described, Findings, Inside, Mistake, ModelFault, Names, TextMistake, mistakes_among,
+    number_at, only, string_at,
 };
 use toml::Table;
 
@@ -311,12 +311,7 @@ fn body_of(alloc: Global, table: &Table, lps: u32) -> Result<Result<Body, Mistak
 }
 
 /// Returns the names of a model.
-fn names_of(
-    alloc: Global,
-    lps: u32,
-    scope: Scope,
-    rules: &Table,
-) -> Result<FileNames, AllocError> {
+fn names_of(alloc: Global, lps: u32, scope: Scope, rules: &Table) -> Result<FileNames, AllocError> {
     let Scope {
         words,
         arrays,
