@@ -1,4 +1,4 @@
--- What the commands on a disk print (this project's profile).
+-- What the commands on a disk print.
 use Rattle.std.specs.Io.KnownBytes.{Appends}
 use Rattle.std.specs.Prelude.{◌≡◌, ◌≤◌, ◌⊎◌, ℕ, List, ◌++◌, Option, codes, decimal, flat_map}
 use Rattle.std.specs.Prelude.{Err, None, Result, Some, get_or, length}
@@ -115,7 +115,7 @@ pub record PrintsEndOfRunOver {M P D : Type 0} (meaning : M → Meaning) (state 
   pub over : IsRunOver meaning state disk model end plan begun left time events
   pub taken : Taken (ran_text ran time events)
 
--- `Taken` holds of the output for a later end. That end is in force behind the records that were on
+-- `Taken` holds of the output for a later end. That end is in force after the records that were on
 -- the disk, which were replayed under the end before.
 pub record PrintsExtended (m : Meaning) (end : ℕ) (old new : DiskState)
     (Taken : List ℕ → Type 0) : Type 0 where

@@ -103,7 +103,7 @@ impl From<RunFault> for CommandFault {
     }
 }
 
-/// A plain run has the faults of a session where the cause is the same.
+/// A run without nodes has the faults of a session where the cause is the same.
 impl From<PlainFault> for CommandFault {
     ghost use Rattle.commands.specs.Commands.{of_plain};
 

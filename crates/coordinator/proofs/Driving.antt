@@ -3,6 +3,7 @@ use Rattle.std.proofs.Common.{Bool, Err, IfErr, IfOk, IsErrOf, inl, inr, List, O
 use Rattle.std.proofs.Math.Seq.{take-suc}
 use Rattle.std.proofs.lemmas.Bool.{cases_Bool}
 use Rattle.std.proofs.lemmas.List.{map-append}
+use Rattle.commitlog.specs.declared.records.Entry.{Entry}
 use Rattle.disk.specs.Disk.{DiskState}
 use Rattle.model.specs.Meaning.{Meaning}
 use Rattle.protocol.proofs.Runs.{moves_are_sound, moves_made_are_sound, moves_made_join}
@@ -14,12 +15,14 @@ use Rattle.protocol.specs.declared.Answer.TheVariants.{AlreadyAt}
 use Rattle.recovery.proofs.Crashes.{followed_by}
 use Rattle.recovery.specs.Represents.{Recovers}
 use Rattle.wire.specs.Port.{PortState}
+use Rattle.coordinator.proofs.Appending.{leaves_old, leaves_on, log_stays, none_changed}
 use Rattle.coordinator.proofs.Committing.{stays}
+use Rattle.coordinator.specs.Appending.{AppendsOnly}
 use Rattle.coordinator.specs.Crashes.{IsTrusted, KeepsRepresentation, StaysWritten, SurvivesCrashes}
 use Rattle.recovery.specs.Crashes.{IsWritten, KeepsRecovery}
 use Rattle.coordinator.specs.Drives.{AreSteps, Goes, IsStep, StepsAreMade, any_trusts}
 use Rattle.coordinator.specs.Session.{HasSameNodes, IsConsistentSession, Running, Session, system_of, running}
-use Rattle.coordinator.specs.Steps.{Appends, AreNextReports, HasCause, IsLogged, IsMade, IsReplyTaken, IsStepped, MayCommit, StepHasCause, leaves_all, move_of, next_time, seals, trusts}
+use Rattle.coordinator.specs.Steps.{Appends, AreNextReports, HasCause, IsLogged, IsMade, IsReplyTaken, IsStepped, MayCommit, StepHasCause, appended_by, leaves_all, move_of, next_time, seals, trusts}
 use Rattle.coordinator.specs.declared.SessionFault.{SessionFault}
 use Rattle.coordinator.specs.declared.SessionFault.TheVariants.{Disk, Full, Reports, Spent}
 use Rattle.coordinator.specs.declared.Step.{Step}
@@ -104,7 +107,12 @@ module _ {M P D : Type 0} (meaning : M → Meaning) (state : P → PortState) (d
 
   -- a premise that gives another one
   pub under : (A B : Type 0) (old new : Session M P D) → (B → A) → KeepsRepresentation meaning disk A old new → KeepsRepresentation meaning disk B old new
-  under A B old new gives keeps = record { written = λ unspent b. keeps.written unspent (gives b); crashes = λ b. keeps.crashes (gives b) }
+  under A B old new gives keeps = record {
+    written = λ unspent b. keeps.written unspent (gives b);
+    crashes = λ b. keeps.crashes (gives b);
+    durable = keeps.durable;
+    leaves = keeps.leaves;
+  }
 
   pub none_made : (s : Session M P D) → Goes meaning state disk false [] s s
   none_made s = record {
@@ -113,6 +121,8 @@ module _ {M P D : Type 0} (meaning : M → Meaning) (state : P → PortState) (d
     made = λ consistent. record { moves_are = refl; consistent = consistent };
     written = λ trusted is. is;
     crashes = λ trusted is recovers. stays (meaning s.model) s.end s.front.time (disk s.log.disk) recovers;
+    durable = λ was. was;
+    leaves = none_changed disk s;
   }
 
   module _ (a b : Bool) (ks : List Move) (old mid new : Session M P D) (first : Goes meaning state disk a ks old mid) where
@@ -143,6 +153,8 @@ module _ {M P D : Type 0} (meaning : M → Meaning) (state : P → PortState) (d
     then_keeps second = record {
       written = λ unspent. then_written (second.written unspent);
       crashes = crashed second.crashes;
+      durable = λ unspent was. second.durable unspent (first.durable was);
+      leaves = leaves_on disk old mid new first.durable first.leaves second.leaves;
     }
 
     pub joined : (ls : List Move) → Goes meaning state disk b ls mid new → Goes meaning state disk (a || b) (ks ++ ls) old new
@@ -160,23 +172,27 @@ module _ {M P D : Type 0} (meaning : M → Meaning) (state : P → PortState) (d
           };
       written = then_written second.written;
       crashes = crashed second.crashes;
+      durable = λ was. second.durable (first.durable was);
+      leaves = leaves_on disk old mid new first.durable first.leaves second.leaves;
     }
 
   -- a move that was made, and then a call that keeps the disk recovering
   pub crashed-after : (k : Move) (old mid new : Session M P D) (answer : Answer) → IsStepped k (running meaning state old) (running meaning state mid) mid.spent (Ok answer) → StaysWritten meaning (Unit {0}) old mid → SurvivesCrashes meaning disk (Unit {0}) old mid
-      → (mid.model ≡ old.model) × (mid.end ≡ old.end) → SurvivesCrashes meaning disk (Unit {0}) mid new → SurvivesCrashes meaning disk (Unit {0}) old new
-  crashed-after k old mid new answer stepped written crashes same second =
+      → (added : List Entry) → AppendsOnly disk added old mid → (mid.model ≡ old.model) × (mid.end ≡ old.end) → SurvivesCrashes meaning disk (Unit {0}) mid new → SurvivesCrashes meaning disk (Unit {0}) old new
+  crashed-after k old mid new answer stepped written crashes added appends same second =
       let goes : Goes meaning state disk false (k ∷ []) old mid = record {
         model_is = same.0;
         end_is = same.1;
         made = λ consistent. one-move k (running meaning state old) (running meaning state mid) answer (stepped.made consistent);
         written = written;
         crashes = crashes;
+        durable = appends.durable stepped.usable;
+        leaves = leaves_old disk old mid added appends;
       } in
       crashed false false (k ∷ []) old mid new goes second
 
   pub goes_keeps : (trusted : Bool) (ks : List Move) (old new : Session M P D) → Goes meaning state disk trusted ks old new → KeepsRepresentation meaning disk (IsTrusted trusted (running meaning state old)) old new
-  goes_keeps trusted ks old new goes = record { written = λ unspent. goes.written; crashes = goes.crashes }
+  goes_keeps trusted ks old new goes = record { written = λ unspent. goes.written; crashes = goes.crashes; durable = λ unspent. goes.durable; leaves = goes.leaves }
 
   -- a step that is made
   pub one_made : (step : Step) (answer : Answer) (old new : Session M P D) → IsStep meaning state disk step old new (Ok answer) → Goes meaning state disk (trusts step) (move_of step ∷ []) old new
@@ -186,6 +202,8 @@ module _ {M P D : Type 0} (meaning : M → Meaning) (state : P → PortState) (d
     made = λ consistent. one-move (move_of step) (running meaning state old) (running meaning state new) answer (is.made consistent);
     written = is.keeps.written is.usable;
     crashes = is.keeps.crashes;
+    durable = is.keeps.durable is.usable;
+    leaves = is.keeps.leaves;
   }
 
   -- steps that are made
@@ -227,10 +245,10 @@ module _ {M P D : Type 0} (meaning : M → Meaning) (state : P → PortState) (d
       → IfErr result (λ fault. leaves_all fault ≡ true → new ≡ old)
       → (move_of step ≡ CommitMove → next_time old.end (system_of (running meaning state old)) ≤ old.front.time → (result ≡ Ok (AlreadyAt old.front.time)) × (new ≡ old))
       → (step ≡ JudgedCommit → MayCommit (running meaning state old) → OnOk result (AreNextReports (running meaning state old)))
-      → IsLogged meaning state disk (move_of step) (seals step) old new result
+      → IsLogged meaning state disk (move_of step) (seals step) old new result → AppendsOnly disk (appended_by (move_of step) (seals step) old.log.records (running meaning state old)) old new
       → OnOk result (StaysWritten meaning (IsTrusted (trusts step) (running meaning state old)) old new) → SurvivesCrashes meaning disk (IsTrusted (trusts step) (running meaning state old)) old new
       → (new.model ≡ old.model) × (new.end ≡ old.end) → HasSameNodes old new → Takes step old new result → IsStep meaning state disk step old new result
-  is_step step old new result unspent stepped unchanged already judged logged written crashes same nodes taken = record {
+  is_step step old new result unspent stepped unchanged already judged logged appends written crashes same nodes taken = record {
     made = stepped.made;
     goes_on = goes-on (move_of step) (running meaning state old) (running meaning state new) result stepped.made;
     refused = λ fault un is. stepped.refused fault is;
@@ -239,7 +257,13 @@ module _ {M P D : Type 0} (meaning : M → Meaning) (state : P → PortState) (d
     already = λ un. already;
     taken = taken;
     logged = logged;
-    keeps = record { written = still_written (IsTrusted (trusts step) (running meaning state old)) old new result written unchanged stepped.spends; crashes = crashes };
+    appends = appends;
+    keeps = record {
+      written = still_written (IsTrusted (trusts step) (running meaning state old)) old new result written unchanged stepped.spends;
+      crashes = crashes;
+      durable = appends.durable;
+      leaves = leaves_old disk old new (appended_by (move_of step) (seals step) old.log.records (running meaning state old)) appends;
+    };
     unchanged = unchanged;
     spends = stepped.spends;
     usable = stepped.usable;
@@ -283,6 +307,7 @@ module _ {M P D : Type 0} (meaning : M → Meaning) (state : P → PortState) (d
       is_step step old new result unspent stepped unchanged (λ is. absurd (other (commit_appends (move_of step) is)))
       (λ is. absurd (other (subst (λ (s : Step). Appends (move_of s)) (sym is) tt)))
       (untouched (move_of step) (seals step) old new result other log stepped.cause)
+      (log_stays disk old new (appended_by (move_of step) (seals step) old.log.records (running meaning state old)) log)
       (stays-written (IsTrusted (trusts step) (running meaning state old)) old new result log front)
       (λ trusted is recovers. rw (log, front) (stays (meaning old.model) old.end old.front.time (disk old.log.disk) recovers))
       same nodes taken
@@ -306,9 +331,12 @@ module _ {M P D : Type 0} (meaning : M → Meaning) (state : P → PortState) (d
       no_failure = λ less. absurd (omega (arith, less));
       failures = omega arith;
     };
+    appends = log_stays disk old old (appended_by (move_of step) (seals step) old.log.records (running meaning state old)) refl;
     keeps = record {
       written = λ un. absurd (cc);
       crashes = λ consistent is recovers. stays (meaning old.model) old.end old.front.time (disk old.log.disk) recovers;
+      durable = λ un was. was;
+      leaves = none_changed disk old;
     };
     unchanged = λ leaves. refl;
     spends = λ ends. absurd (cc);

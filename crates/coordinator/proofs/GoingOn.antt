@@ -10,15 +10,17 @@ use Rattle.model.specs.Runner.{Simulation}
 use Rattle.model.specs.World.{IsUpto, World}
 use Rattle.recovery.specs.Replay.{in_force}
 use Rattle.wire.specs.Port.{PortState}
+use Rattle.coordinator.proofs.Appending.{leaves_on, none_changed, session_keeps_old}
 use Rattle.coordinator.proofs.Committing.{stays}
 use Rattle.coordinator.proofs.Driving.{all-trusted, all_made, carry, trusted-on, trusted-take}
 use Rattle.recovery.proofs.Crashes.{followed_by, goes-under}
 use Rattle.coordinator.proofs.Resuming.{stopped-front}
 use Rattle.recovery.specs.Crashes.{IsWritten, KeepsRecovery, RecoversUnderItsEnd}
 use Rattle.recovery.specs.Represents.{Recovers}
+use Rattle.coordinator.specs.Appending.{LeavesOldRecords, StaysDurable}
 use Rattle.coordinator.specs.Crashes.{IsTrusted}
 use Rattle.coordinator.specs.Drives.{AreDrives, IsDrive, any_trusts}
-use Rattle.coordinator.specs.Headline.{IsBegun, IsOneCall, JudgedSessionsGoOn, SessionsGoOn}
+use Rattle.coordinator.specs.Headline.{IsBegun, IsOneCall, JudgedSessionsGoOn, RecordsStay, SessionsGoOn}
 use Rattle.coordinator.specs.Session.{Running, Session, running}
 use Rattle.coordinator.specs.Steps.{leaves_all}
 use Rattle.coordinator.specs.declared.DriveFault.{DriveFault}
@@ -151,3 +153,28 @@ module _ {M P D : Type 0} (meaning : M → Meaning) (state : P → PortState) (d
 
   pub judged_sessions_go_on : JudgedSessionsGoOn meaning state disk
   judged_sessions_go_on v old first last drives begun none is = one_call false first v old last drives begun (none_trusts first drives none) (λ recovers. tt) is
+
+  -- The records on the disk
+
+  record StillKeeps (first now : Session M P D) : Type 0 where
+    durable : now.spent ≡ false → StaysDurable disk first now
+    leaves : LeavesOldRecords disk first now
+
+  one_keeps : (steps : List Step) (first mid new : Session M P D) (result : Result ℕ DriveFault) → StillKeeps first mid → IsDrive meaning state disk steps mid new result → StillKeeps first new
+  one_keeps steps first mid new result was is = elim (cases_Bool mid.spent) [
+    | inl spent ↦ subst (StillKeeps first) (sym (is.spent spent).0) was
+    | inr unspent ↦
+        record {
+          durable = λ usable held. is.keeps.durable usable (was.durable unspent held);
+          leaves = leaves_on disk first mid new (was.durable unspent) was.leaves is.keeps.leaves;
+        }
+  ]
+
+  all_keep : (drives : List (List Step)) (first mid last : Session M P D) → StillKeeps first mid → AreDrives meaning state disk drives mid last → StillKeeps first last
+  all_keep [] first mid last was is = subst (StillKeeps first) (sym is) was
+  all_keep (steps ∷ more) first mid last was is = all_keep more first is.0 last (one_keeps steps first mid is.0 is.1 was is.2) is.3
+
+  pub records_stay : RecordsStay meaning state disk
+  records_stay old first last drives looks durable is =
+      session_keeps_old old (disk first.log.disk) (disk last.log.disk) first.log.header first.log.records looks durable
+      ((all_keep drives first first last (record { durable = λ unspent was. was; leaves = none_changed disk first }) is).leaves durable)

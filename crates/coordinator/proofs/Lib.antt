@@ -3,6 +3,7 @@ mod Applying
 mod Sorting
 mod Judges
 mod Places
+pub mod Appending
 mod Committing
 mod Keeping
 mod PortStates

@@ -6,12 +6,14 @@ use Rattle.model.specs.Meaning.{Meaning}
 use Rattle.protocol.specs.Moves.{Move, moves_made}
 use Rattle.protocol.specs.Sound.{GoesOnFrom}
 use Rattle.wire.specs.Port.{PortState}
+use Rattle.coordinator.specs.Appending.{AppendsOnly, LeavesOldRecords, StaysDurable}
 use Rattle.coordinator.specs.Crashes.{IsTrusted, KeepsRepresentation, StaysWritten}
 use Rattle.coordinator.specs.Crashes.{SurvivesCrashes}
 use Rattle.coordinator.specs.Session.{HasSameNodes, IsConsistentSession, Running, Session}
 use Rattle.coordinator.specs.Session.{system_of, running}
 use Rattle.coordinator.specs.Steps.{AreNextReports, IsLogged, IsMade, IsReplyTaken, MayCommit}
-use Rattle.coordinator.specs.Steps.{StepHasCause, first_refusal, leaves_all, move_of, next_time}
+use Rattle.coordinator.specs.Steps.{StepHasCause, appended_by, first_refusal, leaves_all, move_of}
+use Rattle.coordinator.specs.Steps.{next_time}
 use Rattle.coordinator.specs.Steps.{seals, trusts}
 use Rattle.coordinator.specs.declared.DriveFault.{DriveFault}
 use Rattle.coordinator.specs.declared.SessionFault.{SessionFault}
@@ -35,7 +37,8 @@ any_trusts (step ∷ steps) = trusts step || any_trusts steps
 module _ {M P D : Type 0} (meaning : M → Meaning) (state : P → PortState) (disk : D →
     DiskState) where
   -- These moves were made between the two, and the disk goes on recovering. If one of the steps
-  -- trusted the nodes, this is promised of a consistent session.
+  -- trusted the nodes, this is promised of a consistent session. The records from before stay in
+  -- any case.
   pub record Goes (trusted : Bool) (moves : List Move) (old new : Session M P D) : Type 0 where
     pub model_is : new.model ≡ old.model
     pub end_is : new.end ≡ old.end
@@ -44,6 +47,8 @@ module _ {M P D : Type 0} (meaning : M → Meaning) (state : P → PortState) (d
     pub written : StaysWritten meaning (IsTrusted trusted (running meaning state old)) old new
     pub crashes : SurvivesCrashes meaning disk (IsTrusted trusted (running meaning state old))
         old new
+    pub durable : StaysDurable disk old new
+    pub leaves : LeavesOldRecords disk old new
 
   -- The contract of `step`, at every exit.
   pub record IsStep (step : Step) (old new : Session M P D)
@@ -76,11 +81,17 @@ module _ {M P D : Type 0} (meaning : M → Meaning) (state : P → PortState) (d
     pub taken : (node : ℕ) → move_of step ≡ TakeMove node → IfOk result (λ answer.
         IsReplyTaken node (running meaning state old) (running meaning state new) answer)
     -- A commit that moves the front and a checkpoint append one record, and a sealed checkpoint a
-    -- seal behind it, if there is room for that; every other step leaves the log. `Full` comes only
+    -- seal after it, if there is room for that; every other step leaves the log. `Full` is returned only
     -- if there is no room for the first record, `Disk` exactly if the device has failed.
     pub logged : IsLogged meaning state disk (move_of step) (seals step) old new result
-    -- The records go on representing the front, whatever crashes. Only a plain commit trusts the
-    -- nodes for this; any other step does it over any ports.
+    -- Over any ports, a crash leaves the records from before, alone or followed by those that the
+    -- step appends, or by the first of them.
+    pub appends : AppendsOnly disk
+        (appended_by (move_of step) (seals step) old.log.records (running meaning state old))
+        old new
+    -- The records go on representing the front, whatever crashes. Only an unjudged commit trusts the
+    -- nodes for this; any other step does it over any ports. The records from before stay in any
+    -- case.
     pub keeps : KeepsRepresentation meaning disk
         (IsTrusted (trusts step) (running meaning state old)) old new
     -- After a fault of a port or of the disk, or an allocation failure, the session is spent and
@@ -134,7 +145,7 @@ module _ {M P D : Type 0} (meaning : M → Meaning) (state : P → PortState) (d
         ((disk old.log.disk).failures < (disk new.log.disk).failures))
     pub no_failure : OnOk result ((disk new.log.disk).failures ≡ (disk old.log.disk).failures)
     -- The records go on representing the front, whatever crashes, also if a step was refused; over
-    -- any ports, if no step is a plain commit.
+    -- any ports, if no step is a plain commit. The records from before stay in any case.
     pub keeps : KeepsRepresentation meaning disk
         (IsTrusted (any_trusts steps) (running meaning state old)) old new
     pub same : (new.model ≡ old.model) × (new.end ≡ old.end)

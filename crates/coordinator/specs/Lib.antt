@@ -1,5 +1,6 @@
 -- For callers.
 pub mod Session
+pub mod Appending
 pub mod Steps
 pub mod Crashes
 pub mod Drives

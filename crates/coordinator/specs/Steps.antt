@@ -2,7 +2,7 @@
 use Rattle.std.specs.Prelude.{Bool, IfErr, IfOk, IsErrOf, List, None, OnErr, OnOk, Option, Result, Some}
 use Rattle.std.specs.Prelude.{Err, [], false, if◌then◌else◌, length, nat_lt, not, true, ℕ, ◌&&◌}
 use Rattle.std.specs.Prelude.{◌*◌, ◌++◌, ◌+◌, ◌<◌, ◌^◌, ◌∷◌, ◌≡◌, ◌≤◌, ◌⊎◌}
-use Rattle.commitlog.specs.Records.{HasRoom, entry_with}
+use Rattle.commitlog.specs.Records.{HasRoom, entry_with, seal_of}
 use Rattle.commitlog.specs.declared.records.Entry.{Entry}
 use Rattle.disk.specs.Disk.{DiskState}
 use Rattle.gvt.specs.Ledger.{least_floor}
@@ -50,12 +50,12 @@ move_of JudgedCommit = CommitMove
 move_of Checkpoint = CheckpointMove
 move_of SealedCheckpoint = CheckpointMove
 
--- whether a step appends a seal behind its record
+-- whether a step appends a seal after its record
 abbrev pub seals : Step → Bool
 seals SealedCheckpoint = true
 seals step = false
 
--- whether a step trusts the nodes: a plain commit writes what they reported as it is
+-- whether a step trusts the nodes: an unjudged commit writes what they reported as it is
 abbrev pub trusts : Step → Bool
 trusts Commit = true
 trusts step = false
@@ -202,6 +202,18 @@ pub record IsReplyTaken (node : ℕ) (old new : Running) (answer : Answer) : Typ
   pub gathered : new.gathered ≡ old.gathered ++ reply.fossils
   pub answer_is : answer ≡ Taken reply.ran (length reply.out) (length reply.fossils)
 
+-- the record that is appended to these, alone or with the seal that follows it
+abbrev pub with_seal : Bool → List Entry → Entry → List Entry
+with_seal false records entry = entry ∷ []
+with_seal true records entry = entry ∷ seal_of (records ++ entry ∷ []) ∷ []
+
+-- the records that a step appends to these, in order, if there is room for them
+abbrev pub appended_by : Move → Bool → List Entry → Running → List Entry
+appended_by CommitMove sealed records r = next_record r.end (system_of r) ∷ []
+appended_by CheckpointMove sealed records r =
+    with_seal sealed records (entry_with 2 (kept_body (system_of r)))
+appended_by k sealed records r = []
+
 module _ {M P D : Type 0} (meaning : M → Meaning) (state : P → PortState) (disk : D →
     DiskState) where
   -- the disk of a session has room for the record that a commit would append
@@ -243,7 +255,7 @@ module _ {M P D : Type 0} (meaning : M → Meaning) (state : P → PortState) (d
         IsErrOf result Disk
     pub failures : (disk old.log.disk).failures ≤ (disk new.log.disk).failures
 
-  -- What a seal behind the last record does to a session: to the log alone, and to no more than the
+  -- What a seal after the last record does to a session: to the log alone, and to no more than the
   -- seal has room for. A fault leaves the session spent.
   pub record IsSealed (old new : Session M P D) (result : Result (Unit {0}) SessionFault) : Type 0
     where

@@ -18,7 +18,7 @@ pub use protocol::Answer;
 use recovery::RecoveryFault;
 pub use session::{FrontView, Session};
 pub use sessions::{
-    Resumed, law_of_judged_sessions, law_of_local_sessions, law_of_sessions, resume,
+    Resumed, law_of_judged_sessions, law_of_local_sessions, law_of_records, law_of_sessions, resume,
 };
 use thiserror::Error;
 use wire::PortFault;
@@ -44,9 +44,9 @@ pub enum Step {
     /// So it trusts no node.
     JudgedCommit,
     /// Appends a checkpoint: the committed front without its log. An opening then replays only the
-    /// records behind it.
+    /// records after it.
     Checkpoint,
-    /// A checkpoint, and behind it a seal, a record of 32 bytes: the SHA-256 of the records since
+    /// A checkpoint, and after it a seal, a record of 32 bytes: the SHA-256 of the records since
     /// the last seal, which an opening compares. If the disk has no room for the seal, the step is
     /// made without it, and the next seal covers what it would have covered.
     SealedCheckpoint,

@@ -2,7 +2,9 @@
 
 ghost use Rattle.std.specs.Prelude.{◌≡◌, ◌<◌, ◌≤◌, ◌^◌, ℕ, IfSome, IsSome, None, Some, length, map};
 ghost use Rattle.std.specs.Prelude.{take};
-ghost use Rattle.coordinator.specs.Headline.{IsResumed, JudgedSessionsGoOn, SessionsGoOn};
+ghost use Rattle.coordinator.specs.Appending.{KeepsOldRecords};
+ghost use Rattle.coordinator.specs.Headline.{IsResumed, JudgedSessionsGoOn, RecordsStay};
+ghost use Rattle.coordinator.specs.Headline.{SessionsGoOn};
 ghost use Rattle.recovery.specs.Represents.{Recovers};
 ghost use Rattle.coordinator.specs.Opening.{AllFresh, AllFaithful, IsResourceFaultAtOpening};
 ghost use Rattle.coordinator.specs.Opening.{OpeningIsRefused};
@@ -55,6 +57,9 @@ pub fn resume<M: Simulated, P: Port + Drop, D: SectorDisk>(
         AllFaithful (M.meaning model.now) (map P.state ports.items) → (v : World) →
         IsResumed (M.meaning model.now) end (length ports.items) made v
         (D.state disk) (D.state result.disk) result.time }
+
+    // Over any ports, and whatever nodes report, the records that were on the disk stay.
+    ensures old_records { KeepsOldRecords (D.state disk) (D.state result.disk) }
 
     ensures all { result.fault ≡ None → (result.done ≡ length steps.now) × IsSome result.time }
     ensures refused { result.time ≡ None → (result.done ≡ 0) × IfSome result.fault (λ fault.
@@ -122,6 +127,15 @@ pub fn law_of_sessions<M: Simulated, P: Port, D: SectorDisk>()
 /// [`Session::open`] and [`Session::drive`].
 pub fn law_of_judged_sessions<M: Simulated, P: Port, D: SectorDisk>()
     ensures { JudgedSessionsGoOn M.meaning P.state D.state }
+{}
+
+/// Any number of drives of one session keep the records that were on the disk on which it was
+/// opened, over any ports, whatever the nodes answer, and whatever faults the drives return.
+///
+/// The function has no effect. Its contract is the law that follows from the contracts of
+/// [`Session::open`] and [`Session::drive`].
+pub fn law_of_records<M: Simulated, P: Port, D: SectorDisk>()
+    ensures { RecordsStay M.meaning P.state D.state }
 {}
 
 /// In a session over nodes in this program (`LocalPort`) a fault of a port is that of a node: its

@@ -8,6 +8,7 @@ mod folders;
 mod greeting;
 mod model_text;
 mod nodes;
+mod pages;
 mod processors;
 mod simulation;
 

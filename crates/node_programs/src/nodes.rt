@@ -8,6 +8,7 @@ use crate::calls::{Calls, NodeStream};
 use crate::fault::{NodesFault, unreadable};
 use crate::greeting::ports_of;
 use crate::model_text::{path_of_text, place_text};
+use crate::pages::keep_pages;
 use crate::processors::{command_on, processor_of, processors};
 use crate::simulation::Simulation;
 use frames::{Ending, Hello, serve_greeted};
@@ -327,7 +328,7 @@ where
 }
 
 /// Starts the program of the node behind this socket, on this model file, without standard streams,
-/// and on this processor if there is one.
+/// and on this processor if there is one. It keeps the pages that it frees.
 fn start<R>(
     rt: &R,
     program: &str,
@@ -337,7 +338,7 @@ fn start<R>(
     processor: Option<u32>,
 ) -> io::Result<Child<R::Started>>
 where
-    R: Processes + AllocGlobal,
+    R: Files<File = File> + Processes + AllocGlobal,
 {
     let mut command = match processor {
         Some(processor) => command_on(rt.alloc(), processor, program)?,
@@ -347,6 +348,7 @@ where
     if is_cut {
         command.arg("--parcels")?.arg("1")?;
     }
+    keep_pages(rt, &mut command)?;
     command
         .stdin(Stdio::null())
         .stdout(Stdio::null())

@@ -5,3 +5,7 @@ pub mod Traces
 pub mod Counts
 pub mod Frames
 pub mod Rounds
+pub mod Values
+pub mod Roots
+pub mod Buckets
+pub mod Columns

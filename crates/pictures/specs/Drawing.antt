@@ -48,7 +48,7 @@ is_shown r f before x =
     nat_le f.from x.time && (nat_lt x.time before && (nat_lt (sent_at r x) f.to
     && (nat_le f.first x.to && nat_lt (x.to - f.first) f.rows)))
 
--- the time behind the last one of these events, or `end` if there are none
+-- the time after the last one of these events, or `end` if there are none
 abbrev pub last_end : ℕ → List Message → ℕ
 last_end end [] = end
 last_end end (x ∷ xs) = last_end (x.time + 1) xs
@@ -105,7 +105,7 @@ rows_text f = flat_map (row_text f) (below f.rows)
 abbrev pub axes_text : Frame → List ℕ
 axes_text f = filled AXES.now ((bottom_of f + 34) ∷ (50 + 10 * f.rows) ∷ [])
 
--- what lies behind the marks
+-- the background of the marks
 abbrev pub grid_text : Frame → List ℕ
 grid_text f = ticks_text f ++ rows_text f ++ axes_text f
 

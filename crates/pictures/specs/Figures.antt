@@ -36,7 +36,7 @@ pub record IsSpread (numbers : List ℕ) (s : Spread) : Type 0 where
 abbrev pub busy_of : Run → ℕ → Busy
 busy_of r lp = record { process = lp; events = handled_by r lp; sends = sent_by r lp }
 
--- inserts a process behind all that handled as many events or more
+-- inserts a process after all that handled as many events or more
 abbrev pub insert_busy : Busy → List Busy → List Busy
 insert_busy b [] = b ∷ []
 insert_busy b (first ∷ others) =

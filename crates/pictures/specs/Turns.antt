@@ -1,4 +1,4 @@
--- The trace of a run (this project's profile): a line of names, then a row for each turn of a node.
+-- The trace of a run: a line of names, then a row for each turn of a node.
 use Rattle.std.specs.Prelude.{List, ℕ, [], ◌∷◌, ◌++◌, flat_map}
 use Rattle.pictures.specs.Filled.{filled}
 use Rattle.pictures.specs.declared.turns.Row.{Row}

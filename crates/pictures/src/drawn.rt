@@ -202,7 +202,7 @@ fn drawn_end(trace: &Trace, frame: &Frame, to: Option<u64>) -> u64
     }
 }
 
-/// Returns the time behind the last of the first 2,000 events that the frame shows, or the frame's
+/// Returns the time after the last of the first 2,000 events that the frame shows, or the frame's
 /// end if it shows none.
 fn end_of_last(trace: &Trace, frame: &Frame) -> u64
     requires order { frame.now.from ≤ frame.now.to }
@@ -283,7 +283,7 @@ fn write_head<W: Write>(frame: &Frame, out: &mut W) -> Result<()>
     write_filled(HEAD, &[height, height, frame.from, frame.to], out)
 }
 
-/// Writes what lies behind the marks: the ticks, the processes, and the titles of both axes.
+/// Writes the background of the marks: the ticks, the processes, and the titles of both axes.
 pub(crate) fn write_grid<W: Write>(frame: &Frame, out: &mut W) -> Result<()>
     requires order { frame.now.from ≤ frame.now.to }
     requires to { frame.now.to ≤ 2 ^ 41 }

@@ -1,21 +1,34 @@
 //! Views of a committed run: parts of its log, figures, and drawings.
 #![tactic(auto)]
 
+mod changes;
 mod chosen;
 mod counted;
 mod courses;
 mod drawn;
+mod dumped;
 mod filled;
+mod levels;
 mod loads;
+mod quotients;
+mod statistics;
 mod tables;
+mod tallies;
 mod traced;
 mod turns;
+mod watched;
 
+pub use changes::{Changes, changes_of};
 pub use chosen::{Choice, write_chosen};
 pub use counted::{Busy, Figures, Rate, Spread, figures_of};
 pub use courses::write_course;
 pub use drawn::{View, write_drawing};
+pub use dumped::write_changes;
+pub use levels::Level;
 pub use loads::write_load;
+pub use quotients::Decimal;
+pub use statistics::{Cell, LEVEL_NAMES, LevelRow, Statistics, WORD_NAMES, WordRow, statistics_of};
 pub use tables::{write_stats, write_stats_csv};
+pub use tallies::{Tallied, Tally};
 pub use traced::{Trace, trace_of};
 pub use turns::{NotRead, Row, read_rows, write_names, write_turn};

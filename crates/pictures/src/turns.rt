@@ -91,7 +91,7 @@ impl From<IoError> for NotRead {
 /// Reads the rows of a trace's text.
 ///
 /// `BadTrace` comes if the text is not the line of names followed by rows: 11 numbers below 2^64
-/// each, in plain decimal digits, separated by commas and ended by a line feed. `NoMemory` comes if
+/// each, in decimal digits, separated by commas and ended by a line feed. `NoMemory` is returned if
 /// an allocation failed. It costs time in proportion to the text, and memory for the rows and for a
 /// copy of the text.
 pub fn read_rows(alloc: Global, text: &[u8]) -> Result<Vec<Row>, NotRead>

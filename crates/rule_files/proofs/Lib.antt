@@ -4,3 +4,4 @@ pub mod Names
 pub mod Right
 pub mod BothKinds
 pub mod Rows
+pub mod Columns

@@ -8,7 +8,7 @@ use Rattle.rule_files.specs.declared.printed.Layout.{Layout}
 use Rattle.rule_files.specs.declared.printed.Otherwise.{Otherwise}
 use Rattle.std.specs.Prelude.{decimal}
 use Rattle.rules.specs.declared.tree.Expression.{Expression}
-use Rattle.rules.specs.declared.tree.Statement.{Statement, If, Repeat, If', Repeat', Row_of-Statement, end_of-Statement, more_of-Statement, items-the_row-Statement, items_hidden-the_row-Statement-0}
+use Rattle.rules.specs.declared.tree.Statement.{Statement, If, Repeat, RepeatUntil, If', Repeat', RepeatUntil', Row_of-Statement, end_of-Statement, more_of-Statement, items-the_row-Statement, items_hidden-the_row-Statement-0}
 
 row-named : (n : _) (row : Row_of-Statement n) (k : ℕ) → named_row row k ≡ named_all (items-the_row-Statement n row) k
 row-named n end_of-Statement k = refl
@@ -22,6 +22,7 @@ row-otherwise n (more_of-Statement x (more_of-Statement y rest)) = refl
 abbrev first_row : Statement → (n : Count) × Row_of-Statement n
 first_row (If' e s met t unmet) = (_, met)
 first_row (Repeat' i n s body) = (_, body)
+first_row (RepeatUntil' i n e s body) = (_, body)
 first_row _ = (_, end_of-Statement)
 
 abbrev second_row : Statement → (n : Count) × Row_of-Statement n
@@ -41,6 +42,12 @@ named-Repeat : (place n : ℕ) (body : Vec Statement Global) (k : ℕ) →
     named (Repeat place n body) k ≡ named_all body.items (next k)
 named-Repeat place n body k =
     let one = first_row (Repeat place n body) in
+    row-named one.0 one.1 (next k) ∙ ap (λ xs. named_all xs (next k)) (items_hidden-the_row-Statement-0 body)
+
+named-RepeatUntil : (place n : ℕ) (e : Expression) (body : Vec Statement Global) (k : ℕ) →
+    named (RepeatUntil place n e body) k ≡ named_all body.items (next k)
+named-RepeatUntil place n e body k =
+    let one = first_row (RepeatUntil place n e body) in
     row-named one.0 one.1 (next k) ∙ ap (λ xs. named_all xs (next k)) (items_hidden-the_row-Statement-0 body)
 
 module _ (names : FileNames) (given : List (List ℕ)) where
@@ -70,6 +77,25 @@ module _ (names : FileNames) (given : List (List ℕ)) where
     repeated place n body =
         with_indent at.depth (with_block names given (deeper (with_local place k at)) (next k) (before_turns n) body)
         ++ codes "}\n"
+
+    abbrev pub before_tests : ℕ → ℕ → Expression → List ℕ
+    before_tests place n e =
+        with_value names given (with_local place k at) 9
+        (((((with_margin at text ++ codes "repeat ") ++ name_at given k) ++ codes " ") ++ decimal n) ++ codes " until ") e
+        ++ codes " {\n"
+
+    abbrev pub tested : ℕ → ℕ → Expression → List Statement → List ℕ
+    tested place n e body =
+        with_indent at.depth (with_block names given (deeper (with_local place k at)) (next k) (before_tests place n e) body)
+        ++ codes "}\n"
+
+    with-RepeatUntil : (place n : ℕ) (e : Expression) (body : Vec Statement Global) →
+        with_statement names given at k text (RepeatUntil place n e body) ≡ tested place n e body.items
+    with-RepeatUntil place n e body =
+        let one = first_row (RepeatUntil place n e body) in
+        ap (λ s. with_indent at.depth s ++ codes "}\n")
+        (row-with one.0 one.1 (deeper (with_local place k at)) (next k) (before_tests place n e)
+        ∙ ap (with_block names given (deeper (with_local place k at)) (next k) (before_tests place n e)) (items_hidden-the_row-Statement-0 body))
 
     with-If : (e : Expression) (met unmet : Vec Statement Global) →
         with_statement names given at k text (If e met unmet) ≡ chosen e met.items unmet.items
@@ -167,3 +193,34 @@ module _ (s : Statement) (place n : ℕ) (body : Vec Statement Global) (repetiti
         ∙ ap (λ i. with_block names given (deeper (with_local place k at)) i t6 xs) d
         ∙ ap (λ t. with_block names given (deeper (with_local place k at)) (next k) t xs) six in
         e9 ∙ ap (λ t. t ++ codes "}\n") (e8 ∙ ap (with_indent at.depth) seven) ∙ sym (repetition-with names given at k t0)
+
+-- and for one that is known to be a repetition with a test
+module _ (s : Statement) (place n : ℕ) (e : Expression) (body : Vec Statement Global) (repetition : s ≡ RepeatUntil place n e body) (xs : List Statement) (one : xs ≡ body.items) where
+  pub test-named : (k : ℕ) → named s k ≡ named_all xs (next k)
+  test-named k =
+      ap (λ t. named t k) repetition ∙ named-RepeatUntil place n e body k ∙ ap (λ zs. named_all zs (next k)) (sym one)
+
+  pub test-with : (names : FileNames) (given : List (List ℕ)) (at : Layout) (k : ℕ) (text : List ℕ) →
+      with_statement names given at k text s ≡ tested names given at k text place n e xs
+  test-with names given at k text =
+      ap (with_statement names given at k text) repetition ∙ with-RepeatUntil names given at k text place n e body
+      ∙ ap (tested names given at k text place n e) (sym one)
+
+  module _ (names : FileNames) (given : List (List ℕ)) (at here inside : Layout) (k j m : ℕ) (name t0 t1 t2 t3 t4 t5 t6 t7 t8 t9 t10 t11 : List ℕ) where
+    pub test-text : here ≡ with_local place k at → inside ≡ deeper here → j ≡ next k → m ≡ n → name ≡ name_at given k →
+        t1 ≡ with_margin at t0 → t2 ≡ t1 ++ codes "repeat " → t3 ≡ t2 ++ name → t4 ≡ t3 ++ codes " " → t5 ≡ t4 ++ decimal m →
+        t6 ≡ t5 ++ codes " until " → t7 ≡ with_value names given here 9 t6 e → t8 ≡ t7 ++ codes " {\n" →
+        t9 ≡ with_block names given inside j t8 xs → t10 ≡ with_indent at.depth t9 → t11 ≡ t10 ++ codes "}\n" →
+        t11 ≡ with_statement names given at k t0 s
+    test-text a b d f g e1 e2 e3 e4 e5 e6 e7 e8 e9 e10 e11 =
+        let three : t3 ≡ (with_margin at t0 ++ codes "repeat ") ++ name_at given k =
+        e3 ∙ ap (λ w. t2 ++ w) g ∙ ap (λ t. t ++ name_at given k) (e2 ∙ ap (λ t. t ++ codes "repeat ") e1) in
+        let eight : t8 ≡ before_tests names given at k t0 place n e =
+        e8 ∙ ap (λ t. t ++ codes " {\n") (e7 ∙ ap (λ l. with_value names given l 9 t6 e) a
+        ∙ ap (λ t. with_value names given (with_local place k at) 9 t e) (e6 ∙ ap (λ t. t ++ codes " until ") (e5 ∙ ap (λ i. t4 ++ decimal i) f
+        ∙ ap (λ t. t ++ decimal n) (e4 ∙ ap (λ t. t ++ codes " ") three)))) in
+        let nine : t9 ≡ with_block names given (deeper (with_local place k at)) (next k) (before_tests names given at k t0 place n e) xs =
+        e9 ∙ ap (λ l. with_block names given l j t8 xs) (b ∙ ap deeper a)
+        ∙ ap (λ i. with_block names given (deeper (with_local place k at)) i t8 xs) d
+        ∙ ap (λ t. with_block names given (deeper (with_local place k at)) (next k) t xs) eight in
+        e11 ∙ ap (λ t. t ++ codes "}\n") (e10 ∙ ap (with_indent at.depth) nine) ∙ sym (test-with names given at k t0)

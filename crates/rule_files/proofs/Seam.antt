@@ -58,6 +58,9 @@ mutual
       ∙ ap (λ n. step_cost c + cost c x + max n (acts_cost c (acts_of_row unmet))) (row_cost_is c met)
       ∙ ap (λ n. step_cost c + cost c x + max (cost_of_row c met) n) (row_cost_is c unmet)
   act_cost_is c (s.Repeat' i n p body) = ap (λ k. step_cost c + n * (step_cost c + k)) (row_cost_is c body)
+  act_cost_is c (s.RepeatUntil' i n x p body) =
+      ap (λ k. step_cost c + n * (step_cost c + k + acts_cost c (acts_of_row body))) (tree_cost_is c x)
+      ∙ ap (λ k. step_cost c + n * (step_cost c + cost c x + k)) (row_cost_is c body)
   act_cost_is c (s.Put array i x) =
       ap (λ n. step_cost c + n + tree_cost c (tree_of x)) (tree_cost_is c i) ∙ ap (λ n. step_cost c + cost c i + n) (tree_cost_is c x)
 

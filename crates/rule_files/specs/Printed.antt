@@ -30,7 +30,8 @@ use Rattle.rules.specs.declared.tree.Operator.TheVariants.{Greatest}
 use Rattle.rules.specs.declared.tree.Sending.{Sending}
 use Rattle.rules.specs.declared.tree.Statement.{Statement, Row_of-Statement, end_of-Statement}
 use Rattle.rules.specs.declared.tree.Statement.{more_of-Statement}
-use Rattle.rules.specs.declared.tree.Statement.TheVariants.{Let, Set, Send, If', Repeat', Put}
+use Rattle.rules.specs.declared.tree.Statement.TheVariants.{Let, Set, Send, If', Repeat', RepeatUntil'}
+use Rattle.rules.specs.declared.tree.Statement.TheVariants.{Put}
 use Rattle.rules_text.specs.Grammar.{looseness}
 
 -- 1. Signs
@@ -127,6 +128,7 @@ abbrev mutual
   named (Send x) k = k
   named (If' e s met t unmet) k = named_row unmet (named_row met k)
   named (Repeat' i n s body) k = named_row body (next k)
+  named (RepeatUntil' i n e s body) k = named_row body (next k)
   named (Put a i e) k = k
 
   pub named_row : {m : _} → Row_of-Statement m → ℕ → ℕ
@@ -278,6 +280,11 @@ module _ (names : FileNames) (given : List (List ℕ)) where
         with_indent at.depth (with_row (deeper (with_local i k at)) (next k)
         (((((with_margin at text ++ codes "repeat ") ++ name_at given k) ++ codes " ") ++ decimal n)
         ++ codes " {\n") body) ++ codes "}\n"
+    with_statement at k text (RepeatUntil' i n e s body) =
+        with_indent at.depth (with_row (deeper (with_local i k at)) (next k)
+        (with_value (with_local i k at) 9
+        (((((with_margin at text ++ codes "repeat ") ++ name_at given k) ++ codes " ") ++ decimal n)
+        ++ codes " until ") e ++ codes " {\n") body) ++ codes "}\n"
 
     pub with_row : {m : _} → Layout → ℕ → List ℕ → Row_of-Statement m → List ℕ
     with_row at k text end_of-Statement = text

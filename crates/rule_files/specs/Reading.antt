@@ -13,7 +13,7 @@ use Rattle.rules.specs.declared.tree.Statement.{Statement}
 use Rattle.rules_text.specs.Grammar.{Tree, Number, Word, Content, Local, Read, Not, Two, Entry, Draw}
 use Rattle.rules_text.specs.Grammar.{Normal, Triangular, Choose, Element}
 use Rattle.rules_text.specs.Scopes.{Dictionary}
-use Rattle.rules_text.specs.Statements.{Act, Acts, Let, Set, Send, If, Repeat, Put, empty, cons}
+use Rattle.rules_text.specs.Statements.{Act, Acts, Let, Set, Send, If, Repeat, RepeatUntil, Put, empty, cons}
 use Rattle.rules_text.specs.Statements.{acts_of}
 use Rattle.rules_text.specs.Texts.{IsRule, read_at}
 use Rattle.rules_text.specs.declared.token.Token.{Token}
@@ -51,6 +51,7 @@ array_names arrays = map (λ a. (a.0, t.Array a.1)) arrays
 abbrev pub dictionary : Parts → Dictionary
 dictionary p = record {
   draws = list_any is_key p.words;
+  own = None;
   entries =
       ((((words_from 0 p.words ++ content_from 0 p.content)
       ++ content_from (length p.content) (drop (length p.content) other_names))
@@ -92,6 +93,8 @@ abbrev mutual
   act_cost c (If x met unmet) =
       step_cost c + tree_cost c x + max (acts_cost c met) (acts_cost c unmet)
   act_cost c (Repeat i n body) = step_cost c + n * (step_cost c + acts_cost c body)
+  act_cost c (RepeatUntil i n x body) =
+      step_cost c + n * (step_cost c + tree_cost c x + acts_cost c body)
   act_cost c (Put array i x) = step_cost c + tree_cost c i + tree_cost c x
 
   pub acts_cost : Limit → Acts → ℕ

@@ -31,6 +31,7 @@ use crate::naming::{mistake_in, twice_in};
 use crate::printed::put_model;
 use crate::reading::{RuleMistake, read_rule};
 use crate::scope::{Named, Scope, is_key};
+use crate::shown::shown_names;
 use eventkey::MOST_END;
 use model::Model as Simulated;
 use models::AnyModel;
@@ -38,8 +39,8 @@ use rules::{MAX_LPS, Rules, RulesParts, Statement, Table as Numbers};
 use rules_text::Mistake as Place;
 use std::alloc::{AllocError, Global};
 use texts::{
-    Described, Findings, Inside, Mistake, ModelFault, TextMistake, mistakes_among, number_at, only,
-    string_at,
+    Described, Findings, Inside, Mistake, ModelFault, Names, TextMistake, mistakes_among,
+    number_at, only, string_at,
 };
 use toml::Table;
 
@@ -103,17 +104,10 @@ impl Described for FileModel {
         }
     }
 
-    fn state_names(&self) -> &[String] {
+    fn names(&self) -> Option<&Names> {
         match self {
-            FileModel::BuiltIn(model) => model.state_names(),
-            FileModel::Rules(_, names) => names.words.as_slice(),
-        }
-    }
-
-    fn content_names(&self) -> &[String] {
-        match self {
-            FileModel::BuiltIn(model) => model.content_names(),
-            FileModel::Rules(_, names) => names.content.as_slice(),
+            FileModel::BuiltIn(model) => model.names(),
+            FileModel::Rules(_, names) => Some(&names.shown),
         }
     }
 }
@@ -194,7 +188,7 @@ fn rules_model_of(alloc: Global, table: &Table) -> Result<(Rules, u64, FileNames
         Ok(head) => head,
         Err(mistake) => return Err(ModelFault::BadModel(mistake)),
     };
-    let body = match body_of(alloc, table) {
+    let body = match body_of(alloc, table, lps as u32) {
         Ok(Ok(body)) => body,
         Ok(Err(mistake)) => return Err(ModelFault::BadModel(mistake)),
         Err(_) => return Err(ModelFault::NoMemory),
@@ -255,8 +249,8 @@ struct Body {
     names: FileNames,
 }
 
-/// Reads the names and the rules of a table.
-fn body_of(alloc: Global, table: &Table) -> Result<Result<Body, Mistake>, AllocError>
+/// Reads the names and the rules of a table for this number of processes.
+fn body_of(alloc: Global, table: &Table, lps: u32) -> Result<Result<Body, Mistake>, AllocError>
     ensures ok { IfOk result (λ read. IfOk read (λ body.
         IsBody (table_view table.now) (record {
           lps = 0;
@@ -303,7 +297,7 @@ fn body_of(alloc: Global, table: &Table) -> Result<Result<Body, Mistake>, AllocE
         handle.as_slice(),
     );
     let width = scope.words.len() as u8;
-    let names = names_of(alloc, scope, rules)?;
+    let names = names_of(alloc, lps, scope, rules)?;
     Ok(Ok(Body {
         width,
         key,
@@ -317,7 +311,7 @@ fn body_of(alloc: Global, table: &Table) -> Result<Result<Body, Mistake>, AllocE
 }
 
 /// Returns the names of a model.
-fn names_of(alloc: Global, scope: Scope, rules: &Table) -> Result<FileNames, AllocError> {
+fn names_of(alloc: Global, lps: u32, scope: Scope, rules: &Table) -> Result<FileNames, AllocError> {
     let Scope {
         words,
         arrays,
@@ -329,6 +323,13 @@ fn names_of(alloc: Global, scope: Scope, rules: &Table) -> Result<FileNames, All
     for table in tables.iter() {
         table_names.push(String::from_str(alloc, table.name.as_str())?)?;
     }
+    let shown = shown_names(
+        alloc,
+        lps,
+        words.as_slice(),
+        arrays.as_slice(),
+        content.as_slice(),
+    )?;
     Ok(FileNames {
         words,
         arrays,
@@ -337,6 +338,7 @@ fn names_of(alloc: Global, scope: Scope, rules: &Table) -> Result<FileNames, All
         tables: table_names,
         start: given_names(alloc, text_at(rules, "start").unwrap_or(""))?,
         handle: given_names(alloc, text_at(rules, "handle").unwrap_or(""))?,
+        shown,
     })
 }
 

@@ -64,6 +64,7 @@ fn byte(place: usize) -> Result<u8, AllocError>
 /// Adds the words of the state but the key and those of arrays, which have no name.
 fn add_words(alloc: Global, names: &mut Dictionary, words: &[String]) -> Result<(), AllocError>
     ensures draws { OnOk result (names.new.draws ≡ names.old.draws) }
+    ensures own { OnOk result (names.new.own ≡ names.old.own) }
     ensures entries { OnOk result (names.new.entries
         ≡ names.old.entries ++ words_from 0 (map string_bytes words.now)) }
 {
@@ -78,6 +79,7 @@ fn add_words(alloc: Global, names: &mut Dictionary, words: &[String]) -> Result<
 /// Adds the words of content that have a name.
 fn add_content(alloc: Global, names: &mut Dictionary, words: &[String]) -> Result<(), AllocError>
     ensures draws { OnOk result (names.new.draws ≡ names.old.draws) }
+    ensures own { OnOk result (names.new.own ≡ names.old.own) }
     ensures entries { OnOk result (names.new.entries
         ≡ names.old.entries ++ content_from 0 (map string_bytes words.now)) }
 {
@@ -90,6 +92,7 @@ fn add_content(alloc: Global, names: &mut Dictionary, words: &[String]) -> Resul
 /// Adds the words of content that have no name of their own.
 fn add_others(alloc: Global, names: &mut Dictionary, count: usize) -> Result<(), AllocError>
     ensures draws { OnOk result (names.new.draws ≡ names.old.draws) }
+    ensures own { OnOk result (names.new.own ≡ names.old.own) }
     ensures entries { OnOk result (names.new.entries
         ≡ names.old.entries ++ content_from count (drop count other_names)) }
 {
@@ -115,6 +118,7 @@ fn other_name(place: usize) -> &'static str
 /// Adds the named numbers.
 fn add_numbers(alloc: Global, names: &mut Dictionary, more: &[Named]) -> Result<(), AllocError>
     ensures draws { OnOk result (names.new.draws ≡ names.old.draws) }
+    ensures own { OnOk result (names.new.own ≡ names.old.own) }
     ensures entries { OnOk result (names.new.entries
         ≡ names.old.entries ++ number_names (map named_view more.now)) }
 {
@@ -138,6 +142,7 @@ pub(crate) fn value_of(numbers: &[u64]) -> u64
 /// Adds the tables.
 fn add_tables(alloc: Global, names: &mut Dictionary, more: &[Named]) -> Result<(), AllocError>
     ensures draws { OnOk result (names.new.draws ≡ names.old.draws) }
+    ensures own { OnOk result (names.new.own ≡ names.old.own) }
     ensures entries { OnOk result (names.new.entries
         ≡ names.old.entries ++ tables_from 0 (map named_view more.now)) }
 {
@@ -153,6 +158,7 @@ fn add_tables(alloc: Global, names: &mut Dictionary, more: &[Named]) -> Result<(
 /// Adds the arrays.
 fn add_arrays(alloc: Global, names: &mut Dictionary, more: &[NamedArray]) -> Result<(), AllocError>
     ensures draws { OnOk result (names.new.draws ≡ names.old.draws) }
+    ensures own { OnOk result (names.new.own ≡ names.old.own) }
     ensures entries { OnOk result (names.new.entries
         ≡ names.old.entries ++ array_names (map array_view more.now)) }
 {

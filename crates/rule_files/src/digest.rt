@@ -161,6 +161,12 @@ fn put_statement(hasher: &mut Sha256, statement: &Statement) {
             put_number(hasher, u64::from(*count));
             put_block(hasher, body);
         }
+        Statement::RepeatUntil(place, count, e, body) => {
+            put(hasher, 21, u64::from(*place));
+            put_number(hasher, u64::from(*count));
+            put_expression(hasher, e);
+            put_block(hasher, body);
+        }
         Statement::Put(array, index, e) => {
             put_array(hasher, 19, *array);
             put_expression(hasher, index);

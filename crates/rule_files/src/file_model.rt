@@ -8,6 +8,7 @@ use models::AnyModel;
 use rules::Rules;
 use smallvec::SmallVec;
 use std::alloc::Global;
+use texts::Names;
 
 /// A model that a model file can describe.
 #[derive(Debug, Drop)]
@@ -36,6 +37,8 @@ pub struct FileNames {
     pub start: Vec<String>,
     /// The names that `let` and `repeat` give in the rule for a message, in the order of its text.
     pub handle: Vec<String>,
+    /// The names for the commands that print states and messages.
+    pub shown: Names,
 }
 
 impl Simulated for FileModel {

@@ -12,6 +12,7 @@ mod naming;
 mod printed;
 mod reading;
 mod scope;
+mod shown;
 
 pub use arrays::NamedArray;
 pub use described::RULES_KEYS;

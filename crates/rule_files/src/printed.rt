@@ -818,6 +818,22 @@ fn put_statement(
             put_indent(at.depth, text)?;
             put("}\n", text)
         }
+        Statement::RepeatUntil(place, count, e, body) => {
+            let name = *number;
+            *number = next(name);
+            let here = with_local(*place, name, at);
+            put_margin(at, text)?;
+            put("repeat ", text)?;
+            put(name_at(given, name as usize), text)?;
+            put(" ", text)?;
+            put_number(u64::from(*count), text)?;
+            put(" until ", text)?;
+            put_value(names, given, here, 9, e, text)?;
+            put(" {\n", text)?;
+            put_block(names, given, deeper(here), number, body, text)?;
+            put_indent(at.depth, text)?;
+            put("}\n", text)
+        }
     }
 }
 

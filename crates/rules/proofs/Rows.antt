@@ -1,15 +1,15 @@
 -- The rows of a tree as the lists that the code sees.
-use Rattle.std.proofs.Common.{◌≡◌, ◌≤◌, ◌<◌, inl, inr, min, ℕ, zero, suc, ◌+◌, ◌*◌, List, Vec, Global, true, false, max, refl, ap, sym, arith, ◌∙◌, if◌then◌else◌}
-use Rattle.std.proofs.Math.Nat.{mul-le-mul_right}
+use Rattle.std.proofs.Common.{Bool, ◌-◌, ◌≡◌, ◌≤◌, ◌<◌, inl, inr, min, ℕ, zero, suc, ◌+◌, ◌*◌, List, Vec, Global, true, false, max, refl, ap, sym, arith, ◌∙◌, if◌then◌else◌}
+use Rattle.std.proofs.Math.Nat.{mul-le-mul_left, mul-le-mul_right}
 use Rattle.std.proofs.lemmas.Bool.Decides.{nat_tests}
 use Rattle.std.proofs.lemmas.Bool.{cases_lt}
 use mathlib.Core.Former.{Count}
 use Rattle.rules.specs.Costs.{cost, cost_of, cost_of_all, cost_of_row, draws, step_cost}
-use Rattle.rules.specs.Effects.{Progress, after, after_all, after_row, at_turn, turns}
+use Rattle.rules.specs.Effects.{Progress, after, after_all, after_row, asked, at_turn, is_ended, turns, turns_until}
 use Rattle.rules.specs.Values.{is_true, value_of}
 use Rattle.rules.specs.declared.limits.Limit.{Limit}
 use Rattle.rules.specs.declared.tree.Expression.{Expression}
-use Rattle.rules.specs.declared.tree.Statement.{Statement, If, Repeat, If', Repeat', Row_of-Statement, end_of-Statement, more_of-Statement, items-the_row-Statement, items_hidden-the_row-Statement-0}
+use Rattle.rules.specs.declared.tree.Statement.{Statement, If, Repeat, RepeatUntil, If', Repeat', RepeatUntil', Row_of-Statement, end_of-Statement, more_of-Statement, items-the_row-Statement, items_hidden-the_row-Statement-0}
 
 module _ (tables : List (List ℕ)) where
   row-after : (n : _) (row : Row_of-Statement n) (p : Progress) →
@@ -25,6 +25,7 @@ module _ (c : Limit) where
 abbrev first_row : Statement → (n : Count) × Row_of-Statement n
 first_row (If' e s met t unmet) = (_, met)
 first_row (Repeat' i n s body) = (_, body)
+first_row (RepeatUntil' i n e s body) = (_, body)
 first_row _ = (_, end_of-Statement)
 
 abbrev second_row : Statement → (n : Count) × Row_of-Statement n
@@ -47,6 +48,12 @@ module _ (c : Limit) where
   cost-Repeat place n body =
       let one = first_row (Repeat place n body) in
       ap (λ m. step_cost c + n * (step_cost c + m)) (row-cost c one.0 one.1 ∙ ap (cost_of_all c) (items_hidden-the_row-Statement-0 body))
+
+  pub cost-RepeatUntil : (place n : ℕ) (e : Expression) (body : Vec Statement Global) →
+      cost_of c (RepeatUntil place n e body) ≡ step_cost c + n * (step_cost c + cost c e + cost_of_all c body.items)
+  cost-RepeatUntil place n e body =
+      let one = first_row (RepeatUntil place n e body) in
+      ap (λ m. step_cost c + n * (step_cost c + cost c e + m)) (row-cost c one.0 one.1 ∙ ap (cost_of_all c) (items_hidden-the_row-Statement-0 body))
 
 turns-same : (f g : ℕ → Progress → Progress) → ((k : ℕ) (p : Progress) → f k p ≡ g k p) → (n : ℕ) (p : Progress) → turns n f p ≡ turns n g p
 turns-same f g same zero p = refl
@@ -74,10 +81,48 @@ module _ (tables : List (List ℕ)) where
       turns-same _ _ (λ k q. row-after tables one.0 one.1 (at_turn place k q)
       ∙ ap (λ xs. after_all tables xs (at_turn place k q)) (items_hidden-the_row-Statement-0 body)) n p
 
-is-not_zero : (v : ℕ) → (v ≡ 0 → ⊥) → is_true v ≡ true
+module _ (ended : ℕ → Progress → Bool) (before : ℕ → Progress → Progress) where
+  until-same : (f g : Progress → Progress) → ((p : Progress) → f p ≡ g p) → (n k : ℕ) (p : Progress) →
+      turns_until ended before f n k p ≡ turns_until ended before g n k p
+  until-same f g same zero k p = refl
+  until-same f g same (suc n) k p =
+      ap (λ (q : Progress). if ended k p then before k p else q)
+      (ap (turns_until ended before f n (suc k)) (same (before k p)) ∙ until-same f g same n (suc k) (g (before k p)))
+
+  module _ (turn : Progress → Progress) where
+    -- no turn is left
+    pub until-done : (n k : ℕ) (p : Progress) → n ≤ k → turns_until ended before turn (n - k) k p ≡ p
+    until-done n k p le = let none : n - k ≡ 0 = omega arith in ap (λ m. turns_until ended before turn m k p) none
+
+    -- the repeat ends before a turn
+    pub until-ended : (n k : ℕ) (p : Progress) → k < n → ended k p ≡ true → turns_until ended before turn (n - k) k p ≡ before k p
+    until-ended n k p lt e =
+        let more : n - k ≡ suc (n - (k + 1)) = omega arith in
+        ap (λ m. turns_until ended before turn m k p) more
+        ∙ ap (λ b. if b then before k p else turns_until ended before turn (n - (k + 1)) (suc k) (turn (before k p))) e
+
+    -- one turn more
+    pub until-more : (n k : ℕ) (p : Progress) → k < n → ended k p ≡ false →
+        turns_until ended before turn (n - (k + 1)) (k + 1) (turn (before k p)) ≡ turns_until ended before turn (n - k) k p
+    until-more n k p lt e =
+        let more : suc (n - (k + 1)) ≡ n - k = omega arith in
+        let next : k + 1 ≡ suc k = omega arith in
+        ap (λ j. turns_until ended before turn (n - (k + 1)) j (turn (before k p))) next
+        ∙ sym (ap (λ b. if b then before k p else turns_until ended before turn (n - (k + 1)) (suc k) (turn (before k p))) e)
+        ∙ ap (λ m. turns_until ended before turn m k p) more
+
+module _ (tables : List (List ℕ)) where
+  pub after-RepeatUntil : (place n : ℕ) (e : Expression) (body : Vec Statement Global) (p : Progress) →
+      after tables (RepeatUntil place n e body) p ≡ turns_until (is_ended tables e place) (asked e place) (after_all tables body.items) n 0 p
+  after-RepeatUntil place n e body p =
+      let one = first_row (RepeatUntil place n e body) in
+      until-same (is_ended tables e place) (asked e place) (λ q. after_row tables one.1 q) (after_all tables body.items)
+      (λ q. row-after tables one.0 one.1 q ∙ ap (λ xs. after_all tables xs q) (items_hidden-the_row-Statement-0 body)) n 0 p
+
+pub is-not_zero : (v : ℕ) → (v ≡ 0 → ⊥) → is_true v ≡ true
 is-not_zero v h = grind (arith, nat_tests)
 
-is-zero : (v : ℕ) → v ≡ 0 → is_true v ≡ false
+pub is-zero : (v : ℕ) → v ≡ 0 → is_true v ≡ false
 is-zero v h = grind (arith, nat_tests)
 
 -- for a statement that is known to be a choice: what its blocks cost, and what is after it
@@ -135,6 +180,26 @@ module _ (s : Statement) (place n : ℕ) (body : Vec Statement Global) (repetiti
       ∙ sym (after-Repeat tables place n body p)
       ∙ ap (λ t. after tables t p) (sym repetition)
 
+-- and for one that is known to be a repetition with an end
+module _ (s : Statement) (place n : ℕ) (e : Expression) (body : Vec Statement Global) (repetition : s ≡ RepeatUntil place n e body) (xs : List Statement) (same : xs ≡ body.items) where
+  pub until-cost : (c : Limit) → n * (cost c e + cost_of_all c xs) ≤ cost_of c s
+  until-cost c =
+      let most : n * (cost c e + cost_of_all c xs) ≤ n * (step_cost c + cost c e + cost_of_all c xs) = mul-le-mul_left n (omega arith) in
+      omega (arith, ap (cost_of c) repetition ∙ cost-RepeatUntil c place n e body, most, ap (λ ys. n * (step_cost c + cost c e + cost_of_all c ys)) same)
+
+  pub until-sends : (c : Limit) → n * cost_of_all c xs ≤ cost_of c s
+  until-sends c =
+      let most : n * cost_of_all c xs ≤ n * (cost c e + cost_of_all c xs) = mul-le-mul_left n (omega arith) in
+      omega (arith, until-cost c, most)
+
+  pub after-until : (tables : List (List ℕ)) (p made : Progress) →
+      made ≡ turns_until (is_ended tables e place) (asked e place) (after_all tables xs) n 0 p → made ≡ after tables s p
+  after-until tables p made done =
+      done
+      ∙ ap (λ ys. turns_until (is_ended tables e place) (asked e place) (after_all tables ys) n 0 p) same
+      ∙ sym (after-RepeatUntil tables place n e body p)
+      ∙ ap (λ t. after tables t p) (sym repetition)
+
 -- what a choice and a repetition cost, by the lists of their blocks
 pub choice-cost : (c : Limit) (s : Statement) (e : Expression) (met unmet : Vec Statement Global) → s ≡ If e met unmet →
     (xs ys : List Statement) → xs ≡ met.items → ys ≡ unmet.items →
@@ -149,6 +214,12 @@ pub repetition-cost : (c : Limit) (s : Statement) (place n : ℕ) (body : Vec St
     cost_of c s ≡ step_cost c + n * (step_cost c + cost_of_all c xs)
 repetition-cost c s place n body repetition xs one =
     ap (cost_of c) repetition ∙ cost-Repeat c place n body ∙ ap (λ m. step_cost c + n * (step_cost c + m)) (sym (ap (cost_of_all c) one))
+
+pub repetition_until-cost : (c : Limit) (s : Statement) (place n : ℕ) (e : Expression) (body : Vec Statement Global) → s ≡ RepeatUntil place n e body →
+    (xs : List Statement) → xs ≡ body.items →
+    cost_of c s ≡ step_cost c + n * (step_cost c + cost c e + cost_of_all c xs)
+repetition_until-cost c s place n e body repetition xs one =
+    ap (cost_of c) repetition ∙ cost-RepeatUntil c place n e body ∙ ap (λ m. step_cost c + n * (step_cost c + cost c e + m)) (sym (ap (cost_of_all c) one))
 
 -- a product that stops at a number may have a factor that stops there
 pub min-times : (n a b most : ℕ) → b ≡ min a most → min (n * b) most ≡ min (n * a) most

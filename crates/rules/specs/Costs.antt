@@ -1,5 +1,5 @@
 -- The cost of a rule: the most sends, draws or steps on any way through it. An `if` costs as much
--- as its costlier block, and a `repeat` its block times its count.
+-- as its costlier block, and a `repeat` its block, with the value that may end it, times its count.
 use Rattle.std.specs.Prelude.{ℕ, ◌+◌, ◌*◌, List, [], ◌∷◌, max}
 use Rattle.rules.specs.declared.limits.Limit.{Limit}
 use Rattle.rules.specs.declared.limits.Limit.TheVariants.{Sends, Draws, Steps}
@@ -7,6 +7,7 @@ use Rattle.rules.specs.declared.tree.Expression.{Expression}
 use Rattle.rules.specs.declared.tree.Statement.{Statement, Row_of-Statement, end_of-Statement}
 use Rattle.rules.specs.declared.tree.Statement.{more_of-Statement}
 use Rattle.rules.specs.declared.tree.Statement.TheVariants.{Let, Set, Send, If', Repeat', Put}
+use Rattle.rules.specs.declared.tree.Statement.TheVariants.{RepeatUntil'}
 use Rattle.rules.specs.declared.tree.Expression.TheVariants.{Number, Word, Content, Local, Read}
 use Rattle.rules.specs.declared.tree.Expression.TheVariants.{Not', Two', Entry', Draw', Normal'}
 use Rattle.rules.specs.declared.tree.Expression.TheVariants.{Triangular', Choose, Element'}
@@ -59,6 +60,8 @@ abbrev mutual
   cost_of c (If' e s met t unmet) =
       step_cost c + cost c e + max (cost_of_row c met) (cost_of_row c unmet)
   cost_of c (Repeat' i n s body) = step_cost c + n * (step_cost c + cost_of_row c body)
+  cost_of c (RepeatUntil' i n e s body) =
+      step_cost c + n * (step_cost c + cost c e + cost_of_row c body)
   cost_of c (Put a i e) = step_cost c + cost c i + cost c e
 
   -- the cost of the statements of a block

@@ -1,7 +1,7 @@
 -- What statements do to the words of the state, the local names, the sends and the count of drawn
--- words (this project's profile).
+-- words.
 use Rattle.std.specs.Prelude.{ℕ, zero, suc, ◌+◌, ◌-◌, ◌%◌, ◌^◌, List, [], ◌∷◌, ◌++◌, max, min}
-use Rattle.std.specs.Prelude.{slice_set, if◌then◌else◌}
+use Rattle.std.specs.Prelude.{Bool, slice_set, if◌then◌else◌}
 use Rattle.model.specs.declared.Outgoing.{Outgoing}
 use Rattle.rules.specs.Costs.{draws}
 use Rattle.rules.specs.Distributions.{saturated}
@@ -9,10 +9,12 @@ use Rattle.rules.specs.Elements.{with_element}
 use Rattle.rules.specs.Values.{is_true, value_of}
 use Rattle.rules.specs.declared.arrays.Array.{Array}
 use Rattle.rules.specs.declared.evaluate.Context.{Context}
+use Rattle.rules.specs.declared.tree.Expression.{Expression}
 use Rattle.rules.specs.declared.tree.Sending.{Sending}
 use Rattle.rules.specs.declared.tree.Statement.{Statement, Row_of-Statement, end_of-Statement}
 use Rattle.rules.specs.declared.tree.Statement.{more_of-Statement}
 use Rattle.rules.specs.declared.tree.Statement.TheVariants.{Let, Set, Send, If', Repeat', Put}
+use Rattle.rules.specs.declared.tree.Statement.TheVariants.{RepeatUntil'}
 
 -- the progress of a handling
 pub record Progress : Type 0 where
@@ -64,6 +66,23 @@ turns (suc n) turn p = turn n (turns n turn p)
 abbrev pub at_turn : ℕ → ℕ → Progress → Progress
 at_turn place k p = progress (with_local place (saturated k) p.context) p.drawn p.sends
 
+-- before a turn: the value that may end the repeat is computed, and whether it is true
+abbrev pub asked : Expression → ℕ → ℕ → Progress → Progress
+asked e place k p =
+    let q : Progress = at_turn place k p in progress q.context (q.drawn + draws e) q.sends
+
+abbrev pub is_ended : List (List ℕ) → Expression → ℕ → ℕ → Progress → Bool
+is_ended tables e place k p =
+    is_true (value_of tables (at_turn place k p).context e p.drawn)
+
+-- at most n turns, from number k on, up to the first before which the repeat is ended
+abbrev pub turns_until : (ℕ → Progress → Bool) → (ℕ → Progress → Progress) →
+    (Progress → Progress) → ℕ → ℕ → Progress → Progress
+turns_until ended before turn zero k p = p
+turns_until ended before turn (suc n) k p =
+    if ended k p then before k p
+    else turns_until ended before turn n (suc k) (turn (before k p))
+
 abbrev mutual
   -- after a statement
   pub after : List (List ℕ) → Statement → Progress → Progress
@@ -88,6 +107,8 @@ abbrev mutual
       else after_row tables unmet q
   after tables (Repeat' i n s body) p =
       turns n (λ k q. after_row tables body (at_turn i k q)) p
+  after tables (RepeatUntil' i n e s body) p =
+      turns_until (is_ended tables e i) (asked e i) (λ q. after_row tables body q) n 0 p
   after tables (Put a i e) p = record {
     context =
         with_array a (value_of tables p.context i p.drawn)

@@ -7,7 +7,7 @@ use Rattle.std.specs.Prelude.{nat_lt, refl}
 use Rattle.std.specs.Int.Bits.{and_lt}
 use Rattle.std.proofs.Common.{arith, lit<, subst, sym, length-append}
 use Rattle.std.proofs.lemmas.List.Elements.{recursion_from_All}
-use Rattle.std.proofs.Math.Nat.{mod-lt, mod-le, div-le_self}
+use Rattle.std.proofs.Math.Nat.{mod-lt, mod-le, mul-le-mul_left, div-le_self}
 use Rattle.std.proofs.lemmas.Nat.{xor_lt, or_lt}
 use Rattle.eventkey.specs.Message.{IsRanged, Message}
 use Rattle.model.proofs.ForLaws.{Every-append, Every-drop, Every-get_or-default, Every-set}
@@ -15,9 +15,10 @@ use Rattle.model.proofs.ForLaws.{Every-take, length-take-le}
 use Rattle.model.specs.Meaning.{IsLawful, IsSend, IsWords}
 use Rattle.models.specs.WordLaws.{key_lt, word_lt}
 use Rattle.models.specs.Words.{next_key}
-use Rattle.rules.specs.Costs.{cost_of, cost_of_all, cost_of_row, draws}
+use Rattle.rules.specs.Costs.{cost, cost_of, cost_of_all, cost_of_row, draws}
 use Rattle.rules.specs.Effects.{Progress, after, after_all, after_row, at_turn, progress, sent}
-use Rattle.rules.specs.Effects.{turns, with_array, with_local, with_word}
+use Rattle.rules.specs.Effects.{asked, is_ended, turns, turns_until, with_array, with_local}
+use Rattle.rules.specs.Effects.{with_word}
 use Rattle.rules.specs.ElementLaws.{element_fits, written_fits}
 use Rattle.rules.specs.declared.arrays.Array.{Array}
 use Rattle.rules.specs.Rules.{Description, GoodRules, IsDescription, ended, handled, opening}
@@ -47,6 +48,7 @@ use Rattle.rules.specs.declared.tree.Sending.{Sending}
 use Rattle.rules.specs.declared.tree.Statement.{Statement, Row_of-Statement, end_of-Statement}
 use Rattle.rules.specs.declared.tree.Statement.{more_of-Statement}
 use Rattle.rules.specs.declared.tree.Statement.TheVariants.{Let, Set, Send, If', Repeat', Put}
+use Rattle.rules.specs.declared.tree.Statement.TheVariants.{RepeatUntil'}
 
 -- a number of 64 bits
 abbrev IsWord : ℕ → Type 0
@@ -236,6 +238,24 @@ module _ (lps : ℕ) (some : 1 ≤ lps) (few : lps ≤ MAX_LPS) (tables : List (
     sends = h.sends;
   }
 
+  until_lawful : (ended : ℕ → Progress → Bool) (before : ℕ → Progress → Progress) →
+      (turn : Progress → Progress) →
+      ((k : ℕ) (p : Progress) → IsProgress p → IsProgress (before k p)) →
+      ((p : Progress) → IsProgress p → IsProgress (turn p)) →
+      (n k : ℕ) (p : Progress) → IsProgress p → IsProgress (turns_until ended before turn n k p)
+  until_lawful ended before turn first each zero k p h = h
+  until_lawful ended before turn first each (suc n) k p h =
+      let here = first k p h in
+      either_progress (ended k p) (before k p) _ here
+      (until_lawful ended before turn first each n (suc k) (turn (before k p))
+      (each (before k p) here))
+
+  asked_lawful : (e : Expression) (place k : ℕ) (p : Progress) → IsProgress p →
+      IsProgress (asked e place k p)
+  asked_lawful e place k p h =
+      let here = at_turn_lawful place k p h in
+      record { context = here.context; sends = here.sends }
+
   mutual
     after_lawful : (s : Statement) (p : Progress) → IsProgress p → IsProgress (after tables s p)
     after_lawful (Let i e) p h = record {
@@ -261,6 +281,9 @@ module _ (lps : ℕ) (some : 1 ≤ lps) (few : lps ≤ MAX_LPS) (tables : List (
     after_lawful (Repeat' i n s body) p h =
         turns_lawful (λ k q. after_row tables body (at_turn i k q))
         (λ k q here. row_lawful body (at_turn i k q) (at_turn_lawful i k q here)) n p h
+    after_lawful (RepeatUntil' i n e s body) p h =
+        until_lawful (is_ended tables e i) (asked e i) (λ q. after_row tables body q)
+        (asked_lawful e i) (λ q here. row_lawful body q here) n 0 p h
     after_lawful (Put a i e) p h = record {
       context = array_context a _ _ p.context h.context;
       sends = h.sends;
@@ -294,6 +317,23 @@ module _ (tables : List (List ℕ)) where
   either_few true p q n one two = one
   either_few false p q n one two = two
 
+  until_few : (ended : ℕ → Progress → Bool) (before : ℕ → Progress → Progress) →
+      (turn : Progress → Progress) (m : ℕ) →
+      ((k : ℕ) (p : Progress) → sends_in (before k p) ≤ sends_in p) →
+      ((p : Progress) → sends_in (turn p) ≤ sends_in p + m) →
+      (n k : ℕ) (p : Progress) →
+      sends_in (turns_until ended before turn n k p) ≤ sends_in p + n * m
+  until_few ended before turn m same each zero k p = omega arith
+  until_few ended before turn m same each (suc n) k p =
+      let q : Progress = before k p in
+      either_few (ended k p) q _ _ (omega (arith, same k p))
+      (omega (
+        arith,
+        same k p,
+        each q,
+        until_few ended before turn m same each n (suc k) (turn q),
+      ))
+
   mutual
     after_few : (s : Statement) (p : Progress) →
         sends_in (after tables s p) ≤ sends_in p + cost_of Sends s
@@ -310,6 +350,13 @@ module _ (tables : List (List ℕ)) where
         let few =
         turns_few turn (cost_of_row Sends body) (λ k q. row_few body (at_turn i k q)) n p in
         omega arith
+    after_few (RepeatUntil' i n e s body) p =
+        let few =
+        until_few (is_ended tables e i) (asked e i) (λ q. after_row tables body q)
+        (cost_of_row Sends body) (λ k q. omega arith) (λ q. row_few body q) n 0 p in
+        let most : n * cost_of_row Sends body ≤ n * (0 + cost Sends e + cost_of_row Sends body) =
+        mul-le-mul_left n (omega arith) in
+        omega (arith, few, most)
     after_few (Put a i e) p = omega arith
 
     row_few : {m : _} (row : Row_of-Statement m) (p : Progress) →

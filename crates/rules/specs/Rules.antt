@@ -1,4 +1,4 @@
--- The meaning of a model that is described by rules (this project's profile).
+-- The meaning of a model that is described by rules.
 use Rattle.std.specs.Prelude.{All, ◌≡◌, ℕ, ◌^◌, ◌<◌, ◌≤◌, List, [], ◌∷◌, ◌++◌, Option, Some, None}
 use Rattle.std.specs.Prelude.{drop, length, replicate, slice_index, slice_set, take}
 use Rattle.eventkey.specs.Message.{Message}

@@ -1,4 +1,4 @@
--- The value of an expression: a number of 64 bits without sign (this project's profile).
+-- The value of an expression: a number of 64 bits without sign.
 use Rattle.std.specs.Prelude.{ℕ, ◌+◌, ◌-◌, ◌*◌, ◌/◌, ◌%◌, ◌^◌, List, Bool, not, ◌&&◌, ◌||◌, Option}
 use Rattle.std.specs.Prelude.{Some, None}
 use Rattle.std.specs.Prelude.{bit_and, bit_or, bit_xor, eqb, nat_lt, nat_le, max, min, slice_get}
@@ -63,7 +63,7 @@ entry (Some table) i = entry_of table i
 abbrev pub drawn_below : ℕ → ℕ → ℕ
 drawn_below w n = if eqb n 0 then 0 else w % n
 
--- a number by a law with one parameter, from a drawn word w
+-- a number by a distribution with one parameter, from a drawn word w
 abbrev pub drawn_by : Law → ℕ → ℕ → ℕ
 drawn_by Uniform w n = drawn_below w n
 drawn_by Exponential w mean = exponential mean w

@@ -63,7 +63,7 @@ fn standard_exponential(word: u32) -> u64
         + between(quantiles, 0x100_0000, depth & 0xffff_ffff)
 }
 
-/// Returns a number by the exponential law.
+/// Returns a number from the exponential distribution.
 #[tactic(auto, unfolding(crate::specs::Distributions::exponential))]
 pub(crate) fn exponential(mean: u64, word: u32) -> u64
     ensures { result ≡ exponential_of mean word }
@@ -81,7 +81,7 @@ fn standard_normal(word: u32) -> u64
     between(normal_quantiles(), 0x1000_0000, depth)
 }
 
-/// Returns a number by the normal law.
+/// Returns a number from the normal distribution.
 #[tactic(auto, unfolding(crate::specs::Distributions::normal))]
 pub(crate) fn normal(mean: u64, deviation: u64, word: u32) -> u64
     ensures { result ≡ normal_of mean deviation word }
@@ -94,7 +94,7 @@ pub(crate) fn normal(mean: u64, deviation: u64, word: u32) -> u64
     }
 }
 
-/// Returns a number by the triangular law.
+/// Returns a number from the triangular distribution.
 #[tactic(auto, unfolding(crate::specs::Distributions::triangular))]
 pub(crate) fn triangular(least: u64, mode: u64, most: u64, one: u32, two: u32) -> u64
     ensures { result ≡ triangular_of least mode most one two }
@@ -119,7 +119,7 @@ fn stretched(mean: u64) -> u128
     (u128::from(mean) << 16) + 32_768 - u128::from(rest)
 }
 
-/// Returns a number by the geometric law.
+/// Returns a number from the geometric distribution.
 #[tactic(auto, unfolding(crate::specs::Distributions::geometric))]
 pub(crate) fn geometric(mean: u64, word: u32) -> u64
     ensures { result ≡ geometric_of mean word }

@@ -1,9 +1,10 @@
 // The evaluator of rules, by recursion over their trees.
 
-ghost use Rattle.std.specs.Prelude.{◌≡◌, ◌≤◌, ◌<◌, ◌+◌, [], ◌∷◌, ◌++◌, length, slice_index};
+ghost use Rattle.std.specs.Prelude.{◌≡◌, ◌≤◌, ◌<◌, ◌+◌, ◌*◌, [], ◌∷◌, ◌++◌, length, slice_index};
 ghost use Rattle.std.specs.Prelude.{slice_get, slice_set};
 ghost use Rattle.rules.specs.Costs.{cost_of, cost_of_all, draws};
-ghost use Rattle.rules.specs.Effects.{after, after_all, progress, sent, send_draws};
+ghost use Rattle.rules.specs.Effects.{after, after_all, asked, is_ended, progress, sent};
+ghost use Rattle.rules.specs.Effects.{send_draws, turns_until};
 ghost use Rattle.rules.specs.declared.limits.Limit.TheVariants.{Draws, Sends as SendCount};
 ghost use Rattle.rules.specs.Distributions.{choice};
 ghost use Rattle.rules.specs.Values.{drawn_below, drawn_by, known_of, value_of};
@@ -66,7 +67,7 @@ fn word_at(context: &Context, j: u64) -> u32
     word(context.key, context.process, j)
 }
 
-/// Returns a number by a law with one parameter, from drawn word `j`.
+/// Returns a number by a distribution with one parameter, from drawn word `j`.
 fn draw(context: &Context, j: u64, law: Law, parameter: u64) -> u64
     requires { j < 16 }
     ensures { result
@@ -262,11 +263,50 @@ fn run(
                 run_all(tables, context, drawn, sends, body);
             }
         }
+        Statement::RepeatUntil(place, count, e, body) => {
+            repeat_until(tables, context, drawn, sends, body, *place, *count, e);
+        }
         Statement::Put(array, i, e) => {
             let index = value(tables, context, drawn, i);
             let number = value(tables, context, drawn, e);
             array.set(&mut context.words, index, number);
         }
+    }
+}
+
+/// Runs a block a number of times, or up to the first turn before which the value is not 0.
+#[cycle(run)]
+fn repeat_until(
+    tables: &[Table],
+    context: &mut Context,
+    drawn: &mut u64,
+    sends: &mut Sends,
+    body: &[Statement],
+    place: u8,
+    count: u32,
+    e: &Expression,
+)
+    requires processes { 1 ≤ context.old.processes }
+    requires draws { drawn.old + count * (draws e.now + cost_of_all Draws body.now) ≤ 14 }
+    requires sends { length sends.old.items + count * cost_of_all SendCount body.now ≤ 8 }
+    requires room { 8 ≤ sends.old.capacity }
+    ensures progress { progress context.new drawn.new sends.new.items
+        ≡ turns_until (is_ended tables.now e.now place) (asked e.now place)
+        (after_all tables.now body.now) count 0
+        (progress context.old drawn.old sends.old.items) }
+    ensures same { context.new.processes ≡ context.old.processes }
+    ensures most_draws { drawn.new
+        ≤ drawn.old + count * (draws e.now + cost_of_all Draws body.now) }
+    ensures most_sends { length sends.new.items
+        ≤ length sends.old.items + count * cost_of_all SendCount body.now }
+    ensures room { sends.new.capacity ≡ sends.old.capacity }
+{
+    'turns: for k in 0..count {
+        put(&mut context.locals, place, u64::from(k));
+        if value(tables, context, drawn, e) != 0 {
+            return;
+        }
+        run_all(tables, context, drawn, sends, body);
     }
 }
 

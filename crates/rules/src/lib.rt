@@ -14,7 +14,9 @@ mod tables;
 mod tree;
 
 pub use arrays::Array;
-pub use limits::{Limit, MAX_DRAWS, MAX_LPS, MAX_SENDS, MAX_STEPS, RulesFault, exceeded};
+pub use limits::{
+    Limit, MAX_DRAWS, MAX_LPS, MAX_SENDS, MAX_STEPS, RulesFault, block_cost, exceeded,
+};
 pub use parts::RulesParts;
 pub use rules::Rules;
 pub use tables::Table;

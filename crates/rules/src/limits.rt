@@ -23,8 +23,8 @@ pub const MAX_DRAWS: u64 = 14;
 /// a `repeat`.
 pub const MAX_STEPS: u64 = 65_536;
 
-/// A limit on any way through a rule. An `if` counts its costlier block, and a `repeat` its block
-/// times its count.
+/// A limit on any way through a rule. An `if` counts its costlier block, and a `repeat` its block,
+/// with the value that may end it, times its count.
 #[derive(Clone, Copy, Debug, PartialEq, Eq)]
 pub enum Limit {
     /// At most `MAX_SENDS` sends.
@@ -148,6 +148,15 @@ fn statement_cost(limit: Limit, statement: &Statement) -> u64
                 .step_cost()
                 .saturating_add(u64::from(*count).saturating_mul(turn))
         }
+        Statement::RepeatUntil(_, count, e, body) => {
+            let turn = limit
+                .step_cost()
+                .saturating_add(expression_cost(limit, e))
+                .saturating_add(block_cost(limit, body));
+            limit
+                .step_cost()
+                .saturating_add(u64::from(*count).saturating_mul(turn))
+        }
         Statement::Put(_, index, e) => limit
             .step_cost()
             .saturating_add(expression_cost(limit, index))
@@ -157,7 +166,7 @@ fn statement_cost(limit: Limit, statement: &Statement) -> u64
 
 /// Returns the greatest cost of a block on any way through it, or 2^64 - 1 if it is greater.
 #[cycle(costs)]
-pub(crate) fn block_cost(limit: Limit, block: &[Statement]) -> u64
+pub fn block_cost(limit: Limit, block: &[Statement]) -> u64
     ensures { result ≡ min (cost_of_all limit block.now) (2 ^ 64 - 1) }
 {
     let mut cost: u64 = 0;

@@ -48,7 +48,7 @@ pub enum Operator {
     Greatest,
 }
 
-/// The law of a drawn number that has one parameter.
+/// The distribution of a drawn number that has one parameter.
 #[derive(Clone, Copy, Debug, PartialEq, Eq)]
 pub enum Law {
     /// `draw(n)`: the word mod `n`, or 0 if `n` is 0.
@@ -142,6 +142,10 @@ pub enum Statement {
     /// Runs the block a number of times. The local name at the place has the number of the turn,
     /// from 0 on.
     Repeat(u8, u32, Vec<Statement>),
+    /// Runs the block at most a number of times. Before each turn the local name at the place gets
+    /// the number of the turn, from 0 on, and the value is computed: once it is not 0, the repeat
+    /// ends.
+    RepeatUntil(u8, u32, Expression, Vec<Statement>),
     /// Gives the element of an array in the state at an index, the first value, the second value.
     /// Does nothing if there is no such element.
     Put(Array, Expression, Expression),

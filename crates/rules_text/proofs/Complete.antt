@@ -1,4 +1,4 @@
--- What is spelled is read.
+-- What the tokens form is read.
 use Rattle.std.proofs.Common.{◌≡◌, ◌≤◌, ℕ, zero, suc, ◌+◌, List, [], ◌∷◌, ◌++◌, Option, Some, None, length, refl, ap, ◌∙◌, arith, append_assoc, length-append, if◌then◌else◌}
 use Rattle.rules.specs.declared.tree.Operator.{Operator}
 use Rattle.rules.specs.declared.tree.Operator.TheVariants as o
@@ -6,7 +6,7 @@ use Rattle.rules_text.specs.declared.token.Mark.{Mark}
 use Rattle.rules_text.specs.declared.token.Mark.TheVariants as m
 use Rattle.rules_text.specs.declared.token.Token.{Token}
 use Rattle.rules_text.specs.declared.token.Token.TheVariants as t
-use Rattle.rules_text.specs.Grammar.{Tree, Not, Two, Entry, Draw, Normal, Triangular, Element, height, leaf, looseness, Spells, a_leaf, a_not, in_brackets, an_entry, an_element, a_draw, a_normal, a_triangular, a_chosen, the_least, the_greatest, compared, joined, tighter}
+use Rattle.rules_text.specs.Grammar.{Tree, Not, Two, Entry, Draw, Normal, Triangular, Element, height, leaf, looseness, member, Spells, a_leaf, a_not, in_brackets, an_entry, an_element, a_member, a_count, a_draw, a_normal, a_triangular, a_chosen, the_least, the_greatest, compared, joined, tighter}
 use Rattle.rules_text.specs.Reading.{Reader, ◌>>=◌, and_rest, behind, chain, enclosed, go, inside, level, made, pair_at, primary, three_at, turns, value_at}
 use Rattle.rules_text.proofs.Marks.{behind_is, made_is, other_number, same_number}
 
@@ -25,6 +25,9 @@ looser k (t.Content n ∷ rest) h = tt
 looser k (t.Table n ∷ rest) h = tt
 looser k (t.Array n ∷ rest) h = tt
 looser k (t.Name n ∷ rest) h = tt
+looser k (t.Kind n c ∷ rest) h = tt
+looser k (t.Own n ∷ rest) h = tt
+looser k (t.Sort n ∷ rest) h = tt
 looser k (t.Sign o ∷ rest) h = omega arith
 
 turns_all : (k n : ℕ) → (k ≡ 7 → ⊥) → turns k n ≡ n
@@ -38,6 +41,9 @@ leaf_read names inner (t.Known n) x rest e = ap (λ o. and_rest o rest) e
 leaf_read names inner (t.Word n) x rest e = ap (λ o. and_rest o rest) e
 leaf_read names inner (t.Content n) x rest e = ap (λ o. and_rest o rest) e
 leaf_read names inner (t.Name n) x rest e = ap (λ o. and_rest o rest) e
+leaf_read names inner (t.Own n) x rest e = ap (λ o. and_rest o rest) e
+leaf_read names inner (t.Sort n) x rest e = ap (λ o. and_rest o rest) e
+leaf_read names inner (t.Kind n c) x rest e = absurd cc
 leaf_read names inner (t.Sign n) x rest e = absurd cc
 leaf_read names inner (t.Mark n) x rest e = absurd cc
 leaf_read names inner (t.Table n) x rest e = absurd cc
@@ -50,7 +56,7 @@ enclosed_is closing inner ts rest x read =
     ∙ ap (λ r. r >>= λ q. Some (x, q)) (behind_is closing rest)
 
 module _ (names : List ℕ) (n : ℕ) (inner : ℕ → Reader) where
-  -- where the level goes on behind a value
+  -- where the level goes on after a value
   abbrev going : ℕ → ℕ → Tree → List Token → Option (Tree × List Token)
   going zero j x rest = Some (x, rest)
   going (suc k) j x rest = chain (suc k) (level names n inner k) j x rest
@@ -67,6 +73,9 @@ module _ (names : List ℕ) (n : ℕ) (inner : ℕ → Reader) where
   stops (suc k) (suc j) x (t.Table m ∷ rest) h = refl
   stops (suc k) (suc j) x (t.Array m ∷ rest) h = refl
   stops (suc k) (suc j) x (t.Name m ∷ rest) h = refl
+  stops (suc k) (suc j) x (t.Kind m c ∷ rest) h = refl
+  stops (suc k) (suc j) x (t.Own m ∷ rest) h = refl
+  stops (suc k) (suc j) x (t.Sort m ∷ rest) h = refl
   stops (suc k) (suc j) x (t.Sign o ∷ rest) h =
       ap (λ b. go (if b then Some (o, rest) else None) x (t.Sign o ∷ rest) (level names n inner k) (chain (suc k) (level names n inner k) j))
       (other_number (suc k) (looseness o) (λ e. absurd (omega arith)))
@@ -186,6 +195,13 @@ module _ (names : List ℕ) (n : ℕ) where
         read = ap (λ r. r >>= λ p. made (Element array p.0) p.1) (within d m.CloseIndex x ts rest here) ∙ made_is (Element array x) rest low;
         enough = λ _. omega arith;
       }
+  complete _ _ _ _ (a_member d first count x ts low inner) fits rest h =
+      let here = complete d 9 x ts inner (omega (arith, length-append ts (t.Mark m.CloseIndex ∷ []))) (t.Mark m.CloseIndex ∷ rest) tt in record {
+        left = n;
+        read = ap (λ r. r >>= λ p. made (member first count p.0) p.1) (within d m.CloseIndex x ts rest here) ∙ made_is (member first count x) rest low;
+        enough = λ _. omega arith;
+      }
+  complete _ _ _ _ (a_count d first count) fits rest h = record { left = n; read = refl; enough = λ _. omega arith }
   complete _ _ _ _ (a_draw d law x ts low inner) fits rest h =
       let here = complete d 9 x ts inner (omega (arith, length-append ts (t.Mark m.Close ∷ []))) (t.Mark m.Close ∷ rest) tt in record {
         left = n;

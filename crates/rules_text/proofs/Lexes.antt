@@ -1,13 +1,17 @@
 -- A text is split just as the lexical grammar says.
-use Rattle.std.proofs.Common.{◌≡◌, ◌≤◌, ℕ, zero, suc, ◌+◌, ◌-◌, List, [], ◌∷◌, ◌++◌, Option, Some, None, Bool, true, false, eqb, length, take, drop, refl, sym, ap, ◌∙◌, subst, arith, length-append, if◌then◌else◌, inl, inr}
+use Rattle.std.specs.Str.{bytes_eq}
+use Rattle.std.proofs.Common.{codes, ◌&&◌, ◌≡◌, ◌≤◌, ℕ, zero, suc, ◌+◌, ◌-◌, List, [], ◌∷◌, ◌++◌, Option, Some, None, Bool, true, false, eqb, length, take, drop, refl, sym, ap, ◌∙◌, subst, arith, length-append, if◌then◌else◌, inl, inr}
 use Rattle.std.proofs.lemmas.Bool.{cases_Bool}
 use Rattle.std.proofs.lemmas.List.{take_at, drop_at}
+use Rattle.std.proofs.lemmas.Slice.Eq.{bytes_eq-Decides}
 use Rattle.eventkey.proofs.Fields.{bind_some}
 use Rattle.rules_text.specs.declared.lexemes.Lexeme.{Lexeme}
+use Rattle.rules_text.specs.declared.lexemes.Lexeme.TheVariants.{Mark}
 use Rattle.rules_text.specs.declared.lexemes.Placed.{Placed}
 use Rattle.rules_text.specs.declared.lexemes.Run.{Run}
 use Rattle.rules_text.specs.declared.lexemes.Run.TheVariants.{Word, Line}
-use Rattle.rules_text.specs.Lexical.{belongs, double_at, is_white, lex, lexemes_at, longest, piece, placed, run, sign_piece, single, word_of, Each, Stops, IsOfWord, IsPiece, white_space, a_comment, a_word, a_double, a_single, Splits, nothing_left, a_piece}
+use Rattle.rules_text.specs.declared.token.Mark.TheVariants as m
+use Rattle.rules_text.specs.Lexical.{belongs, double_at, is_counting, is_white, lex, lexemes_at, longest, or_count, piece, placed, run, sign_piece, single, word_of, Each, Stops, IsOfWord, IsPiece, white_space, a_comment, a_word, a_double, a_single, a_count, Splits, nothing_left, a_piece}
 use Rattle.rules_text.specs.Reading.{◌>>=◌}
 use Rattle.rules_text.proofs.Marks.{equal_number, some_is}
 
@@ -50,9 +54,15 @@ piece_is _ _ _ (a_word b bs rest x kind each stops is) =
     ∙ ap (λ us. word_of us >>= λ y. Some (Some y, length (b ∷ bs))) (take_at (b ∷ bs) rest (length (b ∷ bs)) refl)
     ∙ ap (λ o. o >>= λ y. Some (Some y, length (b ∷ bs))) is
 piece_is _ _ _ (a_double a b rest x kind is) =
-    other_piece false a (b ∷ rest) kind ∙ ap (λ o. sign_found (longest o (single a))) is
+    other_piece false a (b ∷ rest) kind ∙ ap (λ o. sign_found (or_count (longest o (single a)) a (b ∷ rest))) is
 piece_is _ _ _ (a_single a rest x kind none is) =
-    other_piece false a rest kind ∙ ap (λ o. sign_found (longest o (single a))) none ∙ ap (λ o. sign_found (longest None o)) is
+    other_piece false a rest kind
+    ∙ ap (λ o. sign_found (or_count (longest o (single a)) a rest)) none
+    ∙ ap (λ o. sign_found (or_count (longest None o) a rest)) is
+piece_is _ _ _ (a_count rest stops) =
+    let letters = codes "count" in
+    let size = run_is Word letters rest (refl, (refl, (refl, (refl, (refl, tt))))) stops in
+    ap (λ n. sign_found (if eqb n 5 && bytes_eq (take 5 (letters ++ rest)) letters then Some (Mark m.Count, 6) else None)) size
 
 piece_long : (found : Option Lexeme) (front rest : List ℕ) → IsPiece found front rest → 1 ≤ length front
 piece_long _ _ _ (white_space b rest white) = omega arith
@@ -60,6 +70,7 @@ piece_long _ _ _ (a_comment line rest each stops) = omega arith
 piece_long _ _ _ (a_word b bs rest x kind each stops is) = omega arith
 piece_long _ _ _ (a_double a b rest x kind is) = omega arith
 piece_long _ _ _ (a_single a rest x kind none is) = omega arith
+piece_long _ _ _ (a_count rest stops) = omega arith
 
 -- ---- what is split is found
 
@@ -144,17 +155,43 @@ double_only : (b : ℕ) (rest : List ℕ) (x : Lexeme) → IsOfWord false b → 
 double_only b [] x kind e = absurd cc
 double_only b (c ∷ rest) x kind e = record { front = b ∷ c ∷ []; behind = rest; parts = refl; size = refl; is = a_double b c rest x kind e }
 
+both_true : (a b : Bool) → (a && b) ≡ true → (a ≡ true) × (b ≡ true)
+both_true true b e = (refl, e)
+both_true false b e = absurd cc
+
+count_only : (b : ℕ) (rest : List ℕ) (p : Option Lexeme × ℕ) → sign_found (if eqb b 46 && is_counting rest then Some (Mark m.Count, 6) else None) ≡ Some p →
+    Found (b ∷ rest) p
+count_only b rest p e = elim (cases_Bool (eqb b 46 && is_counting rest)) [
+  | inl here ↦
+      let found : ◌≡◌ {A = Option (Option Lexeme × ℕ)} (Some (Some (Mark m.Count), 6)) (Some p) =
+      ap (λ c. sign_found (if c then Some (Mark m.Count, 6) else None)) (sym here) ∙ e in
+      let point = both_true (eqb b 46) (is_counting rest) here in
+      let parts = both_true (eqb (run Word rest) 5) (bytes_eq (take 5 rest) (codes "count")) point.1 in
+      let five = equal_number 5 (run Word rest) parts.0 in
+      let letters : take 5 rest ≡ codes "count" = (bytes_eq-Decides (take 5 rest) (codes "count")).0 parts.1 in
+      let more = runs Word rest in
+      let front : more.front ≡ codes "count" =
+      sym (take_at more.front more.behind 5 (more.size ∙ five)) ∙ ap (take 5) (sym more.parts) ∙ letters in
+      subst (Found (b ∷ rest)) (some_is (Some (Mark m.Count), 6) p found) (record {
+        front = 46 ∷ codes "count";
+        behind = more.behind;
+        parts = ap (λ c. c ∷ rest) (equal_number 46 b point.0) ∙ ap (λ us. 46 ∷ us) (more.parts ∙ ap (λ us. us ++ more.behind) front);
+        size = refl;
+        is = a_count more.behind more.stops;
+      })
+  | inr other ↦
+      let found : ◌≡◌ {A = Option (Option Lexeme × ℕ)} None (Some p) = ap (λ c. sign_found (if c then Some (Mark m.Count, 6) else None)) (sym other) ∙ e in
+      absurd cc
+]
+
 sign_only : (b : ℕ) (rest : List ℕ) (p : Option Lexeme × ℕ) → IsOfWord false b → sign_found (sign_piece b rest) ≡ Some p → Found (b ∷ rest) p
-sign_only b rest p kind e = at (double_at b rest) refl e
+sign_only b rest p kind e = at (double_at b rest) (single b) refl refl e
   where
-    at : (o : Option Lexeme) → double_at b rest ≡ o → sign_found (longest o (single b)) ≡ Some p → Found (b ∷ rest) p
-    at (Some x) is e = subst (Found (b ∷ rest)) (some_is (Some x, 2) p e) (double_only b rest x kind is)
-    at None is e =
-        let one = bind_some (longest None (single b)) (λ q. Some (Some q.0, q.1)) p e in
-        let two = bind_some (single b) (λ x. Some (x, 1)) one.0 one.1 in
-        let same : ◌≡◌ {A = Lexeme × ℕ} (two.0, 1) one.0 = some_is (two.0, 1) one.0 two.2 in
-        subst (Found (b ∷ rest)) (ap (λ (q : Lexeme × ℕ). (Some q.0, q.1)) same ∙ some_is (Some one.0.0, one.0.1) p one.2)
-        (record { front = b ∷ []; behind = rest; parts = refl; size = refl; is = a_single b rest two.0 kind is two.1 })
+    at : (o i : Option Lexeme) → double_at b rest ≡ o → single b ≡ i → sign_found (or_count (longest o i) b rest) ≡ Some p → Found (b ∷ rest) p
+    at (Some x) i is one e = subst (Found (b ∷ rest)) (some_is (Some x, 2) p e) (double_only b rest x kind is)
+    at None (Some x) is one e =
+        subst (Found (b ∷ rest)) (some_is (Some x, 1) p e) (record { front = b ∷ []; behind = rest; parts = refl; size = refl; is = a_single b rest x kind is one })
+    at None None is one e = count_only b rest p e
 
 piece_only : (b : ℕ) (rest : List ℕ) (p : Option Lexeme × ℕ) → piece (b ∷ rest) ≡ Some p → Found (b ∷ rest) p
 piece_only b rest p e = elim (cases_Bool (is_white b)) [

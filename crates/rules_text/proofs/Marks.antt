@@ -38,6 +38,7 @@ mark_of n =
     if eqb n 23 then m.Normal else
     if eqb n 24 then m.Triangular else
     if eqb n 25 then m.Choose else
+    if eqb n 26 then m.Count else
     m.Kept
 
 mark_back : (k : Mark) → mark_of (code k) ≡ k
@@ -66,6 +67,7 @@ mark_back (m.Draw l.Geometric) = refl
 mark_back m.Normal = refl
 mark_back m.Triangular = refl
 mark_back m.Choose = refl
+mark_back m.Count = refl
 mark_back m.Kept = refl
 
 pub equal_number : (k n : ℕ) → eqb n k ≡ true → n ≡ k
@@ -96,6 +98,9 @@ behind_only k (t.Content n ∷ ts) rest e = cc
 behind_only k (t.Table n ∷ ts) rest e = cc
 behind_only k (t.Array n ∷ ts) rest e = cc
 behind_only k (t.Name n ∷ ts) rest e = cc
+behind_only k (t.Kind n c ∷ ts) rest e = cc
+behind_only k (t.Own n ∷ ts) rest e = cc
+behind_only k (t.Sort n ∷ ts) rest e = cc
 behind_only k (t.Mark j ∷ ts) rest e = elim (cases_Bool (eqb (code j) (code k))) [
   | inl same ↦
       let here : ◌≡◌ {A = Option (List Token)} (Some ts) (Some rest) = ap (λ b. if b then Some ts else None) (sym same) ∙ e in

@@ -1,4 +1,4 @@
--- What is read is spelled so.
+-- What is read is what the text means.
 use Rattle.std.proofs.Common.{◌≡◌, ◌≤◌, ◌⊎◌, ℕ, zero, suc, List, [], ◌∷◌, ◌++◌, Option, Some, None, eqb, length, refl, sym, ap, ◌∙◌, subst, arith, append_assoc, if◌then◌else◌, inl, inr}
 use Rattle.std.proofs.lemmas.Bool.{cases_Bool}
 use Rattle.eventkey.proofs.Fields.{bind_some}
@@ -10,11 +10,11 @@ use Rattle.rules_text.specs.declared.token.Mark.{Mark}
 use Rattle.rules_text.specs.declared.token.Mark.TheVariants as m
 use Rattle.rules_text.specs.declared.token.Token.{Token}
 use Rattle.rules_text.specs.declared.token.Token.TheVariants as t
-use Rattle.rules_text.specs.Grammar.{Tree, Not, Two, Entry, Draw, Normal, Triangular, Choose, Element, height, leaf, looseness, Spells, a_leaf, a_not, in_brackets, an_entry, an_element, a_draw, a_normal, a_triangular, a_chosen, the_least, the_greatest, compared, joined, tighter}
-use Rattle.rules_text.specs.Reading.{Reader, ◌>>=◌, and_rest, behind, by_mark, chain, enclosed, go, chosen_at, inside, level, made, pair_at, primary, table_at, three_at, turns, value_at}
+use Rattle.rules_text.specs.Grammar.{Tree, Number, Not, Two, Entry, Draw, Normal, Triangular, Choose, Element, height, leaf, looseness, member, Spells, a_leaf, a_not, in_brackets, an_entry, an_element, a_member, a_count, a_draw, a_normal, a_triangular, a_chosen, the_least, the_greatest, compared, joined, tighter}
+use Rattle.rules_text.specs.Reading.{Reader, ◌>>=◌, and_rest, behind, by_mark, chain, enclosed, go, chosen_at, inside, level, made, of_kind, pair_at, primary, table_at, three_at, turns, value_at}
 use Rattle.rules_text.proofs.Marks.{behind_only, equal_number, made_only, not_six, some_is}
 
--- the tokens begin with a spelling, and the others follow it
+-- the tokens begin with what they form, and the others follow it
 pub record Begins (names : List ℕ) (d k : ℕ) (x : Tree) (ts rest : List Token) : Type 0 where
   pub front : List Token
   pub parts : ts ≡ front ++ rest
@@ -51,6 +51,9 @@ one_step k n operand x (t.Content m ∷ ts) y rest e = inl (both_are x y _ rest 
 one_step k n operand x (t.Table m ∷ ts) y rest e = inl (both_are x y _ rest e)
 one_step k n operand x (t.Array m ∷ ts) y rest e = inl (both_are x y _ rest e)
 one_step k n operand x (t.Name m ∷ ts) y rest e = inl (both_are x y _ rest e)
+one_step k n operand x (t.Kind m c ∷ ts) y rest e = inl (both_are x y _ rest e)
+one_step k n operand x (t.Own m ∷ ts) y rest e = inl (both_are x y _ rest e)
+one_step k n operand x (t.Sort m ∷ ts) y rest e = inl (both_are x y _ rest e)
 one_step k n operand x (t.Sign o ∷ ts) y rest e = elim (cases_Bool (eqb (looseness o) k)) [
   | inl here ↦
       let took : (operand ts >>= λ q. made (Two o x q.0) q.1 >>= λ r. chain k operand n r.0 r.1) ≡ Some (y, rest) =
@@ -89,7 +92,7 @@ module _ (names : List ℕ) where
       ap (λ xs. front ++ xs) first ∙ ap (λ xs. front ++ (t.Sign o ∷ xs)) parts ∙ sym (append_assoc front (t.Sign o ∷ right) vs)
 
   module _ (d k : ℕ) (operand : Reader) (sound : IsSound d k operand) where
-    -- a chain behind what is spelled by front
+    -- a chain after the tokens that form the front
     chain_sound : (k ≡ 6 → ⊥) → (n : ℕ) (x : Tree) (front ts : List Token) → Spells names d (suc k) x front → (y : Tree) (rest : List Token) →
         chain (suc k) operand n x ts ≡ Some (y, rest) → Begins names d (suc k) y (front ++ ts) rest
     chain_sound other zero x front ts spelled y rest e = ended d (suc k) x y front ts rest spelled (both_are x y ts rest e)
@@ -125,12 +128,12 @@ module _ (names : List ℕ) where
           }
     ]
 
-  -- what the reader of the inside reads is spelled one level less deep
+  -- what the reader of the inside reads is nested one level less deep
   abbrev Within : ℕ → ℕ → Tree → List Token → List Token → Type 0
   Within zero k x ts rest = ⊥
   Within (suc d) k x ts rest = Begins names d k x ts rest
 
-  -- what stands before the closing mark
+  -- what is before the closing mark
   record Front (d : ℕ) (x : Tree) (closing : Mark) (ts rest : List Token) : Type 0 where
     front : List Token
     parts : ts ≡ front ++ (t.Mark closing ∷ rest)
@@ -177,6 +180,16 @@ module _ (names : List ℕ) where
     spelled = an_element d array x h.front low h.spelled;
   }
 
+  member_within : (d first count : ℕ) (x : Tree) (ts us rest : List Token) → height (member first count x) ≤ 256 → ts ≡ t.Mark m.OpenIndex ∷ us →
+      Closed d x m.CloseIndex us rest → Begins names d 0 (member first count x) (t.Kind first count ∷ ts) rest
+  member_within zero first count x ts us rest low e h = absurd h
+  member_within (suc d) first count x ts us rest low e h = record {
+    front = t.Kind first count ∷ t.Mark m.OpenIndex ∷ (h.front ++ t.Mark m.CloseIndex ∷ []);
+    parts = ap (λ vs. t.Kind first count ∷ vs) e
+        ∙ ap (λ vs. t.Kind first count ∷ t.Mark m.OpenIndex ∷ vs) (h.parts ∙ sym (append_assoc h.front (t.Mark m.CloseIndex ∷ []) rest));
+    spelled = a_member d first count x h.front low h.spelled;
+  }
+
   draw_within : (d : ℕ) (law : Law) (x : Tree) (ts us rest : List Token) → height (Draw law x) ≤ 256 → ts ≡ t.Mark m.Open ∷ us → Closed d x m.Close us rest →
       Begins names d 0 (Draw law x) (t.Mark (m.Draw law) ∷ ts) rest
   draw_within zero law x ts us rest low e h = absurd h
@@ -187,7 +200,7 @@ module _ (names : List ℕ) where
     spelled = a_draw d law x h.front low h.spelled;
   }
 
-  -- two values in brackets, behind a mark
+  -- two values in brackets, after a mark
   pair_parts : (ts us vs rest one two : List Token) → ts ≡ t.Mark m.Open ∷ us → us ≡ one ++ (t.Mark m.Comma ∷ vs) → vs ≡ two ++ (t.Mark m.Close ∷ rest) →
       ts ≡ (t.Mark m.Open ∷ (one ++ t.Mark m.Comma ∷ (two ++ t.Mark m.Close ∷ []))) ++ rest
   pair_parts ts us vs rest one two e f g =
@@ -222,7 +235,7 @@ module _ (names : List ℕ) where
     spelled = a_normal d x y h.front i.front low h.spelled i.spelled;
   }
 
-  -- three values in brackets, behind a mark
+  -- three values in brackets, after a mark
   three_parts : (ts us vs ws rest one two three : List Token) → ts ≡ t.Mark m.Open ∷ us → us ≡ one ++ (t.Mark m.Comma ∷ vs) →
       vs ≡ two ++ (t.Mark m.Comma ∷ ws) → ws ≡ three ++ (t.Mark m.Close ∷ rest) →
       ts ≡ (t.Mark m.Open ∷ (one ++ t.Mark m.Comma ∷ (two ++ t.Mark m.Comma ∷ (three ++ t.Mark m.Close ∷ [])))) ++ rest
@@ -253,6 +266,9 @@ module _ (names : List ℕ) where
   table_only (t.Content n ∷ ts) p e = absurd cc
   table_only (t.Name n ∷ ts) p e = absurd cc
   table_only (t.Array n ∷ ts) p e = absurd cc
+  table_only (t.Kind n c ∷ ts) p e = absurd cc
+  table_only (t.Own n ∷ ts) p e = absurd cc
+  table_only (t.Sort n ∷ ts) p e = absurd cc
   table_only (t.Table n ∷ ts) p e =
       let same : ◌≡◌ {A = ℕ × List Token} (n, ts) p = some_is (n, ts) p e in
       ap (λ (q : ℕ × List Token). t.Table q.0 ∷ q.1) same
@@ -363,6 +379,7 @@ module _ (names : List ℕ) where
     mark_sound m.Else ts x rest e = absurd cc
     mark_sound m.Repeat ts x rest e = absurd cc
     mark_sound m.Kept ts x rest e = absurd cc
+    mark_sound m.Count ts x rest e = absurd cc
 
     leaf_sound : (token : Token) (ts : List Token) (x : Tree) (rest : List Token) → and_rest (leaf names token) ts ≡ Some (x, rest) → Begins names d 0 x (token ∷ ts) rest
     leaf_sound token ts x rest e = at (leaf names token) refl e
@@ -373,6 +390,25 @@ module _ (names : List ℕ) where
             let both = both_are y x ts rest e in
             record { front = token ∷ []; parts = ap (λ us. token ∷ us) both.1; spelled = a_leaf d x token (is ∙ ap (λ z. Some z) both.0) }
 
+    kind_sound : (first count : ℕ) (ts : List Token) (x : Tree) (rest : List Token) → of_kind (behind m.Count ts) first count (inner 9) ts ≡ Some (x, rest) →
+        Begins names d 0 x (t.Kind first count ∷ ts) rest
+    kind_sound first count ts x rest e = at (behind m.Count ts) refl e
+      where
+        at : (o : Option (List Token)) → behind m.Count ts ≡ o → of_kind o first count (inner 9) ts ≡ Some (x, rest) → Begins names d 0 x (t.Kind first count ∷ ts) rest
+        at (Some us) is e =
+            let end = both_are (Number count) x us rest e in
+            subst (λ z. Begins names d 0 z (t.Kind first count ∷ ts) rest) end.0 (record {
+              front = t.Kind first count ∷ t.Mark m.Count ∷ [];
+              parts = ap (λ vs. t.Kind first count ∷ vs) (behind_only m.Count ts us is ∙ ap (λ vs. t.Mark m.Count ∷ vs) end.1);
+              spelled = a_count d first count;
+            })
+        at None is e =
+            let one = bind_some (behind m.OpenIndex ts) (λ us. enclosed m.CloseIndex (inner 9) us >>= λ p. made (member first count p.0) p.1) (x, rest) e in
+            let two = bind_some (enclosed m.CloseIndex (inner 9) one.0) (λ p. made (member first count p.0) p.1) (x, rest) one.2 in
+            let put = made_only (member first count two.0.0) two.0.1 (x, rest) two.2 in
+            subst (λ (p : Tree × List Token). Begins names d 0 p.0 (t.Kind first count ∷ ts) p.1) put.1
+            (member_within d first count two.0.0 ts one.0 two.0.1 put.0 (behind_only m.OpenIndex ts one.0 one.1) (enclosed_sound m.CloseIndex one.0 two.0.0 two.0.1 two.1))
+
     primary_sound : IsSound d 0 (primary names inner)
     primary_sound [] x rest e = absurd cc
     primary_sound (t.Number n ∷ ts) x rest e = leaf_sound (t.Number n) ts x rest e
@@ -381,6 +417,9 @@ module _ (names : List ℕ) where
     primary_sound (t.Word n ∷ ts) x rest e = leaf_sound (t.Word n) ts x rest e
     primary_sound (t.Content n ∷ ts) x rest e = leaf_sound (t.Content n) ts x rest e
     primary_sound (t.Name n ∷ ts) x rest e = leaf_sound (t.Name n) ts x rest e
+    primary_sound (t.Own n ∷ ts) x rest e = leaf_sound (t.Own n) ts x rest e
+    primary_sound (t.Sort n ∷ ts) x rest e = leaf_sound (t.Sort n) ts x rest e
+    primary_sound (t.Kind first count ∷ ts) x rest e = kind_sound first count ts x rest e
     primary_sound (t.Mark mark ∷ ts) x rest e = mark_sound mark ts x rest e
     primary_sound (t.Table table ∷ ts) x rest e =
         let one = bind_some (behind m.OpenIndex ts) (λ us. enclosed m.CloseIndex (inner 9) us >>= λ p. made (Entry table p.0) p.1) (x, rest) e in

@@ -6,10 +6,10 @@ use Rattle.rules_text.specs.declared.stop.Stop.{Stop}
 use Rattle.rules_text.specs.declared.stop.Stop.TheVariants.{Memory, Refused}
 use Rattle.rules_text.specs.declared.token.Token.{Token}
 use Rattle.rules_text.specs.Reading.{◌>>=◌, Fails}
-use Rattle.rules_text.specs.ReadingStatements.{Done, Reads, begins, block_at, choice_at, choice_with, row, with_name}
+use Rattle.rules_text.specs.ReadingStatements.{Done, Reads, begins, block_at, case_at, case_with, choice_at, choice_with, in_braces, row, statements_at, with_name}
 use Rattle.rules_text.specs.Statements.{Act, Acts, empty, cons, act_of, acts_of}
 
--- statements behind others
+-- statements after others
 abbrev pub join : Acts → Acts → Acts
 join empty ys = ys
 join (cons x xs) ys = cons x (join xs ys)
@@ -75,6 +75,30 @@ pub few_with : (names : List ℕ) (name : Option ℕ) → length names ≤ 16 �
 few_with names None few room = few
 few_with names (Some name) few room = omega (arith, length-append names (name ∷ []))
 
-pub choice_more : (d : ℕ) (names : List ℕ) (ts : List Token) → (d ≡ 0 → ⊥) → choice_at d names ts ≡ choice_with (d - 1) (block_at (d - 1)) (choice_at (d - 1)) names ts
-choice_more zero names ts some = absurd (some refl)
-choice_more (suc d) names ts some = let less : d ≡ suc d - 1 = omega arith in ap (λ e. choice_with e (block_at e) (choice_at e) names ts) less
+-- ---- a link less, or a block less
+
+pub choice_more : (n d : ℕ) (names : List ℕ) (ts : List Token) → (n ≡ 0 → ⊥) → choice_at n d names ts ≡ choice_with d (block_at (n - 1) d) (choice_at (n - 1) d) names ts
+choice_more zero d names ts some = absurd (some refl)
+choice_more (suc n) d names ts some = let less : n ≡ suc n - 1 = omega arith in ap (λ k. choice_with d (block_at k d) (choice_at k d) names ts) less
+
+pub case_more : (n d sort : ℕ) (names : List ℕ) (ts : List Token) → (n ≡ 0 → ⊥) → case_at n d sort names ts ≡ case_with (block_at (n - 1) d) (case_at (n - 1) d) sort names ts
+case_more zero d sort names ts some = absurd (some refl)
+case_more (suc n) d sort names ts some = let less : n ≡ suc n - 1 = omega arith in ap (λ k. case_with (block_at k d) (case_at k d) sort names ts) less
+
+pub block_more : (n d : ℕ) (names : List ℕ) (ts : List Token) → (n ≡ 0 → ⊥) → (d ≡ 0 → ⊥) → block_at n d names ts ≡ in_braces (statements_at (n - 1) (d - 1)) names ts
+block_more zero d names ts some more = absurd (some refl)
+block_more (suc n) zero names ts some more = absurd (more refl)
+block_more (suc n) (suc d) names ts some more =
+    let less : n ≡ suc n - 1 = omega arith in
+    let lower : d ≡ suc d - 1 = omega arith in
+    ap (λ k. in_braces (statements_at k d) names ts) less ∙ ap (λ e. in_braces (statements_at (suc n - 1) e) names ts) lower
+
+-- no block where none is left
+pub no_block : (n d : ℕ) (names : List ℕ) (ts : List Token) → d ≡ 0 → block_at n d names ts ≡ None
+no_block zero d names ts none = refl
+no_block (suc n) zero names ts none = refl
+no_block (suc n) (suc d) names ts none = absurd (omega arith)
+
+pub no_link : (n d : ℕ) (names : List ℕ) (ts : List Token) → n ≡ 0 → block_at n d names ts ≡ None
+no_link zero d names ts none = refl
+no_link (suc n) d names ts none = absurd (omega arith)

@@ -1,5 +1,5 @@
 -- The text of a rule is read just where it is one.
-use Rattle.std.proofs.Common.{◌≡◌, ◌≤◌, ℕ, List, Option, Some, None, Result, Ok, Err, false, ltb, length, sym, ap, ◌∙◌, subst, arith, if◌then◌else◌, inl, inr}
+use Rattle.std.proofs.Common.{Vec, Global, [], ◌≡◌, ◌≤◌, ℕ, List, Option, Some, None, Result, Ok, Err, false, ltb, length, sym, ap, ◌∙◌, subst, arith, if◌then◌else◌, inl, inr}
 use Rattle.std.proofs.lemmas.Bool.{cases_Bool}
 use Rattle.std.proofs.lemmas.Bool.Decides.{nat_tests}
 use Rattle.std.specs.Prelude.{IfOk}
@@ -43,12 +43,17 @@ read_only scope text acts e = elim (cases_Bool (ltb 65536 (length text))) [
       record { short = is_short (length text) short; lexemes = a.0; split = split_only text a.0 a.1; spelled = rule_only acts (tokens_of scope text a.0) a.2 }
 ]
 
--- nothing is spelled where nothing is read
+-- nothing is formed where nothing is read
 pub refused_is : {X : Type 0} (scope : Dictionary) (text : List ℕ) (acts : Acts) → read_at scope text ≡ None → IsRule scope text acts → X
 refused_is scope text acts none rule = let some = read_is scope text acts rule in absurd cc
 
 pub same_acts : (scope : Dictionary) (text : List ℕ) (found acts : Acts) → read_at scope text ≡ Some found → IsRule scope text acts → found ≡ acts
 same_acts scope text found acts read rule = let some = read_is scope text acts rule in cc
+
+-- where something is found, nothing is to be said of an empty list
+pub some_found : {A : Type 0} {E : Type 0} (X : Type 0) (r : Result (Vec A Global) E) → IfOk r (λ v. 1 ≤ length v.items) → IfOk r (λ v. v.items ≡ [] → X)
+some_found X (Ok v) some = λ empty. let none : length v.items ≡ 0 = ap length empty in absurd (omega arith)
+some_found X (Err e) some = tt
 
 -- what was split is so, and what is so was split
 pub split_found : {X : Type 0} (view : X → List Placed) (r : Result X Stop) (text : List ℕ) → Gives view r (lexemes_at text) → IfOk r (λ x. Splits 0 text (view x))

@@ -1,9 +1,10 @@
--- Which tokens spell which value, as the grammar's own rules.
+-- Which tokens form which value, as the grammar's own rules.
 use Rattle.std.specs.Prelude.{◌≡◌, ℕ, suc, ◌+◌, ◌≤◌, List, [], ◌∷◌, ◌++◌, Option, Some, None, eqb, max, if◌then◌else◌}
 use Rattle.rules.specs.declared.arrays.Array.{Array}
 use Rattle.rules.specs.declared.tree.Expression.{Expression}
 use Rattle.rules.specs.declared.tree.Expression.TheVariants as e
 use Rattle.rules.specs.declared.tree.Known.{Known as Knowledge}
+use Rattle.rules.specs.declared.tree.Known.TheVariants as k
 use Rattle.rules.specs.declared.tree.Law.{Law}
 use Rattle.rules.specs.declared.tree.Law.TheVariants as l
 use Rattle.rules.specs.declared.tree.Operator.{Operator}
@@ -105,6 +106,7 @@ code m.Kept = 20
 code m.Normal = 23
 code m.Triangular = 24
 code m.Choose = 25
+code m.Count = 26
 
 -- the place of a name among those in scope, from the outermost; the first of these has place i
 abbrev pub place_from : ℕ → ℕ → List ℕ → Option ℕ
@@ -118,16 +120,26 @@ abbrev pub local_at : Option ℕ → Option Tree
 local_at None = None
 local_at (Some i) = Some (Local i)
 
+-- a process of a kind: the first one, and as many further as the index says, mod the number of them
+abbrev pub member : ℕ → ℕ → Tree → Tree
+member first count x = Two o.Plus (Number first) (Two o.Modulo x (Number count))
+
+-- the place of the process within its kind
+abbrev pub own_place : ℕ → Tree
+own_place first = Two o.Minus (Read k.Process) (Number first)
+
 -- the value of a token that is one by itself
 abbrev pub leaf : List ℕ → Token → Option Tree
 leaf names (t.Number n) = Some (Number n)
 leaf names (t.Known known) = Some (Read known)
 leaf names (t.Word i) = Some (Word i)
 leaf names (t.Content i) = Some (Content i)
+leaf names (t.Own first) = Some (own_place first)
+leaf names (t.Sort n) = Some (Number n)
 leaf names (t.Name name) = local_at (place_of name names)
 leaf names _ = None
 
--- With these names in scope the tokens spell the value, nested at most d deep, with no operator outside brackets that binds more loosely
+-- With these names in scope the tokens form the value, nested at most d deep, with no operator outside brackets that binds more loosely
 -- than k. Operators of one strength go from the left; comparisons, of looseness 7, have tighter values on both sides. No value is more than
 -- 256 operators deep.
 pub data Spells (names : List ℕ) : (d k : ℕ) → Tree → List Token → Type 0 where
@@ -138,6 +150,9 @@ pub data Spells (names : List ℕ) : (d k : ℕ) → Tree → List Token → Typ
       Spells names (suc d) 0 (Entry table x) (t.Table table ∷ t.Mark m.OpenIndex ∷ (ts ++ t.Mark m.CloseIndex ∷ []))
   an_element : (d : ℕ) (array : Array) (x : Tree) (ts : List Token) → height (Element array x) ≤ 256 → Spells names d 9 x ts →
       Spells names (suc d) 0 (Element array x) (t.Array array ∷ t.Mark m.OpenIndex ∷ (ts ++ t.Mark m.CloseIndex ∷ []))
+  a_member : (d first count : ℕ) (x : Tree) (ts : List Token) → height (member first count x) ≤ 256 → Spells names d 9 x ts →
+      Spells names (suc d) 0 (member first count x) (t.Kind first count ∷ t.Mark m.OpenIndex ∷ (ts ++ t.Mark m.CloseIndex ∷ []))
+  a_count : (d first count : ℕ) → Spells names d 0 (Number count) (t.Kind first count ∷ t.Mark m.Count ∷ [])
   a_draw : (d : ℕ) (law : Law) (x : Tree) (ts : List Token) → height (Draw law x) ≤ 256 → Spells names d 9 x ts →
       Spells names (suc d) 0 (Draw law x) (t.Mark (m.Draw law) ∷ t.Mark m.Open ∷ (ts ++ t.Mark m.Close ∷ []))
   a_normal : (d : ℕ) (x y : Tree) (ts us : List Token) → height (Normal x y) ≤ 256 → Spells names d 9 x ts → Spells names d 9 y us →

@@ -1,5 +1,6 @@
 -- The names, numbers and signs of a text.
-use Rattle.std.specs.Prelude.{◌≡◌, ℕ, zero, suc, ◌+◌, ◌-◌, ◌*◌, ◌^◌, List, [], ◌∷◌, ◌++◌, Option, Some, None, Bool, true, false, ◌&&◌, ◌||◌, not, eqb, length, take, drop, nat_lt, nat_le, if◌then◌else◌}
+use Rattle.std.specs.Str.{bytes_eq}
+use Rattle.std.specs.Prelude.{codes, ◌≡◌, ℕ, zero, suc, ◌+◌, ◌-◌, ◌*◌, ◌^◌, List, [], ◌∷◌, ◌++◌, Option, Some, None, Bool, true, false, ◌&&◌, ◌||◌, not, eqb, length, take, drop, nat_lt, nat_le, if◌then◌else◌}
 use Rattle.rules.specs.declared.tree.Operator.TheVariants as o
 use Rattle.rules_text.specs.declared.lexemes.Lexeme.{Lexeme}
 use Rattle.rules_text.specs.declared.lexemes.Lexeme.TheVariants.{Name, Number, Sign, Mark}
@@ -95,9 +96,17 @@ abbrev pub longest : Option Lexeme → Option Lexeme → Option (Lexeme × ℕ)
 longest (Some two) one = Some (two, 2)
 longest None one = one >>= λ x. Some (x, 1)
 
+-- `.count`, behind its point: the letters go no further
+abbrev pub is_counting : List ℕ → Bool
+is_counting rest = eqb (run Word rest) 5 && bytes_eq (take 5 rest) (codes "count")
+
+abbrev pub or_count : Option (Lexeme × ℕ) → ℕ → List ℕ → Option (Lexeme × ℕ)
+or_count (Some p) b rest = Some p
+or_count None b rest = if eqb b 46 && is_counting rest then Some (Mark m.Count, 6) else None
+
 -- the longest sign that comes first, and its length
 abbrev pub sign_piece : ℕ → List ℕ → Option (Lexeme × ℕ)
-sign_piece b rest = longest (double_at b rest) (single b)
+sign_piece b rest = or_count (longest (double_at b rest) (single b)) b rest
 
 -- what comes first and how long it is: a lexeme, or white space or a comment, which are none
 abbrev pub piece : List ℕ → Option (Option Lexeme × ℕ)
@@ -140,8 +149,8 @@ Stops kind (b ∷ bs) = belongs kind b ≡ false
 abbrev pub IsOfWord : Bool → ℕ → Type 0
 IsOfWord word b = (is_white b ≡ false) × (eqb b 35 ≡ false) × (belongs Word b ≡ word)
 
--- What stands at the front, before the rest: white space, a comment up to the end of its line, a name or a number as long as it goes, or
--- the longer of two signs.
+-- What is at the front, before the rest: white space, a comment up to the end of its line, a name or a number as long as it goes, or
+-- the longer of two signs; or `.count`, which no letter follows.
 pub data IsPiece : Option Lexeme → (front rest : List ℕ) → Type 0 where
   white_space : (b : ℕ) (rest : List ℕ) → is_white b ≡ true → IsPiece None (b ∷ []) rest
   a_comment : (line rest : List ℕ) → Each Line line → Stops Line rest → IsPiece None (35 ∷ line) rest
@@ -149,6 +158,7 @@ pub data IsPiece : Option Lexeme → (front rest : List ℕ) → Type 0 where
       IsPiece (Some x) (b ∷ bs) rest
   a_double : (a b : ℕ) (rest : List ℕ) (x : Lexeme) → IsOfWord false a → double a b ≡ Some x → IsPiece (Some x) (a ∷ b ∷ []) rest
   a_single : (a : ℕ) (rest : List ℕ) (x : Lexeme) → IsOfWord false a → double_at a rest ≡ None → single a ≡ Some x → IsPiece (Some x) (a ∷ []) rest
+  a_count : (rest : List ℕ) → Stops Word rest → IsPiece (Some (Mark m.Count)) (46 ∷ codes "count") rest
 
 -- The text from a place on is piece after piece, and these are the names, numbers and signs among them.
 pub data Splits : (at : ℕ) → List ℕ → List Placed → Type 0 where

@@ -8,7 +8,7 @@ use Rattle.rules_text.specs.declared.token.Mark.{Mark as MarkKind}
 use Rattle.rules_text.specs.declared.token.Mark.TheVariants as m
 use Rattle.rules_text.specs.declared.token.Token.{Token}
 use Rattle.rules_text.specs.declared.token.Token.TheVariants as t
-use Rattle.rules_text.specs.Grammar.{Tree, Not, Two, Entry, Draw, Normal, Triangular, Choose, Element, code, height, leaf, looseness}
+use Rattle.rules_text.specs.Grammar.{Tree, Number, Not, Two, Entry, Draw, Normal, Triangular, Choose, Element, code, height, leaf, looseness, member}
 
 -- what a function returned, seen by view, is what reading gives, unless memory ran out
 abbrev pub Fails : {Y : Type 0} → Stop → Option Y → Type 0
@@ -32,7 +32,7 @@ Reader = List Token → Option (Tree × List Token)
 abbrev pub made : Tree → Reader
 made x rest = if nat_lt 256 (height x) then None else Some (x, rest)
 
--- the tokens behind a mark that comes first
+-- the tokens after a mark that comes first
 abbrev pub behind : MarkKind → List Token → Option (List Token)
 behind mark (t.Mark other ∷ rest) = if eqb (code other) (code mark) then Some rest else None
 behind mark _ = None
@@ -82,11 +82,17 @@ abbrev pub and_rest : Option Tree → Reader
 and_rest None rest = None
 and_rest (Some x) rest = Some (x, rest)
 
+-- the number of a kind's processes, or one of them by its index
+abbrev pub of_kind : Option (List Token) → ℕ → ℕ → Reader → Reader
+of_kind (Some rest) first count inner ts = Some (Number count, rest)
+of_kind None first count inner ts = behind m.OpenIndex ts >>= λ us. enclosed m.CloseIndex inner us >>= λ p. made (member first count p.0) p.1
+
 -- a value without operators outside brackets, but for `!`
 abbrev pub primary : List ℕ → (ℕ → Reader) → Reader
 primary names inner (t.Mark mark ∷ rest) = by_mark mark inner rest
 primary names inner (t.Table table ∷ rest) = behind m.OpenIndex rest >>= λ us. enclosed m.CloseIndex (inner 9) us >>= λ p. made (Entry table p.0) p.1
 primary names inner (t.Array array ∷ rest) = behind m.OpenIndex rest >>= λ us. enclosed m.CloseIndex (inner 9) us >>= λ p. made (Element array p.0) p.1
+primary names inner (t.Kind first count ∷ rest) = of_kind (behind m.Count rest) first count (inner 9) rest
 primary names inner (token ∷ rest) = and_rest (leaf names token) rest
 primary names inner [] = None
 
@@ -95,7 +101,7 @@ abbrev pub go : Option (Operator × List Token) → Tree → List Token → Read
 go None x ts operand more = Some (x, ts)
 go (Some p) x ts operand more = operand p.1 >>= λ q. made (Two p.0 x q.0) q.1 >>= λ r. more r.0 r.1
 
--- goes on behind a left side, for at most n operators of this looseness
+-- goes on after a left side, for at most n operators of this looseness
 abbrev pub chain : ℕ → Reader → ℕ → Tree → Reader
 chain k operand zero x ts = Some (x, ts)
 chain k operand (suc n) x ts = go (sign_at k ts) x ts operand (chain k operand n)

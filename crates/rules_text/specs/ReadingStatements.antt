@@ -1,5 +1,5 @@
 -- The reader of statements: one pass from the left.
-use Rattle.std.specs.Prelude.{ℕ, zero, suc, ◌^◌, List, [], ◌∷◌, ◌++◌, Option, Some, None, Bool, true, false, length, nat_lt, if◌then◌else◌}
+use Rattle.std.specs.Prelude.{ℕ, zero, suc, ◌^◌, List, [], ◌∷◌, ◌++◌, Option, Some, None, Bool, true, false, eqb, length, nat_lt, if◌then◌else◌}
 use Rattle.rules.specs.declared.arrays.Array.{Array}
 use Rattle.rules_text.specs.declared.token.Mark.{Mark}
 use Rattle.rules_text.specs.declared.token.Mark.TheVariants as m
@@ -7,7 +7,8 @@ use Rattle.rules_text.specs.declared.token.Token.{Token}
 use Rattle.rules_text.specs.declared.token.Token.TheVariants as t
 use Rattle.rules_text.specs.Grammar.{Tree, Number, place_of}
 use Rattle.rules_text.specs.Reading.{◌>>=◌, behind, value_at}
-use Rattle.rules_text.specs.Statements.{Act, Acts, Four, empty, cons, Let, Set, Send, If, Repeat, Put}
+use Rattle.rules_text.specs.Scopes.{on_name, until_name}
+use Rattle.rules_text.specs.Statements.{Act, Acts, Four, empty, cons, is_of_sort, is_on, Let, Set, Send, If, Repeat, RepeatUntil, Put}
 
 -- with names in scope: what is read, and the tokens after it
 abbrev pub Reads : Type 0 → Type 0
@@ -37,7 +38,7 @@ naming d names ts =
 abbrev pub assignment : ℕ → ℕ → Reads Done
 assignment d place names ts = behind m.Is ts >>= λ us. value_at names d us >>= λ q. Some ((Set place q.0, None), q.1)
 
--- an element, behind its array
+-- an element, after its array
 abbrev pub placing : ℕ → Array → Reads Done
 placing d array names ts =
     behind m.OpenIndex ts >>= λ us. value_at names d us >>= λ p. behind m.CloseIndex p.1 >>= λ vs. behind m.Is vs >>= λ ws.
@@ -82,10 +83,35 @@ abbrev pub count_at : List Token → Option (ℕ × List Token)
 count_at (t.Number n ∷ rest) = if nat_lt n (2 ^ 32) then Some (n, rest) else None
 count_at _ = None
 
-abbrev pub repetition : Reads (Acts) → Reads Done
-repetition block names ts =
-    new_name names ts >>= λ p. count_at p.1 >>= λ n. block (names ++ p.0 ∷ []) n.1 >>= λ body.
-    Some ((Repeat (length names) n.0 body.0, None), body.1)
+-- the value that ends a repeat, behind `until`
+abbrev pub until_at : List Token → Option (List Token)
+until_at (t.Name name ∷ rest) = if eqb name until_name then Some rest else None
+until_at _ = None
+
+-- what stands behind the count, with the name of the turn in scope
+abbrev pub repeated : Option (List Token) → ℕ → Reads (Acts) → (place count : ℕ) → Reads Done
+repeated None d block place count names ts = block names ts >>= λ body. Some ((Repeat place count body.0, None), body.1)
+repeated (Some us) d block place count names ts =
+    value_at names d us >>= λ x. block names x.1 >>= λ body. Some ((RepeatUntil place count x.0 body.0, None), body.1)
+
+abbrev pub repetition : ℕ → Reads (Acts) → Reads Done
+repetition d block names ts =
+    new_name names ts >>= λ p. count_at p.1 >>= λ n. repeated (until_at n.1) d block (length names) n.0 (names ++ p.0 ∷ []) n.1
+
+-- the sort behind `on`, where they come first
+abbrev pub sort_at : List Token → Option (ℕ × List Token)
+sort_at (t.Name name ∷ t.Sort n ∷ rest) = if eqb name on_name then Some (n, rest) else None
+sort_at _ = None
+
+-- a further `on`
+abbrev pub further : Option (ℕ × List Token) → (ℕ → Reads Act) → Reads (Acts)
+further None next names ts = Some (empty, ts)
+further (Some p) next names ts = next p.0 names p.1 >>= λ q. Some (cons q.0 empty, q.1)
+
+-- what stands behind `on` and a sort
+abbrev pub case_with : Reads (Acts) → (ℕ → Reads Act) → ℕ → Reads Act
+case_with block next sort names ts =
+    block names ts >>= λ met. further (sort_at met.1) next names met.1 >>= λ unmet. Some (If (is_of_sort sort) met.0 unmet.0, unmet.1)
 
 abbrev pub starts : Mark → Bool
 starts m.Let = true
@@ -99,6 +125,7 @@ abbrev pub begins : List Token → Bool
 begins (t.Mark mark ∷ rest) = starts mark
 begins (t.Word place ∷ rest) = true
 begins (t.Array array ∷ rest) = true
+begins (t.Name name ∷ rest) = is_on (t.Name name ∷ rest)
 begins _ = false
 
 abbrev pub unnamed : Option (Act × List Token) → Option (Done × List Token)
@@ -108,14 +135,19 @@ abbrev pub by_start : Mark → ℕ → Reads (Acts) → Reads Act → Reads Done
 by_start m.Let d block choice names ts = naming d names ts
 by_start m.Send d block choice names ts = sending d names ts
 by_start m.If d block choice names ts = unnamed (choice_with d block choice names ts)
-by_start m.Repeat d block choice names ts = repetition block names ts
+by_start m.Repeat d block choice names ts = repetition d block names ts
 by_start _ d block choice names ts = None
 
-abbrev pub one : ℕ → Reads (Acts) → Reads Act → Reads Done
-one d block choice names (t.Mark mark ∷ rest) = by_start mark d block choice names rest
-one d block choice names (t.Word place ∷ rest) = assignment d place names rest
-one d block choice names (t.Array array ∷ rest) = placing d array names rest
-one d block choice names _ = None
+-- a chain of `on`
+abbrev pub cases : Reads (Acts) → (ℕ → Reads Act) → Reads Done
+cases block next names ts = sort_at ts >>= λ p. unnamed (case_with block next p.0 names p.1)
+
+abbrev pub one : ℕ → Reads (Acts) → Reads Act → (ℕ → Reads Act) → Reads Done
+one d block choice next names (t.Mark mark ∷ rest) = by_start mark d block choice names rest
+one d block choice next names (t.Word place ∷ rest) = assignment d place names rest
+one d block choice next names (t.Array array ∷ rest) = placing d array names rest
+one d block choice next names (t.Name name ∷ rest) = cases block next names (t.Name name ∷ rest)
+one d block choice next names _ = None
 
 -- at most n statements, one after the other
 abbrev pub row : Reads Done → ℕ → Reads (Acts)
@@ -123,20 +155,34 @@ row first zero names ts = Some (empty, ts)
 row first (suc n) names ts =
     if begins ts then (first names ts >>= λ p. row first n (with_name names p.0.1) p.1 >>= λ q. Some (cons p.0.0 q.0, q.1)) else Some (empty, ts)
 
+-- what is read in braces
+abbrev pub in_braces : Reads (Acts) → Reads (Acts)
+in_braces inner names ts = behind m.OpenBlock ts >>= λ us. inner names us >>= λ p. behind m.CloseBlock p.1 >>= λ rest. Some (p.0, rest)
+
 abbrev mutual
-  -- a block, where d levels of nesting are left
-  pub block_at : ℕ → Reads (Acts)
-  block_at zero names ts = None
-  block_at (suc d) names ts =
-      behind m.OpenBlock ts >>= λ us. row (one d (block_at d) (choice_at d)) (length us) names us >>= λ p. behind m.CloseBlock p.1 >>= λ rest. Some (p.0, rest)
+  -- a block, where d blocks are left, and n blocks, `else if` and further `on`
+  pub block_at : (n d : ℕ) → Reads (Acts)
+  block_at zero d names ts = None
+  block_at (suc n) zero names ts = None
+  block_at (suc n) (suc d) names ts =
+      in_braces (λ inner us. row (one d (block_at n d) (choice_at n d) (case_at n d)) (length us) inner us) names ts
 
-  -- what stands behind `else if`
-  pub choice_at : ℕ → Reads Act
-  choice_at zero names ts = None
-  choice_at (suc d) names ts = choice_with d (block_at d) (choice_at d) names ts
+  -- what follows `else if`
+  pub choice_at : (n d : ℕ) → Reads Act
+  choice_at zero d names ts = None
+  choice_at (suc n) d names ts = choice_with d (block_at n d) (choice_at n d) names ts
 
-abbrev pub statements_at : ℕ → Reads (Acts)
-statements_at d names ts = row (one d (block_at d) (choice_at d)) (length ts) names ts
+  -- what stands behind a further `on` and its sort
+  pub case_at : (n d sort : ℕ) → Reads Act
+  case_at zero d sort names ts = None
+  case_at (suc n) d sort names ts = case_with (block_at n d) (case_at n d) sort names ts
+
+-- a statement
+abbrev pub first_at : (n d : ℕ) → Reads Done
+first_at n d = one d (block_at n d) (choice_at n d) (case_at n d)
+
+abbrev pub statements_at : (n d : ℕ) → Reads (Acts)
+statements_at n d names ts = row (first_at n d) (length ts) names ts
 
 abbrev pub all_of : Acts → List Token → Option (Acts)
 all_of acts [] = Some acts
@@ -144,4 +190,4 @@ all_of acts (token ∷ ts) = None
 
 -- the statements of a whole rule
 unfoldable pub rule_at : List Token → Option (Acts)
-rule_at ts = statements_at 64 [] ts >>= λ p. all_of p.0 p.1
+rule_at ts = statements_at 1024 64 [] ts >>= λ p. all_of p.0 p.1

@@ -9,12 +9,17 @@ use Rattle.rules_text.specs.ReadingStatements.{rule_at}
 use Rattle.rules_text.specs.Scopes.{Dictionary, tokens_of}
 use Rattle.rules_text.specs.Statements.{Acts, SpellsRule}
 
--- the text, of at most 65,536 bytes, is the rule: what its lexemes mean in the scope spells these statements
+-- the text, of at most 65,536 bytes, is the rule: what its lexemes mean in the scope forms these statements
 pub record IsRule (scope : Dictionary) (text : List ℕ) (acts : Acts) : Type 0 where
   pub short : length text ≤ 65536
   pub lexemes : List Placed
   pub split : Splits 0 text lexemes
   pub spelled : SpellsRule acts (tokens_of scope text lexemes)
+
+-- the text is a rule
+pub record SomeRule (scope : Dictionary) (text : List ℕ) : Type 0 where
+  pub acts : Acts
+  pub rule : IsRule scope text acts
 
 -- an error for lack of memory alone
 abbrev pub IsForMemory : ReadError → Type 0

@@ -1,8 +1,8 @@
 // Splits a text into names, numbers and signs.
 
-ghost use Rattle.std.specs.Prelude.{◌≡◌, ◌+◌, ◌≤◌, ◌++◌, None, Some, List, IfOk, IfSome, OnOk, length};
+ghost use Rattle.std.specs.Prelude.{◌≡◌, ◌+◌, ◌≤◌, ◌++◌, true, None, Some, List, IfOk, IfSome, OnOk, length};
 ghost use Rattle.rules_text.specs.declared.lexemes.Placed.{Placed as PlacedLexeme};
-ghost use Rattle.rules_text.specs.Lexical.{Splits, belongs as belongs_to, digit_step, double as double_sign, is_digit as is_digit_byte, is_letter as is_letter_byte, is_name, is_white as is_white_byte, lexemes_at, number_of, piece as piece_at, placed, run as run_of, sign_piece, single as single_sign, word_of};
+ghost use Rattle.rules_text.specs.Lexical.{Splits, belongs as belongs_to, digit_step, double as double_sign, is_counting, is_digit as is_digit_byte, is_letter as is_letter_byte, is_name, is_white as is_white_byte, lexemes_at, number_of, piece as piece_at, placed, run as run_of, sign_piece, single as single_sign, word_of};
 ghost use Rattle.rules_text.specs.Reading.{Gives};
 
 use crate::stop::{Refusal, Stop, Wanted};
@@ -33,7 +33,7 @@ pub struct Placed {
 
 /// Bytes that go on with what they began.
 #[derive(Clone, Copy, Debug, PartialEq, Eq)]
-enum Run {
+pub(crate) enum Run {
     /// Letters, digits and `_`.
     Word,
     /// All but the end of the line.
@@ -68,7 +68,7 @@ fn belongs(run: Run, byte: u8) -> bool
 }
 
 /// How many bytes at the front belong to the run.
-fn run_length(run: Run, bytes: &[u8]) -> usize
+pub(crate) fn run_length(run: Run, bytes: &[u8]) -> usize
     ensures length { result ≡ run_of run bytes.now }
     ensures within { result ≤ length bytes.now }
 {
@@ -192,6 +192,14 @@ fn double(one: u8, two: u8) -> Option<Lexeme>
     }
 }
 
+/// `.count`, behind its point: the letters go no further.
+fn is_count(rest: &[u8]) -> bool
+    ensures value { result ≡ is_counting rest.now }
+    ensures within { result ≡ true → 5 ≤ length rest.now }
+{
+    run_length(Run::Word, rest) == 5 && rest.split_at(5).0 == "count".as_bytes()
+}
+
 /// The longest sign that comes first, and its length.
 fn sign(first: u8, rest: &[u8]) -> Option<(Lexeme, usize)>
     ensures piece { result ≡ sign_piece first rest.now }
@@ -205,7 +213,13 @@ fn sign(first: u8, rest: &[u8]) -> Option<(Lexeme, usize)>
         Some(lexeme) => Some((lexeme, 2)),
         None => match single(first) {
             Some(lexeme) => Some((lexeme, 1)),
-            None => None,
+            None => {
+                if first == b'.' && is_count(rest) {
+                    Some((Lexeme::Mark(Mark::Count), 6))
+                } else {
+                    None
+                }
+            }
         },
     }
 }
@@ -248,15 +262,15 @@ pub fn tokens(alloc: Global, text: &str) -> Result<Vec<Placed>, Stop>
     ensures found { IfOk result (λ v. Splits 0 text.now v.items) }
     ensures only { (ts : List PlacedLexeme) → Splits 0 text.now ts → Gives (λ v. v.items) result (Some ts) }
 {
-    pieces(alloc, text)
+    pieces(alloc, text.as_bytes())
 }
 
-/// The same, by one pass from the left.
-pub(crate) fn pieces(alloc: Global, text: &str) -> Result<Vec<Placed>, Stop>
+/// The same of bytes, by one pass from the left.
+pub(crate) fn pieces(alloc: Global, text: &[u8]) -> Result<Vec<Placed>, Stop>
     ensures { Gives (λ v. v.items) result (lexemes_at text.now) }
 {
     let mut tokens = Vec::new(alloc);
-    let mut rest = text.as_bytes();
+    let mut rest = text;
     let mut at: usize = 0;
     'parts: for _turn in 0..text.len() {
         if rest.is_empty() {

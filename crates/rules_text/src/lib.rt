@@ -2,6 +2,7 @@
 #![tactic(auto)]
 
 mod lexemes;
+mod mending;
 mod mistakes;
 mod read;
 mod scope;
@@ -13,7 +14,7 @@ mod words;
 
 pub use lexemes::{Lexeme, Placed, tokens};
 pub use mistakes::{Kind, Mistake};
-pub use read::{ReadError, read_rule};
+pub use read::{ReadError, find_mistakes, read_rule};
 pub use scope::{Meaning, Scope, ScopeError};
 pub use stop::{Refusal, Stop, Wanted};
 pub use token::{Mark, Token};

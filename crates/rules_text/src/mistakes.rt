@@ -4,7 +4,7 @@ use crate::lexemes::{Lexeme, Placed, pieces};
 use crate::scope::Scope;
 use crate::stop::{Refusal, Stop, Wanted};
 use crate::token::{Mark, Token};
-use crate::words::{part, words};
+use crate::words::{ON, part, words};
 use rules::{Law, Operator};
 use std::alloc::{AllocError, Global};
 use std::fmt;
@@ -23,9 +23,9 @@ pub enum Kind {
     Fixed(String),
     /// A second comparison in a row.
     Chain,
-    /// The text ends, where something else was wanted.
+    /// The text ends, where something else was expected.
     End(Wanted),
-    /// Something else was wanted.
+    /// Something else was expected.
     Wanted(Wanted),
 }
 
@@ -62,14 +62,33 @@ pub(crate) fn find_mistake(
             Kind::Wanted(refusal.wanted),
         ));
     }
-    let lexemes = match pieces(alloc, text) {
+    let lexemes = match pieces(alloc, bytes) {
         Ok(lexemes) => lexemes,
         Err(_) => return Err(AllocError),
     };
     let tokens = words(alloc, scope, bytes, &lexemes)?;
+    mistake_at(alloc, scope, bytes, &lexemes, &tokens, refusal)
+}
+
+/// The mistake that a refusal of one of these tokens names, whose places in the text are those of the lexemes.
+pub(crate) fn mistake_at(
+    alloc: Global,
+    scope: &Scope,
+    bytes: &[u8],
+    lexemes: &[Placed],
+    tokens: &[Token],
+    refusal: Refusal,
+) -> Result<Mistake, AllocError> {
     let index = tokens.len().saturating_sub(refusal.left);
+    if ends_statements(refusal.wanted) && is_on_without_sort(scope, tokens, index) {
+        let place = match lexemes.get(index.saturating_add(1)) {
+            Some(lexeme) => lexeme.start,
+            None => bytes.len(),
+        };
+        return Ok(at(bytes, place, Kind::Wanted(Wanted::Sort)));
+    }
     match (lexemes.get(index), tokens.get(index)) {
-        (Some(lexeme), Some(_)) if is_set(tokens.as_slice(), index, refusal.wanted) => {
+        (Some(lexeme), Some(_)) if is_set(tokens, index, refusal.wanted) => {
             let name = owned(alloc, part(bytes, lexeme.start, lexeme.end))?;
             Ok(at(bytes, lexeme.start, Kind::Fixed(name)))
         }
@@ -81,13 +100,22 @@ pub(crate) fn find_mistake(
     }
 }
 
-/// Whether the statements of a rule or a block end, and one more or the end was wanted.
-fn ends_statements(wanted: Wanted) -> bool {
+/// Whether `on` stands where a sort was wanted behind it.
+fn is_on_without_sort(scope: &Scope, tokens: &[Token], index: usize) -> bool {
+    let next_is_sign = matches!(
+        tokens.get(index.saturating_add(1)),
+        Some(Token::Mark(Mark::Is)) | Some(Token::Sort(_))
+    );
+    tokens.get(index) == Some(&Token::Name(ON)) && !next_is_sign && scope.has_sort()
+}
+
+/// Whether the statements of a rule or a block end, and one more or the end was expected.
+pub(crate) fn ends_statements(wanted: Wanted) -> bool {
     wanted == Wanted::Statement || wanted == Wanted::Mark(Mark::CloseBlock)
 }
 
 /// Whether a name that `let` or `repeat` gives before is followed by `=`, where a statement is
-/// wanted.
+/// expected.
 fn is_set(tokens: &[Token], index: usize, wanted: Wanted) -> bool {
     let (Some(name), Some(sign)) = (tokens.get(index), tokens.get(index.saturating_add(1))) else {
         return false;
@@ -170,7 +198,7 @@ fn nearest(alloc: Global, scope: &Scope, name: &[u8]) -> Result<Option<String>, 
 }
 
 /// The mistake at a byte of the text.
-fn at(text: &[u8], byte: usize, kind: Kind) -> Mistake {
+pub(crate) fn at(text: &[u8], byte: usize, kind: Kind) -> Mistake {
     let mut line: usize = 1;
     let mut column: usize = 1;
     'bytes: for (i, b) in text.iter().enumerate() {
@@ -244,6 +272,10 @@ impl fmt::Display for Wanted {
             Wanted::LessText => f.write_str("a rule has at most 65,536 bytes"),
             Wanted::Value => f.write_str("a value is wanted here"),
             Wanted::Table => f.write_str("a table is wanted here"),
+            Wanted::Member => {
+                f.write_str("\"[\" or \".count\" is wanted here, behind a kind of processes")
+            }
+            Wanted::Sort => f.write_str("a sort of messages is wanted here, behind on"),
             Wanted::Statement => f.write_str("a statement is wanted here"),
             Wanted::Mark(mark) => {
                 let sign = spelling(*mark);
@@ -252,6 +284,9 @@ impl fmt::Display for Wanted {
             Wanted::NewName => f.write_str("a new name is wanted here"),
             Wanted::Count => f.write_str("a number below 2^32 is wanted here"),
             Wanted::LessNesting => f.write_str("this is nested more than 64 deep"),
+            Wanted::FewerLinks => f.write_str(
+                "this stands within more than 1,024 blocks, else if and on",
+            ),
             Wanted::LowerValue => f.write_str("this value is more than 256 operators deep"),
             Wanted::FewerNames => f.write_str("more than 16 names are in scope here"),
         }
@@ -286,6 +321,7 @@ fn spelling(mark: Mark) -> &'static str {
         Mark::Normal => "normal",
         Mark::Triangular => "triangular",
         Mark::Choose => "choose",
+        Mark::Count => ".count",
         Mark::Kept => "key",
     }
 }

@@ -1,11 +1,12 @@
 // Reads the text of a rule.
 
-ghost use Rattle.std.specs.Prelude.{◌≡◌, ◌≤◌, IfOk, length};
+ghost use Rattle.std.specs.Prelude.{◌≡◌, ◌≤◌, [], IfOk, length};
 ghost use Rattle.rules_text.specs.Reading.{Gives};
 ghost use Rattle.rules_text.specs.Statements.{Acts, acts_of};
-ghost use Rattle.rules_text.specs.Texts.{IsRule, Yields, read_at};
+ghost use Rattle.rules_text.specs.Texts.{IsRule, SomeRule, Yields, read_at};
 
 use crate::lexemes::pieces;
+use crate::mending::all_mistakes;
 use crate::mistakes::{Mistake, find_mistake};
 use crate::scope::Scope;
 use crate::statements::rule;
@@ -40,27 +41,44 @@ fn read(alloc: Global, scope: &Scope, text: &str) -> Result<Vec<Statement>, Stop
             wanted: Wanted::LessText,
         }));
     }
-    let lexemes = pieces(alloc, text)?;
+    let lexemes = pieces(alloc, text.as_bytes())?;
     let tokens = words(alloc, scope, text.as_bytes(), &lexemes)?;
     rule(alloc, &tokens)
 }
 
-/// The statements that a rule's text spells in this scope.
+/// The statements that a rule's text means in this scope.
 ///
 /// # Errors
 ///
 /// `Mistaken` just where the text is no rule: it has more than 65,536 bytes, is not of names, numbers and signs, or
-/// is not by the grammar, with a place and what was wanted there.
+/// is not by the grammar, with a place and what was expected there.
 pub fn read_rule(alloc: Global, scope: &Scope, text: &str) -> Result<Vec<Statement>, ReadError>
-    // What is read is spelled so.
+    // What is read is what the text means.
     ensures found { IfOk result (λ v. IsRule scope.now text.now (acts_of v.items)) }
-    // What is spelled so is read, unless memory runs out.
+    // What the text means is read, unless memory runs out.
     ensures only { (acts : Acts) → IsRule scope.now text.now acts → Yields (λ v. acts_of v.items) result acts }
 {
     match read(alloc, scope, text) {
         Ok(statements) => Ok(statements),
         Err(Stop::Memory) => Err(ReadError::Memory),
         Err(Stop::Refused(refusal)) => Err(mistaken(alloc, scope, text, refusal)),
+    }
+}
+
+/// The mistakes of a text, from the one that `read_rule` finds on: at most 20, and at most one on a line.
+///
+/// After a refused statement it goes on at the next line that begins one, or at the next `}`, as if the statement were
+/// right: its name, if it gives one, is in scope.
+pub fn find_mistakes(alloc: Global, scope: &Scope, text: &str) -> Result<Vec<Mistake>, AllocError>
+    // A rule has none.
+    ensures none { (acts : Acts) → IsRule scope.now text.now acts → IfOk result (λ v. v.items ≡ []) }
+    // What has none is a rule.
+    ensures some { IfOk result (λ v. v.items ≡ [] → SomeRule scope.now text.now) }
+{
+    match read(alloc, scope, text) {
+        Ok(_statements) => Ok(Vec::new(alloc)),
+        Err(Stop::Memory) => Err(AllocError),
+        Err(Stop::Refused(refusal)) => all_mistakes(alloc, scope, text, refusal),
     }
 }
 

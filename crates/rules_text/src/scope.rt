@@ -1,6 +1,6 @@
 // What the names of a rule mean.
 
-ghost use Rattle.std.specs.Prelude.{◌≡◌, [], None, IsSome, OnErr, OnOk, true, false};
+ghost use Rattle.std.specs.Prelude.{◌≡◌, [], None, Some, IsSome, OnErr, OnOk, true, false};
 ghost use Rattle.std.specs.Result.{IsErrOf};
 ghost use Rattle.std.specs.Str.{bytes_eq};
 ghost use Rattle.rules_text.specs.Lexical.{is_name};
@@ -26,6 +26,15 @@ pub enum Meaning {
     Table(u32),
     /// An array in the state.
     Array(Array),
+    /// A kind of processes.
+    Kind {
+        /// The first of its processes.
+        first: u32,
+        /// How many there are; they follow each other.
+        count: u32,
+    },
+    /// A sort of messages, by its number.
+    Sort(u64),
 }
 
 impl Meaning {
@@ -38,6 +47,8 @@ impl Meaning {
             Meaning::Number(n) => Token::Number(n),
             Meaning::Table(place) => Token::Table(place),
             Meaning::Array(array) => Token::Array(array),
+            Meaning::Kind { first, count } => Token::Kind(first, count),
+            Meaning::Sort(n) => Token::Sort(n),
         }
     }
 }
@@ -67,6 +78,7 @@ struct Entry {
 #[derive(Debug, Drop)]
 pub struct Scope {
     draws: bool,
+    own: Option<u32>,
     entries: Vec<Entry>,
 }
 
@@ -75,7 +87,7 @@ impl std::marker::Model for Scope {
 
     ghost Value = { Dictionary };
 
-    ghost view = { λ s. dictionary_of s.draws s.entries.items };
+    ghost view = { λ s. dictionary_of s.draws s.own s.entries.items };
 }
 
 fn is(name: &[u8], word: &str) -> bool
@@ -140,10 +152,10 @@ fn word_that_draws(name: &[u8]) -> Option<Mark>
     None
 }
 
-/// A word of the language that stands in values.
+/// A word of the language that may be part of a value.
 #[tactic(auto, unfolding(crate::specs::Scopes::value_word))]
-fn word_of_value(draws: bool, name: &[u8]) -> Option<Token>
-    ensures { result ≡ value_word draws name.now }
+fn word_of_value(draws: bool, own: Option<u32>, name: &[u8]) -> Option<Token>
+    ensures { result ≡ value_word draws own name.now }
 {
     if let Some(mark) = word_that_draws(name) {
         return Some(Token::Mark(if draws { mark } else { Mark::Kept }));
@@ -158,7 +170,10 @@ fn word_of_value(draws: bool, name: &[u8]) -> Option<Token>
         return Some(Token::Mark(Mark::Kept));
     }
     if is(name, "self") {
-        return Some(Token::Known(Known::Process));
+        return Some(match own {
+            Some(first) => Token::Own(first),
+            None => Token::Known(Known::Process),
+        });
     }
     if is(name, "sender") {
         return Some(Token::Known(Known::Sender));
@@ -175,10 +190,23 @@ fn word_of_value(draws: bool, name: &[u8]) -> Option<Token>
 impl Scope {
     /// The scope of a model file without names; `draws` says whether the state has `key`, so that rules may draw.
     pub fn new(alloc: Global, draws: bool) -> Scope
-        ensures { result ≡ record { draws = draws; entries = [] } }
+        ensures { result ≡ record { draws = draws; own = None; entries = [] } }
     {
         Scope {
             draws,
+            own: None,
+            entries: Vec::new(alloc),
+        }
+    }
+
+    /// The same for the rules of one kind of processes, of which this one is the first: there `self` is the place of
+    /// the process within the kind.
+    pub fn of_kind(alloc: Global, draws: bool, first: u32) -> Scope
+        ensures { result ≡ record { draws = draws; own = Some first; entries = [] } }
+    {
+        Scope {
+            draws,
+            own: Some(first),
             entries: Vec::new(alloc),
         }
     }
@@ -190,7 +218,7 @@ impl Scope {
         if let Some(token) = word_of_statement(name) {
             return Some(token);
         }
-        if let Some(token) = word_of_value(self.draws, name) {
+        if let Some(token) = word_of_value(self.draws, self.own, name) {
             return Some(token);
         }
         find(&self.entries, name)
@@ -226,6 +254,16 @@ impl Scope {
             Some(entry) => Some(entry.name.as_slice()),
             None => None,
         }
+    }
+
+    /// Whether a sort of messages was added.
+    pub(crate) fn has_sort(&self) -> bool {
+        'entries: for entry in &self.entries {
+            if matches!(entry.token, Token::Sort(_)) {
+                return true;
+            }
+        }
+        false
     }
 
     /// How many names were added.

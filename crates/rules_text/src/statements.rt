@@ -1,15 +1,16 @@
 // Reads statements, from the left.
 
-ghost use Rattle.std.specs.Prelude.{◌≡◌, ◌<◌, ◌≤◌, ◌++◌, ◌∷◌, [], None, Some, IfOk, IfSome, OnOk, length};
+ghost use Rattle.std.specs.Prelude.{◌≡◌, ◌<◌, ◌≤◌, ◌++◌, ◌∷◌, [], None, Some, IfOk, IfSome, MatchOption, OnOk, length};
 ghost use Rattle.rules_text.specs.Grammar.{tree_of};
 ghost use Rattle.rules_text.specs.Reading.{Gives};
-ghost use Rattle.rules_text.specs.ReadingStatements.{assignment as assignment_at, begins as begins_at, block_at, choice_at, choice_with, content as content_at, contents as contents_at, count_at, naming as naming_at, new_name as new_name_at, one as one_at, otherwise as otherwise_at, placing as placing_at, repetition as repetition_at, rule_at, sending as sending_at, statements_at, with_name as with_name_of};
-ghost use Rattle.rules_text.specs.Statements.{If, Repeat, act_of, acts_of};
+ghost use Rattle.rules_text.specs.ReadingStatements.{assignment as assignment_at, begins as begins_at, block_at, case_at, case_with, cases as cases_at, choice_at, choice_with, content as content_at, contents as contents_at, count_at, first_at, further as further_at, in_braces, naming as naming_at, new_name as new_name_at, otherwise as otherwise_at, placing as placing_at, repeated as repeated_at, repetition as repetition_at, rule_at, sending as sending_at, sort_at, statements_at, until_at, with_name as with_name_of};
+ghost use Rattle.rules_text.specs.Statements.{If, Repeat, RepeatUntil, act_of, acts_of, is_of_sort as is_of};
 
 use crate::stop::{Stop, Wanted, refused};
 use crate::token::{Mark, Token};
 use crate::values::{Reads, behind, expect, first, place, value};
-use rules::{Array, Expression, Sending, Statement};
+use crate::words::{ON, UNTIL};
+use rules::{Array, Expression, Operator, Sending, Statement};
 use std::alloc::{AllocError, Global};
 
 /// A statement, and the name that it gives to what follows.
@@ -18,24 +19,44 @@ type Named = (Statement, Option<usize>);
 /// How many names of `let` and `repeat` may be in scope at once.
 const MOST_NAMES: usize = 16;
 
-/// The statements that all of these tokens spell.
+/// How many blocks may stand around one another.
+const MOST_BLOCKS: u32 = 64;
+
+/// How many blocks, `else if` and further `on` may stand around one another.
+const MOST_LINKS: u32 = 1024;
+
+/// The statements that all of these tokens form.
 #[tactic(auto, unfolding(crate::specs::ReadingStatements::rule_at))]
 pub(crate) fn rule(alloc: Global, tokens: &[Token]) -> Result<Vec<Statement>, Stop>
     ensures { Gives (λ v. acts_of v.items) result (rule_at tokens.now) }
 {
-    let (statements, rest) = row(alloc, &[], 64, tokens)?;
+    let (statements, rest) = row(alloc, &[], MOST_LINKS, MOST_BLOCKS, tokens)?;
     match first(rest) {
         None => Ok(statements),
         Some(_) => Err(refused(rest, Wanted::Statement)),
     }
 }
 
+/// The sort behind `on`, where they come first, and the tokens after it.
+fn sort<'a>(tokens: &'a [Token]) -> Option<(u64, &'a [Token])>
+    ensures { MatchOption result (sort_at tokens.now ≡ None) (λ p. sort_at tokens.now ≡ Some (p.0, p.1.now)) }
+{
+    match first(tokens) {
+        Some((Token::Name(name), rest)) => match first(rest) {
+            Some((Token::Sort(n), behind)) => if name == ON { Some((n, behind)) } else { None },
+            _ => None,
+        },
+        _ => None,
+    }
+}
+
 /// Whether a statement begins here.
-fn begins(tokens: &[Token]) -> bool
+pub(crate) fn begins(tokens: &[Token]) -> bool
     ensures { result ≡ begins_at tokens.now }
 {
     match first(tokens) {
         Some((Token::Word(_), _)) | Some((Token::Array(_), _)) => true,
+        Some((Token::Name(_), _)) => sort(tokens).is_some(),
         Some((Token::Mark(mark), _)) => match mark {
             Mark::Let | Mark::Send | Mark::If | Mark::Repeat => true,
             _ => false,
@@ -60,11 +81,12 @@ fn add_name(names: &mut Vec<usize>, name: Option<usize>) -> Result<(), AllocErro
 fn row<'a>(
     alloc: Global,
     names: &[usize],
+    links: u32,
     depth: u32,
     tokens: &'a [Token],
 ) -> Reads<'a, Vec<Statement>>
     requires { length names.now ≤ 16 }
-    ensures { Gives (λ p. (acts_of p.0.items, p.1.now)) result (statements_at depth names.now tokens.now) }
+    ensures { Gives (λ p. (acts_of p.0.items, p.1.now)) result (statements_at links depth names.now tokens.now) }
 {
     let mut names = Vec::from_slice(alloc, names)?;
     let mut statements = Vec::new(alloc);
@@ -73,7 +95,7 @@ fn row<'a>(
         if !begins(rest) {
             return Ok((statements, rest));
         }
-        let ((statement, name), after) = one(alloc, &names, depth, rest)?;
+        let ((statement, name), after) = one(alloc, &names, links, depth, rest)?;
         statements.push(statement)?;
         add_name(&mut names, name)?;
         rest = after;
@@ -83,9 +105,15 @@ fn row<'a>(
 
 /// A statement.
 #[cycle(statements)]
-fn one<'a>(alloc: Global, names: &[usize], depth: u32, tokens: &'a [Token]) -> Reads<'a, Named>
+fn one<'a>(
+    alloc: Global,
+    names: &[usize],
+    links: u32,
+    depth: u32,
+    tokens: &'a [Token],
+) -> Reads<'a, Named>
     requires { length names.now ≤ 16 }
-    ensures read { Gives (λ p. ((act_of p.0.0, p.0.1), p.1.now)) result (one_at depth (block_at depth) (choice_at depth) names.now tokens.now) }
+    ensures read { Gives (λ p. ((act_of p.0.0, p.0.1), p.1.now)) result (first_at links depth names.now tokens.now) }
     ensures room { IfOk result (λ p. IfSome p.0.1 (λ _. length names.now < 16)) }
 {
     match first(tokens) {
@@ -94,10 +122,11 @@ fn one<'a>(alloc: Global, names: &[usize], depth: u32, tokens: &'a [Token]) -> R
         Some((Token::Mark(Mark::Let), rest)) => naming(alloc, names, depth, rest),
         Some((Token::Mark(Mark::Send), rest)) => sending(alloc, names, depth, rest),
         Some((Token::Mark(Mark::If), rest)) => {
-            let (statement, rest) = choice(alloc, names, depth, rest)?;
+            let (statement, rest) = choice(alloc, names, links, depth, rest)?;
             Ok(((statement, None), rest))
         }
-        Some((Token::Mark(Mark::Repeat), rest)) => repetition(alloc, names, depth, rest),
+        Some((Token::Mark(Mark::Repeat), rest)) => repetition(alloc, names, links, depth, rest),
+        Some((Token::Name(_), _)) => cases(alloc, names, links, depth, tokens),
         _ => Err(refused(tokens, Wanted::Statement)),
     }
 }
@@ -123,7 +152,7 @@ fn new_name<'a>(names: &[usize], tokens: &'a [Token]) -> Reads<'a, usize>
     }
 }
 
-/// A name and its value, behind `let`.
+/// A name and its value, after `let`.
 fn naming<'a>(alloc: Global, names: &[usize], depth: u32, tokens: &'a [Token]) -> Reads<'a, Named>
     requires { length names.now ≤ 16 }
     ensures read { Gives (λ p. ((act_of p.0.0, p.0.1), p.1.now)) result (naming_at depth names.now tokens.now) }
@@ -135,7 +164,7 @@ fn naming<'a>(alloc: Global, names: &[usize], depth: u32, tokens: &'a [Token]) -
     Ok(((Statement::Let(names.len() as u8, x), Some(name)), rest))
 }
 
-/// The value of a word of the state, behind the word.
+/// The value of a word of the state, after the word.
 fn assignment<'a>(
     alloc: Global,
     names: &[usize],
@@ -152,7 +181,7 @@ fn assignment<'a>(
     Ok(((Statement::Set(place, x), None), rest))
 }
 
-/// The index and the value of an element, behind its array.
+/// The index and the value of an element, after its array.
 fn placing<'a>(
     alloc: Global,
     names: &[usize],
@@ -172,7 +201,7 @@ fn placing<'a>(
     Ok(((Statement::Put(array, index, x), None), rest))
 }
 
-/// A word of content behind its mark, if it may be given and is; or else 0.
+/// A word of content after its mark, if it may be given and is; or else 0.
 fn content<'a>(
     alloc: Global,
     names: &[usize],
@@ -196,7 +225,7 @@ fn content<'a>(
     }
 }
 
-/// What a send says, behind `send`.
+/// What a send says, after `send`.
 fn sending<'a>(alloc: Global, names: &[usize], depth: u32, tokens: &'a [Token]) -> Reads<'a, Named>
     requires { length names.now ≤ 16 }
     ensures read { Gives (λ p. ((act_of p.0.0, p.0.1), p.1.now)) result (sending_at depth names.now tokens.now) }
@@ -228,20 +257,21 @@ fn chosen(x: Expression, met: Vec<Statement>, unmet: Vec<Statement>) -> Statemen
     Statement::If(x, met, unmet)
 }
 
-/// What stands behind `if`.
+/// What follows `if`.
 #[cycle(statements)]
 fn choice<'a>(
     alloc: Global,
     names: &[usize],
+    links: u32,
     depth: u32,
     tokens: &'a [Token],
 ) -> Reads<'a, Statement>
     requires { length names.now ≤ 16 }
-    ensures { Gives (λ p. (act_of p.0, p.1.now)) result (choice_with depth (block_at depth) (choice_at depth) names.now tokens.now) }
+    ensures { Gives (λ p. (act_of p.0, p.1.now)) result (choice_with depth (block_at links depth) (choice_at links depth) names.now tokens.now) }
 {
     let (x, rest) = value(alloc, names, depth, tokens)?;
-    let (met, rest) = block(alloc, names, depth, rest)?;
-    let (unmet, rest) = otherwise(alloc, names, depth, rest)?;
+    let (met, rest) = block(alloc, names, links, depth, rest)?;
+    let (unmet, rest) = otherwise(alloc, names, links, depth, rest)?;
     Ok((chosen(x, met, unmet), rest))
 }
 
@@ -250,39 +280,128 @@ fn choice<'a>(
 fn otherwise<'a>(
     alloc: Global,
     names: &[usize],
+    links: u32,
     depth: u32,
     tokens: &'a [Token],
 ) -> Reads<'a, Vec<Statement>>
     requires { length names.now ≤ 16 }
-    ensures { Gives (λ p. (acts_of p.0.items, p.1.now)) result (otherwise_at (block_at depth) (choice_at depth) names.now tokens.now) }
+    ensures { Gives (λ p. (acts_of p.0.items, p.1.now)) result (otherwise_at (block_at links depth) (choice_at links depth) names.now tokens.now) }
 {
     let Some(rest) = behind(Mark::Else, tokens) else {
         return Ok((Vec::new(alloc), tokens));
     };
     let Some(more) = behind(Mark::If, rest) else {
-        return block(alloc, names, depth, rest);
+        return block(alloc, names, links, depth, rest);
     };
-    let (statement, rest) = nested_choice(alloc, names, depth, more)?;
+    let (statement, rest) = nested_choice(alloc, names, links, depth, more)?;
     let mut statements = Vec::new(alloc);
     statements.push(statement)?;
     Ok((statements, rest))
 }
 
-/// What stands behind `else if`, which is nested once more.
+/// What stands behind `else if`, which takes one link.
 #[cycle(statements)]
 fn nested_choice<'a>(
     alloc: Global,
     names: &[usize],
+    links: u32,
     depth: u32,
     tokens: &'a [Token],
 ) -> Reads<'a, Statement>
     requires { length names.now ≤ 16 }
-    ensures { Gives (λ p. (act_of p.0, p.1.now)) result (choice_at depth names.now tokens.now) }
+    ensures { Gives (λ p. (act_of p.0, p.1.now)) result (choice_at links depth names.now tokens.now) }
 {
-    if depth == 0 {
-        return Err(refused(tokens, Wanted::LessNesting));
+    if links == 0 {
+        return Err(refused(tokens, Wanted::FewerLinks));
     }
-    choice(alloc, names, depth - 1, tokens)
+    choice(alloc, names, links - 1, depth, tokens)
+}
+
+/// A chain of `on`, with nothing before it.
+#[cycle(statements)]
+fn cases<'a>(
+    alloc: Global,
+    names: &[usize],
+    links: u32,
+    depth: u32,
+    tokens: &'a [Token],
+) -> Reads<'a, Named>
+    requires { length names.now ≤ 16 }
+    ensures read { Gives (λ p. ((act_of p.0.0, p.0.1), p.1.now)) result (cases_at (block_at links depth) (case_at links depth) names.now tokens.now) }
+    ensures none { IfOk result (λ p. p.0.1 ≡ None) }
+{
+    let Some((n, rest)) = sort(tokens) else {
+        return Err(refused(tokens, Wanted::Statement));
+    };
+    let (statement, rest) = case(alloc, names, links, depth, n, rest)?;
+    Ok(((statement, None), rest))
+}
+
+/// Whether the first word of the content is the number of a sort.
+fn is_of_sort(alloc: Global, n: u64) -> Result<Expression, AllocError>
+    ensures { IfOk result (λ e. tree_of e ≡ is_of n) }
+{
+    let word = Box::new(alloc, Expression::Content(0))?;
+    let number = Box::new(alloc, Expression::Number(n))?;
+    Ok(Expression::Two(Operator::Same, word, number))
+}
+
+/// What stands behind `on` and a sort.
+#[cycle(statements)]
+fn case<'a>(
+    alloc: Global,
+    names: &[usize],
+    links: u32,
+    depth: u32,
+    n: u64,
+    tokens: &'a [Token],
+) -> Reads<'a, Statement>
+    requires { length names.now ≤ 16 }
+    ensures { Gives (λ p. (act_of p.0, p.1.now)) result (case_with (block_at links depth) (case_at links depth) n names.now tokens.now) }
+{
+    let (met, rest) = block(alloc, names, links, depth, tokens)?;
+    let (unmet, rest) = further(alloc, names, links, depth, rest)?;
+    Ok((chosen(is_of_sort(alloc, n)?, met, unmet), rest))
+}
+
+/// A further `on`, if there is one.
+#[cycle(statements)]
+fn further<'a>(
+    alloc: Global,
+    names: &[usize],
+    links: u32,
+    depth: u32,
+    tokens: &'a [Token],
+) -> Reads<'a, Vec<Statement>>
+    requires { length names.now ≤ 16 }
+    ensures { Gives (λ p. (acts_of p.0.items, p.1.now)) result (further_at (sort_at tokens.now) (case_at links depth) names.now tokens.now) }
+{
+    let mut statements = Vec::new(alloc);
+    let Some((n, more)) = sort(tokens) else {
+        return Ok((statements, tokens));
+    };
+    let (statement, rest) = nested_case(alloc, names, links, depth, n, more)?;
+    statements.push(statement)?;
+    Ok((statements, rest))
+}
+
+/// What stands behind a further `on` and its sort, which takes one link.
+#[cycle(statements)]
+fn nested_case<'a>(
+    alloc: Global,
+    names: &[usize],
+    links: u32,
+    depth: u32,
+    n: u64,
+    tokens: &'a [Token],
+) -> Reads<'a, Statement>
+    requires { length names.now ≤ 16 }
+    ensures { Gives (λ p. (act_of p.0, p.1.now)) result (case_at links depth n names.now tokens.now) }
+{
+    if links == 0 {
+        return Err(refused(tokens, Wanted::FewerLinks));
+    }
+    case(alloc, names, links - 1, depth, n, tokens)
 }
 
 /// How often a block is repeated.
@@ -308,42 +427,103 @@ fn repeated(place: u8, count: u32, body: Vec<Statement>) -> Statement
     Statement::Repeat(place, count, body)
 }
 
-/// What stands behind `repeat`.
+/// A block that is repeated until a value is not 0.
+fn repeated_until(place: u8, count: u32, x: Expression, body: Vec<Statement>) -> Statement
+    ensures { act_of result ≡ RepeatUntil place count (tree_of x) (acts_of body.items) }
+{
+    Statement::RepeatUntil(place, count, x, body)
+}
+
+/// The tokens behind `until`, where it comes first.
+fn until<'a>(tokens: &'a [Token]) -> Option<&'a [Token]>
+    ensures { MatchOption result (until_at tokens.now ≡ None) (λ rest. until_at tokens.now ≡ Some rest.now) }
+{
+    match first(tokens) {
+        Some((Token::Name(name), rest)) => if name == UNTIL { Some(rest) } else { None },
+        _ => None,
+    }
+}
+
+/// What follows `repeat`.
 #[cycle(statements)]
 fn repetition<'a>(
     alloc: Global,
     names: &[usize],
+    links: u32,
     depth: u32,
     tokens: &'a [Token],
 ) -> Reads<'a, Named>
     requires { length names.now ≤ 16 }
-    ensures read { Gives (λ p. ((act_of p.0.0, p.0.1), p.1.now)) result (repetition_at (block_at depth) names.now tokens.now) }
+    ensures read { Gives (λ p. ((act_of p.0.0, p.0.1), p.1.now)) result (repetition_at depth (block_at links depth) names.now tokens.now) }
     ensures none { IfOk result (λ p. p.0.1 ≡ None) }
 {
     let (name, rest) = new_name(names, tokens)?;
     let (count, rest) = count(rest)?;
     let mut inner = Vec::from_slice(alloc, names)?;
     inner.push(name)?;
-    let (body, rest) = block(alloc, &inner, depth, rest)?;
-    Ok(((repeated(names.len() as u8, count, body), None), rest))
+    turns(alloc, &inner, links, depth, names.len() as u8, count, rest)
 }
 
-/// Statements in braces, which are nested once more.
+/// What stands behind the count of `repeat`, with the name of the turn in scope.
+#[cycle(statements)]
+fn turns<'a>(
+    alloc: Global,
+    names: &[usize],
+    links: u32,
+    depth: u32,
+    place: u8,
+    count: u32,
+    tokens: &'a [Token],
+) -> Reads<'a, Named>
+    requires { length names.now ≤ 16 }
+    ensures read { Gives (λ p. ((act_of p.0.0, p.0.1), p.1.now)) result
+        (repeated_at (until_at tokens.now) depth (block_at links depth) place count names.now tokens.now) }
+    ensures none { IfOk result (λ p. p.0.1 ≡ None) }
+{
+    let Some(rest) = until(tokens) else {
+        let (body, rest) = block(alloc, names, links, depth, tokens)?;
+        return Ok(((repeated(place, count, body), None), rest));
+    };
+    let (x, rest) = value(alloc, names, depth, rest)?;
+    let (body, rest) = block(alloc, names, links, depth, rest)?;
+    Ok(((repeated_until(place, count, x, body), None), rest))
+}
+
+/// A block, which is nested once more.
 #[cycle(statements)]
 fn block<'a>(
     alloc: Global,
     names: &[usize],
+    links: u32,
     depth: u32,
     tokens: &'a [Token],
 ) -> Reads<'a, Vec<Statement>>
     requires { length names.now ≤ 16 }
-    ensures { Gives (λ p. (acts_of p.0.items, p.1.now)) result (block_at depth names.now tokens.now) }
+    ensures { Gives (λ p. (acts_of p.0.items, p.1.now)) result (block_at links depth names.now tokens.now) }
 {
     if depth == 0 {
         return Err(refused(tokens, Wanted::LessNesting));
     }
+    if links == 0 {
+        return Err(refused(tokens, Wanted::FewerLinks));
+    }
+    braces(alloc, names, links - 1, depth - 1, tokens)
+}
+
+/// Statements in braces.
+#[cycle(statements)]
+fn braces<'a>(
+    alloc: Global,
+    names: &[usize],
+    links: u32,
+    depth: u32,
+    tokens: &'a [Token],
+) -> Reads<'a, Vec<Statement>>
+    requires { length names.now ≤ 16 }
+    ensures { Gives (λ p. (acts_of p.0.items, p.1.now)) result (in_braces (statements_at links depth) names.now tokens.now) }
+{
     let rest = expect(Mark::OpenBlock, tokens)?;
-    let (statements, rest) = row(alloc, names, depth - 1, rest)?;
+    let (statements, rest) = row(alloc, names, links, depth, rest)?;
     let rest = expect(Mark::CloseBlock, rest)?;
     Ok((statements, rest))
 }

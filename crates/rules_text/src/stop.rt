@@ -6,7 +6,7 @@ ghost use Rattle.rules_text.specs.declared.stop.Stop.TheVariants.{Memory, Refuse
 use crate::token::{Mark, Token};
 use std::alloc::{AllocError, AllocFailed};
 
-/// What was wanted where a text is no rule.
+/// What was expected where a text is no rule.
 #[derive(Clone, Copy, Debug, PartialEq, Eq)]
 pub enum Wanted {
     /// A name of at most 64 letters, a number below 2^64, a sign or white space.
@@ -19,6 +19,10 @@ pub enum Wanted {
     Statement,
     /// A table.
     Table,
+    /// An index or `.count`, behind a kind of processes.
+    Member,
+    /// A sort of messages, behind `on`.
+    Sort,
     /// This sign or word.
     Mark(Mark),
     /// A name that is not in use.
@@ -29,11 +33,13 @@ pub enum Wanted {
     LessNesting,
     /// A value of fewer operators: 256 deep is the limit.
     LowerValue,
+    /// Fewer blocks, `else if` and `on` around one another: 1,024 in all is the limit.
+    FewerLinks,
     /// Fewer names at once: 16 is the limit.
     FewerNames,
 }
 
-/// A place where a text is no rule: how many tokens are left there, and what was wanted.
+/// A place where a text is no rule: how many tokens are left there, and what was expected.
 #[derive(Clone, Copy, Debug, PartialEq, Eq)]
 pub struct Refusal {
     pub left: usize,
@@ -45,7 +51,7 @@ pub struct Refusal {
 pub enum Stop {
     /// An allocation failed.
     Memory,
-    /// The tokens spell nothing.
+    /// The tokens form nothing.
     Refused(Refusal),
 }
 

@@ -21,6 +21,12 @@ pub enum Token {
     Table(u32),
     /// An array in the state.
     Array(Array),
+    /// A kind of processes: the first one, and how many there are.
+    Kind(u32, u32),
+    /// `self` in a scope of a kind, by the first process of the kind.
+    Own(u32),
+    /// A sort of messages, by its number.
+    Sort(u64),
     /// A name that the scope lacks; equal names have equal numbers.
     Name(usize),
 }
@@ -56,11 +62,13 @@ pub enum Mark {
     Repeat,
     Min,
     Max,
-    /// `draw`, `exponential` or `geometric`, by its law.
+    /// `draw`, `exponential` or `geometric`, by its distribution.
     Draw(Law),
     Normal,
     Triangular,
     Choose,
+    /// `.count`
+    Count,
     /// A word that this scope keeps from rules: `key`, and the words that draw where the state has
     /// no `key`.
     Kept,

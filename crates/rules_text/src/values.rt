@@ -1,12 +1,13 @@
 // Reads a value, from the left.
 
 ghost use Rattle.std.specs.Prelude.{◌≡◌, ◌+◌, ◌-◌, ◌^◌, ◌≤◌, [], ◌∷◌, None, Some, length, min, MatchOption};
-ghost use Rattle.rules_text.specs.Grammar.{Normal, Two, code, height as height_of, law_code, looseness as looseness_of, place_of, tree_of};
-ghost use Rattle.rules_text.specs.Reading.{Gives, behind as behind_mark, chain as chained, chosen_at, enclosed as enclosed_at, inside, level as level_at, made, by_mark, pair_at, primary as primary_at, sign_at, table_at, three_at, turns as turns_of, value_at};
+ghost use Rattle.rules_text.specs.Grammar.{Normal, Two, code, height as height_of, law_code, looseness as looseness_of, member as member_of, own_place, place_of, tree_of};
+ghost use Rattle.rules_text.specs.declared.token.Mark.TheVariants as m;
+ghost use Rattle.rules_text.specs.Reading.{Gives, and_rest, behind as behind_mark, chain as chained, chosen_at, enclosed as enclosed_at, inside, level as level_at, made, by_mark, of_kind, pair_at, primary as primary_at, sign_at, table_at, three_at, turns as turns_of, value_at};
 
 use crate::stop::{Stop, Wanted, refused};
 use crate::token::{Mark, Token};
-use rules::{Expression, Law, Operator};
+use rules::{Expression, Known, Law, Operator};
 use std::alloc::Global;
 
 /// What was read, and the tokens after it.
@@ -64,10 +65,11 @@ fn code_of(mark: Mark) -> u32
         Mark::Normal => 23,
         Mark::Triangular => 24,
         Mark::Choose => 25,
+        Mark::Count => 26,
     }
 }
 
-/// The number of the mark of a law.
+/// The number of the mark of a distribution.
 fn code_of_law(law: Law) -> u32
     ensures { result ≡ law_code law }
 {
@@ -224,7 +226,7 @@ fn sign<'a>(looseness_wanted: u32, tokens: &'a [Token]) -> Option<(Operator, &'a
     }
 }
 
-/// Goes on behind a left side, while operators of this looseness follow, one more than `k`.
+/// Goes on after a left side, while operators of this looseness follow, one more than `k`.
 #[cycle(values)]
 fn chain<'a>(
     alloc: Global,
@@ -300,9 +302,67 @@ fn primary<'a>(
             let (x, rest) = enclosed(alloc, names, most, depth, Mark::CloseIndex, rest)?;
             checked(Expression::Element(array, Box::new(alloc, x)?), rest)
         }
+        Some((Token::Own(first), rest)) => own(alloc, first, rest),
+        Some((Token::Sort(n), rest)) => Ok((Expression::Number(n), rest)),
+        Some((Token::Kind(first, count), rest)) => {
+            member(alloc, names, most, depth, first, count, rest)
+        }
         Some((Token::Mark(mark), rest)) => { marked(alloc, names, most, depth, mark, tokens, rest) }
         _ => Err(refused(tokens, Wanted::Value)),
     }
+}
+
+/// The place of the process within its kind.
+fn own<'a>(alloc: Global, first: u32, rest: &'a [Token]) -> Reads<'a, Expression>
+    ensures { Gives (λ p. (tree_of p.0, p.1.now)) result (and_rest (Some (own_place first)) rest.now) }
+{
+    let process = Box::new(alloc, Expression::Read(Known::Process))?;
+    let first = Box::new(alloc, Expression::Number(u64::from(first)))?;
+    Ok((Expression::Two(Operator::Minus, process, first), rest))
+}
+
+/// A process of a kind, by its index.
+fn indexed<'a>(
+    alloc: Global,
+    first: u32,
+    count: u32,
+    index: Expression,
+    rest: &'a [Token],
+) -> Reads<'a, Expression>
+    ensures { Gives (λ p. (tree_of p.0, p.1.now)) result (made (member_of first count (tree_of index)) rest.now) }
+{
+    let count = Box::new(alloc, Expression::Number(u64::from(count)))?;
+    let place = Expression::Two(Operator::Modulo, Box::new(alloc, index)?, count);
+    let first = Box::new(alloc, Expression::Number(u64::from(first)))?;
+    checked(
+        Expression::Two(Operator::Plus, first, Box::new(alloc, place)?),
+        rest,
+    )
+}
+
+/// The number of a kind's processes, or one of them by its index.
+#[cycle(values)]
+fn member<'a>(
+    alloc: Global,
+    names: &[usize],
+    most: usize,
+    depth: u32,
+    first: u32,
+    count: u32,
+    tokens: &'a [Token],
+) -> Reads<'a, Expression>
+    requires { length names.now ≤ 16 }
+    ensures { Gives (λ p. (tree_of p.0, p.1.now)) result
+        (of_kind (behind_mark m.Count tokens.now) first count (inside names.now most depth 9) tokens.now) }
+{
+    if let Some(rest) = behind(Mark::Count, tokens) {
+        return Ok((Expression::Number(u64::from(count)), rest));
+    }
+    let Some(rest) = behind(Mark::OpenIndex, tokens) else {
+        return Err(refused(tokens, Wanted::Member));
+    };
+    let (index, rest) = enclosed(alloc, names, most, depth, Mark::CloseIndex, rest)?;
+    indexed(alloc, first, count, index, rest)
 }
 
 /// A value that begins with a mark; `all` begins with it.

@@ -1,7 +1,7 @@
 // Gives the names of a text their meaning.
 
 ghost use Rattle.std.specs.Prelude.{◌≡◌, ◌-◌, IfOk, drop, take};
-ghost use Rattle.rules_text.specs.Scopes.{first_place as place_at, is_same_name, token_by, token_of, tokens_of};
+ghost use Rattle.rules_text.specs.Scopes.{first_place as place_at, is_same_name, name_number, token_by, token_of, tokens_of};
 
 use crate::lexemes::{Lexeme, Placed};
 use crate::scope::Scope;
@@ -28,7 +28,7 @@ fn is_same(text: &[u8], letters: &[u8], one: &Placed) -> bool
     }
 }
 
-/// Where a name stands first.
+/// Where a name is first used.
 fn first_place(text: &[u8], letters: &[u8], all: &[Placed]) -> usize
     ensures { result ≡ place_at text.now letters.now all.now }
 {
@@ -38,6 +38,25 @@ fn first_place(text: &[u8], letters: &[u8], all: &[Placed]) -> usize
         }
     }
     0
+}
+
+/// The number of the name `until`, which no place in a rule has.
+pub(crate) const UNTIL: usize = 65_536;
+
+/// The number of the name `on`, which no place in a rule has either.
+pub(crate) const ON: usize = 65_537;
+
+/// The number of a name that means nothing by itself.
+fn number(text: &[u8], letters: &[u8], all: &[Placed]) -> usize
+    ensures { result ≡ name_number text.now letters.now all.now }
+{
+    if letters == "until".as_bytes() {
+        return UNTIL;
+    }
+    if letters == "on".as_bytes() {
+        return ON;
+    }
+    first_place(text, letters, all)
 }
 
 /// What a lexeme means.
@@ -52,7 +71,7 @@ fn token(scope: &Scope, text: &[u8], all: &[Placed], one: &Placed) -> Token
             let letters = part(text, one.start, one.end);
             match scope.meaning(letters) {
                 Some(token) => token,
-                None => Token::Name(first_place(text, letters, all)),
+                None => Token::Name(number(text, letters, all)),
             }
         }
     }

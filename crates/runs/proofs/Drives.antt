@@ -88,6 +88,8 @@ module _ {M P D : Type 0} (meaning : M → Meaning) (state : P → PortState) (d
     made = goes.made;
     written = λ holds. goes.written (trusts_less b c (running meaning state old) less holds);
     crashes = λ holds. goes.crashes (trusts_less b c (running meaning state old) less holds);
+    durable = goes.durable;
+    leaves = goes.leaves;
   }
 
   -- Steps that were made go on from the session before. They trust the nodes only if `b` says so.

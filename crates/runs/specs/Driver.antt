@@ -327,7 +327,8 @@ module _ {M P D : Type 0} (meaning : M → Meaning) (state : P → PortState) wh
     pub moves : List Move
     pub made : Goes meaning state disk trusted moves old new
 
-  -- the records go on representing the front, if no node is trusted or the session was consistent
+  -- The records go on representing the front, if no node is trusted or the session was consistent.
+  -- The records from before stay in any case.
   abbrev pub Keeps : (D → DiskState) → Bool → Session M P D → Session M P D → Type 0
   Keeps disk trusted old new =
       KeepsRepresentation meaning disk (IsTrusted trusted (running meaning state old)) old new

@@ -40,7 +40,7 @@ pub enum SimulationFault {
     /// A run was asked to stop, and stopped before everything was committed.
     #[error("Stopped")]
     Stopped,
-    /// The plain runner refused.
+    /// The sequential runner refused.
     #[error("World {0}")]
     World(WorldFault),
     /// An allocation failed in a call that has no other name for it.

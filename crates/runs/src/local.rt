@@ -6,6 +6,7 @@ ghost use Rattle.coordinator.specs.declared.SessionFault.{SessionFault};
 ghost use Rattle.coordinator.specs.declared.SessionFault.TheVariants.{Port as OfPort, Reports};
 ghost use Rattle.recovery.specs.Crashes.{KeepsRecovery};
 ghost use Rattle.recovery.specs.Represents.{Recovers, IsGenuine};
+ghost use Rattle.coordinator.specs.Appending.{KeepsOldRecords};
 ghost use Rattle.coordinator.specs.PortFaults.{IsFaultInProgram};
 ghost use Rattle.runs.specs.Driver.{HasCounted, IsRunOver, IsUnfinished, RunHasCause};
 ghost use Rattle.runs.specs.Driver.{SessionRefused, acknowledged};
@@ -87,6 +88,8 @@ pub fn run_local<M: Simulated, D: SectorDisk + Drop, W: Watch>(
     // which it was stopped.
     ensures kept { (v : World) → IsKeptRun (M.meaning model.now) end v (D.state disk)
         (D.state result.disk) (acknowledged result.outcome) }
+    // The records that were on the disk stay, also if they are not genuine.
+    ensures old_records { KeepsOldRecords (D.state disk) (D.state result.disk) }
     ensures committed { IsGenuine (M.meaning model.now) end (D.state disk).reads →
         OnOk result.outcome (Recovers (M.meaning model.now) end end (D.state result.disk)) }
 {

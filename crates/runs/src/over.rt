@@ -6,6 +6,7 @@ ghost use Rattle.coordinator.specs.declared.SessionFault.{SessionFault};
 ghost use Rattle.coordinator.specs.declared.SessionFault.TheVariants.{Port as OfPort, Reports};
 ghost use Rattle.recovery.specs.Crashes.{KeepsRecovery};
 ghost use Rattle.recovery.specs.Represents.{Recovers, IsGenuine};
+ghost use Rattle.coordinator.specs.Appending.{KeepsOldRecords};
 ghost use Rattle.coordinator.specs.Opening.{AllFresh, AllFaithful};
 ghost use Rattle.coordinator.specs.PortFaults.{IsFaultOfPorts};
 ghost use Rattle.runs.specs.Driver.{HasCounted, IsRunOver, IsShortOver, RunHasCause};
@@ -50,10 +51,11 @@ pub struct Ran<D> {
 /// (`Rounds`), if `watch` asked for a stop (`Stopped`), or if an allocation fails (`NoMemory`).
 ///
 /// If the plan's commits are judged, whatever the nodes answer, and also if the ports are faithful
-/// and run this model, what was committed stays on the disk in every case, and all that is committed
-/// is what the sequential simulation does. Of other runs it is only guaranteed that the ports are
-/// asked as the plan says. A judged commit fails with `Session Reports` if what the nodes reported
-/// is not what the simulation does next; over faithful ports none does.
+/// and run this model, what was committed stays on the disk in every case, and all that is
+/// committed is what the sequential simulation does. Of other runs it is guaranteed that the ports
+/// are asked as the plan says, and that the records that were there stay, also after a crash. What
+/// such a run adds is as right as its nodes. A judged commit fails with `Session Reports` if what
+/// the nodes reported is not what the simulation does next; over faithful ports none does.
 pub fn run_over<M: Simulated, P: Port + Drop, D: SectorDisk + Drop, W: Watch>(
     alloc: Global,
     model: &M,
@@ -127,6 +129,10 @@ pub fn run_over<M: Simulated, P: Port + Drop, D: SectorDisk + Drop, W: Watch>(
     ensures kept { TrustsOnlyFaithful plan (M.meaning model.now) (map P.state ports.items) →
         (v : World) → IsKeptRun (M.meaning model.now) end v (D.state disk) (D.state result.disk)
         (acknowledged result.outcome) }
+    // Over any ports, whatever nodes report and whether or not commits are judged, the records that
+    // were on the disk stay: each image that a crash at any moment of the run may leave, or when it
+    // has returned, has them, alone or followed by those of the run.
+    ensures old_records { KeepsOldRecords (D.state disk) (D.state result.disk) }
     ensures committed { TrustsOnlyFaithful plan (M.meaning model.now) (map P.state ports.items) →
         IsGenuine (M.meaning model.now) end (D.state disk).reads →
         OnOk result.outcome (Recovers (M.meaning model.now) end end (D.state result.disk)) }

@@ -1,4 +1,4 @@
-// The picks of a node's next parcel.
+// The picked messages of a node's next parcel.
 
 ghost use Rattle.std.specs.Prelude.{◌≡◌, ◌<◌, ◌^◌, IfOk, length};
 ghost use Rattle.runs.specs.Driver.{places_for};

@@ -141,13 +141,32 @@ fn the_rules_of_a_file_are_read_or_its_mistakes_are_found(rt: HostRuntime) -> Re
     Ok(())
 }
 
+/// A file with an array of 20 bits between two words.
+const NAMED: &str = "
+model = 'rules'
+lps = 2
+end = 9
+state = ['n', 'q[4]: 20 bits', 'm']
+message = ['job']
+[rules]
+start = ''
+handle = ''
+";
+
 #[test]
-fn a_model_has_the_names_of_its_words(rt: HostRuntime) -> Result<(), Fail> {
-    let text = format!(in rt.alloc(); "{KEYS}start = ''\nhandle = ''\n")?;
-    let (model, _end): (FileModel, u64) = read_model(rt.alloc(), text.as_str())?;
-    let (words, contents) = (model.state_names(), model.content_names());
-    assert!(rt; words.len() == 3 && contents.len() == 1);
-    assert!(rt; words[0].as_str() == "n" && words[1].as_str() == "key" && words[2].as_str() == "m");
-    assert!(rt; contents[0].as_str() == "job");
+fn a_model_has_the_names_of_its_words_and_elements(rt: HostRuntime) -> Result<(), Fail> {
+    let (model, _end): (FileModel, u64) = read_model(rt.alloc(), NAMED)?;
+    let printed = match model.names() {
+        Some(names) => format!(in rt.alloc(); "{names:?}")?,
+        None => String::new(rt.alloc()),
+    };
+    assert_eq!(rt; printed.as_str(), "Names { kinds: [Kind { name: \"\", first: 0, count: 2, columns: [\
+        Column { name: \"n\", place: 0, shift: 0, bits: 64 }, \
+        Column { name: \"q[0]\", place: 1, shift: 0, bits: 20 }, \
+        Column { name: \"q[1]\", place: 1, shift: 20, bits: 20 }, \
+        Column { name: \"q[2]\", place: 1, shift: 40, bits: 20 }, \
+        Column { name: \"q[3]\", place: 2, shift: 0, bits: 20 }, \
+        Column { name: \"m\", place: 3, shift: 0, bits: 64 }] }], \
+        sorts: [Sort { name: \"\", words: [\"job\"] }] }");
     Ok(())
 }

@@ -29,6 +29,8 @@ mod shapes;
 #[cfg(test)]
 mod spelled;
 #[cfg(test)]
+mod statistics;
+#[cfg(test)]
 mod waves;
 #[cfg(test)]
 mod writing;

@@ -1,8 +1,11 @@
 // Texts of rules, and which trees they spell. Their mistakes and limits are in the scripts
 // `rules_read` and `hostile_rules`.
 
-use rules::{Array, Statement};
-use rules_text::{Kind, Meaning, Mistake, ReadError, Scope, ScopeError, read_rule};
+use eventkey::Message;
+use model::Model;
+use rules::{Array, Rules, RulesParts, Statement};
+use rules_text::{Kind, Meaning, Mistake, ReadError, Scope, ScopeError, find_mistakes, read_rule};
+use smallvec::SmallVec;
 use std::alloc::Global;
 use std::test::Fail;
 
@@ -71,6 +74,141 @@ fn is_right(alloc: Global, row: &str) -> Result<bool, Fail> {
 fn operators_bind_by_strength_and_from_the_left(rt: HostRuntime) -> Result<(), Fail> {
     for row in VALUES.lines() {
         assert!(rt; is_right(rt.alloc(), row)?, "{row}");
+    }
+    Ok(())
+}
+
+/// A scope of the rules of a kind that begins at process 1, in a model with the kind `teller` of
+/// processes 1 to 3, the sorts `arrive` and `leave` and the state `served`.
+fn scope_of_kind(alloc: Global) -> Result<Scope, ScopeError> {
+    let mut scope = Scope::of_kind(alloc, false, 1);
+    scope.add(alloc, "served", Meaning::Word(0))?;
+    scope.add(alloc, "teller", Meaning::Kind { first: 1, count: 3 })?;
+    scope.add(alloc, "arrive", Meaning::Sort(7))?;
+    scope.add(alloc, "leave", Meaning::Sort(8))?;
+    Ok(scope)
+}
+
+/// Rules in that scope, and the trees that they spell.
+const RULES: &str = "\
+served = teller[self + 1] => [Set(0, Two(Plus, Number(1), Two(Modulo, Two(Plus, Two(Minus, Read(Process), Number(1)), Number(1)), Number(3))))]
+served = teller.count + leave => [Set(0, Two(Plus, Number(3), Number(8)))]
+on arrive { served = 1 } on leave { } => [If(Two(Same, Content(0), Number(7)), [Set(0, Number(1))], [If(Two(Same, Content(0), Number(8)), [], [])])]
+on arrive { } served = 1 on leave { } => [If(Two(Same, Content(0), Number(7)), [], []), Set(0, Number(1)), If(Two(Same, Content(0), Number(8)), [], [])]
+repeat i 5 until served > i { served = i } => [RepeatUntil(0, 5, Two(Above, Word(0), Local(0)), [Set(0, Local(0))])]
+if 1 { let a = 1 } else if 2 { let a = 2 } let a = 3 => [If(Number(1), [Let(0, Number(1))], [If(Number(2), [Let(0, Number(2))], [])]), Let(0, Number(3))]
+let on = 1 repeat until 2 until until { } => [Let(0, Number(1)), RepeatUntil(1, 2, Local(1), [])]
+";
+
+/// Whether a row, `rule => tree`, is right.
+fn is_rule(alloc: Global, row: &str) -> Result<bool, Fail> {
+    let (text, tree) = row.split_once(" => ").ok_or("a row")?;
+    let scope = scope_of_kind(alloc).ok().ok_or("the names are free")?;
+    let rule = read_rule(alloc, &scope, text)
+        .ok()
+        .ok_or("a rule was wanted")?;
+    Ok(format!(in alloc; "{rule:?}")?.as_str() == tree)
+}
+
+#[test]
+fn kinds_sorts_and_ends_of_repeats_are_read(rt: HostRuntime) -> Result<(), Fail> {
+    for row in RULES.lines() {
+        assert!(rt; is_rule(rt.alloc(), row)?, "{row}");
+    }
+    Ok(())
+}
+
+/// Rules in that scope, and what `served` is after a message of the sort `arrive` to process 2.
+const RUNS: &str = "\
+repeat i 9 until served >= 3 { served = served + i } => 3
+repeat i 3 until 0 { served = served + 1 } => 3
+repeat i 3 until 1 { served = 9 } => 0
+on leave { served = 1 } on arrive { served = served + 2 } on arrive { served = 9 } => 2
+served = teller[self + 4] => 3
+";
+
+/// The word `served` after a rule, from 0.
+fn served_after(alloc: Global, text: &str) -> Result<u64, Fail> {
+    let scope = scope_of_kind(alloc).ok().ok_or("the names are free")?;
+    let handle = read_rule(alloc, &scope, text)
+        .ok()
+        .ok_or("a rule was wanted")?;
+    let parts = RulesParts {
+        lps: 4,
+        digest: [0; 4],
+        width: 1,
+        key: None,
+        seed: 0,
+        tables: Vec::new(alloc),
+        start: Vec::new(alloc),
+        handle,
+    };
+    let Ok(model) = Rules::new(parts) else {
+        return Err(Fail::from("a model was wanted"));
+    };
+    let message = Message::new(5, 1, 0, 2, 7, 0, 0, 0)?;
+    let state = SmallVec::from_slice(alloc, &[0])?;
+    let (next, _) = model.handle(alloc, 2, &state, &message);
+    Ok(next.get(0).copied().unwrap_or(0))
+}
+
+/// Whether a row, `rule => served`, is right.
+fn is_run(alloc: Global, row: &str) -> Result<bool, Fail> {
+    let (text, served) = row.split_once(" => ").ok_or("a row")?;
+    let found = served_after(alloc, text)?;
+    Ok(format!(in alloc; "{found}")?.as_str() == served)
+}
+
+#[test]
+fn kinds_sorts_and_ends_of_repeats_are_run(rt: HostRuntime) -> Result<(), Fail> {
+    for row in RUNS.lines() {
+        assert!(rt; is_run(rt.alloc(), row)?, "{row}");
+    }
+    Ok(())
+}
+
+/// Texts in that scope, in which `$` ends a line, and their mistakes.
+const MISTAKES: &str = "\
+served = 1$served = 2 =>
+served = )$let y = 1 < 2 < 3$let z = y + )$served = z + y + w => line 1, column 10: a value is wanted here; line 2, column 15: comparisons do not chain: use brackets; line 3, column 13: a value is wanted here; line 4, column 18: there is nothing named \"w\"
+if served < {$let a = 1$served = a }$repeat i served {$served = i$}$foo = 1 => line 1, column 13: a value is wanted here; line 4, column 10: a number below 2^32 is wanted here; line 7, column 1: there is nothing named \"foo\"
+served = ?$served = teller +$on served { } => line 1, column 10: a sign, a name of at most 64 letters or a number below 2^64 is wanted here; line 2, column 17: \"[\" or \".count\" is wanted here, behind a kind of processes; line 3, column 4: a sort of messages is wanted here, behind on
+";
+
+/// The text of a row, with its lines.
+fn text_of(alloc: Global, row: &str) -> Result<String, Fail> {
+    let mut text = String::new(alloc);
+    for line in row.split('$') {
+        text.push_str(line)?;
+        text.push_str("\n")?;
+    }
+    Ok(text)
+}
+
+/// The mistakes of a text, with `; ` between them.
+fn mistakes_of(alloc: Global, text: &str) -> Result<String, Fail> {
+    let scope = scope_of_kind(alloc).ok().ok_or("the names are free")?;
+    let mut out = String::new(alloc);
+    for mistake in &find_mistakes(alloc, &scope, text)? {
+        if !out.is_empty() {
+            out.push_str("; ")?;
+        }
+        out.push_str(format!(in alloc; "{mistake}")?.as_str())?;
+    }
+    Ok(out)
+}
+
+/// Whether a row, `text => mistakes`, is right.
+fn are_found(alloc: Global, row: &str) -> Result<bool, Fail> {
+    let (text, mistakes) = row.split_once(" =>").ok_or("a row")?;
+    let text = text_of(alloc, text)?;
+    Ok(mistakes_of(alloc, text.as_str())?.as_str() == mistakes.trim())
+}
+
+#[test]
+fn reading_goes_on_behind_a_mistake(rt: HostRuntime) -> Result<(), Fail> {
+    for row in MISTAKES.lines() {
+        assert!(rt; are_found(rt.alloc(), row)?, "{row}");
     }
     Ok(())
 }

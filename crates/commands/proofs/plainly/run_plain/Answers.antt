@@ -1,4 +1,4 @@
-use Rattle.std.proofs.Common.{◌≡◌, [], ap, inl, refl, ◌∙◌}
+use Rattle.std.proofs.Common.{[], ap, inl, refl, ◌∙◌}
 use Rattle.std.specs.Prelude.{◌≤◌, Err}
 use Rattle.recovery.specs.Histories.{IsRunOf}
 use Rattle.recovery.specs.Represents.{IsGenuine}

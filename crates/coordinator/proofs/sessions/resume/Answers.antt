@@ -1,5 +1,6 @@
 use Rattle.std.proofs.Common.{ap, length, map, refl, take}
 use Rattle.coordinator.proofs.Resuming.{driven-on, kept-on, made-all, not_resumed, resumed, stopped-front}
+use Rattle.coordinator.proofs.Appending.{looks_at_old, session_keeps_old}
 use Rattle.coordinator.proofs.Driving.{all-trusted}
 use Rattle.coordinator.specs.Drives.{any_trusts}
 use Rattle.coordinator.specs.Session.{running}
@@ -45,3 +46,20 @@ returns-in-Err-drive-clause-kept g c = λ are_faithful v.
     (running g.M.Model.meaning g.P.Port.state stopped.made) c.drive.new.self.front (g.D.SectorDisk.state c.drive.new.self.log.disk)
     (λ recovers. c.in-Ok.ensures.consistent (genuine recovers) are_faithful) (λ consistent. stopped.moves consistent) (stopped-front _ _ _ _ _ _ _ stopped)
     (λ recovers. driven-on _ _ _ _ c.in-Ok.session.front c.drive.new.self.front c.in-Ok.session.log _ _ model_is end_is (c.drive.ensures.keeps.crashes (all-trusted (any_trusts c.args.steps.now) _ (c.in-Ok.ensures.consistent (genuine recovers) are_faithful).0)) (c.in-Ok.ensures.written (genuine recovers))))
+
+pub returns-in-Err-clause-old_records : goal.returns-in-Err-clause-old_records
+returns-in-Err-clause-old_records g c = looks_at_old (g.D.SectorDisk.state c.args.disk) _ c.in-Err.ensures.looks_err
+
+pub returns-in-Ok-drive-clause-old_records : goal.returns-in-Ok-drive-clause-old_records
+returns-in-Ok-drive-clause-old_records g c =
+    let session = c.in-Ok.session in
+    rw (c.left.ensures)
+    (session_keeps_old (g.D.SectorDisk.state c.args.disk) (g.D.SectorDisk.state session.log.disk) _ session.log.header session.log.records c.in-Ok.ensures.looks c.in-Ok.ensures.durable
+    (c.drive.ensures.keeps.leaves c.in-Ok.ensures.durable))
+
+pub returns-in-Err-drive-clause-old_records : goal.returns-in-Err-drive-clause-old_records
+returns-in-Err-drive-clause-old_records g c =
+    let session = c.in-Ok.session in
+    rw (c.left-in-Err-drive.ensures)
+    (session_keeps_old (g.D.SectorDisk.state c.args.disk) (g.D.SectorDisk.state session.log.disk) _ session.log.header session.log.records c.in-Ok.ensures.looks c.in-Ok.ensures.durable
+    (c.drive.ensures.keeps.leaves c.in-Ok.ensures.durable))

@@ -1,7 +1,7 @@
 use Rattle.std.proofs.Common.{rules, ◌≡◌, map, string_bytes, sym, ap, ◌∙◌}
 use Rattle.rule_files.specs.Printed.{name_at, named_all}
 use Rattle.rule_files.proofs.Right.{on_ok}
-use Rattle.rule_files.proofs.Rows.{choice-named, choice-text, repetition-named, repetition-text}
+use Rattle.rule_files.proofs.Rows.{choice-named, choice-text, repetition-named, repetition-text, test-named, test-text}
 use Rattle.rule_files.proofs.printed.+layout.Goals as goal
 
 pub put_statement-returns-in_ok-put_block-in-If-2-clause-text : goal.put_statement-returns-in_ok-put_block-in-If-2-clause-text
@@ -38,3 +38,22 @@ put_statement-returns-in_ok-put_indent-in-Repeat-clause-number t c =
     c.in_ok-put_block-in-Repeat.ensures.number
     ∙ ap (λ j. named_all c.deref-in-Repeat.result.now j) c.next-in-Repeat.ensures
     ∙ sym (repetition-named _ _ _ _ c.in-Repeat.is _ c.deref-in-Repeat.ensures.value c.args.number.now))
+
+pub put_statement-returns-in_ok-put_indent-in-RepeatUntil-clause-text : goal.put_statement-returns-in_ok-put_indent-in-RepeatUntil-clause-text
+put_statement-returns-in_ok-put_indent-in-RepeatUntil-clause-text t c =
+    let called : c.name_at-in-RepeatUntil.result.now ≡ name_at (map string_bytes c.args.given.now) c.args.number.now = search rules in
+    on_ok c.put-in-RepeatUntil-6.result _ _ c.put-in-RepeatUntil-6.ensures (λ last.
+    test-text _ _ _ _ _ c.in-RepeatUntil.is _ c.deref-in-RepeatUntil.ensures.value
+    c.args.names.now (map string_bytes c.args.given.now) c.args.at _ _ c.args.number.now _ _ _ _ _ _ _ _ _ _ _ _ _ _ _
+    c.with_local-here.ensures c.deeper-in-RepeatUntil.ensures c.next-in-RepeatUntil.ensures c.from-in-RepeatUntil.ensures called
+    c.in_ok-put_margin-in-RepeatUntil.ensures c.in_ok-put-in-RepeatUntil.ensures c.in_ok-put-in-RepeatUntil-2.ensures c.in_ok-put-in-RepeatUntil-3.ensures
+    c.in_ok-put_number-in-RepeatUntil.ensures c.in_ok-put-in-RepeatUntil-4.ensures c.in_ok-put_value-in-RepeatUntil.ensures c.in_ok-put-in-RepeatUntil-5.ensures
+    c.in_ok-put_block-in-RepeatUntil.ensures.text
+    c.in_ok-put_indent-in-RepeatUntil.ensures last)
+
+pub put_statement-returns-in_ok-put_indent-in-RepeatUntil-clause-number : goal.put_statement-returns-in_ok-put_indent-in-RepeatUntil-clause-number
+put_statement-returns-in_ok-put_indent-in-RepeatUntil-clause-number t c =
+    on_ok c.put-in-RepeatUntil-6.result _ _ c.put-in-RepeatUntil-6.ensures (λ last.
+    c.in_ok-put_block-in-RepeatUntil.ensures.number
+    ∙ ap (λ j. named_all c.deref-in-RepeatUntil.result.now j) c.next-in-RepeatUntil.ensures
+    ∙ sym (test-named _ _ _ _ _ c.in-RepeatUntil.is _ c.deref-in-RepeatUntil.ensures.value c.args.number.now))

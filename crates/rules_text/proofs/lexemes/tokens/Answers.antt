@@ -1,8 +1,15 @@
+use Rattle.std.proofs.Common.{rules}
+use Rattle.rules_text.specs.Lexical.{lexemes_at}
+use Rattle.rules_text.specs.Reading.{Gives}
 use Rattle.rules_text.proofs.Whole.{split_found, split_whole}
 use Rattle.rules_text.proofs.lexemes.tokens.Goals as goal
 
 pub returns-clause-found : goal.returns-clause-found
-returns-clause-found c = split_found (λ v. v.items) c.pieces.result c.args.text.now c.pieces.ensures
+returns-clause-found c =
+    let e : Gives (λ v. v.items) c.pieces.result (lexemes_at c.args.text.now) = search rules in
+    split_found (λ v. v.items) c.pieces.result c.args.text.now e
 
 pub returns-clause-only : goal.returns-clause-only
-returns-clause-only c = λ ts splits. split_whole (λ v. v.items) c.pieces.result c.args.text.now ts c.pieces.ensures splits
+returns-clause-only c = λ ts splits.
+    let e : Gives (λ v. v.items) c.pieces.result (lexemes_at c.args.text.now) = search rules in
+    split_whole (λ v. v.items) c.pieces.result c.args.text.now ts e splits

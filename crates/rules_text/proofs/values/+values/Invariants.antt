@@ -21,6 +21,9 @@ decreases-primary l = l.depth * 40 + 5
 abbrev pub decreases-marked : goal.decreases-marked
 decreases-marked l = l.depth * 40 + 4
 
+abbrev pub decreases-member : goal.decreases-member
+decreases-member l = l.depth * 40 + 4
+
 abbrev pub decreases-pair : goal.decreases-pair
 decreases-pair l = l.depth * 40 + 3
 

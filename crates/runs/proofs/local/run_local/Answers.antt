@@ -2,7 +2,9 @@ use Rattle.std.proofs.Common.{List, inr, refl, subst, sym, ◌∙◌}
 use Rattle.std.proofs.lemmas.List.{length-map}
 use Rattle.std.proofs.lemmas.Result.{IfOk-weaker}
 use Rattle.std.specs.Prelude.{IfErr, replicate}
+use Rattle.coordinator.proofs.Appending.{looks_at_old}
 use Rattle.coordinator.proofs.PortFaults.{local-faults}
+use Rattle.disk.specs.Laws.{looks_none}
 use Rattle.recovery.proofs.Crashes.{kept-none}
 use Rattle.runs.proofs.Kept.{kept-stop, stood-under}
 use Rattle.runs.proofs.Ports.{all_fresh, all_faithful, so_many}
@@ -70,3 +72,6 @@ returns-in-Err-clause-kept g c = λ v.
     let disk = g.D.SectorDisk.state c.args.disk in
     kept-stop m c.args.end v disk disk c.in-Err.fault (λ time events cause. absurd (let no = sym c.in-Err.ensures.resources ∙ cause in cc))
     (kept-none m c.args.end v disk disk (stood-under m v.time disk))
+
+pub returns-in-Err-clause-old_records : goal.returns-in-Err-clause-old_records
+returns-in-Err-clause-old_records g c = looks_at_old (g.D.SectorDisk.state c.args.disk) _ (looks_none (g.D.SectorDisk.state c.args.disk))

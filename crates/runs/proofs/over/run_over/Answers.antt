@@ -1,4 +1,5 @@
 use Rattle.std.proofs.Common.{inl, inr, ◌<◌, ◌≤◌, Err, ap, arith, length, map, refl, subst, sym, ◌≡◌, ◌∙◌}
+use Rattle.coordinator.proofs.Appending.{looks_at_old, session_keeps_old}
 use Rattle.coordinator.proofs.Resuming.{driven-on}
 use Rattle.recovery.proofs.Crashes.{back-under, kept-front, kept-none, looked-under, recovers-genuine}
 use Rattle.recovery.specs.Crashes.{KeepsRecovery, RecoversUnderItsEnd}
@@ -307,3 +308,13 @@ returns-clause-kept g c = λ only_faithful v.
           kept-front m end v old (state last.log.disk) front upto time events stop.1 stop.2 under)
           (kept-none m end v old (state last.log.disk) (λ recovers. back-under m v.time front.time old (state last.log.disk) (under recovers))))
     ]
+
+pub returns-in-Err-clause-old_records : goal.returns-in-Err-clause-old_records
+returns-in-Err-clause-old_records g c = looks_at_old (g.D.SectorDisk.state c.args.disk) _ c.in-Err.ensures.looks_err
+
+pub returns-clause-old_records : goal.returns-clause-old_records
+returns-clause-old_records g c =
+    let first = c.in-Ok.session in
+    rw c.into_disk.ensures
+    (session_keeps_old (g.D.SectorDisk.state c.args.disk) (g.D.SectorDisk.state first.log.disk) _ first.log.header first.log.records c.in-Ok.ensures.looks c.in-Ok.ensures.durable
+    (c.run_session.ensures.keeps.leaves c.in-Ok.ensures.durable))

@@ -4,7 +4,7 @@ use Rattle.protocol.specs.Moves.Move.{Take}
 use Rattle.runs.specs.Driver.{IsDrivenBy, IsNext, IsPostIf, IsRefusedIn, goes_on, moves_of, trusts_by}
 use Rattle.runs.specs.Tallies.{Tallied}
 use Rattle.runs.proofs.Counts.{both_tallied}
-use Rattle.runs.proofs.Drives.{driven_so, on_ok, then_by, then_represents}
+use Rattle.runs.proofs.Drives.{driven_so, on_ok, stood-keeps, then_by, then_represents}
 use Rattle.runs.proofs.Shapes.{take_then_post}
 use Rattle.runs.proofs.Refused.{passed_on, after_take, refused_first, refused_then}
 use Rattle.runs.proofs.rounds.next_turn.Goals as goal
@@ -33,3 +33,6 @@ returns-clause-refused g c = λ fault is.
     subst (λ (o : Option ℕ). IsRefusedIn g.M.Model.meaning g.P.Port.state g.D.SectorDisk.state (IsNext c.args.round c.args.node o) c.args.session.now c.post_again.new.session fault) c.in-Some.ensures
     (refused_then g.M.Model.meaning g.P.Port.state g.D.SectorDisk.state (λ taken. moves_of taken ≡ Take c.args.node ∷ []) (IsPostIf (goes_on c.args.round c.in-Some.floor) c.args.round.plan c.args.node) (IsNext c.args.round c.args.node (Some c.in-Some.floor)) c.args.session.now c.take.new.session c.post_again.new.session fault
     (take_then_post c.args.round c.args.node c.in-Some.floor) c.in_ok-take.ensures.driven (c.post_again.ensures.refused fault is))
+
+pub returns-in_default-clause-keeps : goal.returns-in_default-clause-keeps
+returns-in_default-clause-keeps g c = stood-keeps g.M.Model.meaning g.P.Port.state g.D.SectorDisk.state (trusts_by c.args.round.plan) c.args.session.now

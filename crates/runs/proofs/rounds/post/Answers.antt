@@ -3,7 +3,7 @@ use Rattle.std.specs.Prelude.{List, Option, Some, set}
 use Rattle.runs.specs.Driver.{IsPost, floor_in, trusts_by}
 use Rattle.runs.specs.Tallies.{Tallied}
 use Rattle.runs.proofs.Counts.{not_counted}
-use Rattle.runs.proofs.Drives.{one_step_by, step-keeps}
+use Rattle.runs.proofs.Drives.{one_step_by, step-keeps, stood-keeps}
 use Rattle.runs.proofs.Shapes.{all_picked, is_post}
 use Rattle.runs.proofs.Refused.{of_step, refused_at_once}
 use Rattle.protocol.specs.declared.Answer.TheVariants.{AlreadyAt}
@@ -30,3 +30,6 @@ returns-in_err-answer-clause-keeps g c = step-keeps g.M.Model.meaning g.P.Port.s
 
 pub returns-clause-keeps : goal.returns-clause-keeps
 returns-clause-keeps g c = step-keeps g.M.Model.meaning g.P.Port.state g.D.SectorDisk.state (trusts_by c.args.round.plan) _ c.args.session.now c.step.new.self _ c.step.ensures (λ is. refl)
+
+pub returns-in_err-picks-clause-keeps : goal.returns-in_err-picks-clause-keeps
+returns-in_err-picks-clause-keeps g c = stood-keeps g.M.Model.meaning g.P.Port.state g.D.SectorDisk.state (trusts_by c.args.round.plan) c.args.session.now

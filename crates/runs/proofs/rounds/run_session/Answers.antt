@@ -2,12 +2,12 @@ use Rattle.std.proofs.Common.{◌≡◌, ◌+◌, ℕ, List, refl, ap, arith, su
 use Rattle.std.proofs.lemmas.List.{length-replicate}
 use Rattle.model.specs.World.{World}
 use Rattle.std.specs.Prelude.{None, Option}
-use Rattle.runs.specs.Driver.{AreCounts, AreRounds, AreRoundsOfRun, IsRound, commits_in, reported_since, round_after}
+use Rattle.runs.specs.Driver.{AreCounts, AreRounds, AreRoundsOfRun, IsRound, commits_in, reported_since, round_after, trusts_by}
 use Rattle.runs.specs.Budgets.{first_budget}
 use Rattle.runs.specs.declared.budgets.NodeBudget.{NodeBudget}
 use Rattle.runs.specs.Tallies.{IsTallied, IsTallyOf}
 use Rattle.runs.proofs.Counts.{none_handled, round_more}
-use Rattle.runs.proofs.Drives.{all_made, driven_so, driven_represents, finished, shaped_by, stood_by, then_after, then_represents}
+use Rattle.runs.proofs.Drives.{all_made, driven_represents, driven_so, finished, shaped_by, stood-keeps, stood_by, then_after, then_represents}
 use Rattle.runs.proofs.Refused.{passed_on, refused_after}
 use Rattle.runs.proofs.Shapes.{one_round_more, rounds_before}
 use Rattle.runs.proofs.rounds.run_session.Goals as goal
@@ -110,3 +110,6 @@ returns-in_err-make_round-clause-refused g c = λ fault e.
 
 pub returns-clause-count : goal.returns-clause-count
 returns-clause-count g c = ap length c.into_handled_per_node.ensures ∙ c.rounds.invariant.sized.handled
+
+pub returns-in_err-tally-clause-keeps : goal.returns-in_err-tally-clause-keeps
+returns-in_err-tally-clause-keeps g c = stood-keeps g.M.Model.meaning g.P.Port.state g.D.SectorDisk.state (trusts_by c.args.plan) c.args.session.now
