@@ -17,7 +17,7 @@ use Rattle.upkeep.specs.declared.salvaging.Salvaged.{Salvaged}
 use Rattle.views.specs.Reading.{IsBelieved, IsOn, IsOnRow}
 use Rattle.views.specs.Views.{Describes}
 
--- the name of a fault of a record, behind a space
+-- the name of a fault of a record, after a space
 abbrev pub fault_name : RecoveryFault → List ℕ
 fault_name OtherModel = codes " OtherModel"
 fault_name BadRecord = codes " BadRecord"
@@ -30,7 +30,7 @@ fault_name (Log fault) = codes " Log"
 fault_name BadEnd = codes " BadEnd"
 
 -- Why a record is not taken over, by what is wrong with it and whether its gate is open. The old log
--- may just have ended at a closed gate; zeros behind it look like a record without a kind.
+-- may just have ended at a closed gate; zeros after it look like a record without a kind.
 abbrev pub reason_of : RecoveryFault → Bool → List ℕ
 reason_of (Log fault) true = codes ": no whole record"
 reason_of (Log fault) false = codes ": none, its gate is closed"
@@ -44,12 +44,12 @@ reason_of NoMemory is_open = codes ": NoMemory"
 reason_of NumberLimit is_open = codes ": NumberLimit"
 reason_of BadEnd is_open = codes ": BadEnd"
 
--- the time and the number of events of a world, behind a text
+-- the time and the number of events of a world, after a text
 abbrev pub seen_text : List ℕ → ℕ → ℕ → List ℕ
 seen_text before time events =
     (before ++ decimal time) ++ (codes " events " ++ decimal events) ++ codes "\n"
 
--- How many records were taken over, of how many that stand whole in a row; what they represent; and
+-- How many records were taken over, of how many whole ones in a row; what they represent; and
 -- why the next one, counted from 0, was not.
 abbrev pub numbers_text : Salvaged → List ℕ
 numbers_text is = (codes "recovered " ++ decimal is.records) ++ (codes " of " ++ decimal is.whole)

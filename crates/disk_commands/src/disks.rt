@@ -39,12 +39,12 @@ use views::{Beginning, Begun, read_model_file, simulation_in, write_believed_lin
 pub struct NewFile {
     /// The number of sectors that it gets.
     pub sectors: u32,
-    /// Whether it gets its whole room on the device at once.
+    /// Whether it has all its sectors reserved on the device.
     pub room: Room,
 }
 
 impl NewFile {
-    /// A file of this many sectors, which gets its whole room on the device at once or not.
+    /// A file of this many sectors, all of them reserved on the device or not.
     pub fn of(sectors: u32, reserve: bool) -> NewFile
         ensures { result.sectors ≡ sectors }
     {
@@ -151,7 +151,7 @@ where
     }
 }
 
-/// Whether a plain file that may be written has no bytes.
+/// Whether an ordinary file that may be written has no bytes.
 fn is_empty(found: Metadata) -> bool {
     found.is_file() && found.len() == 0 && !found.permissions().readonly()
 }
@@ -162,7 +162,7 @@ fn noted(error: FileError, said: &SystemErrors) -> Fault {
     Fault::from(error.fault)
 }
 
-/// Refuses a disk on which no log is made, before anything is written: one that has records behind a
+/// Refuses a disk on which no log is made, before anything is written: one that has records after a
 /// closed gate, and unless `over` is set, one that holds other bytes.
 pub fn refuse_contents(disk: &mut FileDisk, over: bool, said: &SystemErrors) -> Result<(), Fault>
     ensures shut { OnOk result (IsShut disk.old.reads → IsZeroFrom 3 disk.old.reads) }
@@ -260,10 +260,10 @@ fn begins_record(sector: &[u8; 512]) -> bool {
     (1..=5).contains(&sector[0]) && sector[1] <= 1
 }
 
-/// Refuses a disk that has records behind a closed gate, before anything is written.
+/// Refuses a disk that has records after a closed gate, before anything is written.
 ///
 /// A power cut while `new` writes may leave any bytes in the sectors of the header and of the first
-/// gate, which may then look as if there were a record. But it leaves zeros in all sectors behind
+/// gate, which may then look as if there were a record. But it leaves zeros in all sectors after
 /// them, and no record has only zeros: its first byte there is its kind.
 fn refuse_records(disk: &mut FileDisk) -> Result<(), Fault>
     ensures kept { OnOk result (IsShut disk.old.reads → IsZeroFrom 3 disk.old.reads) }
@@ -276,7 +276,7 @@ fn refuse_records(disk: &mut FileDisk) -> Result<(), Fault>
     }
 }
 
-/// Refuses a disk that has other bytes than zeros behind the gate of the first record.
+/// Refuses a disk that has other bytes than zeros after the gate of the first record.
 fn refuse_data(disk: &mut FileDisk) -> Result<(), Fault>
     ensures zeros { OnOk result (IsZeroFrom 3 disk.old.reads) }
     ensures looks { OnlyLooks (disk_of_file disk.old) (disk_of_file disk.new) }
@@ -413,7 +413,7 @@ fn is_used(
 }
 
 /// Whether a disk has neither a log nor anything else: the gate of its header, that of the first
-/// record and all sectors behind it have only zeros.
+/// record and all sectors after it have only zeros.
 pub fn is_blank(disk: &mut FileDisk) -> bool
     ensures blank { result ≡ true → IsUnused disk.old.reads }
     ensures looks { OnlyLooks (disk_of_file disk.old) (disk_of_file disk.new) }
@@ -436,7 +436,7 @@ fn is_zero(disk: &mut FileDisk, number: u32) -> bool
 }
 
 /// Makes the disk of the model of a file longer. If it has the number of sectors already, `progress`
-/// is told that nothing has changed.
+/// sees that nothing has changed.
 pub fn grow_on<M, R, P, O>(
     rt: &R,
     args: GrowArgs<'_>,

@@ -35,7 +35,7 @@ pub enum Fault {
     /// made, or its program did not start or connect.
     #[error("File")]
     File,
-    /// The plain runner refused.
+    /// The sequential runner refused.
     #[error("World {0}")]
     World(WorldFault),
     /// The log of a disk was not made, or not opened.
@@ -75,7 +75,7 @@ pub enum Fault {
     /// A segment was not made, or does not go on from the disk that it should go on from.
     #[error("Segment {0}")]
     Segment(SegmentFault),
-    /// `new` found records behind a closed gate.
+    /// `new` found records after a closed gate.
     #[error("Shut")]
     Shut,
     /// The gate of a disk's header was not opened again.
@@ -205,7 +205,7 @@ const CHANGED: &str =
                        records before it: the file was changed after it was written; `recover` \
                        writes its good records to a new disk";
 
-/// Advice for a fault of the plain runner.
+/// Advice for a fault of the sequential runner.
 fn of_world(fault: WorldFault) -> Option<&'static str> {
     match fault {
         WorldFault::NoMemory => Some(NO_MEMORY),

@@ -155,7 +155,7 @@ fn write_numbers<O: Write>(salvaged: Salvaged, out: &mut O) -> IoResult<()>
     write_number(" of ", salvaged.whole, out)
 }
 
-/// Writes the time and the number of events of a world behind a text, and the end of the line.
+/// Writes the time and the number of events of a world after a text, and the end of the line.
 fn write_seen<O: Write>(before: &str, time: u64, events: u64, out: &mut O) -> IoResult<()>
     ensures { Writes (O.contents out.old) (O.contents out.new) result
         (seen_text before.now time events) }
@@ -175,7 +175,7 @@ fn write_stop<O: Write>(salvaged: Salvaged, out: &mut O) -> IoResult<()>
 }
 
 /// Why a record is not taken over, by what is wrong with it and whether its gate is open. The old
-/// log may just have ended at a closed gate; zeros behind it look like a record without a kind.
+/// log may just have ended at a closed gate; zeros after it look like a record without a kind.
 fn reason_of(stop: RecoveryFault, is_open: bool) -> &'static str
     ensures { result.now ≡ reason_of stop is_open }
 {
@@ -194,7 +194,7 @@ fn reason_of(stop: RecoveryFault, is_open: bool) -> &'static str
 }
 
 /// Closes the gate of the first record at fault on the disk of the model of a file. Writes what
-/// that takes away and flushes the writer before, and what the disk then represents behind it. The
+/// that takes away and flushes the writer before, and what the disk then represents after it. The
 /// origin of a segment is believed; a line says so.
 pub fn cut_on<M, R, P, O>(
     rt: &R,
@@ -280,7 +280,7 @@ fn write_fault<O: Write>(cut: CutLog, out: &mut O) -> IoResult<()>
     write_text("\n", out)
 }
 
-/// The name of a fault of a record, behind a space.
+/// The name of a fault of a record, after a space.
 fn fault_name(fault: RecoveryFault) -> &'static str
     ensures { result.now ≡ fault_name fault }
 {

@@ -1,4 +1,4 @@
-// What is behind the fault of a command, beyond its name.
+// The cause of a command's fault, in more words than its name.
 
 use crate::fault::Fault;
 use disk::SystemError;

@@ -1,4 +1,4 @@
--- The row of a trace for a turn of a node, and for a commit without nodes (this project's profile).
+-- The row of a trace for a turn of a node, and for a commit without nodes.
 use Rattle.std.specs.Prelude.{ℕ}
 use Rattle.runs.specs.declared.tally.Turn.{Turn}
 use Rattle.pictures.specs.declared.turns.Row.{Row}

@@ -556,7 +556,7 @@ where
     M: Modelled,
     P: Progress,
     ensures last { IfErr result (λ last. last.outcome ≡ ended.outcome) }
-    // The same disk, with zeros behind it; and a call of a history, at every exit.
+    // The same disk, with zeros after it; and a call of a history, at every exit.
     ensures longer { IfOk result (λ disk. (sectors : ℕ)
         × (disk.reads ≡ grown_to sectors ended.disk.reads)) }
     ensures kept { IfOk result (λ disk. KeepsAll (M.meaning of.now.model)

@@ -61,7 +61,7 @@ where
     status
 }
 
-/// The words of the command line, with the option for advice behind the command's name if the
+/// The words of the command line, with the option for advice after the command's name if the
 /// environment asks for it.
 fn asked<R: Env + AllocGlobal>(rt: &R) -> IoResult<Vec<String>> {
     let mut words = words(rt)?;
@@ -79,7 +79,7 @@ fn has_advice<R: Env + AllocGlobal>(rt: &R, value: &str) -> bool {
     }
 }
 
-/// Whether the option for advice can be put behind the first word of these, which is the program's
+/// Whether the option for advice can be put after the first word of these, which is the program's
 /// name, and the second: that names a command, and they have neither the option nor the one that
 /// excludes it.
 fn takes_advice(words: &[String]) -> bool {

@@ -55,7 +55,7 @@ abbrev pub lines_text : Option (ℕ × ℕ) → List ℕ
 lines_text None = []
 lines_text (Some (time, events)) = origin_text time events
 
--- the lines behind those of a disk that begins as its model does, and behind those of a segment
+-- the lines after those of a disk that begins as its model does, and after those of a segment
 abbrev pub IsOriginText : ℕ → List (List ℕ) → Option Origin → List ℕ → Type 0
 IsOriginText lps image None text = text ≡ []
 IsOriginText lps image (Some o) text =
@@ -119,7 +119,7 @@ line_text None = []
 line_text (Some (time, None)) = believed_text time
 line_text (Some (time, Some events)) = followed_text time events
 
--- the line behind those of a verified disk
+-- the line after those of a verified disk
 abbrev pub IsLineBehind : Meaning → ℕ → {S : Type 0} → Option S → List (List ℕ) → Option Origin →
     List ℕ → Type 0
 IsLineBehind m end None image None line = line ≡ []

@@ -146,7 +146,7 @@ fn identity_of(from: &[u64]) -> Identity {
 }
 
 impl Difference {
-    /// What to do so that the disk and the model file belong together, if the difference tells.
+    /// What to do so that the disk and the model file belong together, if the difference shows it.
     pub fn advice(&self) -> Option<&'static str> {
         let (disk, file) = (self.disk, self.file);
         if disk.format == 1 && file.format == FORMAT {

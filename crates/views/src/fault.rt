@@ -43,7 +43,7 @@ pub enum ViewFault {
     /// A file cannot be read, or is not a disk of the requested size.
     #[error("File")]
     File,
-    /// The plain runner refused.
+    /// The sequential runner refused.
     #[error("World {0}")]
     World(WorldFault),
     /// The log of a disk was not opened.

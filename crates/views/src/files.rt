@@ -1,4 +1,4 @@
-// The commands on a model file alone: `seq` by the plain runner, and `check`.
+// The commands on a model file alone: `seq` by the sequential runner, and `check`.
 
 ghost use Rattle.std.specs.Prelude.{◌≡◌, ◌≤◌, ◌^◌, ◌≢◌, ◌⊎◌, ℕ, List, Option, Err, length};
 ghost use Rattle.std.specs.Prelude.{map, IfOk, IsOkUnless, IsSomeAnd, MatchResult, OnErr, OnOk};
@@ -45,7 +45,7 @@ where
     }
 }
 
-/// Runs the model of a file by the plain runner, and writes the log and then the world.
+/// Runs the model of a file by the sequential runner, and writes the log and then the world.
 fn seq_of<M, R, O>(rt: &R, model: ModelFile<'_>, out: &mut O) -> Result<(), ViewFault>
 where
     M: Described,
@@ -159,7 +159,7 @@ where
     M: Described,
     R: Files + AllocGlobal,
 {
-    // what is not a plain file may give its bytes once
+    // what is not an ordinary file may give its bytes once
     if !fs::metadata(rt, model.path).ok()?.is_file() {
         return None;
     }
@@ -334,7 +334,7 @@ fn write_whole<O: Write>(values: &str, out: &mut O) -> Result<(), ViewFault>
     flushed(write_checked(values, out), out)
 }
 
-/// Flushes a writer behind what was written to it, if all of that was written.
+/// Flushes a writer after what was written to it, if all of that was written.
 pub(crate) fn flushed<O: Write>(written: IoResult<()>, out: &mut O) -> Result<(), ViewFault>
     ensures written { (old : Option (List ℕ)) (text : List ℕ) →
         Writes old (O.contents out.old) written text → Writes old (O.contents out.new) result text }

@@ -19,7 +19,7 @@ use texts::Described;
 /// A command that only reads, with its arguments.
 #[derive(Clone, Copy, Debug, PartialEq, Eq)]
 pub enum Look<'a> {
-    /// How far the run on a disk has come, and how much room is left.
+    /// How far the run on a disk has come, and how many sectors are free.
     Status(StatusArgs<'a>),
     /// What a disk is, without its model file.
     Info(InfoArgs<'a>),
@@ -33,7 +33,7 @@ pub enum Look<'a> {
     Stats(StatsArgs<'a>),
     /// The picture of a run.
     Draw(DrawArgs<'a>),
-    /// The log and the world of a run by the plain runner.
+    /// The log and the world of a run by the sequential runner.
     Seq(SeqArgs<'a>),
     /// Whether a file is a model file.
     Check(ModelArgs<'a>),
