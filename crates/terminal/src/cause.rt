@@ -189,9 +189,10 @@ enum Step<'a> {
 /// order in which the command takes its paths.
 ///
 /// `noted` is the system's error at the opening of the disk that the command writes. It is the cause
-/// if no other one is found, or if the disk could not be made for lack of room. `unmet` is the
-/// system's error of the call that failed as node programs or a run were met. It is the cause if the
-/// files say no more than that they were not met.
+/// if no other one is found, or if the disk could not be made for lack of room; what a run does
+/// after its disk is open is then no cause. `unmet` is the system's error of the call that failed as
+/// node programs or a run were met. It is the cause if the files say no more than that they were not
+/// met.
 pub fn cause_of<'a, R>(
     rt: &R,
     command: Command<'a>,
@@ -201,7 +202,7 @@ pub fn cause_of<'a, R>(
 where
     R: Files<File = File> + AllocGlobal,
 {
-    let seen = seen_cause(rt, command);
+    let seen = seen_cause(rt, command, noted.is_some());
     if let Some(unmet) = unmet {
         return cause_of_unmet(command, seen, unmet);
     }
@@ -359,14 +360,15 @@ fn is_of_room(error: SystemError) -> bool {
     )
 }
 
-/// The first cause that the paths of a command show.
-fn seen_cause<'a, R>(rt: &R, command: Command<'a>) -> Option<Cause<'a>>
+/// The first cause that the paths of a command show. `has_failed_at_disk` says whether the system
+/// refused a call on the disk.
+fn seen_cause<'a, R>(rt: &R, command: Command<'a>, has_failed_at_disk: bool) -> Option<Cause<'a>>
 where
     R: Files<File = File> + AllocGlobal,
 {
     match command {
         Command::New(args) => first_of_new(rt, args),
-        Command::Run(args) => first_of_run(rt, args),
+        Command::Run(args) => first_of_run(rt, args, has_failed_at_disk),
         Command::Extend(args) => first_of_writer(rt, args),
         Command::Grow(args) => first_of_writer(rt, args.on),
         Command::Migrate(args) => first_of_migration(rt, args),
@@ -490,8 +492,9 @@ fn first_of_drawing<'a, R: Files<File = File>>(rt: &R, args: DrawArgs<'a>) -> Op
     }
 }
 
-/// The first cause of `run`.
-fn first_of_run<'a, R>(rt: &R, args: RunArgs<'a>) -> Option<Cause<'a>>
+/// The first cause of `run`. A run that has failed at its disk has neither failed to meet node
+/// programs nor to write its trace.
+fn first_of_run<'a, R>(rt: &R, args: RunArgs<'a>, has_failed_at_disk: bool) -> Option<Cause<'a>>
 where
     R: Files<File = File> + AllocGlobal,
 {
@@ -500,7 +503,7 @@ where
         return early;
     }
     let cause = first_of_begun(rt, args);
-    if cause.is_some() {
+    if cause.is_some() || has_failed_at_disk {
         return cause;
     }
     last_of_run(rt, args)
