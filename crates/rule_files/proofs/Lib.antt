@@ -4,4 +4,7 @@ pub mod Names
 pub mod Right
 pub mod BothKinds
 pub mod Rows
+pub mod Choice
+pub mod KindsRight
+pub mod KindLists
 pub mod Columns

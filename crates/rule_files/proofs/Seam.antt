@@ -1,8 +1,11 @@
 -- What is spelled is a rule.
 use Rattle.std.proofs.Common.{◌≡◌, ◌≤◌, ◌<◌, ℕ, ◌+◌, ◌*◌, ◌&&◌, List, [], ◌∷◌, Bool, true, false, Option, Some, None, ap, refl, sym, ◌∙◌, subst, arith, max, nat_le}
 use Rattle.std.proofs.lemmas.Bool.Decides.{nat_tests}
-use Rattle.rule_files.specs.Reading.{Spells, act_cost, acts_cost, are_within, dictionary, is_rule, tree_cost}
+use Rattle.rule_files.specs.Reading.{Spells, MOST_STEPS, act_cost, acts_cost, are_short, are_within, dictionary, is_rule, is_short_rule, tree_cost}
+use Rattle.rule_files.specs.FileTable.{rule_fits, text_fits}
+use Rattle.rule_files.specs.Kinds.{IsRuleAt, short_rule_fits, text_in, text_is_short}
 use Rattle.rule_files.specs.RuleFile.{Parts}
+use Rattle.toml.specs.Data.{Members}
 use Rattle.rules.specs.Costs.{cost, cost_of, cost_of_all, cost_of_row, draw_cost, send_cost, step_cost}
 use Rattle.rules.specs.Limits.{Exceeds, IsWithin}
 use Rattle.rules.specs.declared.limits.Limit.{Limit}
@@ -135,3 +138,46 @@ module _ (p : Parts) (text : List ℕ) (scope : Dictionary) (e : scope ≡ dicti
 
   pub no_rule : (err : ReadError) (mistake : Mistake) → err ≡ Mistaken mistake → ((acts : Acts) → IsRule scope text acts → IsForMemory err) → is_rule p text ≡ false
   no_rule err mistake is only = not_spelled p text (λ acts h. subst IsForMemory is (only acts (subst (λ d. IsRule d text acts) (sym e) h)))
+
+-- 5. The rule of a kind
+
+pub under : (a m : ℕ) → a ≤ m → nat_le a m ≡ true
+under a m h = grind (arith, nat_tests)
+
+pub not_under : (a m : ℕ) → (a ≤ m → ⊥) → nat_le a m ≡ false
+not_under a m h = grind (arith, nat_tests)
+
+both_are : (a b c d : Bool) → a ≡ c → b ≡ d → (a && b) ≡ (c && d)
+both_are a b c d p q = ap (λ z. z && b) p ∙ ap (λ z. c && z) q
+
+short_is : (xs : List Statement) → IsWithin xs → are_short (Some (acts_of xs)) ≡ nat_le (cost_of_all Steps xs) MOST_STEPS
+short_is xs within =
+    both_are _ _ true _ (costs_are xs ∙ below (cost_of_all Sends xs) (cost_of_all Draws xs) (cost_of_all Steps xs) within.sends within.draws within.steps)
+    (ap (λ n. nat_le n MOST_STEPS) (acts_cost_is Steps xs))
+
+pub short_by : (p : Parts) (text : List ℕ) (rule : List Statement) → Spells p text rule → IsWithin rule → is_short_rule p text ≡ nat_le (cost_of_all Steps rule) MOST_STEPS
+unfolding Spells is_short_rule
+short_by p text rule h within = ap are_short (read_is (dictionary p) text (acts_of rule) h) ∙ short_is rule within
+
+pub short_spelled : (p : Parts) (text : List ℕ) (rule : List Statement) → Spells p text rule → IsWithin rule → cost_of_all Steps rule ≤ MOST_STEPS → is_short_rule p text ≡ true
+short_spelled p text rule h within short = short_by p text rule h within ∙ under (cost_of_all Steps rule) MOST_STEPS short
+
+-- a text that is no rule is none of a kind
+not_short : (o : Option Acts) → are_within o ≡ false → are_short o ≡ false
+not_short None h = refl
+not_short (Some acts) h = ap (λ b. b && nat_le (acts_cost Steps acts) MOST_STEPS) h
+
+pub no_short_rule : (p : Parts) (text : List ℕ) → is_rule p text ≡ false → is_short_rule p text ≡ false
+unfolding is_rule is_short_rule
+no_short_rule p text h = not_short (read_at (dictionary p) text) h
+
+module _ (p : Parts) (key : List ℕ) (t : Members) where
+  pub short_fits : (rule : List Statement) → IsRuleAt key p t rule → IsWithin rule → short_rule_fits key t p ≡ nat_le (cost_of_all Steps rule) MOST_STEPS
+  short_fits rule h within = ap (λ o. text_is_short o p) h.1 ∙ short_by p h.0 rule h.2 within
+
+  by_text : (o : Option (List ℕ)) → text_fits o p ≡ false → text_is_short o p ≡ false
+  by_text None h = refl
+  by_text (Some text) h = no_short_rule p text h
+
+  pub no_short : rule_fits key t p ≡ false → short_rule_fits key t p ≡ false
+  no_short h = by_text (text_in key t) h

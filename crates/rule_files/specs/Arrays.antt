@@ -1,10 +1,10 @@
 -- Arrays in the state of a model by rules: which text declares one, and the names of its words.
-use Rattle.std.specs.Prelude.{ℕ, zero, suc, ◌+◌, ◌-◌, ◌*◌, List, [], ◌∷◌, ◌++◌, Bool, ◌&&◌, ◌||◌}
+use Rattle.std.specs.Prelude.{ℕ, zero, suc, ◌+◌, ◌-◌, ◌*◌, List, [], ◌∷◌, ◌++◌, Bool, ◌&&◌, ◌||◌, true, false, not}
 use Rattle.std.specs.Prelude.{◌==◌, Option, Some, None, codes, decimal, drop, if◌then◌else◌, length}
 use Rattle.std.specs.Prelude.{map, min, nat_le, nat_lt, string_bytes, take}
 use Rattle.std.specs.Str.{bytes_eq}
 use Rattle.std.specs.List.{after_first, before_first, position_or_len}
-use Rattle.rule_files.specs.Names.{is_name, is_word}
+use Rattle.rule_files.specs.Names.{is_key, is_name, is_word}
 use Rattle.rule_files.specs.declared.arrays.NamedArray.{NamedArray}
 use Rattle.rule_files.specs.declared.arrays.StateNames.{StateNames}
 use Rattle.rules.specs.Elements.{per_word, words_of}
@@ -128,3 +128,40 @@ with_word name s =
 
 abbrev pub with_item : List ℕ → State → Option State
 with_item text s = if is_word text then with_word text s else with_declared (declared_in text) s
+
+-- 4. A state that begins with the key, as each does where one kind of processes has it
+
+-- the place of the key among the words of the state
+abbrev pub key_from : ℕ → List (List ℕ) → Option ℕ
+key_from i [] = None
+key_from i (word ∷ words) = if is_key word then Some i else key_from (i + 1) words
+
+-- the words without the first key, or all of them if that has been left out
+abbrev pub but_key : Bool → List (List ℕ) → List (List ℕ)
+but_key out [] = []
+but_key out (word ∷ words) =
+    if not out && is_key word then but_key true words else word ∷ but_key out words
+
+-- what stood before the key, or anywhere if there was none, stands one place later
+abbrev pub is_later : Option ℕ → ℕ → Bool
+is_later None place = true
+is_later (Some key) place = nat_lt place key
+
+abbrev pub moved : Option ℕ → Array → Array
+moved key a = record {
+  place = if is_later key a.place then min (a.place + 1) 255 else a.place;
+  bits = a.bits;
+  count = a.count;
+}
+
+abbrev pub moved_arrays : Option ℕ → List (List ℕ × Array) → List (List ℕ × Array)
+moved_arrays key arrays = map (λ a. (a.0, moved key a.1)) arrays
+
+abbrev pub key_first : State → State
+key_first s = record {
+  words = codes "key" ∷ but_key false s.words;
+  arrays = moved_arrays (key_from 0 s.words) s.arrays;
+}
+
+abbrev pub few_words : State → Option State
+few_words s = if nat_le (length s.words) 16 then Some s else None

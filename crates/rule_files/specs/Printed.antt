@@ -8,10 +8,13 @@ use Rattle.rule_files.specs.Reading.{value_of}
 use Rattle.rules.specs.declared.arrays.Array.{Array}
 use Rattle.rule_files.specs.RuleFile.{other_names}
 use Rattle.rule_files.specs.declared.file_model.FileNames.{FileNames}
+use Rattle.rule_files.specs.declared.file_model.KindNames.{KindNames}
+use Rattle.rule_files.specs.declared.kinds.Head.{Head}
 use Rattle.rule_files.specs.declared.printed.Layout.{Layout}
 use Rattle.rule_files.specs.declared.printed.Otherwise.{Otherwise}
 use Rattle.rule_files.specs.declared.printed.Otherwise.TheVariants.{Block, Choice, Nothing}
 use Rattle.rule_files.specs.declared.scope.Named.{Named}
+use Rattle.rule_files.specs.declared.scope.NamedSort.{NamedSort}
 use Rattle.rules.specs.Rules.{Description}
 use Rattle.rules.specs.declared.tree.Expression.{Expression}
 use Rattle.rules.specs.declared.tree.Expression.TheVariants.{Number, Word, Content, Local, Read}
@@ -29,7 +32,7 @@ use Rattle.rules.specs.declared.tree.Operator.TheVariants.{Above, AtLeast, Both,
 use Rattle.rules.specs.declared.tree.Operator.TheVariants.{Greatest}
 use Rattle.rules.specs.declared.tree.Sending.{Sending}
 use Rattle.rules.specs.declared.tree.Statement.{Statement, Row_of-Statement, end_of-Statement}
-use Rattle.rules.specs.declared.tree.Statement.{more_of-Statement}
+use Rattle.rules.specs.declared.tree.Statement.{items-the_row-Statement, more_of-Statement}
 use Rattle.rules.specs.declared.tree.Statement.TheVariants.{Let, Set, Send, If', Repeat', RepeatUntil'}
 use Rattle.rules.specs.declared.tree.Statement.TheVariants.{Put}
 use Rattle.rules_text.specs.Grammar.{looseness}
@@ -335,6 +338,16 @@ with_contents text names =
     ++ content_name names 1) ++ codes " ") ++ content_name names 2) ++ codes " ")
     ++ content_name names 3) ++ codes "\n"
 
+-- a sort of messages: its number, its name, and its fields
+abbrev pub with_sort : ℕ → List ℕ → NamedSort → List ℕ
+with_sort i text s =
+    with_names ((((text ++ codes "sort ") ++ decimal i) ++ codes ": ") ++ string_bytes s.name)
+    (map string_bytes s.fields.items) ++ codes "\n"
+
+abbrev pub with_sorts : ℕ → List ℕ → List NamedSort → List ℕ
+with_sorts i text [] = text
+with_sorts i text (s ∷ ss) = with_sorts (i + 1) (with_sort i text s) ss
+
 abbrev pub with_number : List ℕ → Named → List ℕ
 with_number text n =
     ((((text ++ codes "number ") ++ string_bytes n.name) ++ codes ": ")
@@ -368,15 +381,62 @@ outermost = record {
   scope = 0 ∷ 0 ∷ 0 ∷ 0 ∷ 0 ∷ 0 ∷ 0 ∷ 0 ∷ 0 ∷ 0 ∷ 0 ∷ 0 ∷ 0 ∷ 0 ∷ 0 ∷ 0 ∷ [];
 }
 
-abbrev pub with_rules : FileNames → Description → List ℕ → List ℕ
-with_rules names d text =
+-- the rules for the start and for a message, of the names of a kind
+abbrev pub with_both : FileNames → List Statement → List Statement → List ℕ → List ℕ
+with_both names start handle text =
     with_block names (map string_bytes names.handle.items) outermost 0
     (with_block names (map string_bytes names.start.items) outermost 0 (text ++ codes "start:\n")
-    d.start ++ codes "handle:\n") d.handle
+    start ++ codes "handle:\n") handle
 
 abbrev pub with_model : FileNames → Description → List ℕ → List ℕ
 with_model names d text =
-    with_rules names d (with_tables 0 (map string_bytes names.tables.items)
-    (with_numbers (with_contents (with_arrays (with_words text (map string_bytes names.words.items))
+    with_both names d.start d.handle (with_tables 0 (map string_bytes names.tables.items)
+    (with_numbers (with_sorts 0 (with_contents (with_arrays
+    (with_words text (map string_bytes names.words.items))
     (map array_view names.arrays.items) (length names.words.items))
-    (map string_bytes names.content.items)) names.numbers.items) d.tables)
+    (map string_bytes names.content.items)) names.sorts.items) names.numbers.items) d.tables)
+
+-- 5. A model with kinds of processes
+
+-- the block of the first kind, and the rule for the kinds behind it
+abbrev pub block_of : List Statement → List Statement
+block_of (If' e s met t unmet ∷ []) = items-the_row-Statement _ met
+block_of rule = []
+
+abbrev pub rest_of : List Statement → List Statement
+rest_of (If' e s met t unmet ∷ []) = items-the_row-Statement _ unmet
+rest_of rule = []
+
+-- the last process of a kind
+abbrev pub last_of : Head → ℕ
+last_of k = k.first + k.count - 1
+
+abbrev pub with_head : Head → List ℕ → List ℕ
+with_head k text =
+    ((((((((text ++ codes "kind ") ++ string_bytes k.name) ++ codes ": ") ++ decimal k.count)
+    ++ codes " (") ++ decimal k.first) ++ codes " to ") ++ decimal (last_of k)) ++ codes ")\n"
+
+-- a kind: its processes, its names, the bits of its state, and its rules
+abbrev pub with_kind : KindNames → List Statement → List Statement → List ℕ → List ℕ
+with_kind k start handle text =
+    with_both k.names start handle (with_contents (with_bits (each_array
+    (with_words (with_head k.head text) (map string_bytes k.names.words.items))
+    (map array_view k.names.arrays.items)) (length k.names.words.items))
+    (map string_bytes k.names.content.items))
+
+abbrev pub with_each : List KindNames → List Statement → List Statement → List ℕ → List ℕ
+with_each [] start handle text = text
+with_each (k ∷ ks) start handle text =
+    with_each ks (rest_of start) (rest_of handle)
+    (with_kind k (block_of start) (block_of handle) text)
+
+-- what all kinds have in common, from the names of the first one
+abbrev pub with_common : List KindNames → List (List ℕ) → List ℕ → List ℕ
+with_common [] tables text = text
+with_common (k ∷ ks) tables text =
+    with_tables 0 (map string_bytes k.names.tables.items)
+    (with_numbers (with_sorts 0 text k.names.sorts.items) k.names.numbers.items) tables
+
+abbrev pub with_kinds_model : List KindNames → Description → List ℕ → List ℕ
+with_kinds_model kinds d text =
+    with_each kinds d.start d.handle (with_common kinds d.tables text)

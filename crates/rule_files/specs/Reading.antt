@@ -3,7 +3,7 @@ use Rattle.std.specs.Prelude.{ℕ, ◌+◌, ◌*◌, List, [], ◌∷◌, ◌++�
 use Rattle.std.specs.Prelude.{◌&&◌, drop, if◌then◌else◌, length, map, max, nat_le}
 use Rattle.std.specs.List.{list_any}
 use Rattle.rule_files.specs.Names.{is_key, is_name}
-use Rattle.rule_files.specs.RuleFile.{Parts, other_names}
+use Rattle.rule_files.specs.RuleFile.{Kind, Parts, other_names}
 use Rattle.rules.specs.declared.arrays.Array.{Array}
 use Rattle.rules.specs.Costs.{draw_cost, send_cost, step_cost}
 use Rattle.rules.specs.declared.limits.Limit.{Limit}
@@ -12,10 +12,11 @@ use Rattle.rules.specs.declared.limits.TheConstants.{MAX_DRAWS, MAX_SENDS, MAX_S
 use Rattle.rules.specs.declared.tree.Statement.{Statement}
 use Rattle.rules_text.specs.Grammar.{Tree, Number, Word, Content, Local, Read, Not, Two, Entry, Draw}
 use Rattle.rules_text.specs.Grammar.{Normal, Triangular, Choose, Element}
-use Rattle.rules_text.specs.Scopes.{Dictionary}
+use Rattle.rules_text.specs.Scopes.{Dictionary, token_meant}
 use Rattle.rules_text.specs.Statements.{Act, Acts, Let, Set, Send, If, Repeat, RepeatUntil, Put, empty, cons}
 use Rattle.rules_text.specs.Statements.{acts_of}
 use Rattle.rules_text.specs.Texts.{IsRule, read_at}
+use Rattle.rules_text.specs.declared.scope.Meaning.TheVariants as w
 use Rattle.rules_text.specs.declared.token.Token.{Token}
 use Rattle.rules_text.specs.declared.token.Token.TheVariants as t
 
@@ -47,17 +48,31 @@ number_names ns = map (λ n. (n.0, t.Number (value_of n.1))) ns
 abbrev pub array_names : List (List ℕ × Array) → List (List ℕ × Token)
 array_names arrays = map (λ a. (a.0, t.Array a.1)) arrays
 
--- all names; rules may draw if the state has a key
+-- the sorts of messages, by their numbers
+abbrev pub sorts_from : ℕ → List (List ℕ × List (List ℕ)) → List (List ℕ × Token)
+sorts_from i [] = []
+sorts_from i (sort ∷ sorts) = (sort.0, token_meant (w.Sort i)) ∷ sorts_from (i + 1) sorts
+
+abbrev pub field_names : List (List ℕ × ℕ) → List (List ℕ × Token)
+field_names fields = map (λ f. (f.0, t.Content f.1)) fields
+
+abbrev pub kind_names : List Kind → List (List ℕ × Token)
+kind_names kinds = map (λ k. (k.name, token_meant (w.Kind k.first k.count))) kinds
+
+-- all names; rules may draw if the state has a key, and `self` is the place within the own kind
 abbrev pub dictionary : Parts → Dictionary
 dictionary p = record {
   draws = list_any is_key p.words;
-  own = None;
+  own = p.own;
   entries =
-      ((((words_from 0 p.words ++ content_from 0 p.content)
+      (((((((words_from 0 p.words ++ content_from 0 p.content)
       ++ content_from (length p.content) (drop (length p.content) other_names))
       ++ number_names p.numbers)
       ++ tables_from 0 p.tables)
-      ++ array_names p.arrays;
+      ++ array_names p.arrays)
+      ++ sorts_from 0 p.sorts)
+      ++ field_names p.fields)
+      ++ kind_names p.kinds;
 }
 
 -- the text spells this rule, by these names
@@ -110,3 +125,16 @@ are_within (Some acts) =
 -- the text spells a rule within the limits
 unfoldable pub is_rule : Parts → List ℕ → Bool
 is_rule parts text = are_within (read_at (dictionary parts) text)
+
+-- 3. The rule of a kind of processes. It has 256 steps less, so that the choice of the kind, four
+-- steps for each of at most 64 kinds, stays within the limits.
+
+abbrev pub MOST_STEPS : ℕ
+MOST_STEPS = 65280
+
+abbrev pub are_short : Option Acts → Bool
+are_short None = false
+are_short (Some acts) = are_within (Some acts) && nat_le (acts_cost Steps acts) MOST_STEPS
+
+unfoldable pub is_short_rule : Parts → List ℕ → Bool
+is_short_rule parts text = are_short (read_at (dictionary parts) text)

@@ -5,9 +5,11 @@ ghost use Rattle.std.specs.Prelude.{codes, decimal, map, option_map, string_byte
 ghost use Rattle.rule_files.specs.Arrays.{after, array_word, behind_digits, declared_behind};
 ghost use Rattle.rule_files.specs.Arrays.{declared_in, declared_view, fits, is_digit, is_unit};
 ghost use Rattle.rule_files.specs.Arrays.{last_text, number_in, state_view, with_array_words};
+ghost use Rattle.rule_files.specs.Arrays.{but_key, few_words, is_later, key_first as key_first_of};
+ghost use Rattle.rule_files.specs.Arrays.{array_view, key_from, moved, moved_arrays};
 ghost use Rattle.rule_files.specs.Arrays.{with_declared, with_item};
 
-use crate::scope::{is_name, is_word};
+use crate::scope::{is_key, is_name, is_word};
 use itoa::Buffer;
 use rules::Array;
 use std::alloc::{AllocError, Global};
@@ -249,4 +251,97 @@ fn put_declared(
     let name = String::from_str(alloc, declared.name)?;
     state.arrays.push(NamedArray { name, array })?;
     Ok(true)
+}
+
+/// Returns the place of `key` among the words of the state.
+pub(crate) fn key_of(words: &[String]) -> Option<u8>
+    requires { length words.now ≤ 16 }
+    ensures { result ≡ key_from 0 (map string_bytes words.now) }
+{
+    for (place, word) in words.iter().enumerate() {
+        if is_key(word.as_str()) {
+            return Some(place as u8);
+        }
+    }
+    None
+}
+
+/// Returns a state that begins with the key, whether or not it had one, unless it gets more than 16
+/// words.
+pub(crate) fn key_first(alloc: Global, state: StateNames) -> Result<Option<StateNames>, AllocError>
+    requires { length state.words.items ≤ 16 }
+    ensures state { IfOk result (λ found. option_map state_view found
+        ≡ few_words (key_first_of (state_view state))) }
+    ensures few { IfOk result (λ found. IfSome found (λ s. length s.words.items ≤ 16)) }
+{
+    let key = key_of(state.words.as_slice());
+    let words = words_behind_key(alloc, state.words.as_slice())?;
+    let arrays = moved_arrays(alloc, key, state.arrays.as_slice())?;
+    if words.len() <= 16 {
+        Ok(Some(StateNames { words, arrays }))
+    } else {
+        Ok(None)
+    }
+}
+
+/// Returns the key and the other words of a state.
+fn words_behind_key(alloc: Global, words: &[String]) -> Result<Vec<String>, AllocError>
+    ensures { IfOk result (λ all. map string_bytes all.items
+        ≡ codes "key" ∷ but_key false (map string_bytes words.now)) }
+{
+    let mut all = Vec::new(alloc);
+    all.push(String::from_str(alloc, "key")?)?;
+    let mut out = false;
+    'words: for word in words {
+        if !out && is_key(word.as_str()) {
+            out = true;
+        } else {
+            all.push(String::from_str(alloc, word.as_str())?)?;
+        }
+    }
+    Ok(all)
+}
+
+/// Returns the arrays at their places behind the key, which was at this place.
+fn moved_arrays(
+    alloc: Global,
+    key: Option<u8>,
+    arrays: &[NamedArray],
+) -> Result<Vec<NamedArray>, AllocError>
+    ensures { IfOk result (λ all. map array_view all.items
+        ≡ moved_arrays key (map array_view arrays.now)) }
+{
+    let mut all = Vec::new(alloc);
+    'arrays: for one in arrays {
+        let name = String::from_str(alloc, one.name.as_str())?;
+        let array = moved(key, one.array);
+        all.push(NamedArray { name, array })?;
+    }
+    Ok(all)
+}
+
+/// Returns the array at its place behind the key.
+fn moved(key: Option<u8>, array: Array) -> Array
+    ensures { result ≡ moved key array }
+{
+    let place = if is_later(key, array.place) {
+        array.place.saturating_add(1)
+    } else {
+        array.place
+    };
+    Array {
+        place,
+        bits: array.bits,
+        count: array.count,
+    }
+}
+
+/// Returns whether a word comes later once the key is the first one.
+fn is_later(key: Option<u8>, place: u8) -> bool
+    ensures { result ≡ is_later key place }
+{
+    match key {
+        Some(key) => place < key,
+        None => true,
+    }
 }

@@ -4,15 +4,16 @@ ghost use Rattle.std.specs.Prelude.{◌≡◌, ◌≢◌, ◌++◌, ◌≤◌, �
 ghost use Rattle.std.specs.Prelude.{◌<◌, ◌==◌, true, is_ok, option_and_then};
 ghost use Rattle.std.specs.Prelude.{IsNone, OnOk, Err, None, Some, codes, false, length, map};
 ghost use Rattle.std.specs.Prelude.{option_map, string_bytes, nat_lt};
-ghost use Rattle.rule_files.specs.FileTable.{IsBody, IsFileTable, IsRuleAt, IsRulesTable};
+ghost use Rattle.rule_files.specs.FileTable.{IsBody, IsByForm, IsFileTable, IsRulesTable};
 ghost use Rattle.rule_files.specs.FileTable.{body_fits, file_text, file_wrong, head_text};
-ghost use Rattle.rule_files.specs.FileTable.{head_wrong};
-ghost use Rattle.rule_files.specs.FileTable.{fits_names, is_rules, key_from, rest_of, rest_wrong};
+ghost use Rattle.rule_files.specs.FileTable.{form_text, form_wrong, head_wrong, kinds_text};
+ghost use Rattle.rule_files.specs.FileTable.{fits_names, is_rules, rest_of, rest_wrong};
 ghost use Rattle.rule_files.specs.FileTable.{rule_wrong};
 ghost use Rattle.rule_files.specs.FileTable.{names_wrong, rule_fits, rule_keys, rules_keys};
 ghost use Rattle.rule_files.specs.FileTable.{rules_of};
 ghost use Rattle.rule_files.specs.FileTable.{rules_table_wrong, rules_text, rules_wrong, seed_of};
-ghost use Rattle.rule_files.specs.FileTable.{seed_wrong, text_in};
+ghost use Rattle.rule_files.specs.FileTable.{seed_wrong, twice_wrong};
+ghost use Rattle.rule_files.specs.Kinds.{IsRuleAt, has_kinds, text_in};
 ghost use Rattle.rule_files.specs.RuleFile.{named_view, parts_of, parts_view};
 ghost use Rattle.rules.specs.Limits.{IsWithin};
 ghost use Rattle.rules.specs.Rules.{Description};
@@ -20,18 +21,22 @@ ghost use Rattle.texts.specs.ModelFile.{number_at, unknown_wrong, words_wrong};
 ghost use Rattle.toml.specs.Data.{as_table, get_member, string};
 ghost use Rattle.toml.specs.View.{table_view};
 
+use crate::arrays::key_of;
 use crate::digest::digest_of;
 use crate::entries::{
-    CONTENT, NUMBERS, TABLES, TWICE, WORDS, has_content, has_numbers, has_scope, has_tables,
-    has_words, scope_of, value_at,
+    CONTENT, NUMBERS, SORTS, TABLES, TWICE, WORDS, are_sorts, has_content, has_numbers, has_scope,
+    has_sorts, has_tables, has_words, scope_of, value_at,
 };
-use crate::file_model::{FileModel, FileNames};
+use crate::file_model::{FileModel, FileNames, Form, KindNames, ModelNames};
 use crate::given::given_names;
+use crate::kind_mistakes::kinds_mistakes_of;
+use crate::kind_rules::kinds_model_of;
+use crate::kinds::has_kinds;
 use crate::naming::{mistake_in, twice_in};
-use crate::printed::put_model;
+use crate::printed::{put_kinds_model, put_model};
 use crate::reading::{RuleMistake, read_rule};
-use crate::scope::{Named, Scope, is_key};
-use crate::shown::shown_names;
+use crate::scope::{Named, Scope};
+use crate::shown::{content_names, shown_alone};
 use eventkey::MOST_END;
 use model::Model as Simulated;
 use models::AnyModel;
@@ -53,16 +58,21 @@ A model by rules (model = \"rules\") has these keys:
               NAME[COUNT]: BITS bits is an array, whose elements share words
   seed        the first key, 0 to 9223372036854775807, if the state has the word key
   message     names of the words of a message, at most 4; the others are a, b, c and d
+  messages    in place of message: a table of sorts of messages, each with at most 3 names
   numbers     a table of at most 1024 named numbers, 0 to 9223372036854775807
   tables      a table of at most 1024 named lists of such numbers
   rules       a table of two texts: start, what a process does when it starts, and handle,
-              what it does with a message";
+              what it does with a message
+  kind        in place of lps, state, message and rules: 1 to 64 tables, each a kind of
+              processes with name, count, state, message, start and handle";
 
 /// A model file is TOML with the keys of its model. The files of this project's models are those of
 /// `AnyModel`. The file of a model by rules has `model = "rules"`, `lps` (1 to 65,536 processes),
 /// `end` (1 to 2^40 ticks), `state` (names and arrays, at most 16 words), `seed` (0 to 2^63 - 1) if
 /// the state has the word `key`, `rules` with the texts `start` and `handle`, and maybe `message`
-/// (at most 4 names), `numbers` and `tables`. No name may be there twice.
+/// (at most 4 names), `numbers` and `tables`. No name may be there twice. `messages`, in place of
+/// `message`, has sorts of messages; `kind`, in place of `lps`, `state`, `message` and `rules`, has
+/// kinds of processes.
 impl Described for FileModel {
     ghost says = { IsFileTable };
 
@@ -72,7 +82,7 @@ impl Described for FileModel {
 
     fn describe(alloc: Global, table: &Table) -> Result<(FileModel, u64), ModelFault> {
         if is_rules(table) {
-            match rules_model_of(alloc, table) {
+            match form_of(alloc, table) {
                 Ok((rules, end, names)) => Ok((FileModel::Rules(rules, names), end)),
                 Err(fault) => Err(fault),
             }
@@ -87,9 +97,9 @@ impl Described for FileModel {
 
     fn mistakes(alloc: Global, table: &Table) -> Result<Findings, AllocError> {
         if is_rules(table) {
-            match rules_model_of(alloc, table) {
+            match form_of(alloc, table) {
                 Ok(_file) => Ok(Findings::new(alloc)),
-                Err(ModelFault::BadModel(_mistake)) => rules_mistakes_of(alloc, table),
+                Err(ModelFault::BadModel(_mistake)) => form_mistakes_of(alloc, table),
                 Err(ModelFault::NoMemory) => Err(AllocError),
             }
         } else {
@@ -100,7 +110,7 @@ impl Described for FileModel {
     fn values(&self, alloc: Global, end: u64) -> Result<String, AllocError> {
         match self {
             FileModel::BuiltIn(model) => model.values(alloc, end),
-            FileModel::Rules(rules, names) => rules_values(alloc, rules, names, end),
+            FileModel::Rules(rules, names) => form_values(alloc, rules, &names.form, end),
         }
     }
 
@@ -139,6 +149,32 @@ fn is_rules(table: &Table) -> bool
 }
 
 /// Returns what is printed of a model by rules.
+fn form_values(alloc: Global, rules: &Rules, form: &Form, end: u64) -> Result<String, AllocError>
+    ensures { IfOk result (λ text. string_bytes text
+        ≡ form_text rules.now.description form.now end) }
+{
+    match form {
+        Form::Alone(names) => rules_values(alloc, rules, names, end),
+        Form::Kinds(kinds) => kinds_values(alloc, rules, kinds.as_slice(), end),
+    }
+}
+
+/// Returns what is printed of a model with kinds of processes.
+fn kinds_values(
+    alloc: Global,
+    rules: &Rules,
+    kinds: &[KindNames],
+    end: u64,
+) -> Result<String, AllocError>
+    ensures { IfOk result (λ text. string_bytes text
+        ≡ kinds_text rules.now.description kinds.now end) }
+{
+    let mut text = head_values(alloc, rules, end)?;
+    put_kinds_model(kinds, rules, &mut text)?;
+    Ok(text)
+}
+
+/// Returns what is printed of a model by rules without kinds.
 fn rules_values(
     alloc: Global,
     rules: &Rules,
@@ -166,13 +202,46 @@ fn head_values(alloc: Global, rules: &Rules, end: u64) -> Result<String, AllocEr
 }
 
 /// The keys of the file of a model by rules.
-const KEYS: [&str; 9] = [
-    "model", "lps", "end", "seed", "message", "state", "numbers", "tables", "rules",
+const KEYS: [&str; 10] = [
+    "model", "lps", "end", "seed", "message", "messages", "state", "numbers", "tables", "rules",
 ];
 
-/// Returns the model by rules that a table describes, the tick at which its run ends, and the names
-/// of its words.
-fn rules_model_of(alloc: Global, table: &Table) -> Result<(Rules, u64, FileNames), ModelFault>
+/// Returns the model by rules that a table describes, the tick at which its run ends, and its
+/// names.
+fn form_of(alloc: Global, table: &Table) -> Result<(Rules, u64, ModelNames), ModelFault>
+    requires { is_rules (table_view table.now) ≡ true }
+    ensures ok { IfOk result (λ file. IsByForm (has_kinds (table_view table.now))
+        (table_view table.now) file.0.description file.1) }
+    ensures bad { (mistake : Mistake) → result ≡ Err (ModelFault.BadModel mistake) →
+        (d : Description) (end : ℕ) → IsWithin d.start → IsWithin d.handle →
+        ¬ IsByForm (has_kinds (table_view table.now)) (table_view table.now) d end }
+    ensures wrong { (mistake : Mistake) → result ≡ Err (ModelFault.BadModel mistake) →
+        form_wrong (has_kinds (table_view table.now)) (table_view table.now) ≢ [] }
+    ensures some { IfOk result (λ file. 1 ≤ file.1) }
+    ensures end { IfOk result (λ file. file.1 ≤ 2 ^ 40) }
+{
+    if has_kinds(table) {
+        kinds_model_of(alloc, table)
+    } else {
+        rules_model_of(alloc, table)
+    }
+}
+
+/// Finds all mistakes in the table of a model by rules.
+fn form_mistakes_of(alloc: Global, table: &Table) -> Result<Findings, AllocError>
+    ensures { IfOk result (λ found.
+        found ≡ form_wrong (has_kinds (table_view table.now)) (table_view table.now)) }
+{
+    if has_kinds(table) {
+        kinds_mistakes_of(alloc, table)
+    } else {
+        rules_mistakes_of(alloc, table)
+    }
+}
+
+/// Returns the model by rules without kinds that a table describes, the tick at which its run ends,
+/// and its names.
+fn rules_model_of(alloc: Global, table: &Table) -> Result<(Rules, u64, ModelNames), ModelFault>
     requires { is_rules (table_view table.now) ≡ true }
     ensures ok { IfOk result (λ file.
         IsRulesTable (table_view table.now) file.0.description file.1) }
@@ -238,15 +307,15 @@ fn head_of(table: &Table) -> Result<(u64, u64), Mistake>
 
 /// The parts of a model by rules, apart from the number of processes.
 #[derive(Drop)]
-struct Body {
-    width: u8,
-    key: Option<u8>,
-    seed: u64,
-    digest: [u64; 4],
-    tables: Vec<Numbers>,
-    start: Vec<Statement>,
-    handle: Vec<Statement>,
-    names: FileNames,
+pub(crate) struct Body {
+    pub width: u8,
+    pub key: Option<u8>,
+    pub seed: u64,
+    pub digest: [u64; 4],
+    pub tables: Vec<Numbers>,
+    pub start: Vec<Statement>,
+    pub handle: Vec<Statement>,
+    pub names: ModelNames,
 }
 
 /// Reads the names and the rules of a table for this number of processes.
@@ -290,14 +359,15 @@ fn body_of(alloc: Global, table: &Table, lps: u32) -> Result<Result<Body, Mistak
     };
     let tables = tables_in(alloc, scope.tables.as_slice())?;
     let digest = digest_of(
-        &scope,
+        scope.words.as_slice(),
+        scope.arrays.as_slice(),
         seed,
         tables.as_slice(),
         start.as_slice(),
         handle.as_slice(),
     );
     let width = scope.words.len() as u8;
-    let names = names_of(alloc, lps, scope, rules)?;
+    let names = alone(alloc, lps, names_of(alloc, scope, rules)?)?;
     Ok(Ok(Body {
         width,
         key,
@@ -310,39 +380,53 @@ fn body_of(alloc: Global, table: &Table, lps: u32) -> Result<Result<Body, Mistak
     }))
 }
 
-/// Returns the names of a model.
-fn names_of(alloc: Global, lps: u32, scope: Scope, rules: &Table) -> Result<FileNames, AllocError> {
+/// Returns the names of a model without kinds.
+fn alone(alloc: Global, lps: u32, names: FileNames) -> Result<ModelNames, AllocError> {
+    let shown = shown_alone(alloc, lps, &names)?;
+    Ok(ModelNames {
+        form: Form::Alone(names),
+        shown,
+    })
+}
+
+/// Returns the names that the rules of a table read.
+pub(crate) fn names_of(
+    alloc: Global,
+    scope: Scope<'_, '_>,
+    rules: &Table,
+) -> Result<FileNames, AllocError> {
     let Scope {
         words,
         arrays,
         content,
         numbers,
         tables,
+        sorts,
+        fields,
+        ..
     } = scope;
     let mut table_names = Vec::new(alloc);
     for table in tables.iter() {
         table_names.push(String::from_str(alloc, table.name.as_str())?)?;
     }
-    let shown = shown_names(
-        alloc,
-        lps,
-        words.as_slice(),
-        arrays.as_slice(),
-        content.as_slice(),
-    )?;
+    let content = if sorts.is_empty() {
+        content
+    } else {
+        content_names(alloc, fields.as_slice())?
+    };
     Ok(FileNames {
         words,
         arrays,
         content,
+        sorts,
         numbers,
         tables: table_names,
         start: given_names(alloc, text_at(rules, "start").unwrap_or(""))?,
         handle: given_names(alloc, text_at(rules, "handle").unwrap_or(""))?,
-        shown,
     })
 }
 
-const NO_SEED: Mistake = Mistake::Not {
+pub(crate) const NO_SEED: Mistake = Mistake::Not {
     key: "seed",
     expected: SEED,
 };
@@ -358,36 +442,23 @@ const NO_START: Mistake = Mistake::Not {
 };
 
 /// Returns the mistake at the key of a rule: the length is named where it is the cause.
-fn no_rule(key: &'static str, mistake: &RuleMistake) -> Mistake {
+pub(crate) fn no_rule(key: &'static str, mistake: &RuleMistake) -> Mistake {
     let expected = match mistake {
         RuleMistake::NoText => RULE,
-        RuleMistake::Text(_) | RuleMistake::Exceeds(_) => "a rule",
+        RuleMistake::Text(_) | RuleMistake::Exceeds(_) | RuleMistake::TooLong => "a rule",
     };
     Mistake::Not { key, expected }
 }
 
-const SEED: &str =
+pub(crate) const SEED: &str =
     "a whole number from 0 to 9223372036854775807 if the state has key, otherwise nothing";
 
 const RULES: &str = "a table with the texts start and handle";
 
-const RULE: &str = "a rule of at most 65536 bytes";
-
-/// Returns the place of `key` among the words of the state.
-fn key_of(words: &[String]) -> Option<u8>
-    requires { length words.now ≤ 16 }
-    ensures { result ≡ key_from 0 (map string_bytes words.now) }
-{
-    for (place, word) in words.iter().enumerate() {
-        if is_key(word.as_str()) {
-            return Some(place as u8);
-        }
-    }
-    None
-}
+pub(crate) const RULE: &str = "a rule of at most 65536 bytes";
 
 /// Returns the seed, which must be there exactly if the state has a key.
-fn seed_of(key: Option<u8>, table: &Table) -> Option<u64>
+pub(crate) fn seed_of(key: Option<u8>, table: &Table) -> Option<u64>
     ensures seed { result ≡ seed_of key (table_view table.now) }
     ensures within { IfSome result (λ seed. seed < 2 ^ 63) }
 {
@@ -430,7 +501,7 @@ fn is_two_rules(rules: &Table) -> bool
 }
 
 /// Returns the text of a rule: at most 65,536 bytes.
-fn text_at<'a>(rules: &'a Table, key: &str) -> Option<&'a str>
+pub(crate) fn text_at<'a>(rules: &'a Table, key: &str) -> Option<&'a str>
     ensures { option_map (λ s. s.now) result ≡ text_in key.now (table_view rules.now) }
 {
     match string_at(rules, key) {
@@ -440,9 +511,9 @@ fn text_at<'a>(rules: &'a Table, key: &str) -> Option<&'a str>
 }
 
 /// Reads a rule.
-fn rule_at(
+pub(crate) fn rule_at(
     alloc: Global,
-    scope: &Scope,
+    scope: &Scope<'_, '_>,
     rules: &Table,
     key: &str,
 ) -> Result<Result<Vec<Statement>, RuleMistake>, AllocError>
@@ -459,7 +530,7 @@ fn rule_at(
 }
 
 /// Copies the tables.
-fn tables_in(alloc: Global, named: &[Named]) -> Result<Vec<Numbers>, AllocError>
+pub(crate) fn tables_in(alloc: Global, named: &[Named]) -> Result<Vec<Numbers>, AllocError>
     ensures { IfOk result (λ tables. tables.items ≡ map (λ n. n.1) (map named_view named.now)) }
 {
     let mut tables = Vec::new(alloc);
@@ -488,19 +559,22 @@ fn look_at_names(alloc: Global, table: &Table, found: &mut Findings) -> Result<(
     ensures { OnOk result (found.new ≡ found.old ++ names_wrong (table_view table.now)) }
 {
     let words = has_words(alloc, table)?;
-    let content = has_content(alloc, table)?;
+    let content = has_content(alloc, has_sorts(table), table)?;
+    let sorts = are_sorts(alloc, table)?;
     let numbers = has_numbers(alloc, table)?;
     let tables = has_tables(alloc, table)?;
-    let fit = fits_names(has_scope(alloc, table)?, words, content, numbers, tables);
+    let scope = has_scope(alloc, table)?;
+    let fit = fits_names(scope, words, content, sorts, numbers, tables);
     look_at_list(alloc, table, "state", WORDS, words, found)?;
     look_at_list(alloc, table, "message", CONTENT, content, found)?;
+    look_at_list(alloc, table, "messages", SORTS, sorts, found)?;
     look_at_list(alloc, table, "numbers", NUMBERS, numbers, found)?;
     look_at_list(alloc, table, "tables", TABLES, tables, found)?;
     look_for_twice(alloc, table, fit, found)
 }
 
 /// Adds a finding for the list or the table of names at a key unless it can be read.
-fn look_at_list(
+pub(crate) fn look_at_list(
     alloc: Global,
     table: &Table,
     key: &'static str,
@@ -526,19 +600,28 @@ fn look_for_twice(
     fit: bool,
     found: &mut Findings,
 ) -> Result<(), AllocError>
-    ensures { OnOk result (found.new ≡ found.old ++ words_wrong fit (codes "state")
-        (codes "names that are nowhere else in state, message, numbers and tables")
-        (table_view table.now)) }
+    ensures { OnOk result (found.new ≡ found.old ++ twice_wrong fit (table_view table.now)) }
 {
-    let inside = if fit { None } else { twice_in(alloc, table)? };
+    let inside = if fit {
+        None
+    } else {
+        twice_in(alloc, table, table, &[])?
+    };
     found.inside_at(alloc, table, "state", TWICE, fit, inside)
 }
 
 /// Returns whether no name is there twice, or some names cannot be read.
-fn fits_names(distinct: bool, words: bool, content: bool, numbers: bool, tables: bool) -> bool
-    ensures { result ≡ fits_names distinct words content numbers tables }
+fn fits_names(
+    distinct: bool,
+    words: bool,
+    content: bool,
+    sorts: bool,
+    numbers: bool,
+    tables: bool,
+) -> bool
+    ensures { result ≡ fits_names distinct words content sorts numbers tables }
 {
-    distinct || !(words && content && numbers && tables)
+    distinct || !(words && content && sorts && numbers && tables)
 }
 
 /// Checks the seed and the rules of a table.
@@ -558,7 +641,7 @@ fn look_at_body(alloc: Global, table: &Table, found: &mut Findings) -> Result<()
 fn look_at_both(
     alloc: Global,
     table: &Table,
-    scope: &Scope,
+    scope: &Scope<'_, '_>,
     found: &mut Findings,
 ) -> Result<(), AllocError>
     requires { length scope.now.words.items ≤ 16 }
@@ -580,7 +663,7 @@ fn look_at_both(
 /// Checks one rule.
 fn look_at_rule(
     alloc: Global,
-    scope: &Scope,
+    scope: &Scope<'_, '_>,
     rules: &Table,
     key: &str,
     found: &mut Findings,
@@ -598,7 +681,7 @@ fn look_at_rule(
 }
 
 /// Returns the mistake inside the text of a rule. A limit is exceeded at the beginning of the rule.
-fn inside_of(
+pub(crate) fn inside_of(
     alloc: Global,
     rules: &Table,
     key: &str,
@@ -612,7 +695,7 @@ fn inside_of(
         RuleMistake::Text(Place { line, column, kind }) => {
             (*line, *column, format!(in alloc; "{kind}")?)
         }
-        RuleMistake::Exceeds(_) => (1, 1, format!(in alloc; "{mistake}")?),
+        RuleMistake::Exceeds(_) | RuleMistake::TooLong => (1, 1, format!(in alloc; "{mistake}")?),
     };
     let text = String::from_str(alloc, text)?;
     Ok(Some(Inside::Text(TextMistake {

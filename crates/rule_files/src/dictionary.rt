@@ -1,35 +1,51 @@
 // The names of a model file, as the reader of rules knows them.
 
-ghost use Rattle.std.specs.Prelude.{◌≡◌, ◌<◌, ◌+◌, ◌∷◌, ◌++◌, IfOk, OnOk, drop, map, string_bytes};
+ghost use Rattle.std.specs.Prelude.{◌≡◌, ◌<◌, ◌+◌, ◌∷◌, ◌++◌, [], IfOk, OnOk, drop, map, string_bytes};
 ghost use Rattle.std.specs.List.{list_any};
 ghost use Rattle.rule_files.specs.Arrays.{array_view};
 ghost use Rattle.rule_files.specs.Names.{is_key, is_name};
 ghost use Rattle.rule_files.specs.Reading.{array_names, content_from, dictionary, number_names, tables_from};
+ghost use Rattle.rule_files.specs.Reading.{field_names, kind_names, sorts_from};
 ghost use Rattle.rule_files.specs.Reading.{value_of, words_from};
-ghost use Rattle.rule_files.specs.RuleFile.{named_view, other_names, parts_view};
+ghost use Rattle.rule_files.specs.RuleFile.{field_view, kind_view, named_view, other_names};
+ghost use Rattle.rule_files.specs.RuleFile.{parts_view, sort_view};
 ghost use Rattle.rules_text.specs.Scopes.{token_meant, with_entry};
 
 use crate::arrays::NamedArray;
-use crate::scope::{Named, OTHERS, Scope, is_key, is_name};
+use crate::kinds::KindTable;
+use crate::scope::{Field, Named, NamedSort, OTHERS, Scope, is_key, is_name};
 use rules_text::{Meaning, Scope as Dictionary};
 use std::alloc::{AllocError, Global};
 
 /// Returns what the names of a model file mean in its rules.
-pub(crate) fn dictionary_of(alloc: Global, scope: &Scope) -> Result<Dictionary, AllocError>
+pub(crate) fn dictionary_of(alloc: Global, scope: &Scope<'_, '_>) -> Result<Dictionary, AllocError>
     ensures { IfOk result (λ names. names ≡ dictionary (parts_view scope.now)) }
 {
-    let mut names = Dictionary::new(alloc, has_key(scope.words.as_slice()));
+    let mut names = empty(alloc, has_key(scope.words.as_slice()), scope.own);
     add_words(alloc, &mut names, scope.words.as_slice())?;
     add_content(alloc, &mut names, scope.content.as_slice())?;
     add_others(alloc, &mut names, scope.content.len())?;
     add_numbers(alloc, &mut names, scope.numbers.as_slice())?;
     add_tables(alloc, &mut names, scope.tables.as_slice())?;
     add_arrays(alloc, &mut names, scope.arrays.as_slice())?;
+    add_sorts(alloc, &mut names, scope.sorts.as_slice())?;
+    add_fields(alloc, &mut names, scope.fields.as_slice())?;
+    add_kinds(alloc, &mut names, scope.kinds)?;
     Ok(names)
 }
 
+/// Returns a dictionary without names, of the kind that begins with this process.
+fn empty(alloc: Global, draws: bool, own: Option<u32>) -> Dictionary
+    ensures { result ≡ record { draws = draws; own = own; entries = [] } }
+{
+    match own {
+        Some(first) => Dictionary::of_kind(alloc, draws, first),
+        None => Dictionary::new(alloc, draws),
+    }
+}
+
 /// Returns whether one of the words is `key`.
-fn has_key(words: &[String]) -> bool
+pub(crate) fn has_key(words: &[String]) -> bool
     ensures { result ≡ list_any is_key (map string_bytes words.now) }
 {
     for word in words {
@@ -168,6 +184,67 @@ fn add_arrays(alloc: Global, names: &mut Dictionary, more: &[NamedArray]) -> Res
             names,
             named.name.as_str(),
             Meaning::Array(named.array),
+        )?;
+    }
+    Ok(())
+}
+
+/// Adds the sorts of messages.
+fn add_sorts(alloc: Global, names: &mut Dictionary, more: &[NamedSort]) -> Result<(), AllocError>
+    ensures draws { OnOk result (names.new.draws ≡ names.old.draws) }
+    ensures own { OnOk result (names.new.own ≡ names.old.own) }
+    ensures entries { OnOk result (names.new.entries
+        ≡ names.old.entries ++ sorts_from 0 (map sort_view more.now)) }
+{
+    'sorts: for (number, sort) in more.iter().enumerate() {
+        add(
+            alloc,
+            names,
+            sort.name.as_str(),
+            Meaning::Sort(number as u64),
+        )?;
+    }
+    Ok(())
+}
+
+/// Adds the fields of the sorts.
+fn add_fields(alloc: Global, names: &mut Dictionary, more: &[Field]) -> Result<(), AllocError>
+    ensures draws { OnOk result (names.new.draws ≡ names.old.draws) }
+    ensures own { OnOk result (names.new.own ≡ names.old.own) }
+    ensures entries { OnOk result (names.new.entries
+        ≡ names.old.entries ++ field_names (map field_view more.now)) }
+{
+    for field in more {
+        add(
+            alloc,
+            names,
+            field.name.as_str(),
+            Meaning::Content(field.place),
+        )?;
+    }
+    Ok(())
+}
+
+/// Adds the kinds of processes.
+fn add_kinds(
+    alloc: Global,
+    names: &mut Dictionary,
+    more: &[KindTable<'_>],
+) -> Result<(), AllocError>
+    ensures draws { OnOk result (names.new.draws ≡ names.old.draws) }
+    ensures own { OnOk result (names.new.own ≡ names.old.own) }
+    ensures entries { OnOk result (names.new.entries
+        ≡ names.old.entries ++ kind_names (map (λ k. kind_view k.head) more.now)) }
+{
+    for kind in more {
+        add(
+            alloc,
+            names,
+            kind.head.name.as_str(),
+            Meaning::Kind {
+                first: kind.head.first,
+                count: kind.head.count,
+            },
         )?;
     }
     Ok(())

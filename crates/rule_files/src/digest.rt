@@ -1,6 +1,7 @@
 // The digest that distinguishes models by rules from each other.
 
-use crate::scope::{Scope, is_word};
+use crate::arrays::NamedArray;
+use crate::scope::is_word;
 use rules::{Array, Expression, Known, Law, Operator, Sending, Statement, Table};
 use sha2::{Digest, Sha256};
 
@@ -11,20 +12,22 @@ use sha2::{Digest, Sha256};
 /// Comments, white space, the names of anything but state words, and the order of keys do not
 /// matter. Each part has a fixed length or is preceded by its length, and each node of a tree
 /// begins with its kind, so that two meanings never have the same bytes. The words of arrays count
-/// as words without a name; a state without them has no bytes for arrays.
+/// as words without a name; a state without them has no bytes for arrays. Of the states of kinds of
+/// processes only the number of words and the key count: names and arrays are in the trees.
 pub(crate) fn digest_of(
-    scope: &Scope,
+    words: &[String],
+    arrays: &[NamedArray],
     seed: u64,
     tables: &[Table],
     start: &[Statement],
     handle: &[Statement],
 ) -> [u64; 4] {
     let mut hasher = Sha256::new();
-    put_number(&mut hasher, scope.words.len() as u64);
-    for word in scope.words.iter() {
+    put_number(&mut hasher, words.len() as u64);
+    for word in words {
         put_word(&mut hasher, word.as_str());
     }
-    for named in scope.arrays.iter() {
+    for named in arrays {
         put_array(&mut hasher, 20, named.array);
     }
     put_number(&mut hasher, seed);

@@ -1,7 +1,8 @@
 // The models that a model file can describe.
 
 use crate::arrays::NamedArray;
-use crate::scope::Named;
+use crate::kinds::Head;
+use crate::scope::{Named, NamedSort};
 use eventkey::Message;
 use model::{Model as Simulated, Origin, Sends, Words};
 use models::AnyModel;
@@ -16,11 +17,37 @@ pub enum FileModel {
     /// One of the models of this project.
     BuiltIn(AnyModel),
     /// A model that is described by rules.
-    Rules(Rules, FileNames),
+    Rules(Rules, ModelNames),
 }
 
-/// The names that the file of a model by rules gives, for its users. They do not change what the
-/// model does.
+/// The names that the file of a model by rules gives. They do not change what the model does.
+#[derive(Debug, Drop)]
+pub struct ModelNames {
+    /// The names for `check`.
+    pub form: Form,
+    /// The names for the commands that print states and messages.
+    pub shown: Names,
+}
+
+/// The form of the file of a model by rules.
+#[derive(Debug, Drop)]
+pub enum Form {
+    /// One state and two rules for all processes.
+    Alone(FileNames),
+    /// Kinds of processes.
+    Kinds(Vec<KindNames>),
+}
+
+/// The names of a kind of processes.
+#[derive(Debug, Drop)]
+pub struct KindNames {
+    /// The kind.
+    pub head: Head,
+    /// The names of its state and its rules.
+    pub names: FileNames,
+}
+
+/// The names of a state and of two rules, and those of the file that they read.
 #[derive(Debug, Drop)]
 pub struct FileNames {
     /// The names of the words of a state, by their places.
@@ -29,6 +56,8 @@ pub struct FileNames {
     pub arrays: Vec<NamedArray>,
     /// The names of the words of a message's content, by their places.
     pub content: Vec<String>,
+    /// The sorts of messages, by their numbers.
+    pub sorts: Vec<NamedSort>,
     /// The named numbers, in the order of the bytes of their names.
     pub numbers: Vec<Named>,
     /// The names of the tables, by their places.
@@ -37,8 +66,6 @@ pub struct FileNames {
     pub start: Vec<String>,
     /// The names that `let` and `repeat` give in the rule for a message, in the order of its text.
     pub handle: Vec<String>,
-    /// The names for the commands that print states and messages.
-    pub shown: Names,
 }
 
 impl Simulated for FileModel {

@@ -2,12 +2,16 @@
 #![tactic(auto)]
 
 mod arrays;
+mod chosen;
 mod described;
 mod dictionary;
 mod digest;
 mod entries;
 mod file_model;
 mod given;
+mod kind_mistakes;
+mod kind_rules;
+mod kinds;
 mod naming;
 mod printed;
 mod reading;
@@ -15,7 +19,9 @@ mod scope;
 mod shown;
 
 pub use arrays::NamedArray;
+pub use chosen::law_of_kinds;
 pub use described::RULES_KEYS;
-pub use file_model::{FileModel, FileNames};
+pub use file_model::{FileModel, FileNames, Form, KindNames, ModelNames};
+pub use kinds::{Head, KindTable};
 pub use reading::RuleMistake;
-pub use scope::{Named, Scope};
+pub use scope::{Field, Named, NamedSort, Scope};

@@ -1,8 +1,12 @@
 // Which name of the file of a model by rules is at fault, and why.
 
 use crate::arrays::{declared_in, is_digit, number_in as number_at_start};
-use crate::entries::{content_of, has_words, number_in, numbers_of, tables_of, value_at};
-use crate::scope::{Named, OTHERS, is_name, is_reserved, is_word};
+use crate::entries::{
+    content_of, has_sorts, has_words, named_sorts_of, number_in, numbers_of, sorts_of, tables_of,
+    value_at,
+};
+use crate::kinds::KindTable;
+use crate::scope::{Named, NamedSort, OTHERS, is_name, is_reserved, is_word};
 use rules::Array;
 use std::alloc::{AllocError, Global};
 use texts::{Found, Inside, NameMistake, found_in};
@@ -21,6 +25,10 @@ pub(crate) fn mistake_in(
     let mistake = match list {
         "state" => state_mistake(alloc, value, list)?,
         "message" => word_mistake(alloc, value, list)?,
+        "messages" => match sort_mistake(alloc, value, list)? {
+            Some(mistake) => Some(mistake),
+            None => return apart_mistake(alloc, table),
+        },
         _ => entry_mistake(alloc, value, list, list == "tables")?,
     };
     match mistake {
@@ -64,7 +72,72 @@ fn word_mistake(
             return Ok(Some(refused_item(alloc, list, place, item)?));
         }
     }
-    too_many(alloc, list, items.len(), "words", 4)
+    if items.len() > 4 {
+        return too_many(alloc, list, items.len(), "words", 4);
+    }
+    Ok(Some(NameMistake {
+        list,
+        name: String::new(alloc),
+        before: 0,
+        is_value: false,
+        why: format!(in alloc; "the words are named in messages, sort by sort")?,
+    }))
+}
+
+/// Returns the first mistake in a table of sorts of messages.
+fn sort_mistake(
+    alloc: Global,
+    value: &Value,
+    list: &'static str,
+) -> Result<Option<NameMistake>, AllocError> {
+    let Some(table) = value.as_table() else {
+        return Ok(None);
+    };
+    let mut names = 0usize;
+    'names: for (key, value) in table.iter() {
+        let name = key.as_str();
+        if !is_name(name) {
+            return Ok(Some(refused_name(alloc, list, name)?));
+        }
+        if let Some(why) = fields_mistake(alloc, value)? {
+            return Ok(Some(NameMistake {
+                list,
+                name: String::from_str(alloc, name)?,
+                before: 0,
+                is_value: true,
+                why,
+            }));
+        }
+        names = names.saturating_add(1);
+    }
+    too_many(alloc, list, names, "names", 1024)
+}
+
+/// Returns what is wrong with the fields of a sort, if something is.
+fn fields_mistake(alloc: Global, value: &Value) -> Result<Option<String>, AllocError> {
+    let Some(items) = value.as_array() else {
+        let found = found_in(value);
+        return Ok(Some(format!(in alloc; "{found}; expected a list of at most 3 names")?));
+    };
+    let items = items.as_slice();
+    for (place, item) in items.iter().enumerate() {
+        let number = place.saturating_add(1);
+        let why = match item.as_str() {
+            Some(name) if is_name(name) => continue,
+            Some(name) => name_why(alloc, name)?,
+            None => {
+                let found = found_in(item);
+                format!(in alloc; "{found}; expected a name")?
+            }
+        };
+        let why = why.as_str();
+        return Ok(Some(format!(in alloc; "item {number}: {why}")?));
+    }
+    let count = items.len();
+    if count > 3 {
+        return Ok(Some(format!(in alloc; "{count} names, and at most 3 are allowed")?));
+    }
+    Ok(None)
 }
 
 /// Returns whether an item is a name.
@@ -329,12 +402,22 @@ struct Given<'a> {
     text: &'a str,
 }
 
-/// Returns the mistake of the first name that is there twice, if all names can be read.
-pub(crate) fn twice_in(alloc: Global, table: &Table) -> Result<Option<Inside>, AllocError> {
-    let (true, Some(content)) = (has_words(alloc, table)?, content_of(alloc, table)?) else {
+/// Returns the mistake of the first name that is there twice among those of a table in a file with
+/// these kinds, if all names can be read.
+pub(crate) fn twice_in(
+    alloc: Global,
+    file: &Table,
+    table: &Table,
+    kinds: &[KindTable<'_>],
+) -> Result<Option<Inside>, AllocError> {
+    let content = content_of(alloc, has_sorts(file), table)?;
+    let (true, Some(content)) = (has_words(alloc, table)?, content) else {
         return Ok(None);
     };
-    let (Some(numbers), Some(tables)) = (numbers_of(alloc, table)?, tables_of(alloc, table)?) else {
+    let (Some(numbers), Some(tables)) = (numbers_of(alloc, file)?, tables_of(alloc, file)?) else {
+        return Ok(None);
+    };
+    let Some(sorts) = sorts_of(alloc, file)? else {
         return Ok(None);
     };
     let mut names = Vec::new(alloc);
@@ -343,7 +426,120 @@ pub(crate) fn twice_in(alloc: Global, table: &Table) -> Result<Option<Inside>, A
     put_others(&mut names, content.len())?;
     put_entries(&mut names, "numbers", numbers.as_slice())?;
     put_entries(&mut names, "tables", tables.as_slice())?;
-    first_twice(alloc, names.as_slice())
+    put_sorts(&mut names, sorts.as_slice())?;
+    for kind in kinds {
+        put_name(&mut names, "kind", kind.head.name.as_str())?;
+    }
+    match first_twice(alloc, names.as_slice())? {
+        Some(mistake) => Ok(Some(mistake)),
+        None => field_twice(alloc, sorts.as_slice(), names.as_slice()),
+    }
+}
+
+/// Returns the mistake of the first field that stands at another place in another sort.
+fn apart_mistake(alloc: Global, table: &Table) -> Result<Option<Inside>, AllocError> {
+    match named_sorts_of(alloc, table)? {
+        Some(sorts) => field_twice(alloc, sorts.as_slice(), &[]),
+        None => Ok(None),
+    }
+}
+
+/// Appends the names of sorts of messages.
+fn put_sorts<'a>(names: &mut Vec<Given<'a>>, sorts: &'a [NamedSort]) -> Result<(), AllocError> {
+    for sort in sorts {
+        put_name(names, "messages", sort.name.as_str())?;
+    }
+    Ok(())
+}
+
+/// Appends a name.
+fn put_name<'a>(
+    names: &mut Vec<Given<'a>>,
+    list: &'static str,
+    name: &'a str,
+) -> Result<(), AllocError> {
+    names.push(Given {
+        list,
+        name,
+        text: name,
+    })?;
+    Ok(())
+}
+
+/// A field, and its place in the messages of its sort.
+#[derive(Clone, Copy)]
+struct Placed<'a> {
+    sort: &'a str,
+    name: &'a str,
+    place: usize,
+}
+
+/// Returns the mistake of the first field that is one of these names, or stands at another place in
+/// another sort.
+fn field_twice(
+    alloc: Global,
+    sorts: &[NamedSort],
+    names: &[Given<'_>],
+) -> Result<Option<Inside>, AllocError> {
+    let mut fields = Vec::new(alloc);
+    for sort in sorts {
+        if let Some(why) = sort_twice(alloc, sort, names, &mut fields)? {
+            return Ok(Some(Inside::Name(NameMistake {
+                list: "messages",
+                name: String::from_str(alloc, sort.name.as_str())?,
+                before: 0,
+                is_value: true,
+                why,
+            })));
+        }
+    }
+    Ok(None)
+}
+
+/// Returns what is wrong with the fields of a sort behind those of the sorts before it.
+fn sort_twice<'a>(
+    alloc: Global,
+    sort: &'a NamedSort,
+    names: &[Given<'_>],
+    fields: &mut Vec<Placed<'a>>,
+) -> Result<Option<String>, AllocError> {
+    for (index, field) in sort.fields.iter().enumerate() {
+        let name = field.as_str();
+        let place = index.saturating_add(1);
+        if name == "_" {
+            continue;
+        }
+        if let Some(given) = equal_in(names, name) {
+            let key = given.list;
+            return Ok(Some(if key.is_empty() {
+                format!(in alloc; "{name:?} is also the name of a word of a message")?
+            } else {
+                format!(in alloc; "{name:?} is also a name in {key}")?
+            }));
+        }
+        if let Some(other) = elsewhere(fields.as_slice(), name, place) {
+            let (sort, at) = (other.sort, other.place);
+            return Ok(Some(format!(in alloc;
+                "{name:?} is field {place} here, and field {at} of {sort:?}"
+            )?));
+        }
+        fields.push(Placed {
+            sort: sort.name.as_str(),
+            name,
+            place,
+        })?;
+    }
+    Ok(None)
+}
+
+/// Returns the field of this name at another place, if there is one.
+fn elsewhere<'a>(fields: &[Placed<'a>], name: &str, place: usize) -> Option<Placed<'a>> {
+    for field in fields {
+        if field.name == name && field.place != place {
+            return Some(*field);
+        }
+    }
+    None
 }
 
 /// Returns the mistake of the first of these names that is one before it.

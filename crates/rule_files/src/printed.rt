@@ -3,6 +3,9 @@
 ghost use Rattle.std.specs.Prelude.{◌≡◌, ◌++◌, OnOk, decimal, map, string_bytes};
 ghost use Rattle.rule_files.specs.Arrays.{array_view};
 ghost use Rattle.rule_files.specs.Printed.{array_name, unit, with_array, with_arrays, with_bits};
+ghost use Rattle.rule_files.specs.Printed.{block_of, each_array, rest_of, with_both, with_common};
+ghost use Rattle.rule_files.specs.Printed.{with_each, with_head, with_kind, with_kinds_model};
+ghost use Rattle.rule_files.specs.Printed.{with_sort, with_sorts};
 ghost use Rattle.rule_files.specs.Printed.{with_element};
 ghost use Rattle.rule_files.specs.Printed.{before, behind, content_name, deeper, function_name};
 ghost use Rattle.rule_files.specs.Printed.{in_line, is_choice, is_zero, known_text, law_name};
@@ -13,7 +16,7 @@ ghost use Rattle.rule_files.specs.Printed.{otherwise_layout, outermost, passed, 
 ghost use Rattle.rule_files.specs.Printed.{sign, with_block, with_closing, with_content};
 ghost use Rattle.rule_files.specs.Printed.{with_contents, with_figures, with_indent, with_local};
 ghost use Rattle.rule_files.specs.Printed.{with_margin, with_model, with_names, with_number};
-ghost use Rattle.rule_files.specs.Printed.{with_numbers, with_rules, with_sending, with_statement};
+ghost use Rattle.rule_files.specs.Printed.{with_numbers, with_sending, with_statement};
 ghost use Rattle.rule_files.specs.Printed.{with_table, with_tables, with_value, with_word};
 ghost use Rattle.rule_files.specs.Printed.{with_words};
 ghost use Rattle.rule_files.specs.RuleFile.{other_names};
@@ -21,8 +24,9 @@ ghost use Rattle.rules_text.specs.Grammar.{looseness as looseness_of};
 
 use crate::arrays::NamedArray;
 use crate::dictionary::value_of;
-use crate::file_model::FileNames;
-use crate::scope::{Named, OTHERS};
+use crate::file_model::{FileNames, KindNames};
+use crate::kinds::Head;
+use crate::scope::{Named, NamedSort, OTHERS};
 use itoa::Buffer;
 use rules::{Array, Expression, Known, Law, Operator, Rules, Sending, Statement, Table};
 use std::alloc::AllocError;
@@ -60,15 +64,148 @@ pub(crate) fn put_model(
     put_words(names.words.as_slice(), text)?;
     put_arrays(names.arrays.as_slice(), names.words.len(), text)?;
     put_contents(names.content.as_slice(), text)?;
+    put_sorts(names.sorts.as_slice(), text)?;
     put_numbers(names.numbers.as_slice(), text)?;
     put_tables(names.tables.as_slice(), rules.tables(), text)?;
-    put_rules(names, rules, text)
+    put_both(names, rules.start_rule(), rules.handle_rule(), text)
+}
+
+/// Appends what a model with kinds of processes says: what they have in common, then each kind with
+/// its names and its rules.
+pub(crate) fn put_kinds_model(
+    kinds: &[KindNames],
+    rules: &Rules,
+    text: &mut String,
+) -> Result<(), AllocError>
+    ensures { OnOk result (string_bytes text.new
+        ≡ with_kinds_model kinds.now rules.now.description (string_bytes text.old)) }
+{
+    put_common(kinds, rules.tables(), text)?;
+    put_each(kinds, rules.start_rule(), rules.handle_rule(), text)
+}
+
+/// Appends the sorts of messages, the numbers and the tables, which are the same for each kind.
+fn put_common(kinds: &[KindNames], tables: &[Table], text: &mut String) -> Result<(), AllocError>
+    ensures { OnOk result (string_bytes text.new
+        ≡ with_common kinds.now tables.now (string_bytes text.old)) }
+{
+    match kinds.first() {
+        Some(kind) => {
+            put_sorts(kind.names.sorts.as_slice(), text)?;
+            put_numbers(kind.names.numbers.as_slice(), text)?;
+            put_tables(kind.names.tables.as_slice(), tables, text)
+        }
+        None => Ok(()),
+    }
+}
+
+/// Appends each kind, whose rules are the blocks of two rules for all kinds.
+fn put_each(
+    kinds: &[KindNames],
+    start: &[Statement],
+    handle: &[Statement],
+    text: &mut String,
+) -> Result<(), AllocError>
+    ensures { OnOk result (string_bytes text.new
+        ≡ with_each kinds.now start.now handle.now (string_bytes text.old)) }
+{
+    let mut start = start;
+    let mut handle = handle;
+    'kinds: for kind in kinds {
+        put_kind(kind, block_of(start), block_of(handle), text)?;
+        start = rest_of(start);
+        handle = rest_of(handle);
+    }
+    Ok(())
+}
+
+/// Returns the block of the first kind in a rule for all kinds.
+fn block_of(rule: &[Statement]) -> &[Statement]
+    ensures { result.now ≡ block_of rule.now }
+{
+    match rule {
+        [Statement::If(_, met, _)] => met.as_slice(),
+        _ => &[],
+    }
+}
+
+/// Returns the rule for the kinds behind the first one in a rule for all kinds.
+fn rest_of(rule: &[Statement]) -> &[Statement]
+    ensures { result.now ≡ rest_of rule.now }
+{
+    match rule {
+        [Statement::If(_, _, unmet)] => unmet.as_slice(),
+        _ => &[],
+    }
+}
+
+/// Appends a kind with these rules.
+fn put_kind(
+    kind: &KindNames,
+    start: &[Statement],
+    handle: &[Statement],
+    text: &mut String,
+) -> Result<(), AllocError>
+    ensures { OnOk result (string_bytes text.new
+        ≡ with_kind kind.now start.now handle.now (string_bytes text.old)) }
+{
+    put_head(&kind.head, text)?;
+    put_words(kind.names.words.as_slice(), text)?;
+    put_every_array(kind.names.arrays.as_slice(), text)?;
+    put_bits(kind.names.words.len(), text)?;
+    put_contents(kind.names.content.as_slice(), text)?;
+    put_both(&kind.names, start, handle, text)
+}
+
+/// Appends the name and the processes of a kind.
+fn put_head(head: &Head, text: &mut String) -> Result<(), AllocError>
+    ensures { OnOk result (string_bytes text.new ≡ with_head head.now (string_bytes text.old)) }
+{
+    let (first, count) = (u64::from(head.first), u64::from(head.count));
+    put("kind ", text)?;
+    put(head.name.as_str(), text)?;
+    put(": ", text)?;
+    put_number(count, text)?;
+    put(" (", text)?;
+    put_number(first, text)?;
+    put(" to ", text)?;
+    put_number((first + count).saturating_sub(1), text)?;
+    put(")\n", text)
+}
+
+/// Appends the sorts of messages.
+fn put_sorts(sorts: &[NamedSort], text: &mut String) -> Result<(), AllocError>
+    ensures { OnOk result (string_bytes text.new
+        ≡ with_sorts 0 (string_bytes text.old) sorts.now) }
+{
+    'sorts: for (number, sort) in sorts.iter().enumerate() {
+        put_sort(number as u64, sort, text)?;
+    }
+    Ok(())
+}
+
+/// Appends a sort of messages: its number, its name and its fields.
+fn put_sort(number: u64, sort: &NamedSort, text: &mut String) -> Result<(), AllocError>
+    ensures { OnOk result (string_bytes text.new
+        ≡ with_sort number (string_bytes text.old) sort.now) }
+{
+    put("sort ", text)?;
+    put_number(number, text)?;
+    put(": ", text)?;
+    put(sort.name.as_str(), text)?;
+    put_names(sort.fields.as_slice(), text)?;
+    put("\n", text)
 }
 
 /// Appends both rules.
-fn put_rules(names: &FileNames, rules: &Rules, text: &mut String) -> Result<(), AllocError>
+fn put_both(
+    names: &FileNames,
+    start: &[Statement],
+    handle: &[Statement],
+    text: &mut String,
+) -> Result<(), AllocError>
     ensures { OnOk result (string_bytes text.new
-        ≡ with_rules names.now rules.now.description (string_bytes text.old)) }
+        ≡ with_both names.now start.now handle.now (string_bytes text.old)) }
 {
     let at = Layout {
         depth: 1,
@@ -77,21 +214,14 @@ fn put_rules(names: &FileNames, rules: &Rules, text: &mut String) -> Result<(), 
     };
     let (mut first, mut second) = (0, 0);
     put("start:\n", text)?;
-    put_block(
-        names,
-        names.start.as_slice(),
-        at,
-        &mut first,
-        rules.start_rule(),
-        text,
-    )?;
+    put_block(names, names.start.as_slice(), at, &mut first, start, text)?;
     put("handle:\n", text)?;
     put_block(
         names,
         names.handle.as_slice(),
         at,
         &mut second,
-        rules.handle_rule(),
+        handle,
         text,
     )
 }
@@ -171,14 +301,23 @@ fn put_arrays(arrays: &[NamedArray], words: usize, text: &mut String) -> Result<
     ensures { OnOk result (string_bytes text.new
         ≡ with_arrays (string_bytes text.old) (map array_view arrays.now) words) }
 {
-    'arrays: for array in arrays {
-        put_array(array, text)?;
-    }
+    put_every_array(arrays, text)?;
     if arrays.is_empty() {
         Ok(())
     } else {
         put_bits(words, text)
     }
+}
+
+/// Appends the arrays.
+fn put_every_array(arrays: &[NamedArray], text: &mut String) -> Result<(), AllocError>
+    ensures { OnOk result (string_bytes text.new
+        ≡ each_array (string_bytes text.old) (map array_view arrays.now)) }
+{
+    'arrays: for array in arrays {
+        put_array(array, text)?;
+    }
+    Ok(())
 }
 
 /// Appends the bits of a state with so many words.

@@ -24,6 +24,9 @@ pub enum RuleMistake {
     /// It exceeds this limit.
     #[error("more than {0} on some way through it")]
     Exceeds(Limit),
+    /// It has more steps than the rule of a kind may have.
+    #[error("more than 65280 steps on some way through it")]
+    TooLong,
 }
 
 #[tactic(auto, unfolding(crate::specs::Reading::Spells))]
@@ -31,7 +34,7 @@ pub enum RuleMistake {
 /// spells no rule within the limits.
 pub(crate) fn read_rule(
     alloc: Global,
-    scope: &Scope,
+    scope: &Scope<'_, '_>,
     text: &str,
 ) -> Result<Result<Vec<Statement>, RuleMistake>, AllocError>
     ensures ok { IfOk result (λ read. IfOk read (λ rule.

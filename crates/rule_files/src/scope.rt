@@ -5,9 +5,11 @@ ghost use Rattle.std.specs.List.{list_all};
 ghost use Rattle.rule_files.specs.Names.{are_distinct, is_among, is_key, is_letter, is_name};
 ghost use Rattle.rule_files.specs.Names.{is_word, is_word_byte, reserved};
 ghost use Rattle.rule_files.specs.Arrays.{array_view};
-ghost use Rattle.rule_files.specs.RuleFile.{named_view, names_of, other_names, parts_view};
+ghost use Rattle.rule_files.specs.RuleFile.{field_view, kind_view, named_view, names_of};
+ghost use Rattle.rule_files.specs.RuleFile.{other_names, parts_view, sort_view};
 
 use crate::arrays::NamedArray;
+use crate::kinds::KindTable;
 use std::alloc::{AllocError, Global};
 
 /// A name with numbers: one for a named number, one or more for a table.
@@ -19,9 +21,27 @@ pub struct Named {
     pub numbers: Vec<u64>,
 }
 
+/// A sort of messages.
+#[derive(Debug, Drop)]
+pub struct NamedSort {
+    /// The name.
+    pub name: String,
+    /// The names of the words behind its number, by their places, at most 3. `_` is no name.
+    pub fields: Vec<String>,
+}
+
+/// A name of a word of content that some sort has.
+#[derive(Debug, Drop)]
+pub struct Field {
+    /// The name.
+    pub name: String,
+    /// The place of the word.
+    pub place: u8,
+}
+
 /// The names that the rules of a model can use, beside those of the language.
 #[derive(Debug, Drop)]
-pub struct Scope {
+pub struct Scope<'a, 't> {
     /// The words of the state, by their places. One of them may be `key`, which rules neither read
     /// nor set.
     pub words: Vec<String>,
@@ -34,6 +54,14 @@ pub struct Scope {
     pub numbers: Vec<Named>,
     /// The tables, by their places: in the order of the bytes of their names.
     pub tables: Vec<Named>,
+    /// The sorts of messages, by their numbers: in the order of the bytes of their names.
+    pub sorts: Vec<NamedSort>,
+    /// The fields of all sorts, each once.
+    pub fields: Vec<Field>,
+    /// The kinds of processes.
+    pub kinds: &'a [KindTable<'t>],
+    /// The first process of the kind whose rules these names are for.
+    pub own: Option<u32>,
 }
 
 /// The words of the language, which are no names. `key` may be a word of the state.
@@ -133,7 +161,7 @@ fn is_among(name: &str, names: &[&str]) -> bool
 }
 
 /// Returns whether no name of a scope is there twice.
-pub(crate) fn has_distinct_names(alloc: Global, scope: &Scope) -> Result<bool, AllocError>
+pub(crate) fn has_distinct_names(alloc: Global, scope: &Scope<'_, '_>) -> Result<bool, AllocError>
     ensures { IfOk result (λ holds. holds ≡ are_distinct (names_of (parts_view scope.now))) }
 {
     let mut names = Vec::new(alloc);
@@ -143,6 +171,19 @@ pub(crate) fn has_distinct_names(alloc: Global, scope: &Scope) -> Result<bool, A
     put_named(&mut names, scope.numbers.as_slice())?;
     put_named(&mut names, scope.tables.as_slice())?;
     put_arrays(&mut names, scope.arrays.as_slice())?;
+    put_sorts(&mut names, scope.sorts.as_slice())?;
+    put_fields(&mut names, scope.fields.as_slice())?;
+    put_kinds(&mut names, scope.kinds)?;
+    Ok(are_distinct(names.as_slice()))
+}
+
+/// Returns whether no name of a field is there twice.
+pub(crate) fn are_distinct_fields(alloc: Global, fields: &[Field]) -> Result<bool, AllocError>
+    ensures { IfOk result (λ holds. holds
+        ≡ are_distinct (map (λ f. f.0) (map field_view fields.now))) }
+{
+    let mut names = Vec::new(alloc);
+    put_fields(&mut names, fields)?;
     Ok(are_distinct(names.as_slice()))
 }
 
@@ -189,6 +230,39 @@ fn put_arrays<'a>(names: &mut Vec<&'a str>, more: &'a [NamedArray]) -> Result<()
 {
     for array in more {
         names.push(array.name.as_str())?;
+    }
+    Ok(())
+}
+
+/// Appends the names of sorts of messages to a list.
+fn put_sorts<'a>(names: &mut Vec<&'a str>, more: &'a [NamedSort]) -> Result<(), AllocError>
+    ensures { OnOk result (map (λ n. n.now) names.new.items
+        ≡ map (λ n. n.now) names.old.items ++ map (λ s. s.0) (map sort_view more.now)) }
+{
+    for sort in more {
+        names.push(sort.name.as_str())?;
+    }
+    Ok(())
+}
+
+/// Appends the names of fields to a list.
+fn put_fields<'a>(names: &mut Vec<&'a str>, more: &'a [Field]) -> Result<(), AllocError>
+    ensures { OnOk result (map (λ n. n.now) names.new.items
+        ≡ map (λ n. n.now) names.old.items ++ map (λ f. f.0) (map field_view more.now)) }
+{
+    for field in more {
+        names.push(field.name.as_str())?;
+    }
+    Ok(())
+}
+
+/// Appends the names of kinds to a list.
+fn put_kinds<'a>(names: &mut Vec<&'a str>, more: &'a [KindTable<'_>]) -> Result<(), AllocError>
+    ensures { OnOk result (map (λ n. n.now) names.new.items ≡ map (λ n. n.now) names.old.items
+        ++ map (λ k. k.name) (map (λ k. kind_view k.head) more.now)) }
+{
+    for kind in more {
+        names.push(kind.head.name.as_str())?;
     }
     Ok(())
 }

@@ -141,32 +141,150 @@ fn the_rules_of_a_file_are_read_or_its_mistakes_are_found(rt: HostRuntime) -> Re
     Ok(())
 }
 
-/// A file with an array of 20 bits between two words.
-const NAMED: &str = "
+/// Files with kinds and sorts, and their mistakes.
+const KINDS: &str = r#"model = 'rules'
+end = 9
+[messages]
+go = ['left', '_', 'note']
+stop = ['left']
+[[kind]]
+name = 'one'
+count = 65535
+state = ['n', 'q[3]: 16 bits']
+start = 'send to two[self] after 1 with go, one.count'
+handle = 'on go { n = left } on stop { q[0] = note }'
+[[kind]]
+name = 'two'
+count = 1
+state = []
+start = ''
+handle = 'repeat i 9 until i == left { }'
+=>
+--
 model = 'rules'
 lps = 2
 end = 9
-state = ['n', 'q[4]: 20 bits', 'm']
-message = ['job']
-[rules]
+[messages]
+go = ['left', 'left']
+[[kind]]
+name = 'let'
+count = 0
+state = ['n', 3]
+message = ['m']
+start = ''
+handle = ''
+=>
+  messages.go: "left" is field 2 here, and field 1 of "go"
+  name: a string; expected a name
+  count: 0; expected a whole number from 1 to 65536
+  state: item 2: 3; expected a name
+  message: the words are named in messages, sort by sort
+  "lps": the model has no such key
+--
+model = 'rules'
+end = 9
+[[kind]]
+name = 'one'
+count = 65535
+state = []
+start = ''
+handle = ''
+[[kind]]
+name = 'two'
+count = 2
+state = []
+start = ''
+handle = ''
+=>
+  kind: a list; expected tables with at most 65536 processes in all
+--
+model = 'rules'
+end = 9
+[[kind]]
+name = 'one'
+count = 1
+state = ['one', 'key']
+start = ''
+handle = ''
+[[kind]]
+name = 'two'
+count = 1
+state = ['n']
+start = 'n = draw(2)'
+handle = 'n = one n = self'
+=>
+  seed: missing; expected a whole number from 0 to 9223372036854775807 if the state has key, otherwise nothing
+  state: "one" is also a name in kind
+  start, line 1, column 5: "draw" is neither read nor set
+  handle, line 1, column 9: "[" or ".count" is wanted here, behind a kind of processes
+"#;
+
+#[test]
+fn kinds_are_read_or_their_mistakes_are_found(rt: HostRuntime) -> Result<(), Fail> {
+    assert_eq!(rt; wrong_file::<FileModel>(rt.alloc(), "", KINDS, "")?, None);
+    Ok(())
+}
+
+/// A file with two kinds, the second one with an array of 20 bits behind the key.
+const NAMED: &str = "
+model = 'rules'
+end = 9
+seed = 1
+[messages]
+go = ['_', 'note']
+[[kind]]
+name = 'one'
+count = 2
+state = ['n']
+start = ''
+handle = ''
+[[kind]]
+name = 'two'
+count = 3
+state = ['m', 'q[4]: 20 bits', 'key']
 start = ''
 handle = ''
 ";
 
 #[test]
-fn a_model_has_the_names_of_its_words_and_elements(rt: HostRuntime) -> Result<(), Fail> {
+fn a_model_has_the_names_of_its_words(rt: HostRuntime) -> Result<(), Fail> {
+    let text = format!(in rt.alloc(); "{KEYS}start = ''\nhandle = ''\n")?;
+    let (model, _end): (FileModel, u64) = read_model(rt.alloc(), text.as_str())?;
+    let printed = match model.names() {
+        Some(names) => format!(in rt.alloc(); "{names:?}")?,
+        None => String::new(rt.alloc()),
+    };
+    assert_eq!(rt;
+        printed.as_str(),
+        "Names { kinds: [Kind { name: \"\", first: 0, count: 2, columns: [\
+        Column { name: \"n\", place: 0, shift: 0, bits: 64 }, \
+        Column { name: \"key\", place: 1, shift: 0, bits: 64 }, \
+        Column { name: \"m\", place: 2, shift: 0, bits: 64 }] }], \
+        sorts: [Sort { name: \"\", words: [\"job\"] }] }"
+    );
+    Ok(())
+}
+
+#[test]
+fn kinds_have_the_names_of_their_words_and_elements(rt: HostRuntime) -> Result<(), Fail> {
     let (model, _end): (FileModel, u64) = read_model(rt.alloc(), NAMED)?;
     let printed = match model.names() {
         Some(names) => format!(in rt.alloc(); "{names:?}")?,
         None => String::new(rt.alloc()),
     };
-    assert_eq!(rt; printed.as_str(), "Names { kinds: [Kind { name: \"\", first: 0, count: 2, columns: [\
-        Column { name: \"n\", place: 0, shift: 0, bits: 64 }, \
-        Column { name: \"q[0]\", place: 1, shift: 0, bits: 20 }, \
-        Column { name: \"q[1]\", place: 1, shift: 20, bits: 20 }, \
-        Column { name: \"q[2]\", place: 1, shift: 40, bits: 20 }, \
-        Column { name: \"q[3]\", place: 2, shift: 0, bits: 20 }, \
-        Column { name: \"m\", place: 3, shift: 0, bits: 64 }] }], \
-        sorts: [Sort { name: \"\", words: [\"job\"] }] }");
+    assert_eq!(rt;
+        printed.as_str(),
+        "Names { kinds: [Kind { name: \"one\", first: 0, count: 2, columns: [\
+        Column { name: \"key\", place: 0, shift: 0, bits: 64 }, \
+        Column { name: \"n\", place: 1, shift: 0, bits: 64 }] }, \
+        Kind { name: \"two\", first: 2, count: 3, columns: [\
+        Column { name: \"key\", place: 0, shift: 0, bits: 64 }, \
+        Column { name: \"m\", place: 1, shift: 0, bits: 64 }, \
+        Column { name: \"q[0]\", place: 2, shift: 0, bits: 20 }, \
+        Column { name: \"q[1]\", place: 2, shift: 20, bits: 20 }, \
+        Column { name: \"q[2]\", place: 2, shift: 40, bits: 20 }, \
+        Column { name: \"q[3]\", place: 3, shift: 0, bits: 20 }] }], \
+        sorts: [Sort { name: \"go\", words: [\"\", \"\", \"note\"] }] }"
+    );
     Ok(())
 }

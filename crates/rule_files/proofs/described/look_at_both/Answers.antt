@@ -1,7 +1,8 @@
 use Rattle.std.proofs.Common.{◌≡◌, ◌++◌, ap, codes, is_some, map, string_bytes, ◌∙◌}
 use Rattle.toml.specs.View.{table_view}
 use Rattle.texts.specs.ModelFile.{words_wrong}
-use Rattle.rule_files.specs.FileTable.{key_from, key_of, seed_of}
+use Rattle.rule_files.specs.Arrays.{key_from}
+use Rattle.rule_files.specs.FileTable.{key_of, seed_of}
 use Rattle.rule_files.specs.RuleFile.{parts_view}
 use Rattle.rule_files.proofs.Right.{both_none, both_some, on_ok}
 use Rattle.rule_files.proofs.described.look_at_both.Goals as goal

@@ -9,9 +9,9 @@ pub names-preserved : goal.names-preserved
 names-preserved c =
     let bytes : string_bytes c.in_ok-name.name ≡ c.as_str-text.result.now = search rules in
     let some : numbers_in c.args.is_table (view c.in-Some.value.now) ≡ Some c.in-Some-2.numbers.items = sym (rw c.in-Some-2.is at c.in_ok-numbers.ensures) in
-    named_more c.args.is_table c.names.key-iterator c.next.new.self c.in-Some.key.now c.in-Some.value.now c.as_str-text.result.now
+    named_more (numbers_in c.args.is_table) c.names.key-iterator c.next.new.self c.in-Some.key.now c.in-Some.value.now c.as_str-text.result.now
     c.in-Some.ensures.steps c.as_str-text.ensures.value c.is_name.result c.is_name.ensures c.if-not-is_name.false
-    c.in-Some-2.numbers.items some (map named_view c.names.all.items) (map named_view c.push.new.self.items) (named_in c.args.is_table (members_view c.args.table.now.entries))
+    c.in-Some-2.numbers.items some (map named_view c.names.all.items) (map named_view c.push.new.self.items) (named_in (numbers_in c.args.is_table) (members_view c.args.table.now.entries))
     (ap (map named_view) c.in_ok-push.ensures.items ∙ map-append named_view c.names.all.items _
     ∙ ap (λ text. map named_view c.names.all.items ++ (text, c.in-Some-2.numbers.items) ∷ []) bytes)
     c.names.invariant
