@@ -22,6 +22,7 @@ ghost use Rattle.toml.specs.Data.{as_table, get_member, string};
 ghost use Rattle.toml.specs.View.{table_view};
 
 use crate::arrays::key_of;
+use crate::dictionary::dictionary_of;
 use crate::digest::digest_of;
 use crate::entries::{
     CONTENT, NUMBERS, SORTS, TABLES, TWICE, WORDS, are_sorts, has_content, has_numbers, has_scope,
@@ -674,7 +675,7 @@ fn look_at_rule(
     match rule_at(alloc, scope, rules, key)? {
         Ok(_) => found.words_at(alloc, rules, key, RULE, true),
         Err(mistake) => {
-            let inside = inside_of(alloc, rules, key, &mistake)?;
+            let inside = inside_of(alloc, scope, rules, key, &mistake)?;
             found.inside_at(alloc, rules, key, RULE, false, inside)
         }
     }
@@ -683,6 +684,7 @@ fn look_at_rule(
 /// Returns the mistake inside the text of a rule. A limit is exceeded at the beginning of the rule.
 pub(crate) fn inside_of(
     alloc: Global,
+    scope: &Scope<'_, '_>,
     rules: &Table,
     key: &str,
     mistake: &RuleMistake,
@@ -692,9 +694,11 @@ pub(crate) fn inside_of(
     };
     let (line, column, why) = match mistake {
         RuleMistake::NoText => return Ok(None),
-        RuleMistake::Text(Place { line, column, kind }) => {
-            (*line, *column, format!(in alloc; "{kind}")?)
-        }
+        RuleMistake::Text(first) => (
+            first.line,
+            first.column,
+            mistakes_of(alloc, scope, text, first)?,
+        ),
         RuleMistake::Exceeds(_) | RuleMistake::TooLong => (1, 1, format!(in alloc; "{mistake}")?),
     };
     let text = String::from_str(alloc, text)?;
@@ -704,4 +708,26 @@ pub(crate) fn inside_of(
         column,
         why,
     })))
+}
+
+/// Returns what is wrong at the first mistake of a rule's text, and the other mistakes with their
+/// places in the text.
+fn mistakes_of(
+    alloc: Global,
+    scope: &Scope<'_, '_>,
+    text: &str,
+    first: &Place,
+) -> Result<String, AllocError> {
+    let names = dictionary_of(alloc, scope)?;
+    let all = rules_text::find_mistakes(alloc, &names, text)?;
+    let kind = &first.kind;
+    let mut why = format!(in alloc; "{kind}")?;
+    for (place, other) in all.iter().enumerate() {
+        if place > 0 {
+            let (line, column, kind) = (other.line, other.column, &other.kind);
+            let more = format!(in alloc; "; line {line}, column {column}: {kind}")?;
+            why.push_str(more.as_str())?;
+        }
+    }
+    Ok(why)
 }

@@ -197,7 +197,7 @@ fn look_at_short(
     match short_rule_at(alloc, scope, table, key)? {
         Ok(_) => found.words_at(alloc, table, key, RULE, true),
         Err(mistake) => {
-            let inside = inside_of(alloc, table, key, &mistake)?;
+            let inside = inside_of(alloc, scope, table, key, &mistake)?;
             found.inside_at(alloc, table, key, RULE, false, inside)
         }
     }
