@@ -420,7 +420,7 @@ class Reader:
                 count = self.model.numbers.get(count, self.model.sorts.get(count)) if isinstance(count, str) else count
                 if count is None or count >= 2**32:
                     raise Refused("no count")
-                if self.peek() == "until":
+                if self.peek() == "until" and not self.is_used("until"):
                     self.next()
                     self.local.append(name)
                     x = self.value(depth)
