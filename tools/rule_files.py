@@ -234,7 +234,7 @@ def read(text):
 
 # ---- rules
 
-TOKEN = re.compile(r"\s*(?:#[^\n]*\n?\s*)*(?:([A-Za-z_][A-Za-z0-9_]*)|([0-9][0-9_]*)|(<<|>>|<=|>=|==|!=|&&|\|\||[-+*/%&|^!<>=(){}\[\],.]))")
+TOKEN = re.compile(r"\s*(?:#[^\n]*\n?\s*)*(?:([A-Za-z_][A-Za-z0-9_]*)|([0-9][0-9_]*)|(<<|>>|<=|>=|==|!=|&&|\|\||\.count(?![A-Za-z0-9_])|[-+*/%&|^!<>=(){}\[\],]))")
 SPACE = re.compile(r"\s*(?:#[^\n]*\n?\s*)*")
 
 
@@ -250,7 +250,7 @@ def lexemes(text):
         at = token.end()
         if token[2]:
             digits = token[2]
-            if "__" in digits or digits.endswith("_") or int(digits.replace("_", "")) > MOST:
+            if "__" in digits or digits.endswith("_") or text[at:at + 1].isalpha() or int(digits.replace("_", "")) > MOST:
                 raise Refused(f"{digits} is no number")
             found.append(int(digits.replace("_", "")))
         else:
@@ -362,8 +362,7 @@ class Reader:
             return ("element", name, self.index(depth))
         if name in self.kinds:
             kind = self.kinds[name]
-            if self.has("."):
-                self.want("count")
+            if self.has(".count"):
                 return ("number", kind.count)
             return ("+", ("number", kind.first), ("%", self.index(depth), ("number", kind.count)))
         if name == "self" and self.model.has_kinds:
