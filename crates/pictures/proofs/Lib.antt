@@ -9,3 +9,4 @@ pub mod Values
 pub mod Roots
 pub mod Buckets
 pub mod Columns
+pub mod Passed  -- laws of a simulation that forgets

@@ -10,6 +10,7 @@ pub mod Drawing  -- the space-time diagram
 pub mod Load  -- the load, as a heat map
 pub mod Turns  -- the rows of a trace
 pub mod Course  -- the course of a run, round by round
+pub mod Stepping  -- a simulation that forgets the events that it has handled
 -- Inside
 pub mod Filled  -- texts with placeholders for numbers
 pub mod Inside  -- the value of a trace that contracts see

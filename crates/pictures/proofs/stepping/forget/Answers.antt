@@ -1,0 +1,2 @@
+use Rattle.std.proofs.Common.{◌∙◌, ap, refl}
+use Rattle.pictures.proofs.stepping.forget.Goals as goal
