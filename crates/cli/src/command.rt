@@ -1,6 +1,6 @@
 // The commands and their arguments.
 
-ghost use Rattle.std.specs.Prelude.{◌≡◌, []};
+ghost use Rattle.std.specs.Prelude.{◌≡◌, [], None};
 ghost use Rattle.cli.specs.Command.{model_of};
 
 /// A parsed command.
@@ -80,6 +80,8 @@ pub struct ModelFile<'a> {
     pub path: &'a str,
     /// What is set.
     pub settings: Settings<'a>,
+    /// The path of the disk whose kept model is read in place of the file; none for the file.
+    pub kept_by: Option<&'a str>,
 }
 
 impl<'a> ModelFile<'a> {
@@ -87,10 +89,12 @@ impl<'a> ModelFile<'a> {
     pub fn at(path: &'a str) -> ModelFile<'a>
         ensures path { result.path ≡ path.entry }
         ensures unset { result.settings.now ≡ [] }
+        ensures file { result.kept_by ≡ None }
     {
         ModelFile {
             path,
             settings: &[],
+            kept_by: None,
         }
     }
 }
@@ -138,6 +142,8 @@ pub struct NewArgs<'a> {
     /// The path of the disk whose committed world the new one goes on from; none for a disk that
     /// begins as its model does.
     pub from: Option<&'a str>,
+    /// Whether the text of the model is kept in a file beside the disk.
+    pub keep_model: bool,
 }
 
 /// The arguments of `run`.
@@ -204,6 +210,8 @@ pub struct RunArgs<'a> {
     pub sectors: u32,
     /// Whether the file of a disk that is made gets its whole room on the device at once.
     pub reserve: bool,
+    /// Whether the text of the model is kept in a file beside a disk that is made.
+    pub keep_model: bool,
 }
 
 /// How many messages a node may handle at a turn.
@@ -287,6 +295,8 @@ pub struct InfoArgs<'a> {
     pub disk: &'a str,
     /// Whether the disk may have up to 16,777,216 sectors instead of 131,072.
     pub large: bool,
+    /// Whether the model file that the disk keeps is printed, and nothing else.
+    pub model: bool,
     /// The format of what is printed.
     pub format: Format,
 }
@@ -394,6 +404,9 @@ pub struct DrawArgs<'a> {
     pub trace: Option<&'a str>,
     /// Whether a value change dump of the named numbers is printed instead of a picture.
     pub vcd: bool,
+    /// The name of the word of messages whose values are drawn as a histogram; none for a picture
+    /// of the run.
+    pub histogram: Option<&'a str>,
 }
 
 /// The arguments of `node`.

@@ -46,33 +46,33 @@ fn words_of(alloc: Global, line: &str) -> Result<Vec<&str>, AllocError> {
 /// What most commands are read as if they have no options: with the model file `a` and, where the
 /// command needs them, the disk or the socket `b`, or the disks `b` and `c`.
 const PLAIN: &str = "\
-Run(RunArgs { on: DiskArgs { model: ModelFile { path: \"a\", settings: [] }, disk: \"b\", large: false }, nodes: 1, batch: \
+Run(RunArgs { on: DiskArgs { model: ModelFile { path: \"a\", settings: [], kept_by: None }, disk: \"b\", large: false }, nodes: 1, batch: \
 Fixed(16), rounds: 1000000, checkpoint: None, seal: false, commit_every: None, sockets: None, \
 cut: None, together: false, overlap: false, plain: false, attach: false, bind: false, judge: \
 None, silence: None, retries: None, grow_when_full: false, archive_when_full: false, keep: None, \
-trace: None, stop_file: None, progress: None, create: false, sectors: 4096, reserve: false })
-Log(LogArgs { on: DiskArgs { model: ModelFile { path: \"a\", settings: [] }, disk: \"b\", large: false }, from: None, to: None, \
+trace: None, stop_file: None, progress: None, create: false, sectors: 4096, reserve: false, keep_model: false })
+Log(LogArgs { on: DiskArgs { model: ModelFile { path: \"a\", settings: [], kept_by: None }, disk: \"b\", large: false }, from: None, to: None, \
 process: None, names: false, format: Text })
-Draw(DrawArgs { of: SourceArgs { model: ModelFile { path: \"a\", settings: [] }, disk: None, large: false }, from: None, to: None, \
-processes: None, load: false, trace: None, vcd: false })
-Stats(StatsArgs { of: SourceArgs { model: ModelFile { path: \"a\", settings: [] }, disk: None, large: false }, format: Text, names: \
+Draw(DrawArgs { of: SourceArgs { model: ModelFile { path: \"a\", settings: [], kept_by: None }, disk: None, large: false }, from: None, to: None, \
+processes: None, load: false, trace: None, vcd: false, histogram: None })
+Stats(StatsArgs { of: SourceArgs { model: ModelFile { path: \"a\", settings: [], kept_by: None }, disk: None, large: false }, format: Text, names: \
 false, table: None, warm_up: None })
-New(NewArgs { on: DiskArgs { model: ModelFile { path: \"a\", settings: [] }, disk: \"b\", large: false }, sectors: 4096, reserve: \
-false, over: false, from: None })
-Migrate(MigrateArgs { model: ModelFile { path: \"a\", settings: [] }, old: \"b\", new: \"c\", sectors: 4096, reserve: false, large: \
+New(NewArgs { on: DiskArgs { model: ModelFile { path: \"a\", settings: [], kept_by: None }, disk: \"b\", large: false }, sectors: 4096, reserve: \
+false, over: false, from: None, keep_model: false })
+Migrate(MigrateArgs { model: ModelFile { path: \"a\", settings: [], kept_by: None }, old: \"b\", new: \"c\", sectors: 4096, reserve: false, large: \
 false })
-Recover(RecoverArgs { model: ModelFile { path: \"a\", settings: [] }, old: \"b\", new: \"c\", sectors: 4096, reserve: false, large: \
+Recover(RecoverArgs { model: ModelFile { path: \"a\", settings: [], kept_by: None }, old: \"b\", new: \"c\", sectors: 4096, reserve: false, large: \
 false })
-Node(NodeArgs { model: ModelFile { path: \"a\", settings: [] }, socket: \"b\", parcels: 4294967295 })
-Extend(DiskArgs { model: ModelFile { path: \"a\", settings: [] }, disk: \"b\", large: false })
-Status(StatusArgs { on: DiskArgs { model: ModelFile { path: \"a\", settings: [] }, disk: \"b\", large: false }, format: Text })
-Reopen(DiskArgs { model: ModelFile { path: \"a\", settings: [] }, disk: \"b\", large: false })
-Cut(DiskArgs { model: ModelFile { path: \"a\", settings: [] }, disk: \"b\", large: false })
-Verify(VerifyArgs { on: DiskArgs { model: ModelFile { path: \"a\", settings: [] }, disk: \"b\", large: false }, after: None })
-Show(ShowArgs { on: DiskArgs { model: ModelFile { path: \"a\", settings: [] }, disk: \"b\", large: false }, names: false, pending: false, format: Text })
-Info(InfoArgs { disk: \"b\", large: false, format: Text })
-Seq(SeqArgs { model: ModelFile { path: \"a\", settings: [] }, format: Text })
-Grow(GrowArgs { on: DiskArgs { model: ModelFile { path: \"a\", settings: [] }, disk: \"b\", large: false }, sectors: 131072 })
+Node(NodeArgs { model: ModelFile { path: \"a\", settings: [], kept_by: None }, socket: \"b\", parcels: 4294967295 })
+Extend(DiskArgs { model: ModelFile { path: \"a\", settings: [], kept_by: None }, disk: \"b\", large: false })
+Status(StatusArgs { on: DiskArgs { model: ModelFile { path: \"a\", settings: [], kept_by: None }, disk: \"b\", large: false }, format: Text })
+Reopen(DiskArgs { model: ModelFile { path: \"a\", settings: [], kept_by: None }, disk: \"b\", large: false })
+Cut(DiskArgs { model: ModelFile { path: \"a\", settings: [], kept_by: None }, disk: \"b\", large: false })
+Verify(VerifyArgs { on: DiskArgs { model: ModelFile { path: \"a\", settings: [], kept_by: None }, disk: \"b\", large: false }, after: None })
+Show(ShowArgs { on: DiskArgs { model: ModelFile { path: \"a\", settings: [], kept_by: None }, disk: \"b\", large: false }, names: false, pending: false, format: Text })
+Info(InfoArgs { disk: \"b\", large: false, model: false, format: Text })
+Seq(SeqArgs { model: ModelFile { path: \"a\", settings: [], kept_by: None }, format: Text })
+Grow(GrowArgs { on: DiskArgs { model: ModelFile { path: \"a\", settings: [], kept_by: None }, disk: \"b\", large: false }, sectors: 131072 })
 ";
 
 fn plain_of(name: &str) -> &'static str {
@@ -174,6 +174,8 @@ timewarp status a b --format csv => Status, format: Csv
 timewarp info b => Info
 timewarp info --format=json --large b --quiet => Info, large: true, format: Json
 timewarp log a b --format json --names => Log, names: true, format: Json
+timewarp info b --model => Info, model: true
+timewarp info --format text --model b => Info, model: true
 timewarp verify a b => Verify
 timewarp verify a --after=c b => Verify, after: Some("c")
 timewarp cut a b => Cut
@@ -186,17 +188,32 @@ timewarp stats a b --format=csv --names => Stats, disk: Some("b"), format: Csv, 
 timewarp stats a --table totals => Stats, table: Some(Totals)
 timewarp stats a --warm-up=5 --table kinds --format=json => Stats, format: Json, table: Some(Kinds), warm_up: Some(5)
 timewarp draw a => Draw
-timewarp draw --processes 3..3 a b --trace=t --from=5 --to 9 => Draw(DrawArgs { of: SourceArgs { model: ModelFile { path: "a", settings: [] }, disk: Some("b"), large: false }, from: Some(5), to: Some(9), processes: Some((3, 3)), load: false, trace: Some("t"), vcd: false })
+timewarp draw --processes 3..3 a b --trace=t --from=5 --to 9 => Draw(DrawArgs { of: SourceArgs { model: ModelFile { path: "a", settings: [], kept_by: None }, disk: Some("b"), large: false }, from: Some(5), to: Some(9), processes: Some((3, 3)), load: false, trace: Some("t"), vcd: false, histogram: None })
 timewarp draw a --format vcd --to=9 => Draw, to: Some(9), vcd: true
 timewarp draw a --format=svg => Draw
+timewarp draw a b --histogram=wait --to 9 => Draw, disk: Some("b"), to: Some(9), histogram: Some("wait")
 timewarp show a b --pending --format csv => Show, pending: true, format: Csv
 timewarp show a --names b => Show, names: true
-timewarp check a => Check(ModelArgs { model: ModelFile { path: "a", settings: [] } })
+# Where a command looks at a disk, the model file `-` is the one that the disk keeps.
+timewarp status - b => Status, Status(StatusArgs { on: DiskArgs { model: ModelFile { path: "-", kept_by: Some("b")
+timewarp verify - b --after c => Verify, Verify(VerifyArgs { on: DiskArgs { model: ModelFile { path: "-", kept_by: Some("b"), after: Some("c")
+timewarp log - b => Log, Log(LogArgs { on: DiskArgs { model: ModelFile { path: "-", kept_by: Some("b")
+timewarp show -- - b => Show, Show(ShowArgs { on: DiskArgs { model: ModelFile { path: "-", kept_by: Some("b")
+timewarp stats - b => Stats, Stats(StatsArgs { of: SourceArgs { model: ModelFile { path: "-", kept_by: Some("b"), disk: Some("b")
+timewarp draw - b => Draw, Draw(DrawArgs { of: SourceArgs { model: ModelFile { path: "-", kept_by: Some("b"), disk: Some("b")
+# Without a disk, and for all other commands, `-` is a path.
+timewarp stats - => Stats, Stats(StatsArgs { of: SourceArgs { model: ModelFile { path: "-"
+timewarp seq - => Seq, Seq(SeqArgs { model: ModelFile { path: "-"
+timewarp new - b => New, New(NewArgs { on: DiskArgs { model: ModelFile { path: "-"
+timewarp extend - b => Extend, Extend(DiskArgs { model: ModelFile { path: "-"
+timewarp status ./- b => Status, Status(StatusArgs { on: DiskArgs { model: ModelFile { path: "./-"
+timewarp check a => Check(ModelArgs { model: ModelFile { path: "a", settings: [], kept_by: None } })
 # The default is 4096 sectors.
 timewarp new a b => New
 timewarp new a b --sectors 131072 => New, sectors: 131072
 timewarp new a --reserve b => New, reserve: true
 timewarp new --over a b => New, over: true
+timewarp new a b --keep-model => New, keep_model: true
 timewarp new a b --from c --sectors=8 => New, sectors: 8, from: Some("c")
 timewarp migrate a b c --reserve => Migrate, reserve: true
 timewarp extend a b => Extend
@@ -249,6 +266,7 @@ timewarp run a b --archive-when-full => Run, archive_when_full: true
 timewarp run a b --keep=0 --archive-when-full => Run, archive_when_full: true, keep: Some(0)
 timewarp run a b --archive-when-full --keep 4294967295 => Run, archive_when_full: true, keep: Some(4294967295)
 timewarp run a b --create --reserve => Run, create: true, reserve: true
+timewarp run a b --keep-model --create => Run, create: true, keep_model: true
 timewarp run a b --large --create --sectors 16777216 => Run, large: true, create: true, sectors: 16777216
 timewarp run --batch=auto a b => Run, batch: Auto
 # After `--` no word is an option.
@@ -293,6 +311,7 @@ timewarp run a b --silence 1 => MissingRequiredArgument
 timewarp run a b --plain --retries=0 => MissingRequiredArgument
 timewarp run a b --sectors=4096 => MissingRequiredArgument
 timewarp run a b --reserve => MissingRequiredArgument
+timewarp run a b --keep-model => MissingRequiredArgument
 timewarp run a b --seal --plain => MissingRequiredArgument
 timewarp run a b --together --overlap => ArgumentConflict
 timewarp run a b --sockets=s --attach --bind => ArgumentConflict
@@ -305,6 +324,13 @@ timewarp run a b --overlap --plain => ArgumentConflict
 timewarp draw a --load --trace t => ArgumentConflict
 timewarp draw a --load --format vcd => ArgumentConflict
 timewarp draw a --trace=t --format=vcd => ArgumentConflict
+timewarp draw a --histogram w --load => ArgumentConflict
+timewarp draw a --trace t --histogram=w => ArgumentConflict
+timewarp draw a --format=vcd --histogram w => ArgumentConflict
+timewarp draw a --histogram= => InvalidValue
+timewarp info a --model --format csv => ArgumentConflict
+timewarp info a --format=json --model => ArgumentConflict
+timewarp log a b --model => UnknownArgument
 timewarp stats a --warm-up 5 => MissingRequiredArgument
 timewarp log a b --from 5 --to 4 => ValueValidation
 timewarp draw a --from=200 --to=100 => ValueValidation
