@@ -713,18 +713,19 @@ is_excluded rows = is_excluded_over_nodes rows || is_excluded_anywhere rows
 abbrev pub excluded_fault : List Row → Kinds
 excluded_fault rows = if is_excluded rows then ArgumentConflict ∷ [] else []
 
--- the load, the course in a trace or a value change dump is asked for
-abbrev pub is_drawn_otherwise : List Row → Bool
-is_drawn_otherwise rows = is_used (codes "load") rows || (is_there (codes "trace") rows
-    || is_text (first_of (codes "picture") rows) (codes "vcd"))
+-- an option is used that makes another picture than a histogram, or chooses events
+abbrev pub excludes_histogram : List Row → Bool
+excludes_histogram rows = is_used (codes "load") rows || (is_there (codes "trace") rows
+    || (is_text (first_of (codes "picture") rows) (codes "vcd") || (is_there (codes "from") rows
+    || (is_there (codes "to") rows || is_there (codes "processes") rows))))
 
 -- both the load and the course in a trace are to be drawn, or either of them as a value change
--- dump, or a histogram beside any of the three
+-- dump, or a histogram of some events or beside another picture
 abbrev pub is_drawn_twice : List Row → Bool
 is_drawn_twice rows = (is_used (codes "load") rows && is_there (codes "trace") rows)
     || ((is_text (first_of (codes "picture") rows) (codes "vcd")
     && (is_used (codes "load") rows || is_there (codes "trace") rows))
-    || (is_there (codes "histogram") rows && is_drawn_otherwise rows))
+    || (is_there (codes "histogram") rows && excludes_histogram rows))
 
 abbrev pub drawn_fault : List Row → Kinds
 drawn_fault rows = if is_drawn_twice rows then ArgumentConflict ∷ [] else []

@@ -142,6 +142,7 @@ Faults:
                frame allowed at that point), Io, NoMemory
   OtherModel   'node' finds that its run is of another simulation
   NoSuchProcess  'log' or 'draw' is asked for a process that the model does not have
+  NoSuchWord   'draw --histogram' is asked for a word that no message has
   NoMemory     memory ran out elsewhere
   Output       standard output refused a write
 
@@ -563,6 +564,8 @@ const INFO_ABOUT: &str = "Prints what a disk is, without its model file";
 
 const INFO_HELP: &str = "\
 The disk is only read. Nothing is replayed: the events are those that the records say they have.
+With --model it prints the text of the model file that the disk keeps ('help looking'), and nothing
+else.
 
 Output, a line for each name with its value:
   format         of the disk: 1 or 2
@@ -765,7 +768,8 @@ const DRAW_HELP: &str = "\
 With a disk this is a picture of what is committed there. The disk is only read.
 Without one it is that of the whole run, made by the plain runner as by 'seq'.
 With --trace it shows, over the rounds, GVT, the efficiency, antimessages and commits, from the
-trace alone.
+trace alone. With --histogram it shows how many of the handled messages have which values of their
+word NAME, or of SORT.NAME where several sorts of messages have such a word.
 
 Output:
   an SVG document, which a browser shows; or with --format vcd a value change dump (IEEE 1364) of

@@ -36,8 +36,9 @@ use std::convert::AsStr;
 /// not go together, each in `clap`'s form: options of node programs without `--sockets`,
 /// `--sectors`, `--reserve` or `--keep-model` of `run` without `--create`, `--seal` without `--checkpoint`, and
 /// `--warm-up` without `--table` (`MissingRequiredArgument`); `--overlap` with `--together`,
-/// `--bind` with `--attach`, `--plain` with an option of nodes, `--model` with a table, and two of
-/// `--load`, `--trace`, `--histogram` and a value change dump (`ArgumentConflict`); and a time of `--to` before that of `--from`
+/// `--bind` with `--attach`, `--plain` with an option of nodes, `--model` with a table, two of
+/// `--load`, `--trace`, `--histogram` and a value change dump, and `--histogram` with a choice of
+/// events (`ArgumentConflict`); and a time of `--to` before that of `--from`
 /// (`ValueValidation`). If an allocation failed, the result is an error of `clap` too.
 pub fn read_command<'a, S: AsStr>(
     alloc: Global,
