@@ -350,7 +350,7 @@ draw_command = with_rule (with_rule (with_rule (with_rule (with_rule (with_rule 
     picture_option)
     large_option
 
--- a run by the plain runner, in a format
+-- a run by the sequential runner, in a format
 abbrev pub seq_command : App
 seq_command = with_rule (on_model (codes "seq")) format_option
 
@@ -548,7 +548,7 @@ abbrev pub in_order : Option ℕ → Option ℕ → Option (ℕ × ℕ)
 in_order (Some first) (Some last) = if nat_le first last then Some (first, last) else None
 in_order _ _ = None
 
--- the range, from the text before the first point and the text behind it
+-- the range, from the text before the first point and the text after it
 abbrev pub range_between : Text → Text → Option (ℕ × ℕ)
 range_between first [] = None
 range_between first (next ∷ last) =

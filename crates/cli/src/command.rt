@@ -36,7 +36,7 @@ pub enum Command<'a> {
     Stats(StatsArgs<'a>),
     /// Print a picture of a run.
     Draw(DrawArgs<'a>),
-    /// Run a model by the plain runner.
+    /// Run a model by the sequential runner.
     Seq(SeqArgs<'a>),
     /// Print whether a file is a model file, or what is wrong with it.
     Check(ModelArgs<'a>),
@@ -117,12 +117,12 @@ pub struct DiskArgs<'a> {
     pub large: bool,
 }
 
-/// The arguments of a command on the run of a disk, or on a run that the plain runner makes.
+/// The arguments of a command on the run of a disk, or on one that the sequential runner makes.
 #[derive(Clone, Copy, Debug)]
 pub struct SourceArgs<'a> {
     /// The model file.
     pub model: ModelFile<'a>,
-    /// The path of the disk's file; none for a run by the plain runner.
+    /// The path of the disk's file; none for a run by the sequential runner.
     pub disk: Option<&'a str>,
     /// Whether the disk may have up to 16,777,216 sectors instead of 131,072.
     pub large: bool,

@@ -30,7 +30,7 @@ use std::alloc::{AllocError, Global};
 pub struct Texts<'a> {
     /// The program's name.
     pub name: &'a str,
-    /// What `--version` prints behind the name: `0.4.0 (disks of format 2)`.
+    /// What `--version` prints after the name: `0.4.0 (disks of format 2)`.
     pub version: &'a str,
     /// What follows the list of commands; `program_help` writes it.
     pub help: &'a str,
