@@ -454,6 +454,7 @@ timewarp draw a --processes 3..2 => InvalidValue
 timewarp draw a --processes=3 => InvalidValue
 timewarp draw a --processes=0..4294967296 => InvalidValue
 timewarp --version => DisplayVersion
+timewarp -V => DisplayVersion
 # `help` is no command: `help_text` answers it.
 timewarp help => InvalidSubcommand
 timewarp --help => DisplayHelp
@@ -477,6 +478,9 @@ timewarp run a b --create --sectors=131073 => error: invalid value '131073' for 
 timewarp run a b --rounds=0 => error: invalid value '0' for '--rounds <N>': 0 is not in 1..=4294967295
 timewarp run a b --sockets=c --judge most => error: invalid value 'most' for '--judge <N>': invalid digit found in string
 timewarp run a b --keep 2 => error: the argument '--keep <K>' needs '--archive-when-full', which makes archived parts
+timewarp run a b --keep-model => error: the argument '--keep-model' needs '--create', which makes the disk
+timewarp info a --model --format csv => error: the argument '--model' prints a file as it is, and cannot be used with '--format'
+timewarp draw a --histogram w --to 9 => error: the argument '--histogram <NAME>' counts all messages, and cannot be used with '--load', '--trace', '--format vcd', '--from', '--to' or '--processes'
 timewarp run a b --archive-when-full --grow-when-full => error: the argument '--archive-when-full' cannot be used with '--grow-when-full'
 timewarp seq a --advice --quiet => error: the argument '--advice' cannot be used with '--quiet'
 timewarp grow a b --sectors=4 --large => error: invalid value '4' for '--sectors <N>': 4 is not in 8..=16777216
