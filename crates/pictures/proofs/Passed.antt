@@ -10,11 +10,11 @@ use Rattle.model.proofs.Worlds.{Reaches-append, log_goes_on, step_is}
 use Rattle.model.specs.Meaning.{Meaning}
 use Rattle.model.specs.Runner.{IsRun, RunsTo, is_due}
 use Rattle.model.specs.World.{IsUpto, Reaches, World, at_time, can_handle, handled, opening, step, step_from}
-use Rattle.pictures.specs.Stepping.{IsPassed, is_before, with_log, without_log}
+use Rattle.pictures.specs.Stepping.{IsPassed, comes_before, with_log, without_log}
 
 -- 1. The first pending message
 
-pub first_due : (bound : ℕ) (xs : List Message) → is_before (slice_get xs 0) bound ≡ is_due bound xs
+pub first_due : (bound : ℕ) (xs : List Message) → comes_before (slice_get xs 0) bound ≡ is_due bound xs
 first_due bound [] = refl
 first_due bound (x ∷ xs) = refl
 
@@ -41,7 +41,7 @@ module _ (m : Meaning) (bound : ℕ) where
       let more : List Message = s.0 ++ r.0 in
       let logged : b.log ≡ a.log ++ more = rest ∙ ap (λ (l : List Message). l ++ r.0) first ∙ append_assoc a.log s.0 r.0 in
       let there : with_log (log ++ more) b ≡ with_log ((log ++ s.0) ++ r.0) b = ap (λ (l : List Message). with_log l b) (sym (append_assoc log s.0 r.0)) in
-      (more, logged, with_log (log ++ s.0) f.0, s.2, subst (Reaches m bound n (with_log (log ++ s.0) f.0)) (sym there) r.2)
+      (more, logged, (with_log (log ++ s.0) f.0, s.2, subst (Reaches m bound n (with_log (log ++ s.0) f.0)) (sym there) r.2))
 
 -- 3. How a simulation passes
 

@@ -5,6 +5,7 @@ pub mod Figures  -- figures of a run
 pub mod Tables  -- the figures as texts
 pub mod Levels  -- a number over virtual time
 pub mod Tallies  -- the values of a word in messages
+pub mod Histograms  -- how many values of a word are in each bin
 pub mod Quotients  -- quotients and roots, rounded down
 pub mod Drawing  -- the space-time diagram
 pub mod Load  -- the load, as a heat map

@@ -14,9 +14,9 @@ abbrev pub without_log : World → World
 without_log w = with_log [] w
 
 -- there is a message, and it is before this time
-abbrev pub is_before : Option Message → ℕ → Bool
-is_before None time = false
-is_before (Some x) time = nat_lt x.time time
+abbrev pub comes_before : Option Message → ℕ → Bool
+comes_before None time = false
+comes_before (Some x) time = nat_lt x.time time
 
 -- The simulation of a model has come to a world, of whose events it has forgotten the first ones:
 -- steps before the bound lead from the opening to the world with all of them in its log.

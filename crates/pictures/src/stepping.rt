@@ -4,7 +4,7 @@
 ghost use Rattle.std.specs.Prelude.{◌≡◌, ◌≤◌, ◌++◌, ◌^◌, Ok, IfOk, List, false, length, min};
 ghost use Rattle.eventkey.specs.Message.{Message};
 ghost use Rattle.model.specs.Runner.{IsIdle, IsRun};
-ghost use Rattle.pictures.specs.Stepping.{with_log, without_log};
+ghost use Rattle.pictures.specs.Stepping.{comes_before, with_log, without_log};
 
 use eventkey::Message;
 use model::{Model, World, WorldFault, WorldParts};
@@ -29,7 +29,7 @@ pub fn step_some<M: Model>(model: &M, world: &mut World, g: u64) -> Result<bool,
 {
     let bound = g.min(world.end());
     for _ in 0..EVENTS_AT_ONCE {
-        if !is_before(world.least(), bound) {
+        if !comes_before(world.least(), bound) {
             return Ok(false);
         }
         world.step(model)?;
@@ -38,8 +38,8 @@ pub fn step_some<M: Model>(model: &M, world: &mut World, g: u64) -> Result<bool,
 }
 
 /// Returns whether there is a message, and it is before a time in ticks.
-fn is_before(message: Option<Message>, time: u64) -> bool
-    ensures { result ≡ is_before message time }
+fn comes_before(message: Option<Message>, time: u64) -> bool
+    ensures { result ≡ comes_before message time }
 {
     match message {
         Some(message) => message.time() < time,

@@ -4,8 +4,10 @@
 
 mod beginnings;
 mod differing;
+mod drawing;
 mod fault;
 mod files;
+mod histograms;
 mod info;
 mod levels;
 mod looking;
@@ -14,6 +16,7 @@ mod named;
 mod reading;
 mod rows;
 mod statistics;
+mod streaming;
 mod tables;
 mod totals;
 

@@ -1,6 +1,6 @@
 use Rattle.views.proofs.Printed.{grows_then, grows_written}
-use Rattle.views.proofs.tables.write_rows.Goals.{else-has, then-has+in_ok-put_row+in_ok-write_text}
-use Rattle.views.proofs.tables.write_rows.Goals as goal
+use Rattle.views.proofs.tables.write_more.Goals.{else-has, then-has+in_ok-put_row+in_ok-write_text}
+use Rattle.views.proofs.tables.write_more.Goals as goal
 
 pub returns-in_err-write_text : goal.returns-in_err-write_text
 returns-in_err-write_text g c = grows_then c.loop-row.invariant (grows_written c.write_text.result c.write_text.ensures)

@@ -1,2 +1,0 @@
-use Rattle.std.proofs.Common.{◌∙◌, ap, refl}
-use Rattle.pictures.proofs.stepping.forget.Goals as goal
