@@ -523,7 +523,8 @@ fn status<'a>(alloc: Global) -> Result<ClapCommand<'a>, AllocError>
 const STATUS_ABOUT: &str = "Prints how far a disk's run has come and how much room is left";
 
 const STATUS_HELP: &str = "\
-The disk is only read. A disk of format 1 fails with Recovery OtherModel; only 'migrate' reads it.
+The disk is only read, from its last checkpoint on: what is damaged before it is for 'verify' to
+find. A disk of format 1 fails with Recovery OtherModel; only 'migrate' reads it.
 
 Output, all numbers decimal:
   virtual time G of E ticks, P percent      what is committed, and the disk's end

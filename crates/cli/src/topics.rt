@@ -226,7 +226,8 @@ const REPAIR: &str = "\
 What each command finds and does about a disk that is damaged, or has records that are not what the
 model does:
 
-  status MODEL DISK         reads it, and names the first record that cannot be taken
+  status MODEL DISK         reads it from its last checkpoint on, and names the first record there
+                            that cannot be taken
   verify MODEL DISK         replays all records and compares them with the model: 'verified', or
                             the first record at fault (Record N ..). Use it after a crash of the
                             machine, a copy, or a run whose nodes were not judged. It writes
