@@ -10,3 +10,4 @@ pub mod Roots
 pub mod Buckets
 pub mod Columns
 pub mod Passed  -- laws of a simulation that forgets
+pub mod Binned  -- the values of a word, and bins

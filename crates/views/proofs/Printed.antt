@@ -100,13 +100,13 @@ abbrev pub log_on : (m : Meaning) (end : ℕ) (header : List ℕ) (records : Lis
 log_on m end header records image ours held = record { first = ours.first; possible = ours.possible; holds = subst (λ (h : List ℕ). Holds h records image) ours.is held; behind = ours.behind }
 
 -- what is printed first, and then with names
-appended_both : (old mid new : Option (List ℕ)) (a b : List ℕ) → Appends old mid a → Appends mid new b → Appends old new (a ++ b)
+pub appended_both : (old mid new : Option (List ℕ)) (a b : List ℕ) → Appends old mid a → Appends mid new b → Appends old new (a ++ b)
 appended_both None mid new a b h k = tt
 appended_both (Some xs) None new a b h k = absurd h
 appended_both (Some xs) (Some ys) None a b h k = absurd k
 appended_both (Some xs) (Some ys) (Some zs) a b h k = k ∙ ap (λ s. s ++ b) h ∙ append_assoc xs a b
 
-begun_after : (old mid new : Option (List ℕ)) (a b : List ℕ) → Appends old mid a → TakesBeginning mid new b → TakesBeginning old new (a ++ b)
+pub begun_after : (old mid new : Option (List ℕ)) (a b : List ℕ) → Appends old mid a → TakesBeginning mid new b → TakesBeginning old new (a ++ b)
 begun_after old mid new a b h k = record {
   taken = a ++ k.taken;
   left = k.left;
