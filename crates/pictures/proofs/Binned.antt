@@ -1,7 +1,7 @@
 -- The values of a word of messages, and how many are in each bin.
 use Rattle.std.specs.List.{filter}
 use Rattle.std.specs.Prelude.{if◌then◌else◌}
-use Rattle.std.proofs.Common.{◌≡◌, ◌+◌, ◌-◌, ◌*◌, ◌/◌, ◌<◌, ◌≤◌, ◌++◌, ◌∷◌, [], ℕ, Bool, List, ap, append_assoc, arith, false, get_or, length, map, min, refl, subst, sym, take, true, ◌∙◌}
+use Rattle.std.proofs.Common.{◌≡◌, ◌+◌, ◌-◌, ◌*◌, ◌/◌, ◌<◌, ◌≤◌, ◌++◌, ◌∷◌, [], ℕ, Bool, List, ap, append_assoc, arith, false, get_or, length, map, min, refl, subst, suc, sym, take, true, zero, ◌∙◌}
 use Rattle.std.proofs.Math.Nat.{div-lt_iff_lt-mul, lt-div-mul-add, lt-mul-div-succ}
 use Rattle.std.proofs.Math.Seq.{drop-append_seam}
 use Rattle.std.proofs.lemmas.List.{append-nil, length-append, map-append, take_more}
@@ -11,6 +11,7 @@ use Rattle.eventkey.specs.Message.{Message}
 use Rattle.model.specs.Meaning.{Meaning}
 use Rattle.model.specs.Runner.{IsRun, RunsTo, Simulation}
 use Rattle.model.specs.World.{World, opening}
+use Rattle.pictures.proofs.Frames.{filter_fits}
 use Rattle.pictures.proofs.Passed.{passed_forgotten, passed_more, passed_open, passed_upto, run_logged}
 use Rattle.pictures.specs.Histograms.{HasTallied, IsTallyOfRun, content_at, is_of_sort, values_of}
 use Rattle.pictures.specs.Stepping.{with_log}
@@ -77,6 +78,7 @@ module _ (m : Meaning) (bound : ℕ) (word : Word) where
 
 pub tallied_whole : (m : Meaning) (end to : ℕ) (word : Word) (a b : World) (old new : Tally) (events : List Message) → HasTallied m (min to end) word a old → RunsTo m (min to end) a b → events ≡ drop (length a.log) b.log
     → ((values : List ℕ) → IsTally values old → IsTally (values ++ values_of word events) new) → IsTallyOfRun m end to word new
+unfolding tallied_more
 tallied_whole m end to word a b old new events h run e add =
     let bound = min to end in
     let there : World = record b { time = a.time } in
@@ -100,3 +102,12 @@ few_bins span =
 -- the bins have all of it
 pub all_binned : (span width : ℕ) → 0 < width → span < (span / width + 1) * width
 all_binned span width some = let l = lt-div-mul-add {a = span} {b = width} some in omega (arith, l)
+
+-- a value that is counted is one of them
+pub filter_fits_at : (p : ℕ → Bool) (xs : List ℕ) (i n : ℕ) → i < length xs → p (get_or xs i 0) ≡ true → n + length (filter p (drop i xs)) ≡ length (filter p xs) → n + 1 ≤ length xs
+filter_fits_at p xs i n l selected so_far = filter_fits p xs i n (get_or xs i 0) l (get_or-any xs i 0 (get_or xs i 0) l) selected so_far
+  where
+    get_or-any : (xs : List ℕ) (i d e : ℕ) → i < length xs → get_or xs i d ≡ get_or xs i e
+    get_or-any [] i d e l = absurd (omega arith)
+    get_or-any (x ∷ xs) zero d e l = refl
+    get_or-any (x ∷ xs) (suc i) d e l = get_or-any xs i d e (omega arith)
