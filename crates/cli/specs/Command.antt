@@ -350,7 +350,7 @@ draw_command = with_rule (with_rule (with_rule (with_rule (with_rule (with_rule 
     picture_option)
     large_option
 
--- a run by the plain runner, in a format
+-- a run by the sequential runner, in a format
 abbrev pub seq_command : App
 seq_command = with_rule (on_model (codes "seq")) format_option
 
@@ -548,7 +548,7 @@ abbrev pub in_order : Option ℕ → Option ℕ → Option (ℕ × ℕ)
 in_order (Some first) (Some last) = if nat_le first last then Some (first, last) else None
 in_order _ _ = None
 
--- the range, from the text before the first point and the text behind it
+-- the range, from the text before the first point and the text after it
 abbrev pub range_between : Text → Text → Option (ℕ × ℕ)
 range_between first [] = None
 range_between first (next ∷ last) =
@@ -713,18 +713,19 @@ is_excluded rows = is_excluded_over_nodes rows || is_excluded_anywhere rows
 abbrev pub excluded_fault : List Row → Kinds
 excluded_fault rows = if is_excluded rows then ArgumentConflict ∷ [] else []
 
--- the load, the course in a trace or a value change dump is asked for
-abbrev pub is_drawn_otherwise : List Row → Bool
-is_drawn_otherwise rows = is_used (codes "load") rows || (is_there (codes "trace") rows
-    || is_text (first_of (codes "picture") rows) (codes "vcd"))
+-- an option is used that makes another picture than a histogram, or chooses events
+abbrev pub excludes_histogram : List Row → Bool
+excludes_histogram rows = is_used (codes "load") rows || (is_there (codes "trace") rows
+    || (is_text (first_of (codes "picture") rows) (codes "vcd") || (is_there (codes "from") rows
+    || (is_there (codes "to") rows || is_there (codes "processes") rows))))
 
 -- both the load and the course in a trace are to be drawn, or either of them as a value change
--- dump, or a histogram beside any of the three
+-- dump, or a histogram of some events or beside another picture
 abbrev pub is_drawn_twice : List Row → Bool
 is_drawn_twice rows = (is_used (codes "load") rows && is_there (codes "trace") rows)
     || ((is_text (first_of (codes "picture") rows) (codes "vcd")
     && (is_used (codes "load") rows || is_there (codes "trace") rows))
-    || (is_there (codes "histogram") rows && is_drawn_otherwise rows))
+    || (is_there (codes "histogram") rows && excludes_histogram rows))
 
 abbrev pub drawn_fault : List Row → Kinds
 drawn_fault rows = if is_drawn_twice rows then ArgumentConflict ∷ [] else []

@@ -4,7 +4,7 @@ ghost use Rattle.std.specs.Prelude.{◌≡◌, [], None};
 ghost use Rattle.cli.specs.Command.{model_of};
 
 /// A parsed command.
-#[derive(Clone, Copy, Debug, PartialEq, Eq)]
+#[derive(Clone, Copy)]
 pub enum Command<'a> {
     /// Make an empty log on a disk.
     New(NewArgs<'a>),
@@ -36,7 +36,7 @@ pub enum Command<'a> {
     Stats(StatsArgs<'a>),
     /// Print a picture of a run.
     Draw(DrawArgs<'a>),
-    /// Run a model by the plain runner.
+    /// Run a model by the sequential runner.
     Seq(SeqArgs<'a>),
     /// Print whether a file is a model file, or what is wrong with it.
     Check(ModelArgs<'a>),
@@ -74,7 +74,7 @@ impl<'a> Command<'a> {
 pub type Settings<'a> = &'a [(&'a str, &'a str)];
 
 /// A model file, and what is set in place of values of its own.
-#[derive(Clone, Copy, Debug, PartialEq, Eq)]
+#[derive(Clone, Copy, Debug)]
 pub struct ModelFile<'a> {
     /// The path of the file.
     pub path: &'a str,
@@ -100,14 +100,14 @@ impl<'a> ModelFile<'a> {
 }
 
 /// The argument of a command on a model file alone.
-#[derive(Clone, Copy, Debug, PartialEq, Eq)]
+#[derive(Clone, Copy, Debug)]
 pub struct ModelArgs<'a> {
     /// The model file.
     pub model: ModelFile<'a>,
 }
 
 /// The arguments of a command on a model file and a disk, which other commands have too.
-#[derive(Clone, Copy, Debug, PartialEq, Eq)]
+#[derive(Clone, Copy, Debug)]
 pub struct DiskArgs<'a> {
     /// The model file.
     pub model: ModelFile<'a>,
@@ -117,19 +117,19 @@ pub struct DiskArgs<'a> {
     pub large: bool,
 }
 
-/// The arguments of a command on the run of a disk, or on a run that the plain runner makes.
-#[derive(Clone, Copy, Debug, PartialEq, Eq)]
+/// The arguments of a command on the run of a disk, or on one that the sequential runner makes.
+#[derive(Clone, Copy, Debug)]
 pub struct SourceArgs<'a> {
     /// The model file.
     pub model: ModelFile<'a>,
-    /// The path of the disk's file; none for a run by the plain runner.
+    /// The path of the disk's file; none for a run by the sequential runner.
     pub disk: Option<&'a str>,
     /// Whether the disk may have up to 16,777,216 sectors instead of 131,072.
     pub large: bool,
 }
 
 /// The arguments of `new`.
-#[derive(Clone, Copy, Debug, PartialEq, Eq)]
+#[derive(Clone, Copy, Debug)]
 pub struct NewArgs<'a> {
     /// The model file and the disk.
     pub on: DiskArgs<'a>,
@@ -147,7 +147,7 @@ pub struct NewArgs<'a> {
 }
 
 /// The arguments of `run`.
-#[derive(Clone, Copy, Debug, PartialEq, Eq)]
+#[derive(Clone, Copy, Debug)]
 pub struct RunArgs<'a> {
     /// The model file and the disk.
     pub on: DiskArgs<'a>,
@@ -224,7 +224,7 @@ pub enum BatchOption {
 }
 
 /// The arguments of `grow`.
-#[derive(Clone, Copy, Debug, PartialEq, Eq)]
+#[derive(Clone, Copy, Debug)]
 pub struct GrowArgs<'a> {
     /// The model file and the disk.
     pub on: DiskArgs<'a>,
@@ -234,7 +234,7 @@ pub struct GrowArgs<'a> {
 }
 
 /// The arguments of `migrate`.
-#[derive(Clone, Copy, Debug, PartialEq, Eq)]
+#[derive(Clone, Copy, Debug)]
 pub struct MigrateArgs<'a> {
     /// The model file.
     pub model: ModelFile<'a>,
@@ -252,7 +252,7 @@ pub struct MigrateArgs<'a> {
 }
 
 /// The arguments of `recover`.
-#[derive(Clone, Copy, Debug, PartialEq, Eq)]
+#[derive(Clone, Copy, Debug)]
 pub struct RecoverArgs<'a> {
     /// The model file.
     pub model: ModelFile<'a>,
@@ -280,7 +280,7 @@ pub enum Format {
 }
 
 /// The arguments of `status`.
-#[derive(Clone, Copy, Debug, PartialEq, Eq)]
+#[derive(Clone, Copy, Debug)]
 pub struct StatusArgs<'a> {
     /// The model file and the disk.
     pub on: DiskArgs<'a>,
@@ -289,7 +289,7 @@ pub struct StatusArgs<'a> {
 }
 
 /// The arguments of `info`.
-#[derive(Clone, Copy, Debug, PartialEq, Eq)]
+#[derive(Clone, Copy, Debug)]
 pub struct InfoArgs<'a> {
     /// The path of the disk's file.
     pub disk: &'a str,
@@ -302,7 +302,7 @@ pub struct InfoArgs<'a> {
 }
 
 /// The arguments of `seq`.
-#[derive(Clone, Copy, Debug, PartialEq, Eq)]
+#[derive(Clone, Copy, Debug)]
 pub struct SeqArgs<'a> {
     /// The model file.
     pub model: ModelFile<'a>,
@@ -311,7 +311,7 @@ pub struct SeqArgs<'a> {
 }
 
 /// The arguments of `verify`.
-#[derive(Clone, Copy, Debug, PartialEq, Eq)]
+#[derive(Clone, Copy, Debug)]
 pub struct VerifyArgs<'a> {
     /// The model file and the disk.
     pub on: DiskArgs<'a>,
@@ -321,7 +321,7 @@ pub struct VerifyArgs<'a> {
 }
 
 /// The arguments of `log`.
-#[derive(Clone, Copy, Debug, PartialEq, Eq)]
+#[derive(Clone, Copy, Debug)]
 pub struct LogArgs<'a> {
     /// The model file and the disk.
     pub on: DiskArgs<'a>,
@@ -338,7 +338,7 @@ pub struct LogArgs<'a> {
 }
 
 /// The arguments of `show`.
-#[derive(Clone, Copy, Debug, PartialEq, Eq)]
+#[derive(Clone, Copy, Debug)]
 pub struct ShowArgs<'a> {
     /// The model file and the disk.
     pub on: DiskArgs<'a>,
@@ -351,7 +351,7 @@ pub struct ShowArgs<'a> {
 }
 
 /// The arguments of `stats`.
-#[derive(Clone, Copy, Debug, PartialEq, Eq)]
+#[derive(Clone, Copy, Debug)]
 pub struct StatsArgs<'a> {
     /// The run that is counted.
     pub of: SourceArgs<'a>,
@@ -387,7 +387,7 @@ pub enum Table {
 }
 
 /// The arguments of `draw`.
-#[derive(Clone, Copy, Debug, PartialEq, Eq)]
+#[derive(Clone, Copy, Debug)]
 pub struct DrawArgs<'a> {
     /// The run that is drawn.
     pub of: SourceArgs<'a>,
@@ -410,7 +410,7 @@ pub struct DrawArgs<'a> {
 }
 
 /// The arguments of `node`.
-#[derive(Clone, Copy, Debug, PartialEq, Eq)]
+#[derive(Clone, Copy, Debug)]
 pub struct NodeArgs<'a> {
     /// The model file.
     pub model: ModelFile<'a>,

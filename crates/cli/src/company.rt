@@ -4,7 +4,7 @@
 ghost use Rattle.std.specs.Prelude.{◌≡◌, ◌∷◌, ◌||◌, [], is_some, MatchOption};
 ghost use Rattle.clap.specs.Words.{found_of, rows_of, HasKind};
 ghost use Rattle.cli.specs.Command.{company_fault, drawn_fault, excluded_fault};
-ghost use Rattle.cli.specs.Command.{is_drawn_otherwise, is_drawn_twice};
+ghost use Rattle.cli.specs.Command.{excludes_histogram, is_drawn_twice};
 ghost use Rattle.cli.specs.Command.{is_excluded, is_excluded_anywhere, is_excluded_over_nodes};
 ghost use Rattle.cli.specs.Command.{is_lonely, is_no_span, is_over_nodes, is_there, is_used};
 ghost use Rattle.cli.specs.Command.{is_without_another, is_without_archive};
@@ -266,7 +266,7 @@ fn refused_drawn(alloc: Global, name: &str, values: &ArgMatches<'_>) -> Option<E
 }
 
 /// What is wrong if both the load and the course in a trace are to be drawn, or either of them as a
-/// value change dump, or a histogram beside any of the three.
+/// value change dump, or a histogram of some events or beside another picture.
 fn drawn_twice(values: &ArgMatches<'_>) -> Option<&'static str>
     ensures { is_some result ≡ is_drawn_twice (rows_of (found_of values.now)) }
 {
@@ -276,23 +276,26 @@ fn drawn_twice(values: &ArgMatches<'_>) -> Option<&'static str>
         && (is_used(values, "load") || is_there(values, "trace"))
     {
         Some("the argument '--format vcd' cannot be used with '--load' or '--trace <FILE>'")
-    } else if is_there(values, "histogram") && is_drawn_otherwise(values) {
+    } else if is_there(values, "histogram") && excludes_histogram(values) {
         Some(
-            "the argument '--histogram <NAME>' cannot be used with '--load', '--trace <FILE>' or \
-             '--format vcd'",
+            "the argument '--histogram <NAME>' counts all messages, and cannot be used with \
+             '--load', '--trace', '--format vcd', '--from', '--to' or '--processes'",
         )
     } else {
         None
     }
 }
 
-/// Whether the load, the course in a trace or a value change dump is asked for.
-fn is_drawn_otherwise(values: &ArgMatches<'_>) -> bool
-    ensures { result ≡ is_drawn_otherwise (rows_of (found_of values.now)) }
+/// Whether an option is used that makes another picture, or chooses events.
+fn excludes_histogram(values: &ArgMatches<'_>) -> bool
+    ensures { result ≡ excludes_histogram (rows_of (found_of values.now)) }
 {
     is_used(values, "load")
         || is_there(values, "trace")
         || is_text(optional_text(values, "picture"), "vcd")
+        || is_there(values, "from")
+        || is_there(values, "to")
+        || is_there(values, "processes")
 }
 
 /// The error if the time of `--to` is before that of `--from`.

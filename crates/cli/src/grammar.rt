@@ -30,7 +30,7 @@ use std::alloc::{AllocError, Global};
 pub struct Texts<'a> {
     /// The program's name.
     pub name: &'a str,
-    /// What `--version` prints behind the name: `0.4.0 (disks of format 2)`.
+    /// What `--version` prints after the name: `0.4.0 (disks of format 2)`.
     pub version: &'a str,
     /// What follows the list of commands; `program_help` writes it.
     pub help: &'a str,
@@ -142,6 +142,7 @@ Faults:
                frame allowed at that point), Io, NoMemory
   OtherModel   'node' finds that its run is of another simulation
   NoSuchProcess  'log' or 'draw' is asked for a process that the model does not have
+  NoSuchWord   'draw --histogram' is asked for a word that no message has
   NoMemory     memory ran out elsewhere
   Output       standard output refused a write
 
@@ -522,7 +523,8 @@ fn status<'a>(alloc: Global) -> Result<ClapCommand<'a>, AllocError>
 const STATUS_ABOUT: &str = "Prints how far a disk's run has come and how much room is left";
 
 const STATUS_HELP: &str = "\
-The disk is only read. A disk of format 1 fails with Recovery OtherModel; only 'migrate' reads it.
+The disk is only read, from its last checkpoint on: what is damaged before it is for 'verify' to
+find. A disk of format 1 fails with Recovery OtherModel; only 'migrate' reads it.
 
 Output, all numbers decimal:
   virtual time G of E ticks, P percent      what is committed, and the disk's end
@@ -563,6 +565,8 @@ const INFO_ABOUT: &str = "Prints what a disk is, without its model file";
 
 const INFO_HELP: &str = "\
 The disk is only read. Nothing is replayed: the events are those that the records say they have.
+With --model it prints the text of the model file that the disk keeps ('help looking'), and nothing
+else.
 
 Output, a line for each name with its value:
   format         of the disk: 1 or 2
@@ -765,7 +769,8 @@ const DRAW_HELP: &str = "\
 With a disk this is a picture of what is committed there. The disk is only read.
 Without one it is that of the whole run, made by the plain runner as by 'seq'.
 With --trace it shows, over the rounds, GVT, the efficiency, antimessages and commits, from the
-trace alone.
+trace alone. With --histogram it shows how many of the handled messages have which values of their
+word NAME, or of SORT.NAME where several sorts of messages have such a word.
 
 Output:
   an SVG document, which a browser shows; or with --format vcd a value change dump (IEEE 1364) of

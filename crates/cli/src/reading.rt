@@ -34,11 +34,12 @@ use std::convert::AsStr;
 /// batch and an invalid number of sectors (`ValueValidation`), and an invalid range of processes,
 /// an unknown format and an unknown table (`InvalidValue`), in `clap`'s words; then options that do
 /// not go together, each in `clap`'s form: options of node programs without `--sockets`,
-/// `--sectors`, `--reserve` or `--keep-model` of `run` without `--create`, `--seal` without `--checkpoint`, and
-/// `--warm-up` without `--table` (`MissingRequiredArgument`); `--overlap` with `--together`,
-/// `--bind` with `--attach`, `--plain` with an option of nodes, `--model` with a table, and two of
-/// `--load`, `--trace`, `--histogram` and a value change dump (`ArgumentConflict`); and a time of `--to` before that of `--from`
-/// (`ValueValidation`). If an allocation failed, the result is an error of `clap` too.
+/// `--sectors`, `--reserve` or `--keep-model` of `run` without `--create`, `--seal` without
+/// `--checkpoint`, `--warm-up` without `--table` (`MissingRequiredArgument`); `--overlap` with
+/// `--together`, `--bind` with `--attach`, `--plain` with an option of nodes, `--model` with a table,
+/// two of `--load`, `--trace`, `--histogram` and a value change dump, and `--histogram` with a choice
+/// of events (`ArgumentConflict`); and a time of `--to` before that of `--from` (`ValueValidation`).
+/// If an allocation failed, the result is an error of `clap` too.
 pub fn read_command<'a, S: AsStr>(
     alloc: Global,
     texts: Texts<'a>,

@@ -10,7 +10,8 @@ use Rattle.model.specs.Runner.{Simulation}
 use Rattle.model.specs.World.{IsUpto, World}
 use Rattle.recovery.specs.Replay.{in_force}
 use Rattle.wire.specs.Port.{PortState}
-use Rattle.coordinator.proofs.Appending.{leaves_on, none_changed, session_keeps_old}
+use Rattle.coordinator.proofs.Appending.{leaves_on, none_changed}
+use Rattle.recovery.proofs.OldRecords.{session_keeps_old}
 use Rattle.coordinator.proofs.Committing.{stays}
 use Rattle.coordinator.proofs.Driving.{all-trusted, all_made, carry, trusted-on, trusted-take}
 use Rattle.recovery.proofs.Crashes.{followed_by, goes-under}

@@ -2,9 +2,9 @@
 
 ghost use Rattle.std.specs.Prelude.{◌≡◌, ◌<◌, ◌≤◌, ◌^◌, ℕ, IfSome, IsSome, None, Some, length, map};
 ghost use Rattle.std.specs.Prelude.{take};
-ghost use Rattle.coordinator.specs.Appending.{KeepsOldRecords};
 ghost use Rattle.coordinator.specs.Headline.{IsResumed, JudgedSessionsGoOn, RecordsStay};
 ghost use Rattle.coordinator.specs.Headline.{SessionsGoOn};
+ghost use Rattle.recovery.specs.OldRecords.{KeepsOldRecords};
 ghost use Rattle.recovery.specs.Represents.{Recovers};
 ghost use Rattle.coordinator.specs.Opening.{AllFresh, AllFaithful, IsResourceFaultAtOpening};
 ghost use Rattle.coordinator.specs.Opening.{OpeningIsRefused};

@@ -298,7 +298,11 @@ where
     let outcome = run_with::<M, R, _, O>(rt, nodes, args, said, &mut traced, out);
     let is_whole = traced.is_whole(rt);
     outcome?;
-    if is_whole { Ok(()) } else { Err(Fault::File) }
+    if is_whole {
+        Ok(())
+    } else {
+        Err(said.refuse(Refusal::CutTrace))
+    }
 }
 
 /// Serves as a node that runs the model of a file, behind a socket.

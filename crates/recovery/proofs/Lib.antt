@@ -17,5 +17,6 @@ pub mod Loadable
 pub mod Disks
 pub mod Fronts
 pub mod Crashes
+pub mod OldRecords
 pub mod Histories
 mod Examples

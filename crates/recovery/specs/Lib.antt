@@ -9,8 +9,9 @@ pub mod Replay
 pub mod Represents
 pub mod Front
 pub mod Recovered
--- For callers: what a crash may leave, and histories of calls on a disk
+-- For callers: what a crash may leave, what stays of old records, and histories of calls on a disk
 pub mod Crashes
+pub mod OldRecords
 pub mod Histories
 -- For callers: the laws of these, and the causes of refusals
 pub mod Laws

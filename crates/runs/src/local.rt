@@ -6,7 +6,7 @@ ghost use Rattle.coordinator.specs.declared.SessionFault.{SessionFault};
 ghost use Rattle.coordinator.specs.declared.SessionFault.TheVariants.{Port as OfPort, Reports};
 ghost use Rattle.recovery.specs.Crashes.{KeepsRecovery};
 ghost use Rattle.recovery.specs.Represents.{Recovers, IsGenuine};
-ghost use Rattle.coordinator.specs.Appending.{KeepsOldRecords};
+ghost use Rattle.recovery.specs.OldRecords.{KeepsOldRecords};
 ghost use Rattle.coordinator.specs.PortFaults.{IsFaultInProgram};
 ghost use Rattle.runs.specs.Driver.{HasCounted, IsRunOver, IsUnfinished, RunHasCause};
 ghost use Rattle.runs.specs.Driver.{SessionRefused, acknowledged};

@@ -136,6 +136,8 @@ pub enum Refusal {
     Trace,
     /// The file under whose name a trace is made anew is no trace.
     UnfinishedTrace,
+    /// A part of a trace was not written.
+    CutTrace,
     /// The file that ends a run is there before the run.
     Stop,
     /// The file of a new disk is not empty.
@@ -247,6 +249,7 @@ pub fn cause_of_refusal<'a>(command: Command<'a>, refusal: Refusal) -> Option<Ca
     let (path, behind, reason) = match refusal {
         Refusal::Trace => (trace_of(command), "", Reason::NotTrace),
         Refusal::UnfinishedTrace => (trace_of(command), "", Reason::NotUnfinishedTrace),
+        Refusal::CutTrace => (trace_of(command), "", Reason::NotWhole),
         Refusal::Stop => (stop_file_of(command), "", Reason::StopThere),
         Refusal::Holds(held) => (disk, "", reason_of_held(held)),
         Refusal::KeptOther => (disk, KEPT, Reason::KeepsOther),
@@ -546,8 +549,9 @@ fn first_of_drawing<'a, R: Files<File = File>>(rt: &R, args: DrawArgs<'a>) -> Op
     }
 }
 
-/// The first cause of `run`. A run that has failed at its disk has neither failed to meet node
-/// programs nor to write its trace.
+/// The first cause of `run`. A run that has failed at its disk has not failed to meet node programs.
+/// The files of its trace are open as they were for the run, so that a limit of open files shows at
+/// the file that met it.
 fn first_of_run<'a, R>(rt: &R, args: RunArgs<'a>, has_failed_at_disk: bool) -> Option<Cause<'a>>
 where
     R: Files<File = File> + AllocGlobal,
@@ -556,11 +560,39 @@ where
     if early.is_some() {
         return early;
     }
+    let _held = match held_of_trace(rt, args.trace) {
+        Ok(held) => held,
+        Err(error) => return caused(args.trace?, reason_of_refusal(error)),
+    };
     let cause = first_of_begun(rt, args);
     if cause.is_some() || has_failed_at_disk {
         return cause;
     }
     last_of_run(rt, args)
+}
+
+/// Opens the file of a trace, if it is a plain one, as often as a run has files open for it: a trace
+/// that is there already is made anew in a file beside it.
+fn held_of_trace<R>(rt: &R, trace: Option<&str>) -> Result<(Option<File>, Option<File>), IoError>
+where
+    R: Files<File = File>,
+{
+    let Some(path) = trace else {
+        return Ok((None, None));
+    };
+    let Ok(found) = fs::metadata(rt, path) else {
+        return Ok((None, None));
+    };
+    if !found.is_file() {
+        return Ok((None, None));
+    }
+    let file = File::open(rt, path)?;
+    let beside = if found.len() > 0 {
+        Some(File::open(rt, path)?)
+    } else {
+        None
+    };
+    Ok((Some(file), beside))
 }
 
 /// The first cause among the files with which a run begins. It makes its disk if that is asked for
@@ -593,29 +625,23 @@ fn first_of_trace<'a, R: Files<File = File>>(rt: &R, args: RunArgs<'a>) -> Optio
     )
 }
 
-/// The cause in what a run does after its disk is open: it connects to its nodes, and at its end
-/// the whole trace must have been written. If only one of the two can have failed, it is the cause.
+/// The cause in what a run does after its disk is open: it connects to its nodes.
 fn last_of_run<'a, R>(rt: &R, args: RunArgs<'a>) -> Option<Cause<'a>>
 where
     R: Files<File = File> + AllocGlobal,
 {
-    match (args.sockets, args.trace) {
-        (None, None) => None,
-        (None, Some(trace)) => caused(trace, Some(Reason::NotWhole)),
-        (Some(folder), _) => {
-            let seen = reason_of_sockets(rt, folder, args.nodes);
-            if seen.is_some() {
-                return caused(folder, seen);
-            }
-            if !args.attach && is_taken(rt, folder) {
-                return caused(folder, Some(Reason::NotText));
-            }
-            if args.attach || args.trace.is_some() {
-                return None;
-            }
-            caused(folder, Some(reason_of_start(args.bind)))
-        }
+    let folder = args.sockets?;
+    let seen = reason_of_sockets(rt, folder, args.nodes);
+    if seen.is_some() {
+        return caused(folder, seen);
     }
+    if !args.attach && is_taken(rt, folder) {
+        return caused(folder, Some(Reason::NotText));
+    }
+    if args.attach {
+        return None;
+    }
+    caused(folder, Some(reason_of_start(args.bind)))
 }
 
 /// Why node programs were not met, if nothing is wrong with the folder of their sockets.

@@ -6,6 +6,7 @@ use cli::{
     settings_of, topic_of,
 };
 use std::alloc::{AllocError, Global};
+use std::fmt::Debug;
 use std::test::Fail;
 
 const TEXTS: Texts<'static> = Texts {
@@ -84,6 +85,35 @@ fn plain_of(name: &str) -> &'static str {
     ""
 }
 
+/// The name of a command and its arguments, as they are printed for debugging.
+fn text_of(alloc: Global, command: Command<'_>) -> Result<String, AllocError> {
+    match command {
+        Command::New(args) => text_with(alloc, "New", &args),
+        Command::Run(args) => text_with(alloc, "Run", &args),
+        Command::Extend(args) => text_with(alloc, "Extend", &args),
+        Command::Grow(args) => text_with(alloc, "Grow", &args),
+        Command::Migrate(args) => text_with(alloc, "Migrate", &args),
+        Command::Reopen(args) => text_with(alloc, "Reopen", &args),
+        Command::Cut(args) => text_with(alloc, "Cut", &args),
+        Command::Recover(args) => text_with(alloc, "Recover", &args),
+        Command::Status(args) => text_with(alloc, "Status", &args),
+        Command::Info(args) => text_with(alloc, "Info", &args),
+        Command::Verify(args) => text_with(alloc, "Verify", &args),
+        Command::Log(args) => text_with(alloc, "Log", &args),
+        Command::Show(args) => text_with(alloc, "Show", &args),
+        Command::Stats(args) => text_with(alloc, "Stats", &args),
+        Command::Draw(args) => text_with(alloc, "Draw", &args),
+        Command::Seq(args) => text_with(alloc, "Seq", &args),
+        Command::Check(args) => text_with(alloc, "Check", &args),
+        Command::Node(args) => text_with(alloc, "Node", &args),
+    }
+}
+
+/// The name of a command with these arguments behind it.
+fn text_with<A: Debug>(alloc: Global, name: &str, args: &A) -> Result<String, AllocError> {
+    format!(in alloc; "{name}({args:?})")
+}
+
 /// The name of a command, and those of its parts that are not as in `PLAIN`; or all of its text, if
 /// `PLAIN` has no such command, or a value has parts of its own.
 fn shortened(alloc: Global, text: &str) -> Result<String, AllocError> {
@@ -120,7 +150,7 @@ fn answer(alloc: Global, asked: Asked, words: &[&str]) -> Result<String, AllocEr
             Err(error) => format!(in alloc; "{:?}", error.kind()),
         },
         Asked::Command => match read_command(alloc, TEXTS, words, &[]) {
-            Ok(command) => shortened(alloc, format!(in alloc; "{command:?}")?.as_str()),
+            Ok(command) => shortened(alloc, text_of(alloc, command)?.as_str()),
             Err(error) => format!(in alloc; "{:?}", error.kind()),
         },
         Asked::Line => match read_command(alloc, TEXTS, words, &[]) {
@@ -191,7 +221,7 @@ timewarp draw a => Draw
 timewarp draw --processes 3..3 a b --trace=t --from=5 --to 9 => Draw(DrawArgs { of: SourceArgs { model: ModelFile { path: "a", settings: [], kept_by: None }, disk: Some("b"), large: false }, from: Some(5), to: Some(9), processes: Some((3, 3)), load: false, trace: Some("t"), vcd: false, histogram: None })
 timewarp draw a --format vcd --to=9 => Draw, to: Some(9), vcd: true
 timewarp draw a --format=svg => Draw
-timewarp draw a b --histogram=wait --to 9 => Draw, disk: Some("b"), to: Some(9), histogram: Some("wait")
+timewarp draw a b --histogram=wait => Draw, disk: Some("b"), histogram: Some("wait")
 timewarp show a b --pending --format csv => Show, pending: true, format: Csv
 timewarp show a --names b => Show, names: true
 # Where a command looks at a disk, the model file `-` is the one that the disk keeps.
@@ -327,6 +357,9 @@ timewarp draw a --trace=t --format=vcd => ArgumentConflict
 timewarp draw a --histogram w --load => ArgumentConflict
 timewarp draw a --trace t --histogram=w => ArgumentConflict
 timewarp draw a --format=vcd --histogram w => ArgumentConflict
+timewarp draw a --histogram w --to=9 => ArgumentConflict
+timewarp draw a --from 1 --histogram w => ArgumentConflict
+timewarp draw a --histogram w --processes 0..1 => ArgumentConflict
 timewarp draw a --histogram= => InvalidValue
 timewarp info a --model --format csv => ArgumentConflict
 timewarp info a --format=json --model => ArgumentConflict
@@ -421,6 +454,7 @@ timewarp draw a --processes 3..2 => InvalidValue
 timewarp draw a --processes=3 => InvalidValue
 timewarp draw a --processes=0..4294967296 => InvalidValue
 timewarp --version => DisplayVersion
+timewarp -V => DisplayVersion
 # `help` is no command: `help_text` answers it.
 timewarp help => InvalidSubcommand
 timewarp --help => DisplayHelp
@@ -444,6 +478,9 @@ timewarp run a b --create --sectors=131073 => error: invalid value '131073' for 
 timewarp run a b --rounds=0 => error: invalid value '0' for '--rounds <N>': 0 is not in 1..=4294967295
 timewarp run a b --sockets=c --judge most => error: invalid value 'most' for '--judge <N>': invalid digit found in string
 timewarp run a b --keep 2 => error: the argument '--keep <K>' needs '--archive-when-full', which makes archived parts
+timewarp run a b --keep-model => error: the argument '--keep-model' needs '--create', which makes the disk
+timewarp info a --model --format csv => error: the argument '--model' prints a file as it is, and cannot be used with '--format'
+timewarp draw a --histogram w --to 9 => error: the argument '--histogram <NAME>' counts all messages, and cannot be used with '--load', '--trace', '--format vcd', '--from', '--to' or '--processes'
 timewarp run a b --archive-when-full --grow-when-full => error: the argument '--archive-when-full' cannot be used with '--grow-when-full'
 timewarp seq a --advice --quiet => error: the argument '--advice' cannot be used with '--quiet'
 timewarp grow a b --sectors=4 --large => error: invalid value '4' for '--sectors <N>': 4 is not in 8..=16777216

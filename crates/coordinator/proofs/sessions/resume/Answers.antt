@@ -1,6 +1,6 @@
 use Rattle.std.proofs.Common.{ap, length, map, refl, take}
 use Rattle.coordinator.proofs.Resuming.{driven-on, kept-on, made-all, not_resumed, resumed, stopped-front}
-use Rattle.coordinator.proofs.Appending.{looks_at_old, session_keeps_old}
+use Rattle.recovery.proofs.OldRecords.{looks_at_old, session_keeps_old}
 use Rattle.coordinator.proofs.Driving.{all-trusted}
 use Rattle.coordinator.specs.Drives.{any_trusts}
 use Rattle.coordinator.specs.Session.{running}

@@ -2,7 +2,7 @@ use Rattle.std.proofs.Common.{List, inr, refl, subst, sym, ◌∙◌}
 use Rattle.std.proofs.lemmas.List.{length-map}
 use Rattle.std.proofs.lemmas.Result.{IfOk-weaker}
 use Rattle.std.specs.Prelude.{IfErr, replicate}
-use Rattle.coordinator.proofs.Appending.{looks_at_old}
+use Rattle.recovery.proofs.OldRecords.{looks_at_old}
 use Rattle.coordinator.proofs.PortFaults.{local-faults}
 use Rattle.disk.specs.Laws.{looks_none}
 use Rattle.recovery.proofs.Crashes.{kept-none}

@@ -1,5 +1,5 @@
 use Rattle.std.proofs.Common.{inl, inr, ◌<◌, ◌≤◌, Err, ap, arith, length, map, refl, subst, sym, ◌≡◌, ◌∙◌}
-use Rattle.coordinator.proofs.Appending.{looks_at_old, session_keeps_old}
+use Rattle.recovery.proofs.OldRecords.{looks_at_old, session_keeps_old}
 use Rattle.coordinator.proofs.Resuming.{driven-on}
 use Rattle.recovery.proofs.Crashes.{back-under, kept-front, kept-none, looked-under, recovers-genuine}
 use Rattle.recovery.specs.Crashes.{KeepsRecovery, RecoversUnderItsEnd}
