@@ -117,7 +117,7 @@ where
     }
 }
 
-/// The cause in the model that the disk of a command keeps, if that is read.
+/// The cause in the model that the disk of a command keeps, if that is read and the disk is there.
 fn cause_in_kept<'a, R>(rt: &R, command: Command<'a>) -> Option<Cause<'a>>
 where
     R: Files<File = File> + AllocGlobal,
@@ -126,6 +126,9 @@ where
         Command::Info(args) if args.model => args.disk,
         _ => command.model()?.kept_by?,
     };
+    if !fs::exists(rt, disk).unwrap_or(true) {
+        return None;
+    }
     cause_of_kept(rt, keeper_of(rt, disk).ok()?)
 }
 
