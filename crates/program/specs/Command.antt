@@ -85,7 +85,7 @@ pub record IsRan {M : Type 0} (meaning : M → Meaning) (says : Describes M)
   pub begun : DiskState
   pub origin : Option Origin
   pub now : DiskState
-  pub come : HasCome (meaning model) end begun origin now
+  pub come : HasCome false (meaning model) end begun origin now
   pub left : DiskState
   pub ran : IsRanOn (continued (meaning model) origin) end nodes now left text
 
@@ -100,7 +100,7 @@ pub record IsStoppedText {M : Type 0} (meaning : M → Meaning) (says : Describe
   pub begun : DiskState
   pub origin : Option Origin
   pub now : DiskState
-  pub come : HasCome (meaning model) end begun origin now
+  pub come : HasCome false (meaning model) end begun origin now
   pub left : DiskState
   pub stopped : IsStoppedOn (continued (meaning model) origin) end now left text
 
