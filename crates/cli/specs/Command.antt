@@ -167,13 +167,15 @@ abbrev pub origin_option : Rule
 origin_option = record (optional_text (codes "origin")) { long = Some (codes "from") }
 
 -- a disk with its number of sectors, whose file may get its whole room, or hold other bytes; the
--- disk that it goes on from, if any; it may be a large one
+-- disk that it goes on from, if any; the model's text is kept or not; it may be a large one
 abbrev pub new_command : App
-new_command = with_rule (with_rule (with_rule (with_rule (with_rule (on_disk (codes "new"))
+new_command = with_rule (with_rule (with_rule (with_rule (with_rule (with_rule
+    (on_disk (codes "new"))
     (text_option (codes "sectors") (codes "4096")))
     reserve_option)
     (flag (codes "over")))
     origin_option)
+    (flag (codes "keep-model")))
     large_option
 
 -- the number of sectors of a disk that a run makes
@@ -183,6 +185,10 @@ created_option = record (any_text (codes "created")) { long = Some (codes "secto
 -- the file of a disk that a run makes gets its whole room at once
 abbrev pub reserved_option : Rule
 reserved_option = record (flag (codes "reserved")) { long = Some (codes "reserve") }
+
+-- the model's text is kept beside a disk that a run makes
+abbrev pub kept_option : Rule
+kept_option = record (flag (codes "kept")) { long = Some (codes "keep-model") }
 
 -- how a run is made: 1 to 64 nodes; a batch; nodes that work at the same time, or also while
 -- replies are taken; without nodes
@@ -215,13 +221,14 @@ run_kept = with_rule (with_rule (with_rule run_apart
     (flag (codes "seal"))
 
 -- and on which disk: one that is made if it is not there, with its number of sectors, whose file
--- may get its whole room; that is archived where it is full, with the number of parts that are
--- kept, or made longer
+-- may get its whole room, and with the model's text kept or not; that is archived where it is full,
+-- with the number of parts that are kept, or made longer
 abbrev pub run_stored : App
-run_stored = with_rule (with_rule (with_rule (with_rule (with_rule (with_rule
+run_stored = with_rule (with_rule (with_rule (with_rule (with_rule (with_rule (with_rule
     run_kept (flag (codes "create")))
     created_option)
     reserved_option)
+    kept_option)
     (flag (codes "archive-when-full")))
     (optional_number (codes "keep") 0 4294967295))
     (flag (codes "grow-when-full"))
@@ -267,12 +274,15 @@ recover_command = with_rule (with_rule (with_rule (with_rule (on_disk (codes "re
 abbrev pub status_command : App
 status_command = with_rule (with_rule (on_disk (codes "status")) format_option) large_option
 
--- a disk alone, in a format; it may be a large one; with or without advice, or quiet
+-- a disk alone, or the model that it keeps, in a format; it may be a large one; with or without
+-- advice, or quiet
 abbrev pub info_command : App
-info_command = with_rule (with_rule (with_rule (with_rule (with_rule (new_app (codes "info"))
+info_command = with_rule (with_rule (with_rule (with_rule (with_rule (with_rule
+    (new_app (codes "info"))
     (path_argument (codes "DISK")))
     advice_option)
     quiet_option)
+    (flag (codes "model")))
     format_option)
     large_option
 
@@ -325,20 +335,22 @@ picture_option = record (text_option (codes "picture") (codes "svg")) {
 }
 
 -- a picture of a run, in a format, from one time on, before another time, of some processes; or of
--- its load; or of the course in a trace; the disk may be a large one
+-- its load; or of the course in a trace; or of the values of a word of messages; the disk may be a
+-- large one
 abbrev pub draw_command : App
 draw_command = with_rule (with_rule (with_rule (with_rule (with_rule (with_rule (with_rule
-    (with_rule (on_model (codes "draw"))
+    (with_rule (with_rule (on_model (codes "draw"))
     (optional_argument (codes "DISK")))
     (time_option (codes "from")))
     (time_option (codes "to")))
     (optional_text (codes "processes")))
     (flag (codes "load")))
     (optional_text (codes "trace")))
+    (optional_text (codes "histogram")))
     picture_option)
     large_option
 
--- a run by the plain runner, in a format
+-- a run by the sequential runner, in a format
 abbrev pub seq_command : App
 seq_command = with_rule (on_model (codes "seq")) format_option
 
@@ -536,7 +548,7 @@ abbrev pub in_order : Option ℕ → Option ℕ → Option (ℕ × ℕ)
 in_order (Some first) (Some last) = if nat_le first last then Some (first, last) else None
 in_order _ _ = None
 
--- the range, from the text before the first point and the text behind it
+-- the range, from the text before the first point and the text after it
 abbrev pub range_between : Text → Text → Option (ℕ × ℕ)
 range_between first [] = None
 range_between first (next ∷ last) =
@@ -640,7 +652,8 @@ is_without_sockets rows = not (is_there (codes "sockets") rows) && (is_used (cod
 -- something is said of a disk that a run makes, but it makes none
 abbrev pub is_without_create : List Row → Bool
 is_without_create rows = not (is_used (codes "create") rows)
-    && (is_there (codes "created") rows || is_used (codes "reserved") rows)
+    && (is_there (codes "created") rows || (is_used (codes "reserved") rows
+    || is_used (codes "kept") rows))
 
 -- seals are asked for, but no checkpoints
 abbrev pub is_without_checkpoint : List Row → Bool
@@ -685,11 +698,13 @@ is_excluded_over_nodes rows = (is_used (codes "together") rows && is_used (codes
     || (is_used (codes "plain") rows && is_over_nodes rows))
 
 -- options of any run, or of any command, exclude one another: what is done where a disk is full,
--- and what is printed of a fault
+-- what is printed of a fault, and whether a file is printed as it is or a table
 abbrev pub is_excluded_anywhere : List Row → Bool
 is_excluded_anywhere rows =
     (is_used (codes "archive-when-full") rows && is_used (codes "grow-when-full") rows)
-    || (is_used (codes "advice") rows && is_used (codes "quiet") rows)
+    || ((is_used (codes "advice") rows && is_used (codes "quiet") rows)
+    || (is_used (codes "model") rows
+    && not (is_text (first_of (codes "format") rows) (codes "text"))))
 
 -- options exclude one another
 abbrev pub is_excluded : List Row → Bool
@@ -698,11 +713,19 @@ is_excluded rows = is_excluded_over_nodes rows || is_excluded_anywhere rows
 abbrev pub excluded_fault : List Row → Kinds
 excluded_fault rows = if is_excluded rows then ArgumentConflict ∷ [] else []
 
--- both the load and the course in a trace are to be drawn, or either of them as a value change dump
+-- an option is used that makes another picture than a histogram, or chooses events
+abbrev pub excludes_histogram : List Row → Bool
+excludes_histogram rows = is_used (codes "load") rows || (is_there (codes "trace") rows
+    || (is_text (first_of (codes "picture") rows) (codes "vcd") || (is_there (codes "from") rows
+    || (is_there (codes "to") rows || is_there (codes "processes") rows))))
+
+-- both the load and the course in a trace are to be drawn, or either of them as a value change
+-- dump, or a histogram of some events or beside another picture
 abbrev pub is_drawn_twice : List Row → Bool
 is_drawn_twice rows = (is_used (codes "load") rows && is_there (codes "trace") rows)
-    || (is_text (first_of (codes "picture") rows) (codes "vcd")
+    || ((is_text (first_of (codes "picture") rows) (codes "vcd")
     && (is_used (codes "load") rows || is_there (codes "trace") rows))
+    || (is_there (codes "histogram") rows && excludes_histogram rows))
 
 abbrev pub drawn_fault : List Row → Kinds
 drawn_fault rows = if is_drawn_twice rows then ArgumentConflict ∷ [] else []
@@ -749,9 +772,18 @@ pub record IsFlagIn (id : Text) (rows : List Row) (value : Bool) : Type 0 where
   pub unused : one_of id rows ≡ Some (codes "false") → value ≡ false
   pub unread : one_of id rows ≡ None → value ≡ false
 
--- the path of the model file, as clap gives it
+-- the path of the model file, as clap gives it; no disk keeps the model
 abbrev pub SaysFile : ModelFile → List Row → Type 0
-SaysFile file rows = file.path.now ≡ text_in (codes "MODEL") rows
+SaysFile file rows = (file.path.now ≡ text_in (codes "MODEL") rows) × (file.kept_by ≡ None)
+
+-- the disk that keeps the model of this path: the one that a command looks at, if the path is `-`
+abbrev pub kept_by : Text → Option Text → Option Text
+kept_by path disk = if bytes_eq path (codes "-") then disk else None
+
+-- the path of the model file, as clap gives it, which this disk keeps if the path says so
+abbrev pub SaysKeptFile : ModelFile → Option Text → List Row → Type 0
+SaysKeptFile file disk rows = (file.path.now ≡ text_in (codes "MODEL") rows)
+    × (option_map (λ path. path.now) file.kept_by ≡ kept_by (text_in (codes "MODEL") rows) disk)
 
 abbrev pub SaysModel : ModelArgs → List Row → Type 0
 SaysModel args rows = SaysFile args.model rows
@@ -762,9 +794,15 @@ SaysDisk args rows = SaysFile args.model rows
     × (args.disk.now ≡ text_in (codes "DISK") rows)
     × IsFlagIn (codes "large") rows args.large
 
+-- the same where the disk may keep the model
+abbrev pub SaysKeptDisk : DiskArgs → List Row → Type 0
+SaysKeptDisk args rows = SaysKeptFile args.model (Some (text_in (codes "DISK") rows)) rows
+    × (args.disk.now ≡ text_in (codes "DISK") rows)
+    × IsFlagIn (codes "large") rows args.large
+
 -- the same where a disk need not be given
 abbrev pub SaysSource : SourceArgs → List Row → Type 0
-SaysSource args rows = SaysFile args.model rows
+SaysSource args rows = SaysKeptFile args.model (first_of (codes "DISK") rows) rows
     × (option_map (λ path. path.now) args.disk ≡ first_of (codes "DISK") rows)
     × IsFlagIn (codes "large") rows args.large
 
@@ -782,6 +820,7 @@ SaysNew args rows = SaysDisk args.on rows × SaysSectors args.sectors args.on.la
     × IsFlagIn (codes "reserve") rows args.reserve
     × IsFlagIn (codes "over") rows args.over
     × (option_map (λ path. path.now) args.from ≡ first_of (codes "origin") rows)
+    × IsFlagIn (codes "keep-model") rows args.keep_model
 
 abbrev pub SaysRun : RunArgs → List Row → Type 0
 SaysRun args rows = SaysDisk args.on rows
@@ -810,13 +849,15 @@ SaysRun args rows = SaysDisk args.on rows
     × IsFlagIn (codes "create") rows args.create
     × (args.sectors ≡ number_or (codes "created") 8 (most_sectors args.on.large) 4096 rows)
     × IsFlagIn (codes "reserved") rows args.reserve
+    × IsFlagIn (codes "kept") rows args.keep_model
 
 abbrev pub SaysStatus : StatusArgs → List Row → Type 0
-SaysStatus args rows = SaysDisk args.on rows × (args.format ≡ format_in rows)
+SaysStatus args rows = SaysKeptDisk args.on rows × (args.format ≡ format_in rows)
 
 abbrev pub SaysInfo : InfoArgs → List Row → Type 0
 SaysInfo args rows = (args.disk.now ≡ text_in (codes "DISK") rows)
     × IsFlagIn (codes "large") rows args.large
+    × IsFlagIn (codes "model") rows args.model
     × (args.format ≡ format_in rows)
 
 abbrev pub SaysSeq : SeqArgs → List Row → Type 0
@@ -843,18 +884,18 @@ SaysRecover args rows = SaysFile args.model rows
     × IsFlagIn (codes "large") rows args.large
 
 abbrev pub SaysVerify : VerifyArgs → List Row → Type 0
-SaysVerify args rows = SaysDisk args.on rows
+SaysVerify args rows = SaysKeptDisk args.on rows
     × (option_map (λ path. path.now) args.after ≡ first_of (codes "after") rows)
 
 abbrev pub SaysLog : LogArgs → List Row → Type 0
-SaysLog args rows = SaysDisk args.on rows
+SaysLog args rows = SaysKeptDisk args.on rows
     × SaysTimes args.from args.to rows
     × (args.process ≡ optional_number_in (codes "process") 0 4294967295 rows)
     × IsFlagIn (codes "names") rows args.names
     × (args.format ≡ format_in rows)
 
 abbrev pub SaysShow : ShowArgs → List Row → Type 0
-SaysShow args rows = SaysDisk args.on rows
+SaysShow args rows = SaysKeptDisk args.on rows
     × IsFlagIn (codes "names") rows args.names
     × IsFlagIn (codes "pending") rows args.pending
     × (args.format ≡ format_in rows)
@@ -873,6 +914,7 @@ SaysDraw args rows = SaysSource args.of rows
     × IsFlagIn (codes "load") rows args.load
     × (option_map (λ path. path.now) args.trace ≡ first_of (codes "trace") rows)
     × (args.vcd ≡ is_text (first_of (codes "picture") rows) (codes "vcd"))
+    × (option_map (λ name. name.now) args.histogram ≡ first_of (codes "histogram") rows)
 
 abbrev pub SaysNode : NodeArgs → List Row → Type 0
 SaysNode args rows = SaysFile args.model rows

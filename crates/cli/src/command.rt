@@ -1,10 +1,10 @@
 // The commands and their arguments.
 
-ghost use Rattle.std.specs.Prelude.{◌≡◌, []};
+ghost use Rattle.std.specs.Prelude.{◌≡◌, [], None};
 ghost use Rattle.cli.specs.Command.{model_of};
 
 /// A parsed command.
-#[derive(Clone, Copy, Debug, PartialEq, Eq)]
+#[derive(Clone, Copy)]
 pub enum Command<'a> {
     /// Make an empty log on a disk.
     New(NewArgs<'a>),
@@ -36,7 +36,7 @@ pub enum Command<'a> {
     Stats(StatsArgs<'a>),
     /// Print a picture of a run.
     Draw(DrawArgs<'a>),
-    /// Run a model by the plain runner.
+    /// Run a model by the sequential runner.
     Seq(SeqArgs<'a>),
     /// Print whether a file is a model file, or what is wrong with it.
     Check(ModelArgs<'a>),
@@ -74,12 +74,14 @@ impl<'a> Command<'a> {
 pub type Settings<'a> = &'a [(&'a str, &'a str)];
 
 /// A model file, and what is set in place of values of its own.
-#[derive(Clone, Copy, Debug, PartialEq, Eq)]
+#[derive(Clone, Copy, Debug)]
 pub struct ModelFile<'a> {
     /// The path of the file.
     pub path: &'a str,
     /// What is set.
     pub settings: Settings<'a>,
+    /// The path of the disk whose kept model is read in place of the file; none for the file.
+    pub kept_by: Option<&'a str>,
 }
 
 impl<'a> ModelFile<'a> {
@@ -87,23 +89,25 @@ impl<'a> ModelFile<'a> {
     pub fn at(path: &'a str) -> ModelFile<'a>
         ensures path { result.path ≡ path.entry }
         ensures unset { result.settings.now ≡ [] }
+        ensures file { result.kept_by ≡ None }
     {
         ModelFile {
             path,
             settings: &[],
+            kept_by: None,
         }
     }
 }
 
 /// The argument of a command on a model file alone.
-#[derive(Clone, Copy, Debug, PartialEq, Eq)]
+#[derive(Clone, Copy, Debug)]
 pub struct ModelArgs<'a> {
     /// The model file.
     pub model: ModelFile<'a>,
 }
 
 /// The arguments of a command on a model file and a disk, which other commands have too.
-#[derive(Clone, Copy, Debug, PartialEq, Eq)]
+#[derive(Clone, Copy, Debug)]
 pub struct DiskArgs<'a> {
     /// The model file.
     pub model: ModelFile<'a>,
@@ -113,19 +117,19 @@ pub struct DiskArgs<'a> {
     pub large: bool,
 }
 
-/// The arguments of a command on the run of a disk, or on a run that the plain runner makes.
-#[derive(Clone, Copy, Debug, PartialEq, Eq)]
+/// The arguments of a command on the run of a disk, or on one that the sequential runner makes.
+#[derive(Clone, Copy, Debug)]
 pub struct SourceArgs<'a> {
     /// The model file.
     pub model: ModelFile<'a>,
-    /// The path of the disk's file; none for a run by the plain runner.
+    /// The path of the disk's file; none for a run by the sequential runner.
     pub disk: Option<&'a str>,
     /// Whether the disk may have up to 16,777,216 sectors instead of 131,072.
     pub large: bool,
 }
 
 /// The arguments of `new`.
-#[derive(Clone, Copy, Debug, PartialEq, Eq)]
+#[derive(Clone, Copy, Debug)]
 pub struct NewArgs<'a> {
     /// The model file and the disk.
     pub on: DiskArgs<'a>,
@@ -138,10 +142,12 @@ pub struct NewArgs<'a> {
     /// The path of the disk whose committed world the new one goes on from; none for a disk that
     /// begins as its model does.
     pub from: Option<&'a str>,
+    /// Whether the text of the model is kept in a file beside the disk.
+    pub keep_model: bool,
 }
 
 /// The arguments of `run`.
-#[derive(Clone, Copy, Debug, PartialEq, Eq)]
+#[derive(Clone, Copy, Debug)]
 pub struct RunArgs<'a> {
     /// The model file and the disk.
     pub on: DiskArgs<'a>,
@@ -204,6 +210,8 @@ pub struct RunArgs<'a> {
     pub sectors: u32,
     /// Whether the file of a disk that is made gets its whole room on the device at once.
     pub reserve: bool,
+    /// Whether the text of the model is kept in a file beside a disk that is made.
+    pub keep_model: bool,
 }
 
 /// How many messages a node may handle at a turn.
@@ -216,7 +224,7 @@ pub enum BatchOption {
 }
 
 /// The arguments of `grow`.
-#[derive(Clone, Copy, Debug, PartialEq, Eq)]
+#[derive(Clone, Copy, Debug)]
 pub struct GrowArgs<'a> {
     /// The model file and the disk.
     pub on: DiskArgs<'a>,
@@ -226,7 +234,7 @@ pub struct GrowArgs<'a> {
 }
 
 /// The arguments of `migrate`.
-#[derive(Clone, Copy, Debug, PartialEq, Eq)]
+#[derive(Clone, Copy, Debug)]
 pub struct MigrateArgs<'a> {
     /// The model file.
     pub model: ModelFile<'a>,
@@ -244,7 +252,7 @@ pub struct MigrateArgs<'a> {
 }
 
 /// The arguments of `recover`.
-#[derive(Clone, Copy, Debug, PartialEq, Eq)]
+#[derive(Clone, Copy, Debug)]
 pub struct RecoverArgs<'a> {
     /// The model file.
     pub model: ModelFile<'a>,
@@ -272,7 +280,7 @@ pub enum Format {
 }
 
 /// The arguments of `status`.
-#[derive(Clone, Copy, Debug, PartialEq, Eq)]
+#[derive(Clone, Copy, Debug)]
 pub struct StatusArgs<'a> {
     /// The model file and the disk.
     pub on: DiskArgs<'a>,
@@ -281,18 +289,20 @@ pub struct StatusArgs<'a> {
 }
 
 /// The arguments of `info`.
-#[derive(Clone, Copy, Debug, PartialEq, Eq)]
+#[derive(Clone, Copy, Debug)]
 pub struct InfoArgs<'a> {
     /// The path of the disk's file.
     pub disk: &'a str,
     /// Whether the disk may have up to 16,777,216 sectors instead of 131,072.
     pub large: bool,
+    /// Whether the model file that the disk keeps is printed, and nothing else.
+    pub model: bool,
     /// The format of what is printed.
     pub format: Format,
 }
 
 /// The arguments of `seq`.
-#[derive(Clone, Copy, Debug, PartialEq, Eq)]
+#[derive(Clone, Copy, Debug)]
 pub struct SeqArgs<'a> {
     /// The model file.
     pub model: ModelFile<'a>,
@@ -301,7 +311,7 @@ pub struct SeqArgs<'a> {
 }
 
 /// The arguments of `verify`.
-#[derive(Clone, Copy, Debug, PartialEq, Eq)]
+#[derive(Clone, Copy, Debug)]
 pub struct VerifyArgs<'a> {
     /// The model file and the disk.
     pub on: DiskArgs<'a>,
@@ -311,7 +321,7 @@ pub struct VerifyArgs<'a> {
 }
 
 /// The arguments of `log`.
-#[derive(Clone, Copy, Debug, PartialEq, Eq)]
+#[derive(Clone, Copy, Debug)]
 pub struct LogArgs<'a> {
     /// The model file and the disk.
     pub on: DiskArgs<'a>,
@@ -328,7 +338,7 @@ pub struct LogArgs<'a> {
 }
 
 /// The arguments of `show`.
-#[derive(Clone, Copy, Debug, PartialEq, Eq)]
+#[derive(Clone, Copy, Debug)]
 pub struct ShowArgs<'a> {
     /// The model file and the disk.
     pub on: DiskArgs<'a>,
@@ -341,7 +351,7 @@ pub struct ShowArgs<'a> {
 }
 
 /// The arguments of `stats`.
-#[derive(Clone, Copy, Debug, PartialEq, Eq)]
+#[derive(Clone, Copy, Debug)]
 pub struct StatsArgs<'a> {
     /// The run that is counted.
     pub of: SourceArgs<'a>,
@@ -377,7 +387,7 @@ pub enum Table {
 }
 
 /// The arguments of `draw`.
-#[derive(Clone, Copy, Debug, PartialEq, Eq)]
+#[derive(Clone, Copy, Debug)]
 pub struct DrawArgs<'a> {
     /// The run that is drawn.
     pub of: SourceArgs<'a>,
@@ -394,10 +404,13 @@ pub struct DrawArgs<'a> {
     pub trace: Option<&'a str>,
     /// Whether a value change dump of the named numbers is printed instead of a picture.
     pub vcd: bool,
+    /// The name of the word of messages whose values are drawn as a histogram; none for a picture
+    /// of the run.
+    pub histogram: Option<&'a str>,
 }
 
 /// The arguments of `node`.
-#[derive(Clone, Copy, Debug, PartialEq, Eq)]
+#[derive(Clone, Copy, Debug)]
 pub struct NodeArgs<'a> {
     /// The model file.
     pub model: ModelFile<'a>,

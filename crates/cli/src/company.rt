@@ -3,7 +3,8 @@
 
 ghost use Rattle.std.specs.Prelude.{◌≡◌, ◌∷◌, ◌||◌, [], is_some, MatchOption};
 ghost use Rattle.clap.specs.Words.{found_of, rows_of, HasKind};
-ghost use Rattle.cli.specs.Command.{company_fault, drawn_fault, excluded_fault, is_drawn_twice};
+ghost use Rattle.cli.specs.Command.{company_fault, drawn_fault, excluded_fault};
+ghost use Rattle.cli.specs.Command.{excludes_histogram, is_drawn_twice};
 ghost use Rattle.cli.specs.Command.{is_excluded, is_excluded_anywhere, is_excluded_over_nodes};
 ghost use Rattle.cli.specs.Command.{is_lonely, is_no_span, is_over_nodes, is_there, is_used};
 ghost use Rattle.cli.specs.Command.{is_without_another, is_without_archive};
@@ -141,6 +142,8 @@ fn without_create(values: &ArgMatches<'_>) -> Option<&'static str>
         Some("the argument '--sectors <N>' needs '--create', which makes the disk")
     } else if is_used(values, "reserved") {
         Some("the argument '--reserve' needs '--create', which makes the disk")
+    } else if is_used(values, "kept") {
+        Some("the argument '--keep-model' needs '--create', which makes the disk")
     } else {
         None
     }
@@ -214,6 +217,8 @@ fn excluded_anywhere(values: &ArgMatches<'_>) -> Option<&'static str>
         Some("the argument '--archive-when-full' cannot be used with '--grow-when-full'")
     } else if is_used(values, "advice") && is_used(values, "quiet") {
         Some("the argument '--advice' cannot be used with '--quiet'")
+    } else if is_used(values, "model") && !is_text(optional_text(values, "format"), "text") {
+        Some("the argument '--model' prints a file as it is, and cannot be used with '--format'")
     } else {
         None
     }
@@ -261,7 +266,7 @@ fn refused_drawn(alloc: Global, name: &str, values: &ArgMatches<'_>) -> Option<E
 }
 
 /// What is wrong if both the load and the course in a trace are to be drawn, or either of them as a
-/// value change dump.
+/// value change dump, or a histogram of some events or beside another picture.
 fn drawn_twice(values: &ArgMatches<'_>) -> Option<&'static str>
     ensures { is_some result ≡ is_drawn_twice (rows_of (found_of values.now)) }
 {
@@ -271,9 +276,26 @@ fn drawn_twice(values: &ArgMatches<'_>) -> Option<&'static str>
         && (is_used(values, "load") || is_there(values, "trace"))
     {
         Some("the argument '--format vcd' cannot be used with '--load' or '--trace <FILE>'")
+    } else if is_there(values, "histogram") && excludes_histogram(values) {
+        Some(
+            "the argument '--histogram <NAME>' counts all messages, and cannot be used with \
+             '--load', '--trace', '--format vcd', '--from', '--to' or '--processes'",
+        )
     } else {
         None
     }
+}
+
+/// Whether an option is used that makes another picture, or chooses events.
+fn excludes_histogram(values: &ArgMatches<'_>) -> bool
+    ensures { result ≡ excludes_histogram (rows_of (found_of values.now)) }
+{
+    is_used(values, "load")
+        || is_there(values, "trace")
+        || is_text(optional_text(values, "picture"), "vcd")
+        || is_there(values, "from")
+        || is_there(values, "to")
+        || is_there(values, "processes")
 }
 
 /// The error if the time of `--to` is before that of `--from`.

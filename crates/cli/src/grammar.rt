@@ -5,7 +5,7 @@ ghost use Rattle.clap.specs.Words.{app_of, rule_of};
 ghost use Rattle.clap.specs.declared.builder.command.Command.TheViews.{out-Command as fields_of};
 ghost use Rattle.cli.specs.Command.{advice_option, any_text, choice_option};
 ghost use Rattle.cli.specs.Command.{created_option, draw_command, flag, format_option};
-ghost use Rattle.cli.specs.Command.{info_command, log_command, picture_option, seq_command};
+ghost use Rattle.cli.specs.Command.{info_command, kept_option, log_command, picture_option};
 ghost use Rattle.cli.specs.Command.{grow_command, large_option, migrate_command, refusing};
 ghost use Rattle.cli.specs.Command.{most_sectors, on_any_disk, origin_option};
 ghost use Rattle.cli.specs.Command.{new_command, node_command, number_option, on_disk, on_model};
@@ -14,7 +14,8 @@ ghost use Rattle.cli.specs.Command.{quiet_option, recover_command, reserve_optio
 ghost use Rattle.cli.specs.Command.{set_option};
 ghost use Rattle.cli.specs.Command.{reserved_option, run_apart, run_command, run_kept, run_made};
 ghost use Rattle.cli.specs.Command.{run_stored, path_argument, program_of};
-ghost use Rattle.cli.specs.Command.{show_command, stats_command, status_command, text_option};
+ghost use Rattle.cli.specs.Command.{seq_command, show_command, stats_command, status_command};
+ghost use Rattle.cli.specs.Command.{text_option};
 ghost use Rattle.cli.specs.Command.{time_option};
 ghost use Rattle.cli.specs.Command.{verify_command, without_commands};
 ghost use Rattle.cli.specs.Command.{AddsArgument, AddsCommand, AddsRule, IsApp};
@@ -29,7 +30,7 @@ use std::alloc::{AllocError, Global};
 pub struct Texts<'a> {
     /// The program's name.
     pub name: &'a str,
-    /// What `--version` prints behind the name: `0.4.0 (disks of format 2)`.
+    /// What `--version` prints after the name: `0.4.0 (disks of format 2)`.
     pub version: &'a str,
     /// What follows the list of commands; `program_help` writes it.
     pub help: &'a str,
@@ -141,6 +142,7 @@ Faults:
                frame allowed at that point), Io, NoMemory
   OtherModel   'node' finds that its run is of another simulation
   NoSuchProcess  'log' or 'draw' is asked for a process that the model does not have
+  NoSuchWord   'draw --histogram' is asked for a word that no message has
   NoMemory     memory ran out elsewhere
   Output       standard output refused a write
 
@@ -170,6 +172,7 @@ fn new<'a>(alloc: Global) -> Result<ClapCommand<'a>, AllocError>
     let command = with_argument(command, reserve_option(alloc));
     let command = with_argument(command, flag(alloc, "over", OVER_HELP));
     let command = with_argument(command, origin_option(alloc));
+    let command = with_argument(command, flag(alloc, "keep-model", KEEP_MODEL_HELP));
     with_argument(command, large_option(alloc))
 }
 
@@ -187,6 +190,9 @@ const NEW_ABOUT: &str = "Makes a disk with an empty log for a model";
 const OVER_HELP: &str = "Formats a file that holds other bytes, which are then lost";
 
 const ORIGIN_HELP: &str = "Begins with the committed world of this disk (see 'help segments')";
+
+const KEEP_MODEL_HELP: &str =
+    "Keeps the model's text in DISK.model, for MODEL '-' (see 'help looking')";
 
 const SECTORS_HELP: &str = "Sectors of 512 bytes, 8 to 131072, or with --large to 16777216";
 
@@ -234,6 +240,7 @@ fn run_stored<'a>(alloc: Global) -> Result<ClapCommand<'a>, AllocError>
     let command = with_option(run_kept(alloc), UNATTENDED, create);
     let command = with_option(command, UNATTENDED, created_option(alloc));
     let command = with_option(command, UNATTENDED, reserved_option(alloc));
+    let command = with_option(command, UNATTENDED, kept_option(alloc));
     let archive = flag(alloc, "archive-when-full", ARCHIVE_HELP);
     let keep = optional_number(alloc, "keep", "K", 0, 4_294_967_295, KEEP_HELP);
     let grow = flag(alloc, "grow-when-full", GROW_WHEN_FULL_HELP);
@@ -310,6 +317,15 @@ fn reserved_option<'a>(alloc: Global) -> Arg<'a>
     flag(alloc, "reserved", RESERVED_HELP).long("reserve")
 }
 
+/// The flag for keeping the model's text beside a disk that a run makes. It is `--keep-model`, but
+/// has a name of its own for the other commands' flag, which needs no other option.
+fn kept_option<'a>(alloc: Global) -> Arg<'a>
+    ensures rule { rule_of result ≡ kept_option }
+    ensures local { result.global ≡ false }
+{
+    flag(alloc, "kept", KEPT_HELP).long("keep-model")
+}
+
 const RUN_ABOUT: &str = "Runs a model on its disk, from the last commit to its end";
 
 // These three have no default for `clap`, so that one sees whether they are used.
@@ -350,6 +366,8 @@ const CREATE_HELP: &str = "Makes the disk first, as 'new' does, if its file is n
 const CREATED_HELP: &str = "With --create: how many sectors, as 'new' takes them [default: 4096]";
 
 const RESERVED_HELP: &str = "With --create: gives the file all its room at once, by writing zeros";
+
+const KEPT_HELP: &str = "With --create: keeps the model's text in DISK.model, as 'new' does";
 
 const ARCHIVE_HELP: &str = "Archives a full disk as DISK.TIME, and goes on on a new one";
 
@@ -505,7 +523,8 @@ fn status<'a>(alloc: Global) -> Result<ClapCommand<'a>, AllocError>
 const STATUS_ABOUT: &str = "Prints how far a disk's run has come and how much room is left";
 
 const STATUS_HELP: &str = "\
-The disk is only read. A disk of format 1 fails with Recovery OtherModel; only 'migrate' reads it.
+The disk is only read, from its last checkpoint on: what is damaged before it is for 'verify' to
+find. A disk of format 1 fails with Recovery OtherModel; only 'migrate' reads it.
 
 Output, all numbers decimal:
   virtual time G of E ticks, P percent      what is committed, and the disk's end
@@ -535,14 +554,19 @@ fn info<'a>(alloc: Global) -> Result<ClapCommand<'a>, AllocError>
     let command = with_argument(Ok(command), path(alloc, "DISK", "The file of the disk"));
     let command = with_argument(command, advice_option(alloc));
     let command = with_argument(command, quiet_option(alloc));
+    let command = with_argument(command, flag(alloc, "model", KEPT_MODEL_HELP));
     let command = with_argument(command, format_option(alloc));
     with_argument(command, large_option(alloc))
 }
+
+const KEPT_MODEL_HELP: &str = "Prints only the model file that the disk keeps (DISK.model)";
 
 const INFO_ABOUT: &str = "Prints what a disk is, without its model file";
 
 const INFO_HELP: &str = "\
 The disk is only read. Nothing is replayed: the events are those that the records say they have.
+With --model it prints the text of the model file that the disk keeps ('help looking'), and nothing
+else.
 
 Output, a line for each name with its value:
   format         of the disk: 1 or 2
@@ -555,7 +579,8 @@ Output, a line for each name with its value:
   origin         the time from which the disk goes on, of one that goes on from another disk
   events_before  and how many events came before that
   used           sectors, of
-  sectors        in all";
+  sectors        in all
+  model          the file in which it keeps its model, if it keeps one";
 
 /// The command `log`.
 fn log<'a>(alloc: Global) -> Result<ClapCommand<'a>, AllocError>
@@ -714,6 +739,8 @@ fn draw<'a>(alloc: Global) -> Result<ClapCommand<'a>, AllocError>
     let command = with_argument(command, flag(alloc, "load", LOAD_HELP));
     let trace = optional_text(alloc, "trace", "FILE", COURSE_HELP);
     let command = with_argument(command, trace);
+    let histogram = optional_text(alloc, "histogram", "NAME", HISTOGRAM_HELP);
+    let command = with_argument(command, histogram);
     let command = with_argument(command, picture_option(alloc));
     with_argument(command, large_option(alloc))
 }
@@ -737,11 +764,14 @@ const LOAD_HELP: &str = "Draws how many events each process handled, by slices o
 
 const COURSE_HELP: &str = "Draws the course of the run that wrote FILE by 'run --trace FILE'";
 
+const HISTOGRAM_HELP: &str = "Draws how often the word NAME of messages has which values";
+
 const DRAW_HELP: &str = "\
 With a disk this is a picture of what is committed there. The disk is only read.
 Without one it is that of the whole run, made by the plain runner as by 'seq'.
 With --trace it shows, over the rounds, GVT, the efficiency, antimessages and commits, from the
-trace alone.
+trace alone. With --histogram it shows how many of the handled messages have which values of their
+word NAME, or of SORT.NAME where several sorts of messages have such a word.
 
 Output:
   an SVG document, which a browser shows; or with --format vcd a value change dump (IEEE 1364) of

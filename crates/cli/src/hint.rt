@@ -71,7 +71,7 @@ pub fn hint_of<S: AsStr>(words: &[S]) -> Option<Hint> {
     None
 }
 
-/// The option and the value that a word gives: both as `--option=value`, or a value behind an
+/// The option and the value that a word gives: both as `--option=value`, or a value after an
 /// option.
 fn parts_of<'a>(before: &'a str, word: &'a str) -> (&'a str, &'a str) {
     match word.split_once('=') {

@@ -1,10 +1,11 @@
 // Reads the command line.
 
-ghost use Rattle.std.specs.Prelude.{◌≡◌, ◌≤◌, map, IfOk, IfSome};
+ghost use Rattle.std.specs.Prelude.{◌≡◌, ◌≤◌, map, option_map, IfOk, IfSome};
 ghost use Rattle.clap.specs.Words.{found_of, rows_of, FailsBy};
 ghost use Rattle.cli.specs.Command.{model_of, refusal_of, IsDrawRanged, IsLogRanged, IsNamed};
 ghost use Rattle.cli.specs.Command.{IsRanged, IsStatsRanged, SaysFile, SaysInfo, SaysSeq};
 ghost use Rattle.cli.specs.Command.{IsRunRanged, IsSized, Says, SaysDisk, SaysDraw, SaysGrow};
+ghost use Rattle.cli.specs.Command.{SaysKeptDisk, SaysKeptFile};
 ghost use Rattle.cli.specs.Command.{SaysLog, SaysMigrate, SaysModel, SaysNew, SaysNode};
 ghost use Rattle.cli.specs.Command.{SaysRecover, SaysRows, SaysRun, SaysShow, SaysSource};
 ghost use Rattle.cli.specs.Command.{SaysStats, SaysStatus, SaysVerify};
@@ -33,11 +34,12 @@ use std::convert::AsStr;
 /// batch and an invalid number of sectors (`ValueValidation`), and an invalid range of processes,
 /// an unknown format and an unknown table (`InvalidValue`), in `clap`'s words; then options that do
 /// not go together, each in `clap`'s form: options of node programs without `--sockets`,
-/// `--sectors` or `--reserve` of `run` without `--create`, `--seal` without `--checkpoint`, and
-/// `--warm-up` without `--table` (`MissingRequiredArgument`); `--overlap` with `--together`,
-/// `--bind` with `--attach`, `--plain` with an option of nodes, `--load` with `--trace`, and either
-/// with a value change dump (`ArgumentConflict`); and a time of `--to` before that of `--from`
-/// (`ValueValidation`). If an allocation failed, the result is an error of `clap` too.
+/// `--sectors`, `--reserve` or `--keep-model` of `run` without `--create`, `--seal` without
+/// `--checkpoint`, `--warm-up` without `--table` (`MissingRequiredArgument`); `--overlap` with
+/// `--together`, `--bind` with `--attach`, `--plain` with an option of nodes, `--model` with a table,
+/// two of `--load`, `--trace`, `--histogram` and a value change dump, and `--histogram` with a choice
+/// of events (`ArgumentConflict`); and a time of `--to` before that of `--from` (`ValueValidation`).
+/// If an allocation failed, the result is an error of `clap` too.
 pub fn read_command<'a, S: AsStr>(
     alloc: Global,
     texts: Texts<'a>,
@@ -98,6 +100,26 @@ fn model_file<'a>(values: &ArgMatches<'a>, settings: Settings<'a>) -> ModelFile<
     ModelFile {
         path: text(values, "MODEL"),
         settings,
+        kept_by: None,
+    }
+}
+
+/// The model file of a command that looks at this disk, if at any: `-` is the model that the disk
+/// keeps.
+fn kept_file<'a>(
+    values: &ArgMatches<'a>,
+    settings: Settings<'a>,
+    disk: Option<&'a str>,
+) -> ModelFile<'a>
+    ensures says { SaysKeptFile result (option_map (λ path. path.now) disk.entry)
+        (rows_of (found_of values.now)) }
+    ensures set { result.settings ≡ settings.entry }
+{
+    let path = text(values, "MODEL");
+    ModelFile {
+        path,
+        settings,
+        kept_by: if path == "-" { disk } else { None },
     }
 }
 
@@ -123,14 +145,28 @@ fn disk_args<'a>(values: &ArgMatches<'a>, settings: Settings<'a>) -> DiskArgs<'a
     }
 }
 
+/// The arguments of a command on a model file, which the disk may keep, and a disk.
+fn kept_args<'a>(values: &ArgMatches<'a>, settings: Settings<'a>) -> DiskArgs<'a>
+    ensures says { SaysKeptDisk result (rows_of (found_of values.now)) }
+    ensures set { result.model.settings ≡ settings.entry }
+{
+    let disk = text(values, "DISK");
+    DiskArgs {
+        model: kept_file(values, settings, Some(disk)),
+        disk,
+        large: is_flagged(values, "large"),
+    }
+}
+
 /// The arguments of a command on a run of a model file, on a disk or not.
 fn source_args<'a>(values: &ArgMatches<'a>, settings: Settings<'a>) -> SourceArgs<'a>
     ensures says { SaysSource result (rows_of (found_of values.now)) }
     ensures set { result.model.settings ≡ settings.entry }
 {
+    let disk = optional_text(values, "DISK");
     SourceArgs {
-        model: model_file(values, settings),
-        disk: optional_text(values, "DISK"),
+        model: kept_file(values, settings, disk),
+        disk,
         large: is_flagged(values, "large"),
     }
 }
@@ -149,6 +185,7 @@ fn new_args<'a>(values: &ArgMatches<'a>, settings: Settings<'a>) -> NewArgs<'a>
         reserve: is_flagged(values, "reserve"),
         over: is_flagged(values, "over"),
         from: optional_text(values, "origin"),
+        keep_model: is_flagged(values, "keep-model"),
     }
 }
 
@@ -186,6 +223,7 @@ fn run_args<'a>(values: &ArgMatches<'a>, settings: Settings<'a>) -> RunArgs<'a>
         create: is_flagged(values, "create"),
         sectors: small_number_or(values, "created", 8, most_sectors(on.large), 4_096),
         reserve: is_flagged(values, "reserved"),
+        keep_model: is_flagged(values, "kept"),
     }
 }
 
@@ -241,7 +279,7 @@ fn status_args<'a>(values: &ArgMatches<'a>, settings: Settings<'a>) -> StatusArg
     ensures set { result.on.model.settings ≡ settings.entry }
 {
     StatusArgs {
-        on: disk_args(values, settings),
+        on: kept_args(values, settings),
         format: format(values),
     }
 }
@@ -253,6 +291,7 @@ fn info_args<'a>(values: &ArgMatches<'a>) -> InfoArgs<'a>
     InfoArgs {
         disk: text(values, "DISK"),
         large: is_flagged(values, "large"),
+        model: is_flagged(values, "model"),
         format: format(values),
     }
 }
@@ -274,7 +313,7 @@ fn verify_args<'a>(values: &ArgMatches<'a>, settings: Settings<'a>) -> VerifyArg
     ensures set { result.on.model.settings ≡ settings.entry }
 {
     VerifyArgs {
-        on: disk_args(values, settings),
+        on: kept_args(values, settings),
         after: optional_text(values, "after"),
     }
 }
@@ -286,7 +325,7 @@ fn log_args<'a>(values: &ArgMatches<'a>, settings: Settings<'a>) -> LogArgs<'a>
     ensures set { result.on.model.settings ≡ settings.entry }
 {
     LogArgs {
-        on: disk_args(values, settings),
+        on: kept_args(values, settings),
         from: optional_number(values, "from", 0, LAST_TIME),
         to: optional_number(values, "to", 0, LAST_TIME),
         process: optional_small_number(values, "process", 0, u32::MAX),
@@ -301,7 +340,7 @@ fn show_args<'a>(values: &ArgMatches<'a>, settings: Settings<'a>) -> ShowArgs<'a
     ensures set { result.on.model.settings ≡ settings.entry }
 {
     ShowArgs {
-        on: disk_args(values, settings),
+        on: kept_args(values, settings),
         names: is_flagged(values, "names"),
         pending: is_flagged(values, "pending"),
         format: format(values),
@@ -337,6 +376,7 @@ fn draw_args<'a>(values: &ArgMatches<'a>, settings: Settings<'a>) -> DrawArgs<'a
         load: is_flagged(values, "load"),
         trace: optional_text(values, "trace"),
         vcd: is_text(optional_text(values, "picture"), "vcd"),
+        histogram: optional_text(values, "histogram"),
     }
 }
 

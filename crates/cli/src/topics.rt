@@ -124,10 +124,14 @@ What a node computes
                    its own model. What a node gets wrong often is found at once (Session Port
                    BadReply); what it gets wrong rarely can be committed before it is found
   --judge all      every report is replayed, and nothing is committed that the sequential simulation
-                   does not do (Session Reports), whatever nodes answer. It costs one handling of
-                   each event in the run's own program. --judge 1 is the same
+                   does not do (Session Reports), whatever nodes answer. --judge 1 is the same
   --judge 0        nothing is compared
   'verify' compares a whole disk with the model later on.
+
+When judging pays
+  --judge 64, the default, costs little. With --judge all the run's own program handles each event
+  too, so such a run takes at least as long as one with --plain, which needs no nodes and promises
+  the same. Judge all where node programs or their machines are not trusted, not to be fast.
 ";
 
 const COMMITS: &str = "\
@@ -207,8 +211,8 @@ Archives
   'log' of all parts in their order, DISK.0* and then DISK, prints what 'seq' prints of the log.
 
 By hand
-  new MODEL PART --from DISK         a segment that goes on from what DISK has committed. With
-                                     another model file of as many processes it begins a variant
+  new MODEL PART --from DISK         a segment of the same model that goes on from what DISK has
+                                     committed
   verify MODEL PART --after BEFORE   compares also the origin, with what BEFORE has committed
                                      (Segment NotTheNext). Without it the origin is believed
 
@@ -222,7 +226,8 @@ const REPAIR: &str = "\
 What each command finds and does about a disk that is damaged, or has records that are not what the
 model does:
 
-  status MODEL DISK         reads it, and names the first record that cannot be taken
+  status MODEL DISK         reads it from its last checkpoint on, and names the first record there
+                            that cannot be taken
   verify MODEL DISK         replays all records and compares them with the model: 'verified', or
                             the first record at fault (Record N ..). Use it after a crash of the
                             machine, a copy, or a run whose nodes were not judged. It writes
@@ -251,14 +256,21 @@ These commands only read the disk, and can run beside the run that writes it:
   show MODEL DISK      the committed world: states and pending messages
   stats MODEL DISK     how many events, sends and delays; --table picks one of the tables, as those
                        of named numbers over virtual time
-  draw MODEL DISK      a picture (SVG): each event and message, or with --load the load of processes
-                       (or with --format vcd a value change dump of the named numbers)
+  draw MODEL DISK      a picture (SVG): each event and message; with --load the load of processes,
+                       and with --histogram NAME how often a word of messages has which values (or
+                       with --format vcd a value change dump of the named numbers)
   verify MODEL DISK    whether the disk is what a run leaves ('help repair')
 
 With --format csv or json 'log', 'show', 'status', 'stats', 'info' and 'seq' print tables, with the
 names that the model has.
 
 Without a disk 'stats' and 'draw' run the model themselves, and 'seq' prints its log and world.
+
+A disk that keeps its model
+  'new --keep-model' and 'run --create --keep-model' write the text of the model, as --set and
+  --seed change it, to DISK.model beside the disk. For the commands above MODEL '-' is then this
+  text, also for archived parts DISK.TIME, and 'info DISK --model' prints it. For other commands '-'
+  is a path.
 
 During a run
   On a terminal a line says how far it is. --progress SECONDS prints such lines where there is
@@ -275,9 +287,9 @@ After a fault
 
 const STATUSES: &str = "\
 Exit status
-  0  done, or 'help' has printed a text
+  0  done, or 'help' has printed a text, or --version the version
   1  a fault, printed on standard error after the program's name
-  2  a mistake in the command line; or --help or --version, whose texts are on standard error
+  2  a mistake in the command line; or --help, whose text is on standard error
 
 A run that its stop file ends has status 0: standard error says that it was stopped. A signal ends
 any command with the status that the shell gives it (130 for Ctrl-C). Whatever the status, what was

@@ -17,6 +17,7 @@ use Rattle.model.specs.Runner.{Simulation}
 use Rattle.model.specs.World.{World}
 use Rattle.model.specs.declared.origin.Origin.{Origin}
 use Rattle.recovery.proofs.Crashes.{kept-none, looked-under}
+use Rattle.recovery.proofs.OldRecords.{keeps_none, keeps_on, looks_at_old}
 use Rattle.recovery.specs.Histories.{Call, Event, IsHistoryOfCalls, IsKept, IsKeptRun, IsStoppedAt, last_acknowledged}
 use Rattle.recovery.specs.Histories.Ending.{Returned}
 use Rattle.recovery.specs.Replay.{in_force}
@@ -28,7 +29,7 @@ use Rattle.views.specs.Reading.{BeginsWith}
 use Rattle.views.specs.Views.{Begins, Describes, Prints}
 use Rattle.wire.specs.Port.{PortState}
 use Rattle.program.proofs.Printed.{on_ok_so}
-use Rattle.program.specs.Attempts.{AreArchived, AreCalls, GoesOnWith, HasCome, HasComeBy, IsAttempt, IsAttemptBy, IsFollowed, IsFollowedBy, IsGoneOn, IsLastAttempt, IsLastBy, IsOnImage, IsRanAsReported, IsRanOn, IsRunBy, IsStoppedAsReported, IsStoppedOn, IsTried, IsWholeRun, KeepsAll, Stretch}
+use Rattle.program.specs.Attempts.{AreArchived, AreCalls, GoesOnWith, HasCome, IsAttempt, IsAttemptBy, IsCallBy, IsFollowed, IsGoneOn, IsLastAttempt, IsOnImage, IsRanAsReported, IsRanOn, IsStoppedAsReported, IsStoppedOn, IsTried, IsWholeRun, KeepsAll, KeepsDisk, Stretch}
 use Rattle.program.specs.Command.{IsRan, IsRanAs, IsRanBehind, IsStoppedAs, IsStoppedBehind, IsStoppedText, IsWithoutOutput}
 use Rattle.program.specs.declared.attempts.Next.{Next}
 use Rattle.program.specs.declared.attempts.Next.TheVariants.{Other, Same}
@@ -37,7 +38,7 @@ use Rattle.program.specs.declared.attempts.Next.TheVariants.{Other, Same}
 
 -- a disk that is only looked at
 pub looks_keep : (on : Meaning) (old new : DiskState) → OnlyLooks old new → KeepsAll on old new
-looks_keep on old new looks = λ v. record { crashes = looked-under on v.time old new looks; front = λ recovers s is. absurd (cc) }
+looks_keep on old new looks = record { call = λ v. record { crashes = looked-under on v.time old new looks; front = λ recovers s is. absurd (cc) }; records = looks_at_old old new looks }
 
 pub same_keeps : (on : Meaning) (disk : DiskState) → KeepsAll on disk disk
 same_keeps on disk = looks_keep on disk disk (looks_none disk)
@@ -85,7 +86,7 @@ lost_tried Ran Stopped before after same f unchanged = record {
 }
 
 pub lost_attempt : (trusts : Bool) (on : Meaning) (end nodes : ℕ) (disk : DiskState) (same : Type 0) (before after : Option (List ℕ)) (f : SessionFault) → same → IsAttemptBy trusts on end nodes disk disk (Err (on_disk.Session f)) same before after
-lost_attempt true on end nodes disk same before after f unchanged = lost_tried (IsRanAsReported end nodes) (IsStoppedAsReported end) before after same f unchanged
+lost_attempt true on end nodes disk same before after f unchanged = record { tried = lost_tried (IsRanAsReported end nodes) (IsStoppedAsReported end) before after same f unchanged; records = keeps_none disk }
 lost_attempt false on end nodes disk same before after f unchanged = record {
   tried = lost_tried (IsRanOn on end nodes disk disk) (IsStoppedOn on end disk disk) before after same f unchanged;
   kept = λ v. inr (on_disk.Session f, refl, kept-none on end v disk disk (looked-under on v.time disk disk (looks_none disk)));
@@ -106,44 +107,38 @@ module _ (on : Meaning) (end : ℕ) (v : World) (old left : DiskState) where
 
 module _ (on : Meaning) (end nodes : ℕ) (old left : DiskState) (outcome : Result (Unit {0}) CommandFault) (same : Type 0) (before after : Option (List ℕ)) where
   unwritten_by : (trusts : Bool) → IsAttemptBy trusts on end nodes old left outcome same before after → IsWithoutOutput outcome → same
-  unwritten_by true tried without = tried.unwritten without.0 without.1 without.2
+  unwritten_by true attempt without = attempt.tried.unwritten without.0 without.1 without.2
   unwritten_by false attempt without = attempt.tried.unwritten without.0 without.1 without.2
 
-  followed_by : (trusts : Bool) (next : Next) → IsAttemptBy trusts on end nodes old left outcome same before after → GoesOnWith on end left next → IsFollowedBy trusts on end old next
-  followed_by true next tried goes_on = tt
-  followed_by false next attempt goes_on = record { left = left; attempt = λ v. as_call on end v old left before after outcome (attempt.kept v); goes_on = goes_on }
+  called_by : (trusts : Bool) → IsAttemptBy trusts on end nodes old left outcome same before after → IsCallBy trusts on old left
+  called_by true attempt = attempt.records
+  called_by false attempt = λ v. as_call on end v old left before after outcome (attempt.kept v)
 
-  pub goes_on_by : {E : Type 0} (trusts : Bool) (r : Result Next E) → IsAttemptBy trusts on end nodes old left outcome same before after → OnOk r (IsWithoutOutput outcome) → IfOk r (GoesOnWith on end left) → IfOk r (λ next. same × IsFollowedBy trusts on end old next)
-  goes_on_by trusts (Ok next) attempt without goes_on = (unwritten_by trusts attempt without, followed_by trusts next attempt goes_on)
+  pub goes_on_by : {E : Type 0} (trusts : Bool) (r : Result Next E) → IsAttemptBy trusts on end nodes old left outcome same before after → OnOk r (IsWithoutOutput outcome) → IfOk r (GoesOnWith on end left) → IfOk r (λ next. same × IsFollowed trusts on end old next)
+  goes_on_by trusts (Ok next) attempt without goes_on = (unwritten_by trusts attempt without, record { left = left; attempt = called_by trusts attempt; goes_on = goes_on })
   goes_on_by trusts (Err e) attempt without goes_on = tt
 
-  last_of : (trusts : Bool) (new : DiskState) (own : Result (Unit {0}) CommandFault) → IsAttemptBy trusts on end nodes old left outcome same before after → own ≡ outcome → KeepsAll on left new → IsLastBy trusts on end nodes old new own same before after
-  last_of true new own tried is rest = subst (λ (o : Result (Unit {0}) CommandFault). IsTried (IsRanAsReported end nodes) (IsStoppedAsReported end) o same before after) (sym is) tried
-  last_of false new own attempt is rest = record { left = left; attempt = subst (λ (o : Result (Unit {0}) CommandFault). IsAttempt on end nodes old left o same before after) (sym is) attempt; rest = rest }
+  last_of : (trusts : Bool) (new : DiskState) (own : Result (Unit {0}) CommandFault) → IsAttemptBy trusts on end nodes old left outcome same before after → own ≡ outcome → KeepsAll on left new → IsLastAttempt trusts on end nodes old new own same before after
+  last_of trusts new own attempt is rest = record { left = left; attempt = subst (λ (o : Result (Unit {0}) CommandFault). IsAttemptBy trusts on end nodes old left o same before after) (sym is) attempt; rest = rest }
 
   pub last_by : {E : Type 0} (disk : E → DiskState) (own : E → Result (Unit {0}) CommandFault) (trusts : Bool) (r : Result Next E) → IsAttemptBy trusts on end nodes old left outcome same before after → IfErr r (λ last. own last ≡ outcome) → IfErr r (λ last. KeepsAll on left (disk last))
-      → IfErr r (λ last. IsLastBy trusts on end nodes old (disk last) (own last) same before after)
+      → IfErr r (λ last. IsLastAttempt trusts on end nodes old (disk last) (own last) same before after)
   last_by disk own trusts (Ok next) attempt is rest = tt
   last_by disk own trusts (Err last) attempt is rest = last_of trusts (disk last) (own last) attempt is rest
 
   -- the same, of a simulation that is this one
-  pub next_after : {E : Type 0} (real : Meaning) (trusts : Bool) (r : Result Next E) → on ≡ real → IsAttemptBy trusts on end nodes old left outcome same before after → OnOk r (IsWithoutOutput outcome) → IfOk r (GoesOnWith on end left) → IfOk r (λ next. same × IsFollowedBy trusts real end old next)
-  next_after real trusts r is attempt without goes_on = subst (λ (m : Meaning). IfOk r (λ next. same × IsFollowedBy trusts m end old next)) is (goes_on_by trusts r attempt without goes_on)
+  pub next_after : {E : Type 0} (real : Meaning) (trusts : Bool) (r : Result Next E) → on ≡ real → IsAttemptBy trusts on end nodes old left outcome same before after → OnOk r (IsWithoutOutput outcome) → IfOk r (GoesOnWith on end left) → IfOk r (λ next. same × IsFollowed trusts real end old next)
+  next_after real trusts r is attempt without goes_on = subst (λ (m : Meaning). IfOk r (λ next. same × IsFollowed trusts m end old next)) is (goes_on_by trusts r attempt without goes_on)
 
   pub last_after : {E : Type 0} (disk : E → DiskState) (own : E → Result (Unit {0}) CommandFault) (real : Meaning) (trusts : Bool) (r : Result Next E) → on ≡ real → IsAttemptBy trusts on end nodes old left outcome same before after → IfErr r (λ last. own last ≡ outcome) → IfErr r (λ last. KeepsAll on left (disk last))
-      → IfErr r (λ last. IsLastBy trusts real end nodes old (disk last) (own last) same before after)
-  last_after disk own real trusts r is attempt same_outcome rest = subst (λ (m : Meaning). IfErr r (λ last. IsLastBy trusts m end nodes old (disk last) (own last) same before after)) is (last_by disk own trusts r attempt same_outcome rest)
-
--- the last attempt of a run is the last one that it makes
-pub last_made : (on : Meaning) (end nodes : ℕ) (old new : DiskState) (outcome : Result (Unit {0}) CommandFault) (same : Type 0) (before after : Option (List ℕ)) (trusts : Bool) → IsAttemptBy trusts on end nodes old new outcome same before after → IsLastBy trusts on end nodes old new outcome same before after
-last_made on end nodes old new outcome same before after true tried = tried
-last_made on end nodes old new outcome same before after false attempt = record { left = new; attempt = attempt; rest = same_keeps on new }
+      → IfErr r (λ last. IsLastAttempt trusts real end nodes old (disk last) (own last) same before after)
+  last_after disk own real trusts r is attempt same_outcome rest = subst (λ (m : Meaning). IfErr r (λ last. IsLastAttempt trusts m end nodes old (disk last) (own last) same before after)) is (last_by disk own trusts r attempt same_outcome rest)
 
 -- what an attempt has made is the last one of a run, of a simulation that is this one
 pub made_last : {E F : Type 0} (disk : E → DiskState) (own : E → Result (Unit {0}) CommandFault) (on real : Meaning) (end nodes : ℕ) (old : DiskState) (same : Type 0) (before after : Option (List ℕ)) (trusts : Bool) (r : Result E F) → on ≡ real
-    → IfOk r (λ e. IsAttemptBy trusts on end nodes old (disk e) (own e) same before after) → IfOk r (λ e. IsLastBy trusts real end nodes old (disk e) (own e) same before after)
-made_last disk own on real end nodes old same before after trusts (Ok e) is tried = subst (λ (m : Meaning). IsLastBy trusts m end nodes old (disk e) (own e) same before after) is (last_made on end nodes old (disk e) (own e) same before after trusts tried)
-made_last disk own on real end nodes old same before after trusts (Err f) is tried = tt
+    → IfOk r (λ e. IsAttemptBy trusts on end nodes old (disk e) (own e) same before after) → IfOk r (λ e. IsLastAttempt trusts real end nodes old (disk e) (own e) same before after)
+made_last disk own on real end nodes old same before after trusts (Ok e) is attempt = subst (λ (m : Meaning). IsLastAttempt trusts m end nodes old (disk e) (own e) same before after) is (record { left = disk e; attempt = attempt; rest = same_keeps on (disk e) })
+made_last disk own on real end nodes old same before after trusts (Err f) is attempt = tt
 
 -- the simulation of a model that begins with an origin
 pub continued_as : {M : Type 0} (meaning : M → Meaning) {a b : M} {o p : Option Origin} → a ≡ b → o ≡ p → continued (meaning a) o ≡ continued (meaning b) p
@@ -176,79 +171,76 @@ call_more m v old mid new calls call =
       history = history_then m v calls.last old mid calls.events (record { begun = mid; ended = new; front = next.0 }) calls.history refl next.1;
     }
 
-none_more : (m : Meaning) (v : World) (old mid new : DiskState) → AreCalls m v old mid → KeepsAll m mid new → AreCalls m v old new
-none_more m v old mid new calls keeps = call_more m v old mid new calls (λ w. (None, keeps w))
-
 no_calls : (m : Meaning) (v : World) (disk : DiskState) → AreCalls m v disk disk
 no_calls m v disk = record { events = []; last = v; history = (refl, refl) }
 
+-- a part of a run on one disk, with an attempt more, and with what only keeps it
+kept_first : (trusts : Bool) (m : Meaning) (disk : DiskState) → KeepsDisk trusts m disk disk
+kept_first true m disk = keeps_none disk
+kept_first false m disk = λ v. no_calls m v disk
+
+kept_more : (trusts : Bool) (m : Meaning) (old mid new : DiskState) → KeepsDisk trusts m old mid → IsCallBy trusts m mid new → KeepsDisk trusts m old new
+kept_more true m old mid new keeps call = keeps_on old mid new keeps call
+kept_more false m old mid new keeps call = λ v. call_more m v old mid new (keeps v) call
+
+kept_on : (trusts : Bool) (m : Meaning) (old mid new : DiskState) → KeepsDisk trusts m old mid → KeepsAll m mid new → KeepsDisk trusts m old new
+kept_on true m old mid new keeps rest = keeps_on old mid new keeps rest.records
+kept_on false m old mid new keeps rest = λ v. call_more m v old mid new (keeps v) (λ w. (None, rest.call w))
+
 -- 4. The disks of a run
 
-archived_then : (m : Meaning) (end : ℕ) (old : DiskState) (before : List Stretch) (s : Stretch) (next : DiskState) → AreArchived m end old before s.old → IsOnImage m s.old.reads s.on → ((v : World) → AreCalls s.on v s.old s.new) → IsNextDisk s.on end s.new.reads next
-    → AreArchived m end old (before ++ s ∷ []) next
-archived_then m end old [] s next are is_on calls follows = (are, subst (λ (d : DiskState). IsOnImage m d.reads s.on) are is_on, calls, (next, follows, refl))
-archived_then m end old (b ∷ bs) s next are is_on calls follows = (are.0, are.1, are.2, (are.3.0, are.3.1, archived_then m end are.3.0 bs s next are.3.2 is_on calls follows))
+archived_then : (trusts : Bool) (m : Meaning) (end : ℕ) (old : DiskState) (before : List Stretch) (s : Stretch) (next : DiskState) → AreArchived trusts m end old before s.old → IsOnImage m s.old.reads s.on → KeepsDisk trusts s.on s.old s.new → IsNextDisk s.on end s.new.reads next
+    → AreArchived trusts m end old (before ++ s ∷ []) next
+archived_then trusts m end old [] s next are is_on keeps follows = (are, subst (λ (d : DiskState). IsOnImage m d.reads s.on) are is_on, keeps, (next, follows, refl))
+archived_then trusts m end old (b ∷ bs) s next are is_on keeps follows = (are.0, are.1, are.2, (are.3.0, are.3.1, archived_then trusts m end are.3.0 bs s next are.3.2 is_on keeps follows))
 
-module _ (m : Meaning) (end : ℕ) (old : DiskState) where
-  come_first : (origin : Option Origin) → BeginsWith m.lps old.reads origin → HasCome m end old origin old
-  come_first origin begins = record { archived = []; begun = old; are_archived = refl; begins = begins; calls = λ v. no_calls (continued m origin) v old }
+module _ (trusts : Bool) (m : Meaning) (end : ℕ) (old : DiskState) where
+  pub come_first : (origin : Option Origin) → BeginsWith m.lps old.reads origin → HasCome trusts m end old origin old
+  come_first origin begins = record { archived = []; begun = old; are_archived = refl; begins = begins; keeps = kept_first trusts (continued m origin) old }
 
-  come_more : (origin : Option Origin) (now left new : DiskState) → HasCome m end old origin now → ((v : World) → (front : Option Simulation) × IsKept (continued m origin) v (record { begun = now; ended = left; front = front })) → KeepsAll (continued m origin) left new
-      → HasCome m end old origin new
-  come_more origin now left new come attempt keeps = record {
+  come_more : (origin : Option Origin) (now left new : DiskState) → HasCome trusts m end old origin now → IsCallBy trusts (continued m origin) now left → KeepsAll (continued m origin) left new → HasCome trusts m end old origin new
+  come_more origin now left new come attempt rest = record {
     archived = come.archived;
     begun = come.begun;
     are_archived = come.are_archived;
     begins = come.begins;
-    calls = λ v. none_more (continued m origin) v come.begun left new (call_more (continued m origin) v come.begun now left (come.calls v) attempt) keeps;
+    keeps = kept_on trusts (continued m origin) come.begun left new (kept_more trusts (continued m origin) come.begun now left come.keeps attempt) rest;
   }
 
-  come_next : (origin first : Option Origin) (now left next new : DiskState) → HasCome m end old origin now → ((v : World) → (front : Option Simulation) × IsKept (continued m origin) v (record { begun = now; ended = left; front = front }))
-      → IsNextDisk (continued m origin) end left.reads next → BeginsWith m.lps new.reads first → OnlyLooks next new → HasCome m end old first new
+  come_next : (origin first : Option Origin) (now left next new : DiskState) → HasCome trusts m end old origin now → IsCallBy trusts (continued m origin) now left → IsNextDisk (continued m origin) end left.reads next → BeginsWith m.lps new.reads first → OnlyLooks next new
+      → HasCome trusts m end old first new
   come_next origin first now left next new come attempt follows begins looks =
       let last : Stretch = record { on = continued m origin; old = come.begun; new = left } in
       record {
         archived = come.archived ++ last ∷ [];
         begun = next;
-        are_archived = archived_then m end old come.archived last next come.are_archived (origin, (come.begins, refl)) (λ v. call_more (continued m origin) v come.begun now left (come.calls v) attempt) follows;
+        are_archived = archived_then trusts m end old come.archived last next come.are_archived (origin, (come.begins, refl)) (kept_more trusts (continued m origin) come.begun now left come.keeps attempt) follows;
         begins = subst (λ (image : List (List ℕ)). BeginsWith m.lps image first) looks.same begins;
-        calls = λ v. none_more (continued m first) v next next new (no_calls (continued m first) v next) (looks_keep (continued m first) next new looks);
+        keeps = kept_on trusts (continued m first) next next new (kept_first trusts (continued m first) next) (looks_keep (continued m first) next new looks);
       }
 
-  -- the same for a run that may trust node programs
-  pub first_by : (trusts : Bool) (origin : Option Origin) → BeginsWith m.lps old.reads origin → HasComeBy trusts m end old origin old
-  first_by true origin begins = tt
-  first_by false origin begins = come_first origin begins
-
-  gone_on : (origin first : Option Origin) (now : DiskState) (next : Next) (new : FileState) → HasCome m end old origin now → IsFollowed (continued m origin) end now next → IsGoneOn m.lps origin next new first → HasCome m end old first (disk_of_file new)
+  gone_on : (origin first : Option Origin) (now : DiskState) (next : Next) (new : FileState) → HasCome trusts m end old origin now → IsFollowed trusts (continued m origin) end now next → IsGoneOn m.lps origin next new first → HasCome trusts m end old first (disk_of_file new)
   gone_on origin first now (Same disk) new come followed is =
-      subst (λ (o : Option Origin). HasCome m end old o (disk_of_file new)) (sym is.1)
-      (subst (λ (d : FileState). HasCome m end old origin (disk_of_file d)) (sym is.0) (come_more origin now followed.left (disk_of_file disk) come followed.attempt followed.goes_on))
+      subst (λ (o : Option Origin). HasCome trusts m end old o (disk_of_file new)) (sym is.1)
+      (subst (λ (d : FileState). HasCome trusts m end old origin (disk_of_file d)) (sym is.0) (come_more origin now followed.left (disk_of_file disk) come followed.attempt followed.goes_on))
   gone_on origin first now (Other disk) new come followed is = come_next origin first now followed.left (disk_of_file disk) (disk_of_file new) come followed.attempt followed.goes_on is.0 is.1
 
-  pub gone_on_by : (trusts : Bool) (origin first : Option Origin) (now : DiskState) (next : Next) (new : FileState) → HasComeBy trusts m end old origin now → IsFollowedBy trusts (continued m origin) end now next → IsGoneOn m.lps origin next new first
-      → HasComeBy trusts m end old first (disk_of_file new)
-  gone_on_by true origin first now next new come followed is = tt
-  gone_on_by false origin first now next new come followed is = gone_on origin first now next new come followed is
-
-  pub run_by : (trusts : Bool) (origin : Option Origin) (nodes : ℕ) (now new : DiskState) (outcome : Result (Unit {0}) CommandFault) (same : Type 0) (before after : Option (List ℕ)) → HasComeBy trusts m end old origin now → IsLastBy trusts (continued m origin) end nodes now new outcome same before after
-      → IsRunBy trusts m end nodes old new outcome same before after
-  run_by true origin nodes now new outcome same before after come last = last
-  run_by false origin nodes now new outcome same before after come last = record { origin = origin; now = now; come = come; last = last }
-
   -- after the attempts before it, which have printed nothing, the last one ends the run
-  pub run_after : {A : Type 0} (contents : A → Option (List ℕ)) (first mid last : A) (trusts : Bool) (origin given : Option Origin) (nodes : ℕ) (now new : DiskState) (outcome : Result (Unit {0}) CommandFault) → mid ≡ first → given ≡ origin → HasComeBy trusts m end old origin now
-      → IsLastBy trusts (continued m given) end nodes now new outcome (last ≡ mid) (contents mid) (contents last) → IsRunBy trusts m end nodes old new outcome (last ≡ first) (contents first) (contents last)
-  run_after {A} contents first mid last trusts origin given nodes now new outcome unprinted is come ended =
-      run_by trusts origin nodes now new outcome (last ≡ first) (contents first) (contents last) come
-      (subst (λ (a : A). IsLastBy trusts (continued m origin) end nodes now new outcome (last ≡ a) (contents a) (contents last)) unprinted
-      (subst (λ (o : Option Origin). IsLastBy trusts (continued m o) end nodes now new outcome (last ≡ mid) (contents mid) (contents last)) is ended))
+  pub run_after : {A : Type 0} (contents : A → Option (List ℕ)) (first mid last : A) (origin given : Option Origin) (nodes : ℕ) (now new : DiskState) (outcome : Result (Unit {0}) CommandFault) → mid ≡ first → given ≡ origin → HasCome trusts m end old origin now
+      → IsLastAttempt trusts (continued m given) end nodes now new outcome (last ≡ mid) (contents mid) (contents last) → IsWholeRun trusts m end nodes old new outcome (last ≡ first) (contents first) (contents last)
+  run_after {A} contents first mid last origin given nodes now new outcome unprinted is come ended = record {
+    origin = origin;
+    now = now;
+    come = come;
+    last = subst (λ (a : A). IsLastAttempt trusts (continued m origin) end nodes now new outcome (last ≡ a) (contents a) (contents last)) unprinted
+        (subst (λ (o : Option Origin). IsLastAttempt trusts (continued m o) end nodes now new outcome (last ≡ mid) (contents mid) (contents last)) is ended);
+  }
 
   -- and after one more attempt the run has come to the next disk
-  pub come_after : (trusts : Bool) (origin given first : Option Origin) (now : DiskState) (next : Next) (new : FileState) → given ≡ origin → HasComeBy trusts m end old origin now → IsFollowedBy trusts (continued m given) end now next → IsGoneOn m.lps origin next new first
-      → HasComeBy trusts m end old first (disk_of_file new)
-  come_after trusts origin given first now next new is come followed gone =
-      gone_on_by trusts origin first now next new come (subst (λ (o : Option Origin). IsFollowedBy trusts (continued m o) end now next) is followed) gone
+  pub come_after : (origin given first : Option Origin) (now : DiskState) (next : Next) (new : FileState) → given ≡ origin → HasCome trusts m end old origin now → IsFollowed trusts (continued m given) end now next → IsGoneOn m.lps origin next new first
+      → HasCome trusts m end old first (disk_of_file new)
+  come_after origin given first now next new is come followed gone =
+      gone_on origin first now next new come (subst (λ (o : Option Origin). IsFollowed trusts (continued m o) end now next) is followed) gone
 
 ok_is : {T E : Type 0} {x y : T} → ◌≡◌ {A = Result T E} (Ok x) (Ok y) → x ≡ y
 ok_is e = cc
@@ -284,9 +276,9 @@ tried_as Ran Own Stopped Ended outcome same old new ran stopped tried = record {
 }
 
 pub run_tried : {M : Type 0} (meaning : M → Meaning) (says : Describes M) (source : List ℕ) (model : M) (end : ℕ) (file : IsModelFile says source model end) (trusts : Bool) (nodes : ℕ) (begun new : DiskState) (outcome : Result (Unit {0}) CommandFault) (same : Type 0) (before after : Option (List ℕ))
-    → IsRunBy trusts (meaning model) end nodes begun new outcome same before after → IsTried (IsRanAs meaning says trusts nodes) (IsStoppedAs meaning says trusts) outcome same before after
-run_tried meaning says source model end file true nodes begun new outcome same before after tried = tried_as (IsRanAsReported end nodes) (IsRanBehind says nodes) (IsStoppedAsReported end) (IsStoppedBehind says) outcome same before after
-    (λ text is. record { source = source; model = model; end = end; file = file; ran = is }) (λ text is. record { source = source; model = model; end = end; file = file; stopped = is }) tried
+    → IsWholeRun trusts (meaning model) end nodes begun new outcome same before after → IsTried (IsRanAs meaning says trusts nodes) (IsStoppedAs meaning says trusts) outcome same before after
+run_tried meaning says source model end file true nodes begun new outcome same before after run = tried_as (IsRanAsReported end nodes) (IsRanBehind says nodes) (IsStoppedAsReported end) (IsStoppedBehind says) outcome same before after
+    (λ text is. record { source = source; model = model; end = end; file = file; ran = is }) (λ text is. record { source = source; model = model; end = end; file = file; stopped = is }) run.last.attempt.tried
 run_tried meaning says source model end file false nodes begun new outcome same before after run =
     let last = run.last in
     let on = continued (meaning model) run.origin in

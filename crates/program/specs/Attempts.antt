@@ -16,6 +16,7 @@ use Rattle.model.specs.Runner.{Simulation}
 use Rattle.model.specs.World.{World, opening}
 use Rattle.model.specs.declared.origin.Origin.{Origin}
 use Rattle.recovery.specs.Histories.{Event, IsBeginning, IsHistoryOfCalls, IsKept, IsKeptRun, IsRunOf, IsStoppedAt}
+use Rattle.recovery.specs.OldRecords.{KeepsOldRecords}
 use Rattle.recovery.specs.Represents.{IsGenuine}
 use Rattle.views.specs.Reading.{BeginsWith, IsOn}
 use Rattle.views.specs.Views.{Begins, Prints}
@@ -32,9 +33,11 @@ IsMadeFor m old new =
 
 -- 2. One attempt
 
--- a call of a history that acknowledges no front, whatever front was acknowledged last
-abbrev pub KeepsAll : Meaning → DiskState → DiskState → Type 0
-KeepsAll on old new = (v : World) → IsKept on v (record { begun = old; ended = new; front = None })
+-- A call of a history that acknowledges no front, whatever front was acknowledged last; and the
+-- records that are on the disk stay, of whatever model they are.
+pub record KeepsAll (on : Meaning) (old new : DiskState) : Type 0 where
+  pub call : (v : World) → IsKept on v (record { begun = old; ended = new; front = None })
+  pub records : KeepsOldRecords old new
 
 -- What an attempt prints at its end: what each node handled, the time reached, and the number of
 -- committed events. As a call of a history it acknowledges the front that has them, whatever front
@@ -60,7 +63,7 @@ pub record IsStoppedOn (on : Meaning) (end : ℕ) (old new : DiskState) (text : 
 
 -- What an attempt over node programs prints at its end, if its commits are not judged: what each node
 -- handled as its program reported it, the time reached, not before the end, and a number of events.
--- Nothing more is promised of such a run.
+-- Nothing more is promised of what it commits.
 pub record IsRanAsReported (end nodes : ℕ) (text : List ℕ) : Type 0 where
   pub ran : List ℕ
   pub time : ℕ
@@ -96,13 +99,22 @@ pub record IsAttempt (on : Meaning) (end nodes : ℕ) (old new : DiskState)
       before after
   pub kept : (v : World) → IsKeptCommand on end v old new before after outcome
 
+-- An attempt that trusts node programs, at every exit: what it has printed, and that the records
+-- which were on the disk stay, whatever the programs report.
+pub record IsTrustingAttempt (end nodes : ℕ) (old new : DiskState)
+    (outcome : Result (Unit {0}) CommandFault) (same : Type 0) (before after : Option (List ℕ)) :
+    Type 0 where
+  pub tried : IsTried (IsRanAsReported end nodes) (IsStoppedAsReported end) outcome same before
+      after
+  pub records : KeepsOldRecords old new
+
 -- the same by whether it trusts what node programs report
 abbrev pub IsAttemptBy : Bool → Meaning → ℕ → ℕ → DiskState → DiskState →
     Result (Unit {0}) CommandFault → Type 0 → Option (List ℕ) → Option (List ℕ) → Type 0
 IsAttemptBy false on end nodes old new outcome same before after =
     IsAttempt on end nodes old new outcome same before after
 IsAttemptBy true on end nodes old new outcome same before after =
-    IsTried (IsRanAsReported end nodes) (IsStoppedAsReported end) outcome same before after
+    IsTrustingAttempt end nodes old new outcome same before after
 
 -- 3. One attempt after another
 
@@ -112,11 +124,18 @@ abbrev pub GoesOnWith : Meaning → ℕ → DiskState → Next → Type 0
 GoesOnWith on end left (Same disk) = KeepsAll on left (disk_of_file disk)
 GoesOnWith on end left (Other disk) = IsNextDisk on end left.reads (disk_of_file disk)
 
--- An attempt after which the run goes on from this disk. It is a call of a history.
-pub record IsFollowed (on : Meaning) (end : ℕ) (old : DiskState) (next : Next) : Type 0 where
+-- What an attempt after which the run goes on does to its disk: it is a call of a history, whatever
+-- front was acknowledged last. If it trusts node programs, the records that were on the disk stay.
+abbrev pub IsCallBy : Bool → Meaning → DiskState → DiskState → Type 0
+IsCallBy false on old new = (v : World) → (front : Option Simulation)
+    × IsKept on v (record { begun = old; ended = new; front = front })
+IsCallBy true on old new = KeepsOldRecords old new
+
+-- an attempt after which the run goes on from this disk
+pub record IsFollowed (trusts : Bool) (on : Meaning) (end : ℕ) (old : DiskState) (next : Next) :
+    Type 0 where
   pub left : DiskState
-  pub attempt : (v : World) → (front : Option Simulation)
-      × IsKept on v (record { begun = old; ended = left; front = front })
+  pub attempt : IsCallBy trusts on old left
   pub goes_on : GoesOnWith on end left next
 
 -- The run goes on with a disk, whose simulation begins with the origin that is read from it; on the
@@ -127,24 +146,12 @@ IsGoneOn lps origin (Other disk) now first =
     BeginsWith lps now.reads first × OnlyLooks (disk_of_file disk) (disk_of_file now)
 
 -- The last attempt of a run. What it leaves may be looked at, or not be made longer.
-pub record IsLastAttempt (on : Meaning) (end nodes : ℕ) (old new : DiskState)
+pub record IsLastAttempt (trusts : Bool) (on : Meaning) (end nodes : ℕ) (old new : DiskState)
     (outcome : Result (Unit {0}) CommandFault) (same : Type 0) (before after : Option (List ℕ)) :
     Type 0 where
   pub left : DiskState
-  pub attempt : IsAttempt on end nodes old left outcome same before after
+  pub attempt : IsAttemptBy trusts on end nodes old left outcome same before after
   pub rest : KeepsAll on left new
-
--- the same by whether nodes are trusted, of whose runs nothing is said between two attempts
-abbrev pub IsFollowedBy : Bool → Meaning → ℕ → DiskState → Next → Type 0
-IsFollowedBy false on end old next = IsFollowed on end old next
-IsFollowedBy true on end old next = Unit {0}
-
-abbrev pub IsLastBy : Bool → Meaning → ℕ → ℕ → DiskState → DiskState →
-    Result (Unit {0}) CommandFault → Type 0 → Option (List ℕ) → Option (List ℕ) → Type 0
-IsLastBy false on end nodes old new outcome same before after =
-    IsLastAttempt on end nodes old new outcome same before after
-IsLastBy true on end nodes old new outcome same before after =
-    IsTried (IsRanAsReported end nodes) (IsStoppedAsReported end) outcome same before after
 
 -- 4. The whole run
 
@@ -153,6 +160,13 @@ pub record AreCalls (on : Meaning) (v : World) (old new : DiskState) : Type 0 wh
   pub events : List Event
   pub last : World
   pub history : IsHistoryOfCalls on v old events last new
+
+-- What a run does on one disk, between two states of it: calls of a history lead from one to the
+-- other, whatever front was acknowledged last. If it trusts node programs, whatever they report, the
+-- records that the disk had at first stay at every moment in between, also over a crash.
+abbrev pub KeepsDisk : Bool → Meaning → DiskState → DiskState → Type 0
+KeepsDisk false on old new = (v : World) → AreCalls on v old new
+KeepsDisk true on old new = KeepsOldRecords old new
 
 -- a disk of a run that was archived: its simulation, the disk as its part of the run began, and as it
 -- was archived
@@ -166,43 +180,33 @@ pub record Stretch : Type 0 where
 abbrev pub IsOnImage : Meaning → List (List ℕ) → Meaning → Type 0
 IsOnImage m image on = (origin : Option Origin) × IsOn m image origin on
 
--- A run began on the first disk and came to the other one: each disk before that was left by calls of
--- a history on its own simulation, and then archived, so that the next one goes on from it.
-abbrev pub AreArchived : Meaning → ℕ → DiskState → List Stretch → DiskState → Type 0
-AreArchived m end disk [] now = now ≡ disk
-AreArchived m end disk (s ∷ ss) now = (s.old ≡ disk) × IsOnImage m disk.reads s.on
-    × ((v : World) → AreCalls s.on v s.old s.new)
-    × ((next : DiskState) × IsNextDisk s.on end s.new.reads next × AreArchived m end next ss now)
+-- A run began on the first disk and came to the other one: it kept each disk before that, on its own
+-- simulation, until it was archived, and the next one goes on from the world on it.
+abbrev pub AreArchived : Bool → Meaning → ℕ → DiskState → List Stretch → DiskState → Type 0
+AreArchived trusts m end disk [] now = now ≡ disk
+AreArchived trusts m end disk (s ∷ ss) now = (s.old ≡ disk) × IsOnImage m disk.reads s.on
+    × KeepsDisk trusts s.on s.old s.new
+    × ((next : DiskState) × IsNextDisk s.on end s.new.reads next
+    × AreArchived trusts m end next ss now)
 
 -- A run that began on the disk `old` has come to the state `now` of a disk, whose simulation begins
 -- with this origin.
-pub record HasCome (m : Meaning) (end : ℕ) (old : DiskState) (origin : Option Origin)
-    (now : DiskState) : Type 0 where
+pub record HasCome (trusts : Bool) (m : Meaning) (end : ℕ) (old : DiskState)
+    (origin : Option Origin) (now : DiskState) : Type 0 where
   pub archived : List Stretch
   pub begun : DiskState
-  pub are_archived : AreArchived m end old archived begun
+  pub are_archived : AreArchived trusts m end old archived begun
   pub begins : BeginsWith m.lps begun.reads origin
-  pub calls : (v : World) → AreCalls (continued m origin) v begun now
-
-abbrev pub HasComeBy : Bool → Meaning → ℕ → DiskState → Option Origin → DiskState → Type 0
-HasComeBy false m end old origin now = HasCome m end old origin now
-HasComeBy true m end old origin now = Unit {0}
+  pub keeps : KeepsDisk trusts (continued m origin) begun now
 
 -- A whole run: from the disk that it began on to the one that it leaves, with its last attempt.
-pub record IsWholeRun (m : Meaning) (end nodes : ℕ) (old new : DiskState)
+pub record IsWholeRun (trusts : Bool) (m : Meaning) (end nodes : ℕ) (old new : DiskState)
     (outcome : Result (Unit {0}) CommandFault) (same : Type 0) (before after : Option (List ℕ)) :
     Type 0 where
   pub origin : Option Origin
   pub now : DiskState
-  pub come : HasCome m end old origin now
-  pub last : IsLastAttempt (continued m origin) end nodes now new outcome same before after
-
-abbrev pub IsRunBy : Bool → Meaning → ℕ → ℕ → DiskState → DiskState →
-    Result (Unit {0}) CommandFault → Type 0 → Option (List ℕ) → Option (List ℕ) → Type 0
-IsRunBy false m end nodes old new outcome same before after =
-    IsWholeRun m end nodes old new outcome same before after
-IsRunBy true m end nodes old new outcome same before after =
-    IsTried (IsRanAsReported end nodes) (IsStoppedAsReported end) outcome same before after
+  pub come : HasCome trusts m end old origin now
+  pub last : IsLastAttempt trusts (continued m origin) end nodes now new outcome same before after
 
 -- 5. By the options of a run
 

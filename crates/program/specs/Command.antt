@@ -34,12 +34,14 @@ use Rattle.model.specs.Origins.{continued}
 use Rattle.model.specs.World.{World}
 use Rattle.model.specs.declared.origin.Origin.{Origin}
 use Rattle.disk.specs.Disk.{DiskState}
+use Rattle.eventkey.specs.Writing.{TakesBeginning}
 use Rattle.texts.specs.ModelFile.{IsModelFile}
 use Rattle.views.specs.Reading.{IsOn, IsSeen}
 use Rattle.views.specs.Views.{Begins, Describes, Prints, Shows}
 use Rattle.views.specs.declared.looks.Look.TheVariants as look
 use Rattle.program.specs.Attempts.{HasCome, IsRanAsReported, IsRanOn, IsStoppedAsReported, IsStoppedOn}
 use Rattle.program.specs.Attempts.{judges_all, nodes_of, trusts_nodes}
+use Rattle.program.specs.Version.{version_text, AsksVersion}
 use Rattle.disk_commands.specs.Disks.{IsGrown, IsNewSegment, IsReopenedText}
 use Rattle.disk_commands.specs.Repairing.{IsCutText, IsRecoveredText}
 use Rattle.disk_commands.specs.declared.fault.Fault.{Fault}
@@ -83,7 +85,7 @@ pub record IsRan {M : Type 0} (meaning : M → Meaning) (says : Describes M)
   pub begun : DiskState
   pub origin : Option Origin
   pub now : DiskState
-  pub come : HasCome (meaning model) end begun origin now
+  pub come : HasCome false (meaning model) end begun origin now
   pub left : DiskState
   pub ran : IsRanOn (continued (meaning model) origin) end nodes now left text
 
@@ -98,7 +100,7 @@ pub record IsStoppedText {M : Type 0} (meaning : M → Meaning) (says : Describe
   pub begun : DiskState
   pub origin : Option Origin
   pub now : DiskState
-  pub come : HasCome (meaning model) end begun origin now
+  pub come : HasCome false (meaning model) end begun origin now
   pub left : DiskState
   pub stopped : IsStoppedOn (continued (meaning model) origin) end now left text
 
@@ -274,8 +276,21 @@ abbrev pub PrintsSaid
 PrintsSaid name is words old new =
     (command : Command) × Says name words command × Prints (is command) old new
 
--- the writer has taken a beginning of such a text
+-- The writer has taken what the program answers to the words: the text of their command, or the
+-- version, if they ask for it.
+abbrev pub IsAnswered
+    : List ℕ → (Command → List ℕ → Type 0) → List (List ℕ) → Option (List ℕ) → Option (List ℕ) → Type 0
+IsAnswered name is words old new = PrintsSaid name is words old new
+    ⊎ (AsksVersion name words × Appends old new (version_text name))
+
+-- the writer has taken a beginning of the text of a command
 abbrev pub BeginsSaid
     : List ℕ → (Command → List ℕ → Type 0) → List (List ℕ) → Option (List ℕ) → Option (List ℕ) → Type 0
 BeginsSaid name is words old new =
     (command : Command) × Says name words command × Begins (is command) old new
+
+-- the same, or a beginning of the version, if the words ask for it
+abbrev pub BeginsAnswer
+    : List ℕ → (Command → List ℕ → Type 0) → List (List ℕ) → Option (List ℕ) → Option (List ℕ) → Type 0
+BeginsAnswer name is words old new = BeginsSaid name is words old new
+    ⊎ (AsksVersion name words × TakesBeginning old new (version_text name))

@@ -9,7 +9,7 @@ ghost use Rattle.disk.specs.Growth.{grown_to};
 ghost use Rattle.model.specs.Meaning.{CanBegin};
 ghost use Rattle.model.specs.Origins.{continued};
 ghost use Rattle.program.specs.Attempts.{GoesOnWith, IsAttempt, IsAttemptBy};
-ghost use Rattle.program.specs.Attempts.{IsFollowedBy, IsGoneOn, IsLastBy, IsRunBy, KeepsAll};
+ghost use Rattle.program.specs.Attempts.{IsFollowed, IsGoneOn, IsLastAttempt, IsWholeRun, KeepsAll};
 ghost use Rattle.program.specs.Attempts.{nodes_of, trusts_nodes};
 ghost use Rattle.program.specs.Command.{IsWithoutOutput};
 ghost use Rattle.sockets.specs.Socket.{state_of};
@@ -147,9 +147,11 @@ where
     requires begins { BeginsWith (M.meaning of.now.model).lps begun.disk.reads begun.origin }
     // Unless node programs are trusted, the run is a list of calls of a history on its disk, and on
     // each next one if it is archived; the last of them has printed the numbers that it acknowledges.
-    ensures run { IfOk result (λ ended. IsRunBy (trusts_nodes args.entry) (M.meaning of.now.model)
-        of.now.end (nodes_of args.entry) (disk_of_file begun.disk) (disk_of_file ended.disk)
-        ended.outcome (out.new ≡ out.old) (O.contents out.old) (O.contents out.new)) }
+    // If they are trusted, the records that each of these disks had at first stay on it.
+    ensures run { IfOk result (λ ended. IsWholeRun (trusts_nodes args.entry)
+        (M.meaning of.now.model) of.now.end (nodes_of args.entry) (disk_of_file begun.disk)
+        (disk_of_file ended.disk) ended.outcome (out.new ≡ out.old) (O.contents out.old)
+        (O.contents out.new)) }
     ensures unmet { OnErr result (out.new ≡ out.old) }
 {
     let mut going = GoingOn::of(&args);
@@ -231,10 +233,10 @@ where
     requires short { of.now.end ≤ 2 ^ 40 }
     requires sound { CanBegin (M.meaning of.now.model).lps (option_map (λ o. o.now) origin) }
     ensures next { IfOk result (λ ended. IfOk ended (λ next. (out.new ≡ out.old)
-        × IsFollowedBy (trusts_nodes args.entry)
+        × IsFollowed (trusts_nodes args.entry)
         (continued (M.meaning of.now.model) (option_map (λ o. o.now) origin.entry)) of.now.end
         (disk_of_file disk) next)) }
-    ensures last { IfOk result (λ ended. IfErr ended (λ last. IsLastBy (trusts_nodes args.entry)
+    ensures last { IfOk result (λ ended. IfErr ended (λ last. IsLastAttempt (trusts_nodes args.entry)
         (continued (M.meaning of.now.model) (option_map (λ o. o.now) origin.entry)) of.now.end
         (nodes_of args.entry) (disk_of_file disk) (disk_of_file last.disk) last.outcome
         (out.new ≡ out.old) (O.contents out.old) (O.contents out.new))) }
@@ -269,7 +271,7 @@ where
     requires some { 1 ≤ of.now.end }
     requires short { of.now.end ≤ 2 ^ 40 }
     requires sound { CanBegin (M.meaning of.now.model).lps (option_map (λ o. o.now) origin) }
-    ensures last { IfOk result (λ last. IsLastBy (trusts_nodes args.entry)
+    ensures last { IfOk result (λ last. IsLastAttempt (trusts_nodes args.entry)
         (continued (M.meaning of.now.model) (option_map (λ o. o.now) origin.entry)) of.now.end
         (nodes_of args.entry) (disk_of_file disk) (disk_of_file last.disk) last.outcome
         (out.new ≡ out.old) (O.contents out.old) (O.contents out.new)) }

@@ -2,7 +2,8 @@
 
 ghost use Rattle.std.specs.Prelude.{◌≤◌};
 
-use crate::status::{About, VERSION, print_fault};
+use crate::status::{About, print_fault};
+use crate::version::VERSION;
 use clap::error::ErrorKind;
 use cli::{TOPICS, Texts, help_text, program_help, seq_help};
 use disk_commands::Fault;

@@ -13,6 +13,7 @@ mod plainly;
 mod running;
 mod starting;
 mod status;
+mod version;
 mod watching;
 
 pub use described::simulated;

@@ -15,7 +15,7 @@ use crate::outcomes::of_command;
 use crate::watching::Watching;
 use cli::{BatchOption, NodeArgs, RunArgs};
 use commands::{CommandFault, Simulated};
-use disk_commands::{Fault, NewFile, SystemErrors, has_few_rounds};
+use disk_commands::{Fault, NewFile, SystemErrors, has_few_rounds, text_to_keep};
 use node_programs::{Calls, count_processors, is_open_to_all};
 use runs::{Batch as DriverBatch, Plan, Schedule};
 use std::fs::{self, File};
@@ -228,7 +228,8 @@ where
         calls: nodes.calls,
         differences: nodes.differences,
     };
-    let disk = disk_of(rt, of, args.on, create_of(&args), said)?;
+    let text = text_to_keep(args.keep_model, read.text.as_slice());
+    let disk = disk_of(rt, of, args.on, create_of(&args), text, said)?;
     let begun = Begun::of(rt.alloc(), &of.model, disk);
     progress.begin(of.end);
     progress.takes(way_of(rt, &args, of.model.lps()));
@@ -297,7 +298,11 @@ where
     let outcome = run_with::<M, R, _, O>(rt, nodes, args, said, &mut traced, out);
     let is_whole = traced.is_whole(rt);
     outcome?;
-    if is_whole { Ok(()) } else { Err(Fault::File) }
+    if is_whole {
+        Ok(())
+    } else {
+        Err(said.refuse(Refusal::CutTrace))
+    }
 }
 
 /// Serves as a node that runs the model of a file, behind a socket.

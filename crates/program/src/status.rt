@@ -1,10 +1,13 @@
 // From the words of the command line to the exit status of their command.
 
 ghost use Rattle.std.specs.IoError.{error_kind};
-ghost use Rattle.std.specs.Prelude.{◌≡◌, ◌≤◌, ◌≢◌, ◌⊎◌, ℕ, List, [], map, IsErr, OnErr, OnOk};
+ghost use Rattle.std.specs.Io.KnownBytes.{Appends};
+ghost use Rattle.std.specs.Prelude.{◌≡◌, ◌≤◌, ◌≢◌, ◌⊎◌, ◌∷◌, ℕ, List, [], map, IsErr, OnErr, OnOk};
 ghost use Rattle.clap.specs.Values.{kind_of};
 ghost use Rattle.cli.specs.Command.{refusal_of, IsRanged};
-ghost use Rattle.program.specs.Command.{BeginsSaid, IsOutput, PrintsSaid};
+ghost use Rattle.eventkey.specs.Writing.{TakesBeginning};
+ghost use Rattle.program.specs.Command.{IsAnswered, BeginsAnswer, IsOutput};
+ghost use Rattle.program.specs.Version.{version_text, AsksVersion};
 ghost use Rattle.views.specs.Reading.{IsSeen};
 ghost use Rattle.views.specs.Views.{Begins, Prints};
 
@@ -12,6 +15,7 @@ use crate::attempts::NodePrograms;
 use crate::making::{extend_on, migrate_on};
 use crate::parts::new_as;
 use crate::running::{run_as, serve_on};
+use crate::version::{VERSION, print_version};
 use clap::error::{Error as LineError, ErrorKind as LineFault};
 use cli::{
     Command, Hint, Texts, hint_of, program_help, read_command, says_advice, says_quiet, seq_help,
@@ -34,9 +38,6 @@ use terminal::Progress;
 use texts::{Described, Report};
 use views::{Look, Wrong, look_at};
 
-/// The version of this program and of programs over other models, and the format of their disks.
-pub const VERSION: &str = "0.4.0 (disks of format 2)";
-
 /// What distinguishes a program over one kind of model from another.
 #[derive(Clone, Copy)]
 pub struct About<'a> {
@@ -57,13 +58,13 @@ pub fn words<R: Env + AllocGlobal>(rt: &R) -> IoResult<Vec<String>> {
 /// Runs the command that `words` give, over models of kind `M`, and returns the exit status. The
 /// first word is the program's own name.
 ///
-/// The status is 0 if the command succeeds; 1 after a fault, which is printed on `err` as the
-/// program's name, `: ` and its text; and 2 if the words are no command or ask for help, with
-/// `clap`'s text on `err`. Below a mistake that `check` finds all mistakes of the model file are
-/// printed, each beside its line. With `--advice`, or if `progress` is seen, what to do about a fault
-/// follows it, and `progress` gets a hint during a run that another way would be faster. Otherwise a
-/// second line says which file a fault is about and what the system says, unless `progress` is bare.
-/// With `--quiet` nothing follows a fault.
+/// The status is 0 if the command succeeds, or the version that the words ask for is printed on
+/// `out`; 1 after a fault, which is printed on `err` as the program's name, `: ` and its text; and 2
+/// if the words are no command or ask for help, with `clap`'s text on `err`. Below a mistake that
+/// `check` finds all mistakes of the model file are printed, each beside its line. With `--advice`,
+/// or if `progress` is seen, what to do about a fault follows it, and `progress` gets a hint during a
+/// run that another way would be faster. Otherwise a second line says which file a fault is about
+/// and what the system says, unless `progress` is bare. With `--quiet` nothing follows a fault.
 ///
 /// The command writes its results to `out`, which is flushed at the end. A run reports its progress
 /// to `progress`, and each command its fault, after that is printed.
@@ -89,14 +90,16 @@ where
     E: Write,
     ensures status { result ≤ 2 }
     ensures printed { result ≡ 0 →
-        PrintsSaid about.entry.name.now (IsOutput M.meaning M.says M.shows)
+        IsAnswered about.entry.name.now (IsOutput M.meaning M.says M.shows)
         (map S.text words.now) (O.contents out.old) (O.contents out.new) }
-    ensures usage { refusal_of about.entry.name.now (map S.text words.now) ≢ [] →
-        result ≢ 0 }
+    ensures usage { refusal_of about.entry.name.now (map S.text words.now) ≢ [] → result ≡ 0 →
+        AsksVersion about.entry.name.now (map S.text words.now) }
+    ensures version { refusal_of about.entry.name.now (map S.text words.now)
+        ≡ LineFault.DisplayVersion ∷ [] → result ≢ 2 }
     ensures line { result ≡ 2 →
         refusal_of about.entry.name.now (map S.text words.now) ≢ [] }
     ensures failed { result ≡ 1 → (out.new ≡ out.old)
-        ⊎ BeginsSaid about.entry.name.now (IsOutput M.meaning M.says M.shows)
+        ⊎ BeginsAnswer about.entry.name.now (IsOutput M.meaning M.says M.shows)
         (map S.text words.now) (O.contents out.old) (O.contents out.new) }
     ensures silent { result ≡ 2 → out.new ≡ out.old }
     ensures quiet { result ≡ 0 → err.new ≡ err.old }
@@ -120,7 +123,7 @@ where
         Ok(command) => command,
         Err(error) => {
             let hint = hint_of(words);
-            return refuse_line(about.name, error, hint, err);
+            return answer_line(about.name, error, hint, out, err);
         }
     };
     let program = words.first().map(AsStr::as_str).unwrap_or("");
@@ -180,7 +183,7 @@ where
     ensures status { result ≤ 2 }
     ensures unread { IsErr words → result ≢ 0 }
     ensures printed { result ≡ 0 → (said : List (List ℕ)) ×
-        PrintsSaid about.entry.name.now (IsOutput M.meaning M.says M.shows)
+        IsAnswered about.entry.name.now (IsOutput M.meaning M.says M.shows)
         said (O.contents out.old) (O.contents out.new) }
     ensures silent { result ≡ 2 → out.new ≡ out.old }
     ensures quiet { result ≡ 0 → err.new ≡ err.old }
@@ -258,6 +261,35 @@ where
 {
     let mut watch = Verifying { progress };
     Ok(look_at::<M, R, _, O>(rt, look, &mut watch, out, found)?)
+}
+
+/// IsAnswered words that give no command. Returns the exit status: 0 if they ask for the version, and it
+/// is printed on `out`; else that of a refusal.
+fn answer_line<O: Write, E: Write>(
+    name: &str,
+    error: LineError,
+    hint: Option<Hint>,
+    out: &mut O,
+    err: &mut E,
+) -> u8
+    ensures asked { result ≡ 0 → kind_of error ≡ LineFault.DisplayVersion }
+    ensures printed { result ≡ 0 →
+        Appends (O.contents out.old) (O.contents out.new) (version_text name.now) }
+    ensures failed { result ≡ 1 → (out.new ≡ out.old)
+        ⊎ ((kind_of error ≡ LineFault.DisplayVersion)
+        × TakesBeginning (O.contents out.old) (O.contents out.new) (version_text name.now)) }
+    ensures version { kind_of error ≡ LineFault.DisplayVersion → result ≢ 2 }
+    ensures memory { kind_of error ≡ LineFault.OutOfMemory → result ≡ 1 }
+    ensures usage { kind_of error ≢ LineFault.OutOfMemory →
+        kind_of error ≢ LineFault.DisplayVersion → result ≡ 2 }
+    ensures silent { result ≡ 2 → out.new ≡ out.old }
+    ensures quiet { result ≡ 0 → err.new ≡ err.old }
+    ensures status { result ≤ 2 }
+{
+    match error.kind() {
+        LineFault::DisplayVersion => print_version(name, out, err),
+        _ => refuse_line(name, error, hint, err),
+    }
 }
 
 /// Prints on `err` why the words are no command, and for a mistake in a value what to write instead,

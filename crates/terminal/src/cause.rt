@@ -3,7 +3,7 @@
 
 use crate::paths::are_one_file;
 use cli::{
-    Command, DiskArgs, DrawArgs, MigrateArgs, NewArgs, RecoverArgs, RunArgs, SourceArgs,
+    Command, DiskArgs, DrawArgs, MigrateArgs, ModelFile, NewArgs, RecoverArgs, RunArgs, SourceArgs,
     most_sectors,
 };
 use disk::{MOST_SECTORS, MOST_SECTORS_OF_LARGE, SystemError};
@@ -20,13 +20,15 @@ use thiserror::Error;
 #[derive(Clone, Copy, Debug, PartialEq, Eq)]
 pub struct Cause<'a> {
     path: &'a str,
+    /// What the name of the file has behind that path.
+    behind: &'static str,
     reason: Reason,
 }
 
 impl fmt::Display for Cause<'_> {
     fn fmt<W: fmt::Write>(&self, f: &mut fmt::Formatter<W>) -> fmt::Result {
-        let (path, reason) = (Printable(self.path), self.reason);
-        write!(f, "{path}: {reason}")
+        let (path, behind, reason) = (Printable(self.path), self.behind, self.reason);
+        write!(f, "{path}{behind}: {reason}")
     }
 }
 
@@ -112,6 +114,15 @@ enum Reason {
     #[error("this holds other bytes than a disk without records, and nothing is written over them: \
              `new --over` makes an empty disk of it")]
     HoldsBytes,
+    #[error("there is no such file: the disk keeps no model, as one does that `new --keep-model` or \
+             `run --create --keep-model` makes; give the path of its model file")]
+    KeepsNoModel,
+    #[error("this holds something else than the model that the new disk would keep, and nothing is \
+             written over it: remove it if no disk needs it")]
+    KeepsOther,
+    #[error("this is no beginning of the model that the new disk would keep, as a killed command leaves \
+             it, and nothing is written over it: remove it if it is not yours")]
+    KeepsOtherUnfinished,
     #[error("this name does not lead to the file of the run any more, which has all events before \
              {time} ticks")]
     Renamed { time: u64 },
@@ -125,10 +136,18 @@ pub enum Refusal {
     Trace,
     /// The file under whose name a trace is made anew is no trace.
     UnfinishedTrace,
+    /// A part of a trace was not written.
+    CutTrace,
     /// The file that ends a run is there before the run.
     Stop,
     /// The file of a new disk is not empty.
     Holds(Held),
+    /// The file of the model that a new disk would keep holds something else.
+    KeptOther,
+    /// The file under whose name that one is written holds something else.
+    KeptUnfinished,
+    /// The model that a new disk would keep is not written, by what the system says.
+    NotKept(SystemError),
     /// The name of the disk of a run leads to another file by now, or to none. The file of the run
     /// has all events before this virtual time, in ticks.
     Renamed {
@@ -169,8 +188,8 @@ pub enum Unmet {
 enum Step<'a> {
     /// Reads the file.
     Reads(&'a str),
-    /// Reads a model file.
-    ReadsModel(&'a str),
+    /// Reads a model file, unless its disk keeps the model.
+    ReadsModel(ModelFile<'a>),
     /// Requires the first path to lead to another file than the second.
     AreTwoFiles(&'a str, &'a str),
     /// Reads a disk of at most this many sectors.
@@ -226,14 +245,47 @@ where
 
 /// The cause of the fault `File` with which a command refused a file, or lost its disk.
 pub fn cause_of_refusal<'a>(command: Command<'a>, refusal: Refusal) -> Option<Cause<'a>> {
-    let (path, reason) = match refusal {
-        Refusal::Trace => (trace_of(command), Reason::NotTrace),
-        Refusal::UnfinishedTrace => (trace_of(command), Reason::NotUnfinishedTrace),
-        Refusal::Stop => (stop_file_of(command), Reason::StopThere),
-        Refusal::Holds(held) => (written_disk(command), reason_of_held(held)),
-        Refusal::Renamed { time } => (written_disk(command), Reason::Renamed { time }),
+    let disk = written_disk(command);
+    let (path, behind, reason) = match refusal {
+        Refusal::Trace => (trace_of(command), "", Reason::NotTrace),
+        Refusal::UnfinishedTrace => (trace_of(command), "", Reason::NotUnfinishedTrace),
+        Refusal::CutTrace => (trace_of(command), "", Reason::NotWhole),
+        Refusal::Stop => (stop_file_of(command), "", Reason::StopThere),
+        Refusal::Holds(held) => (disk, "", reason_of_held(held)),
+        Refusal::KeptOther => (disk, KEPT, Reason::KeepsOther),
+        Refusal::KeptUnfinished => (disk, UNFINISHED, Reason::KeepsOtherUnfinished),
+        Refusal::NotKept(error) => (disk, KEPT, Reason::System(error)),
+        Refusal::Renamed { time } => (disk, "", Reason::Renamed { time }),
     };
-    caused(path?, Some(reason))
+    Some(Cause {
+        path: path?,
+        behind,
+        reason,
+    })
+}
+
+/// What the name of the model that a disk keeps has behind that of the disk.
+const KEPT: &str = ".model";
+
+/// What the name has under which it is written.
+const UNFINISHED: &str = ".unfinished-model";
+
+/// The cause of the fault `File` of a command that reads the model that this disk keeps, if it lies
+/// there.
+pub fn cause_of_kept<'a, R>(rt: &R, disk: &'a str) -> Option<Cause<'a>>
+where
+    R: Files<File = File> + AllocGlobal,
+{
+    let path = format!(in rt.alloc(); "{disk}{KEPT}").ok()?;
+    let reason = match reason_of_model(rt, path.as_str())? {
+        Reason::NoFile => Reason::KeepsNoModel,
+        reason => reason,
+    };
+    Some(Cause {
+        path: disk,
+        behind: KEPT,
+        reason,
+    })
 }
 
 /// Why a file is not made a disk.
@@ -266,7 +318,7 @@ fn cause_of_pipe<'a, R>(rt: &R, command: Command<'a>) -> Option<Cause<'a>>
 where
     R: Files<File = File>,
 {
-    let model = model_of(command);
+    let model = read_of(command)?;
     match fs::metadata(rt, model) {
         Ok(found) if found.file_type().is_fifo() => caused(model, Some(Reason::NoBytes)),
         _ => None,
@@ -347,11 +399,12 @@ fn written_disk<'a>(command: Command<'a>) -> Option<&'a str> {
     }
 }
 
-/// The path of the model file; empty for a command without one.
-fn model_of<'a>(command: Command<'a>) -> &'a str {
-    match command.model() {
-        Some(file) => file.path,
-        None => "",
+/// The path of the model file that a command reads; none if it reads none.
+fn read_of<'a>(command: Command<'a>) -> Option<&'a str> {
+    let file = command.model()?;
+    match file.kept_by {
+        None => Some(file.path),
+        Some(_) => None,
     }
 }
 
@@ -385,14 +438,11 @@ where
         Command::Show(args) => first_of_reader(rt, args.on),
         Command::Stats(args) => first_of_source(rt, args.of),
         Command::Draw(args) => first_of_drawing(rt, args),
-        Command::Seq(args) => first(rt, &[Step::ReadsModel(args.model.path)]),
-        Command::Check(args) => first(rt, &[Step::ReadsModel(args.model.path)]),
+        Command::Seq(args) => first(rt, &[Step::ReadsModel(args.model)]),
+        Command::Check(args) => first(rt, &[Step::ReadsModel(args.model)]),
         Command::Node(args) => first(
             rt,
-            &[
-                Step::ReadsModel(args.model.path),
-                Step::Connects(args.socket),
-            ],
+            &[Step::ReadsModel(args.model), Step::Connects(args.socket)],
         ),
     }
 }
@@ -414,7 +464,7 @@ fn first_of_new<'a, R: Files<File = File>>(rt: &R, args: NewArgs<'a>) -> Option<
     first(
         rt,
         &[
-            Step::ReadsModel(model.path),
+            Step::ReadsModel(model),
             Step::AreTwoFiles(disk, model.path),
             Step::Makes(disk, args.sectors),
         ],
@@ -429,7 +479,7 @@ where
     first(
         rt,
         &[
-            Step::ReadsModel(args.model.path),
+            Step::ReadsModel(args.model),
             Step::LooksAt(args.old, most_sectors(args.large)),
             Step::AreTwoFiles(args.new, args.model.path),
             Step::AreTwoFiles(args.new, args.old),
@@ -446,7 +496,7 @@ where
     first(
         rt,
         &[
-            Step::ReadsModel(args.model.path),
+            Step::ReadsModel(args.model),
             Step::Writes(args.old, most_sectors(args.large)),
             Step::AreTwoFiles(args.new, args.model.path),
             Step::AreTwoFiles(args.new, args.old),
@@ -460,10 +510,7 @@ fn first_of_writer<'a, R: Files<File = File>>(rt: &R, args: DiskArgs<'a>) -> Opt
     let most = most_sectors(args.large);
     first(
         rt,
-        &[
-            Step::ReadsModel(args.model.path),
-            Step::Writes(args.disk, most),
-        ],
+        &[Step::ReadsModel(args.model), Step::Writes(args.disk, most)],
     )
 }
 
@@ -472,10 +519,7 @@ fn first_of_reader<'a, R: Files<File = File>>(rt: &R, args: DiskArgs<'a>) -> Opt
     let most = most_sectors(args.large);
     first(
         rt,
-        &[
-            Step::ReadsModel(args.model.path),
-            Step::LooksAt(args.disk, most),
-        ],
+        &[Step::ReadsModel(args.model), Step::LooksAt(args.disk, most)],
     )
 }
 
@@ -483,7 +527,7 @@ fn first_of_reader<'a, R: Files<File = File>>(rt: &R, args: DiskArgs<'a>) -> Opt
 fn first_of_source<'a, R: Files<File = File>>(rt: &R, args: SourceArgs<'a>) -> Option<Cause<'a>> {
     let SourceArgs { model, disk, large } = args;
     match disk {
-        None => first(rt, &[Step::ReadsModel(model.path)]),
+        None => first(rt, &[Step::ReadsModel(model)]),
         Some(disk) => first_of_reader(rt, DiskArgs { model, disk, large }),
     }
 }
@@ -496,8 +540,9 @@ fn first_of_drawing<'a, R: Files<File = File>>(rt: &R, args: DrawArgs<'a>) -> Op
     }
 }
 
-/// The first cause of `run`. A run that has failed at its disk has neither failed to meet node
-/// programs nor to write its trace.
+/// The first cause of `run`. A run that has failed at its disk has not failed to meet node programs.
+/// The files of its trace are open as they were for the run, so that a limit of open files shows at
+/// the file that met it.
 fn first_of_run<'a, R>(rt: &R, args: RunArgs<'a>, has_failed_at_disk: bool) -> Option<Cause<'a>>
 where
     R: Files<File = File> + AllocGlobal,
@@ -506,11 +551,39 @@ where
     if early.is_some() {
         return early;
     }
+    let _held = match held_of_trace(rt, args.trace) {
+        Ok(held) => held,
+        Err(error) => return caused(args.trace?, reason_of_refusal(error)),
+    };
     let cause = first_of_begun(rt, args);
     if cause.is_some() || has_failed_at_disk {
         return cause;
     }
     last_of_run(rt, args)
+}
+
+/// Opens the file of a trace, if it is a plain one, as often as a run has files open for it: a trace
+/// that is there already is made anew in a file beside it.
+fn held_of_trace<R>(rt: &R, trace: Option<&str>) -> Result<(Option<File>, Option<File>), IoError>
+where
+    R: Files<File = File>,
+{
+    let Some(path) = trace else {
+        return Ok((None, None));
+    };
+    let Ok(found) = fs::metadata(rt, path) else {
+        return Ok((None, None));
+    };
+    if !found.is_file() {
+        return Ok((None, None));
+    }
+    let file = File::open(rt, path)?;
+    let beside = if found.len() > 0 {
+        Some(File::open(rt, path)?)
+    } else {
+        None
+    };
+    Ok((Some(file), beside))
 }
 
 /// The first cause among the files with which a run begins. It makes its disk if that is asked for
@@ -520,10 +593,7 @@ fn first_of_begun<'a, R: Files<File = File>>(rt: &R, args: RunArgs<'a>) -> Optio
     if args.create && !fs::exists(rt, disk).unwrap_or(true) {
         first(
             rt,
-            &[
-                Step::ReadsModel(model.path),
-                Step::Makes(disk, args.sectors),
-            ],
+            &[Step::ReadsModel(model), Step::Makes(disk, args.sectors)],
         )
     } else {
         first_of_writer(rt, args.on)
@@ -543,29 +613,23 @@ fn first_of_trace<'a, R: Files<File = File>>(rt: &R, args: RunArgs<'a>) -> Optio
     )
 }
 
-/// The cause in what a run does after its disk is open: it connects to its nodes, and at its end
-/// the whole trace must have been written. If only one of the two can have failed, it is the cause.
+/// The cause in what a run does after its disk is open: it connects to its nodes.
 fn last_of_run<'a, R>(rt: &R, args: RunArgs<'a>) -> Option<Cause<'a>>
 where
     R: Files<File = File> + AllocGlobal,
 {
-    match (args.sockets, args.trace) {
-        (None, None) => None,
-        (None, Some(trace)) => caused(trace, Some(Reason::NotWhole)),
-        (Some(folder), _) => {
-            let seen = reason_of_sockets(rt, folder, args.nodes);
-            if seen.is_some() {
-                return caused(folder, seen);
-            }
-            if !args.attach && is_taken(rt, folder) {
-                return caused(folder, Some(Reason::NotText));
-            }
-            if args.attach || args.trace.is_some() {
-                return None;
-            }
-            caused(folder, Some(reason_of_start(args.bind)))
-        }
+    let folder = args.sockets?;
+    let seen = reason_of_sockets(rt, folder, args.nodes);
+    if seen.is_some() {
+        return caused(folder, seen);
     }
+    if !args.attach && is_taken(rt, folder) {
+        return caused(folder, Some(Reason::NotText));
+    }
+    if args.attach {
+        return None;
+    }
+    caused(folder, Some(reason_of_start(args.bind)))
 }
 
 /// Why node programs were not met, if nothing is wrong with the folder of their sockets.
@@ -581,6 +645,7 @@ fn reason_of_start(is_bound: bool) -> Reason {
 fn caused<'a>(path: &'a str, reason: Option<Reason>) -> Option<Cause<'a>> {
     Some(Cause {
         path,
+        behind: "",
         reason: reason?,
     })
 }
@@ -589,7 +654,8 @@ fn caused<'a>(path: &'a str, reason: Option<Reason>) -> Option<Cause<'a>> {
 fn cause_at<'a, R: Files<File = File>>(rt: &R, step: Step<'a>) -> Option<Cause<'a>> {
     match step {
         Step::Reads(path) => caused(path, reason_of_file(rt, path)),
-        Step::ReadsModel(path) => caused(path, reason_of_model(rt, path)),
+        Step::ReadsModel(file) if file.kept_by.is_some() => None,
+        Step::ReadsModel(file) => caused(file.path, reason_of_model(rt, file.path)),
         Step::AreTwoFiles(path, other) => caused(path, reason_of_two(rt, path, other)),
         Step::LooksAt(path, most) => caused(path, reason_of_disk(rt, path, most)),
         Step::Writes(path, most) => caused(path, reason_of_writer(rt, path, most)),

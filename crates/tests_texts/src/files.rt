@@ -214,7 +214,7 @@ start = 'n = draw(2)'
 handle = 'n = one n = self'
 =>
   seed: missing; expected a whole number from 0 to 9223372036854775807 if the state has key, otherwise nothing
-  kind: "one" is also a name in state
+  name: "one" is also a name in state
   handle, line 1, column 9: "[" or ".count" is wanted here, behind a kind of processes
 "#;
 

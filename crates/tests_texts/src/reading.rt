@@ -6,6 +6,7 @@ use cli::{
     settings_of, topic_of,
 };
 use std::alloc::{AllocError, Global};
+use std::fmt::Debug;
 use std::test::Fail;
 
 const TEXTS: Texts<'static> = Texts {
@@ -46,33 +47,33 @@ fn words_of(alloc: Global, line: &str) -> Result<Vec<&str>, AllocError> {
 /// What most commands are read as if they have no options: with the model file `a` and, where the
 /// command needs them, the disk or the socket `b`, or the disks `b` and `c`.
 const PLAIN: &str = "\
-Run(RunArgs { on: DiskArgs { model: ModelFile { path: \"a\", settings: [] }, disk: \"b\", large: false }, nodes: 1, batch: \
+Run(RunArgs { on: DiskArgs { model: ModelFile { path: \"a\", settings: [], kept_by: None }, disk: \"b\", large: false }, nodes: 1, batch: \
 Fixed(16), rounds: 1000000, checkpoint: None, seal: false, commit_every: None, sockets: None, \
 cut: None, together: false, overlap: false, plain: false, attach: false, bind: false, judge: \
 None, silence: None, retries: None, grow_when_full: false, archive_when_full: false, keep: None, \
-trace: None, stop_file: None, progress: None, create: false, sectors: 4096, reserve: false })
-Log(LogArgs { on: DiskArgs { model: ModelFile { path: \"a\", settings: [] }, disk: \"b\", large: false }, from: None, to: None, \
+trace: None, stop_file: None, progress: None, create: false, sectors: 4096, reserve: false, keep_model: false })
+Log(LogArgs { on: DiskArgs { model: ModelFile { path: \"a\", settings: [], kept_by: None }, disk: \"b\", large: false }, from: None, to: None, \
 process: None, names: false, format: Text })
-Draw(DrawArgs { of: SourceArgs { model: ModelFile { path: \"a\", settings: [] }, disk: None, large: false }, from: None, to: None, \
-processes: None, load: false, trace: None, vcd: false })
-Stats(StatsArgs { of: SourceArgs { model: ModelFile { path: \"a\", settings: [] }, disk: None, large: false }, format: Text, names: \
+Draw(DrawArgs { of: SourceArgs { model: ModelFile { path: \"a\", settings: [], kept_by: None }, disk: None, large: false }, from: None, to: None, \
+processes: None, load: false, trace: None, vcd: false, histogram: None })
+Stats(StatsArgs { of: SourceArgs { model: ModelFile { path: \"a\", settings: [], kept_by: None }, disk: None, large: false }, format: Text, names: \
 false, table: None, warm_up: None })
-New(NewArgs { on: DiskArgs { model: ModelFile { path: \"a\", settings: [] }, disk: \"b\", large: false }, sectors: 4096, reserve: \
-false, over: false, from: None })
-Migrate(MigrateArgs { model: ModelFile { path: \"a\", settings: [] }, old: \"b\", new: \"c\", sectors: 4096, reserve: false, large: \
+New(NewArgs { on: DiskArgs { model: ModelFile { path: \"a\", settings: [], kept_by: None }, disk: \"b\", large: false }, sectors: 4096, reserve: \
+false, over: false, from: None, keep_model: false })
+Migrate(MigrateArgs { model: ModelFile { path: \"a\", settings: [], kept_by: None }, old: \"b\", new: \"c\", sectors: 4096, reserve: false, large: \
 false })
-Recover(RecoverArgs { model: ModelFile { path: \"a\", settings: [] }, old: \"b\", new: \"c\", sectors: 4096, reserve: false, large: \
+Recover(RecoverArgs { model: ModelFile { path: \"a\", settings: [], kept_by: None }, old: \"b\", new: \"c\", sectors: 4096, reserve: false, large: \
 false })
-Node(NodeArgs { model: ModelFile { path: \"a\", settings: [] }, socket: \"b\", parcels: 4294967295 })
-Extend(DiskArgs { model: ModelFile { path: \"a\", settings: [] }, disk: \"b\", large: false })
-Status(StatusArgs { on: DiskArgs { model: ModelFile { path: \"a\", settings: [] }, disk: \"b\", large: false }, format: Text })
-Reopen(DiskArgs { model: ModelFile { path: \"a\", settings: [] }, disk: \"b\", large: false })
-Cut(DiskArgs { model: ModelFile { path: \"a\", settings: [] }, disk: \"b\", large: false })
-Verify(VerifyArgs { on: DiskArgs { model: ModelFile { path: \"a\", settings: [] }, disk: \"b\", large: false }, after: None })
-Show(ShowArgs { on: DiskArgs { model: ModelFile { path: \"a\", settings: [] }, disk: \"b\", large: false }, names: false, pending: false, format: Text })
-Info(InfoArgs { disk: \"b\", large: false, format: Text })
-Seq(SeqArgs { model: ModelFile { path: \"a\", settings: [] }, format: Text })
-Grow(GrowArgs { on: DiskArgs { model: ModelFile { path: \"a\", settings: [] }, disk: \"b\", large: false }, sectors: 131072 })
+Node(NodeArgs { model: ModelFile { path: \"a\", settings: [], kept_by: None }, socket: \"b\", parcels: 4294967295 })
+Extend(DiskArgs { model: ModelFile { path: \"a\", settings: [], kept_by: None }, disk: \"b\", large: false })
+Status(StatusArgs { on: DiskArgs { model: ModelFile { path: \"a\", settings: [], kept_by: None }, disk: \"b\", large: false }, format: Text })
+Reopen(DiskArgs { model: ModelFile { path: \"a\", settings: [], kept_by: None }, disk: \"b\", large: false })
+Cut(DiskArgs { model: ModelFile { path: \"a\", settings: [], kept_by: None }, disk: \"b\", large: false })
+Verify(VerifyArgs { on: DiskArgs { model: ModelFile { path: \"a\", settings: [], kept_by: None }, disk: \"b\", large: false }, after: None })
+Show(ShowArgs { on: DiskArgs { model: ModelFile { path: \"a\", settings: [], kept_by: None }, disk: \"b\", large: false }, names: false, pending: false, format: Text })
+Info(InfoArgs { disk: \"b\", large: false, model: false, format: Text })
+Seq(SeqArgs { model: ModelFile { path: \"a\", settings: [], kept_by: None }, format: Text })
+Grow(GrowArgs { on: DiskArgs { model: ModelFile { path: \"a\", settings: [], kept_by: None }, disk: \"b\", large: false }, sectors: 131072 })
 ";
 
 fn plain_of(name: &str) -> &'static str {
@@ -82,6 +83,35 @@ fn plain_of(name: &str) -> &'static str {
         }
     }
     ""
+}
+
+/// The name of a command and its arguments, as they are printed for debugging.
+fn text_of(alloc: Global, command: Command<'_>) -> Result<String, AllocError> {
+    match command {
+        Command::New(args) => text_with(alloc, "New", &args),
+        Command::Run(args) => text_with(alloc, "Run", &args),
+        Command::Extend(args) => text_with(alloc, "Extend", &args),
+        Command::Grow(args) => text_with(alloc, "Grow", &args),
+        Command::Migrate(args) => text_with(alloc, "Migrate", &args),
+        Command::Reopen(args) => text_with(alloc, "Reopen", &args),
+        Command::Cut(args) => text_with(alloc, "Cut", &args),
+        Command::Recover(args) => text_with(alloc, "Recover", &args),
+        Command::Status(args) => text_with(alloc, "Status", &args),
+        Command::Info(args) => text_with(alloc, "Info", &args),
+        Command::Verify(args) => text_with(alloc, "Verify", &args),
+        Command::Log(args) => text_with(alloc, "Log", &args),
+        Command::Show(args) => text_with(alloc, "Show", &args),
+        Command::Stats(args) => text_with(alloc, "Stats", &args),
+        Command::Draw(args) => text_with(alloc, "Draw", &args),
+        Command::Seq(args) => text_with(alloc, "Seq", &args),
+        Command::Check(args) => text_with(alloc, "Check", &args),
+        Command::Node(args) => text_with(alloc, "Node", &args),
+    }
+}
+
+/// The name of a command with these arguments behind it.
+fn text_with<A: Debug>(alloc: Global, name: &str, args: &A) -> Result<String, AllocError> {
+    format!(in alloc; "{name}({args:?})")
 }
 
 /// The name of a command, and those of its parts that are not as in `PLAIN`; or all of its text, if
@@ -120,7 +150,7 @@ fn answer(alloc: Global, asked: Asked, words: &[&str]) -> Result<String, AllocEr
             Err(error) => format!(in alloc; "{:?}", error.kind()),
         },
         Asked::Command => match read_command(alloc, TEXTS, words, &[]) {
-            Ok(command) => shortened(alloc, format!(in alloc; "{command:?}")?.as_str()),
+            Ok(command) => shortened(alloc, text_of(alloc, command)?.as_str()),
             Err(error) => format!(in alloc; "{:?}", error.kind()),
         },
         Asked::Line => match read_command(alloc, TEXTS, words, &[]) {
@@ -174,6 +204,8 @@ timewarp status a b --format csv => Status, format: Csv
 timewarp info b => Info
 timewarp info --format=json --large b --quiet => Info, large: true, format: Json
 timewarp log a b --format json --names => Log, names: true, format: Json
+timewarp info b --model => Info, model: true
+timewarp info --format text --model b => Info, model: true
 timewarp verify a b => Verify
 timewarp verify a --after=c b => Verify, after: Some("c")
 timewarp cut a b => Cut
@@ -186,17 +218,32 @@ timewarp stats a b --format=csv --names => Stats, disk: Some("b"), format: Csv, 
 timewarp stats a --table totals => Stats, table: Some(Totals)
 timewarp stats a --warm-up=5 --table kinds --format=json => Stats, format: Json, table: Some(Kinds), warm_up: Some(5)
 timewarp draw a => Draw
-timewarp draw --processes 3..3 a b --trace=t --from=5 --to 9 => Draw(DrawArgs { of: SourceArgs { model: ModelFile { path: "a", settings: [] }, disk: Some("b"), large: false }, from: Some(5), to: Some(9), processes: Some((3, 3)), load: false, trace: Some("t"), vcd: false })
+timewarp draw --processes 3..3 a b --trace=t --from=5 --to 9 => Draw(DrawArgs { of: SourceArgs { model: ModelFile { path: "a", settings: [], kept_by: None }, disk: Some("b"), large: false }, from: Some(5), to: Some(9), processes: Some((3, 3)), load: false, trace: Some("t"), vcd: false, histogram: None })
 timewarp draw a --format vcd --to=9 => Draw, to: Some(9), vcd: true
 timewarp draw a --format=svg => Draw
+timewarp draw a b --histogram=wait => Draw, disk: Some("b"), histogram: Some("wait")
 timewarp show a b --pending --format csv => Show, pending: true, format: Csv
 timewarp show a --names b => Show, names: true
-timewarp check a => Check(ModelArgs { model: ModelFile { path: "a", settings: [] } })
+# Where a command looks at a disk, the model file `-` is the one that the disk keeps.
+timewarp status - b => Status, Status(StatusArgs { on: DiskArgs { model: ModelFile { path: "-", kept_by: Some("b")
+timewarp verify - b --after c => Verify, Verify(VerifyArgs { on: DiskArgs { model: ModelFile { path: "-", kept_by: Some("b"), after: Some("c")
+timewarp log - b => Log, Log(LogArgs { on: DiskArgs { model: ModelFile { path: "-", kept_by: Some("b")
+timewarp show -- - b => Show, Show(ShowArgs { on: DiskArgs { model: ModelFile { path: "-", kept_by: Some("b")
+timewarp stats - b => Stats, Stats(StatsArgs { of: SourceArgs { model: ModelFile { path: "-", kept_by: Some("b"), disk: Some("b")
+timewarp draw - b => Draw, Draw(DrawArgs { of: SourceArgs { model: ModelFile { path: "-", kept_by: Some("b"), disk: Some("b")
+# Without a disk, and for all other commands, `-` is a path.
+timewarp stats - => Stats, Stats(StatsArgs { of: SourceArgs { model: ModelFile { path: "-"
+timewarp seq - => Seq, Seq(SeqArgs { model: ModelFile { path: "-"
+timewarp new - b => New, New(NewArgs { on: DiskArgs { model: ModelFile { path: "-"
+timewarp extend - b => Extend, Extend(DiskArgs { model: ModelFile { path: "-"
+timewarp status ./- b => Status, Status(StatusArgs { on: DiskArgs { model: ModelFile { path: "./-"
+timewarp check a => Check(ModelArgs { model: ModelFile { path: "a", settings: [], kept_by: None } })
 # The default is 4096 sectors.
 timewarp new a b => New
 timewarp new a b --sectors 131072 => New, sectors: 131072
 timewarp new a --reserve b => New, reserve: true
 timewarp new --over a b => New, over: true
+timewarp new a b --keep-model => New, keep_model: true
 timewarp new a b --from c --sectors=8 => New, sectors: 8, from: Some("c")
 timewarp migrate a b c --reserve => Migrate, reserve: true
 timewarp extend a b => Extend
@@ -249,6 +296,7 @@ timewarp run a b --archive-when-full => Run, archive_when_full: true
 timewarp run a b --keep=0 --archive-when-full => Run, archive_when_full: true, keep: Some(0)
 timewarp run a b --archive-when-full --keep 4294967295 => Run, archive_when_full: true, keep: Some(4294967295)
 timewarp run a b --create --reserve => Run, create: true, reserve: true
+timewarp run a b --keep-model --create => Run, create: true, keep_model: true
 timewarp run a b --large --create --sectors 16777216 => Run, large: true, create: true, sectors: 16777216
 timewarp run --batch=auto a b => Run, batch: Auto
 # After `--` no word is an option.
@@ -293,6 +341,7 @@ timewarp run a b --silence 1 => MissingRequiredArgument
 timewarp run a b --plain --retries=0 => MissingRequiredArgument
 timewarp run a b --sectors=4096 => MissingRequiredArgument
 timewarp run a b --reserve => MissingRequiredArgument
+timewarp run a b --keep-model => MissingRequiredArgument
 timewarp run a b --seal --plain => MissingRequiredArgument
 timewarp run a b --together --overlap => ArgumentConflict
 timewarp run a b --sockets=s --attach --bind => ArgumentConflict
@@ -305,6 +354,16 @@ timewarp run a b --overlap --plain => ArgumentConflict
 timewarp draw a --load --trace t => ArgumentConflict
 timewarp draw a --load --format vcd => ArgumentConflict
 timewarp draw a --trace=t --format=vcd => ArgumentConflict
+timewarp draw a --histogram w --load => ArgumentConflict
+timewarp draw a --trace t --histogram=w => ArgumentConflict
+timewarp draw a --format=vcd --histogram w => ArgumentConflict
+timewarp draw a --histogram w --to=9 => ArgumentConflict
+timewarp draw a --from 1 --histogram w => ArgumentConflict
+timewarp draw a --histogram w --processes 0..1 => ArgumentConflict
+timewarp draw a --histogram= => InvalidValue
+timewarp info a --model --format csv => ArgumentConflict
+timewarp info a --format=json --model => ArgumentConflict
+timewarp log a b --model => UnknownArgument
 timewarp stats a --warm-up 5 => MissingRequiredArgument
 timewarp log a b --from 5 --to 4 => ValueValidation
 timewarp draw a --from=200 --to=100 => ValueValidation
@@ -395,6 +454,7 @@ timewarp draw a --processes 3..2 => InvalidValue
 timewarp draw a --processes=3 => InvalidValue
 timewarp draw a --processes=0..4294967296 => InvalidValue
 timewarp --version => DisplayVersion
+timewarp -V => DisplayVersion
 # `help` is no command: `help_text` answers it.
 timewarp help => InvalidSubcommand
 timewarp --help => DisplayHelp
@@ -418,6 +478,9 @@ timewarp run a b --create --sectors=131073 => error: invalid value '131073' for 
 timewarp run a b --rounds=0 => error: invalid value '0' for '--rounds <N>': 0 is not in 1..=4294967295
 timewarp run a b --sockets=c --judge most => error: invalid value 'most' for '--judge <N>': invalid digit found in string
 timewarp run a b --keep 2 => error: the argument '--keep <K>' needs '--archive-when-full', which makes archived parts
+timewarp run a b --keep-model => error: the argument '--keep-model' needs '--create', which makes the disk
+timewarp info a --model --format csv => error: the argument '--model' prints a file as it is, and cannot be used with '--format'
+timewarp draw a --histogram w --to 9 => error: the argument '--histogram <NAME>' counts all messages, and cannot be used with '--load', '--trace', '--format vcd', '--from', '--to' or '--processes'
 timewarp run a b --archive-when-full --grow-when-full => error: the argument '--archive-when-full' cannot be used with '--grow-when-full'
 timewarp seq a --advice --quiet => error: the argument '--advice' cannot be used with '--quiet'
 timewarp grow a b --sectors=4 --large => error: invalid value '4' for '--sectors <N>': 4 is not in 8..=16777216

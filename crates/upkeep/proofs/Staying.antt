@@ -12,6 +12,8 @@ use Rattle.disk.specs.Growth.{GrowthIsRefused, MayLeaveGrown, zero_sectors, grow
 use Rattle.disk.specs.Laws.{followed, left_now, reads_left, weaker}
 use Rattle.disk.specs.declared.growing.GrowthFault.{GrowthFault}
 use Rattle.recovery.specs.Histories.{IsKept}
+use Rattle.recovery.specs.OldRecords.{HoldsAtLeast, KeepsOldRecords}
+use Rattle.recovery.proofs.OldRecords.{keeps_old}
 use Rattle.model.specs.Meaning.{Meaning}
 use Rattle.model.specs.World.{World}
 use Rattle.recovery.specs.Header.{header_bytes, header_of}
@@ -51,6 +53,10 @@ pub replay_stays : ReplayStays
 unfolding held_log_stays
 replay_stays m end image behind w r = record { entries = r.entries; log = held_log_stays m end r.entries image behind r.log; replayed = r.replayed }
 
+-- its log begins with the same records
+at_least_stays : (header : List ℕ) (records : List Entry) (image behind : List (List ℕ)) → HoldsAtLeast header records image → HoldsAtLeast header records (image ++ behind)
+at_least_stays header records image behind held = record { more = held.more; holds = log_is_kept header (records ++ held.more) image behind held.holds }
+
 -- the longer image holds no other log
 pub genuine_stays : GenuineStays
 genuine_stays m end header records image behind holds genuine entries log =
@@ -81,6 +87,9 @@ module _ (m : Meaning) (old mid : DiskState) (looks : OnlyLooks old mid) where
     under_its_end_stays a recovers =
         let only = stays (RepresentsUnderItsEnd m a) (representation_under_its_end_stays m a) recovers in
         record { any_moment = only; now_on = left_now old new (RepresentsUnderItsEnd m a) only; later = omega arith }
+
+    pub old_records_stay : KeepsOldRecords old new
+    old_records_stay = keeps_old old new (λ header records still. stays (HoldsAtLeast header records) (at_least_stays header records) still)
 
   -- the sectors after that
   pub grown_from : (sectors : ℕ) (reads : List (List ℕ)) → reads ≡ grown_to sectors mid.reads → reads ≡ grown_to sectors old.reads

@@ -6,13 +6,13 @@ use Rattle.commitlog.specs.declared.records.Entry.{Entry}
 use Rattle.model.specs.declared.origin.Origin.{Origin}
 use Rattle.segments.specs.Segments.{origin_in}
 use Rattle.upkeep.specs.Rows.{row_of}
-use Rattle.views.specs.Reading.{BeginsInRow, BeginsWith, IsBelieved, IsOriginText, believed_line, lines_text}
+use Rattle.views.specs.Reading.{BeginsInRow, BeginsWith, IsBelieved, IsShownOrigin, believed_line}
 
-pub origin_text_is : (lps : ℕ) (image : List (List ℕ)) (origin : Option Origin) (time : ℕ) (lines : Option (ℕ × ℕ)) → BeginsWith lps image origin → IfSome origin (λ o. IsBegunAt image time)
-    → (origin ≡ None → lines ≡ None) → IfSome origin (λ o. lines ≡ Some (time, events_before o.numbers (length o.pending))) → IsOriginText lps image origin (lines_text lines)
-origin_text_is lps image None time lines begins at none some = ap lines_text (none refl)
-origin_text_is lps image (Some o) time lines begins at none some =
-    (time, events_before o.numbers (length o.pending), record { begins = begins; at = at; events_are = refl }, ap lines_text some)
+pub shown_origin : (lps : ℕ) (image : List (List ℕ)) (origin : Option Origin) (time : ℕ) (lines : Option (ℕ × ℕ)) → BeginsWith lps image origin → IfSome origin (λ o. IsBegunAt image time)
+    → (origin ≡ None → lines ≡ None) → IfSome origin (λ o. lines ≡ Some (time, events_before o.numbers (length o.pending))) → IsShownOrigin lps image origin lines
+shown_origin lps image None time lines begins at none some = none refl
+shown_origin lps image (Some o) time lines begins at none some =
+    (time, events_before o.numbers (length o.pending), record { begins = begins; at = at; events_are = refl }, some)
 
 -- the line of an origin that is believed
 pub believed_is : (At : ℕ → Type 0) (origin : Option Origin) (time : ℕ) (line : Option ℕ) → IfSome origin (λ o. At time) → (origin ≡ None → line ≡ None) → IfSome origin (λ o. line ≡ Some time) → IsBelieved At origin (believed_line line)

@@ -1,6 +1,7 @@
 -- What the read-only commands print by their arguments, of a disk that may be a segment.
 use Rattle.std.specs.Prelude.{◌≡◌, ℕ, Bool, List, [], ◌++◌, None, Option, Some, codes, decimal}
-use Rattle.std.specs.Prelude.{false, length, true}
+use Rattle.std.specs.Prelude.{false, length, max, true}
+use Rattle.std.specs.Option.{option_map}
 use Rattle.segments.specs.Archiving.{IsBegunAt, IsOriginOn, events_before}
 use Rattle.cli.specs.declared.command.DrawArgs.{DrawArgs}
 use Rattle.cli.specs.declared.command.Format.{Format}
@@ -55,11 +56,33 @@ abbrev pub lines_text : Option (ℕ × ℕ) → List ℕ
 lines_text None = []
 lines_text (Some (time, events)) = origin_text time events
 
--- the lines after those of a disk that begins as its model does, and after those of a segment
-abbrev pub IsOriginText : ℕ → List (List ℕ) → Option Origin → List ℕ → Type 0
-IsOriginText lps image None text = text ≡ []
-IsOriginText lps image (Some o) text =
-    (time : ℕ) × (events : ℕ) × IsBegun lps image o time events × (text ≡ origin_text time events)
+-- the origin of a segment as `status` shows it; none of a disk that begins as its model does
+abbrev pub IsShownOrigin : ℕ → List (List ℕ) → Option Origin → Option (ℕ × ℕ) → Type 0
+IsShownOrigin lps image None lines = lines ≡ None
+IsShownOrigin lps image (Some o) lines = (time : ℕ) × (events : ℕ) × IsBegun lps image o time events
+    × (lines ≡ Some (time, events))
+
+-- An inspection of a segment with no time before its origin: the origin is its first record, a
+-- checkpoint at time 0.
+abbrev pub since_origin : Option (ℕ × ℕ) → Inspection → Inspection
+since_origin None shown = shown
+since_origin (Some (time, events)) shown = record {
+  time = shown.time;
+  end = shown.end;
+  events = shown.events;
+  records = shown.records;
+  checkpoints = shown.checkpoints;
+  last_checkpoint = option_map (max time) shown.last_checkpoint;
+  ends = shown.ends;
+  seals = shown.seals;
+  sectors = shown.sectors;
+  used = shown.used;
+  pace = record {
+    commits = shown.pace.commits;
+    sectors = shown.pace.sectors;
+    from = max time shown.pace.from;
+  };
+}
 
 -- The text of the inspection of a disk, and of its origin if it has one.
 pub record IsStatusText {M : Type 0} (meaning : M → Meaning) (says : Describes M)
@@ -71,12 +94,12 @@ pub record IsStatusText {M : Type 0} (meaning : M → Meaning) (says : Describes
   pub origin : Option Origin
   pub on : Meaning
   pub found_there : Inspection
-  pub behind : List ℕ
+  pub lines : Option (ℕ × ℕ)
   pub file : IsModelFile says source model end
   pub is_on : IsOn (meaning model) image origin on
   pub inspected : IsInspected on end image found_there
-  pub behind_is : IsOriginText (meaning model).lps image origin behind
-  pub is : text ≡ inspection_text found_there ++ behind
+  pub lines_are : IsShownOrigin (meaning model).lps image origin lines
+  pub is : text ≡ inspection_text (since_origin lines found_there) ++ lines_text lines
 
 -- what `status` prints in a format
 abbrev pub IsStatusBy : {M : Type 0} → (M → Meaning) → Describes M → Format → List ℕ → Type 0

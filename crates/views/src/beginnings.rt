@@ -11,7 +11,7 @@ ghost use Rattle.recovery.specs.Front.{world_of};
 ghost use Rattle.segments.specs.Segments.{origin_in};
 ghost use Rattle.upkeep.specs.Rows.{row_of};
 ghost use Rattle.views.specs.Reading.{believed_line, believed_text, BeginsInRow, BeginsWith};
-ghost use Rattle.views.specs.Reading.{IsFrontOn};
+ghost use Rattle.views.specs.Reading.{since_origin, IsFrontOn};
 
 use crate::fault::ViewFault;
 use crate::files::open_disk;
@@ -27,6 +27,7 @@ use std::fs::File;
 use std::io::{Result as IoResult, Write};
 use std::rt::Files;
 use texts::{write_number, write_text};
+use upkeep::inspection::{Inspection, Pace};
 use upkeep::{copy_opened, first_in_row};
 
 /// A disk, and where its simulation begins.
@@ -256,5 +257,27 @@ where
         Ok((front, _disk)) => Ok(front),
         Err((RecoveryFault::Log(fault), _disk)) => Err(ViewFault::Log(fault)),
         Err((fault, _disk)) => Err(ViewFault::Recovery(fault)),
+    }
+}
+
+/// Returns an inspection of a segment, from whose origin these lines are, with no time before the
+/// origin: it is the first record, a checkpoint at time 0.
+pub(crate) fn since_origin(shown: Inspection, lines: Option<(u64, u64)>) -> Inspection
+    ensures { result ≡ since_origin lines shown }
+{
+    let Some((time, _)) = lines else {
+        return shown;
+    };
+    let last_checkpoint = match shown.last_checkpoint {
+        Some(last) => Some(last.max(time)),
+        None => None,
+    };
+    Inspection {
+        last_checkpoint,
+        pace: Pace {
+            from: shown.pace.from.max(time),
+            ..shown.pace
+        },
+        ..shown
     }
 }

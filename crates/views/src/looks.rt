@@ -17,7 +17,7 @@ use std::rt::Files;
 use texts::Described;
 
 /// A command that only reads, with its arguments.
-#[derive(Clone, Copy, Debug, PartialEq, Eq)]
+#[derive(Clone, Copy)]
 pub enum Look<'a> {
     /// How far the run on a disk has come, and how many sectors are free.
     Status(StatusArgs<'a>),

@@ -12,6 +12,7 @@ has_globals f = f.has_globals
 pub returns : goal.returns
 returns c =
     argument_added _ _ _ _ _ c.with_argument.ensures
+    (argument_added _ _ _ _ _ c.with_argument-command-5.ensures
     (argument_added _ _ _ _ _ c.with_argument-command-4.ensures
     (argument_added _ _ _ _ _ c.with_argument-command-3.ensures
     (argument_added _ _ _ _ _ c.with_argument-command-2.ensures
@@ -22,5 +23,6 @@ returns c =
     c.path.ensures.rule c.path.ensures.local)
     c.advice_option.ensures.rule c.advice_option.ensures.local)
     c.quiet_option.ensures.rule c.quiet_option.ensures.local)
+    c.flag.ensures.rule c.flag.ensures.local)
     c.format_option.ensures.rule c.format_option.ensures.local)
     c.large_option.ensures.rule c.large_option.ensures.local

@@ -4,6 +4,7 @@ use Rattle.cli.proofs.grammar.new.Goals as goal
 pub returns : goal.returns
 returns c =
     argument_added _ _ _ _ _ c.with_argument.ensures
+    (argument_added _ _ _ _ _ c.with_argument-command-5.ensures
     (argument_added _ _ _ _ _ c.with_argument-command-4.ensures
     (argument_added _ _ _ _ _ c.with_argument-command-3.ensures
     (argument_added _ _ _ _ _ c.with_argument-command-2.ensures
@@ -12,4 +13,5 @@ returns c =
     c.reserve_option.ensures.rule c.reserve_option.ensures.local)
     c.flag.ensures.rule c.flag.ensures.local)
     c.origin_option.ensures.rule c.origin_option.ensures.local)
+    c.flag-2.ensures.rule c.flag-2.ensures.local)
     c.large_option.ensures.rule c.large_option.ensures.local

@@ -38,4 +38,4 @@ returns-clause-tried g c =
     let after = g.O.Write.contents c.run_over.new.out in
     by_judged (λ (b : Bool). IsAttemptBy (not b) on of.end plan.nodes old new outcome same before after) plan.judged
     (λ judged. attempt_is on of.end plan.nodes old new before after outcome same (run.printed (inl judged)) (run.output (inl judged)) run.unwritten (run.kept_stop (inl judged)) (λ genuine time events is. (run.stopped (inl judged) genuine time events is).0) (run.kept (inl judged)))
-    (λ trusting. reported_is _ _ _ of.model of.end plan _ _ before after outcome same run.over run.over_err run.unwritten run.stopped_over)
+    (λ trusting. record { tried = reported_is _ _ _ of.model of.end plan _ _ before after outcome same run.over run.over_err run.unwritten run.stopped_over; records = run.old_records })

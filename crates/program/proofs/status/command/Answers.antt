@@ -6,5 +6,5 @@ pub returns-clause-failed : goal.returns-clause-failed
 returns-clause-failed g c = λ one.
     elim c.in-Err-run.ensures.err [
       | inl same ↦ inl same
-      | inr begun ↦ inr (c.in-Ok-read_command.command, c.in-Ok-read_command.ensures.ok, begun)
+      | inr begun ↦ inr (inl (c.in-Ok-read_command.command, c.in-Ok-read_command.ensures.ok, begun))
     ]

@@ -3,7 +3,8 @@ use Rattle.commitlog.proofs.Behind.{log_is_kept}
 use Rattle.commitlog.specs.Records.{Holds}
 use Rattle.recovery.specs.Represents.{IsGenuine}
 use Rattle.recovery.proofs.Crashes.{looked-under}
-use Rattle.upkeep.proofs.Staying.{genuine_stays, grown_from, recovery_stays, under_its_end_stays, kept_call, wanting}
+use Rattle.recovery.proofs.OldRecords.{looks_at_old}
+use Rattle.upkeep.proofs.Staying.{genuine_stays, grown_from, old_records_stay, recovery_stays, under_its_end_stays, kept_call, wanting}
 use Rattle.upkeep.proofs.growing.disks.grow.Goals as goal
 
 pub returns-in-Err-clause-refused : goal.returns-in-Err-clause-refused
@@ -55,3 +56,16 @@ returns-in-Err-grow-clause-kept_err g c v =
     let state = g.D.SectorDisk.state in
     let m = g.M.Model.meaning c.args.model.now in
     kept_call m v (state c.args.disk) (state c.grow.new.self) (under_its_end_stays m (state c.args.disk) (state c.in-Ok.disk) c.in-Ok.ensures.looks (state c.grow.new.self) _ c.grow.ensures.any_moment)
+
+pub returns-in-Err-clause-old_records_err : goal.returns-in-Err-clause-old_records_err
+returns-in-Err-clause-old_records_err g c = looks_at_old (g.D.SectorDisk.state c.args.disk) _ c.in-Err.ensures.looks_err
+
+pub returns-in-Ok-grow-clause-old_records : goal.returns-in-Ok-grow-clause-old_records
+returns-in-Ok-grow-clause-old_records g c =
+    let state = g.D.SectorDisk.state in
+    old_records_stay (g.M.Model.meaning c.args.model.now) (state c.args.disk) (state c.in-Ok.disk) c.in-Ok.ensures.looks (state c.grow.new.self) _ c.grow.ensures.any_moment
+
+pub returns-in-Err-grow-clause-old_records_err : goal.returns-in-Err-grow-clause-old_records_err
+returns-in-Err-grow-clause-old_records_err g c =
+    let state = g.D.SectorDisk.state in
+    old_records_stay (g.M.Model.meaning c.args.model.now) (state c.args.disk) (state c.in-Ok.disk) c.in-Ok.ensures.looks (state c.grow.new.self) _ c.grow.ensures.any_moment
