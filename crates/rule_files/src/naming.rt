@@ -512,7 +512,7 @@ fn sort_twice<'a>(
         if let Some(given) = equal_in(names, name) {
             let key = given.list;
             return Ok(Some(if key.is_empty() {
-                format!(in alloc; "{name:?} is also the name of a word of a message")?
+                format!(in alloc; "{name:?} is also the name of a word of a message, which are a, b, c and d where they have no names")?
             } else {
                 format!(in alloc; "{name:?} is also a name in {key}")?
             }));
@@ -651,7 +651,7 @@ fn named_twice(
     let why = if is_same {
         format!(in alloc; "{name:?} is there twice")?
     } else if key.is_empty() {
-        format!(in alloc; "{name:?} is also the name of a word of a message")?
+        format!(in alloc; "{name:?} is also the name of a word of a message, which are a, b, c and d where they have no names")?
     } else {
         format!(in alloc; "{name:?} is also a name in {key}")?
     };
