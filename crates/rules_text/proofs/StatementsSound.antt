@@ -351,11 +351,11 @@ sort_only (t.Name name ∷ t.Own n ∷ ts) p e = absurd cc
 sort_only (t.Name name ∷ t.Name n ∷ ts) p e = absurd cc
 sort_only (t.Name name ∷ t.Sort n ∷ ts) p e = elim (cases_Bool (eqb name on_name)) [
   | inl same ↦
-      let here : ◌≡◌ {A = Option (ℕ × List Token)} (Some (n, ts)) (Some p) = ap (λ b. if b then Some (n, ts) else None) (sym same) ∙ e in
+      let here : ◌≡◌ {A = Option (Sort × List Token)} (Some (n, ts)) (Some p) = ap (λ b. if b then Some (n, ts) else None) (sym same) ∙ e in
       ap (λ i. t.Name i ∷ t.Sort n ∷ ts) (equal_number on_name name same)
       ∙ ap (λ (q : Sort × List Token). t.Name on_name ∷ t.Sort q.0 ∷ q.1) (some_is (n, ts) p here)
   | inr other ↦
-      let here : ◌≡◌ {A = Option (ℕ × List Token)} None (Some p) = ap (λ b. if b then Some (n, ts) else None) (sym other) ∙ e in
+      let here : ◌≡◌ {A = Option (Sort × List Token)} None (Some p) = ap (λ b. if b then Some (n, ts) else None) (sym other) ∙ e in
       absurd cc
 ]
 

@@ -149,16 +149,15 @@ fn kind_at(
     wanted: Wanted,
 ) -> Result<Kind, AllocError> {
     let name = part(text, lexeme.start, lexeme.end);
+    if let Wanted::Words(has, given) = wanted {
+        return Ok(Kind::Words(owned(alloc, name)?, has, given));
+    }
     let is_read = wanted == Wanted::Value || ends_statements(wanted);
     match *token {
         Token::Own(own) if wanted == Wanted::Process => {
             let kind = scope.kind_of(own).unwrap_or("KIND".as_bytes());
             Ok(Kind::Place(owned(alloc, kind)?))
         }
-        Token::Sort(_) => match wanted {
-            Wanted::Words(has, given) => Ok(Kind::Words(owned(alloc, name)?, has, given)),
-            _ => Ok(Kind::Wanted(wanted)),
-        },
         Token::Mark(Mark::Kept) => Ok(Kind::Kept(owned(alloc, name)?)),
         Token::Name(_) if is_read => {
             let near = nearest(alloc, scope, name)?;

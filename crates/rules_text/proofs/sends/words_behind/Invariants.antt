@@ -4,7 +4,7 @@ use Rattle.rules_text.proofs.sends.words_behind.Given as goal
 
 abbrev pub invariant-tokens : goal.invariant-tokens
 invariant-tokens l = record {
-  open : l.open ≤ l.token-index;
+  brackets : l.open ≤ l.token-index;
   few : l.words ≤ l.token-index;
   rest : l.words + words_from l.open (drop l.token-index l.content) ≡ words_from 0 l.content;
 }
