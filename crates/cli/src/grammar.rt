@@ -579,7 +579,8 @@ Output, a line for each name with its value:
   origin         the time from which the disk goes on, of one that goes on from another disk
   events_before  and how many events came before that
   used           sectors, of
-  sectors        in all";
+  sectors        in all
+  model          the file in which it keeps its model, if it keeps one";
 
 /// The command `log`.
 fn log<'a>(alloc: Global) -> Result<ClapCommand<'a>, AllocError>

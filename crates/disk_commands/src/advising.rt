@@ -12,10 +12,12 @@ use std::fs;
 use std::fs::File;
 use std::io::Write;
 use std::rt::Files;
-use terminal::{Cause, Progress, Refusal, Unmet, cause_of, cause_of_device, cause_of_refusal};
+use terminal::{
+    Cause, Progress, Refusal, Unmet, cause_of, cause_of_device, cause_of_kept, cause_of_refusal,
+};
 use texts::{Described, Printable, Report, SettingFault};
 use upkeep::migration::MigrateFault;
-use views::{committed_on, difference_of, mistakes_of};
+use views::{apart_of, committed_on, difference_of, keeper_of, mistakes_of, model_path};
 use wire::{PortFault, WireFault};
 
 /// What was noted of node programs and of the disk before a fault.
@@ -104,9 +106,30 @@ where
 {
     match (fault, noted.refusal) {
         (Fault::File, Some(refusal)) => cause_of_refusal(command, refusal),
-        (Fault::File, None) => cause_of(rt, command, noted.system, noted.unmet),
+        (Fault::File, None) => {
+            let kept = cause_in_kept(rt, command);
+            if kept.is_some() {
+                return kept;
+            }
+            cause_of(rt, command, noted.system, noted.unmet)
+        }
         _ => None,
     }
+}
+
+/// The cause in the model that the disk of a command keeps, if that is read and the disk is there.
+fn cause_in_kept<'a, R>(rt: &R, command: Command<'a>) -> Option<Cause<'a>>
+where
+    R: Files<File = File> + AllocGlobal,
+{
+    let disk = match command {
+        Command::Info(args) if args.model => args.disk,
+        _ => command.model()?.kept_by?,
+    };
+    if !fs::exists(rt, disk).unwrap_or(true) {
+        return None;
+    }
+    cause_of_kept(rt, keeper_of(rt, disk).ok()?)
 }
 
 /// Passes the advice for the fault of a command to `progress`, and the cause of a `File` if
@@ -391,8 +414,11 @@ where
     let Some(wrong) = mistakes_of::<M, R>(rt, model) else {
         return false;
     };
+    let Ok(path) = model_path(rt, model) else {
+        return false;
+    };
     let report = Report {
-        path: model.path,
+        path: path.as_str(),
         text: wrong.text.as_slice(),
         mistakes: &wrong.mistakes,
     };
@@ -444,12 +470,18 @@ where
     let Some(difference) = difference_of::<M, R>(rt, paths.model, disk, most, format) else {
         return false;
     };
-    let (model, disk) = (Printable(paths.model.path), Printable(disk));
+    let Ok(model) = model_path(rt, paths.model) else {
+        return false;
+    };
+    let (shown, model) = (Printable(disk), Printable(model.as_str()));
     let _ = writeln!(
         err,
-        "{disk} is {}; {model} is {}",
+        "{shown} is {}; {model} is {}",
         difference.disk, difference.file
     );
+    if let Some(line) = apart_of(rt, paths.model, disk) {
+        let _ = writeln!(err, "{}", line.as_str());
+    }
     if let Some(advice) = difference.advice() {
         let _ = writeln!(err, "{advice}");
     }

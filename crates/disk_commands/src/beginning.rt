@@ -9,6 +9,7 @@ ghost use Rattle.views.specs.Views.{Begins, Prints};
 
 use crate::disks::{NewFile, open_new, refuse_contents};
 use crate::fault::{Fault, flushed};
+use crate::keeping::{Keeping, text_to_keep};
 use crate::said::SystemErrors;
 use cli::{DiskArgs, NewArgs, most_sectors};
 use commitlog::LogFault;
@@ -20,7 +21,7 @@ use std::rt::Files;
 use std::time::Clock;
 use terminal::are_one_file;
 use texts::{Described, write_number, write_text};
-use views::{SegmentFault, front_of, read_model_file};
+use views::{ModelText, SegmentFault, front_of, read_model_text};
 
 /// Makes the log of a segment that goes on from the world of the disk at `from`, which is only read.
 /// Refuses the model file and that disk as the new disk. If the disk has no room for the segment, or
@@ -43,15 +44,19 @@ where
         (O.contents out.old) (O.contents out.new)) }
 {
     let DiskArgs { model, disk, large } = args.on;
-    let (of, end): (M, u64) = read_model_file(rt, model)?;
+    let read: ModelText<M> = read_model_text(rt, model)?;
+    let (of, end) = (&read.model, read.end);
     if are_one_file(rt, model.path, disk) || are_one_file(rt, from, disk) {
         return Err(Fault::File);
     }
-    let front = front_of(rt, &of, end, from, most_sectors(large))?;
+    let front = front_of(rt, of, end, from, most_sectors(large))?;
     let new = NewFile::of(args.sectors, args.reserve);
+    let text = text_to_keep(args.keep_model, read.text.as_slice());
+    let keeping = Keeping::of(rt, disk, text, said)?;
     let mut blank = open_new(rt, disk, new, large, said)?;
     refuse_contents(&mut blank, args.over, said)?;
-    match begin_on(rt.alloc(), &of, end, &front, blank) {
+    keeping.write(rt, &mut blank, said)?;
+    match begin_on(rt.alloc(), of, end, &front, blank) {
         Ok(_made) => write_segment(args.sectors, &front, out),
         Err((fault, unmade)) => {
             said.note(unmade.last_error());

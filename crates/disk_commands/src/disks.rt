@@ -198,7 +198,7 @@ fn refuse_bytes(disk: &mut FileDisk, said: &SystemErrors) -> Result<(), Fault>
 }
 
 /// Whether the gate of a disk's header is open.
-fn is_formatted(disk: &mut FileDisk) -> Result<bool, DiskFault>
+pub(crate) fn is_formatted(disk: &mut FileDisk) -> Result<bool, DiskFault>
     ensures is { IfOk result (λ is. is ≡ is_open (slice_index_or disk.old.reads 0 [])) }
     ensures looks { OnlyLooks (disk_of_file disk.old) (disk_of_file disk.new) }
 {

@@ -6,6 +6,7 @@ mod advising;
 mod beginning;
 mod disks;
 mod fault;
+mod keeping;
 mod repairing;
 mod said;
 mod verifying;
@@ -16,6 +17,7 @@ pub use disks::{
     NewFile, disk_with_log, grow_on, is_blank, open_new, open_old, refuse_contents, reopen_on,
 };
 pub use fault::Fault;
+pub use keeping::{Keeping, text_to_keep};
 pub use repairing::{cut_on, recover_on};
 pub use said::SystemErrors;
 pub use verifying::Verifying;

@@ -11,13 +11,14 @@ ghost use Rattle.recovery.specs.Ends.{IsEnd};
 ghost use Rattle.recovery.specs.Represents.{Recovers};
 ghost use Rattle.views.specs.Views.{Begins, Prints};
 
-use crate::described::simulated;
+use crate::described::{WithText, simulated, simulated_with_text};
 use crate::outcomes::of_command;
 use cli::{DiskArgs, MigrateArgs, NewArgs, most_sectors};
 use commands::Simulated;
 use disk::FileDisk;
 use disk_commands::{
-    Fault, NewFile, SystemErrors, disk_with_log, is_blank, open_new, open_old, refuse_contents,
+    Fault, Keeping, NewFile, SystemErrors, disk_with_log, is_blank, open_new, open_old,
+    refuse_contents, text_to_keep,
 };
 use model::Continued;
 use std::alloc::Global;
@@ -29,9 +30,9 @@ use terminal::are_one_file;
 use texts::Described;
 use views::{Begun, open_disk};
 
-/// Makes an empty log for the model of a file, on a disk. Refuses the model file itself as a disk, and
-/// a file that holds other bytes than one on which an earlier `new` was stopped, unless it is asked to
-/// write over them.
+/// Makes an empty log for the model of a file, on a disk, which keeps the model if it is asked to.
+/// Refuses the model file itself as a disk, and a file that holds other bytes than one on which an
+/// earlier `new` was stopped, unless it is asked to write over them.
 pub(crate) fn new_on<M, R, O>(
     rt: &R,
     args: NewArgs<'_>,
@@ -48,14 +49,17 @@ where
         ⊎ Begins (IsFormatted args.entry.sectors) (O.contents out.old) (O.contents out.new)) }
 {
     let DiskArgs { model, disk, large } = args.on;
-    let of: Simulated<M> = simulated(rt, model)?;
+    let read: WithText<M> = simulated_with_text(rt, model)?;
     if are_one_file(rt, model.path, disk) {
         return Err(Fault::File);
     }
     let new = NewFile::of(args.sectors, args.reserve);
+    let text = text_to_keep(args.keep_model, read.text.as_slice());
+    let keeping = Keeping::of(rt, disk, text, said)?;
     let mut disk = open_new(rt, disk, new, large, said)?;
     refuse_contents(&mut disk, args.over, said)?;
-    let made = commands::new(rt.alloc(), &of, &mut disk, out);
+    keeping.write(rt, &mut disk, said)?;
+    let made = commands::new(rt.alloc(), &read.of, &mut disk, out);
     said.note(disk.last_error());
     match made {
         Ok(()) => Ok(()),
@@ -65,12 +69,14 @@ where
 
 /// Opens the disk of a run. If a new file is given, and the disk's file is not there, is empty or is
 /// blank, makes its log as `new_on` does: a kill may have left it so. A blank one with fewer sectors
-/// than asked for gets these; one with more keeps its own.
+/// than asked for gets these; one with more keeps its own. The disk that is made keeps this text, if
+/// there is one.
 pub(crate) fn disk_of<M, R>(
     rt: &R,
     of: &Simulated<M>,
     on: DiskArgs<'_>,
     create: Option<NewFile>,
+    text: Option<&[u8]>,
     said: &SystemErrors,
 ) -> Result<FileDisk, Fault>
 where
@@ -83,22 +89,25 @@ where
     if let Some(disk) = disk_with_log(rt, on, &mut new, said)? {
         return Ok(disk);
     }
-    made_disk(rt, of, on, new, said)
+    made_disk(rt, of, on, new, text, said)
 }
 
-/// Makes the disk of a run, or the log of one that is blank.
+/// Makes the disk of a run, or the log of one that is blank, and keeps this text if there is one.
 fn made_disk<M, R>(
     rt: &R,
     of: &Simulated<M>,
     on: DiskArgs<'_>,
     new: NewFile,
+    text: Option<&[u8]>,
     said: &SystemErrors,
 ) -> Result<FileDisk, Fault>
 where
     M: Described,
     R: Files<File = File> + Clock + AllocGlobal,
 {
+    let keeping = Keeping::of(rt, on.disk, text, said)?;
     let mut disk = open_new(rt, on.disk, new, on.large, said)?;
+    keeping.write(rt, &mut disk, said)?;
     make_log(rt.alloc(), of, &mut disk, said)?;
     Ok(disk)
 }

@@ -15,7 +15,7 @@ use crate::outcomes::of_command;
 use crate::watching::Watching;
 use cli::{BatchOption, NodeArgs, RunArgs};
 use commands::{CommandFault, Simulated};
-use disk_commands::{Fault, NewFile, SystemErrors, has_few_rounds};
+use disk_commands::{Fault, NewFile, SystemErrors, has_few_rounds, text_to_keep};
 use node_programs::{Calls, count_processors, is_open_to_all};
 use runs::{Batch as DriverBatch, Plan, Schedule};
 use std::fs::{self, File};
@@ -228,7 +228,8 @@ where
         calls: nodes.calls,
         differences: nodes.differences,
     };
-    let disk = disk_of(rt, of, args.on, create_of(&args), said)?;
+    let text = text_to_keep(args.keep_model, read.text.as_slice());
+    let disk = disk_of(rt, of, args.on, create_of(&args), text, said)?;
     let begun = Begun::of(rt.alloc(), &of.model, disk);
     progress.begin(of.end);
     progress.takes(way_of(rt, &args, of.model.lps()));

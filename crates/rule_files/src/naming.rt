@@ -428,7 +428,7 @@ pub(crate) fn twice_in(
     put_entries(&mut names, "tables", tables.as_slice())?;
     put_sorts(&mut names, sorts.as_slice())?;
     for kind in kinds {
-        put_name(&mut names, "kind", kind.head.name.as_str())?;
+        put_name(&mut names, KIND_NAME, kind.head.name.as_str())?;
     }
     match first_twice(alloc, names.as_slice())? {
         Some(mistake) => Ok(Some(mistake)),
@@ -510,12 +510,7 @@ fn sort_twice<'a>(
             continue;
         }
         if let Some(given) = equal_in(names, name) {
-            let key = given.list;
-            return Ok(Some(if key.is_empty() {
-                format!(in alloc; "{name:?} is also the name of a word of a message")?
-            } else {
-                format!(in alloc; "{name:?} is also a name in {key}")?
-            }));
+            return Ok(Some(also_in(alloc, name, given.list)?));
         }
         if let Some(other) = elsewhere(fields.as_slice(), name, place) {
             let (sort, at) = (other.sort, other.place);
@@ -634,6 +629,20 @@ fn equal_in<'a>(names: &[Given<'a>], name: &str) -> Option<Given<'a>> {
     None
 }
 
+/// The key of the name of a kind, in the table of the kind.
+const KIND_NAME: &str = "name";
+
+/// Returns why a name is at fault that the file gives to something else too, in this list.
+fn also_in(alloc: Global, name: &str, list: &str) -> Result<String, AllocError> {
+    match list {
+        "" => format!(in alloc;
+            "{name:?} is also the name of a word of a message, which are a, b, c and d where they have no names"
+        ),
+        KIND_NAME => format!(in alloc; "{name:?} is also the name of a kind"),
+        _ => format!(in alloc; "{name:?} is also a name in {list}"),
+    }
+}
+
 /// Returns the mistake of a name that is there twice, at the later place that the file has.
 fn named_twice(
     alloc: Global,
@@ -647,13 +656,10 @@ fn named_twice(
         (later, earlier)
     };
     let is_same = at.list == other.list;
-    let key = other.list;
     let why = if is_same {
         format!(in alloc; "{name:?} is there twice")?
-    } else if key.is_empty() {
-        format!(in alloc; "{name:?} is also the name of a word of a message")?
     } else {
-        format!(in alloc; "{name:?} is also a name in {key}")?
+        also_in(alloc, name, other.list)?
     };
     Ok(NameMistake {
         list: at.list,

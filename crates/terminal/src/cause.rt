@@ -3,7 +3,7 @@
 
 use crate::paths::are_one_file;
 use cli::{
-    Command, DiskArgs, DrawArgs, MigrateArgs, NewArgs, RecoverArgs, RunArgs, SourceArgs,
+    Command, DiskArgs, DrawArgs, MigrateArgs, ModelFile, NewArgs, RecoverArgs, RunArgs, SourceArgs,
     most_sectors,
 };
 use disk::{MOST_SECTORS, MOST_SECTORS_OF_LARGE, SystemError};
@@ -20,13 +20,15 @@ use thiserror::Error;
 #[derive(Clone, Copy, Debug, PartialEq, Eq)]
 pub struct Cause<'a> {
     path: &'a str,
+    /// What the name of the file has behind that path.
+    behind: &'static str,
     reason: Reason,
 }
 
 impl fmt::Display for Cause<'_> {
     fn fmt<W: fmt::Write>(&self, f: &mut fmt::Formatter<W>) -> fmt::Result {
-        let (path, reason) = (Printable(self.path), self.reason);
-        write!(f, "{path}: {reason}")
+        let (path, behind, reason) = (Printable(self.path), self.behind, self.reason);
+        write!(f, "{path}{behind}: {reason}")
     }
 }
 
@@ -112,6 +114,15 @@ enum Reason {
     #[error("this holds other bytes than a disk without records, and nothing is written over them: \
              `new --over` makes an empty disk of it")]
     HoldsBytes,
+    #[error("there is no such file: the disk keeps no model, as one does that `new --keep-model` or \
+             `run --create --keep-model` makes; give the path of its model file")]
+    KeepsNoModel,
+    #[error("this holds something else than the model that the new disk would keep, and nothing is \
+             written over it: remove it if no disk needs it")]
+    KeepsOther,
+    #[error("this is no beginning of the model that the new disk would keep, as a killed command leaves \
+             it, and nothing is written over it: remove it if it is not yours")]
+    KeepsOtherUnfinished,
     #[error("this name does not lead to the file of the run any more, which has all events before \
              {time} ticks")]
     Renamed { time: u64 },
@@ -131,6 +142,12 @@ pub enum Refusal {
     Stop,
     /// The file of a new disk is not empty.
     Holds(Held),
+    /// The file of the model that a new disk would keep holds something else.
+    KeptOther,
+    /// The file under whose name that one is written holds something else.
+    KeptUnfinished,
+    /// The model that a new disk would keep is not written, by what the system says.
+    NotKept(SystemError),
     /// The name of the disk of a run leads to another file by now, or to none. The file of the run
     /// has all events before this virtual time, in ticks.
     Renamed {
@@ -171,8 +188,8 @@ pub enum Unmet {
 enum Step<'a> {
     /// Reads the file.
     Reads(&'a str),
-    /// Reads a model file.
-    ReadsModel(&'a str),
+    /// Reads a model file, unless its disk keeps the model.
+    ReadsModel(ModelFile<'a>),
     /// Requires the first path to lead to another file than the second.
     AreTwoFiles(&'a str, &'a str),
     /// Reads a disk of at most this many sectors.
@@ -228,15 +245,47 @@ where
 
 /// The cause of the fault `File` with which a command refused a file, or lost its disk.
 pub fn cause_of_refusal<'a>(command: Command<'a>, refusal: Refusal) -> Option<Cause<'a>> {
-    let (path, reason) = match refusal {
-        Refusal::Trace => (trace_of(command), Reason::NotTrace),
-        Refusal::UnfinishedTrace => (trace_of(command), Reason::NotUnfinishedTrace),
-        Refusal::CutTrace => (trace_of(command), Reason::NotWhole),
-        Refusal::Stop => (stop_file_of(command), Reason::StopThere),
-        Refusal::Holds(held) => (written_disk(command), reason_of_held(held)),
-        Refusal::Renamed { time } => (written_disk(command), Reason::Renamed { time }),
+    let disk = written_disk(command);
+    let (path, behind, reason) = match refusal {
+        Refusal::Trace => (trace_of(command), "", Reason::NotTrace),
+        Refusal::UnfinishedTrace => (trace_of(command), "", Reason::NotUnfinishedTrace),
+        Refusal::CutTrace => (trace_of(command), "", Reason::NotWhole),
+        Refusal::Stop => (stop_file_of(command), "", Reason::StopThere),
+        Refusal::Holds(held) => (disk, "", reason_of_held(held)),
+        Refusal::KeptOther => (disk, KEPT, Reason::KeepsOther),
+        Refusal::KeptUnfinished => (disk, UNFINISHED, Reason::KeepsOtherUnfinished),
+        Refusal::NotKept(error) => (disk, KEPT, Reason::System(error)),
+        Refusal::Renamed { time } => (disk, "", Reason::Renamed { time }),
     };
-    caused(path?, Some(reason))
+    Some(Cause {
+        path: path?,
+        behind,
+        reason,
+    })
+}
+
+/// What the name of the model that a disk keeps has behind that of the disk.
+const KEPT: &str = ".model";
+
+/// What the name has under which it is written.
+const UNFINISHED: &str = ".unfinished-model";
+
+/// The cause of the fault `File` of a command that reads the model that this disk keeps, if it lies
+/// there.
+pub fn cause_of_kept<'a, R>(rt: &R, disk: &'a str) -> Option<Cause<'a>>
+where
+    R: Files<File = File> + AllocGlobal,
+{
+    let path = format!(in rt.alloc(); "{disk}{KEPT}").ok()?;
+    let reason = match reason_of_model(rt, path.as_str())? {
+        Reason::NoFile => Reason::KeepsNoModel,
+        reason => reason,
+    };
+    Some(Cause {
+        path: disk,
+        behind: KEPT,
+        reason,
+    })
 }
 
 /// Why a file is not made a disk.
@@ -269,7 +318,7 @@ fn cause_of_pipe<'a, R>(rt: &R, command: Command<'a>) -> Option<Cause<'a>>
 where
     R: Files<File = File>,
 {
-    let model = model_of(command);
+    let model = read_of(command)?;
     match fs::metadata(rt, model) {
         Ok(found) if found.file_type().is_fifo() => caused(model, Some(Reason::NoBytes)),
         _ => None,
@@ -350,11 +399,12 @@ fn written_disk<'a>(command: Command<'a>) -> Option<&'a str> {
     }
 }
 
-/// The path of the model file; empty for a command without one.
-fn model_of<'a>(command: Command<'a>) -> &'a str {
-    match command.model() {
-        Some(file) => file.path,
-        None => "",
+/// The path of the model file that a command reads; none if it reads none.
+fn read_of<'a>(command: Command<'a>) -> Option<&'a str> {
+    let file = command.model()?;
+    match file.kept_by {
+        None => Some(file.path),
+        Some(_) => None,
     }
 }
 
@@ -388,14 +438,11 @@ where
         Command::Show(args) => first_of_reader(rt, args.on),
         Command::Stats(args) => first_of_source(rt, args.of),
         Command::Draw(args) => first_of_drawing(rt, args),
-        Command::Seq(args) => first(rt, &[Step::ReadsModel(args.model.path)]),
-        Command::Check(args) => first(rt, &[Step::ReadsModel(args.model.path)]),
+        Command::Seq(args) => first(rt, &[Step::ReadsModel(args.model)]),
+        Command::Check(args) => first(rt, &[Step::ReadsModel(args.model)]),
         Command::Node(args) => first(
             rt,
-            &[
-                Step::ReadsModel(args.model.path),
-                Step::Connects(args.socket),
-            ],
+            &[Step::ReadsModel(args.model), Step::Connects(args.socket)],
         ),
     }
 }
@@ -417,7 +464,7 @@ fn first_of_new<'a, R: Files<File = File>>(rt: &R, args: NewArgs<'a>) -> Option<
     first(
         rt,
         &[
-            Step::ReadsModel(model.path),
+            Step::ReadsModel(model),
             Step::AreTwoFiles(disk, model.path),
             Step::Makes(disk, args.sectors),
         ],
@@ -432,7 +479,7 @@ where
     first(
         rt,
         &[
-            Step::ReadsModel(args.model.path),
+            Step::ReadsModel(args.model),
             Step::LooksAt(args.old, most_sectors(args.large)),
             Step::AreTwoFiles(args.new, args.model.path),
             Step::AreTwoFiles(args.new, args.old),
@@ -449,7 +496,7 @@ where
     first(
         rt,
         &[
-            Step::ReadsModel(args.model.path),
+            Step::ReadsModel(args.model),
             Step::Writes(args.old, most_sectors(args.large)),
             Step::AreTwoFiles(args.new, args.model.path),
             Step::AreTwoFiles(args.new, args.old),
@@ -463,10 +510,7 @@ fn first_of_writer<'a, R: Files<File = File>>(rt: &R, args: DiskArgs<'a>) -> Opt
     let most = most_sectors(args.large);
     first(
         rt,
-        &[
-            Step::ReadsModel(args.model.path),
-            Step::Writes(args.disk, most),
-        ],
+        &[Step::ReadsModel(args.model), Step::Writes(args.disk, most)],
     )
 }
 
@@ -475,10 +519,7 @@ fn first_of_reader<'a, R: Files<File = File>>(rt: &R, args: DiskArgs<'a>) -> Opt
     let most = most_sectors(args.large);
     first(
         rt,
-        &[
-            Step::ReadsModel(args.model.path),
-            Step::LooksAt(args.disk, most),
-        ],
+        &[Step::ReadsModel(args.model), Step::LooksAt(args.disk, most)],
     )
 }
 
@@ -486,7 +527,7 @@ fn first_of_reader<'a, R: Files<File = File>>(rt: &R, args: DiskArgs<'a>) -> Opt
 fn first_of_source<'a, R: Files<File = File>>(rt: &R, args: SourceArgs<'a>) -> Option<Cause<'a>> {
     let SourceArgs { model, disk, large } = args;
     match disk {
-        None => first(rt, &[Step::ReadsModel(model.path)]),
+        None => first(rt, &[Step::ReadsModel(model)]),
         Some(disk) => first_of_reader(rt, DiskArgs { model, disk, large }),
     }
 }
@@ -552,10 +593,7 @@ fn first_of_begun<'a, R: Files<File = File>>(rt: &R, args: RunArgs<'a>) -> Optio
     if args.create && !fs::exists(rt, disk).unwrap_or(true) {
         first(
             rt,
-            &[
-                Step::ReadsModel(model.path),
-                Step::Makes(disk, args.sectors),
-            ],
+            &[Step::ReadsModel(model), Step::Makes(disk, args.sectors)],
         )
     } else {
         first_of_writer(rt, args.on)
@@ -607,6 +645,7 @@ fn reason_of_start(is_bound: bool) -> Reason {
 fn caused<'a>(path: &'a str, reason: Option<Reason>) -> Option<Cause<'a>> {
     Some(Cause {
         path,
+        behind: "",
         reason: reason?,
     })
 }
@@ -615,7 +654,8 @@ fn caused<'a>(path: &'a str, reason: Option<Reason>) -> Option<Cause<'a>> {
 fn cause_at<'a, R: Files<File = File>>(rt: &R, step: Step<'a>) -> Option<Cause<'a>> {
     match step {
         Step::Reads(path) => caused(path, reason_of_file(rt, path)),
-        Step::ReadsModel(path) => caused(path, reason_of_model(rt, path)),
+        Step::ReadsModel(file) if file.kept_by.is_some() => None,
+        Step::ReadsModel(file) => caused(file.path, reason_of_model(rt, file.path)),
         Step::AreTwoFiles(path, other) => caused(path, reason_of_two(rt, path, other)),
         Step::LooksAt(path, most) => caused(path, reason_of_disk(rt, path, most)),
         Step::Writes(path, most) => caused(path, reason_of_writer(rt, path, most)),

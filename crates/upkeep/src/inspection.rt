@@ -1,5 +1,6 @@
 // Inspection: what a disk shows of its run, and the text of that.
 
+mod checking;
 mod counting;
 mod fault;
 mod inspecting;

@@ -13,6 +13,7 @@ ghost use Rattle.views.specs.Views.{PrintsRun};
 ghost use Rattle.views.specs.declared.fault.ViewFault.TheVariants.{Output};
 
 use crate::fault::{ViewFault, unreadable};
+use crate::kept::model_path;
 use crate::streaming::{print_log, write_rest, write_run_table};
 use cli::{Format, ModelFile, SeqArgs, Settings};
 use disk::FileDisk;
@@ -151,8 +152,9 @@ where
     M: Described,
     R: Files + AllocGlobal,
 {
+    let path = model_path(rt, model).ok()?;
     // what is not an ordinary file may give its bytes once
-    if !fs::metadata(rt, model.path).ok()?.is_file() {
+    if !fs::metadata(rt, path.as_str()).ok()?.is_file() {
         return None;
     }
     let text = read_text(rt, model).ok()?;
@@ -160,10 +162,11 @@ where
     Some(Wrong { text, mistakes })
 }
 
-/// Reads a model file, and sets in its text what is set. Returns the faults of `read_bytes`, and
-/// `Setting` with the first setting that is refused.
+/// Reads a model file, or the text that a disk keeps of its model, and sets in it what is set.
+/// Returns the faults of `read_bytes`, and `Setting` with the first setting that is refused.
 fn read_text<R: Files + AllocGlobal>(rt: &R, file: ModelFile<'_>) -> Result<Vec<u8>, ViewFault> {
-    set_in(rt.alloc(), read_bytes(rt, file.path)?, file.settings)
+    let path = model_path(rt, file)?;
+    set_in(rt.alloc(), read_bytes(rt, path.as_str())?, file.settings)
 }
 
 /// Returns the text of a model file in which these values are set. A text that is not TOML stays as
@@ -188,7 +191,10 @@ fn set_in(alloc: Global, bytes: Vec<u8>, settings: Settings<'_>) -> Result<Vec<u
 
 /// Reads a file as a model file. Returns `File` if it cannot be read, is neither a plain file nor a pipe that
 /// gives bytes, or has more than 16,777,216 bytes, of which then no more are read; and `NoMemory`.
-fn read_bytes<R: Files + AllocGlobal>(rt: &R, path: &str) -> Result<Vec<u8>, ViewFault> {
+pub(crate) fn read_bytes<R>(rt: &R, path: &str) -> Result<Vec<u8>, ViewFault>
+where
+    R: Files + AllocGlobal,
+{
     let kind = fs::metadata(rt, path).map_err(unreadable)?.file_type();
     let is_pipe = kind.is_fifo();
     if !kind.is_file() && !is_pipe {
@@ -373,7 +379,7 @@ where
 }
 
 /// Returns the text of a model file. Bytes that are not UTF-8 are not TOML.
-fn text_of(bytes: &[u8]) -> Result<&str, Mistake>
+pub(crate) fn text_of(bytes: &[u8]) -> Result<&str, Mistake>
     ensures { MatchResult result (λ text. (text.now ≡ bytes.now) × IsUtf8 bytes.now)
         (λ mistake. ¬ (IsUtf8 bytes.now) × (mistake ≡ Mistake.Toml)) }
 {

@@ -2,6 +2,7 @@
 //! disk, for the figures and the picture of a run, and on its trace. None of them needs a session.
 #![tactic(auto)]
 
+mod apart;
 mod beginnings;
 mod differing;
 mod drawing;
@@ -9,6 +10,7 @@ mod fault;
 mod files;
 mod histograms;
 mod info;
+mod kept;
 mod levels;
 mod looking;
 mod looks;
@@ -20,11 +22,13 @@ mod streaming;
 mod tables;
 mod totals;
 
+pub use apart::{apart_of, difference_in};
 pub use beginnings::{Beginning, Begun, events_before_origin, front_of, write_believed_line};
 pub use differing::{Difference, Identity, Simulation, committed_on, difference_of, simulation_in};
 pub use fault::{SegmentFault, ViewFault, unreadable};
 pub use files::{
     ModelText, Wrong, check, mistakes_of, open_disk, read_model_file, read_model_text, seq,
 };
+pub use kept::{keeper_of, kept_name, model_path};
 pub use looks::{Look, look_at};
 pub use reading::Shows;

@@ -9,11 +9,11 @@ pub returns-in-Ok-clause-ok : goal.returns-in-Ok-clause-ok
 returns-in-Ok-clause-ok g c =
     prints_written (IsNewSegment (g.M.Model.meaning) (g.M.Described.says) c.args.args.sectors) (segment_text c.args.args.sectors c.in_ok-front.front.g (events_before c.in_ok-front.front.numbers (length c.in_ok-front.front.pending)))
     (record {
-      source = c.in_ok-of.ensures.file.0;
-      model = c.in_ok-of.of;
-      end = c.in_ok-of.end;
+      source = c.in_ok-read.read.text.items;
+      model = c.in_ok-read.read.model;
+      end = c.in_ok-read.read.end;
       world = world_of c.in_ok-front.front;
-      file = c.in_ok-of.ensures.file.1;
+      file = c.in_ok-read.ensures.file;
       front = c.in_ok-front.ensures.front;
       is = refl;
     }) c.write_segment.result c.write_segment.ensures.written
@@ -22,11 +22,11 @@ pub returns-in-Ok-clause-err : goal.returns-in-Ok-clause-err
 returns-in-Ok-clause-err g c =
     begins_written (IsNewSegment (g.M.Model.meaning) (g.M.Described.says) c.args.args.sectors) (segment_text c.args.args.sectors c.in_ok-front.front.g (events_before c.in_ok-front.front.numbers (length c.in_ok-front.front.pending)))
     (record {
-      source = c.in_ok-of.ensures.file.0;
-      model = c.in_ok-of.of;
-      end = c.in_ok-of.end;
+      source = c.in_ok-read.read.text.items;
+      model = c.in_ok-read.read.model;
+      end = c.in_ok-read.read.end;
       world = world_of c.in_ok-front.front;
-      file = c.in_ok-of.ensures.file.1;
+      file = c.in_ok-read.ensures.file;
       front = c.in_ok-front.ensures.front;
       is = refl;
     }) _ c.write_segment.result c.write_segment.ensures.written
