@@ -1,6 +1,5 @@
 -- The values of a word of messages, and how many are in each bin.
 use Rattle.std.specs.List.{filter}
-use Rattle.std.specs.Prelude.{if◌then◌else◌}
 use Rattle.std.proofs.Common.{◌≡◌, ◌+◌, ◌-◌, ◌*◌, ◌/◌, ◌<◌, ◌≤◌, ◌++◌, ◌∷◌, [], ℕ, Bool, List, ap, append_assoc, arith, false, get_or, length, map, min, refl, subst, suc, sym, take, true, zero, ◌∙◌}
 use Rattle.std.proofs.Math.Nat.{div-lt_iff_lt-mul, lt-div-mul-add, lt-mul-div-succ}
 use Rattle.std.proofs.Math.Seq.{drop-append_seam}

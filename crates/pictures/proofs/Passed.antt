@@ -5,12 +5,12 @@ use Rattle.std.proofs.Common.{ap, append_assoc, arith, refl, subst, sym, ◌∙�
 use Rattle.std.proofs.lemmas.Bool.{cond-true}
 use Rattle.std.proofs.lemmas.List.{append-nil}
 use Rattle.eventkey.specs.Message.{Message}
-use Rattle.model.proofs.Steps.{Reaches-at_time, Reaches-sooner, Reaches_logged, Reaches_time}
+use Rattle.model.proofs.Steps.{Reaches-sooner, Reaches_logged, Reaches_time}
 use Rattle.model.proofs.Worlds.{Reaches-append, log_goes_on, step_is}
 use Rattle.model.specs.Meaning.{Meaning}
 use Rattle.model.specs.Runner.{IsRun, RunsTo, is_due}
 use Rattle.model.specs.World.{IsUpto, Reaches, World, at_time, can_handle, handled, opening, step, step_from}
-use Rattle.pictures.specs.Stepping.{IsPassed, comes_before, with_log, without_log}
+use Rattle.pictures.specs.Stepping.{IsPassed, comes_before, with_log}
 
 -- 1. The first pending message
 

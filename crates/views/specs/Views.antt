@@ -263,7 +263,7 @@ picture_text false run view = drawing_text run view
 -- the tick before which a picture needs to know a run: where the picture ends, if that is asked for
 abbrev pub needed_to : Option ℕ → Option ℕ → ℕ
 needed_to from None = 2 ^ 64 - 1
-needed_to from (Some to) = max (unwrap_or from 0) to
+needed_to from (Some to) = max to (unwrap_or from 0)
 
 -- The picture of a run, of which what comes behind the picture's end is not simulated.
 pub record IsDrawn {M S : Type 0} (meaning : M → Meaning) (says : Describes M) (disk : Option S)

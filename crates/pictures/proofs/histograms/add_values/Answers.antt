@@ -1,4 +1,4 @@
-use Rattle.std.proofs.Common.{◌≡◌, ◌+◌, ◌∙◌, ◌++◌, List, ℕ, ap, arith, false, refl, subst, sym, take, true}
+use Rattle.std.proofs.Common.{◌+◌, ◌∙◌, ◌++◌, List, ℕ, ap, arith, false, subst, sym, take, true}
 use Rattle.std.proofs.lemmas.List.{take_all}
 use Rattle.pictures.specs.Histograms.{is_of_sort, values_of}
 use Rattle.pictures.specs.Tallies.{IsTally}

@@ -1,4 +1,4 @@
-use Rattle.std.proofs.Common.{◌≡◌, ◌≤◌, ◌∙◌, ap, arith, drop, length, min, refl, subst, sym}
+use Rattle.std.proofs.Common.{◌∙◌, ap, arith, drop, length, min, subst}
 use Rattle.model.specs.Runner.{IsRun}
 use Rattle.pictures.proofs.Binned.{longer, tallied_forgotten, tallied_more, tallied_open}
 use Rattle.pictures.proofs.histograms.tally_most.Goals as goal

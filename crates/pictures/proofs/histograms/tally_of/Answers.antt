@@ -1,4 +1,4 @@
-use Rattle.std.proofs.Common.{◌≡◌, ◌≤◌, ◌∙◌, ap, arith, drop, length, min, refl, subst, sym}
+use Rattle.std.proofs.Common.{◌∙◌, ap, arith, drop, length, min, subst}
 use Rattle.model.specs.Runner.{RunsTo}
 use Rattle.pictures.proofs.Binned.{longer, tallied_whole}
 use Rattle.pictures.proofs.histograms.tally_of.Goals as goal

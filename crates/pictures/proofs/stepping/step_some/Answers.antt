@@ -1,4 +1,4 @@
-use Rattle.std.proofs.Common.{◌≡◌, ◌≤◌, ◌∙◌, ap, arith, false, min, refl, subst, sym, true}
+use Rattle.std.proofs.Common.{◌≡◌, ◌≤◌, ◌∙◌, ap, arith, false, min, subst, sym, true}
 use Rattle.model.proofs.Runs.{left_over, run_more, step_below, went}
 use Rattle.model.specs.Runner.{IsIdle, is_due}
 use Rattle.pictures.proofs.Passed.{first_due}

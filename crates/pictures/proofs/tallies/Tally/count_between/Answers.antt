@@ -12,4 +12,4 @@ overflow_add-count c =
     let chosen = sym c.is_between.ensures ∙ c.if-is_between.true in
     let there : is_between c.args.from c.args.to (get_or values i 0) ≡ true = ap (λ vs. is_between c.args.from c.args.to (get_or vs i 0)) (sym e) ∙ chosen in
     let fits = filter_fits_at (is_between c.args.from c.args.to) values i c.loop-value.count here there c.loop-value.invariant in
-    omega (arith, fits, c.args.self.now.ranking.values.len)
+    omega (arith, fits)
