@@ -97,7 +97,10 @@ fn add_sends(
     let sorted = scope.has_sort();
     'tokens: for (i, token) in draft.tokens.iter().enumerate() {
         if *token == Token::Mark(Mark::Send) {
-            let behind = draft.tokens.split_at(i.saturating_add(1).min(draft.tokens.len())).1;
+            let behind = draft
+                .tokens
+                .split_at(i.saturating_add(1).min(draft.tokens.len()))
+                .1;
             if let Some(refusal) = wrong_send(sorted, behind) {
                 let places = &draft.places;
                 let mistake = mistake_at(alloc, scope, text, places, &draft.tokens, refusal)?;

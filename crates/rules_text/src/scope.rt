@@ -271,7 +271,9 @@ impl Scope {
     /// The kind that begins with this process, by its name.
     pub(crate) fn kind_of(&self, own: u32) -> Option<&[u8]> {
         'entries: for entry in &self.entries {
-            if let Token::Kind(first, _) = entry.token && first == own {
+            if let Token::Kind(first, _) = entry.token
+                && first == own
+            {
                 return Some(entry.name.as_slice());
             }
         }

@@ -198,7 +198,12 @@ fn is_kind(kind: &Value, name: &[u8]) -> bool
 }
 
 /// Returns a copy of kinds in which the count of the first one of this name is set.
-fn with_count(alloc: Global, kinds: &[Value], name: &[u8], text: &str) -> Result<Vec<Value>, Refusal>
+fn with_count(
+    alloc: Global,
+    kinds: &[Value],
+    name: &[u8],
+    text: &str,
+) -> Result<Vec<Value>, Refusal>
     ensures ok { IfOk result (λ new.
         IsCountAmong name.now text.now (items_view kinds.now) (array_view new)) }
     ensures unknown { result ≡ Err Refusal.NoSuchKey →
@@ -217,7 +222,12 @@ fn with_count(alloc: Global, kinds: &[Value], name: &[u8], text: &str) -> Result
 }
 
 /// Returns a copy of values with this one at a place.
-fn with_item(alloc: Global, values: &[Value], place: usize, new: Value) -> Result<Vec<Value>, Refusal>
+fn with_item(
+    alloc: Global,
+    values: &[Value],
+    place: usize,
+    new: Value,
+) -> Result<Vec<Value>, Refusal>
     requires { place < length values.now }
     ensures ok { IfOk result (λ all. array_view all
         ≡ items_of (slice_set (map view values.now) place (view new))) }
