@@ -142,7 +142,8 @@ where
     }
     let mut bytes = Vec::new(rt.alloc());
     let file = fs::open(rt, path)?;
-    file.take((most as u64).saturating_add(1)).read_to_end(&mut bytes)?;
+    file.take((most as u64).saturating_add(1))
+        .read_to_end(&mut bytes)?;
     Ok(Some(bytes))
 }
 

@@ -17,8 +17,8 @@ use cli::{DiskArgs, MigrateArgs, NewArgs, most_sectors};
 use commands::Simulated;
 use disk::FileDisk;
 use disk_commands::{
-    Fault, Keeping, NewFile, SystemErrors, disk_with_log, is_blank, open_new, open_old, refuse_contents,
-    text_to_keep,
+    Fault, Keeping, NewFile, SystemErrors, disk_with_log, is_blank, open_new, open_old,
+    refuse_contents, text_to_keep,
 };
 use model::Continued;
 use std::alloc::Global;

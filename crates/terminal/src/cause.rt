@@ -442,10 +442,7 @@ where
         Command::Check(args) => first(rt, &[Step::ReadsModel(args.model)]),
         Command::Node(args) => first(
             rt,
-            &[
-                Step::ReadsModel(args.model),
-                Step::Connects(args.socket),
-            ],
+            &[Step::ReadsModel(args.model), Step::Connects(args.socket)],
         ),
     }
 }
@@ -513,10 +510,7 @@ fn first_of_writer<'a, R: Files<File = File>>(rt: &R, args: DiskArgs<'a>) -> Opt
     let most = most_sectors(args.large);
     first(
         rt,
-        &[
-            Step::ReadsModel(args.model),
-            Step::Writes(args.disk, most),
-        ],
+        &[Step::ReadsModel(args.model), Step::Writes(args.disk, most)],
     )
 }
 
@@ -525,10 +519,7 @@ fn first_of_reader<'a, R: Files<File = File>>(rt: &R, args: DiskArgs<'a>) -> Opt
     let most = most_sectors(args.large);
     first(
         rt,
-        &[
-            Step::ReadsModel(args.model),
-            Step::LooksAt(args.disk, most),
-        ],
+        &[Step::ReadsModel(args.model), Step::LooksAt(args.disk, most)],
     )
 }
 
@@ -602,10 +593,7 @@ fn first_of_begun<'a, R: Files<File = File>>(rt: &R, args: RunArgs<'a>) -> Optio
     if args.create && !fs::exists(rt, disk).unwrap_or(true) {
         first(
             rt,
-            &[
-                Step::ReadsModel(model),
-                Step::Makes(disk, args.sectors),
-            ],
+            &[Step::ReadsModel(model), Step::Makes(disk, args.sectors)],
         )
     } else {
         first_of_writer(rt, args.on)

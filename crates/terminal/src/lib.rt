@@ -9,7 +9,8 @@ mod progress;
 mod tracing;
 
 pub use cause::{
-    Cause, Held, Refusal, Unmet, cause_of, cause_of_device, cause_of_kept, cause_of_refusal, is_locked,
+    Cause, Held, Refusal, Unmet, cause_of, cause_of_device, cause_of_kept, cause_of_refusal,
+    is_locked,
 };
 pub use hints::{Hint, Way, Work, hint_of};
 pub use paths::{Place, are_one_file, is_elsewhere, place_of};
