@@ -116,6 +116,7 @@ class Model:
     numbers: dict
     tables: dict
     sorts: dict                   # name -> number
+    widths: dict                  # name of a sort -> how many words stand behind its number
     fields: dict                  # name -> place
     kinds: list
 
@@ -143,17 +144,18 @@ def read_state(items):
 
 
 def read_sorts(table):
-    sorts, fields = {}, {}
+    sorts, widths, fields = {}, {}, {}
     if not isinstance(table, dict) or len(table) > 1024:
         raise Refused("messages is no table of at most 1024 sorts")
     for place, (name, words) in enumerate(sorted(table.items(), key=lambda entry: entry[0].encode())):
         if not is_name(name):
             raise Refused(f"{name!r} is no name of a sort")
         sorts[name] = place
-        for at, word in enumerate(names(words, 3), 1):
+        widths[name] = len(names(words, 3))
+        for at, word in enumerate(words, 1):
             if word != "_" and fields.setdefault(word, at) != at:
                 raise Refused(f"{word} has two places")
-    return sorts, fields
+    return sorts, widths, fields
 
 
 def read_kind(table, name, first, count, sorted_):
@@ -190,7 +192,7 @@ def read(text):
     if file.get("model") != "rules":
         raise Refused("another model")
     has_kinds = "kind" in file
-    sorts, fields = read_sorts(file["messages"]) if "messages" in file else ({}, {})
+    sorts, widths, fields = read_sorts(file["messages"]) if "messages" in file else ({}, {}, {})
     kinds = []
     if has_kinds:
         only(file, "model", "end", "seed", "messages", "numbers", "tables", "kind")
@@ -218,7 +220,7 @@ def read(text):
     if ("seed" in file) != keyed:
         raise Refused("a seed without a key, or a key without a seed")
     model = Model(lps, number(file.get("end"), 1, 2**40), number(file.get("seed", 0)), keyed, has_kinds, named(file.get("numbers", {}), False),
-                  named(file.get("tables", {}), True), sorts, fields, kinds)
+                  named(file.get("tables", {}), True), sorts, widths, fields, kinds)
     if lps > 65536 or sum(map(len, model.tables.values())) > 2**20:
         raise Refused("too many processes or numbers")
     for kind in kinds:
@@ -267,6 +269,7 @@ class Reader:
         self.words = [word for word in kind.state if word != "key" and word not in kind.arrays]
         self.content = {name: place for place, name in enumerate(kind.content + LETTERS[len(kind.content):])} | model.fields
         self.kinds = {other.name: other for other in model.kinds} if model.has_kinds else {}
+        self.bare = False             # whether `self` would be a process: in a receiver, outside of [ ]
 
     def next(self):
         if not self.left:
@@ -308,10 +311,31 @@ class Reader:
         return x
 
     def index(self, depth):
+        bare, self.bare = self.bare, False
         self.want("[")
         x = self.value(depth - 1)
         self.want("]")
+        self.bare = bare
         return x
+
+    def receiver(self, depth):
+        self.bare = True
+        x = self.value(depth)
+        self.bare = False
+        return x
+
+    def content_of_sort(self, depth):
+        """Reads the content of a message of a sort: its name, and as many words as it has."""
+        self.want("with")
+        sort = self.next()
+        if sort not in self.model.sorts:
+            raise Refused("a message without a sort")
+        words = [("number", self.model.sorts[sort])]
+        while self.has(","):
+            words.append(self.value(depth))
+        if len(words) != 1 + self.model.widths[sort]:
+            raise Refused(f"{sort} has {self.model.widths[sort]} words")
+        return words
 
     def single(self, depth):
         if depth == 0:
@@ -366,6 +390,8 @@ class Reader:
                 return ("number", kind.count)
             return ("+", ("number", kind.first), ("%", self.index(depth), ("number", kind.count)))
         if name == "self" and self.model.has_kinds:
+            if self.bare:
+                raise Refused("a place in place of a process")
             return ("-", ("known", "self"), ("number", self.kind.first))
         if name in ("self", "sender", "now", "lps"):
             return ("known", name)
@@ -403,10 +429,12 @@ class Reader:
                 return ("let", name, x)
             case "send":
                 self.want("to")
-                values = [self.value(depth)]
+                values = [self.receiver(depth)]
                 self.want("after")
                 values.append(self.value(depth))
-                if self.has("with"):
+                if self.model.sorts:
+                    values += self.content_of_sort(depth)
+                elif self.has("with"):
                     values.append(self.value(depth))
                     while len(values) < 6 and self.has(","):
                         values.append(self.value(depth))
@@ -416,7 +444,7 @@ class Reader:
             case "repeat":
                 name = self.new_name()
                 count = self.next()
-                count = self.model.numbers.get(count, self.model.sorts.get(count)) if isinstance(count, str) else count
+                count = self.model.numbers.get(count) if isinstance(count, str) else count
                 if count is None or count >= 2**32:
                     raise Refused("no count")
                 if self.peek() == "until" and not self.is_used("until"):

@@ -48,10 +48,10 @@ number_names ns = map (λ n. (n.0, t.Number (value_of n.1))) ns
 abbrev pub array_names : List (List ℕ × Array) → List (List ℕ × Token)
 array_names arrays = map (λ a. (a.0, t.Array a.1)) arrays
 
--- the sorts of messages, by their numbers
+-- the sorts of messages, by their numbers, and how many words each has behind its number
 abbrev pub sorts_from : ℕ → List (List ℕ × List (List ℕ)) → List (List ℕ × Token)
 sorts_from i [] = []
-sorts_from i (sort ∷ sorts) = (sort.0, token_meant (w.Sort i)) ∷ sorts_from (i + 1) sorts
+sorts_from i (sort ∷ sorts) = (sort.0, token_meant (w.Sort i (length sort.1))) ∷ sorts_from (i + 1) sorts
 
 abbrev pub field_names : List (List ℕ × ℕ) → List (List ℕ × Token)
 field_names fields = map (λ f. (f.0, t.Content f.1)) fields

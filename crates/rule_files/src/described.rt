@@ -725,7 +725,7 @@ fn mistakes_of(
     for (place, other) in all.iter().enumerate() {
         if place > 0 {
             let (line, column, kind) = (other.line, other.column, &other.kind);
-            let more = format!(in alloc; "; line {line}, column {column}: {kind}")?;
+            let more = format!(in alloc; "; line {line} of the rule, column {column}: {kind}")?;
             why.push_str(more.as_str())?;
         }
     }

@@ -201,7 +201,10 @@ fn add_sorts(alloc: Global, names: &mut Dictionary, more: &[NamedSort]) -> Resul
             alloc,
             names,
             sort.name.as_str(),
-            Meaning::Sort(number as u64),
+            Meaning::Sort {
+                number: number as u64,
+                words: sort.fields.len(),
+            },
         )?;
     }
     Ok(())

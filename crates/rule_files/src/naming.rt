@@ -635,7 +635,9 @@ const KIND_NAME: &str = "name";
 /// Returns why a name is at fault that the file gives to something else too, in this list.
 fn also_in(alloc: Global, name: &str, list: &str) -> Result<String, AllocError> {
     match list {
-        "" => format!(in alloc; "{name:?} is also the name of a word of a message"),
+        "" => format!(in alloc;
+            "{name:?} is also the name of a word of a message, which are a, b, c and d where they have no names"
+        ),
         KIND_NAME => format!(in alloc; "{name:?} is also the name of a kind"),
         _ => format!(in alloc; "{name:?} is also a name in {list}"),
     }

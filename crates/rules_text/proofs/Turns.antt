@@ -4,6 +4,7 @@ use Rattle.std.specs.Prelude.{IfSome}
 use Rattle.rules.specs.declared.tree.Statement.{Statement}
 use Rattle.rules_text.specs.declared.stop.Stop.{Stop}
 use Rattle.rules_text.specs.declared.stop.Stop.TheVariants.{Memory, Refused}
+use Rattle.rules_text.specs.declared.token.Sort.{Sort}
 use Rattle.rules_text.specs.declared.token.Token.{Token}
 use Rattle.rules_text.specs.Reading.{◌>>=◌, Fails}
 use Rattle.rules_text.specs.ReadingStatements.{Done, Reads, begins, block_at, case_at, case_with, choice_at, choice_with, in_braces, row, statements_at, with_name}
@@ -81,7 +82,7 @@ pub choice_more : (n d : ℕ) (names : List ℕ) (ts : List Token) → (n ≡ 0 
 choice_more zero d names ts some = absurd (some refl)
 choice_more (suc n) d names ts some = let less : n ≡ suc n - 1 = omega arith in ap (λ k. choice_with d (block_at k d) (choice_at k d) names ts) less
 
-pub case_more : (n d sort : ℕ) (names : List ℕ) (ts : List Token) → (n ≡ 0 → ⊥) → case_at n d sort names ts ≡ case_with (block_at (n - 1) d) (case_at (n - 1) d) sort names ts
+pub case_more : (n d : ℕ) (sort : Sort) (names : List ℕ) (ts : List Token) → (n ≡ 0 → ⊥) → case_at n d sort names ts ≡ case_with (block_at (n - 1) d) (case_at (n - 1) d) sort names ts
 case_more zero d sort names ts some = absurd (some refl)
 case_more (suc n) d sort names ts some = let less : n ≡ suc n - 1 = omega arith in ap (λ k. case_with (block_at k d) (case_at k d) sort names ts) less
 

@@ -1,5 +1,5 @@
 -- The text of a rule is read just where it is one.
-use Rattle.std.proofs.Common.{Vec, Global, [], ◌≡◌, ◌≤◌, ℕ, List, Option, Some, None, Result, Ok, Err, false, ltb, length, sym, ap, ◌∙◌, subst, arith, if◌then◌else◌, inl, inr}
+use Rattle.std.proofs.Common.{Vec, Global, [], ◌≡◌, ◌≤◌, ℕ, List, Option, Some, None, Result, Ok, Err, Bool, true, false, ltb, length, sym, ap, ◌∙◌, subst, arith, if◌then◌else◌, inl, inr}
 use Rattle.std.proofs.lemmas.Bool.{cases_Bool}
 use Rattle.std.proofs.lemmas.Bool.Decides.{nat_tests}
 use Rattle.std.specs.Prelude.{IfOk}
@@ -9,9 +9,11 @@ use Rattle.rules_text.specs.declared.lexemes.Placed.{Placed}
 use Rattle.rules_text.specs.Lexical.{Splits, lexemes_at}
 use Rattle.rules_text.specs.Reading.{◌>>=◌, Gives}
 use Rattle.rules_text.specs.ReadingStatements.{rule_at}
-use Rattle.rules_text.specs.Scopes.{Dictionary, tokens_of}
-use Rattle.rules_text.specs.Statements.{Acts}
-use Rattle.rules_text.specs.Texts.{IsRule, read_at}
+use Rattle.rules_text.specs.Scopes.{Dictionary, has_sort, tokens_of}
+use Rattle.rules_text.specs.Sends.{are_right}
+use Rattle.rules_text.specs.Statements.{Acts, SpellsRule}
+use Rattle.rules_text.specs.Texts.{IsRule, formed_at, read_at}
+use Rattle.rules_text.specs.declared.token.Token.{Token}
 use Rattle.rules_text.proofs.Lexes.{split_is, split_only}
 use Rattle.rules_text.proofs.StatementsComplete.{rule_is}
 use Rattle.rules_text.proofs.StatementsSound.{rule_only}
@@ -22,25 +24,39 @@ not_long n h = grind (arith, nat_tests)
 is_short : (n : ℕ) → ltb 65536 n ≡ false → n ≤ 65536
 is_short n h = grind (arith, nat_tests)
 
+formed_is : (sorted : Bool) (acts : Acts) (tokens : List Token) → are_right sorted tokens ≡ true → SpellsRule acts tokens → formed_at sorted tokens ≡ Some acts
+unfolding formed_at
+formed_is sorted acts tokens right spelled = ap (λ b. if b then rule_at tokens else None) right ∙ rule_is acts tokens spelled
+
+formed_only : (sorted : Bool) (acts : Acts) (tokens : List Token) → formed_at sorted tokens ≡ Some acts → SpellsRule acts tokens × (are_right sorted tokens ≡ true)
+unfolding formed_at
+formed_only sorted acts tokens e = elim (cases_Bool (are_right sorted tokens)) [
+  | inl right ↦ (rule_only acts tokens (ap (λ b. if b then rule_at tokens else None) (sym right) ∙ e), right)
+  | inr wrong ↦
+      let here : ◌≡◌ {A = Option Acts} None (Some acts) = ap (λ b. if b then rule_at tokens else None) (sym wrong) ∙ e in
+      absurd cc
+]
+
 pub read_is : (scope : Dictionary) (text : List ℕ) (acts : Acts) → IsRule scope text acts → read_at scope text ≡ Some acts
 unfolding read_at
 read_is scope text acts rule =
-    ap (λ b. if b then None else (lexemes_at text >>= λ lexemes. rule_at (tokens_of scope text lexemes))) (not_long (length text) rule.short)
-    ∙ ap (λ r. r >>= λ lexemes. rule_at (tokens_of scope text lexemes)) (split_is text rule.lexemes rule.split)
-    ∙ rule_is acts (tokens_of scope text rule.lexemes) rule.spelled
+    ap (λ b. if b then None else (lexemes_at text >>= λ lexemes. formed_at (has_sort scope) (tokens_of scope text lexemes))) (not_long (length text) rule.short)
+    ∙ ap (λ r. r >>= λ lexemes. formed_at (has_sort scope) (tokens_of scope text lexemes)) (split_is text rule.lexemes rule.split)
+    ∙ formed_is (has_sort scope) acts (tokens_of scope text rule.lexemes) rule.right rule.spelled
 
 pub read_only : (scope : Dictionary) (text : List ℕ) (acts : Acts) → read_at scope text ≡ Some acts → IsRule scope text acts
 unfolding read_at
 read_only scope text acts e = elim (cases_Bool (ltb 65536 (length text))) [
   | inl long ↦
       let here : ◌≡◌ {A = Option Acts} None (Some acts) =
-      ap (λ b. if b then None else (lexemes_at text >>= λ lexemes. rule_at (tokens_of scope text lexemes))) (sym long) ∙ e in
+      ap (λ b. if b then None else (lexemes_at text >>= λ lexemes. formed_at (has_sort scope) (tokens_of scope text lexemes))) (sym long) ∙ e in
       absurd cc
   | inr short ↦
-      let here : (lexemes_at text >>= λ lexemes. rule_at (tokens_of scope text lexemes)) ≡ Some acts =
-      ap (λ b. if b then None else (lexemes_at text >>= λ lexemes. rule_at (tokens_of scope text lexemes))) (sym short) ∙ e in
-      let a = bind_some (lexemes_at text) (λ lexemes. rule_at (tokens_of scope text lexemes)) acts here in
-      record { short = is_short (length text) short; lexemes = a.0; split = split_only text a.0 a.1; spelled = rule_only acts (tokens_of scope text a.0) a.2 }
+      let here : (lexemes_at text >>= λ lexemes. formed_at (has_sort scope) (tokens_of scope text lexemes)) ≡ Some acts =
+      ap (λ b. if b then None else (lexemes_at text >>= λ lexemes. formed_at (has_sort scope) (tokens_of scope text lexemes))) (sym short) ∙ e in
+      let a = bind_some (lexemes_at text) (λ lexemes. formed_at (has_sort scope) (tokens_of scope text lexemes)) acts here in
+      let formed = formed_only (has_sort scope) acts (tokens_of scope text a.0) a.2 in
+      record { short = is_short (length text) short; lexemes = a.0; split = split_only text a.0 a.1; spelled = formed.0; right = formed.1 }
 ]
 
 -- nothing is formed where nothing is read

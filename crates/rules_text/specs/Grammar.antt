@@ -135,7 +135,7 @@ leaf names (t.Known known) = Some (Read known)
 leaf names (t.Word i) = Some (Word i)
 leaf names (t.Content i) = Some (Content i)
 leaf names (t.Own first) = Some (own_place first)
-leaf names (t.Sort n) = Some (Number n)
+leaf names (t.Sort sort) = Some (Number sort.number)
 leaf names (t.Name name) = local_at (place_of name names)
 leaf names _ = None
 

@@ -4,4 +4,5 @@ pub mod Statements
 pub mod ReadingStatements
 pub mod Lexical
 pub mod Scopes
+pub mod Sends
 pub mod Texts

@@ -36,7 +36,7 @@ token_meant (w.Number n) = t.Number n
 token_meant (w.Table place) = t.Table place
 token_meant (w.Array array) = t.Array array
 token_meant (w.Kind first count) = t.Kind first count
-token_meant (w.Sort n) = t.Sort n
+token_meant (w.Sort number words) = t.Sort (record { number = number; words = words })
 
 -- the words of the language
 abbrev pub statement_word : List ℕ → Option Token
@@ -90,6 +90,18 @@ or_else (Some token) other = Some token
 -- a word that may be part of a value
 unfoldable pub value_word : Bool → Option ℕ → List ℕ → Option Token
 value_word draws own name = or_else (with_draws draws (drawing_word name)) (known_word own name)
+
+abbrev pub is_sort : Token → Bool
+is_sort (t.Sort sort) = true
+is_sort _ = false
+
+abbrev pub any_sort : List (List ℕ × Token) → Bool
+any_sort [] = false
+any_sort (e ∷ es) = if is_sort e.1 then true else any_sort es
+
+-- whether the model has sorts of messages
+abbrev pub has_sort : Dictionary → Bool
+has_sort scope = any_sort scope.entries
 
 abbrev pub lookup : List ℕ → List (List ℕ × Token) → Option Token
 lookup name [] = None

@@ -1,20 +1,23 @@
 -- Which text is which rule.
-use Rattle.std.specs.Prelude.{◌≡◌, ℕ, ◌≤◌, List, Option, None, Result, Ok, Err, length, nat_lt, if◌then◌else◌}
+use Rattle.std.specs.Prelude.{◌≡◌, ℕ, ◌≤◌, List, Option, None, Bool, true, Result, Ok, Err, length, nat_lt, if◌then◌else◌}
 use Rattle.rules_text.specs.declared.lexemes.Placed.{Placed}
 use Rattle.rules_text.specs.declared.read.ReadError.{ReadError}
 use Rattle.rules_text.specs.declared.read.ReadError.TheVariants.{Memory, Mistaken}
+use Rattle.rules_text.specs.declared.token.Token.{Token}
 use Rattle.rules_text.specs.Lexical.{Splits, lexemes_at}
 use Rattle.rules_text.specs.Reading.{◌>>=◌}
 use Rattle.rules_text.specs.ReadingStatements.{rule_at}
-use Rattle.rules_text.specs.Scopes.{Dictionary, tokens_of}
+use Rattle.rules_text.specs.Scopes.{Dictionary, has_sort, tokens_of}
+use Rattle.rules_text.specs.Sends.{are_right}
 use Rattle.rules_text.specs.Statements.{Acts, SpellsRule}
 
--- the text, of at most 65,536 bytes, is the rule: what its lexemes mean in the scope forms these statements
+-- the text, of at most 65,536 bytes, is the rule: what its lexemes mean in the scope forms these statements, and each `send` among them is right
 pub record IsRule (scope : Dictionary) (text : List ℕ) (acts : Acts) : Type 0 where
   pub short : length text ≤ 65536
   pub lexemes : List Placed
   pub split : Splits 0 text lexemes
   pub spelled : SpellsRule acts (tokens_of scope text lexemes)
+  pub right : are_right (has_sort scope) (tokens_of scope text lexemes) ≡ true
 
 -- the text is a rule
 pub record SomeRule (scope : Dictionary) (text : List ℕ) : Type 0 where
@@ -31,6 +34,10 @@ abbrev pub Yields : {X : Type 0} → (X → Acts) → Result X ReadError → Act
 Yields view (Ok x) acts = view x ≡ acts
 Yields view (Err e) acts = IsForMemory e
 
+-- the statements that tokens form, if each `send` among them is right
+unfoldable pub formed_at : (sorted : Bool) → List Token → Option Acts
+formed_at sorted tokens = if are_right sorted tokens then rule_at tokens else None
+
 -- the statements of a text, by one pass over its lexemes
 unfoldable pub read_at : Dictionary → List ℕ → Option Acts
-read_at scope text = if nat_lt 65536 (length text) then None else (lexemes_at text >>= λ lexemes. rule_at (tokens_of scope text lexemes))
+read_at scope text = if nat_lt 65536 (length text) then None else (lexemes_at text >>= λ lexemes. formed_at (has_sort scope) (tokens_of scope text lexemes))

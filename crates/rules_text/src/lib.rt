@@ -6,6 +6,7 @@ mod mending;
 mod mistakes;
 mod read;
 mod scope;
+mod sends;
 mod statements;
 mod stop;
 mod token;

@@ -6,6 +6,7 @@ ghost use Rattle.std.specs.Prelude.{◌≤◌, ◌≡◌, IfOk, OnOk, length};
 use crate::lexemes::{Placed, Run, pieces, run_length};
 use crate::mistakes::{Kind, Mistake, at, ends_statements, find_mistake, mistake_at};
 use crate::scope::Scope;
+use crate::sends::wrong_send;
 use crate::statements::{begins, rule};
 use crate::stop::{Refusal, Stop, Wanted};
 use crate::token::{Mark, Token};
@@ -66,7 +67,7 @@ fn find_more(
     };
     'turns: for _turn in 0..MOST_TURNS {
         let refusal = match rule(alloc, &draft.tokens) {
-            Ok(_) => return Ok(()),
+            Ok(_) => return add_sends(alloc, scope, text, &draft, found),
             Err(Stop::Memory) => return Err(AllocError),
             Err(Stop::Refused(refusal)) => refusal,
         };
@@ -79,6 +80,33 @@ fn find_more(
             Some(cut) => without(alloc, &draft, cut, refusal.wanted)?,
             None => return Ok(()),
         };
+    }
+    Ok(())
+}
+
+/// Adds the mistakes of sends.
+fn add_sends(
+    alloc: Global,
+    scope: &Scope,
+    text: &[u8],
+    draft: &Draft,
+    found: &mut Vec<Mistake>,
+) -> Result<(), AllocError>
+    ensures { OnOk result (length found.old.items ≤ length found.new.items) }
+{
+    let sorted = scope.has_sort();
+    'tokens: for (i, token) in draft.tokens.iter().enumerate() {
+        if *token == Token::Mark(Mark::Send) {
+            let behind = draft
+                .tokens
+                .split_at(i.saturating_add(1).min(draft.tokens.len()))
+                .1;
+            if let Some(refusal) = wrong_send(sorted, behind) {
+                let places = &draft.places;
+                let mistake = mistake_at(alloc, scope, text, places, &draft.tokens, refusal)?;
+                add(found, mistake)?;
+            }
+        }
     }
     Ok(())
 }

@@ -19,10 +19,16 @@ pub enum Kind {
     Kept(String),
     /// A name that is in use.
     InUse(String),
+    /// A word of the language in place of a new name.
+    Reserved(String),
     /// A name of `let` or `repeat` that is set.
     Fixed(String),
     /// A second comparison in a row.
     Chain,
+    /// `self` in a receiver: the kind whose process it is.
+    Place(String),
+    /// A sort with another number of words: its name, how many it has, and how many stand there.
+    Words(String, usize, usize),
     /// The text ends, where something else was expected.
     End(Wanted),
     /// Something else was expected.
@@ -143,8 +149,15 @@ fn kind_at(
     wanted: Wanted,
 ) -> Result<Kind, AllocError> {
     let name = part(text, lexeme.start, lexeme.end);
+    if let Wanted::Words(has, given) = wanted {
+        return Ok(Kind::Words(owned(alloc, name)?, has, given));
+    }
     let is_read = wanted == Wanted::Value || ends_statements(wanted);
     match *token {
+        Token::Own(own) if wanted == Wanted::Process => {
+            let kind = scope.kind_of(own).unwrap_or("KIND".as_bytes());
+            Ok(Kind::Place(owned(alloc, kind)?))
+        }
         Token::Mark(Mark::Kept) => Ok(Kind::Kept(owned(alloc, name)?)),
         Token::Name(_) if is_read => {
             let near = nearest(alloc, scope, name)?;
@@ -153,9 +166,13 @@ fn kind_at(
         Token::Sign(operator) if is_comparison(operator) && ends_statements(wanted) => Ok(
             Kind::Chain,
         ),
-        _ if lexeme.lexeme == Lexeme::Name && wanted == Wanted::NewName => Ok(Kind::InUse(owned(
-            alloc, name,
-        )?)),
+        _ if lexeme.lexeme == Lexeme::Name && wanted == Wanted::NewName => {
+            let name = owned(alloc, name)?;
+            Ok(match *token {
+                Token::Mark(_) | Token::Known(_) | Token::Own(_) => Kind::Reserved(name),
+                _ => Kind::InUse(name),
+            })
+        }
         _ => Ok(Kind::Wanted(wanted)),
     }
 }
@@ -249,6 +266,10 @@ impl fmt::Display for Kind {
                 let name = name.as_str();
                 write!(f, "the name \"{name}\" is in use")
             }
+            Kind::Reserved(name) => {
+                let name = name.as_str();
+                write!(f, "\"{name}\" is a word of the language")
+            }
             Kind::Fixed(name) => {
                 let name = name.as_str();
                 write!(
@@ -257,6 +278,15 @@ impl fmt::Display for Kind {
                 )
             }
             Kind::Chain => f.write_str("comparisons do not chain: use brackets"),
+            Kind::Place(kind) => {
+                let kind = kind.as_str();
+                write!(f, "a process of this kind is {kind}[self]")
+            }
+            Kind::Words(sort, has, given) => {
+                let sort = sort.as_str();
+                let plural = if *has == 1 { "" } else { "s" };
+                write!(f, "{sort} has {has} word{plural}, not {given}")
+            }
             Kind::End(wanted) => write!(f, "the text ends, but {wanted}"),
             Kind::Wanted(wanted) => write!(f, "{wanted}"),
         }
@@ -289,6 +319,9 @@ impl fmt::Display for Wanted {
             ),
             Wanted::LowerValue => f.write_str("this value is more than 256 operators deep"),
             Wanted::FewerNames => f.write_str("more than 16 names are in scope here"),
+            Wanted::Process => f.write_str("a process is wanted here, and self is a place"),
+            Wanted::FirstSort => f.write_str("a message begins with its sort"),
+            Wanted::Words(has, given) => write!(f, "{has} words are wanted here, not {given}"),
         }
     }
 }

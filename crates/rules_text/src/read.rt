@@ -3,14 +3,16 @@
 ghost use Rattle.std.specs.Prelude.{◌≡◌, ◌≤◌, [], IfOk, length};
 ghost use Rattle.rules_text.specs.Reading.{Gives};
 ghost use Rattle.rules_text.specs.Statements.{Acts, acts_of};
-ghost use Rattle.rules_text.specs.Texts.{IsRule, SomeRule, Yields, read_at};
+ghost use Rattle.rules_text.specs.Texts.{IsRule, SomeRule, Yields, formed_at, read_at};
 
 use crate::lexemes::pieces;
 use crate::mending::all_mistakes;
 use crate::mistakes::{Mistake, find_mistake};
 use crate::scope::Scope;
+use crate::sends::first_wrong;
 use crate::statements::rule;
 use crate::stop::{Refusal, Stop, Wanted};
+use crate::token::Token;
 use crate::words::words;
 use rules::Statement;
 use std::alloc::{AllocError, Global};
@@ -30,6 +32,18 @@ pub enum ReadError {
 /// The most bytes that a rule's text may have.
 const MOST_BYTES: usize = 65_536;
 
+/// The statements that tokens form, with each send right, or where they stop being those.
+#[tactic(auto, unfolding(crate::specs::Texts::formed_at))]
+fn formed(alloc: Global, sorted: bool, tokens: &[Token]) -> Result<Vec<Statement>, Stop>
+    ensures { Gives (λ v. acts_of v.items) result (formed_at sorted tokens.now) }
+{
+    let statements = rule(alloc, tokens)?;
+    match first_wrong(sorted, tokens) {
+        None => Ok(statements),
+        Some(refusal) => Err(Stop::Refused(refusal)),
+    }
+}
+
 /// The statements of a rule, or where it stops being one.
 #[tactic(auto, unfolding(crate::specs::Texts::read_at))]
 fn read(alloc: Global, scope: &Scope, text: &str) -> Result<Vec<Statement>, Stop>
@@ -43,15 +57,16 @@ fn read(alloc: Global, scope: &Scope, text: &str) -> Result<Vec<Statement>, Stop
     }
     let lexemes = pieces(alloc, text.as_bytes())?;
     let tokens = words(alloc, scope, text.as_bytes(), &lexemes)?;
-    rule(alloc, &tokens)
+    formed(alloc, scope.has_sort(), &tokens)
 }
 
 /// The statements that a rule's text means in this scope.
 ///
 /// # Errors
 ///
-/// `Mistaken` just where the text is no rule: it has more than 65,536 bytes, is not of names, numbers and signs, or
-/// is not by the grammar, with a place and what was expected there.
+/// `Mistaken` just where the text is no rule: it has more than 65,536 bytes, is not of names, numbers and signs, is
+/// not by the grammar, or has a `send` whose receiver is no process (`self` of a kind outside `[ ]`) or whose content is
+/// not a sort and its words, where there are sorts; with a place and what was expected there.
 pub fn read_rule(alloc: Global, scope: &Scope, text: &str) -> Result<Vec<Statement>, ReadError>
     // What is read is what the text means.
     ensures found { IfOk result (λ v. IsRule scope.now text.now (acts_of v.items)) }

@@ -4,11 +4,11 @@ ghost use Rattle.std.specs.Prelude.{◌≡◌, [], None, Some, IsSome, OnErr, On
 ghost use Rattle.std.specs.Result.{IsErrOf};
 ghost use Rattle.std.specs.Str.{bytes_eq};
 ghost use Rattle.rules_text.specs.Lexical.{is_name};
-ghost use Rattle.rules_text.specs.Scopes.{dictionary_of, drawing_word, entries_of, lookup, meaning, statement_word, token_meant, value_word, with_entry};
+ghost use Rattle.rules_text.specs.Scopes.{dictionary_of, drawing_word, any_sort, entries_of, has_sort, lookup, meaning, statement_word, token_meant, value_word, with_entry};
 ghost use Rattle.rules_text.specs.declared.scope.ScopeError.TheVariants.{Memory, InUse, NotAName};
 
 use crate::lexemes::is_whole_name;
-use crate::token::{Mark, Token};
+use crate::token::{Mark, Sort, Token};
 use rules::{Array, Known, Law};
 use std::alloc::{AllocError, AllocFailed, Global};
 use thiserror::Error;
@@ -33,8 +33,13 @@ pub enum Meaning {
         /// How many there are; they follow each other.
         count: u32,
     },
-    /// A sort of messages, by its number.
-    Sort(u64),
+    /// A sort of messages.
+    Sort {
+        /// Its number, the first word of a message.
+        number: u64,
+        /// How many words stand behind its number.
+        words: usize,
+    },
 }
 
 impl Meaning {
@@ -48,7 +53,7 @@ impl Meaning {
             Meaning::Table(place) => Token::Table(place),
             Meaning::Array(array) => Token::Array(array),
             Meaning::Kind { first, count } => Token::Kind(first, count),
-            Meaning::Sort(n) => Token::Sort(n),
+            Meaning::Sort { number, words } => Token::Sort(Sort { number, words }),
         }
     }
 }
@@ -257,19 +262,40 @@ impl Scope {
     }
 
     /// Whether a sort of messages was added.
-    pub(crate) fn has_sort(&self) -> bool {
+    pub(crate) fn has_sort(&self) -> bool
+        ensures { result ≡ has_sort self.now }
+    {
+        any_sort(&self.entries)
+    }
+
+    /// The kind that begins with this process, by its name.
+    pub(crate) fn kind_of(&self, own: u32) -> Option<&[u8]> {
         'entries: for entry in &self.entries {
-            if matches!(entry.token, Token::Sort(_)) {
-                return true;
+            if let Token::Kind(first, _) = entry.token
+                && first == own
+            {
+                return Some(entry.name.as_slice());
             }
         }
-        false
+        None
     }
 
     /// How many names were added.
     pub(crate) fn count(&self) -> usize {
         self.entries.len()
     }
+}
+
+/// Whether one of the names is that of a sort.
+fn any_sort(entries: &[Entry]) -> bool
+    ensures { result ≡ any_sort (entries_of entries.now) }
+{
+    'entries: for entry in entries {
+        if let Token::Sort(_) = entry.token {
+            return true;
+        }
+    }
+    false
 }
 
 /// What a name means among those that were added.

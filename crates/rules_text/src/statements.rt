@@ -7,7 +7,7 @@ ghost use Rattle.rules_text.specs.ReadingStatements.{assignment as assignment_at
 ghost use Rattle.rules_text.specs.Statements.{If, Repeat, RepeatUntil, act_of, acts_of, is_of_sort as is_of};
 
 use crate::stop::{Stop, Wanted, refused};
-use crate::token::{Mark, Token};
+use crate::token::{Mark, Sort, Token};
 use crate::values::{Reads, behind, expect, first, place, value};
 use crate::words::{ON, UNTIL};
 use rules::{Array, Expression, Operator, Sending, Statement};
@@ -38,12 +38,16 @@ pub(crate) fn rule(alloc: Global, tokens: &[Token]) -> Result<Vec<Statement>, St
 }
 
 /// The sort behind `on`, where they come first, and the tokens after it.
-fn sort<'a>(tokens: &'a [Token]) -> Option<(u64, &'a [Token])>
+fn sort<'a>(tokens: &'a [Token]) -> Option<(Sort, &'a [Token])>
     ensures { MatchOption result (sort_at tokens.now ≡ None) (λ p. sort_at tokens.now ≡ Some (p.0, p.1.now)) }
 {
     match first(tokens) {
         Some((Token::Name(name), rest)) => match first(rest) {
-            Some((Token::Sort(n), behind)) => if name == ON { Some((n, behind)) } else { None },
+            Some((Token::Sort(sort), behind)) => if name == ON {
+                Some((sort, behind))
+            } else {
+                None
+            },
             _ => None,
         },
         _ => None,
@@ -330,19 +334,19 @@ fn cases<'a>(
     ensures read { Gives (λ p. ((act_of p.0.0, p.0.1), p.1.now)) result (cases_at (block_at links depth) (case_at links depth) names.now tokens.now) }
     ensures none { IfOk result (λ p. p.0.1 ≡ None) }
 {
-    let Some((n, rest)) = sort(tokens) else {
+    let Some((sort, rest)) = sort(tokens) else {
         return Err(refused(tokens, Wanted::Statement));
     };
-    let (statement, rest) = case(alloc, names, links, depth, n, rest)?;
+    let (statement, rest) = case(alloc, names, links, depth, sort, rest)?;
     Ok(((statement, None), rest))
 }
 
 /// Whether the first word of the content is the number of a sort.
-fn is_of_sort(alloc: Global, n: u64) -> Result<Expression, AllocError>
-    ensures { IfOk result (λ e. tree_of e ≡ is_of n) }
+fn is_of_sort(alloc: Global, sort: Sort) -> Result<Expression, AllocError>
+    ensures { IfOk result (λ e. tree_of e ≡ is_of sort) }
 {
     let word = Box::new(alloc, Expression::Content(0))?;
-    let number = Box::new(alloc, Expression::Number(n))?;
+    let number = Box::new(alloc, Expression::Number(sort.number))?;
     Ok(Expression::Two(Operator::Same, word, number))
 }
 
@@ -353,15 +357,15 @@ fn case<'a>(
     names: &[usize],
     links: u32,
     depth: u32,
-    n: u64,
+    sort: Sort,
     tokens: &'a [Token],
 ) -> Reads<'a, Statement>
     requires { length names.now ≤ 16 }
-    ensures { Gives (λ p. (act_of p.0, p.1.now)) result (case_with (block_at links depth) (case_at links depth) n names.now tokens.now) }
+    ensures { Gives (λ p. (act_of p.0, p.1.now)) result (case_with (block_at links depth) (case_at links depth) sort names.now tokens.now) }
 {
     let (met, rest) = block(alloc, names, links, depth, tokens)?;
     let (unmet, rest) = further(alloc, names, links, depth, rest)?;
-    Ok((chosen(is_of_sort(alloc, n)?, met, unmet), rest))
+    Ok((chosen(is_of_sort(alloc, sort)?, met, unmet), rest))
 }
 
 /// A further `on`, if there is one.
@@ -377,10 +381,10 @@ fn further<'a>(
     ensures { Gives (λ p. (acts_of p.0.items, p.1.now)) result (further_at (sort_at tokens.now) (case_at links depth) names.now tokens.now) }
 {
     let mut statements = Vec::new(alloc);
-    let Some((n, more)) = sort(tokens) else {
+    let Some((sort, more)) = sort(tokens) else {
         return Ok((statements, tokens));
     };
-    let (statement, rest) = nested_case(alloc, names, links, depth, n, more)?;
+    let (statement, rest) = nested_case(alloc, names, links, depth, sort, more)?;
     statements.push(statement)?;
     Ok((statements, rest))
 }
@@ -392,16 +396,16 @@ fn nested_case<'a>(
     names: &[usize],
     links: u32,
     depth: u32,
-    n: u64,
+    sort: Sort,
     tokens: &'a [Token],
 ) -> Reads<'a, Statement>
     requires { length names.now ≤ 16 }
-    ensures { Gives (λ p. (act_of p.0, p.1.now)) result (case_at links depth n names.now tokens.now) }
+    ensures { Gives (λ p. (act_of p.0, p.1.now)) result (case_at links depth sort names.now tokens.now) }
 {
     if links == 0 {
         return Err(refused(tokens, Wanted::FewerLinks));
     }
-    case(alloc, names, links - 1, depth, n, tokens)
+    case(alloc, names, links - 1, depth, sort, tokens)
 }
 
 /// How often a block is repeated.

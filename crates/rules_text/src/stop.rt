@@ -37,6 +37,12 @@ pub enum Wanted {
     FewerLinks,
     /// Fewer names at once: 16 is the limit.
     FewerNames,
+    /// A process, where `self` is a place within a kind.
+    Process,
+    /// The name of a sort, as the first word of content.
+    FirstSort,
+    /// As many words behind a sort as it has; how many there are.
+    Words(usize, usize),
 }
 
 /// A place where a text is no rule: how many tokens are left there, and what was expected.
@@ -53,6 +59,14 @@ pub enum Stop {
     Memory,
     /// The tokens form nothing.
     Refused(Refusal),
+}
+
+/// The first of these tokens, as the place of a refusal.
+pub(crate) fn at_first(tokens: &[Token], wanted: Wanted) -> Refusal {
+    Refusal {
+        left: tokens.len(),
+        wanted,
+    }
 }
 
 /// Refuses the first of these tokens.

@@ -25,10 +25,19 @@ pub enum Token {
     Kind(u32, u32),
     /// `self` in a scope of a kind, by the first process of the kind.
     Own(u32),
-    /// A sort of messages, by its number.
-    Sort(u64),
+    /// A sort of messages.
+    Sort(Sort),
     /// A name that the scope lacks; equal names have equal numbers.
     Name(usize),
+}
+
+/// A sort of messages.
+#[derive(Clone, Copy, Debug, PartialEq, Eq)]
+pub struct Sort {
+    /// Its number, the first word of a message.
+    pub number: u64,
+    /// How many words stand behind its number.
+    pub words: usize,
 }
 
 /// A sign that is no operator, or a word of the language.

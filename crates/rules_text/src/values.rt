@@ -37,7 +37,7 @@ fn looseness(operator: Operator) -> u32
 }
 
 /// The number of a mark, by which marks are compared.
-fn code_of(mark: Mark) -> u32
+pub(crate) fn code_of(mark: Mark) -> u32
     ensures { result ≡ code mark }
 {
     match mark {
@@ -303,7 +303,7 @@ fn primary<'a>(
             checked(Expression::Element(array, Box::new(alloc, x)?), rest)
         }
         Some((Token::Own(first), rest)) => own(alloc, first, rest),
-        Some((Token::Sort(n), rest)) => Ok((Expression::Number(n), rest)),
+        Some((Token::Sort(sort), rest)) => Ok((Expression::Number(sort.number), rest)),
         Some((Token::Kind(first, count), rest)) => {
             member(alloc, names, most, depth, first, count, rest)
         }

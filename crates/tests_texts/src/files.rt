@@ -55,7 +55,7 @@ lps = 2
 end = 9
 state = ['a']
 =>
-  state: "a" is also the name of a word of a message
+  state: "a" is also the name of a word of a message, which are a, b, c and d where they have no names
 --
 model = 'rules'
 lps = 2
@@ -151,7 +151,7 @@ stop = ['left']
 name = 'one'
 count = 65535
 state = ['n', 'q[3]: 16 bits']
-start = 'send to two[self] after 1 with go, one.count'
+start = 'send to two[self] after 1 with go, one.count, 0, 0'
 handle = 'on go { n = left } on stop { q[0] = note }'
 [[kind]]
 name = 'two'
@@ -216,6 +216,29 @@ handle = 'n = one n = self'
   seed: missing; expected a whole number from 0 to 9223372036854775807 if the state has key, otherwise nothing
   name: "one" is also a name in state
   handle, line 1, column 9: "[" or ".count" is wanted here, behind a kind of processes
+--
+model = 'rules'
+end = 9
+[messages]
+go = ['left', '_', 'note']
+stop = []
+[[kind]]
+name = 'one'
+count = 2
+state = []
+start = 'send to self after 1 with stop'
+handle = 'send to one[self] after 1 with go, 1'
+[[kind]]
+name = 'two'
+count = 1
+state = []
+start = 'send to 0 after 1'
+handle = 'send to one[self] after 1 with 1'
+=>
+  start, line 1, column 9: a process of this kind is one[self]
+  handle, line 1, column 32: go has 3 words, not 1
+  start, line 1, column 1: a message begins with its sort
+  handle, line 1, column 32: a message begins with its sort
 "#;
 
 #[test]

@@ -79,13 +79,27 @@ fn operators_bind_by_strength_and_from_the_left(rt: HostRuntime) -> Result<(), F
 }
 
 /// A scope of the rules of a kind that begins at process 1, in a model with the kind `teller` of
-/// processes 1 to 3, the sorts `arrive` and `leave` and the state `served`.
+/// processes 1 to 3, the sorts `arrive`, of two words, and `leave`, of none, and the state `served`.
 fn scope_of_kind(alloc: Global) -> Result<Scope, ScopeError> {
     let mut scope = Scope::of_kind(alloc, false, 1);
     scope.add(alloc, "served", Meaning::Word(0))?;
     scope.add(alloc, "teller", Meaning::Kind { first: 1, count: 3 })?;
-    scope.add(alloc, "arrive", Meaning::Sort(7))?;
-    scope.add(alloc, "leave", Meaning::Sort(8))?;
+    scope.add(
+        alloc,
+        "arrive",
+        Meaning::Sort {
+            number: 7,
+            words: 2,
+        },
+    )?;
+    scope.add(
+        alloc,
+        "leave",
+        Meaning::Sort {
+            number: 8,
+            words: 0,
+        },
+    )?;
     Ok(scope)
 }
 
@@ -173,6 +187,11 @@ served = 1$served = 2 =>
 served = )$let y = 1 < 2 < 3$let z = y + )$served = z + y + w => line 1, column 10: a value is wanted here; line 2, column 15: comparisons do not chain: use brackets; line 3, column 13: a value is wanted here; line 4, column 18: there is nothing named \"w\"
 if served < {$let a = 1$served = a }$repeat i served {$served = i$}$foo = 1 => line 1, column 13: a value is wanted here; line 4, column 10: a number below 2^32 is wanted here; line 7, column 1: there is nothing named \"foo\"
 served = ?$served = teller +$on served { } => line 1, column 10: a sign, a name of at most 64 letters or a number below 2^64 is wanted here; line 2, column 17: \"[\" or \".count\" is wanted here, behind a kind of processes; line 3, column 4: a sort of messages is wanted here, behind on
+let to = 1$let leave = 1 => line 1, column 5: \"to\" is a word of the language; line 2, column 5: the name \"leave\" is in use
+send to self after 1 with leave => line 1, column 9: a process of this kind is teller[self]
+send to teller[self] after 1 with arrive, 1$send to teller[teller[self] - 1] after self with arrive, min(1, 2), 3$send to 1 + self after self with leave$send to sender after 1$if 1 { send to 0 after 1 with leave + 1 } => line 1, column 35: arrive has 2 words, not 1; line 3, column 13: a process of this kind is teller[self]; line 4, column 1: a message begins with its sort; line 5, column 31: a message begins with its sort
+served = )$send to self after 1 with leave => line 1, column 10: a value is wanted here; line 2, column 9: a process of this kind is teller[self]
+send to teller[0] after 1 with leave send to 0 after 1 served = 1 send to 0 after 1 with leave, 1 => line 1, column 38: a message begins with its sort
 ";
 
 /// The text of a row, with its lines.

@@ -10,7 +10,7 @@ pub nested_choice-returns : goal.nested_choice-returns
 nested_choice-returns t c = rw (choice_more c.args.links c.args.depth c.args.names.now c.args.tokens.now c.if-links-eq0.false) c.choice.ensures
 
 pub nested_case-returns : goal.nested_case-returns
-nested_case-returns t c = rw (case_more c.args.links c.args.depth c.args.n c.args.names.now c.args.tokens.now c.if-links-eq0.false) c.case.ensures
+nested_case-returns t c = rw (case_more c.args.links c.args.depth c.args.sort c.args.names.now c.args.tokens.now c.if-links-eq0.false) c.case.ensures
 
 pub block-returns-then-depth-eq0 : goal.block-returns-then-depth-eq0
 block-returns-then-depth-eq0 t c = rw (no_block c.args.links c.args.depth c.args.names.now c.args.tokens.now c.if-depth-eq0.true, c.refused.ensures) refl
