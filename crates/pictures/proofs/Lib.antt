@@ -9,3 +9,5 @@ pub mod Values
 pub mod Roots
 pub mod Buckets
 pub mod Columns
+pub mod Passed  -- laws of a simulation that forgets
+pub mod Binned  -- the values of a word, and bins

@@ -5,11 +5,13 @@ pub mod Figures  -- figures of a run
 pub mod Tables  -- the figures as texts
 pub mod Levels  -- a number over virtual time
 pub mod Tallies  -- the values of a word in messages
+pub mod Histograms  -- how many values of a word are in each bin
 pub mod Quotients  -- quotients and roots, rounded down
 pub mod Drawing  -- the space-time diagram
 pub mod Load  -- the load, as a heat map
 pub mod Turns  -- the rows of a trace
 pub mod Course  -- the course of a run, round by round
+pub mod Stepping  -- a simulation that forgets the events that it has handled
 -- Inside
 pub mod Filled  -- texts with placeholders for numbers
 pub mod Inside  -- the value of a trace that contracts see

@@ -1,7 +1,8 @@
 -- A run in detail: its events and how many messages each handling sent, and so when each message was
 -- sent.
-use Rattle.std.specs.Prelude.{ℕ, ◌≡◌, ◌==◌, List, [], ◌∷◌, ◌++◌, if◌then◌else◌, get_or, length, min}
-use Rattle.std.specs.Prelude.{replicate, set}
+use Rattle.std.specs.List.{filter}
+use Rattle.std.specs.Prelude.{ℕ, ◌≡◌, ◌==◌, Bool, List, [], ◌∷◌, ◌++◌, if◌then◌else◌, get_or, length}
+use Rattle.std.specs.Prelude.{min, nat_le, replicate, set}
 use Rattle.eventkey.specs.Message.{Message}
 use Rattle.model.specs.Meaning.{Meaning}
 use Rattle.model.specs.Runner.{IsLimited, IsRun}
@@ -30,6 +31,22 @@ pub record IsRunOf (m : Meaning) (end to : ℕ) (r : Run) : Type 0 where
   pub pending : r.pending ≡ world.pending
   pub first : r.first ≡ (opening m).numbers
   pub sends : r.sends ≡ sends_of m (opening m).states world.log
+
+-- a message is not before this time
+abbrev pub is_from : ℕ → Message → Bool
+is_from time x = nat_le time x.time
+
+-- a run whose time is another one, without the pending messages before that
+abbrev pub left_at : ℕ → Run → Run
+left_at time r = record r { time = time; pending = filter (is_from time) r.pending }
+
+-- r is the part before a tick of the sequential simulation of a model up to a time, or up to its end
+-- if that is earlier: the events before the tick, and of the messages that were sent by then those
+-- that the simulation leaves
+pub record IsPartBefore (m : Meaning) (end to before : ℕ) (r : Run) : Type 0 where
+  pub part : Run
+  pub part_is : IsRunOf m end (min to before) part
+  pub is : r ≡ left_at (min to end) part
 
 -- the run reaches a world where the send number of a process would pass the limit
 pub record IsOverLimit (m : Meaning) (end to : ℕ) : Type 0 where

@@ -29,7 +29,7 @@ pub record AreMoments (values : List ℕ) (s : Moments) : Type 0 where
 
 -- 2. Buckets
 
--- the bucket of a value in at most so many halvings: below 256 there is one for each value, and the
+-- the bucket of a value in at most this number of halvings: below 256 there is one for each value, and the
 -- buckets of a value that is twice as great are twice as wide
 unfoldable pub bucket_within : ℕ → ℕ → ℕ
 bucket_within zero value = min value 255
@@ -62,7 +62,7 @@ pub record IsRanking (values : List ℕ) (r : Ranking) : Type 0 where
   pub exact : length values ≤ 65536 → (r.values.items ≡ values) × (r.counts.items ≡ [])
   pub rounded : 65536 < length values → AreCounts values r.counts.items
 
--- the rank of a percentile among so many values, from 1 on
+-- the rank of a percentile among this number of values, from 1 on
 abbrev pub rank_of : ℕ → ℕ → ℕ
 rank_of percent count = (count * percent + 99) / 100
 

@@ -1,7 +1,5 @@
--- What a look at a process after an event does to the levels of its named numbers, and a world that
--- forgets its log.
-use Rattle.std.specs.Prelude.{ℕ, ◌≡◌, ◌<◌, List, [], get_or, length}
-use Rattle.model.specs.World.{World}
+-- What a look at a process after an event does to the levels of its named numbers.
+use Rattle.std.specs.Prelude.{ℕ, ◌≡◌, ◌<◌, List, get_or, length}
 use Rattle.pictures.specs.Levels.{HasSet}
 use Rattle.pictures.specs.declared.levels.Level.{Level}
 use Rattle.texts.specs.Names.{number_of}
@@ -17,7 +15,3 @@ pub record HaveSet (columns : List Column) (time : ℕ) (state : List ℕ) (old 
   pub long : length new ≡ length old
   pub each : (k : ℕ) (c : Column) (l : Level) → k < length columns → k < length old →
       HasSet time (number_in (get_or columns k c) state) (get_or old k l) (get_or new k l)
-
--- the same world, which has forgotten the events that it handled
-abbrev pub without_log : World → World
-without_log w = record w { log = [] }

@@ -3,7 +3,8 @@
 ghost use Rattle.std.specs.Prelude.{◌≡◌, ◌≤◌, ◌^◌, length};
 
 use crate::View;
-use crate::watched::{EVENTS_KEPT, columns_of, is_shown, kind_of, without_log};
+use crate::stepping::{EVENTS_KEPT, without_log};
+use crate::watched::{columns_of, is_shown, kind_of};
 use eventkey::Message;
 use model::{Model, Words, World, WorldFault};
 use std::alloc::{AllocError, Global};

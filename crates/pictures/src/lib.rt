@@ -1,6 +1,7 @@
 //! Views of a committed run: parts of its log, figures, and drawings.
 #![tactic(auto)]
 
+mod barred;
 mod changes;
 mod chosen;
 mod counted;
@@ -8,27 +9,32 @@ mod courses;
 mod drawn;
 mod dumped;
 mod filled;
+mod histograms;
 mod levels;
 mod loads;
 mod quotients;
 mod statistics;
+mod stepping;
 mod tables;
 mod tallies;
 mod traced;
 mod turns;
 mod watched;
 
+pub use barred::{Histogram, write_histogram};
 pub use changes::{Changes, changes_of};
 pub use chosen::{Choice, write_chosen};
 pub use counted::{Busy, Figures, Rate, Spread, figures_of};
 pub use courses::write_course;
 pub use drawn::{View, write_drawing};
 pub use dumped::write_changes;
+pub use histograms::{Bins, Word, bins_of, tally_of};
 pub use levels::Level;
 pub use loads::write_load;
 pub use quotients::Decimal;
 pub use statistics::{Cell, LEVEL_NAMES, LevelRow, Statistics, WORD_NAMES, WordRow, statistics_of};
+pub use stepping::{EVENTS_AT_ONCE, forget, step_some};
 pub use tables::{write_stats, write_stats_csv};
 pub use tallies::{Tallied, Tally};
-pub use traced::{Trace, trace_of};
+pub use traced::{Trace, trace_before, trace_of};
 pub use turns::{NotRead, Row, read_rows, write_names, write_turn};

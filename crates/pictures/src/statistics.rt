@@ -7,8 +7,9 @@ ghost use Rattle.pictures.specs.Tallies.{word_saturated};
 
 use crate::Level;
 use crate::quotients::{Decimal, quotient};
+use crate::stepping::{EVENTS_KEPT, without_log};
 use crate::tallies::{Tallied, Tally};
-use crate::watched::{EVENTS_KEPT, Watched, is_shown, without_log};
+use crate::watched::{Watched, is_shown};
 use eventkey::Message;
 use model::{Model, Words, World, WorldFault};
 use std::alloc::{AllocError, Global};

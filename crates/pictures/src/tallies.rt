@@ -1,7 +1,8 @@
 // The values of a word in messages.
 
-ghost use Rattle.std.specs.Prelude.{◌≡◌, ◌<◌, ◌≤◌, ◌+◌, ◌-◌, ◌*◌, ℕ, List, [], ◌∷◌, ◌++◌, get_or};
-ghost use Rattle.std.specs.Prelude.{IfOk, IfSome, None, OnOk, length};
+ghost use Rattle.std.specs.Prelude.{◌≡◌, ◌<◌, ◌≤◌, ◌+◌, ◌-◌, ◌*◌, ◌↔◌, ℕ, List, [], ◌∷◌, ◌++◌};
+ghost use Rattle.std.specs.Prelude.{get_or, IfOk, IfSome, None, OnOk, length, true};
+ghost use Rattle.pictures.specs.Histograms.{count_between, is_between};
 ghost use Rattle.pictures.specs.Levels.{total};
 ghost use Rattle.pictures.specs.Tallies.{AreCounts, AreFiguresOf, AreMoments, IsInOrder, IsNearest};
 ghost use Rattle.pictures.specs.Tallies.{IsRanked, IsRanking, IsTally};
@@ -56,6 +57,58 @@ impl Tally {
         Ok(())
     }
 
+    /// Returns the least and the greatest value, if there are any.
+    pub(crate) fn range(&self) -> Option<(u64, u64)>
+        ensures some { IfSome result (λ r. (r.0 ≡ self.now.moments.least)
+            × (r.1 ≡ self.now.moments.most)) }
+        ensures none { result ≡ None → self.now.moments.count ≡ 0 }
+    {
+        let Moments {
+            count, least, most, ..
+        } = self.moments;
+        if count == 0 {
+            return None;
+        }
+        Some((least, most))
+    }
+
+    /// Returns how many values are at least `from` and below `to`. Of more than 2^16 values each
+    /// counts as the greatest one of its bucket, or as the greatest of all if that is less.
+    pub(crate) fn count_between(&self, from: u128, to: u128) -> u64
+        ensures exact { self.now.ranking.counts.items ≡ [] →
+            result ≡ count_between from to self.now.ranking.values.items }
+    {
+        if !self.ranking.counts.is_empty() {
+            return self.count_rounded(from, to);
+        }
+        let mut count = 0u64;
+        for value in self.ranking.values.as_slice() {
+            if is_between(from, to, *value) {
+                count += 1;
+            }
+        }
+        count
+    }
+
+    /// Returns how many values the buckets between these bounds have.
+    fn count_rounded(&self, from: u128, to: u128) -> u64 {
+        let mut count = 0u64;
+        for (bucket, values) in self.ranking.counts.as_slice().iter().enumerate() {
+            let value = upper_of(bucket as u64).min(self.moments.most);
+            if is_between(from, to, value) {
+                count = count.saturating_add(*values);
+            }
+        }
+        count
+    }
+
+    /// Returns whether all values are kept, so that percentiles and counts are exact.
+    pub fn is_exact(&self) -> bool
+        ensures { (result ≡ true) ↔ (self.now.ranking.counts.items ≡ []) }
+    {
+        self.ranking.counts.is_empty()
+    }
+
     /// Returns the figures of the values, if there are any. It costs a sort of up to 2^16 values.
     pub fn figures(&self, alloc: Global) -> Result<Option<Tallied>, AllocError>
         ensures figures { IfOk result
@@ -81,6 +134,14 @@ impl Tally {
             percentiles: self.ranking.percentiles(alloc, count)?,
         }))
     }
+}
+
+/// Returns whether a value is at least `from` and below `to`.
+fn is_between(from: u128, to: u128, value: u64) -> bool
+    ensures { result ≡ is_between from to value }
+{
+    let value = u128::from(value);
+    from <= value && value < to
 }
 
 /// Sums over values.

@@ -1,13 +1,13 @@
 // A run in detail: its events and what they sent.
 
-ghost use Rattle.std.specs.List.{AllByRecursion as Every};
+ghost use Rattle.std.specs.List.{AllByRecursion as Every, filter};
 ghost use Rattle.std.specs.Prelude.{◌≡◌, ◌≤◌, ◌<◌, ◌^◌, ◌++◌, ℕ, Err, IfOk, OnOk, List, [], get_or};
-ghost use Rattle.std.specs.Prelude.{length, map, replicate, set};
+ghost use Rattle.std.specs.Prelude.{length, map, min, replicate, set};
 ghost use Rattle.model.specs.Meaning.{IsAddressed, IsWords};
 ghost use Rattle.model.specs.declared.WorldFault.TheVariants.{NumberLimit};
 ghost use Rattle.pictures.specs.Inside.{IsWholeRun, lists};
-ghost use Rattle.pictures.specs.Run.{IsOverLimit, IsRunOf, sending_times, sends_of as sends_from};
-ghost use Rattle.pictures.specs.Run.{sent_at, sent_in};
+ghost use Rattle.pictures.specs.Run.{IsOverLimit, IsPartBefore, IsRunOf, is_from, left_at};
+ghost use Rattle.pictures.specs.Run.{sending_times, sends_of as sends_from, sent_at, sent_in};
 
 use eventkey::Message;
 use model::{Model, Words, World, WorldFault, WorldParts};
@@ -106,6 +106,30 @@ impl Trace {
         };
         times.len()
     }
+
+    /// Returns the trace with another time in ticks, and without the pending messages before that.
+    fn left_at(self, alloc: Global, time: u64) -> Result<Trace, AllocError>
+        requires { time ≤ 2 ^ 40 }
+        ensures { IfOk result (λ t. t ≡ left_at time self) }
+    {
+        let Trace {
+            time: _,
+            first,
+            sends,
+            events,
+            pending,
+            times,
+        } = self;
+        let pending = from_time(alloc, pending.as_slice(), time)?;
+        Ok(Trace {
+            time,
+            first,
+            sends,
+            events,
+            pending,
+            times,
+        })
+    }
 }
 
 /// Runs a model from its opening up to `to` ticks, and returns its `Trace`. The simulation ends at
@@ -142,6 +166,42 @@ pub fn trace_of<M: Model>(alloc: Global, model: &M, end: u64, to: u64) -> Result
         pending,
         times,
     })
+}
+
+/// Runs a model from its opening, and returns of its run up to `to` ticks the part before the tick
+/// `before`: the events before it, and of the messages that were sent by then those that are left at
+/// the end of the run. The simulation ends at `end` ticks, 1 to 2^40. It goes no further than
+/// `before`.
+///
+/// The faults are those of `trace_of`, of the run up to the earlier of the two times.
+pub fn trace_before<M: Model>(
+    alloc: Global,
+    model: &M,
+    end: u64,
+    to: u64,
+    before: u64,
+) -> Result<Trace, WorldFault>
+    requires some { 1 ≤ end }
+    requires end { end ≤ 2 ^ 40 }
+    ensures run { IfOk result (λ t. IsPartBefore (M.meaning model.now) end to before t) }
+    ensures limit { result ≡ Err WorldFault.NumberLimit →
+        IsOverLimit (M.meaning model.now) end (min to before) }
+{
+    let trace = trace_of(alloc, model, end, to.min(before))?;
+    Ok(trace.left_at(alloc, to.min(end))?)
+}
+
+/// Returns the messages that are not before a time in ticks.
+fn from_time(alloc: Global, messages: &[Message], time: u64) -> Result<Vec<Message>, AllocError>
+    ensures { IfOk result (λ v. v.items ≡ filter (is_from time) messages.now) }
+{
+    let mut late = Vec::new(alloc);
+    for message in messages {
+        if message.time() >= time {
+            late.push(*message)?;
+        }
+    }
+    Ok(late)
 }
 
 /// Returns the states of a world, and how many messages each process has sent.

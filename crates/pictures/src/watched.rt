@@ -1,11 +1,8 @@
-// The named numbers of processes in a simulation that forgets the events that it has handled.
+// The named numbers of processes in a simulation.
 
-ghost use Rattle.std.specs.Prelude.{◌≡◌, ◌≤◌, ◌^◌, IfOk, length};
-ghost use Rattle.model.specs.Runner.{Simulation};
-ghost use Rattle.pictures.specs.Watching.{HaveSet, without_log};
+ghost use Rattle.pictures.specs.Watching.{HaveSet};
 
 use crate::Level;
-use model::{World, WorldFault, WorldParts};
 use std::alloc::{AllocError, Global};
 use texts::{Column, Kind};
 
@@ -83,23 +80,4 @@ pub(crate) fn kind_of(kinds: &[Kind], lp: u32) -> usize {
 /// Returns whether a number is shown: the key of a process is none.
 pub(crate) fn is_shown(column: &Column) -> bool {
     column.name.as_str() != "key"
-}
-
-/// The most events that a simulation remembers here.
-pub(crate) const EVENTS_KEPT: usize = 1 << 16;
-
-/// Returns a world, which ends at `end`, without its log.
-pub(crate) fn without_log(alloc: Global, world: World, end: u64) -> Result<World, WorldFault>
-    requires some { 1 ≤ end }
-    requires end { end ≤ 2 ^ 40 }
-    ensures { IfOk result (λ w. w ≡ record { end = end; world = without_log world.world }) }
-{
-    let WorldParts {
-        time,
-        states,
-        numbers,
-        pending,
-        log: _,
-    } = world.into_parts();
-    World::resume(alloc, end, time, states, numbers, pending, Vec::new(alloc))
 }

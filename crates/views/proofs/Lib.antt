@@ -1,3 +1,4 @@
 pub mod Printed
 mod Runs
+mod Streams
 mod Segments

@@ -22,7 +22,7 @@ use Rattle.upkeep.specs.Verified.{IsOfWorld}
 use Rattle.upkeep.specs.declared.verifying.Verified.{Verified}
 pub use Rattle.views.specs.Beginnings.{BeginsInRow, BeginsWith, IsFrontOn, IsOn, IsOnRow}
 use Rattle.views.specs.Views.{Describes, IsCourse, IsDrawn, IsLogged, IsNamed, IsPending, IsShown}
-use Rattle.views.specs.Views.{IsSimulationBy, IsSomeChecked, IsStats, Shows, verified_text}
+use Rattle.views.specs.Views.{IsBegunBy, IsSimulationBy, IsSomeChecked, IsStats, Shows, verified_text}
 use Rattle.views.specs.declared.looks.Look.{Look}
 use Rattle.views.specs.declared.looks.Look.TheVariants.{Check, Draw, Info, Log, Seq, Show, Stats}
 use Rattle.views.specs.declared.looks.Look.TheVariants.{Status, Verify}
@@ -34,11 +34,17 @@ IsPicture meaning says args None text =
     IsDrawn meaning says args.of.disk args.load args.from args.to args.processes text
 IsPicture meaning says args (Some trace) text = IsCourse text
 
--- what `draw` prints: a value change dump, which scripts hold, or a picture
+-- what `draw` prints: a histogram, which scripts hold, or a picture
+abbrev pub IsPictureOf : {M : Type 0} → (M → Meaning) → Describes M → DrawArgs → {S : Type 0} →
+    Option S → List ℕ → Type 0
+IsPictureOf meaning says args (Some word) = IsNamed
+IsPictureOf meaning says args None = IsPicture meaning says args args.trace
+
+-- what `draw` prints: a value change dump, which scripts hold, or one of these
 abbrev pub IsDrawnBy : {M : Type 0} → (M → Meaning) → Describes M → Bool → DrawArgs → List ℕ →
     Type 0
 IsDrawnBy meaning says true args = IsNamed
-IsDrawnBy meaning says false args = IsPicture meaning says args args.trace
+IsDrawnBy meaning says false args = IsPictureOf meaning says args args.histogram
 
 -- The time from which a segment goes on and the number of events before it, for its origin.
 pub record IsBegun (lps : ℕ) (image : List (List ℕ)) (o : Origin) (time events : ℕ) : Type 0 where
@@ -224,3 +230,9 @@ IsSeen meaning says shows (Stats args) text = IsStatsBy meaning says args.table 
 IsSeen meaning says shows (Draw args) text = IsDrawnBy meaning says args.vcd args text
 IsSeen meaning says shows (Seq args) text = IsSimulationBy meaning says args.format text
 IsSeen meaning says shows (Check args) text = IsSomeChecked says shows text
+
+-- and a text of which it prints a beginning if it is refused
+abbrev pub IsSeenSoFar : {M : Type 0} → (M → Meaning) → Describes M → Shows M → Look → List ℕ →
+    Type 0
+IsSeenSoFar meaning says shows (Seq args) text = IsBegunBy meaning says args.format text
+IsSeenSoFar meaning says shows look text = IsSeen meaning says shows look text

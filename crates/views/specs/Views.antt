@@ -2,7 +2,7 @@
 use Rattle.std.specs.Io.KnownBytes.{Appends}
 use Rattle.std.specs.Prelude.{◌≡◌, ◌^◌, ◌-◌, ◌&&◌, ℕ, Bool, true, false, List}
 use Rattle.std.specs.Prelude.{◌++◌, None, Option, Some, codes, decimal, filter, map, if◌then◌else◌}
-use Rattle.std.specs.Prelude.{◌⊎◌, [], is_none, unwrap_or, ⊤}
+use Rattle.std.specs.Prelude.{◌⊎◌, [], is_none, max, unwrap_or, ⊤}
 use Rattle.cli.specs.declared.command.Format.{Format}
 use Rattle.cli.specs.declared.command.Format.TheVariants as format
 use Rattle.disk.specs.declared.file.FileFault.{FileFault}
@@ -12,14 +12,15 @@ use Rattle.eventkey.specs.Writing.{TakesBeginning}
 use Rattle.upkeep.specs.declared.inspection.fault.InspectionFault.{InspectionFault}
 use Rattle.upkeep.specs.declared.inspection.fault.InspectionFault.TheVariants as inspecting
 use Rattle.model.specs.Meaning.{Meaning}
-use Rattle.model.specs.World.{IsUpto, World}
+use Rattle.model.specs.Runner.{IsRun}
+use Rattle.model.specs.World.{IsUpto, World, opening}
 use Rattle.model.specs.declared.runner.WorldParts.{WorldParts}
 use Rattle.pictures.specs.Chosen.{is_chosen}
 use Rattle.pictures.specs.Course.{course_text}
 use Rattle.pictures.specs.Drawing.{drawing_text}
 use Rattle.pictures.specs.Figures.{AreFigures}
 use Rattle.pictures.specs.Load.{load_text}
-use Rattle.pictures.specs.Run.{IsRunOf, Run as PastRun}
+use Rattle.pictures.specs.Run.{IsPartBefore, IsRunOf, Run as PastRun}
 use Rattle.pictures.specs.Tables.{csv_text, stats_text}
 use Rattle.pictures.specs.declared.chosen.Choice.{Choice}
 use Rattle.pictures.specs.declared.counted.Figures.{Figures}
@@ -127,15 +128,31 @@ pub record PrintsRun {M : Type 0} (meaning : M → Meaning) (says : Describes M)
   pub upto : IsUpto (meaning model) end end world
   pub printed : Appends old new (run_text world)
 
--- the writer has taken a beginning of the run of a model
+-- What is printed of a simulation so far: the lines of the events that it handles first, or of all
+-- of them and then its world at the end.
+abbrev pub IsTextSoFar : Meaning → ℕ → List ℕ → Type 0
+IsTextSoFar m end text =
+    ((world : World) × IsRun m end (opening m) world × (text ≡ log_text world.log))
+    ⊎ ((world : World) × IsUpto m end end world × (text ≡ run_text world))
+
+-- The writer has taken a beginning of the run of a model, which need not come to its end.
 pub record PrintsBeginning {M : Type 0} (meaning : M → Meaning) (says : Describes M)
+    (text : List ℕ) (old new : Option (List ℕ)) : Type 0 where
+  pub model : M
+  pub end : ℕ
+  pub file : IsModelFile says text model end
+  pub begun : Begins (IsTextSoFar (meaning model) end) old new
+
+-- The writer has taken the lines of the events that the simulation of a model handles first, and
+-- nothing else.
+pub record PrintsLog {M : Type 0} (meaning : M → Meaning) (says : Describes M)
     (text : List ℕ) (old new : Option (List ℕ)) : Type 0 where
   pub model : M
   pub end : ℕ
   pub world : World
   pub file : IsModelFile says text model end
-  pub upto : IsUpto (meaning model) end end world
-  pub part : TakesBeginning old new (run_text world)
+  pub run : IsRun (meaning model) end (opening (meaning model)) world
+  pub printed : Appends old new (log_text world.log)
 
 -- The text of the world to which the image of a disk is replayed, which may be a segment.
 pub record IsCommitted {M : Type 0} (meaning : M → Meaning) (says : Describes M)
@@ -204,6 +221,17 @@ pub record IsTraced {M S : Type 0} (meaning : M → Meaning) (says : Describes M
   pub looked : IsLookedTo (meaning model) end disk to
   pub run_is : IsRunOf (meaning model) end to run
 
+-- of that simulation, up to that time, the part before a tick
+pub record IsTracedBefore {M S : Type 0} (meaning : M → Meaning) (says : Describes M)
+    (disk : Option S) (before : ℕ) (run : PastRun) : Type 0 where
+  pub source : List ℕ
+  pub model : M
+  pub end : ℕ
+  pub to : ℕ
+  pub file : IsModelFile says source model end
+  pub looked : IsLookedTo (meaning model) end disk to
+  pub part : IsPartBefore (meaning model) end to before run
+
 -- figures as comma-separated values, or as a table
 abbrev pub figures_text : Bool → Figures → List ℕ
 figures_text true figures = csv_text figures
@@ -232,11 +260,16 @@ abbrev pub picture_text : Bool → PastRun → View → List ℕ
 picture_text true run view = load_text run view
 picture_text false run view = drawing_text run view
 
--- the picture of a run
+-- the tick before which a picture needs to know a run: where the picture ends, if that is asked for
+abbrev pub needed_to : Option ℕ → Option ℕ → ℕ
+needed_to from None = 2 ^ 64 - 1
+needed_to from (Some to) = max to (unwrap_or from 0)
+
+-- The picture of a run, of which what comes behind the picture's end is not simulated.
 pub record IsDrawn {M S : Type 0} (meaning : M → Meaning) (says : Describes M) (disk : Option S)
     (load : Bool) (from to : Option ℕ) (processes : Option (ℕ × ℕ)) (text : List ℕ) : Type 0 where
   pub run : PastRun
-  pub traced : IsTraced meaning says disk run
+  pub traced : IsTracedBefore meaning says disk (needed_to from to) run
   pub is : text ≡ picture_text load run (view_of from to processes)
 
 -- the picture of the course that some rows of a trace show
@@ -254,11 +287,26 @@ pub record IsWholeSimulation {M : Type 0} (meaning : M → Meaning) (says : Desc
   pub upto : IsUpto (meaning model) end end world
   pub is : text ≡ run_text world
 
+-- a text of which `seq` prints a beginning if it is refused
+pub record IsSimulationSoFar {M : Type 0} (meaning : M → Meaning) (says : Describes M)
+    (text : List ℕ) : Type 0 where
+  pub source : List ℕ
+  pub model : M
+  pub end : ℕ
+  pub file : IsModelFile says source model end
+  pub is : IsTextSoFar (meaning model) end text
+
 -- what `seq` prints in a format
 abbrev pub IsSimulationBy : {M : Type 0} → (M → Meaning) → Describes M → Format → List ℕ → Type 0
 IsSimulationBy meaning says format.Text = IsWholeSimulation meaning says
 IsSimulationBy meaning says format.Csv = IsNamed
 IsSimulationBy meaning says format.Json = IsNamed
+
+-- and of which text a beginning if it is refused
+abbrev pub IsBegunBy : {M : Type 0} → (M → Meaning) → Describes M → Format → List ℕ → Type 0
+IsBegunBy meaning says format.Text = IsSimulationSoFar meaning says
+IsBegunBy meaning says format.Csv = IsNamed
+IsBegunBy meaning says format.Json = IsNamed
 
 -- `ok`, then the values of a model file
 abbrev pub checked_text : List ℕ → List ℕ

@@ -78,6 +78,9 @@ pub enum ViewFault {
         /// How many processes it has.
         processes: u32,
     },
+    /// No word of messages has the name that is asked for, or several sorts of messages have one.
+    #[error("NoSuchWord")]
+    NoSuchWord,
     /// An allocation failed in a call without its own fault for it.
     #[error("NoMemory")]
     NoMemory,

@@ -1,22 +1,23 @@
 // The commands on a model file alone: `seq` by the sequential runner, and `check`.
 
-ghost use Rattle.std.specs.Prelude.{◌≡◌, ◌≤◌, ◌^◌, ◌≢◌, ◌⊎◌, ℕ, List, Option, Err, length};
+ghost use Rattle.std.specs.Prelude.{◌≡◌, ◌≤◌, ◌^◌, ◌≢◌, ◌⊎◌, ℕ, List, Option, Err};
 ghost use Rattle.std.specs.Prelude.{map, IfOk, IsOkUnless, IsSomeAnd, MatchResult, OnErr, OnOk};
 ghost use Rattle.std.specs.Str.{IsUtf8};
 ghost use Rattle.eventkey.specs.Writing.{Writes};
 ghost use Rattle.texts.specs.Mistakes.{AreMistakes};
 ghost use Rattle.texts.specs.ModelFile.{IsModelFile};
-ghost use Rattle.views.specs.Views.{checked_text, run_text, world_in, Begins, IsChecked, IsNamed};
-ghost use Rattle.views.specs.Views.{IsSetIn, IsSimulationBy, IsSomeChecked, IsWholeSimulation};
-ghost use Rattle.views.specs.Views.{Prints, PrintsBeginning, PrintsRun};
+ghost use Rattle.views.specs.Views.{checked_text, Begins, IsBegunBy, IsChecked, IsNamed, IsSetIn};
+ghost use Rattle.views.specs.Views.{IsSimulationBy, IsSimulationSoFar, IsSomeChecked};
+ghost use Rattle.views.specs.Views.{IsWholeSimulation, Prints, PrintsBeginning, PrintsLog};
+ghost use Rattle.views.specs.Views.{PrintsRun};
 ghost use Rattle.views.specs.declared.fault.ViewFault.TheVariants.{Output};
 
 use crate::fault::{ViewFault, unreadable};
 use crate::kept::model_path;
-use crate::looking::{ALL, print_events};
+use crate::streaming::{print_log, write_rest, write_run_table};
 use cli::{Format, ModelFile, SeqArgs, Settings};
 use disk::FileDisk;
-use model::{World, WorldFault, WorldParts};
+use model::WorldFault;
 use std::alloc::Global;
 use std::fs::{self, File, OpenOptions};
 use std::io::{Read, Result as IoResult, Write};
@@ -24,7 +25,7 @@ use std::os::unix::fs::FileTypeExt;
 use std::rt::Files;
 use texts::{
     Described, LONGEST_MODEL_FILE, Mistake, Mistakes, ModelFault, SettingsFault, find_mistakes,
-    read_model, with_settings, write_log, write_text, write_world,
+    read_model, with_settings, write_text,
 };
 
 /// Runs the model of a file by the plain runner, and writes the log and then the world; or the log
@@ -37,7 +38,7 @@ where
     ensures ok { OnOk result (Prints (IsSimulationBy M.meaning M.says args.entry.format)
         (O.contents out.old) (O.contents out.new)) }
     ensures err { OnErr result ((out.new ≡ out.old)
-        ⊎ Begins (IsSimulationBy M.meaning M.says args.entry.format)
+        ⊎ Begins (IsBegunBy M.meaning M.says args.entry.format)
         (O.contents out.old) (O.contents out.new)) }
 {
     match args.format {
@@ -55,7 +56,7 @@ where
     ensures ok { OnOk result
         (Prints (IsWholeSimulation M.meaning M.says) (O.contents out.old) (O.contents out.new)) }
     ensures err { OnErr result ((out.new ≡ out.old)
-        ⊎ Begins (IsWholeSimulation M.meaning M.says) (O.contents out.old) (O.contents out.new)) }
+        ⊎ Begins (IsSimulationSoFar M.meaning M.says) (O.contents out.old) (O.contents out.new)) }
 {
     let bytes = read_text(rt, model)?;
     let text = text_of(bytes.as_slice()).map_err(ModelFault::BadModel)?;
@@ -78,17 +79,8 @@ where
         ⊎ Begins IsNamed (O.contents out.old) (O.contents out.new)) }
 {
     let (model, end): (M, u64) = read_model_file(rt, file)?;
-    let mut world = World::open(rt.alloc(), &model, end)?;
-    world.run_to(&model, end)?;
-    let parts = world.into_parts();
-    print_events(
-        rt.alloc(),
-        parts.log.as_slice(),
-        ALL,
-        model.names(),
-        format,
-        out,
-    )
+    write_run_table(rt.alloc(), &model, end, format, out)?;
+    Ok(out.flush()?)
 }
 
 /// A file that is not a model file: what it holds, and all its mistakes.
@@ -248,53 +240,30 @@ where
     }
 }
 
-/// Runs the model of a text to its end by the plain runner, and writes the log and then the world.
+/// Runs the model of a text to its end by the sequential runner, and writes the log and then the
+/// world. The log is written as it is made, so memory is for the world, and the first lines come at
+/// once.
 ///
 /// Returns, in this order, `BadModel` if the text is not a model file, or `NoMemory` if an
-/// allocation fails while it is read; `World` if the runner refuses; `Output` if the writer
-/// refuses. At every fault but `Output` nothing is written.
+/// allocation fails while it is read, and nothing is written; `World` if the runner refuses, and the
+/// lines of some of the first events are written; `Output` if the writer refuses.
 pub fn seq<M: Described, O: Write>(alloc: Global, text: &str, out: &mut O) -> Result<(), ViewFault>
     ensures ok { OnOk result
         (PrintsRun M.meaning M.says text.now (O.contents out.old) (O.contents out.new)) }
     ensures bad { result ≡ Err ViewFault.BadModel →
         (model : M) (end : ℕ) → ¬ IsModelFile M.says text.now model end }
     ensures world { (fault : WorldFault) → result ≡ Err (ViewFault.World fault) →
-        (model : M) × (end : ℕ) × IsModelFile M.says text.now model end }
+        PrintsLog M.meaning M.says text.now (O.contents out.old) (O.contents out.new) }
     ensures output { result ≡ Err ViewFault.Output →
         PrintsBeginning M.meaning M.says text.now (O.contents out.old) (O.contents out.new) }
-    ensures unwritten { (fault : ViewFault) → result ≡ Err fault → fault ≢ Output → out.new ≡ out.old }
+    ensures unwritten { (fault : ViewFault) → result ≡ Err fault → fault ≢ Output →
+        ((f : WorldFault) → fault ≢ ViewFault.World f) → out.new ≡ out.old }
 {
     let (model, end): (M, u64) = read_model(alloc, text)?;
-    let mut world = World::open(alloc, &model, end)?;
+    let mut world = print_log(alloc, &model, end, out)?;
+    let printed = world.log().len();
     world.run_to(&model, end)?;
-    write_run(world, out)
-}
-
-/// Writes a world's log and then the world, and flushes the writer.
-fn write_run<O: Write>(world: World, out: &mut O) -> Result<(), ViewFault>
-    requires { length world.world.states ≡ length world.world.numbers }
-    ensures written { Writes (O.contents out.old) (O.contents out.new) result
-        (run_text world.world) }
-    ensures fault { IsOkUnless result ViewFault.Output }
-{
-    let parts = world.into_parts();
-    flushed(write_parts(&parts, out), out)
-}
-
-/// Writes the log in these parts of a world, and then the rest.
-fn write_parts<O: Write>(parts: &WorldParts, out: &mut O) -> IoResult<()>
-    requires { length parts.now.states.items ≡ length parts.now.numbers.items }
-    ensures { Writes (O.contents out.old) (O.contents out.new) result
-        (run_text (world_in parts.now)) }
-{
-    write_log(parts.log.as_slice(), out)?;
-    write_world(
-        parts.time,
-        parts.states.as_slice(),
-        parts.numbers.as_slice(),
-        parts.pending.as_slice(),
-        out,
-    )
+    write_rest(world, printed, out)
 }
 
 /// Checks whether a text is a model file, and if it is, writes `ok` and what the model shows of its

@@ -5,8 +5,10 @@
 mod apart;
 mod beginnings;
 mod differing;
+mod drawing;
 mod fault;
 mod files;
+mod histograms;
 mod info;
 mod kept;
 mod levels;
@@ -16,6 +18,7 @@ mod named;
 mod reading;
 mod rows;
 mod statistics;
+mod streaming;
 mod tables;
 mod totals;
 

@@ -1,13 +1,14 @@
 // The commands that only read, as one call.
 
 ghost use Rattle.std.specs.Prelude.{◌≡◌, ◌⊎◌, OnErr, OnOk};
-ghost use Rattle.views.specs.Reading.{IsSeen};
+ghost use Rattle.views.specs.Reading.{IsSeen, IsSeenSoFar};
 ghost use Rattle.views.specs.Views.{Begins, Prints};
 
+use crate::drawing::draw_on;
 use crate::fault::ViewFault;
 use crate::files::{Wrong, check_of, seq_on};
 use crate::info::info_on;
-use crate::reading::{Shows, draw_on, log_on, show_on, stats_on, status_on, verify_on};
+use crate::reading::{Shows, log_on, show_on, stats_on, status_on, verify_on};
 use cli::{
     DrawArgs, InfoArgs, LogArgs, ModelArgs, SeqArgs, ShowArgs, StatsArgs, StatusArgs, VerifyArgs,
 };
@@ -56,7 +57,7 @@ where
     ensures ok { OnOk result (Prints (IsSeen M.meaning M.says M.shows look.entry)
         (O.contents out.old) (O.contents out.new)) }
     ensures err { OnErr result ((out.new ≡ out.old)
-        ⊎ Begins (IsSeen M.meaning M.says M.shows look.entry)
+        ⊎ Begins (IsSeenSoFar M.meaning M.says M.shows look.entry)
         (O.contents out.old) (O.contents out.new)) }
 {
     match look {

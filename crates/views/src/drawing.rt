@@ -1,0 +1,225 @@
+// The pictures of a run, and of the course in a trace.
+
+ghost use Rattle.std.specs.Prelude.{◌≡◌, ◌≤◌, ◌^◌, ◌⊎◌, List, ℕ, IfOk, IsOkUnless, OnErr, OnOk};
+ghost use Rattle.eventkey.specs.Writing.{Writes};
+ghost use Rattle.pictures.specs.Course.{course_text};
+ghost use Rattle.views.specs.Reading.{IsDrawnBy, IsPicture, IsPictureOf};
+ghost use Rattle.views.specs.Views.{needed_to, picture_text, view_of, Begins, IsCourse, IsDrawn};
+ghost use Rattle.views.specs.Views.{IsTracedBefore, Prints};
+ghost use Rattle.views.specs.declared.fault.ViewFault.TheVariants.{Output};
+
+use crate::fault::{ViewFault, unreadable};
+use crate::files::{flushed, read_model_file};
+use crate::histograms::histogram_on;
+use crate::levels::dump_on;
+use crate::looking::{first_of, found_among, time_of};
+use cli::{DrawArgs, ModelFile, most_sectors};
+use pictures::{
+    Row, Trace, View, read_rows, trace_before, write_course, write_drawing, write_load,
+};
+use std::fs::{self, File};
+use std::io::{Result as IoResult, Write};
+use std::rt::Files;
+use texts::Described;
+
+/// Writes the picture of a run, or its value change dump.
+pub(crate) fn draw_on<M, R, O>(rt: &R, args: DrawArgs<'_>, out: &mut O) -> Result<(), ViewFault>
+where
+    M: Described,
+    R: Files<File = File> + AllocGlobal,
+    O: Write,
+    ensures ok { OnOk result (Prints (IsDrawnBy M.meaning M.says args.entry.vcd args.entry)
+        (O.contents out.old) (O.contents out.new)) }
+    ensures err { OnErr result ((out.new ≡ out.old)
+        ⊎ Begins (IsDrawnBy M.meaning M.says args.entry.vcd args.entry)
+        (O.contents out.old) (O.contents out.new)) }
+{
+    if args.vcd {
+        return dump_on::<M, R, O>(rt, args, out);
+    }
+    drawn_on::<M, R, O>(rt, args, out)
+}
+
+/// Writes the histogram of a word of messages, or another picture.
+fn drawn_on<M, R, O>(rt: &R, args: DrawArgs<'_>, out: &mut O) -> Result<(), ViewFault>
+where
+    M: Described,
+    R: Files<File = File> + AllocGlobal,
+    O: Write,
+    ensures ok { OnOk result
+        (Prints (IsPictureOf M.meaning M.says args.entry args.entry.histogram)
+        (O.contents out.old) (O.contents out.new)) }
+    ensures err { OnErr result ((out.new ≡ out.old)
+        ⊎ Begins (IsPictureOf M.meaning M.says args.entry args.entry.histogram)
+        (O.contents out.old) (O.contents out.new)) }
+{
+    match args.histogram {
+        Some(word) => histogram_on::<M, R, O>(rt, args.of, word, out),
+        None => picture_on::<M, R, O>(rt, args, out),
+    }
+}
+
+/// Writes the picture of a run, or of the course in a trace.
+fn picture_on<M, R, O>(rt: &R, args: DrawArgs<'_>, out: &mut O) -> Result<(), ViewFault>
+where
+    M: Described,
+    R: Files<File = File> + AllocGlobal,
+    O: Write,
+    ensures ok { OnOk result
+        (Prints (IsPicture M.meaning M.says args.entry args.entry.trace)
+        (O.contents out.old) (O.contents out.new)) }
+    ensures err { OnErr result ((out.new ≡ out.old)
+        ⊎ Begins (IsPicture M.meaning M.says args.entry args.entry.trace)
+        (O.contents out.old) (O.contents out.new)) }
+{
+    match args.trace {
+        Some(trace) => course_of::<R, O>(rt, trace, out),
+        None => {
+            let DrawArgs {
+                of,
+                from,
+                to,
+                processes,
+                load,
+                ..
+            } = args;
+            let seen = Seen {
+                from,
+                to,
+                processes,
+                load,
+            };
+            let most = most_sectors(of.large);
+            draw_of::<M, R, O>(rt, of.model, of.disk, most, seen, out)
+        }
+    }
+}
+
+/// The part of a run to draw: from a time on, before a time, in ticks, and which processes.
+/// Without the second time it is the end that a picture has by itself (`View::to`).
+#[derive(Clone, Copy)]
+struct Seen {
+    from: Option<u64>,
+    to: Option<u64>,
+    processes: Option<(u32, u32)>,
+    /// Whether to draw the load instead of each event.
+    load: bool,
+}
+
+/// Runs the model of a file up to the time committed on a disk, of at most `most` sectors, or
+/// without a disk to its end, but only the part of that run before the tick `before`, and no further.
+fn traced_before<M, R>(
+    rt: &R,
+    model_file: ModelFile<'_>,
+    disk: Option<&str>,
+    most: u32,
+    before: u64,
+) -> Result<Trace, ViewFault>
+where
+    M: Described,
+    R: Files<File = File> + AllocGlobal,
+    ensures { IfOk result (IsTracedBefore M.meaning M.says disk.entry before) }
+{
+    let (model, end): (M, u64) = read_model_file(rt, model_file)?;
+    let to = time_of(rt, &model, end, disk, most)?;
+    Ok(trace_before(rt.alloc(), &model, end, to, before)?)
+}
+
+/// Writes the picture of a run, which is simulated only up to the picture's end. A disk has at most
+/// `most` sectors. Returns `NoSuchProcess` if the model has none of the processes to draw.
+fn draw_of<M, R, O>(
+    rt: &R,
+    model_file: ModelFile<'_>,
+    disk: Option<&str>,
+    most: u32,
+    seen: Seen,
+    out: &mut O,
+) -> Result<(), ViewFault>
+where
+    M: Described,
+    R: Files<File = File> + AllocGlobal,
+    O: Write,
+    ensures ok { OnOk result
+        (Prints (IsDrawn M.meaning M.says disk.entry seen.load seen.from seen.to seen.processes)
+        (O.contents out.old) (O.contents out.new)) }
+    ensures err { OnErr result ((out.new ≡ out.old)
+        ⊎ Begins (IsDrawn M.meaning M.says disk.entry seen.load seen.from seen.to seen.processes)
+        (O.contents out.old) (O.contents out.new)) }
+{
+    let trace = traced_before::<M, R>(rt, model_file, disk, most, needed_to(seen))?;
+    found_among(first_of(seen.processes), trace.first().len() as u32)?;
+    let view = view_of(seen);
+    write_view(&trace, &view, seen.load, out)
+}
+
+/// Returns the tick before which the picture needs to know the run.
+fn needed_to(seen: Seen) -> u64
+    ensures { result ≡ needed_to seen.from seen.to }
+{
+    match seen.to {
+        Some(to) => to.max(seen.from.unwrap_or(0)),
+        None => u64::MAX,
+    }
+}
+
+/// Returns the requested view. Without bounds it has the whole run.
+fn view_of(seen: Seen) -> View
+    ensures { result ≡ view_of seen.from seen.to seen.processes }
+{
+    let (first, last) = seen.processes.unwrap_or((0, u32::MAX));
+    View {
+        from: seen.from.unwrap_or(0),
+        to: seen.to,
+        first,
+        last,
+    }
+}
+
+/// Writes a picture, and flushes the writer.
+fn write_view<O: Write>(
+    trace: &Trace,
+    view: &View,
+    load: bool,
+    out: &mut O,
+) -> Result<(), ViewFault>
+    ensures written { Writes (O.contents out.old) (O.contents out.new) result
+        (picture_text load trace.now view.now) }
+    ensures fault { IsOkUnless result Output }
+{
+    flushed(write_picture(trace, view, load, out), out)
+}
+
+/// Writes a picture: the load, or the space-time diagram.
+fn write_picture<O: Write>(trace: &Trace, view: &View, load: bool, out: &mut O) -> IoResult<()>
+    ensures { Writes (O.contents out.old) (O.contents out.new) result
+        (picture_text load trace.now view.now) }
+{
+    if load {
+        write_load(trace, view, out)
+    } else {
+        write_drawing(trace, view, out)
+    }
+}
+
+/// Writes the picture of the course of a run from the file of its trace.
+fn course_of<R, O>(rt: &R, trace: &str, out: &mut O) -> Result<(), ViewFault>
+where
+    R: Files<File = File> + AllocGlobal,
+    O: Write,
+    ensures ok { OnOk result (Prints IsCourse (O.contents out.old) (O.contents out.new)) }
+    ensures err { OnErr result ((out.new ≡ out.old)
+        ⊎ Begins IsCourse (O.contents out.old) (O.contents out.new)) }
+{
+    let bytes = fs::read(rt, trace).map_err(unreadable)?;
+    let rows = read_rows(rt.alloc(), bytes.as_slice())?;
+    write_rows(rows.as_slice(), out)
+}
+
+/// Writes the course that rows of a trace show, and flushes the writer.
+fn write_rows<O: Write>(rows: &[Row], out: &mut O) -> Result<(), ViewFault>
+    ensures written { Writes (O.contents out.old) (O.contents out.new) result
+        (course_text rows.now) }
+    ensures fault { IsOkUnless result Output }
+{
+    flushed(write_course(rows, out), out)
+}
