@@ -32,6 +32,27 @@ gap=1 numbers.gap=2 => Setting(NoSuchKey(2))
 numbers=1 => Setting(OtherKind(1))
 "#;
 
+/// A text with kinds, one of them without a count, and one with the name of an earlier one.
+const KINDS: &str = "\
+[[kind]]
+name = \"host\"
+count = 2
+[[kind]]
+name = \"link\"
+[[kind]]
+name = \"host\"
+count = 3
+";
+
+/// Settings of that text, and the text that they make.
+const COUNTS: &str = r#"
+host.count=9 => [[kind]]|count = 9|name = "host"||[[kind]]|name = "link"||[[kind]]|count = 3|name = "host"|
+link.count=9 => Setting(NoSuchKey(1))
+host.counts=9 => Setting(NoSuchKey(1))
+.count=9 => Setting(NoSuchKey(1))
+host.count=many => Setting(OtherKind(1))
+"#;
+
 /// What settings make of a text, on one line.
 fn made(alloc: Global, text: &str, line: &str) -> Result<String, AllocError> {
     let mut settings = Vec::new(alloc);
@@ -54,11 +75,15 @@ fn on_one_line(alloc: Global, text: &str) -> Result<String, AllocError> {
     Ok(out)
 }
 
-/// The first row that is not right.
-fn wrong_row(alloc: Global) -> Result<Option<&'static str>, AllocError> {
-    for row in ROWS.lines() {
+/// The first of these rows that is not right.
+fn wrong_row(
+    alloc: Global,
+    text: &str,
+    rows: &'static str,
+) -> Result<Option<&'static str>, AllocError> {
+    for row in rows.lines() {
         if let Some((line, expected)) = row.split_once(" => ") {
-            if made(alloc, TEXT, line)?.as_str() != expected {
+            if made(alloc, text, line)?.as_str() != expected {
                 return Ok(Some(row));
             }
         }
@@ -68,7 +93,8 @@ fn wrong_row(alloc: Global) -> Result<Option<&'static str>, AllocError> {
 
 #[test]
 fn values_are_set(rt: HostRuntime) -> Result<(), Fail> {
-    assert_eq!(rt; wrong_row(rt.alloc())?, None);
+    assert_eq!(rt; wrong_row(rt.alloc(), TEXT, ROWS)?, None);
+    assert_eq!(rt; wrong_row(rt.alloc(), KINDS, COUNTS)?, None);
     assert_eq!(rt; made(rt.alloc(), "lps = ", "lps=1")?.as_str(), "Toml");
     Ok(())
 }

@@ -4,3 +4,4 @@ pub mod Tables
 pub mod Right
 pub mod KindsRight
 pub mod Placing
+pub mod Counting

@@ -1,8 +1,10 @@
 -- Values of a model file that are set: what the table then is.
-use Rattle.std.specs.Prelude.{◌≡◌, ◌≤◌, ◌⊎◌, ◌==◌, ℕ, List, [], ◌∷◌, Option, Some, None, false}
-use Rattle.std.specs.Prelude.{codes, if◌then◌else◌, is_some, option_and_then}
-use Rattle.toml.specs.Data.{Data, Members, as_str, as_table, get_member, members_depth, same_key}
-use Rattle.toml.specs.Data.{string, table, type_of}
+use Rattle.std.specs.Prelude.{◌≡◌, ◌≤◌, ◌⊎◌, ◌==◌, ◌-◌, ℕ, List, [], ◌∷◌, Option, Some, None, Bool}
+use Rattle.std.specs.Prelude.{true, false, codes, drop, if◌then◌else◌, is_some, length, nat_eq}
+use Rattle.std.specs.Prelude.{option_and_then, take}
+use Rattle.std.specs.Cmp.Lexicographic.{pointwise}
+use Rattle.toml.specs.Data.{Data, Items, Members, array, as_array, as_str, as_table, get_member}
+use Rattle.toml.specs.Data.{item, members_depth, no_items, same_key, string, table, type_of}
 use Rattle.toml.specs.Parse.{parse_document, parse_value}
 
 -- the numbers of a table, by their names
@@ -49,11 +51,60 @@ pub record IsNumberReplaced (name text : List ℕ) (before after : Members) : Ty
   pub replaced : IsReplaced name text numbers changed
   pub put : IsPut (codes "numbers") (table changed) before after
 
+-- the name that stands before `.count`
+unfoldable pub kind_before : List ℕ → Option (List ℕ)
+kind_before name =
+    if pointwise nat_eq (drop (length name - 6) name) (codes ".count")
+    then Some (take (length name - 6) name) else None
+
+-- the kinds of processes of a table
+abbrev pub kinds_of : Members → Option Items
+kinds_of before = option_and_then as_array (get_member (codes "kind") before)
+
+abbrev pub name_of : Data → Option (List ℕ)
+name_of kind =
+    option_and_then as_str (option_and_then (get_member (codes "name")) (as_table kind))
+
+abbrev pub is_name : List ℕ → Option (List ℕ) → Bool
+is_name name None = false
+is_name name (Some other) = pointwise nat_eq other name
+
+-- whether the value is a kind of this name
+abbrev pub is_kind : List ℕ → Data → Bool
+is_kind name d = is_name name (name_of d)
+
+-- the count of the first kind of this name
+abbrev pub count_among : List ℕ → Items → Option Data
+count_among name no_items = None
+count_among name (item d ds) =
+    if is_kind name d then option_and_then (get_member (codes "count")) (as_table d)
+    else count_among name ds
+
+-- the second kinds are the first ones with the count of the first one of this name replaced
+pub data IsCountAmong (name text : List ℕ) : Items → Items → Type 0 where
+  here : (d e : Data) (ds : Items) → is_kind name d ≡ true →
+      IsTableReplaced (codes "count") text d e → IsCountAmong name text (item d ds) (item e ds)
+  behind : (d : Data) (ds es : Items) → is_kind name d ≡ false →
+      IsCountAmong name text ds es → IsCountAmong name text (item d ds) (item d es)
+
+-- the second table is the first one with the count of the kind before `.count` replaced
+pub record IsCountReplaced (name text : List ℕ) (before after : Members) : Type 0 where
+  pub kind : List ℕ
+  pub kinds : Items
+  pub changed : Items
+  pub none : get_member name before ≡ None
+  pub no_number : option_and_then (get_member name) (numbers_of before) ≡ None
+  pub named : kind_before name ≡ Some kind
+  pub had : kinds_of before ≡ Some kinds
+  pub replaced : IsCountAmong kind text kinds changed
+  pub put : IsPut (codes "kind") (array changed) before after
+
 -- the second table is the first one with the value of this name set: that of the key, or else of
--- the number
+-- the number, or else the count of the kind
 abbrev pub IsSet : List ℕ → List ℕ → Members → Members → Type 0
 IsSet name text before after =
-    IsReplaced name text before after ⊎ IsNumberReplaced name text before after
+    IsReplaced name text before after
+    ⊎ (IsNumberReplaced name text before after ⊎ IsCountReplaced name text before after)
 
 -- the second table is the first one with these values set, one after another
 abbrev pub AreSet : List (List ℕ × List ℕ) → Members → Members → Type 0
@@ -71,9 +122,19 @@ pub record IsTextWith (settings : List (List ℕ × List ℕ)) (text new : List 
   pub read_back : members_depth after ≤ 80 → parse_document new ≡ Some after
 
 -- the value that is set by this name, if there is one
+abbrev pub count_of : List ℕ → Members → Option Data
+count_of name before =
+    option_and_then (λ kind. option_and_then (count_among kind) (kinds_of before))
+    (kind_before name)
+
+abbrev pub number_or_count : List ℕ → Members → Option Data
+number_or_count name before =
+    if is_some (option_and_then (get_member name) (numbers_of before))
+    then option_and_then (get_member name) (numbers_of before) else count_of name before
+
 abbrev pub present : List ℕ → Members → Option Data
 present name before = if is_some (get_member name before) then get_member name before
-    else option_and_then (get_member name) (numbers_of before)
+    else number_or_count name before
 
 -- the text is no value of the kind that is set by this name
 abbrev pub IsUnset : List ℕ → List ℕ → Members → Type 0

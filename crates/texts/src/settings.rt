@@ -1,13 +1,15 @@
 // The text of a model file in which values are replaced.
 
-ghost use Rattle.std.specs.Prelude.{◌≡◌, Err, None, Some, map, IfOk, OnOk};
-ghost use Rattle.std.specs.Prelude.{option_and_then, option_map, string_bytes};
+ghost use Rattle.std.specs.Prelude.{◌≡◌, ◌<◌, Err, None, Some, map, IfOk, OnOk, is_some, length};
+ghost use Rattle.std.specs.Prelude.{option_and_then, option_map, slice_set, string_bytes};
 ghost use Rattle.texts.specs.Settings.{numbers_of, present, value_as, AreSet, IsNumberReplaced};
+ghost use Rattle.texts.specs.Settings.{IsCountAmong, IsCountReplaced, count_among, count_of};
+ghost use Rattle.texts.specs.Settings.{is_kind, kind_before};
 ghost use Rattle.texts.specs.Settings.{IsPut, IsReplaced, IsSet, IsTableReplaced, IsTextWith};
 ghost use Rattle.texts.specs.Settings.{IsUnset};
 ghost use Rattle.toml.specs.Data.{as_table, get_member};
 ghost use Rattle.toml.specs.Parse.{parse_document};
-ghost use Rattle.toml.specs.View.{table_view, view};
+ghost use Rattle.toml.specs.View.{array_view, items_of, items_view, table_view, view};
 
 use std::alloc::{AllocError, Global};
 use thiserror::Error;
@@ -31,7 +33,8 @@ pub enum SettingsFault {
 /// reason.
 #[derive(Clone, Copy, Debug, PartialEq, Eq, Error)]
 pub enum SettingFault {
-    /// The table has no key of this name, and nor has its table `numbers`.
+    /// The table has no key of this name, and nor has its table `numbers`, and there is no kind of the
+    /// name before `.count`.
     #[error("{0} NoSuchKey")]
     NoSuchKey(usize),
     /// The text is no value of the kind that the value in the file has.
@@ -47,14 +50,16 @@ enum Refusal {
 }
 
 /// Returns the text of a model file in whose table these values are set, in this order: each time
-/// the value at the key of this name, or else at the key of this name in the table `numbers`.
+/// the value at the key of this name, or else at the key of this name in the table `numbers`, or else,
+/// where the name is `KIND.count`, the count of the first kind of that name.
 ///
 /// Where the value is a string, the text that is set is the new one; otherwise it is TOML of a value
 /// of the same kind. `Toml` comes if the text is not TOML, `Setting` with the first setting that is
 /// refused, and `NoMemory` if an allocation failed.
 ///
 /// Takes memory for the table and for the new text, and looks up each name in logarithmic time; each
-/// setting of a number copies the table `numbers`.
+/// setting of a number copies the table `numbers`, and each of a count looks through the kinds and
+/// copies them.
 pub fn with_settings(
     alloc: Global,
     text: &str,
@@ -106,7 +111,8 @@ impl Refusal {
     }
 }
 
-/// Sets the value of this name in a table, or else in its table `numbers`.
+/// Sets the value of this name in a table, or else in its table `numbers`, or else the count of the
+/// kind before `.count`.
 fn set(alloc: Global, table: &mut Table, name: &str, text: &str) -> Result<(), Refusal>
     ensures ok { OnOk result
         (IsSet name.now text.now (table_view table.old) (table_view table.new)) }
@@ -117,8 +123,134 @@ fn set(alloc: Global, table: &mut Table, name: &str, text: &str) -> Result<(), R
 {
     match value_at(table, name) {
         Some(_) => replace(alloc, table, name, text),
-        None => set_number(alloc, table, name, text),
+        None => {
+            if has_number(table, name) {
+                set_number(alloc, table, name, text)
+            } else {
+                set_count(alloc, table, name, text)
+            }
+        }
     }
+}
+
+/// Whether the table `numbers` of a table has a key of this name.
+fn has_number(table: &Table, name: &str) -> bool
+    ensures { result ≡ is_some (option_and_then (get_member name.now)
+        (numbers_of (table_view table.now))) }
+{
+    let Some(numbers) = value_at(table, "numbers") else {
+        return false;
+    };
+    match numbers.as_table() {
+        Some(numbers) => value_at(numbers, name).is_some(),
+        None => false,
+    }
+}
+
+/// Sets the count of the kind whose name stands before `.count`, in a table that has neither a key
+/// nor a number of the whole name.
+fn set_count(alloc: Global, table: &mut Table, name: &str, text: &str) -> Result<(), Refusal>
+    requires none { get_member name.now (table_view table.now) ≡ None }
+    requires no_number { option_and_then (get_member name.now) (numbers_of (table_view table.now))
+        ≡ None }
+    ensures ok { OnOk result
+        (IsCountReplaced name.now text.now (table_view table.old) (table_view table.new)) }
+    ensures unknown { result ≡ Err Refusal.NoSuchKey →
+        count_of name.now (table_view table.old) ≡ None }
+    ensures other { result ≡ Err Refusal.OtherKind →
+        option_and_then (λ old. value_as old text.now) (count_of name.now (table_view table.old))
+        ≡ None }
+{
+    let Some(kind) = kind_before(name) else {
+        return Err(Refusal::NoSuchKey);
+    };
+    let Some(kinds) = value_at(table, "kind") else {
+        return Err(Refusal::NoSuchKey);
+    };
+    let Some(kinds) = kinds.as_array() else {
+        return Err(Refusal::NoSuchKey);
+    };
+    let changed = with_count(alloc, kinds, kind, text)?;
+    put(alloc, table, "kind", Value::Array(changed))
+}
+
+/// The name before `.count`, where that ends a name.
+#[tactic(auto, unfolding(crate::specs::Settings::kind_before))]
+fn kind_before(name: &str) -> Option<&[u8]>
+    ensures { option_map (λ kind. kind.now) result ≡ kind_before name.now }
+{
+    match name.as_bytes().strip_suffix(".count".as_bytes()) {
+        Some(kind) => Some(kind),
+        None => None,
+    }
+}
+
+/// Whether a value is a kind of this name.
+fn is_kind(kind: &Value, name: &[u8]) -> bool
+    ensures { result ≡ is_kind name.now (view kind.now) }
+{
+    let Some(table) = kind.as_table() else {
+        return false;
+    };
+    let Some(value) = value_at(table, "name") else {
+        return false;
+    };
+    match value.as_str() {
+        Some(other) => other.as_bytes() == name,
+        None => false,
+    }
+}
+
+/// Returns a copy of kinds in which the count of the first one of this name is set.
+fn with_count(
+    alloc: Global,
+    kinds: &[Value],
+    name: &[u8],
+    text: &str,
+) -> Result<Vec<Value>, Refusal>
+    ensures ok { IfOk result (λ new.
+        IsCountAmong name.now text.now (items_view kinds.now) (array_view new)) }
+    ensures unknown { result ≡ Err Refusal.NoSuchKey →
+        count_among name.now (items_view kinds.now) ≡ None }
+    ensures other { result ≡ Err Refusal.OtherKind →
+        option_and_then (λ old. value_as old text.now)
+        (count_among name.now (items_view kinds.now)) ≡ None }
+{
+    'kinds: for (place, kind) in kinds.iter().enumerate() {
+        if is_kind(kind, name) {
+            let changed = with_number(alloc, kind, "count", text)?;
+            return with_item(alloc, kinds, place, changed);
+        }
+    }
+    Err(Refusal::NoSuchKey)
+}
+
+/// Returns a copy of values with this one at a place.
+fn with_item(
+    alloc: Global,
+    values: &[Value],
+    place: usize,
+    new: Value,
+) -> Result<Vec<Value>, Refusal>
+    requires { place < length values.now }
+    ensures ok { IfOk result (λ all. array_view all
+        ≡ items_of (slice_set (map view values.now) place (view new))) }
+    ensures memory { (refusal : Refusal) → result ≡ Err refusal → refusal ≡ Refusal.NoMemory }
+{
+    let mut all = copies(alloc, values)?;
+    all[place] = new;
+    Ok(all)
+}
+
+/// Returns a copy of values.
+fn copies(alloc: Global, values: &[Value]) -> Result<Vec<Value>, AllocError>
+    ensures { IfOk result (λ all. map view all.items ≡ map view values.now) }
+{
+    let mut all = Vec::new(alloc);
+    'values: for value in values {
+        all.push(value.clone()?)?;
+    }
+    Ok(all)
 }
 
 /// Sets the number of this name in a table that has no key of this name.
