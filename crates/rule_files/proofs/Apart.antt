@@ -294,6 +294,7 @@ some_height (Put array i x) low = omega arith
 
 mutual
   unfolding act_at statement_at row_at
+
   act_again : (n : ℕ) (x : Act) (rest : List ℕ) → act_height x ≤ n → ActFits x → act_at n (act_bytes x ++ rest) ≡ Some (x, rest)
   act_again zero x rest low fits = absurd (some_height x low)
   act_again (suc n) (Let i x) rest low fits =

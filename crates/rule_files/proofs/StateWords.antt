@@ -21,4 +21,3 @@ words_more keyed n k word next key none behind = by_place n (omega (arith, next)
         let last : word ≡ [] = r (λ e. omega (arith, e)) in
         ap (state_words keyed) is ∙ ap (λ ws. (if keyed then codes "key" else []) ∷ ws) (same_more [] i)
         ∙ ap (λ w. ((if keyed then codes "key" else []) ∷ replicate i []) ++ w ∷ []) (sym last)
-

@@ -46,6 +46,7 @@ put_block-returns-clause-bytes t c = λ m held.
     (ahead_ends c.put_number.new.hasher c.statements.hasher _ _ c.statements.invariant.bytes none _ (c.put_number.ensures m held))
 
 pub put_block-returns-clause-fits : goal.put_block-returns-clause-fits
-put_block-returns-clause-fits t c =
-    (omega (arith, acts_count c.args.block.now),
-    c.statements.invariant.fits (subst (λ xs. ActsFit (acts_of xs)) (sym (drop_all c.statements.statement-index c.args.block.now c.statements-test.false)) tt))
+put_block-returns-clause-fits t c = (
+  omega (arith, acts_count c.args.block.now),
+  c.statements.invariant.fits (subst (λ xs. ActsFit (acts_of xs)) (sym (drop_all c.statements.statement-index c.args.block.now c.statements-test.false)) tt),
+)
