@@ -33,6 +33,7 @@ of_view view.BadTrace = fault.BadTrace
 of_view (view.Setting f) = fault.Setting f
 of_view (view.Mistake mistake) = fault.Mistake mistake
 of_view (view.NoSuchProcess processes) = fault.NoSuchProcess processes
+of_view view.NoSuchWord = fault.NoSuchWord
 of_view view.NoMemory = fault.NoMemory
 of_view view.Output = fault.Output
 

@@ -45,7 +45,8 @@ where
 {
     let DiskArgs { model, disk, large } = args.on;
     let read: ModelText<M> = read_model_text(rt, model)?;
-    let (of, end) = (&read.model, read.end);
+    let of = &read.model;
+    let end = read.end;
     if are_one_file(rt, model.path, disk) || are_one_file(rt, from, disk) {
         return Err(Fault::File);
     }

@@ -110,6 +110,9 @@ pub enum Fault {
         /// How many processes it has.
         processes: u32,
     },
+    /// No word of messages has the name that is asked for, or several sorts of messages have one.
+    #[error("NoSuchWord")]
+    NoSuchWord,
     /// An allocation failed in a call without its own fault for it.
     #[error("NoMemory")]
     NoMemory,
@@ -177,6 +180,10 @@ impl Fault {
             Fault::BadTrace => Some("the file is not as `run --trace` writes one"),
             Fault::Mistake(_) => None,
             Fault::NoSuchProcess { .. } => Some("the model has fewer processes"),
+            Fault::NoSuchWord => Some(
+                "`stats --table words` prints the names of the words of messages; of a word that \
+                 several sorts have, write SORT.WORD",
+            ),
             Fault::NoMemory => Some(NO_MEMORY),
             Fault::Output => Some(
                 "standard output was closed, as by `| head`, or has no room: what is committed \
@@ -387,6 +394,7 @@ impl From<ViewFault> for Fault {
             ViewFault::Setting(fault) => Fault::Setting(fault),
             ViewFault::Mistake(mistake) => Fault::Mistake(mistake),
             ViewFault::NoSuchProcess { processes } => Fault::NoSuchProcess { processes },
+            ViewFault::NoSuchWord => Fault::NoSuchWord,
             ViewFault::NoMemory => Fault::NoMemory,
             ViewFault::Output => Fault::Output,
         }

@@ -26,7 +26,7 @@ module _ (m : Meaning) (bound : ℕ) where
       let s = step_is m bound a b e in
       let x : Message = s.0 in
       let goes : step m bound (with_log log a) ≡ Some (with_log (log ++ x ∷ []) (handled m a x s.1)) =
-          ap (step_from m bound (with_log log a)) s.2 ∙ cond-true (can_handle m bound a x) (Some (with_log (log ++ x ∷ []) (handled m a x s.1))) None s.4 in
+      ap (step_from m bound (with_log log a)) s.2 ∙ cond-true (can_handle m bound a x) (Some (with_log (log ++ x ∷ []) (handled m a x s.1))) None s.4 in
       (x ∷ [], ap (λ (w : World). w.log) s.3, goes ∙ ap (λ (w : World). Some (with_log (log ++ x ∷ []) w)) (sym s.3))
 
   reaches-with_log : (n : ℕ) (log : List Message) (a b : World) → Reaches m bound n a b → (more : List Message) × (b.log ≡ a.log ++ more) × Reaches m bound n (with_log log a) (with_log (log ++ more) b)
@@ -43,7 +43,7 @@ module _ (m : Meaning) (bound : ℕ) where
       let there : with_log (log ++ more) b ≡ with_log ((log ++ s.0) ++ r.0) b = ap (λ (l : List Message). with_log l b) (sym (append_assoc log s.0 r.0)) in
       (more, logged, (with_log (log ++ s.0) f.0, s.2, subst (Reaches m bound n (with_log (log ++ s.0) f.0)) (sym there) r.2))
 
--- 3. How a simulation passes
+  -- 3. How a simulation passes
 
   pub passed_open : IsPassed m bound [] (opening m)
   passed_open = record { steps = 0; reached = refl }
@@ -78,7 +78,7 @@ module _ (m : Meaning) (bound : ℕ) where
       let zero_time = passed_time past a h in
       let last = passed_more past a (at_time a.time b) h run.run in
       let at : Reaches m bound last.steps (opening m) (at_time 0 (with_log (past ++ b.log) b)) =
-          subst (λ (t : ℕ). Reaches m bound last.steps (opening m) (at_time t (with_log (past ++ b.log) b))) zero_time last.reached in
+      subst (λ (t : ℕ). Reaches m bound last.steps (opening m) (at_time t (with_log (past ++ b.log) b))) zero_time last.reached in
       record {
         steps = last.steps;
         reached = Reaches-sooner m bound end last.steps (opening m) (at_time 0 (with_log (past ++ b.log) b)) le at;

@@ -81,7 +81,11 @@ fn write_title<W: Write>(histogram: &Histogram<'_>, out: &mut W) -> Result<()> {
         write_text(" of ", out)?;
         write_escaped(histogram.sort, out)?;
     }
-    write_number(" in messages handled before virtual time ", histogram.time, out)
+    write_number(
+        " in messages handled before virtual time ",
+        histogram.time,
+        out,
+    )
 }
 
 /// Writes figures with the names that tables have for them.

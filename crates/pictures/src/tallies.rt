@@ -64,7 +64,10 @@ impl Tally {
         ensures none { result ≡ None → self.now.moments.count ≡ 0 }
     {
         let Moments {
-            count, least, most, ..
+            count,
+            least,
+            most,
+            ..
         } = self.moments;
         if count == 0 {
             return None;

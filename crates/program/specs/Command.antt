@@ -36,7 +36,7 @@ use Rattle.model.specs.declared.origin.Origin.{Origin}
 use Rattle.disk.specs.Disk.{DiskState}
 use Rattle.eventkey.specs.Writing.{TakesBeginning}
 use Rattle.texts.specs.ModelFile.{IsModelFile}
-use Rattle.views.specs.Reading.{IsOn, IsSeen}
+use Rattle.views.specs.Reading.{IsOn, IsSeen, IsSeenSoFar}
 use Rattle.views.specs.Views.{Begins, Describes, Prints, Shows}
 use Rattle.views.specs.declared.looks.Look.TheVariants as look
 use Rattle.program.specs.Attempts.{HasCome, IsRanAsReported, IsRanOn, IsStoppedAsReported, IsStoppedOn}
@@ -268,6 +268,14 @@ IsOutput meaning says shows (Draw args) text = IsSeen meaning says shows (look.D
 IsOutput meaning says shows (Seq args) text = IsSeen meaning says shows (look.Seq args) text
 IsOutput meaning says shows (Check args) text = IsSeen meaning says shows (look.Check args) text
 IsOutput meaning says shows (Node args) text = text ≡ []
+
+-- a text of which a command prints a beginning if it fails: of `seq` also that of a simulation which
+-- does not come to its end
+abbrev pub IsOutputSoFar : {M : Type 0} → (M → Meaning) → Describes M → Shows M → Command → List ℕ →
+    Type 0
+IsOutputSoFar meaning says shows (Seq args) text =
+    IsSeenSoFar meaning says shows (look.Seq args) text
+IsOutputSoFar meaning says shows command text = IsOutput meaning says shows command text
 
 -- The words give a command of the program of this name, and the writer has taken a text that the
 -- command prints.

@@ -6,9 +6,9 @@ ghost use Rattle.std.specs.Prelude.{◌≡◌, ◌≤◌, ◌≢◌, ◌⊎◌, 
 ghost use Rattle.clap.specs.Values.{kind_of};
 ghost use Rattle.cli.specs.Command.{refusal_of, IsRanged};
 ghost use Rattle.eventkey.specs.Writing.{TakesBeginning};
-ghost use Rattle.program.specs.Command.{IsAnswered, BeginsAnswer, IsOutput};
+ghost use Rattle.program.specs.Command.{IsAnswered, BeginsAnswer, IsOutput, IsOutputSoFar};
 ghost use Rattle.program.specs.Version.{version_text, AsksVersion};
-ghost use Rattle.views.specs.Reading.{IsSeen};
+ghost use Rattle.views.specs.Reading.{IsSeen, IsSeenSoFar};
 ghost use Rattle.views.specs.Views.{Begins, Prints};
 
 use crate::attempts::NodePrograms;
@@ -99,7 +99,7 @@ where
     ensures line { result ≡ 2 →
         refusal_of about.entry.name.now (map S.text words.now) ≢ [] }
     ensures failed { result ≡ 1 → (out.new ≡ out.old)
-        ⊎ BeginsAnswer about.entry.name.now (IsOutput M.meaning M.says M.shows)
+        ⊎ BeginsAnswer about.entry.name.now (IsOutputSoFar M.meaning M.says M.shows)
         (map S.text words.now) (O.contents out.old) (O.contents out.new) }
     ensures silent { result ≡ 2 → out.new ≡ out.old }
     ensures quiet { result ≡ 0 → err.new ≡ err.old }
@@ -215,7 +215,7 @@ where
     ensures ok { OnOk result (Prints (IsOutput M.meaning M.says M.shows command.entry)
         (O.contents out.old) (O.contents out.new)) }
     ensures err { OnErr result ((out.new ≡ out.old)
-        ⊎ Begins (IsOutput M.meaning M.says M.shows command.entry)
+        ⊎ Begins (IsOutputSoFar M.meaning M.says M.shows command.entry)
         (O.contents out.old) (O.contents out.new)) }
 {
     match command {
@@ -256,7 +256,7 @@ where
     ensures ok { OnOk result (Prints (IsSeen M.meaning M.says M.shows look.entry)
         (O.contents out.old) (O.contents out.new)) }
     ensures err { OnErr result ((out.new ≡ out.old)
-        ⊎ Begins (IsSeen M.meaning M.says M.shows look.entry)
+        ⊎ Begins (IsSeenSoFar M.meaning M.says M.shows look.entry)
         (O.contents out.old) (O.contents out.new)) }
 {
     let mut watch = Verifying { progress };

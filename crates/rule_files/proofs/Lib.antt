@@ -8,3 +8,7 @@ pub mod Choice
 pub mod KindsRight
 pub mod KindLists
 pub mod Columns
+mod Apart
+mod Hashed
+mod Limited
+mod StateWords

@@ -5,6 +5,7 @@ use Rattle.std.specs.Prelude.{Bool, true, false, Option, Some, None, codes, if�
 use Rattle.std.specs.Prelude.{length, map, nat_eq, not, option_and_then}
 use Rattle.std.specs.Cmp.Lexicographic.{pointwise}
 use Rattle.rule_files.specs.Arrays.{key_from}
+use Rattle.rule_files.specs.Digest.{IsLimited, digest_words, meant, state_words}
 use Rattle.rule_files.specs.Kinds.{AreKinds, IsByKind, IsRuleAt, KindRules, all_fit, count_of}
 use Rattle.rule_files.specs.Kinds.{has_kinds, is_keyed, key_place, kind_keys, kind_tables, kinds_of}
 use Rattle.rule_files.specs.Kinds.{name_of, processes_from, setting, short_rule_fits, text_in}
@@ -19,6 +20,7 @@ use Rattle.rule_files.specs.declared.file_model.Form.{Form}
 use Rattle.rule_files.specs.declared.file_model.Form.TheVariants.{Alone, Kinds}
 use Rattle.rule_files.specs.declared.file_model.KindNames.{KindNames}
 use Rattle.rule_files.specs.declared.file_model.FileModel.TheVariants.{BuiltIn, Rules}
+use Rattle.rules.specs.Limits.{IsWithin}
 use Rattle.rules.specs.Rules.{Description}
 use Rattle.texts.specs.AnyModel.{IsTableOf, kind_of, line_then, model_text, wrong_among}
 use Rattle.texts.specs.ModelFile.{Wrong, number_at, number_key, numbers_wrong, unknown_wrong}
@@ -58,6 +60,8 @@ pub record IsBody (table : Members) (d : Description) : Type 0 where
   pub tables : d.tables ≡ map (λ n. n.1) parts.tables
   pub start : IsRuleAt (codes "start") parts rules d.start
   pub handle : IsRuleAt (codes "handle") parts rules d.handle
+  pub digest :
+      d.digest ≡ digest_words (meant parts.words parts.arrays d.seed d.tables d.start d.handle)
 
 abbrev pub rules_keys : List (List ℕ)
 rules_keys =
@@ -95,6 +99,9 @@ pub record IsKindsBody (table : Members) (d : Description) : Type 0 where
   pub tables : d.tables ≡ map (λ n. n.1) named
   pub start : IsByKind (λ r. r.start) rules d.start
   pub handle : IsByKind (λ r. r.handle) rules d.handle
+  pub digest :
+      d.digest ≡ digest_words (meant (state_words (is_keyed kinds) d.width) [] d.seed d.tables
+      d.start d.handle)
 
 abbrev pub kinds_keys : List (List ℕ)
 kinds_keys =
@@ -117,6 +124,17 @@ IsByForm true = IsKindsTable
 abbrev pub IsFileTable : Members → FileModel → ℕ → Type 0
 IsFileTable table (BuiltIn m) end = IsTableOf table m end
 IsFileTable table (Rules r names) end = IsByForm (has_kinds table) table r.description end
+
+-- the limits of a file are those by which the digest of its model tells what it means
+abbrev pub FilesKeepLimits : Type 0
+FilesKeepLimits =
+    (table : Members) (d : Description) → IsWithin d.start → (body : IsBody table d) →
+    IsLimited (meant body.parts.words body.parts.arrays d.seed d.tables d.start d.handle)
+
+abbrev pub KindsKeepLimits : Type 0
+KindsKeepLimits =
+    (table : Members) (d : Description) → IsWithin d.start → (body : IsKindsBody table d) →
+    IsLimited (meant (state_words (is_keyed body.kinds) d.width) [] d.seed d.tables d.start d.handle)
 
 -- 2. The mistakes in a table
 

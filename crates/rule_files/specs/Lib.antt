@@ -8,3 +8,4 @@ pub mod Arrays  -- arrays in the state
 pub mod Names  -- names in the file of a model by rules
 pub mod Printed  -- what `check` prints of a model by rules
 pub mod KindViews  -- kinds as contracts see them
+pub mod Digest

@@ -1,7 +1,8 @@
 // Models by rules with kinds of processes.
 
 ghost use Rattle.std.specs.Prelude.{◌≡◌, ◌≢◌, ◌≤◌, ◌<◌, ◌+◌, ◌^◌, ℕ, List, [], Err, IfErr, IfOk, IsErr};
-ghost use Rattle.std.specs.Prelude.{None, Some, codes, false, true, is_ok, length, map, max};
+ghost use Rattle.std.specs.Prelude.{None, Some, codes, false, true, is_ok, length, map, max, string_bytes};
+ghost use Rattle.rule_files.specs.Digest.{state_words as state_words_of};
 ghost use Rattle.rule_files.specs.FileTable.{IsKindsBody, IsKindsTable, is_rules, kinds_fit};
 ghost use Rattle.rule_files.specs.FileTable.{kinds_head_wrong, kinds_keys, kinds_table_wrong};
 ghost use Rattle.rule_files.specs.KindViews.{kinds_view, pair_view, rules_view};
@@ -193,9 +194,11 @@ pub(crate) fn key_place(keyed: bool) -> Option<u8>
 }
 
 /// Returns the words of each state as the digest counts them.
-fn state_words(alloc: Global, width: u8, keyed: bool) -> Result<Vec<String>, AllocError> {
+fn state_words(alloc: Global, width: u8, keyed: bool) -> Result<Vec<String>, AllocError>
+    ensures { IfOk result (λ words. map string_bytes words.items ≡ state_words_of keyed width) }
+{
     let mut words = Vec::new(alloc);
-    for place in 0..width {
+    'places: for place in 0..width {
         let name = if keyed && place == 0 { "key" } else { "" };
         words.push(String::from_str(alloc, name)?)?;
     }

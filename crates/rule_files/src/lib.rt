@@ -21,6 +21,7 @@ mod shown;
 pub use arrays::NamedArray;
 pub use chosen::law_of_kinds;
 pub use described::RULES_KEYS;
+pub use digest::law_of_digests;
 pub use file_model::{FileModel, FileNames, Form, KindNames, ModelNames};
 pub use kinds::{Head, KindTable};
 pub use reading::RuleMistake;

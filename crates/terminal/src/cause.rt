@@ -577,9 +577,9 @@ where
     if !found.is_file() {
         return Ok((None, None));
     }
-    let file = File::open(rt, path)?;
+    let file = OpenOptions::new().write(true).open(rt, path)?;
     let beside = if found.len() > 0 {
-        Some(File::open(rt, path)?)
+        Some(OpenOptions::new().write(true).open(rt, path)?)
     } else {
         None
     };

@@ -42,6 +42,7 @@ fn fault_of(name: &str) -> Fault {
         "Wire Io" => Fault::Wire(WireFault::Io),
         "Grow TooMany" => Fault::Grow(GrowthFault::TooMany),
         "NoSuchProcess" => Fault::NoSuchProcess { processes: 3 },
+        "NoSuchWord" => Fault::NoSuchWord,
         "hold: missing" => Fault::Mistake(Mistake::Missing("hold")),
         _ => Fault::NoMemory,
     }
@@ -60,6 +61,7 @@ Migrate Old Log NoMemory
 Wire Io => start the run again
 Grow TooMany => ask for fewer
 NoSuchProcess => the model has fewer processes
+NoSuchWord => `stats --table words` prints the names of the words of messages; of a word that several sorts have, write SORT.WORD
 hold: missing
 NoMemory => with more memory, or take a smaller model
 ";

@@ -348,6 +348,7 @@ fn put_command_and_program_faults(names: &mut Names) {
         BadTrace => "BadTrace",
         Mistake(Mistake::Missing("hold")) => "hold: missing",
         NoSuchProcess { processes: 3 } => "NoSuchProcess",
+        NoSuchWord => "NoSuchWord",
         NoMemory => "NoMemory",
         Output => "Output",
         Segment(SegmentFault::TooLong) => "Segment TooLong",

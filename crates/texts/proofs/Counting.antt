@@ -1,7 +1,8 @@
 -- The count of a kind that is set.
-use Rattle.std.proofs.Common.{◌≡◌, ℕ, suc, zero, ◌+◌, List, ◌∷◌, true, false, codes, drop, map, set, subst, sym, arith}
-use Rattle.toml.specs.Data.{Data}
-use Rattle.toml.specs.View.{items_of, items_view, view}
+use Rattle.std.specs.Prelude.{IfOk}
+use Rattle.std.proofs.Common.{Global, Vec, Result, Ok, Err, ◌≡◌, ℕ, suc, zero, ◌+◌, List, ◌∷◌, true, false, codes, drop, map, set, subst, sym, arith}
+use Rattle.toml.specs.Data.{Data, Items}
+use Rattle.toml.specs.View.{array_view, items_of, items_view, view}
 use Rattle.toml.specs.declared.value.Value.{Value}
 use Rattle.texts.specs.Settings.{IsCountAmong, here, behind, IsTableReplaced, is_kind}
 
@@ -27,3 +28,9 @@ is_set name text place kinds kind v split named replaced all =
     subst (λ i. IsCountAmong name text (items_view kinds) (items_of (set (map view kinds) i v))) same
     (all 0 v (subst (λ vs. IsCountAmong name text (items_view vs) (items_of (set (map view vs) 0 v))) (sym split)
     (here (view kind) v (items_view (drop (place + 1) kinds)) named replaced)))
+
+-- so it is in a copy with one value replaced
+pub in_copy : {E : Type 0} (name text : List ℕ) (before after : Items) (r : Result (Vec Value Global) E) → IsCountAmong name text before after →
+    IfOk r (λ all. array_view all ≡ after) → IfOk r (λ all. IsCountAmong name text before (array_view all))
+in_copy name text before after (Ok all) counted same = subst (IsCountAmong name text before) (sym same) counted
+in_copy name text before after (Err e) counted same = tt

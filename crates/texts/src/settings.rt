@@ -175,10 +175,14 @@ fn set_count(alloc: Global, table: &mut Table, name: &str, text: &str) -> Result
 }
 
 /// The name before `.count`, where that ends a name.
+#[tactic(auto, unfolding(crate::specs::Settings::kind_before))]
 fn kind_before(name: &str) -> Option<&[u8]>
     ensures { option_map (λ kind. kind.now) result ≡ kind_before name.now }
 {
-    name.as_bytes().strip_suffix(".count".as_bytes())
+    match name.as_bytes().strip_suffix(".count".as_bytes()) {
+        Some(kind) => Some(kind),
+        None => None,
+    }
 }
 
 /// Whether a value is a kind of this name.
@@ -233,11 +237,19 @@ fn with_item(
         ≡ items_of (slice_set (map view values.now) place (view new))) }
     ensures memory { (refusal : Refusal) → result ≡ Err refusal → refusal ≡ Refusal.NoMemory }
 {
+    let mut all = copies(alloc, values)?;
+    all[place] = new;
+    Ok(all)
+}
+
+/// Returns a copy of values.
+fn copies(alloc: Global, values: &[Value]) -> Result<Vec<Value>, AllocError>
+    ensures { IfOk result (λ all. map view all.items ≡ map view values.now) }
+{
     let mut all = Vec::new(alloc);
     'values: for value in values {
         all.push(value.clone()?)?;
     }
-    all[place] = new;
     Ok(all)
 }
 

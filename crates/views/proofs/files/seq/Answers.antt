@@ -71,6 +71,9 @@ returns-clause-output g c = λ e.
       model = c.in_ok-model.model;
       end = end;
       file = c.in_ok-model.ensures.ok;
-      begun = (run_text whole, inr (whole, whole_upto m end law short old mid a b h run, refl),
-          subst (TakesBeginning old new) (whole_text m end law short old mid a b h run) (begun_after old mid new (log_text (h.past ++ a.log)) (log_text (drop (length a.log) b.log) ++ world_text b) h.printed rest));
+      begun = (
+        run_text whole,
+        inr (whole, whole_upto m end law short old mid a b h run, refl),
+        subst (TakesBeginning old new) (whole_text m end law short old mid a b h run) (begun_after old mid new (log_text (h.past ++ a.log)) (log_text (drop (length a.log) b.log) ++ world_text b) h.printed rest),
+      );
     }
