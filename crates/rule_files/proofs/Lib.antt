@@ -11,4 +11,3 @@ pub mod Columns
 mod Apart
 mod Hashed
 mod Limited
-mod StateWords

@@ -1,5 +1,5 @@
 -- A file keeps the limits by which its digest tells what it means.
-use Rattle.std.proofs.Common.{◌≡◌, ◌∙◌, ◌≤◌, ◌&&◌, ℕ, List, [], ◌∷◌, ◌++◌, Bool, true, false, Option, Some, None, arith, ap, length, map, nat_le, option_and_then, refl, subst, sym, codes, if◌then◌else◌}
+use Rattle.std.proofs.Common.{◌≡◌, ◌∙◌, ◌≤◌, ◌&&◌, ℕ, List, [], ◌∷◌, Bool, true, false, Option, Some, None, arith, ap, length, map, nat_le, option_and_then, refl, subst, sym, codes, if◌then◌else◌}
 use Rattle.std.proofs.lemmas.Bool.Decides.{nat_tests}
 use Rattle.std.proofs.lemmas.List.{map-append, length-map}
 use Rattle.std.proofs.lemmas.Option.{cond_some, none-some, same_Some}
@@ -17,8 +17,8 @@ use Rattle.rules.specs.declared.tree.Statement.{Statement}
 use Rattle.rules.specs.declared.tree.Statement.TheVariants as s
 use Rattle.rules_text.specs.Statements.{acts_of}
 use Rattle.rule_files.specs.Arrays.{Declaration, State, after, is_bracket, array_at, bits_behind, declared_behind, declared_in, declared_view, fits, is_unit, behind_digits, no_state, number_in, with_array, with_declared, with_item, with_word}
-use Rattle.rule_files.specs.Digest.{IsLimited, count, meant}
-use Rattle.rule_files.specs.FileTable.{FilesKeepLimits, IsBody, IsKindsBody, KindsKeepLimits}
+use Rattle.rule_files.specs.Digest.{count}
+use Rattle.rule_files.specs.FileTable.{FilesKeepLimits, KindsKeepLimits}
 use Rattle.rule_files.specs.Names.{are_distinct, is_name, is_word}
 use Rattle.rule_files.specs.RuleFile.{Parts, at_most, content_of, distinct, fields_of, has_sorts, named_in, named_or_none, names_of, numbers_in, numbers_of, parts_in, parts_of, sorts_of, state_behind, state_in, state_of, tables_of}
 
