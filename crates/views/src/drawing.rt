@@ -146,7 +146,8 @@ where
         ⊎ Begins (IsDrawn M.meaning M.says disk.entry seen.load seen.from seen.to seen.processes)
         (O.contents out.old) (O.contents out.new)) }
 {
-    let trace = traced_before::<M, R>(rt, model_file, disk, most, needed_to(seen))?;
+    let before = needed_to(seen);
+    let trace = traced_before::<M, R>(rt, model_file, disk, most, before)?;
     found_among(first_of(seen.processes), trace.first().len() as u32)?;
     let view = view_of(seen);
     write_view(&trace, &view, seen.load, out)

@@ -53,14 +53,15 @@ fn picture_of(
     tally: &Tally,
     time: u64,
 ) -> Result<Vec<u8>, AllocError> {
-    let tallied = tally.figures(alloc)?;
-    let bins = bins_of(alloc, tally)?;
+    let figures = tally.figures(alloc)?;
+    let bars = bins_of(alloc, tally)?;
+    let (tallied, bins) = (figures.as_ref(), bars.as_ref());
     let histogram = Histogram {
         sort: named.sort,
         word: named.name,
         time,
-        tallied: tallied.as_ref(),
-        bins: bins.as_ref(),
+        tallied,
+        bins,
         is_exact: tally.is_exact(),
     };
     let mut picture = Vec::new(alloc);
@@ -126,14 +127,24 @@ fn letter_named<'n>(name: &str) -> Option<Named<'n>> {
 
 /// Returns the place of the word of this name in messages of a sort.
 fn place_in(sort: &Sort, name: &str) -> Option<usize> {
-    let of_sort = match name.split_once('.') {
-        Some((before, word)) if !before.is_empty() && before == sort.name.as_str() => word,
-        _ => name,
-    };
     for (place, word) in sort.words.iter().enumerate() {
-        if !word.is_empty() && (word.as_str() == of_sort || word.as_str() == name) {
+        if !word.is_empty() && (word.as_str() == name || is_word_of(sort, word.as_str(), name)) {
             return Some(place);
         }
     }
     None
+}
+
+/// Whether a name is that of a sort, a point, and that of its word.
+fn is_word_of(sort: &Sort, word: &str, name: &str) -> bool {
+    if sort.name.is_empty() {
+        return false;
+    }
+    let Some(rest) = name.as_bytes().strip_prefix(sort.name.as_bytes()) else {
+        return false;
+    };
+    match rest.strip_prefix(".".as_bytes()) {
+        Some(rest) => rest == word.as_bytes(),
+        None => false,
+    }
 }
