@@ -9,7 +9,7 @@ use crate::looking::time_of;
 use crate::named::write_named;
 use crate::rows::{letter_of, sorts_of};
 use cli::{SourceArgs, most_sectors};
-use pictures::{Histogram, Tally, Word, bins_of, tally_of, write_histogram};
+use pictures::{Bins, Histogram, Tallied, Tally, Word, bins_of, tally_of, write_histogram};
 use std::alloc::{AllocError, Global};
 use std::fs::File;
 use std::io::Write;
@@ -53,22 +53,35 @@ fn picture_of(
     tally: &Tally,
     time: u64,
 ) -> Result<Vec<u8>, AllocError> {
-    let figures = tally.figures(alloc)?;
-    let bars = bins_of(alloc, tally)?;
-    let (tallied, bins) = (figures.as_ref(), bars.as_ref());
-    let histogram = Histogram {
-        sort: named.sort,
-        word: named.name,
-        time,
-        tallied,
-        bins,
-        is_exact: tally.is_exact(),
-    };
+    let tallied = tally.figures(alloc)?;
+    let bins = bins_of(alloc, tally)?;
+    let (sort, word) = (named.sort, named.name);
+    let (figures, bars) = (tallied.as_ref(), bins.as_ref());
+    let histogram = histogram_of(sort, word, time, figures, bars, tally.is_exact());
     let mut picture = Vec::new(alloc);
     // a write to memory fails only if an allocation failed
     match write_histogram(&histogram, &mut picture) {
         Ok(()) => Ok(picture),
         Err(_) => Err(AllocError),
+    }
+}
+
+/// The histogram with these figures and bins.
+fn histogram_of<'a>(
+    sort: &'a str,
+    word: &'a str,
+    time: u64,
+    tallied: Option<&'a Tallied>,
+    bins: Option<&'a Bins>,
+    is_exact: bool,
+) -> Histogram<'a> {
+    Histogram {
+        sort,
+        word,
+        time,
+        tallied,
+        bins,
+        is_exact,
     }
 }
 
