@@ -8,3 +8,7 @@ returns-clause-failed g c = λ one.
       | inl same ↦ inl same
       | inr begun ↦ inr (inl (c.in-Ok-read_command.command, c.in-Ok-read_command.ensures.ok, begun))
     ]
+
+-- the command succeeded: it has printed what the words ask for
+pub returns-in-Ok-run-clause-printed : goal.returns-in-Ok-run-clause-printed
+returns-in-Ok-run-clause-printed g c = λ zero. inl (c.in-Ok-read_command.command, c.in-Ok-read_command.ensures.ok, c.in-Ok-run.ensures.ok)
