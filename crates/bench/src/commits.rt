@@ -4,7 +4,7 @@
 
 use crate::failure::Failure;
 use commitlog::{Log, LogFault, format};
-use disk::FileDisk;
+use disk::{FileDisk, NotOpened};
 
 /// Opens the log of the file, which is made if it does not exist.
 fn open(rt: &HostRuntime, path: &str, sectors: u32) -> Result<Log<FileDisk>, Failure> {
@@ -15,7 +15,7 @@ fn open(rt: &HostRuntime, path: &str, sectors: u32) -> Result<Log<FileDisk>, Fai
     }
     match Log::open(rt.alloc(), disk) {
         Ok(log) => Ok(log),
-        Err((fault, _disk)) => Err(Failure::Log(fault)),
+        Err(NotOpened { fault, disk: _ }) => Err(Failure::Log(fault)),
     }
 }
 

@@ -11,7 +11,7 @@ ghost use Rattle.views.specs.Views.{Begins, Prints};
 use circuit::Circuit;
 use cli::ModelFile;
 use commands::{Simulated, committed};
-use disk::FileDisk;
+use disk::{FileDisk, Returned};
 use model::{Origin, World};
 use program::{Fault, SegmentFault, of_command, print_fault, simulated};
 use recovery::RecoveryFault;
@@ -90,12 +90,12 @@ where
     ensures { IfOk result (λ text. IsWaveOf of.now.model of.now.end (string_bytes text)) }
 {
     let disk = FileDisk::open_to_read(rt, rt.alloc(), disk)?;
-    let (found, disk) = origin_on(rt.alloc(), &of.model, disk);
+    let Returned { disk, outcome } = origin_on(rt.alloc(), &of.model, disk);
     let front = match committed(rt.alloc(), of, disk) {
         Ok(front) => front,
         Err(fault) => return Err(of_command(fault)),
     };
-    refuse_origin(found)?;
+    refuse_origin(outcome)?;
     Ok(circuit::wave(rt.alloc(), &of.model, front.g, front.log.as_slice())?)
 }
 

@@ -121,8 +121,8 @@ Faults:
                nodes reported what the model does not do); or 'extend' does: EndRefused (the end
                is not a later one), or as a run
   Node N OtherModel  the program of node N is of another simulation than its run
-  Setting N ..  the Nth of --set and --seed: NoSuchKey (the model file has neither a key nor a number
-               of this name), OtherKind (it has another kind of value there)
+  Setting N ..  the Nth of --set and --seed: NoSuchKey (the model file has no key, no number and no
+               KIND.count of this name), OtherKind (it has another kind of value there)
   Segment ..   NotTheNext (a disk does not go on from the one before it), or TooLong (a world has
                no room in the first record of a disk)
   Rounds       all rounds of a run are made, and it is not at its end
@@ -355,7 +355,7 @@ const SILENCE_HELP: &str =
 
 const CUT_HELP: &str = "Ends the program of node I after one reply, to see what a run leaves then";
 
-const COMMIT_HELP: &str = "Commits once nodes have reported E more events, 1 to 400000";
+const COMMIT_HELP: &str = "Commits after E more events, 1 to 400000, and not in each round";
 
 const CHECKPOINT_HELP: &str = "Keeps the state in a record after each E-th commit, 1 to 1000000";
 
@@ -396,13 +396,13 @@ and 'draw' can run beside it, and print what was committed when they read the di
 
 A disk of format 1 fails with Session Recovery OtherModel; only 'migrate' reads it.
 
-Topics with more: 'help nodes', 'help commits', 'help unattended', 'help looking'.
+Topics with more: 'help nodes', 'help commits', 'help unattended', 'help segments', 'help looking'.
 
 Output:
   node NODE ran N           messages that the node handled, with those that were rolled back
   committed TIME events N   ticks, and events in the log
 
-A run that FILE ends prints the second line alone.";
+Without nodes, or where --stop-file ends the run, it prints the second line alone.";
 
 const EXTEND_ABOUT: &str = "Gives a disk a later end than the one it was made for";
 
@@ -951,7 +951,7 @@ fn seed_option<'a>(alloc: Global) -> Arg<'a>
     optional_number(alloc, "seed", "N", 0, 9_223_372_036_854_775_807, SEED_HELP).display_order(997)
 }
 
-const SET_HELP: &str = "Sets the key K of MODEL, or K of its [numbers], to V; may be repeated";
+const SET_HELP: &str = "Sets key K of MODEL or its [numbers], or KIND.count, to V; may be repeated";
 
 const SEED_HELP: &str = "Sets the key seed of MODEL to N, 0 to 9223372036854775807";
 

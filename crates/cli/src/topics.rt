@@ -85,8 +85,8 @@ and rolls back where a message comes late. What is committed is the same for eve
 
 Which way is fastest
   On one core, or where an event takes less than some microseconds, --plain: there are no nodes,
-  and events are handled one at a time, as by 'seq'. E of them are committed at a time, 4096
-  unless --commit-every says otherwise, and with --rounds it makes N commits. A disk may be run so
+  and events are handled one at a time, as by 'seq'. E of them are committed at a time: 4096, or
+  what --commit-every says, up to 250000. With --rounds it makes N commits. A disk may be run so
   now and over nodes later.
   Once a run has taken a second, it says on a terminal, or with --advice, if another way would be
   faster: --plain for a run over nodes in one process; --sockets with --overlap for one with

@@ -1,14 +1,10 @@
 -- What the commands print of a disk.
 use Rattle.std.proofs.Common.{false, ap, arith, inl, inr, refl, subst, sym, ◌∙◌}
 use Rattle.std.specs.Io.KnownBytes.{Appends, Keeps}
-use Rattle.std.specs.Prelude.{◌≡◌, ◌≢◌, ◌≤◌, ◌^◌, ℕ, List, [], None, Option, Result, Some, Ok, Err, OnOk, length, option_map}
-use Rattle.commands.specs.Commands.{IsBlankOrRepresents, IsNotRecovered, PrintsExtended, extended_text}
-use Rattle.commands.specs.Commands.{IsKeptCommand, of_run, stopped_in}
+use Rattle.std.specs.Prelude.{◌≡◌, ◌≢◌, ◌≤◌, ◌^◌, ℕ, IsOkUnless, List, [], None, Option, Result, Some, Ok, Err, OnOk, length, option_map}
+use Rattle.commands.specs.Commands.{IsBlankOrRepresents, IsNotRecovered, IsPrinted, OnDone, PrintsExtended, extended_text}
 use Rattle.commands.specs.declared.fault.CommandFault.{CommandFault}
-use Rattle.commands.specs.declared.fault.CommandFault.TheVariants.{Rounds, Session, Stopped}
-use Rattle.runs.specs.declared.rounds.RunFault.{RunFault}
-use Rattle.runs.specs.declared.rounds.RunFault.TheVariants as run
-use Rattle.std.specs.Result.{IsErrOf}
+use Rattle.commands.specs.declared.fault.CommandFault.TheVariants.{Output}
 use Rattle.commitlog.specs.Faults.{OpenIsRefused}
 use Rattle.commitlog.specs.Log.{IsDurable, Opened}
 use Rattle.commitlog.specs.declared.records.Entry.{Entry}
@@ -20,7 +16,6 @@ use Rattle.recovery.specs.Crashes.{KeepsRecovery}
 use Rattle.recovery.specs.Represents.{Recovers, RepresentsAtLeast}
 use Rattle.coordinator.specs.Extending.{IsExtended, KeepsRecords}
 use Rattle.coordinator.specs.Opening.{IsAtFault, LeavesExactly}
-use Rattle.coordinator.specs.declared.SessionFault.{SessionFault}
 use Rattle.disk.specs.Disk.{DiskState, IsDisk, IsSynced, LeavesOnly, MayLeave, OnlyLooks}
 use Rattle.disk.specs.Laws.{reads_left, weaker}
 use Rattle.eventkey.specs.Message.{Message}
@@ -30,8 +25,7 @@ use Rattle.model.specs.World.{IsUpto, World, opening}
 use Rattle.recovery.proofs.Images.{empty_log_represents}
 use Rattle.recovery.proofs.Later.{upto_is_of_each_end}
 use Rattle.recovery.proofs.Representation.{represented_is_upto}
-use Rattle.recovery.specs.Histories.{IsBeginning, IsKept, IsKeptRun}
-use Rattle.runs.specs.Driver.{acknowledged}
+use Rattle.recovery.specs.Histories.{IsBeginning, IsKept}
 use Rattle.recovery.specs.Causes.{IsFirstAtFault}
 use Rattle.recovery.specs.Ends.{IsEnd, IsLater, IsOurs}
 use Rattle.recovery.specs.Header.{header_bytes, header_of}
@@ -40,7 +34,7 @@ use Rattle.recovery.specs.Replay.{IsReplayedTo, in_force}
 use Rattle.recovery.specs.declared.RecoveryFault.{RecoveryFault}
 use Rattle.recovery.specs.declared.RecoveryFault.TheVariants.{BadCheckpoint, BadEnd, BadRecord, GoesBack, Log, NoMemory, NotTheLeast, NumberLimit, OtherModel}
 use Rattle.recovery.proofs.Crashes.{are-readable, log-on, ours-of}
-use Rattle.eventkey.proofs.Writers.{appended_as, begun_as, writes_whole}
+use Rattle.eventkey.proofs.Writers.{appended_as, began, begun_as, writes_whole}
 use Rattle.eventkey.specs.Writing.{TakesBeginning, Writes}
 use Rattle.texts.specs.Text.{log_text, world_text}
 
@@ -48,45 +42,17 @@ pub at_ok : {T E X : Type 0} (r : Result T E) → X → OnOk r X
 at_ok (Ok x) h = h
 at_ok (Err e) h = tt
 
-pub at_ok_so : {T E X Y : Type 0} (r : Result T E) → (X → Y) → OnOk r X → OnOk r Y
-at_ok_so (Ok x) f h = f h
-at_ok_so (Err e) f h = tt
+-- a writer's refusal is the only fault of what was written
+only_output : {T : Type 0} (r : Result T CommandFault) (fault : CommandFault) → IsOkUnless r Output → r ≡ Err fault → fault ≡ Output
+only_output (Ok x) fault unless is = absurd cc
+only_output (Err own) fault unless is = (let same : own ≡ fault = cc in sym same ∙ unless)
 
--- only the stop of a run is reported as one
-stop_of : (fault : RunFault) (time events : ℕ) → of_run fault ≡ Stopped time events → fault ≡ run.Stopped time events
-stop_of (run.Session f) time events is = absurd cc
-stop_of run.Rounds time events is = absurd cc
-stop_of run.NoMemory time events is = absurd cc
-stop_of (run.Stopped t n) time events is = cc
+pub printed_by : (r : Result (Unit {0}) CommandFault) (same : Type 0) (before after : Option (List ℕ)) (text : List ℕ) → Writes before after r text → IsOkUnless r Output → IsPrinted (λ Taken. Taken text) r same before after
+printed_by r same before after text written unless = record { all = written.all; part = λ is. began written is; none = λ fault is other. absurd (other (only_output r fault unless is)) }
 
-pub asked_to_stop : {T : Type 0} (fault : RunFault) (own : CommandFault) (time events : ℕ) → own ≡ of_run fault → ◌≡◌ {A = Result T CommandFault} (Err own) (Err (Stopped time events)) → fault ≡ run.Stopped time events
-asked_to_stop fault own time events own_is is = (let same : own ≡ Stopped time events = cc in stop_of fault time events (sym own_is ∙ same))
-
--- only a session's fault is reported as one, and only the last round as `Rounds`
-session_of : (fault : RunFault) (cause : SessionFault) → of_run fault ≡ Session cause → fault ≡ run.Session cause
-session_of (run.Session f) cause is = cc
-session_of run.Rounds cause is = absurd cc
-session_of run.NoMemory cause is = absurd cc
-session_of (run.Stopped t n) cause is = absurd cc
-
-rounds_of : (fault : RunFault) → of_run fault ≡ Rounds → fault ≡ run.Rounds
-rounds_of (run.Session f) is = absurd cc
-rounds_of run.Rounds is = refl
-rounds_of run.NoMemory is = absurd cc
-rounds_of (run.Stopped t n) is = absurd cc
-
-pub refused_by_session : {T : Type 0} (fault : RunFault) (own : CommandFault) (cause : SessionFault) → own ≡ of_run fault → ◌≡◌ {A = Result T CommandFault} (Err own) (Err (Session cause)) → fault ≡ run.Session cause
-refused_by_session fault own cause own_is is = (let same : own ≡ Session cause = cc in session_of fault cause (sym own_is ∙ same))
-
-pub made_all_rounds : {T : Type 0} (fault : RunFault) (own : CommandFault) → own ≡ of_run fault → ◌≡◌ {A = Result T CommandFault} (Err own) (Err Rounds) → fault ≡ run.Rounds
-made_all_rounds fault own own_is is = (let same : own ≡ Rounds = cc in rounds_of fault (sym own_is ∙ same))
-
--- a run failed with this fault of its own
-pub failed_with : {T : Type 0} (r : Result T RunFault) (fault own : RunFault) → r ≡ Err fault → fault ≡ own → IsErrOf r own
-failed_with r fault own is same = is ∙ ap Err same
-
-pub stopped_first : {T : Type 0} (r : Result T RunFault) (fault : RunFault) (time events : ℕ) → r ≡ Err fault → fault ≡ run.Stopped time events → IsErrOf r (run.Stopped time events)
-stopped_first r fault time events is same = is ∙ ap Err same
+pub done_by : {P : Type 0} (r : Result (Unit {0}) CommandFault) → IsOkUnless r Output → P → OnDone r P
+done_by (Ok x) unless p = p
+done_by {P} (Err fault) unless p = subst (λ (f : CommandFault). OnDone (Err f) P) (sym unless) p
 
 module _ (m : Meaning) (end : ℕ) (header : List ℕ) (is : header ≡ header_bytes (header_of m end)) (possible : IsEnd end) where
   -- an empty log represents the opening world, whatever a crash leaves
@@ -200,23 +166,6 @@ begins-exactly m end w disk lawful sound exactly =
       upto = upto_is_of_each_end m end w.time w.time w upto.0 upto.1 (omega arith);
       recovers = λ image left. record { end = end; represents = record { world = w; represents = exactly image left; time = omega arith } };
     }
-
--- the numbers in the fault of a run are those that it acknowledges
-pub stopped-same : (fault : RunFault) → stopped_in (of_run fault) ≡ acknowledged (Err fault)
-stopped-same (run.Session f) = refl
-stopped-same run.Rounds = refl
-stopped-same (run.Stopped time events) = refl
-stopped-same run.NoMemory = refl
-
-module _ (m : Meaning) (end : ℕ) (v : World) (old new : DiskState) (before after : Option (List ℕ)) where
-  pub kept-faulty : (fault : RunFault) (own : CommandFault) → own ≡ of_run fault → IsKeptRun m end v old new (acknowledged (Err fault)) → IsKeptCommand m end v old new before after (Err own)
-  kept-faulty fault own is kept = inr (own, refl, subst (IsKeptRun m end v old new) (sym (ap stopped_in is ∙ stopped-same fault)) kept)
-
--- after a stop the front has the numbers of the fault
-pub kept-stopped : {T : Type 0} (m : Meaning) (end : ℕ) (v : World) (old new : DiskState) (fault : RunFault) (own : CommandFault) (time events : ℕ) → own ≡ of_run fault → IsKeptRun m end v old new (acknowledged (Err fault)) → ◌≡◌ {A = Result T CommandFault} (Err own) (Err (Stopped time events))
-    → IsKeptRun m end v old new (Some (time, events))
-kept-stopped m end v old new fault own time events own_is kept is =
-    subst (λ (f : RunFault). IsKeptRun m end v old new (acknowledged (Err f))) (asked_to_stop fault own time events own_is is) kept
 
 -- an extended disk acknowledges its front also if nothing could be printed
 pub kept-extended : {T : Type 0} (m : Meaning) (end : ℕ) (v front : World) (old new : DiskState) (r : Result T CommandFault) → IsKept m v (record { begun = old; ended = new; front = Some (in_force end front) })

@@ -1,38 +1,37 @@
 -- What the commands on a disk print.
 use Rattle.std.specs.Io.KnownBytes.{Appends}
-use Rattle.std.specs.Prelude.{◌≡◌, ◌≤◌, ◌⊎◌, ℕ, List, ◌++◌, Option, codes, decimal, flat_map}
-use Rattle.std.specs.Prelude.{Err, None, Result, Some, get_or, length}
+use Rattle.std.specs.Prelude.{◌≡◌, ◌≢◌, ◌≤◌, ◌⊎◌, ℕ, List, [], ◌++◌, Option, codes, decimal, flat_map}
+use Rattle.std.specs.Prelude.{Err, IsOkUnless, None, Ok, OnOk, Result, get_or, length}
 use Rattle.commands.specs.declared.fault.CommandFault.{CommandFault}
 use Rattle.commands.specs.declared.fault.CommandFault.TheVariants.{Log, NoMemory, Output, Recovery}
 use Rattle.commands.specs.declared.fault.CommandFault.TheVariants.{Rounds, Session, Stopped}
 use Rattle.commitlog.specs.Faults.{FormatIsRefused, OpenIsRefused}
+use Rattle.commitlog.specs.Log.{IsDurable}
 use Rattle.commitlog.specs.Records.{IsBlank, IsFormatted, records_of}
 use Rattle.commitlog.specs.declared.fault.LogFault.TheVariants as log
 use Rattle.commitlog.specs.declared.records.Entry.{Entry}
 use Rattle.coordinator.specs.Extending.{IsExtended}
-use Rattle.coordinator.specs.Opening.{IsAtFault}
+use Rattle.coordinator.specs.Opening.{IsAtFault, LeavesExactly}
 use Rattle.coordinator.specs.declared.SessionFault.{SessionFault}
 use Rattle.coordinator.specs.declared.SessionFault.TheVariants as session
 use Rattle.disk.specs.Disk.{DiskState}
 use Rattle.disk.specs.declared.disk.DiskFault.TheVariants.{Device}
-use Rattle.plain.specs.Runs.{RunIsRefused}
 use Rattle.plain.specs.declared.PlainFault.{PlainFault}
 use Rattle.plain.specs.declared.PlainFault.TheVariants as plain
-use Rattle.plain.specs.declared.whole.Plan.{Plan as PlainPlan}
-use Rattle.runs.specs.Driver.{HasCounted, IsRunOver, RunHasCause}
-use Rattle.recovery.specs.Histories.{IsKeptRun, IsRunOf}
-use Rattle.runs.specs.declared.rounds.Plan.{Plan}
+use Rattle.plain.specs.declared.whole.Reached.{Reached}
+use Rattle.recovery.specs.Histories.{IsBeginning}
+use Rattle.runs.specs.declared.over.Finished.{Finished}
 use Rattle.runs.specs.declared.rounds.RunFault.{RunFault}
-use Rattle.runs.specs.declared.rounds.RunFault.TheVariants as run
+use Rattle.runs.specs.declared.rounds.RunFault.TheVariants as run_fault
 use Rattle.model.specs.Meaning.{Meaning}
-use Rattle.model.specs.World.{IsUpto, World, below}
-use Rattle.recovery.specs.Ends.{HoldsLog, IsLater}
+use Rattle.model.specs.World.{IsUpto, World, below, opening}
+use Rattle.recovery.specs.Ends.{HoldsLog, IsEnd, IsLater}
+use Rattle.recovery.specs.Header.{header_bytes, header_of}
 use Rattle.recovery.specs.Replay.{IsReplayedTo}
 use Rattle.recovery.specs.Represents.{IsGenuine, Represents}
 use Rattle.recovery.specs.declared.RecoveryFault.{RecoveryFault}
 use Rattle.recovery.specs.declared.RecoveryFault.TheVariants as recovery
 use Rattle.eventkey.specs.Writing.{TakesBeginning, Writes}
-use Rattle.wire.specs.Port.{PortState}
 
 -- 1. Texts
 
@@ -86,34 +85,37 @@ pub record BeginsCommitted (m : Meaning) (end : ℕ) (image : List (List ℕ)) (
   pub within : world.time ≤ end
   pub part : TakesBeginning old new (text world)
 
--- `Taken` holds of the output of a run on this disk: how many messages each of `nodes` nodes handled,
--- the time reached, and the number of committed events. If the records were genuine, they are those
--- of the sequential simulation up to the end. As a call of a history the run acknowledges the front
--- that has them, whatever front was acknowledged last. A run without nodes is one over 0.
-pub record PrintsEndOfRun (m : Meaning) (end nodes : ℕ) (old new : DiskState)
-    (Taken : List ℕ → Type 0) : Type 0 where
-  pub ran : List ℕ
-  pub time : ℕ
-  pub events : ℕ
-  pub each : length ran ≡ nodes
-  pub reached : end ≤ time
-  pub genuine : IsGenuine m end old.reads → IsRunOf m end time events
-  pub kept : (v : World) → IsKeptRun m end v old new (Some (time, events))
-  pub taken : Taken (ran_text ran time events)
+-- What a command prints at `Ok`, of which a writer that refuses has taken a beginning. At every other
+-- fault nothing is printed (`same`). `Printed Taken` says that `Taken` holds of the command's text.
+pub record IsPrinted (Printed : (List ℕ → Type 0) → Type 0)
+    (outcome : Result (Unit {0}) CommandFault) (same : Type 0) (before after : Option (List ℕ)) :
+    Type 0 where
+  pub all : OnOk outcome (Printed (Appends before after))
+  pub part : outcome ≡ Err Output → Printed (TakesBeginning before after)
+  pub none : (fault : CommandFault) → outcome ≡ Err fault → fault ≢ Output → same
 
--- `Taken` holds of the output of a run over any ports: how many messages each node handled, by its
--- replies in the rounds that were made; the time reached, not before the end; and the number of
--- committed events.
-pub record PrintsEndOfRunOver {M P D : Type 0} (meaning : M → Meaning) (state : P → PortState)
-    (disk : D → DiskState) (model : M) (end : ℕ) (plan : Plan) (begun left : D)
-    (Taken : List ℕ → Type 0) : Type 0 where
+-- what a run that reached its end prints: how many messages each node handled, the time reached, and
+-- the number of committed events
+pub record Numbers : Type 0 where
   pub ran : List ℕ
   pub time : ℕ
   pub events : ℕ
-  pub each : length ran ≡ plan.nodes
-  pub counted : HasCounted meaning state disk model end plan begun left ran
-  pub over : IsRunOver meaning state disk model end plan begun left time events
-  pub taken : Taken (ran_text ran time events)
+
+-- What is printed of a run: the numbers of one that reached its end, unless the writer refuses; of
+-- another one nothing (`same`), and its fault is that of the command.
+abbrev pub PrintsRun : Result Numbers CommandFault → Result (Unit {0}) CommandFault → Type 0 →
+    Option (List ℕ) → Option (List ℕ) → Type 0
+PrintsRun (Ok done) outcome same before after =
+    Writes before after outcome (ran_text done.ran done.time done.events) × IsOkUnless outcome Output
+PrintsRun (Err fault) outcome same before after = (outcome ≡ Err fault) × same
+
+-- A command made a run and printed its numbers: `Made` holds of the outcome of the run.
+pub record MakesRun {T F : Type 0} (numbers : Result T F → Result Numbers CommandFault)
+    (Made : Result T F → Type 0) (outcome : Result (Unit {0}) CommandFault) (same : Type 0)
+    (before after : Option (List ℕ)) : Type 0 where
+  pub run : Result T F
+  pub made : Made run
+  pub printed : PrintsRun (numbers run) outcome same before after
 
 -- `Taken` holds of the output for a later end. That end is in force after the records that were on
 -- the disk, which were replayed under the end before.
@@ -131,6 +133,19 @@ pub record PrintsExtended (m : Meaning) (end : ℕ) (old new : DiskState)
 -- an image without a log, or one that represents this world
 abbrev pub IsBlankOrRepresents : Meaning → ℕ → World → List (List ℕ) → Type 0
 IsBlankOrRepresents m end w image = IsBlank image ⊎ Represents m end image w
+
+-- A log without records was made for this simulation. If its end is from 1 to 2^40, each image that a
+-- crash leaves represents the opening world, and a history of calls begins with the disk.
+pub record IsNewLog (m : Meaning) (end : ℕ) (disk : DiskState) : Type 0 where
+  pub empty : IsDurable (header_bytes (header_of m end)) [] disk
+  pub represents : IsEnd end → LeavesExactly m end (opening m) disk
+  pub begins : IsEnd end → IsBeginning m (opening m) disk
+
+-- the work of a command is done, though its output may not be written
+abbrev pub OnDone : Result (Unit {0}) CommandFault → Type 0 → Type 0
+OnDone (Ok done) P = P
+OnDone (Err Output) P = P
+OnDone (Err fault) P = Unit {0}
 
 -- 4. Faults
 
@@ -169,10 +184,10 @@ IsOfSession fault Cause = ⊥
 
 -- the command's fault for the fault of a run
 abbrev pub of_run : RunFault → CommandFault
-of_run (run.Session fault) = Session fault
-of_run run.Rounds = Rounds
-of_run (run.Stopped time events) = Stopped time events
-of_run run.NoMemory = NoMemory
+of_run (run_fault.Session fault) = Session fault
+of_run run_fault.Rounds = Rounds
+of_run (run_fault.Stopped time events) = Stopped time events
+of_run run_fault.NoMemory = NoMemory
 
 -- for the fault of a run without nodes
 abbrev pub of_plain : PlainFault → CommandFault
@@ -185,34 +200,11 @@ of_plain plain.Commits = Rounds
 of_plain (plain.Stopped time events) = Stopped time events
 of_plain plain.NoMemory = Session session.NoMemory
 
--- why a run over ports in these states stopped before its end, or its output was not written
-abbrev pub RunOverIsRefused : {M P D : Type 0} → (M → Meaning) → (P → PortState) → (D → DiskState) →
-    M → ℕ → Plan → List PortState → D → D → CommandFault → Type 0
-RunOverIsRefused meaning state disk model end plan ports old new fault = (fault ≡ Output)
-    ⊎ ((cause : RunFault) × (fault ≡ of_run cause)
-    × RunHasCause meaning state disk model end plan ports old new cause)
+-- what a command prints of a run over nodes, and of one without nodes
+abbrev pub numbers_of : Result Finished RunFault → Result Numbers CommandFault
+numbers_of (Ok done) = Ok (record { ran = done.ran.items; time = done.time; events = done.events })
+numbers_of (Err fault) = Err (of_run fault)
 
--- why a run without nodes stopped before its end, or its output was not written
-abbrev pub PlainRunIsRefused : {M D : Type 0} → (M → Meaning) → (D → DiskState) → M → ℕ → PlainPlan →
-    D → D → CommandFault → Type 0
-PlainRunIsRefused meaning disk model end plan old new fault = (fault ≡ Output)
-    ⊎ ((cause : PlainFault) × (fault ≡ of_plain cause)
-    × RunIsRefused meaning disk model end plan old new cause)
-
--- 4. Calls of a history
-
--- the time and the number of events in the fault of a run that was asked to stop
-abbrev pub stopped_in : CommandFault → Option (ℕ × ℕ)
-stopped_in (Stopped time events) = Some (time, events)
-stopped_in fault = None
-
--- A run as a call of a history. It reached its end and wrote the numbers of the front that it
--- acknowledges; or it ended with a fault, which has those numbers if the run was asked to stop.
-abbrev pub IsKeptCommand : Meaning → ℕ → World → DiskState → DiskState → Option (List ℕ) →
-    Option (List ℕ) → Result (Unit {0}) CommandFault → Type 0
-IsKeptCommand m end v old new before after outcome =
-    ((ran : List ℕ) × (time : ℕ) × (events : ℕ)
-    × Writes before after outcome (ran_text ran time events)
-    × IsKeptRun m end v old new (Some (time, events)))
-    ⊎ ((fault : CommandFault) × (outcome ≡ Err fault)
-    × IsKeptRun m end v old new (stopped_in fault))
+abbrev pub plain_numbers_of : Result Reached PlainFault → Result Numbers CommandFault
+plain_numbers_of (Ok done) = Ok (record { ran = []; time = done.time; events = done.events })
+plain_numbers_of (Err fault) = Err (of_plain fault)

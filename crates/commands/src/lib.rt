@@ -8,7 +8,7 @@ mod migrating;
 mod plainly;
 mod printing;
 
-pub use commands::{Ended, Simulated, committed, extend, log, new, run, run_over, show};
+pub use commands::{Simulated, committed, extend, log, new, run, run_over, show};
 pub use fault::CommandFault;
 pub use migrating::{migrate, old_log};
 pub use plainly::run_plain;

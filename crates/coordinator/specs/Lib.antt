@@ -5,6 +5,7 @@ pub mod Steps
 pub mod Crashes
 pub mod Drives
 pub mod Opening
+pub mod Opened
 pub mod Extending
 pub mod Headline
 pub mod PortFaults

@@ -33,6 +33,11 @@ pub record HasSameNodes {M P D : Type 0} (old new : Session M P D) : Type 0 wher
   pub nodes : nodes_of new.ledger ≡ nodes_of old.ledger
   pub ports : length new.ports ≡ length old.ports
 
+-- so are the model and the end
+pub record IsSameSession {M P D : Type 0} (old new : Session M P D) : Type 0 where
+  pub same : (new.model ≡ old.model) × (new.end ≡ old.end)
+  pub nodes : HasSameNodes old new
+
 -- a session without its log, with its model's meaning and its ports' states
 pub record Running : Type 0 where
   pub meaning : Meaning

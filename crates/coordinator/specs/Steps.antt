@@ -255,6 +255,14 @@ module _ {M P D : Type 0} (meaning : M → Meaning) (state : P → PortState) (d
         IsErrOf result Disk
     pub failures : (disk old.log.disk).failures ≤ (disk new.log.disk).failures
 
+  -- A record was appended, and nothing else changes: neither the system state nor the number of
+  -- sectors of the disk.
+  pub record OnlyLogChanges (old new : Session M P D)
+      (result : Result Answer SessionFault) : Type 0 where
+    pub system : running meaning state new ≡ running meaning state old
+    pub sectors : OnOk result
+        (length (disk new.log.disk).reads ≡ length (disk old.log.disk).reads)
+
   -- What a seal after the last record does to a session: to the log alone, and to no more than the
   -- seal has room for. A fault leaves the session spent.
   pub record IsSealed (old new : Session M P D) (result : Result (Unit {0}) SessionFault) : Type 0

@@ -13,7 +13,6 @@ mod sessions;
 
 use eventkey::Listed;
 pub use extending::{Extended, extend};
-pub use opening::NotOpened;
 pub use protocol::Answer;
 use recovery::RecoveryFault;
 pub use session::{FrontView, Session};

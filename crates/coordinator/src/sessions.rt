@@ -12,8 +12,8 @@ ghost use Rattle.coordinator.specs.PortFaults.{LocalSessionsHaveNoFrames};
 ghost use Rattle.coordinator.specs.Steps.{move_of};
 ghost use Rattle.model.specs.World.{World};
 
-use crate::{DriveFault, NotOpened, Session, SessionFault, Step};
-use disk::SectorDisk;
+use crate::{DriveFault, Session, SessionFault, Step};
+use disk::{NotOpened, SectorDisk};
 use model::Model as Simulated;
 use std::alloc::Global;
 use wire::Port;

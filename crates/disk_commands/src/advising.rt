@@ -253,7 +253,7 @@ fn print_setting<E: Write>(command: Command<'_>, fault: Fault, err: &mut E) {
     let (number, why) = match fault {
         SettingFault::NoSuchKey(number) => (
             number,
-            "the model file has neither a key nor a number of this name",
+            "the model file has no key, no number and no KIND.count of this name",
         ),
         SettingFault::OtherKind(number) => (
             number,

@@ -13,6 +13,7 @@ use crate::keeping::{Keeping, text_to_keep};
 use crate::said::SystemErrors;
 use cli::{DiskArgs, NewArgs, most_sectors};
 use commitlog::LogFault;
+use disk::Returned;
 use recovery::Front;
 use segments::archiving::{begin_on, events_before};
 use std::fs::{self, File};
@@ -57,10 +58,14 @@ where
     let mut blank = open_new(rt, disk, new, large, said)?;
     refuse_contents(&mut blank, args.over, said)?;
     keeping.write(rt, &mut blank, said)?;
-    match begin_on(rt.alloc(), of, end, &front, blank) {
-        Ok(_made) => write_segment(args.sectors, &front, out),
-        Err((fault, unmade)) => {
-            said.note(unmade.last_error());
+    let Returned {
+        disk: made,
+        outcome,
+    } = begin_on(rt.alloc(), of, end, &front, blank);
+    match outcome {
+        Ok(()) => write_segment(args.sectors, &front, out),
+        Err(fault) => {
+            said.note(made.last_error());
             Err(unmade_by(rt, disk, fault))
         }
     }

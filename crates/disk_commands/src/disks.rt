@@ -19,7 +19,8 @@ use crate::verifying::Verifying;
 use cli::{DiskArgs, GrowArgs, most_sectors};
 use commitlog::LogFault;
 use disk::{
-    DiskFault, FileDisk, FileError, FileFault, GrowingDisk, MOST_SECTORS, Room, SectorDisk,
+    DiskFault, FileDisk, FileError, FileFault, GrowingDisk, MOST_SECTORS, Returned, Room,
+    SectorDisk,
 };
 use model::Continued;
 use std::alloc::Global;
@@ -30,7 +31,7 @@ use std::thread;
 use std::time::{Clock, Duration};
 use terminal::{Held, Place, Progress, Refusal, is_elsewhere, is_locked, place_of};
 use texts::{Described, write_number, write_text};
-use upkeep::growing::{Grown, NotGrown, grow};
+use upkeep::growing::{Grown, grow};
 use upkeep::{Verified, has_records, reopen};
 use views::{Beginning, Begun, read_model_file, simulation_in, write_believed_line};
 
@@ -460,20 +461,15 @@ where
     let disk = open_old(rt, on, said)?;
     let Begun { disk, origin, .. } = Begun::of(rt.alloc(), &model, disk);
     let model = Continued::new(&model, origin.as_ref());
-    match grow(rt.alloc(), &model, disk, sectors, most) {
-        Ok(
-            Grown {
-                disk: _,
-                before,
-                ..
-            },
-        ) => {
+    let Returned { disk, outcome } = grow(rt.alloc(), &model, disk, sectors, most);
+    match outcome {
+        Ok(Grown { before, .. }) => {
             if before == sectors {
                 say_unchanged(rt.alloc(), sectors, on.large, progress);
             }
             write_grown(before, sectors, out)
         }
-        Err(NotGrown { fault, disk }) => {
+        Err(fault) => {
             said.note(disk.last_error());
             Err(Fault::from(fault))
         }

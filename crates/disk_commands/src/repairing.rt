@@ -19,7 +19,7 @@ use crate::said::SystemErrors;
 use crate::verifying::Verifying;
 use cli::{DiskArgs, RecoverArgs};
 use commitlog::LogFault;
-use disk::{FileDisk, SectorDisk};
+use disk::{FileDisk, NotOpened, Returned, SectorDisk};
 use model::Continued;
 use recovery::RecoveryFault;
 use std::fs::File;
@@ -81,9 +81,16 @@ where
     progress.reads();
     progress.begin(end);
     let mut watch = Verifying { progress };
-    let (salvaged, made) = salvage(rt.alloc(), &on_row, &mut damaged, end, made, &mut watch);
-    said.note(made.last_error());
-    let salvaged = salvaged?;
+    let Returned { disk, outcome } = salvage(
+        rt.alloc(),
+        &on_row,
+        &mut damaged,
+        end,
+        made,
+        &mut watch,
+    );
+    said.note(disk.last_error());
+    let salvaged = outcome?;
     watch.progress.clear();
     write_recovered(salvaged, time, out)
 }
@@ -223,7 +230,7 @@ where
     let mut watch = Verifying { progress };
     let to = match find_cut(rt.alloc(), &on, disk, &mut watch) {
         Ok(to) => to,
-        Err((fault, disk)) => {
+        Err(NotOpened { fault, disk }) => {
             said.note(disk.last_error());
             return Err(Fault::from(fault));
         }
@@ -246,9 +253,9 @@ fn cut_saying<O: Write>(
 {
     let cut = to.cut;
     write_taken(cut, out)?;
-    let (closed, disk) = close_cut(to);
+    let Returned { disk, outcome } = close_cut(to);
     said.note(disk.last_error());
-    if let Err(fault) = closed {
+    if let Err(fault) = outcome {
         return Err(Fault::Log(LogFault::Disk(fault)));
     }
     write_cut(cut, time, out)

@@ -2,9 +2,9 @@
 //! prints what is committed on each.
 #![tactic(auto)]
 
-use disk::{FileDisk, MemDisk, SectorDisk};
+use disk::{FileDisk, MemDisk, Returned, SectorDisk};
 use models::TokenRing;
-use runs::{Batch, Ended, Outcome, Plan, Schedule, SimulationFault, simulate};
+use runs::{Batch, Outcome, Plan, Schedule, SimulationFault, simulate};
 use std::alloc::Global;
 use std::io::{self, Write};
 use std::process::ExitCode;
@@ -32,7 +32,7 @@ where
     O: Write,
 {
     let ring = TokenRing::new(3, 2, 1);
-    let Ended { disk, outcome } = simulate(alloc, &ring, END, disk, PLAN);
+    let Returned { disk, outcome } = simulate(alloc, &ring, END, disk, PLAN);
     let Outcome { front, .. } = outcome?;
     writeln!(out, "committed up to tick {}:", front.g)?;
     write_log(front.log.as_slice(), out)?;

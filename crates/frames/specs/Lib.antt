@@ -11,5 +11,8 @@ pub mod HelloLaws  -- each hello has one encoding
 pub mod Serving  -- the served text, by the model, the limit, the bytes and the turns without memory
 pub mod Outcomes  -- what `serve` returns, writes and reads
 pub mod Greeted  -- the same behind a hello
+-- For callers: the other end of the stream.
+pub mod Socket  -- the state of a port to a node in another program, and what its calls return
+pub mod Meeting  -- the hellos of a run and a node
 -- Internal: what the loop does with one frame.
 pub mod Reactions

@@ -1,15 +1,19 @@
 //! Frames of bytes between a session and its nodes (this project's profile): the length of a body,
-//! its kind, and the body. Also the loop that serves a node behind a stream of frames.
+//! its kind, and the body. Also the two ends of a stream of frames: the loop that serves a node, and
+//! the port to a node in another program, with the hellos before it.
 #![tactic(auto)]
 
 ghost use Rattle.std.specs.Prelude.{◌≡◌};
 
+mod ahead;
 mod first_frame;
 mod greeted;
 mod greeting;
 mod laws;
+mod meeting;
 mod node_loop;
 mod output;
+mod port;
 mod ranges;
 mod reaction;
 mod reading;
@@ -17,13 +21,16 @@ mod single;
 mod stream;
 mod writing;
 
+pub use ahead::ReadAhead;
 pub use first_frame::{First, read_first, read_hello_frame};
 pub use greeted::{Ending, serve_greeted};
 pub use greeting::{FRAMES_FORMAT, Hello, encode_hello, read_hello};
 pub use laws::{law_of_bodies, law_of_frames, law_of_hellos};
+pub use meeting::{Heard, hear_hello, say_hello};
 use node::{Load, NodeFault, Parcel, Reply};
 pub use node_loop::serve;
 pub use output::write_all;
+pub use port::SocketPort;
 pub use reaction::{Begun, Response, begin, react};
 pub use reading::{read_load, read_parcel};
 pub use single::{read_whole_frame, read_whole_raw};

@@ -1,15 +1,15 @@
 -- Reports that are accepted one after another.
-use Rattle.std.proofs.Common.{◌≡◌, ◌∙◌, ℕ, ◌+◌, ◌/◌, ◌<◌, ◌≤◌, List, [], ◌++◌, ◌∷◌, Some, ap, arith, drop, get_or, length, refl, set, subst, sym, take, inl, inr}
+use Rattle.std.proofs.Common.{◌≡◌, ◌∙◌, ℕ, ◌+◌, ◌/◌, ◌<◌, ◌≤◌, List, [], ◌++◌, ◌∷◌, Some, ap, arith, drop, get_or, length, set, subst, sym, take, inl, inr}
 use Rattle.std.specs.List.{slice_get}
-use Rattle.std.specs.Prelude.{IsTrue, Option, None, filter, nat_eq, true, false, ◌↔◌}
-use Rattle.std.proofs.lemmas.Bool.{cases_Bool, cases_eq, eqb-true, eqb-false, leb-true, le-leb}
+use Rattle.std.specs.Prelude.{IsTrue, nat_eq, true, false, ◌↔◌}
+use Rattle.std.proofs.lemmas.Bool.{cases_Bool, eqb-true, eqb-false, le-leb}
 use Rattle.std.proofs.lemmas.Option.{get_or_from_slice_get, slice_get_within, slice_get-get_or}
 use Rattle.std.proofs.lemmas.List.{get_or-set_same, get_or-set_other, length-set, take-append-drop, take_all, take_more}
 use Rattle.eventkey.proofs.Lists.{drop_here}
 use Rattle.model.specs.Meaning.{Meaning}
 use Rattle.process.specs.Consistent.{AreConsistent}
 use Rattle.process.specs.declared.Done.{Done}
-use Rattle.judging.specs.Judging.{AreAccepted, AreOfModel, IsAccepted, IsFirstRefused, IsOneAccepted, Known, event_of, is_due, moved, reports_of}
+use Rattle.judging.specs.Judging.{AreAccepted, AreOfModel, IsAccepted, IsFirstRefused, IsOneAccepted, Known, event_of, moved, reports_of}
 use Rattle.judging.specs.declared.differences.Difference.{Difference}
 
 -- 1. What is known at one place

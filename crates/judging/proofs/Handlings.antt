@@ -1,5 +1,5 @@
 -- One handling that is compared with the model.
-use Rattle.std.proofs.Common.{◌≡◌, ◌∙◌, ℕ, ◌+◌, ◌<◌, ◌≤◌, ◌^◌, List, ap, length, subst, sym}
+use Rattle.std.proofs.Common.{◌≡◌, ◌∙◌, ℕ, ◌+◌, ◌<◌, ◌≤◌, ◌^◌, List, ap, length, sym}
 use Rattle.std.specs.Cmp.Lexicographic.{other_text, pointwise, same_text}
 use Rattle.std.specs.Prelude.{Bool, IsTrue, false, nat_eq, true, ◌↔◌, ◌≢◌}
 use Rattle.model.proofs.Worlds.{length-stamp}

@@ -1,5 +1,5 @@
 -- Sends that are compared one after another.
-use Rattle.std.proofs.Common.{◌≡◌, ◌∙◌, ℕ, ◌+◌, ◌<◌, ◌≤◌, List, [], ◌∷◌, ap, arith, drop, get_or, length, refl, subst, sym}
+use Rattle.std.proofs.Common.{◌≡◌, ◌∙◌, ℕ, ◌+◌, ◌<◌, ◌≤◌, List, ◌∷◌, ap, arith, drop, get_or, length, sym}
 use Rattle.std.proofs.lemmas.List.{drop_all}
 use Rattle.eventkey.proofs.Lists.{drop_here}
 use Rattle.eventkey.specs.Message.{Message}

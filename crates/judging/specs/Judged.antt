@@ -1,11 +1,12 @@
 -- A port that judges the reports of its node, as contracts see it.
-use Rattle.std.specs.Prelude.{Bool, Err, IfErr, List, None, Option, Result, Some, [], false, if◌then◌else◌, true, ℕ, ◌≡◌}
+use Rattle.std.specs.Prelude.{Bool, List, None, Option, Some, [], false, if◌then◌else◌, map, true, ℕ, ◌≡◌}
 use Rattle.model.specs.Meaning.{Meaning}
+use Rattle.node.specs.declared.Load.{Load}
 use Rattle.node.specs.declared.Parcel.{Parcel}
 use Rattle.node.specs.declared.Reply.{Reply}
-use Rattle.judging.specs.Judging.{AreJudged, IsFirstRefused, Known}
+use Rattle.judging.specs.Judging.{AreJudged, AreOfModel, IsFirstRefused, Known, loaded_known}
 use Rattle.judging.specs.declared.differences.Difference.{Difference}
-use Rattle.wire.specs.Port.{IsTakeFault, IsTaken, PortState, Stage}
+use Rattle.wire.specs.Port.{IsLoaded, IsTakeFault, IsTaken, PortState}
 use Rattle.wire.specs.Port.Stage.{Ended, Idle, Posted}
 use Rattle.wire.specs.declared.port.PortFault.{PortFault}
 use Rattle.wire.specs.declared.port.PortFault.TheVariants.{BadReply, Wire}
@@ -55,17 +56,30 @@ judged_state ended s = record {
 abbrev pub state_by : {M P : Type 0} → (P → PortState) → Judged M P → PortState
 state_by state j = judged_state j.ended (state j.port)
 
+-- The port below is loaded with this load, and the judge knows its processes; nothing else changes.
+pub record IsJudgedLoad {M P : Type 0} (state : P → PortState) (load : Load) (old new : Judged M P) :
+    Type 0 where
+  pub loaded : (state old.port).faithful ≡ true → IsLoaded load (state old.port) (state new.port)
+  pub known : new ≡ record old {
+    port = new.port;
+    nodes = load.nodes;
+    known = map (loaded_known old.every) load.parts;
+  }
+
 -- this reply is one that the port below can have returned
 abbrev pub IsTakenBelow : PortState → PortState → Reply → Type 0
 IsTakenBelow old new reply = (parcel : Parcel) → old.stage ≡ Posted parcel → old.faithful ≡ true →
     IsTaken parcel old new reply
 
 -- The judge passes this reply on: the port below returned it, and its reports are judged by what was
--- known.
+-- known. Where all are judged, the reports of each process are what the model does. The judge goes on
+-- as before.
 pub record IsPassed {M P : Type 0} (meaning : M → Meaning) (state : P → PortState)
     (old new : Judged M P) (reply : Reply) : Type 0 where
   pub taken : IsTakenBelow (state old.port) (state new.port) reply
   pub judged : AreJudged (meaning old.model) old.every old.nodes old.known reply.fossils new.known
+  pub all : old.every ≡ 1 → AreOfModel (meaning old.model) old.nodes old.known reply.fossils
+  pub unchanged : new ≡ record old { port = new.port; known = new.known }
   pub same_event : new.refused ≡ old.refused
 
 -- The judge refuses a reply that the port below returned: its reports are not all accepted, and the
@@ -80,3 +94,12 @@ pub record IsRefused {M P : Type 0} (meaning : M → Meaning) (state : P → Por
   pub event : Difference
   pub first : IsFirstRefused (meaning old.model) old.every old.nodes old.known reply.fossils event
   pub kept : new.refused ≡ Some event
+
+-- A reply is not passed on: the judge refuses it, or the port below has ended, by a fault of its own.
+pub record TakeHasCause {M P : Type 0} (meaning : M → Meaning) (state : P → PortState)
+    (old new : Judged M P) (fault : PortFault) : Type 0 where
+  pub refused : (state new.port).stage ≡ Idle → IsRefused meaning state old new fault
+  pub same_event : (state new.port).stage ≡ Ended → new.refused ≡ old.refused
+  pub below : (parcel : Parcel) → (state old.port).stage ≡ Posted parcel →
+      (state old.port).faithful ≡ true → (state new.port).stage ≡ Ended →
+      IsTakeFault parcel (state old.port) fault

@@ -1,9 +1,8 @@
 // A port that judges what its node reports.
 
 ghost use Rattle.std.specs.Prelude.{◌≡◌, ◌≤◌, ◌<◌, ◌^◌, IfErr, IfOk, OnErr, OnOk, Some};
-ghost use Rattle.std.specs.Prelude.{map, true};
-ghost use Rattle.judging.specs.Judged.{IsPassed, IsRefused, new_judge, state_by};
-ghost use Rattle.judging.specs.Judging.{AreOfModel, loaded_known};
+ghost use Rattle.std.specs.Prelude.{true};
+ghost use Rattle.judging.specs.Judged.{IsJudgedLoad, IsPassed, TakeHasCause, new_judge, state_by};
 ghost use Rattle.node.specs.declared.Parcel.{Parcel};
 ghost use Rattle.wire.specs.Port.{IsLoadFault, IsLoadInRange, IsLoaded, IsResourceFault, IsSamePort};
 ghost use Rattle.wire.specs.Port.{IsTakeFault, IsTaken};
@@ -145,15 +144,9 @@ impl<'m, M: Simulated, P: Port> Port for Judged<'m, M, P> {
 
         // The port below is loaded with this load, and the judge knows its processes. A fault is that
         // of the port below, or an allocation of the judge failed.
-        ensures loaded { (P.state self.old.port).faithful ≡ true →
-            OnOk result (IsLoaded load (P.state self.old.port) (P.state self.new.port)) }
+        ensures loaded { OnOk result (IsJudgedLoad P.state load self.old self.new) }
         ensures refused { (P.state self.old.port).faithful ≡ true →
             IfErr result (λ fault. IsLoadFault load (state_by P.state self.old) fault) }
-        ensures known { OnOk result (self.new ≡ record self.old {
-          port = self.new.port;
-          nodes = load.nodes;
-          known = map (loaded_known self.old.every) load.parts;
-        }) }
         ensures same_event { self.new.refused ≡ self.old.refused }
     {
         let (every, nodes) = (self.every, load.nodes);
@@ -205,22 +198,9 @@ impl<'m, M: Simulated, P: Port> Port for Judged<'m, M, P> {
 
         // The reply is that of the port below, and each judged report is what the model does.
         ensures passed { IfOk result (λ reply. IsPassed M.meaning P.state self.old self.new reply) }
-        // Where all are judged, the reports of each process are what the model does.
-        ensures all { self.old.every ≡ 1 → IfOk result (λ reply.
-            AreOfModel (M.meaning self.old.model) self.old.nodes self.old.known reply.fossils) }
-        // It judges on as before.
-        ensures unchanged { OnOk result (self.new ≡ record self.old {
-          port = self.new.port;
-          known = self.new.known;
-        }) }
         // A fault is that of the port below, which has then ended, or a reply is refused.
-        ensures refused { IfErr result (λ fault. (P.state self.new.port).stage ≡ Idle →
-            IsRefused M.meaning P.state self.old self.new fault) }
-        ensures same_event { OnErr result ((P.state self.new.port).stage ≡ Ended →
-            self.new.refused ≡ self.old.refused) }
-        ensures below { (parcel : Parcel) → (P.state self.old.port).stage ≡ Posted parcel →
-            (P.state self.old.port).faithful ≡ true → IfErr result (λ fault.
-            (P.state self.new.port).stage ≡ Ended → IsTakeFault parcel (P.state self.old.port) fault) }
+        ensures refused { IfErr result (λ fault.
+            TakeHasCause M.meaning P.state self.old self.new fault) }
     {
         let reply = self.port.take()?;
         if self.every == 0 {

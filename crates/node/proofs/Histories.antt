@@ -10,7 +10,7 @@ use Rattle.eventkey.proofs.Lists.{Every-get_or, Every-set}
 use Rattle.model.specs.Meaning.{Meaning}
 use Rattle.process.specs.Process.{nobody}
 use Rattle.process.specs.Consistent.{IsHistory}
-use Rattle.process.specs.View.{ProcessView, loaded}
+use Rattle.process.specs.View.{IsProcessKept, ProcessView, loaded}
 use Rattle.node.proofs.Deliveries.{node_at}
 use Rattle.node.proofs.Seats.{length-lps, own_at, picked, place_inside}
 use Rattle.node.specs.Handling.{Node, first_fault, own_lps, refusal}
@@ -39,9 +39,9 @@ module _ (m : Meaning) (seats : List ProcessView) (h : Every (IsModelled m) seat
   modelled_at i q inside read = subst (IsModelled m) (sym read) (Every-get_or (IsModelled m) seats i q inside h)
 
   -- after a call of a process that keeps its history what the model does
-  pub modelled_again : (i : ℕ) (q r : ProcessView) → IsModelled m q → r.lp ≡ q.lp → IsHistory m r.lp r.process → Every (IsModelled m) (set seats i r)
-  modelled_again i q r of_model same history =
-      Every-set (IsModelled m) seats i r (record { there = subst (λ (lp : ℕ). lp < m.lps) (sym same) of_model.there; history = history }) h
+  pub modelled_again : (i : ℕ) (q r : ProcessView) → IsModelled m q → IsProcessKept m q r → r.spent ≡ false → Every (IsModelled m) (set seats i r)
+  modelled_again i q r of_model kept unspent =
+      Every-set (IsModelled m) seats i r (record { there = subst (λ (lp : ℕ). lp < m.lps) (sym kept.lp) of_model.there; history = kept.history (λ _. of_model.history) unspent }) h
 
 -- 3. All of them
 

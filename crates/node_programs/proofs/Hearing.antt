@@ -6,8 +6,8 @@ use Rattle.frames.specs.Cutting.{Cut}
 use Rattle.frames.specs.Streams.{OnBytes}
 use Rattle.frames.specs.declared.greeting.Hello.{Hello}
 use Rattle.node_programs.specs.Greeting.{IsOther}
-use Rattle.sockets.specs.Meeting.{IsHeardFrom}
-use Rattle.sockets.specs.declared.meeting.Heard.TheVariants.{Other}
+use Rattle.frames.specs.Meeting.{IsHeardFrom}
+use Rattle.frames.specs.declared.meeting.Heard.TheVariants.{Other}
 
 -- another hello was heard
 pub other_heard : (a b : Option (List ℕ)) (own h : Hello) → OnBytes a b (IsHeardFrom own (Ok (Other h))) → IfSome a (IsOther own)

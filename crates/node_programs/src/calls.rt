@@ -4,7 +4,7 @@
 use crate::fault::{NodesFault, unreadable};
 use crate::simulation::{Apart, Simulation};
 use disk::SystemError;
-use sockets::ReadAhead;
+use frames::ReadAhead;
 use std::cell::Cell;
 use std::io::{self, Error as IoError, ErrorKind, Read, Write};
 use std::os::unix::net::UnixStream;

@@ -5,16 +5,15 @@ ghost use Rattle.std.specs.Prelude.{◌≡◌, ℕ, Err, IfOk, IfSome, Ok, lengt
 ghost use Rattle.frames.specs.Streams.{OnBytes};
 ghost use Rattle.node_programs.specs.Greeting.{IsOther};
 ghost use Rattle.node_programs.specs.declared.fault.NodesFault.TheVariants.{OtherNode};
-ghost use Rattle.sockets.specs.Meeting.{IsHeardFrom};
-ghost use Rattle.sockets.specs.Socket.{state_of};
-ghost use Rattle.sockets.specs.declared.meeting.Heard.TheVariants.{Same};
-ghost use Rattle.sockets.specs.declared.port.Held.TheVariants.{Fresh};
+ghost use Rattle.frames.specs.Meeting.{IsHeardFrom};
+ghost use Rattle.frames.specs.Socket.{state_of};
+ghost use Rattle.frames.specs.declared.meeting.Heard.TheVariants.{Same};
+ghost use Rattle.frames.specs.declared.port.Held.TheVariants.{Fresh};
 
 use crate::calls::Calls;
 use crate::fault::NodesFault;
 use crate::simulation::Simulation;
-use frames::Hello;
-use sockets::{Heard, SocketPort, hear_hello};
+use frames::{Heard, Hello, SocketPort, hear_hello};
 use std::alloc::Global;
 use std::io::{Read, Write};
 

@@ -1,8 +1,8 @@
 // Nodes that are programs of their own, behind Unix sockets.
 
 ghost use Rattle.std.specs.Prelude.{◌≡◌, ◌+◌, IfOk, OnOk, length, map, replicate};
-ghost use Rattle.sockets.specs.Socket.{state_of};
-ghost use Rattle.sockets.specs.declared.port.Held.TheVariants.{Fresh};
+ghost use Rattle.frames.specs.Socket.{state_of};
+ghost use Rattle.frames.specs.declared.port.Held.TheVariants.{Fresh};
 
 use crate::calls::{Calls, NodeStream};
 use crate::fault::{NodesFault, unreadable};
@@ -11,9 +11,8 @@ use crate::model_text::{path_of_text, place_text};
 use crate::pages::keep_pages;
 use crate::processors::{command_on, processor_of, processors};
 use crate::simulation::Simulation;
-use frames::{Ending, Hello, serve_greeted};
+use frames::{Ending, Hello, ReadAhead, SocketPort, say_hello, serve_greeted};
 use model::Model as Simulated;
-use sockets::{ReadAhead, SocketPort, say_hello};
 use std::alloc::{AllocError, Global};
 use std::fs::{self, File};
 use std::io::{self, BufReader, Error as IoError, ErrorKind};

@@ -1,7 +1,6 @@
 -- The values of a word of messages, and how many are in each bin.
 use Rattle.std.specs.List.{filter}
-use Rattle.std.proofs.Common.{◌≡◌, ◌+◌, ◌-◌, ◌*◌, ◌/◌, ◌<◌, ◌≤◌, ◌++◌, ◌∷◌, [], ℕ, Bool, List, ap, append_assoc, arith, false, get_or, length, map, min, refl, subst, suc, sym, take, true, zero, ◌∙◌}
-use Rattle.std.proofs.Math.Nat.{div-lt_iff_lt-mul, lt-div-mul-add, lt-mul-div-succ}
+use Rattle.std.proofs.Common.{◌≡◌, ◌+◌, ◌-◌, ◌<◌, ◌≤◌, ◌++◌, ◌∷◌, [], ℕ, Bool, List, ap, append_assoc, arith, false, get_or, length, map, min, refl, subst, suc, sym, take, true, zero, ◌∙◌}
 use Rattle.std.proofs.Math.Seq.{drop-append_seam}
 use Rattle.std.proofs.lemmas.List.{append-nil, length-append, map-append, take_more}
 use Rattle.std.proofs.lemmas.List.Elements.{filter-append}
@@ -89,18 +88,6 @@ tallied_whole m end to word a b old new events h run e add =
     }
 
 -- 3. Bins
-
--- the number of bins of a span
-pub few_bins : (span : ℕ) → span / (span / 50 + 1) + 1 ≤ 50
-few_bins span =
-    let width = span / 50 + 1 in
-    let fits : span < 50 * width = lt-mul-div-succ span (omega arith) in
-    let few : span / width < 50 = (div-lt_iff_lt-mul {k = width} {x = span} {y = 50} (omega arith)).1 fits in
-    omega (arith, few)
-
--- the bins have all of it
-pub all_binned : (span width : ℕ) → 0 < width → span < (span / width + 1) * width
-all_binned span width some = let l = lt-div-mul-add {a = span} {b = width} some in omega (arith, l)
 
 -- a value that is counted is one of them
 pub filter_fits_at : (p : ℕ → Bool) (xs : List ℕ) (i n : ℕ) → i < length xs → p (get_or xs i 0) ≡ true → n + length (filter p (drop i xs)) ≡ length (filter p xs) → n + 1 ≤ length xs

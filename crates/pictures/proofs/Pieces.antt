@@ -1,6 +1,6 @@
 -- The text of the items of a list that pass a test, one after another.
 use Rattle.std.proofs.Common.{arith, suc, ◌-◌, ◌∷◌, replicate, ℕ, ◌+◌, ◌<◌, ◌≤◌, List, ◌++◌, length, drop, filter, flat_map, get_or, Bool, true, false, refl, sym, [], ◌≡◌, ◌∙◌, Option, Result, Ok, Err}
-use Rattle.std.proofs.lemmas.List.{append-nil, drop_all}
+use Rattle.std.proofs.lemmas.List.{append-nil}
 use Rattle.eventkey.proofs.Lists.{drop_here}
 use Rattle.eventkey.proofs.Writers.{HasWritten, writes_broken, writes_end, written_next}
 use Rattle.eventkey.specs.Writing.{Writes}
@@ -15,9 +15,6 @@ module _ {X : Type 0} (f : X → List ℕ) (p : X → Bool) where
   pub filter-passed : (xs : List X) (i : ℕ) (x : X) → i < length xs → x ≡ get_or xs i x → p x ≡ false
       → flat_map f (filter p (drop i xs)) ≡ flat_map f (filter p (drop (i + 1) xs))
   filter-passed xs i x l is other = rw (drop_here xs i x l is, other) refl
-
-  pub filter-none : (xs : List X) (i : ℕ) → length xs ≤ i → length (flat_map f (filter p (drop i xs))) ≡ 0
-  filter-none xs i l = rw (drop_all i xs l) refl
 
 -- the last piece of a text
 module _ {T E : Type 0} {old mid new : Option (List ℕ)} {text rest : List ℕ} where

@@ -40,9 +40,6 @@ module _ (m : Meaning) where
 
 -- 3. More times in the row of one process
 
-at_front : {A : Type 0} (xs : List A) → xs ≡ [] ++ xs
-at_front xs = refl
-
 -- each row, together with the times of the events that are left, stays the same
 pub row_kept : (rows : List (List ℕ)) (events : List Message) (sends : List ℕ) (i lp k n : ℕ) (x : Message) (row all : List ℕ) → i < length events → i < length sends → x ≡ get_or events i x
     → lp < length rows → lp ≡ x.to → n ≡ get_or sends i 0 → row ≡ get_or rows lp [] ++ replicate n x.time

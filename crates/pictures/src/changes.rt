@@ -16,6 +16,8 @@ pub(crate) struct Variable<'n> {
     pub(crate) process: u32,
     /// The name of the kind of the process; it may be empty.
     pub(crate) kind: &'n str,
+    /// The number of the process among those of its kind, counted from 0.
+    pub(crate) number: u32,
     pub(crate) name: &'n str,
     pub(crate) bits: u8,
     /// Its value at the first tick.
@@ -145,6 +147,7 @@ impl<'n> Changes<'n> {
                 self.variables.push(Variable {
                     process: lp,
                     kind: kind.name.as_str(),
+                    number: lp.saturating_sub(kind.first),
                     name: column.name.as_str(),
                     bits: column.bits,
                     first: value,

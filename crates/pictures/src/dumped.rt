@@ -6,10 +6,10 @@ use std::io::{Result, Write};
 use texts::{write_number, write_text};
 
 /// Writes changes as a value change dump: a tick is a nanosecond; a scope for each kind of
-/// processes, or `lp` if it has no name, and in it a scope `lp` and its number for each process;
-/// and a variable of as many bits as the number has, in whose name `[3]` is written `_3`. At the
-/// first tick there are all values, then at each tick those that change, and last the tick at which
-/// the dump ends.
+/// processes, and in it a scope for each process, as `doctor_0` for `doctor[0]`; if the kind has no
+/// name, `lp` and in it `lp0`; and a variable of as many bits as the number has, in whose name `[3]`
+/// is written `_3`. At the first tick there are all values, then at each tick those that change, and
+/// last the tick at which the dump ends.
 ///
 /// If the writer fails, its error is returned, and it has taken a beginning of the dump.
 pub fn write_changes<W: Write>(changes: &Changes<'_>, out: &mut W) -> Result<()> {
@@ -78,7 +78,13 @@ fn write_scopes<W: Write>(
         write_text(kind, out)?;
         write_text(" $end\n", out)?;
     }
-    write_number("$scope module lp", u64::from(variable.process), out)?;
+    write_text("$scope module ", out)?;
+    if variable.kind.is_empty() {
+        write_number("lp", u64::from(variable.process), out)?;
+    } else {
+        write_text(variable.kind, out)?;
+        write_number("_", u64::from(variable.number), out)?;
+    }
     write_text(" $end\n", out)
 }
 

@@ -6,7 +6,7 @@ ghost use Rattle.pictures.specs.Histograms.{content_at, count_between, is_of_sor
 ghost use Rattle.pictures.specs.Histograms.{AreBins, HasTallied, IsTallyOfRun};
 ghost use Rattle.pictures.specs.Tallies.{IsTally};
 
-use crate::stepping::{forget, step_some};
+use crate::stepping::{EVENTS_AT_MOST, forget, step_some};
 use crate::tallies::Tally;
 use eventkey::Message;
 use model::{Model, World, WorldFault};
@@ -78,7 +78,7 @@ fn tally_most<M: Model>(
     // more than the events of a log
     for _ in 0..u64::MAX {
         let from = world.log().len();
-        let more = step_some(model, &mut world, to)?;
+        let more = step_some(model, &mut world, to, EVENTS_AT_MOST)?;
         add_values(alloc, world.log().split_at(from).1, word, &mut tally)?;
         if !more {
             return Ok((world, tally));

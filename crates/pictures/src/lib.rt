@@ -33,7 +33,7 @@ pub use levels::Level;
 pub use loads::write_load;
 pub use quotients::Decimal;
 pub use statistics::{Cell, LEVEL_NAMES, LevelRow, Statistics, WORD_NAMES, WordRow, statistics_of};
-pub use stepping::{EVENTS_AT_ONCE, forget, step_some};
+pub use stepping::{EVENTS_AT_FIRST, EVENTS_AT_MOST, forget, next_piece, step_some};
 pub use tables::{write_stats, write_stats_csv};
 pub use tallies::{Tallied, Tally};
 pub use traced::{Trace, trace_before, trace_of};

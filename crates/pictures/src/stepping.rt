@@ -1,7 +1,7 @@
 // A simulation in steps that forgets the events that it has handled, so that it needs memory for
 // its world, and not for its log.
 
-ghost use Rattle.std.specs.Prelude.{◌≡◌, ◌≤◌, ◌++◌, ◌^◌, Ok, IfOk, List, false, length, min};
+ghost use Rattle.std.specs.Prelude.{◌≡◌, ◌≤◌, ◌*◌, ◌++◌, ◌^◌, Ok, IfOk, List, false, length, min};
 ghost use Rattle.eventkey.specs.Message.{Message};
 ghost use Rattle.model.specs.Runner.{IsIdle, IsRun};
 ghost use Rattle.pictures.specs.Stepping.{comes_before, with_log, without_log};
@@ -10,16 +10,31 @@ use eventkey::Message;
 use model::{Model, World, WorldFault, WorldParts};
 use std::alloc::Global;
 
-/// The most events that one call of `step_some` handles.
-pub const EVENTS_AT_ONCE: usize = 256;
+/// The number of events in the first piece of a simulation that is printed piece by piece, so that
+/// its first lines come at once.
+pub const EVENTS_AT_FIRST: usize = 256;
+
+/// The most events in a piece. Each piece is twice as large as the one before it, up to this number.
+pub const EVENTS_AT_MOST: usize = 16_384;
+
+/// Returns how many events the piece after one of `events` has.
+pub fn next_piece(events: usize) -> usize
+    ensures { result ≡ min (events * 2) 16384 }
+{
+    events.saturating_mul(2).min(EVENTS_AT_MOST)
+}
 
 /// The number of events from which on a simulation forgets them.
 pub(crate) const EVENTS_KEPT: usize = 1 << 16;
 
-/// Handles the next events before `g` ticks and before the end, at most `EVENTS_AT_ONCE`. Returns
-/// whether there may be more of them. The faults are those of `World::step`, and come after the
-/// events before.
-pub fn step_some<M: Model>(model: &M, world: &mut World, g: u64) -> Result<bool, WorldFault>
+/// Handles the next events before `g` ticks and before the end, at most `most`. Returns whether there
+/// may be more of them. The faults are those of `World::step`, and come after the events before.
+pub fn step_some<M: Model>(
+    model: &M,
+    world: &mut World,
+    g: u64,
+    most: usize,
+) -> Result<bool, WorldFault>
     requires { length world.old.world.states ≡ (M.meaning model.now).lps }
     ensures run { IsRun (M.meaning model.now) (min g world.old.end) world.old.world
         world.new.world }
@@ -28,7 +43,7 @@ pub fn step_some<M: Model>(model: &M, world: &mut World, g: u64) -> Result<bool,
     ensures lps { length world.new.world.states ≡ length world.old.world.states }
 {
     let bound = g.min(world.end());
-    for _ in 0..EVENTS_AT_ONCE {
+    for _ in 0..most {
         if !comes_before(world.least(), bound) {
             return Ok(false);
         }

@@ -18,7 +18,7 @@ use recovery::RecoveryFault;
 pub use running::PlainRun;
 use std::alloc::{AllocError, AllocFailed};
 use thiserror::Error;
-pub use whole::{Finished, Plan, Ran, Watch, run_plain};
+pub use whole::{Plan, Reached, Watch, run_plain};
 
 /// Why a plain run stopped.
 #[derive(Clone, Copy, Debug, PartialEq, Eq, Error)]
@@ -54,7 +54,7 @@ pub enum PlainFault {
     NoMemory,
 }
 
-/// Why a plain run ended early, and its disk.
+/// Why an open plain run ended early, and its disk.
 #[derive(Drop)]
 pub struct Stopped<D: SectorDisk> {
     pub fault: PlainFault,

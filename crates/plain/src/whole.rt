@@ -1,18 +1,14 @@
 // Whole plain runs on a disk.
 
-ghost use Rattle.std.specs.Prelude.{◌≡◌, ◌≤◌, ◌<◌, ◌^◌, ℕ, IfErr, IfOk, IsErrOf};
-ghost use Rattle.std.specs.Prelude.{OnOk, length, true};
+ghost use Rattle.std.specs.Prelude.{◌≡◌, ◌≤◌, ◌<◌, ◌^◌, ℕ, IfErr, IfOk, length, true};
 ghost use Rattle.plain.specs.Commits.{StaysRecoverable};
-ghost use Rattle.model.specs.World.{World};
-ghost use Rattle.recovery.specs.Crashes.{KeepsRecovery};
-ghost use Rattle.recovery.specs.Histories.{IsKeptRun, IsRunOf, IsStoppedAt};
-ghost use Rattle.recovery.specs.Represents.{Recovers, IsGenuine};
 ghost use Rattle.plain.specs.Refusals.{SavingIsRefused};
-ghost use Rattle.plain.specs.Runs.{AreRounds, IsRound, IsRunOver, IsSavedIf, IsStopped};
-ghost use Rattle.plain.specs.Runs.{RoundIsRefused, RunIsRefused, acknowledged, is_kept};
+ghost use Rattle.plain.specs.Runs.{AreRounds, IsRound, IsRun, IsSavedIf, IsStopped};
+ghost use Rattle.plain.specs.Runs.{RoundIsRefused, is_kept};
+ghost use Rattle.recovery.specs.OldRecords.{KeepsOldRecords};
 
 use crate::{PlainFault, PlainRun, Stopped};
-use disk::SectorDisk;
+use disk::{NotOpened, Returned, SectorDisk};
 use model::Model as Simulated;
 use std::alloc::Global;
 
@@ -31,22 +27,13 @@ pub struct Plan {
     pub commits: u32,
 }
 
-/// The result of a finished run.
+/// What is committed after a run that reached its end.
 #[derive(Clone, Copy, Debug, PartialEq, Eq)]
-pub struct Finished {
+pub struct Reached {
     /// The virtual time before which everything is committed, in ticks.
     pub time: u64,
     /// The number of committed events.
     pub events: usize,
-}
-
-/// How a run ended.
-#[derive(Drop)]
-pub struct Ran<D> {
-    /// The disk as the run left it.
-    pub disk: D,
-    /// The result, or why the run stopped before its end.
-    pub outcome: Result<Finished, PlainFault>,
 }
 
 /// Observes the progress of a plain run, and may end it.
@@ -87,40 +74,19 @@ pub fn run_plain<M: Simulated, D: SectorDisk + Drop, W: Watch>(
     end: u64,
     plan: Plan,
     watch: &mut W,
-) -> Ran<D>
+) -> Returned<D, Reached, PlainFault>
     requires begun { 1 ≤ end }
     requires short { end ≤ 2 ^ 40 }
-    // On a disk whose records are genuine, the result is that of the sequential simulation up to
-    // the end.
-    ensures finished { IsGenuine (M.meaning model.now) end (D.state disk).reads →
-        IfOk result.outcome (λ done. IsRunOf (M.meaning model.now) end done.time done.events) }
-    ensures reached { IfOk result.outcome (λ done. end ≤ done.time) }
-    // The run made the plan's commits, checkpoints and seals, and wrote nothing else.
-    ensures over { IfOk result.outcome (λ done. IsRunOver M.meaning D.state model.now end plan disk
-        result.disk done.time done.events) }
-    ensures refused { IfErr result.outcome (λ fault. RunIsRefused M.meaning D.state model.now end
-        plan disk result.disk fault) }
-    // After a stop the numbers are those of the sequential simulation up to that time, and the disk
-    // recovers to at least that time.
-    ensures stopped_at { IsGenuine (M.meaning model.now) end (D.state disk).reads →
-        (time events : ℕ) → IsErrOf result.outcome (PlainFault.Stopped time events) →
-        IsStoppedAt (M.meaning model.now) end time events
-        × Recovers (M.meaning model.now) end time (D.state result.disk) }
-    // Crash safety: what recovered to at least time `a` before still does, during and after the
-    // run, at every exit. After a run that reached its end, it recovers to at least the end.
-    ensures crashes { (a : ℕ) → Recovers (M.meaning model.now) end a (D.state disk) →
-        KeepsRecovery (M.meaning model.now) end a a (D.state disk) (D.state result.disk) }
-    ensures committed { IsGenuine (M.meaning model.now) end (D.state disk).reads →
-        OnOk result.outcome (Recovers (M.meaning model.now) end end (D.state result.disk)) }
-    // It is a call of a history of the headline, which acknowledges the front that it reached, or at
-    // which it was stopped.
-    ensures kept { (v : World) → IsKeptRun (M.meaning model.now) end v (D.state disk)
-        (D.state result.disk) (acknowledged result.outcome) }
+    // It makes the plan's commits, checkpoints and seals and nothing else, or has a cause for its
+    // fault; and at every exit it has committed the sequential simulation.
+    ensures run { IsRun M.meaning D.state model.now end plan disk result.disk result.outcome }
+    // The records that were on the disk stay, also if they are not genuine.
+    ensures old_records { KeepsOldRecords (D.state disk) (D.state result.disk) }
 {
     let run = match PlainRun::open(alloc, model, disk, end) {
         Ok(run) => run,
-        Err(Stopped { fault, disk }) => {
-            return Ran {
+        Err(NotOpened { fault, disk }) => {
+            return Returned {
                 disk,
                 outcome: Err(fault),
             };
@@ -128,16 +94,16 @@ pub fn run_plain<M: Simulated, D: SectorDisk + Drop, W: Watch>(
     };
     match make_rounds(run, plan, watch) {
         Ok(run) => {
-            let done = Finished {
+            let done = Reached {
                 time: run.time(),
                 events: run.events(),
             };
-            Ran {
+            Returned {
                 disk: run.into_disk(),
                 outcome: Ok(done),
             }
         }
-        Err(Stopped { fault, disk }) => Ran {
+        Err(Stopped { fault, disk }) => Returned {
             disk,
             outcome: Err(fault),
         },
@@ -208,7 +174,7 @@ fn make_round<'m, M: Simulated, D: SectorDisk, W: Watch>(
     ensures made { IfOk result (λ next. IsRound M.meaning D.state plan number run.entry next) }
     ensures refused { IfErr result (λ e.
         RoundIsRefused M.meaning D.state plan number run.entry e.disk e.fault) }
-    ensures crashes_err { IfErr result (λ e. StaysRecoverable M.meaning D.state run.entry e.disk) }
+    ensures stays { IfErr result (λ e. StaysRecoverable M.meaning D.state run.entry e.disk) }
 {
     let run = match run.commit(plan.commit_every) {
         Ok(run) => run,
@@ -233,7 +199,7 @@ fn save_if<'m, M: Simulated, D: SectorDisk>(
     ensures refused { IfErr result (λ e. (due ≡ true) × SavingIsRefused run.entry.front.world
         run.entry.log.records (length (D.state run.entry.log.disk).reads)
         ((D.state run.entry.log.disk).failures < (D.state e.disk).failures) e.fault) }
-    ensures crashes_err { IfErr result (λ e. StaysRecoverable M.meaning D.state run.entry e.disk) }
+    ensures stays { IfErr result (λ e. StaysRecoverable M.meaning D.state run.entry e.disk) }
 {
     if due { run.checkpoint(seal) } else { Ok(run) }
 }

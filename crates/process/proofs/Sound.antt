@@ -24,7 +24,7 @@ use Rattle.process.proofs.Histories.{fold_handlings, fold_whole}
 use Rattle.process.proofs.Handlings.{fold_fossils, fold_handle, fold_kept, handled_before-from}
 use Rattle.process.specs.Process.{Process, arrive, fossils_of, handle, handling_of, number_after, queue_of, release, state_after, reported}
 use Rattle.process.specs.Consistent.{IsHistory, AreConsistent}
-use Rattle.process.specs.View.{HasDone, HasRun, IsDoneInRange, IsSound, ProcessView, has_foreign, loaded}
+use Rattle.process.specs.View.{HasDone, HasHistory, IsDoneInRange, IsProcessKept, IsSound, ProcessView, has_foreign, loaded}
 
 -- 1. Loading
 
@@ -191,11 +191,11 @@ fossils_in_range floor v h =
 pub done_arrived : (m : Meaning) (s : Signed) (v : ProcessView) (state : List ℕ) (number : ℕ) → HasDone m v state number → HasDone m (record v { process = arrive s v.process }) state number
 done_arrived m s v state number f = fold_arrive m v.lp s v.process state number f
 
-pub done_ran : (m : Meaning) (end : ℕ) (old new : ProcessView) (before after : List Signed) (state : List ℕ) (number : ℕ) → HasRun m end old new before after → new.process.number ≤ 2 ^ 63 → HasDone m old state number → HasDone m new state number
-done_ran m end old new before after state number r limit f =
-    let long = length-stamp old.lp r.message.time old.process.number (m.sends old.lp old.process.state r.message) in
-    let up = ap (λ (w : ProcessView). w.process.number) r.process in
-    subst (λ (w : ProcessView). HasDone m w state number) (sym r.process) (fold_handle m old.lp r.message old.process state number (omega arith) f)
+pub done_ran : (m : Meaning) (x : Message) (old new : ProcessView) → new ≡ record old { process = handle m old.lp x old.process } → new.process.number ≤ 2 ^ 63 → (state : List ℕ) (number : ℕ) → HasDone m old state number → HasDone m new state number
+done_ran m x old new is limit state number f =
+    let long = length-stamp old.lp x.time old.process.number (m.sends old.lp old.process.state x) in
+    let up = ap (λ (w : ProcessView). w.process.number) is in
+    subst (λ (w : ProcessView). HasDone m w state number) (sym is) (fold_handle m old.lp x old.process state number (omega arith) f)
 
 pub done_collected : (m : Meaning) (floor : ℕ) (v : ProcessView) (state : List ℕ) (number : ℕ) → HasDone m v state number →
     AreConsistent m v.lp state number (fossils_of floor v.process)
@@ -207,7 +207,10 @@ done_collected m floor v state number f = ((fold_fossils m v.lp floor v.process 
 pub has_history : (m : Meaning) (v : ProcessView) (state : List ℕ) (number : ℕ) → HasDone m v state number → IsHistory m v.lp v.process
 has_history m v state number done = fold_whole m v.lp v.process.done state number v.process.state v.process.number done
 
-pub sound_handlings : (m : Meaning) (v w : ProcessView) → v ≡ w → v.spent ≡ false → IsSound v → w.lp < m.lps → (w.spent ≡ false → IsHistory m w.lp w.process) → AreHandlings m v.process.done
+pub kept_unspent : (m : Meaning) (old new : ProcessView) → old.spent ≡ false → new.lp ≡ old.lp → (IsHistory m old.lp old.process → IsHistory m new.lp new.process) → IsProcessKept m old new
+kept_unspent m old new unspent lp goes_on = record { lp = lp; history = λ before _. goes_on (before unspent) }
+
+pub sound_handlings : (m : Meaning) (v w : ProcessView) → v ≡ w → v.spent ≡ false → IsSound v → w.lp < m.lps → HasHistory m w → AreHandlings m v.process.done
 sound_handlings m v w e unspent h there history =
-    let mine : IsHistory m v.lp v.process = subst (λ (u : ProcessView). u.spent ≡ false → IsHistory m u.lp u.process) (sym e) history unspent in
+    let mine : IsHistory m v.lp v.process = subst (HasHistory m) (sym e) history unspent in
     fold_handlings m v.lp v.process.done (state_before v.process.done v.process.state) (number_before v.process.done v.process.number) v.process.state v.process.number (subst (λ (u : ProcessView). u.lp < m.lps) (sym e) there) mine h.own_done h.few_before

@@ -1,7 +1,7 @@
 -- The process that callers see, and what its calls return and change.
 use Rattle.std.specs.List.{AllByRecursion as Every, list_any}
 use Rattle.std.specs.Prelude.{not, nat_lt, ◌==◌, ℕ, Bool, false, true, List, [], ◌++◌, map, Some}
-use Rattle.std.specs.Prelude.{length, ◌≡◌, ◌≤◌, ◌^◌}
+use Rattle.std.specs.Prelude.{length, ◌≡◌, ◌≢◌, ◌≤◌, ◌<◌, ◌^◌, ◌↔◌, ◌⊎◌, Err, IfErr, Result}
 use Rattle.eventkey.specs.Bag.{add_all}
 use Rattle.eventkey.specs.Message.{Message}
 use Rattle.eventkey.specs.Signed.{plus}
@@ -10,8 +10,10 @@ use Rattle.model.specs.Meaning.{Meaning}
 use Rattle.queues.specs.Queue.{IsInOrder, first_before}
 use Rattle.queues.specs.Record.{messages}
 use Rattle.queues.specs.declared.Record.{Record}
-use Rattle.process.specs.Process.{Process, handle, handling_of, has_room, queue_of}
-use Rattle.process.specs.Consistent.{IsFold, IsHistory}
+use Rattle.process.specs.Process.{Process, arrive, cancelled_sends, fossils_of, handle}
+use Rattle.process.specs.Process.{handling_of, has_room, number_after, queue_of, release}
+use Rattle.process.specs.Process.{state_after}
+use Rattle.process.specs.Consistent.{AreConsistent, IsFold, IsHistory}
 use Rattle.process.specs.declared.Done.{Done}
 use Rattle.process.specs.declared.ProcessFault.{ProcessFault}
 use Rattle.process.specs.declared.ProcessFault.TheVariants.{BelowFloor, NoMemory, NotMine}
@@ -71,6 +73,16 @@ has_foreign lp xs = list_any (λ (x : Message). not (x.to == lp)) xs
 abbrev pub has_early : ℕ → List Message → Bool
 has_early floor xs = list_any (λ (x : Message). nat_lt x.time floor) xs
 
+-- unless the process is spent, its handlings are what the model does
+abbrev pub HasHistory : Meaning → ProcessView → Type 0
+HasHistory m v = v.spent ≡ false → IsHistory m v.lp v.process
+
+-- What stays at every exit of a call: the number of the process, and that its handlings are what
+-- the model does.
+pub record IsProcessKept (m : Meaning) (old new : ProcessView) : Type 0 where
+  pub lp : new.lp ≡ old.lp
+  pub history : HasHistory m old → HasHistory m new
+
 -- A refused call only appends to its output, and either the process is spent or nothing changes
 abbrev pub IsRefused : ProcessFault → ProcessView → ProcessView → List Signed → List Signed → Type 0
 IsRefused NotMine old new before after = (new ≡ old) × (after ≡ before)
@@ -81,13 +93,40 @@ IsRefused NumberLimit old new before after = (new.spent ≡ true) × (more : Lis
     × (after ≡ before ++ more)
 IsRefused Spent old new before after = (new ≡ old) × (after ≡ before)
 
--- the least waiting message below the end was handled, and its sends were appended
+-- Deliveries
+
+-- The message arrived, and the antimessages of the sends that it undoes were appended. The
+-- handlings that are left are what the model does, if those before were.
+pub record IsDelivered (s : Signed) (old new : ProcessView) (before after : List Signed) :
+    Type 0 where
+  pub process : new ≡ record old { process = arrive s old.process }
+  pub out : after ≡ before ++ cancelled_sends s old.process
+  pub done : (m : Meaning) (state : List ℕ) (number : ℕ) → HasDone m old state number →
+      HasDone m new state number
+
+-- Which fault a delivery returns: `Spent` for a process that is spent, else `NotMine` for a message
+-- to another process, else `BelowFloor` for one below the floor, each exactly then; and never
+-- `NumberLimit`.
+pub record DeliveryHasCause (s : Signed) (v : ProcessView) (result : Result (Unit {0}) ProcessFault) :
+    Type 0 where
+  pub spent : (result ≡ Err Spent) ↔ (v.spent ≡ true)
+  pub not_mine : (result ≡ Err NotMine) ↔ ((v.spent ≡ false) × (s.message.to ≢ v.lp))
+  pub below_floor : (result ≡ Err BelowFloor) ↔ ((v.spent ≡ false) × (s.message.to ≡ v.lp)
+      × (s.message.time < v.floor))
+  pub unlimited : result ≢ Err NumberLimit
+
+-- Handlings
+
+-- The least waiting message below the end was handled, and its sends were appended. The handlings
+-- are what the model does, if those before were.
 pub record HasRun (m : Meaning) (end : ℕ) (old new : ProcessView) (before after : List Signed) :
     Type 0 where
   pub message : Message
   pub next : first_before end old.process.waiting ≡ Some message
   pub process : new ≡ record old { process = handle m old.lp message old.process }
   pub out : after ≡ before ++ map plus (handling_of m old.lp message old.process).sent
+  pub done : (state : List ℕ) (number : ℕ) → HasDone m old state number →
+      HasDone m new state number
 
 -- the least waiting message below the end cannot be handled, since the send number would pass its
 -- limit
@@ -95,3 +134,32 @@ pub record LacksRoom (m : Meaning) (end : ℕ) (q : Process) : Type 0 where
   pub message : Message
   pub next : first_before end q.waiting ≡ Some message
   pub room : has_room m message q ≡ false
+
+-- Which fault a handling returns: `Spent` for a process that is spent, else `NumberLimit` if the
+-- send number has no room, each exactly then; and never one of those of a delivery.
+pub record RunHasCause (m : Meaning) (end : ℕ) (v : ProcessView) (result : Result Bool ProcessFault) :
+    Type 0 where
+  pub spent : (result ≡ Err Spent) ↔ (v.spent ≡ true)
+  pub limit : (result ≡ Err NumberLimit) ↔ ((v.spent ≡ false) × LacksRoom m end v.process)
+  pub mine : result ≢ Err NotMine
+  pub from_floor : result ≢ Err BelowFloor
+
+-- Fossil collections
+
+-- The handlings below the floor were appended in order, each in its range, and the process no
+-- longer has them. They and those that are left are what the model does, if those before were.
+pub record IsCollected (floor : ℕ) (old new : ProcessView) (before after : List Done) : Type 0 where
+  pub fossils : after ≡ before ++ fossils_of floor old.process
+  pub process : new ≡ record old { floor = floor; process = release floor old.process }
+  pub range : Every IsDoneInRange (fossils_of floor old.process)
+  pub done : (m : Meaning) (state : List ℕ) (number : ℕ) → HasDone m old state number →
+      AreConsistent m old.lp state number (fossils_of floor old.process)
+      × HasDone m new (state_after (fossils_of floor old.process) state)
+      (number_after (fossils_of floor old.process) number)
+
+-- Which fault a collection returns: `Spent` exactly for a process that is spent, else only
+-- `NoMemory`.
+pub record CollectionHasCause {T : Type 0} (v : ProcessView) (result : Result T ProcessFault) :
+    Type 0 where
+  pub spent : (result ≡ Err Spent) ↔ (v.spent ≡ true)
+  pub only : IfErr result (λ fault. (fault ≡ Spent) ⊎ (fault ≡ NoMemory))

@@ -1,18 +1,16 @@
 // A logical process.
 
-ghost use Rattle.std.specs.Prelude.{◌≡◌, ◌≢◌, ◌↔◌, ◌<◌, ◌≤◌, ◌+◌, ◌++◌, ◌^◌, ◌==◌, ◌&&◌, ◌⊎◌, []};
-ghost use Rattle.std.specs.Prelude.{List, ℕ, length, map, not, nat_lt, true, false, Ok, Err, None};
-ghost use Rattle.std.specs.Prelude.{IfOk, IfErr, IfSome, OnOk, OnErr, IsTrue};
-ghost use Rattle.std.specs.List.{AllByRecursion as Every};
+ghost use Rattle.std.specs.Prelude.{◌≡◌, ◌≢◌, ◌↔◌, ◌<◌, ◌≤◌, ◌++◌, ◌^◌, ◌==◌, [], length};
+ghost use Rattle.std.specs.Prelude.{nat_lt, not, true, false, Ok, Err, None};
+ghost use Rattle.std.specs.Prelude.{IfOk, IfErr, IfSome, OnOk, OnErr};
 ghost use Rattle.model.specs.Meaning.{Meaning};
 ghost use Rattle.queues.specs.Queue.{first_before, first_time};
 ghost use Rattle.queues.specs.Record.{first_handled};
-ghost use Rattle.process.specs.Process.{arrive, fossils_of, number_after, release, state_after};
-ghost use Rattle.process.specs.Process.{cancelled_sends};
-ghost use Rattle.process.specs.Consistent.{IsHistory, AreConsistent};
-ghost use Rattle.process.specs.View.{HasDone, HasRun, IsDoneInRange, IsRefused, IsSound, LacksRoom};
-ghost use Rattle.process.specs.View.{has_early, has_foreign, loaded};
-ghost use Rattle.process.specs.declared.ProcessFault.TheVariants.{BelowFloor, NoMemory, NotMine};
+ghost use Rattle.process.specs.Consistent.{IsHistory};
+ghost use Rattle.process.specs.View.{CollectionHasCause, DeliveryHasCause, HasDone, HasHistory};
+ghost use Rattle.process.specs.View.{HasRun, IsCollected, IsDelivered, IsProcessKept, IsRefused};
+ghost use Rattle.process.specs.View.{IsSound, RunHasCause, has_early, has_foreign, loaded};
+ghost use Rattle.process.specs.declared.ProcessFault.TheVariants.{BelowFloor, NotMine};
 ghost use Rattle.process.specs.declared.ProcessFault.TheVariants.{NumberLimit, Spent};
 
 use crate::fossils::report;
@@ -198,26 +196,14 @@ impl Process {
         out: &mut Vec<Signed>,
     ) -> Result<(), ProcessFault>
         requires lp { self.old.lp < (M.meaning model.now).lps }
-        requires history { self.old.spent ≡ false →
-            IsHistory (M.meaning model.now) self.old.lp self.old.process }
-        ensures delivered { OnOk result (self.new
-            ≡ record self.old { process = arrive signed self.old.process }) }
-        ensures out { OnOk result (out.new.items ≡ out.old.items
-            ++ cancelled_sends signed self.old.process) }
-        ensures spent { (result ≡ Err Spent) ↔ (self.old.spent ≡ true) }
-        ensures not_mine { (result ≡ Err NotMine) ↔ ((self.old.spent ≡ false)
-            × (signed.message.to ≢ self.old.lp)) }
-        ensures below_floor { (result ≡ Err BelowFloor) ↔ ((self.old.spent ≡ false)
-            × (signed.message.to ≡ self.old.lp) × (signed.message.time < self.old.floor)) }
-        ensures unlimited { result ≢ Err NumberLimit }
-        ensures lp { self.new.lp ≡ self.old.lp }
-        ensures floor { self.new.floor ≡ self.old.floor }
-        ensures done { (m : Meaning) (state : List ℕ) (number : ℕ) →
-            HasDone m self.old state number → OnOk result (HasDone m self.new state number) }
-        ensures history { self.new.spent ≡ false →
-            IsHistory (M.meaning model.now) self.new.lp self.new.process }
+        requires history { HasHistory (M.meaning model.now) self.old }
+        ensures delivered { OnOk result
+            (IsDelivered signed self.old self.new out.old.items out.new.items) }
+        ensures causes { DeliveryHasCause signed self.old result }
         ensures refused { IfErr result (λ fault.
             IsRefused fault self.old self.new out.old.items out.new.items) }
+        ensures kept { IsProcessKept (M.meaning model.now) self.old self.new }
+        ensures floor { self.new.floor ≡ self.old.floor }
     {
         if self.spent {
             return Err(ProcessFault::Spent);
@@ -283,22 +269,11 @@ impl Process {
             × (first_before end self.old.process.waiting ≡ None)) }
         ensures idle_unchanged { result ≡ Ok false → (self.new ≡ self.old) × (out.new.items
             ≡ out.old.items) }
-        ensures spent { (result ≡ Err Spent) ↔ (self.old.spent ≡ true) }
-        ensures limit { (result ≡ Err NumberLimit) ↔ ((self.old.spent ≡ false) × LacksRoom
-            (M.meaning model.now) end self.old.process) }
-        ensures mine { result ≢ Err NotMine }
-        ensures from_floor { result ≢ Err BelowFloor }
-        ensures lp { self.new.lp ≡ self.old.lp }
-        ensures floor { self.new.floor ≡ self.old.floor }
-        ensures done { (state : List ℕ) (number : ℕ) → HasDone
-            (M.meaning model.now) self.old state number → OnOk result
-            (HasDone (M.meaning model.now) self.new state number) }
-        ensures history { (self.old.spent ≡ false →
-            IsHistory (M.meaning model.now) self.old.lp self.old.process) →
-            self.new.spent ≡ false →
-            IsHistory (M.meaning model.now) self.new.lp self.new.process }
+        ensures causes { RunHasCause (M.meaning model.now) end self.old result }
         ensures refused { IfErr result (λ fault.
             IsRefused fault self.old self.new out.old.items out.new.items) }
+        ensures kept { IsProcessKept (M.meaning model.now) self.old self.new }
+        ensures floor { self.new.floor ≡ self.old.floor }
     {
         if self.spent {
             return Err(ProcessFault::Spent);
@@ -353,25 +328,14 @@ impl Process {
         floor: u64,
     ) -> Result<Vec<Done>, ProcessFault>
         requires lp { self.old.lp < (M.meaning model.now).lps }
-        requires history { self.old.spent ≡ false →
-            IsHistory (M.meaning model.now) self.old.lp self.old.process }
+        requires history { HasHistory (M.meaning model.now) self.old }
         requires floor { self.old.floor ≤ floor }
-        ensures fossils { IfOk result (λ fossils. fossils.items
-            ≡ fossils_of floor self.old.process) }
-        ensures collected { OnOk result (self.new
-            ≡ record self.old { floor = floor; process = release floor self.old.process }) }
-        ensures spent { (result ≡ Err Spent) ↔ (self.old.spent ≡ true) }
-        ensures causes { IfErr result (λ fault. (fault ≡ Spent) ⊎ (fault ≡ NoMemory)) }
-        ensures lp { self.new.lp ≡ self.old.lp }
-        ensures floor { OnErr result (self.new.floor ≡ self.old.floor) }
-        ensures range { IfOk result (λ fossils. Every IsDoneInRange fossils.items) }
-        ensures done { (m : Meaning) (state : List ℕ) (number : ℕ) →
-            HasDone m self.old state number → IfOk result
-            (λ fossils. AreConsistent m self.old.lp state number fossils.items × HasDone m self.new
-            (state_after fossils.items state) (number_after fossils.items number)) }
-        ensures history { self.new.spent ≡ false →
-            IsHistory (M.meaning model.now) self.new.lp self.new.process }
+        ensures collected { IfOk result (λ fossils.
+            IsCollected floor self.old self.new [] fossils.items) }
+        ensures causes { CollectionHasCause self.old result }
         ensures refused { IfErr result (λ fault. IsRefused fault self.old self.new [] []) }
+        ensures kept { IsProcessKept (M.meaning model.now) self.old self.new }
+        ensures floor { OnErr result (self.new.floor ≡ self.old.floor) }
     {
         let mut fossils = Vec::new(self.alloc);
         self.collect_into(model, floor, &mut fossils)?;
@@ -387,25 +351,14 @@ impl Process {
         fossils: &mut Vec<Done>,
     ) -> Result<(), ProcessFault>
         requires lp { self.old.lp < (M.meaning model.now).lps }
-        requires history { self.old.spent ≡ false →
-            IsHistory (M.meaning model.now) self.old.lp self.old.process }
+        requires history { HasHistory (M.meaning model.now) self.old }
         requires floor { self.old.floor ≤ floor }
-        ensures fossils { OnOk result (fossils.new.items ≡ fossils.old.items
-            ++ fossils_of floor self.old.process) }
-        ensures collected { OnOk result (self.new
-            ≡ record self.old { floor = floor; process = release floor self.old.process }) }
-        ensures spent { (result ≡ Err Spent) ↔ (self.old.spent ≡ true) }
-        ensures causes { IfErr result (λ fault. (fault ≡ Spent) ⊎ (fault ≡ NoMemory)) }
-        ensures lp { self.new.lp ≡ self.old.lp }
-        ensures floor { OnErr result (self.new.floor ≡ self.old.floor) }
-        ensures range { OnOk result (Every IsDoneInRange (fossils_of floor self.old.process)) }
-        ensures done { (m : Meaning) (state : List ℕ) (number : ℕ) → HasDone m self.old state number
-            → OnOk result (let reported = fossils_of floor self.old.process in AreConsistent m self.old.lp
-            state number reported × HasDone m self.new (state_after reported state)
-            (number_after reported number)) }
-        ensures history { self.new.spent ≡ false →
-            IsHistory (M.meaning model.now) self.new.lp self.new.process }
+        ensures collected { OnOk result
+            (IsCollected floor self.old self.new fossils.old.items fossils.new.items) }
+        ensures causes { CollectionHasCause self.old result }
         ensures refused { IfErr result (λ fault. IsRefused fault self.old self.new [] []) }
+        ensures kept { IsProcessKept (M.meaning model.now) self.old self.new }
+        ensures floor { OnErr result (self.new.floor ≡ self.old.floor) }
     {
         if self.spent {
             return Err(ProcessFault::Spent);

@@ -1,16 +1,15 @@
 -- Attempts of a run as calls of a history, one after another.
-use Rattle.std.proofs.Common.{◌≡◌, ◌∙◌, ℕ, Bool, List, [], ◌∷◌, ◌++◌, Err, Ok, None, Option, Result, Some, OnOk, ap, arith, false, inl, inr, refl, subst, sym, true}
-use Rattle.std.specs.Io.KnownBytes.{Appends}
-use Rattle.std.specs.Prelude.{◌≢◌, IfErr, IfOk, OnErr, length, option_map}
+use Rattle.std.proofs.Common.{◌≡◌, ◌∙◌, ℕ, Bool, List, [], ◌∷◌, ◌++◌, Err, Ok, None, Option, Result, OnOk, ap, arith, false, inl, inr, refl, subst, sym, true}
+use Rattle.std.specs.Prelude.{◌≢◌, ◌≤◌, IfErr, IfOk, IsOkUnless, OnErr, length, option_map}
 use Rattle.segments.specs.Archiving.{IsNextDisk}
-use Rattle.commands.specs.Commands.{IsKeptCommand, PrintsEndOfRun, PrintsEndOfRunOver, ran_text, stopped_text}
+use Rattle.commands.specs.Commands.{Numbers, PrintsRun, numbers_of, plain_numbers_of, ran_text, stopped_text}
 use Rattle.commands.specs.declared.fault.CommandFault.{CommandFault}
 use Rattle.commands.specs.declared.fault.CommandFault.TheVariants as on_disk
 use Rattle.coordinator.specs.declared.SessionFault.{SessionFault}
 use Rattle.disk.specs.Disk.{DiskState, OnlyLooks}
 use Rattle.disk.specs.FileDisks.{FileState, disk_of_file}
 use Rattle.disk.specs.Laws.{looks_none}
-use Rattle.eventkey.specs.Writing.{TakesBeginning}
+use Rattle.eventkey.proofs.Writers.{began}
 use Rattle.model.specs.Meaning.{Meaning}
 use Rattle.model.specs.Origins.{continued}
 use Rattle.model.specs.Runner.{Simulation}
@@ -18,18 +17,28 @@ use Rattle.model.specs.World.{World}
 use Rattle.model.specs.declared.origin.Origin.{Origin}
 use Rattle.recovery.proofs.Crashes.{kept-none, looked-under}
 use Rattle.recovery.proofs.OldRecords.{keeps_none, keeps_on, looks_at_old}
-use Rattle.recovery.specs.Histories.{Call, Event, IsHistoryOfCalls, IsKept, IsKeptRun, IsStoppedAt, last_acknowledged}
+use Rattle.plain.specs.Runs.{IsRun as IsPlainRun, IsRunOver as IsPlainRunOver, ended as plainly_ended}
+use Rattle.plain.specs.declared.PlainFault.{PlainFault}
+use Rattle.plain.specs.declared.PlainFault.TheVariants as plain
+use Rattle.plain.specs.declared.whole.Plan.{Plan as PlainPlan}
+use Rattle.plain.specs.declared.whole.Reached.{Reached}
+use Rattle.recovery.specs.Histories.{Call, Event, IsHistoryOfCalls, IsKept, IsKeptRun, last_acknowledged}
 use Rattle.recovery.specs.Histories.Ending.{Returned}
 use Rattle.recovery.specs.Replay.{in_force}
-use Rattle.recovery.specs.Represents.{IsGenuine}
-use Rattle.runs.specs.Driver.{IsStoppedOver}
+use Rattle.recovery.specs.Runs.{CommitsSimulation, RunEnd, acknowledged}
+use Rattle.recovery.specs.Runs.RunEnd.{AtEnd, AtFault, AtStop}
+use Rattle.runs.specs.Driver.{IsRunOver, IsStoppedOver, RunHasCause}
+use Rattle.runs.specs.Runs.{ended}
+use Rattle.runs.specs.declared.over.Finished.{Finished}
+use Rattle.runs.specs.declared.rounds.RunFault.{RunFault}
+use Rattle.runs.specs.declared.rounds.RunFault.TheVariants as run_fault
 use Rattle.runs.specs.declared.rounds.Plan.{Plan}
 use Rattle.texts.specs.ModelFile.{IsModelFile}
 use Rattle.views.specs.Reading.{BeginsWith}
-use Rattle.views.specs.Views.{Begins, Describes, Prints}
+use Rattle.views.specs.Views.{Describes, Prints}
 use Rattle.wire.specs.Port.{PortState}
 use Rattle.program.proofs.Printed.{on_ok_so}
-use Rattle.program.specs.Attempts.{AreArchived, AreCalls, GoesOnWith, HasCome, IsAttempt, IsAttemptBy, IsCallBy, IsFollowed, IsGoneOn, IsLastAttempt, IsOnImage, IsRanAsReported, IsRanOn, IsStoppedAsReported, IsStoppedOn, IsTried, IsWholeRun, KeepsAll, KeepsDisk, Stretch}
+use Rattle.program.specs.Attempts.{AreArchived, AreCalls, GoesOnWith, HasCome, IsAttempt, IsAttemptBy, IsCallBy, IsFollowed, IsGoneOn, IsKeptAttempt, IsLastAttempt, IsOnImage, IsRanAsReported, IsRanOn, IsStoppedAsReported, IsStoppedOn, IsTried, IsWholeRun, KeepsAll, KeepsDisk, Stretch, stopped_in}
 use Rattle.program.specs.Command.{IsRan, IsRanAs, IsRanBehind, IsStoppedAs, IsStoppedBehind, IsStoppedText, IsWithoutOutput}
 use Rattle.program.specs.declared.attempts.Next.{Next}
 use Rattle.program.specs.declared.attempts.Next.TheVariants.{Other, Same}
@@ -43,38 +52,148 @@ looks_keep on old new looks = record { call = λ v. record { crashes = looked-un
 pub same_keeps : (on : Meaning) (disk : DiskState) → KeepsAll on disk disk
 same_keeps on disk = looks_keep on disk disk (looks_none disk)
 
+-- a writer's refusal is the only fault of what was written
+only_output : {T : Type 0} (r : Result T CommandFault) (fault : CommandFault) → IsOkUnless r on_disk.Output → r ≡ Err fault → fault ≡ on_disk.Output
+only_output (Ok x) fault unless is = absurd cc
+only_output (Err own) fault unless is = (let same : own ≡ fault = cc in sym same ∙ unless)
+
+not_ok : {T E : Type 0} (X : Type 0) (r : Result T E) (fault : E) → r ≡ Err fault → OnOk r X
+not_ok X (Ok x) fault is = absurd cc
+not_ok X (Err e) fault is = tt
+
+-- what is printed of a run, by its numbers, or by its fault
+tried_by : (Ran Stopped : List ℕ → Type 0) (numbers : Result Numbers CommandFault) (outcome : Result (Unit {0}) CommandFault) (same : Type 0) (before after : Option (List ℕ)) → IfOk numbers (λ run. Ran (ran_text run.ran run.time run.events))
+    → ((time events : ℕ) → numbers ≡ Err (on_disk.Stopped time events) → Stopped (stopped_text time events)) → IfErr numbers (λ fault. fault ≢ on_disk.Output) → PrintsRun numbers outcome same before after → IsTried Ran Stopped outcome same before after
+tried_by Ran Stopped (Ok run) outcome same before after ran stopped other printed = record {
+  printed = on_ok_so outcome (λ taken. (ran_text run.ran run.time run.events, ran, taken)) printed.0.all;
+  output = λ e. (ran_text run.ran run.time run.events, ran, began printed.0 e);
+  unwritten = λ f e no. absurd (no (only_output outcome f printed.1 e));
+  stopped = λ time events e. absurd (let no = only_output outcome (on_disk.Stopped time events) printed.1 e in cc);
+}
+tried_by Ran Stopped (Err own) outcome same before after ran stopped other printed = record {
+  printed = not_ok (Prints Ran before after) outcome own printed.0;
+  output = λ e. absurd (let is = sym printed.0 ∙ e in other cc);
+  unwritten = λ f e no. printed.1;
+  stopped = λ time events e. (let is = sym printed.0 ∙ e in let own_is : own ≡ on_disk.Stopped time events = cc in stopped time events (ap Err own_is));
+}
+
+-- how a run ended, by its numbers, or by its fault
+abbrev end_by : Result Numbers CommandFault → RunEnd
+end_by (Ok run) = AtEnd run.time run.events
+end_by (Err (on_disk.Stopped time events)) = AtStop time events
+end_by (Err fault) = AtFault
+
+stopped_same : (fault : CommandFault) → acknowledged (end_by (Err fault)) ≡ stopped_in fault
+stopped_same on_disk.NoMemory = refl
+stopped_same (on_disk.Log f) = refl
+stopped_same (on_disk.Recovery f) = refl
+stopped_same (on_disk.Session f) = refl
+stopped_same on_disk.Rounds = refl
+stopped_same (on_disk.Stopped time events) = refl
+stopped_same (on_disk.Migrate f) = refl
+stopped_same on_disk.Output = refl
+
+-- an attempt that commits the sequential simulation
 module _ (on : Meaning) (end nodes : ℕ) (old new : DiskState) (before after : Option (List ℕ)) where
-  taken_on : {Taken : List ℕ → Type 0} → PrintsEndOfRun on end nodes old new Taken → (text : List ℕ) × IsRanOn on end nodes old new text × Taken text
-  taken_on p = (ran_text p.ran p.time p.events, record { ran = p.ran; time = p.time; events = p.events; each = p.each; reached = p.reached; kept = p.kept; genuine = p.genuine; is = refl }, p.taken)
+  kept_by : (numbers : Result Numbers CommandFault) (outcome : Result (Unit {0}) CommandFault) (same : Type 0) (v : World) → PrintsRun numbers outcome same before after → IsKeptRun on end v old new (acknowledged (end_by numbers)) → IsKeptAttempt on end v old new before after outcome
+  kept_by (Ok run) outcome same v printed kept = inl (run.ran, run.time, run.events, printed.0, kept)
+  kept_by (Err fault) outcome same v printed kept = inr (fault, printed.0, subst (IsKeptRun on end v old new) (stopped_same fault) kept)
 
-  pub attempt_is : (outcome : Result (Unit {0}) CommandFault) (same : Type 0) → OnOk outcome (PrintsEndOfRun on end nodes old new (Appends before after)) → (outcome ≡ Err on_disk.Output → PrintsEndOfRun on end nodes old new (TakesBeginning before after))
-      → ((f : CommandFault) → outcome ≡ Err f → f ≢ on_disk.Output → same) → ((time events : ℕ) → outcome ≡ Err (on_disk.Stopped time events) → (v : World) → IsKeptRun on end v old new (Some (time, events)))
-      → (IsGenuine on end old.reads → (time events : ℕ) → outcome ≡ Err (on_disk.Stopped time events) → IsStoppedAt on end time events) → ((v : World) → IsKeptCommand on end v old new before after outcome)
-      → IsAttempt on end nodes old new outcome same before after
-  attempt_is outcome same printed output unwritten stopped genuine kept = record {
-    tried = record {
-      printed = on_ok_so outcome (λ p. taken_on p) printed;
-      output = λ e. taken_on (output e);
-      unwritten = unwritten;
-      stopped = λ time events e. record { time = time; events = events; kept = stopped time events e; genuine = λ is. genuine is time events e; is = refl };
-    };
-    kept = kept;
+  ran_on : (numbers : Result Numbers CommandFault) → IfOk numbers (λ run. (length run.ran ≡ nodes) × (end ≤ run.time)) → CommitsSimulation on end old new (end_by numbers) → IfOk numbers (λ run. IsRanOn on end nodes old new (ran_text run.ran run.time run.events))
+  ran_on (Ok run) whole commits = record { ran = run.ran; time = run.time; events = run.events; each = whole.0; reached = whole.1; kept = commits.kept; genuine = λ genuine. (commits.genuine genuine).0; is = refl }
+  ran_on (Err fault) whole commits = tt
+
+  stopped_on : (numbers : Result Numbers CommandFault) → CommitsSimulation on end old new (end_by numbers) → (time events : ℕ) → numbers ≡ Err (on_disk.Stopped time events) → IsStoppedOn on end old new (stopped_text time events)
+  stopped_on numbers commits time events is =
+      let stopped : CommitsSimulation on end old new (AtStop time events) = subst (λ (r : Result Numbers CommandFault). CommitsSimulation on end old new (end_by r)) is commits in
+      record { time = time; events = events; kept = stopped.kept; genuine = λ genuine. (stopped.genuine genuine).0; is = refl }
+
+  pub attempt_is : (numbers : Result Numbers CommandFault) (outcome : Result (Unit {0}) CommandFault) (same : Type 0) → IfOk numbers (λ run. (length run.ran ≡ nodes) × (end ≤ run.time)) → IfErr numbers (λ fault. fault ≢ on_disk.Output) → CommitsSimulation on end old new (end_by numbers)
+      → PrintsRun numbers outcome same before after → IsAttempt on end nodes old new outcome same before after
+  attempt_is numbers outcome same whole other commits printed = record {
+    tried = tried_by (IsRanOn on end nodes old new) (IsStoppedOn on end old new) numbers outcome same before after (ran_on numbers whole commits) (stopped_on numbers commits) other printed;
+    kept = λ v. kept_by numbers outcome same v printed (commits.kept v);
   }
 
--- over node programs that are trusted
-module _ {M P D : Type 0} (meaning : M → Meaning) (state : P → PortState) (disk : D → DiskState) (model : M) (end : ℕ) (plan : Plan) (begun left : D) (before after : Option (List ℕ)) where
-  reported : {Taken : List ℕ → Type 0} → PrintsEndOfRunOver meaning state disk model end plan begun left Taken → (text : List ℕ) × IsRanAsReported end plan.nodes text × Taken text
-  reported p = (ran_text p.ran p.time p.events, record { ran = p.ran; time = p.time; events = p.events; each = p.each; reached = p.over.reached; is = refl }, p.taken)
+-- a run over nodes, as what is printed of it
+ended_same : (made : Result Finished RunFault) → ended made ≡ end_by (numbers_of made)
+ended_same (Ok done) = refl
+ended_same (Err (run_fault.Session f)) = refl
+ended_same (Err run_fault.Rounds) = refl
+ended_same (Err (run_fault.Stopped time events)) = refl
+ended_same (Err run_fault.NoMemory) = refl
 
-  pub reported_is : (outcome : Result (Unit {0}) CommandFault) (same : Type 0) → OnOk outcome (PrintsEndOfRunOver meaning state disk model end plan begun left (Appends before after))
-      → (outcome ≡ Err on_disk.Output → PrintsEndOfRunOver meaning state disk model end plan begun left (TakesBeginning before after)) → ((f : CommandFault) → outcome ≡ Err f → f ≢ on_disk.Output → same)
-      → ((time events : ℕ) → outcome ≡ Err (on_disk.Stopped time events) → IsStoppedOver meaning state disk model end plan begun left time events) → IsTried (IsRanAsReported end plan.nodes) (IsStoppedAsReported end) outcome same before after
-  reported_is outcome same printed output unwritten stopped = record {
-    printed = on_ok_so outcome (λ p. reported p) printed;
-    output = λ e. reported (output e);
-    unwritten = unwritten;
-    stopped = λ time events e. (let over = stopped time events e in record { time = time; events = events; early = omega (arith, over.early, over.time_is); is = refl });
-  }
+of_a_run : (made : Result Finished RunFault) → IfErr (numbers_of made) (λ fault. fault ≢ on_disk.Output)
+of_a_run (Ok done) = tt
+of_a_run (Err (run_fault.Session f)) = λ is. cc
+of_a_run (Err run_fault.Rounds) = λ is. cc
+of_a_run (Err (run_fault.Stopped time events)) = λ is. cc
+of_a_run (Err run_fault.NoMemory) = λ is. cc
+
+stop_is : (made : Result Finished RunFault) (time events : ℕ) → numbers_of made ≡ Err (on_disk.Stopped time events) → made ≡ Err (run_fault.Stopped time events)
+stop_is (Ok done) time events is = absurd (cc)
+stop_is (Err (run_fault.Session f)) time events is = absurd (cc)
+stop_is (Err run_fault.Rounds) time events is = absurd (cc)
+stop_is (Err (run_fault.Stopped t n)) time events is = cc
+stop_is (Err run_fault.NoMemory) time events is = absurd (cc)
+
+module _ {M P D : Type 0} (meaning : M → Meaning) (state : P → PortState) (disk : D → DiskState) (model : M) (end : ℕ) (plan : Plan) (begun left : D) (made : Result Finished RunFault) (outcome : Result (Unit {0}) CommandFault) (same : Type 0) (before after : Option (List ℕ))
+    (over : IfOk made (IsRunOver meaning state disk model end plan begun left)) (printed : PrintsRun (numbers_of made) outcome same before after) where
+  whole_by : (r : Result Finished RunFault) → IfOk r (IsRunOver meaning state disk model end plan begun left) → IfOk (numbers_of r) (λ run. (length run.ran ≡ plan.nodes) × (end ≤ run.time))
+  whole_by (Ok done) is = (is.each, is.reached)
+  whole_by (Err fault) is = tt
+
+  pub attempt_of : CommitsSimulation (meaning model) end (disk begun) (disk left) (ended made) → IsAttempt (meaning model) end plan.nodes (disk begun) (disk left) outcome same before after
+  attempt_of commits =
+      attempt_is (meaning model) end plan.nodes (disk begun) (disk left) before after (numbers_of made) outcome same (whole_by made over) (of_a_run made)
+      (subst (CommitsSimulation (meaning model) end (disk begun) (disk left)) (ended_same made) commits) printed
+
+  -- over node programs that are trusted
+  reported_by : (r : Result Finished RunFault) → IfOk r (IsRunOver meaning state disk model end plan begun left) → IfOk (numbers_of r) (λ run. IsRanAsReported end plan.nodes (ran_text run.ran run.time run.events))
+  reported_by (Ok done) is = record { ran = done.ran.items; time = done.time; events = done.events; each = is.each; reached = is.reached; is = refl }
+  reported_by (Err fault) is = tt
+
+  pub reported_is : (ports : List PortState) → IfErr made (RunHasCause meaning state disk model end plan ports begun left) → IsTried (IsRanAsReported end plan.nodes) (IsStoppedAsReported end) outcome same before after
+  reported_is ports cause =
+      tried_by (IsRanAsReported end plan.nodes) (IsStoppedAsReported end) (numbers_of made) outcome same before after (reported_by made over)
+      (λ time events is.
+      let stop : IsStoppedOver meaning state disk model end plan begun left time events = subst (λ (r : Result Finished RunFault). IfErr r (RunHasCause meaning state disk model end plan ports begun left)) (stop_is made time events is) cause in
+      record { time = time; events = events; early = omega (arith, stop.early, stop.time_is); is = refl })
+      (of_a_run made) printed
+
+-- a run without nodes
+ended_plainly : (made : Result Reached PlainFault) → plainly_ended made ≡ end_by (plain_numbers_of made)
+ended_plainly (Ok done) = refl
+ended_plainly (Err (plain.Recovery f)) = refl
+ended_plainly (Err plain.NumberLimit) = refl
+ended_plainly (Err plain.TooLong) = refl
+ended_plainly (Err plain.Full) = refl
+ended_plainly (Err plain.Disk) = refl
+ended_plainly (Err plain.Commits) = refl
+ended_plainly (Err (plain.Stopped time events)) = refl
+ended_plainly (Err plain.NoMemory) = refl
+
+of_a_plain_run : (made : Result Reached PlainFault) → IfErr (plain_numbers_of made) (λ fault. fault ≢ on_disk.Output)
+of_a_plain_run (Ok done) = tt
+of_a_plain_run (Err (plain.Recovery f)) = λ is. cc
+of_a_plain_run (Err plain.NumberLimit) = λ is. cc
+of_a_plain_run (Err plain.TooLong) = λ is. cc
+of_a_plain_run (Err plain.Full) = λ is. cc
+of_a_plain_run (Err plain.Disk) = λ is. cc
+of_a_plain_run (Err plain.Commits) = λ is. cc
+of_a_plain_run (Err (plain.Stopped time events)) = λ is. cc
+of_a_plain_run (Err plain.NoMemory) = λ is. cc
+
+module _ {M D : Type 0} (meaning : M → Meaning) (disk : D → DiskState) (model : M) (end : ℕ) (plan : PlainPlan) (begun left : D) where
+  whole_plainly : (r : Result Reached PlainFault) → IfOk r (IsPlainRunOver meaning disk model end plan begun left) → IfOk (plain_numbers_of r) (λ run. (length run.ran ≡ 0) × (end ≤ run.time))
+  whole_plainly (Ok done) is = (refl, is.reached)
+  whole_plainly (Err fault) is = tt
+
+  pub attempt_plain : (made : Result Reached PlainFault) (outcome : Result (Unit {0}) CommandFault) (same : Type 0) (before after : Option (List ℕ)) → IsPlainRun meaning disk model end plan begun left made → PrintsRun (plain_numbers_of made) outcome same before after
+      → IsAttempt (meaning model) end 0 (disk begun) (disk left) outcome same before after
+  attempt_plain made outcome same before after run printed =
+      attempt_is (meaning model) end 0 (disk begun) (disk left) before after (plain_numbers_of made) outcome same (whole_plainly made run.over) (of_a_plain_run made)
+      (subst (CommitsSimulation (meaning model) end (disk begun) (disk left)) (ended_plainly made) run.simulation) printed
 
 -- an attempt that lost a node before its session has printed nothing, and left the disk
 lost_tried : (Ran Stopped : List ℕ → Type 0) (before after : Option (List ℕ)) (same : Type 0) (f : SessionFault) → same → IsTried {T = Unit {0}} Ran Stopped (Err (on_disk.Session f)) same before after
@@ -99,7 +218,7 @@ module _ (on : Meaning) (end : ℕ) (v : World) (old left : DiskState) where
   of_run : (returned : Option (ℕ × ℕ)) → IsKeptRun on end v old left returned → (front : Option Simulation) × IsKept on v (record { begun = old; ended = left; front = front })
   of_run returned run = (option_map (λ (w : World). in_force end w) run.front, run.kept)
 
-  pub as_call : (before after : Option (List ℕ)) (outcome : Result (Unit {0}) CommandFault) → IsKeptCommand on end v old left before after outcome → (front : Option Simulation) × IsKept on v (record { begun = old; ended = left; front = front })
+  pub as_call : (before after : Option (List ℕ)) (outcome : Result (Unit {0}) CommandFault) → IsKeptAttempt on end v old left before after outcome → (front : Option Simulation) × IsKept on v (record { begun = old; ended = left; front = front })
   as_call before after outcome kept = elim kept [
     | inl ended ↦ of_run _ ended.4
     | inr stopped ↦ of_run _ stopped.2

@@ -4,12 +4,13 @@ use Rattle.std.specs.Prelude.{◌≡◌, ◌≢◌, ◌≤◌, ◌<◌, ◌==◌
 use Rattle.std.specs.Prelude.{Err, OnOk, Some, false, length, not, true, unwrap_or}
 use Rattle.segments.specs.Archiving.{IsNextDisk}
 use Rattle.cli.specs.declared.command.RunArgs.{RunArgs}
-use Rattle.commands.specs.Commands.{IsKeptCommand, ran_text, stopped_text}
+use Rattle.commands.specs.Commands.{ran_text, stopped_text}
 use Rattle.commands.specs.declared.fault.CommandFault.{CommandFault}
 use Rattle.commands.specs.declared.fault.CommandFault.TheVariants as on_disk
 use Rattle.disk.specs.Disk.{DiskState, OnlyLooks}
 use Rattle.disk.specs.FileDisks.{FileState, disk_of_file}
 use Rattle.disk_commands.specs.Disks.{IsUnused}
+use Rattle.eventkey.specs.Writing.{Writes}
 use Rattle.model.specs.Meaning.{Meaning}
 use Rattle.model.specs.Origins.{continued}
 use Rattle.model.specs.Runner.{Simulation}
@@ -90,6 +91,22 @@ pub record IsTried {T : Type 0} (Ran Stopped : List ℕ → Type 0) (outcome : R
   pub stopped : (time events : ℕ) → outcome ≡ Err (on_disk.Stopped time events) →
       Stopped (stopped_text time events)
 
+-- the time and the number of events in the fault of an attempt that was asked to stop
+abbrev pub stopped_in : CommandFault → Option (ℕ × ℕ)
+stopped_in (on_disk.Stopped time events) = Some (time, events)
+stopped_in fault = None
+
+-- An attempt as a call of a history. It reached its end and wrote the numbers of the front that it
+-- acknowledges; or it ended with a fault, which has those numbers if it was asked to stop.
+abbrev pub IsKeptAttempt : Meaning → ℕ → World → DiskState → DiskState → Option (List ℕ) →
+    Option (List ℕ) → Result (Unit {0}) CommandFault → Type 0
+IsKeptAttempt on end v old new before after outcome =
+    ((ran : List ℕ) × (time : ℕ) × (events : ℕ)
+    × Writes before after outcome (ran_text ran time events)
+    × IsKeptRun on end v old new (Some (time, events)))
+    ⊎ ((fault : CommandFault) × (outcome ≡ Err fault)
+    × IsKeptRun on end v old new (stopped_in fault))
+
 -- An attempt on a disk, at every exit: what it has printed, and that it is a call of a history,
 -- whatever front was acknowledged last.
 pub record IsAttempt (on : Meaning) (end nodes : ℕ) (old new : DiskState)
@@ -97,7 +114,7 @@ pub record IsAttempt (on : Meaning) (end nodes : ℕ) (old new : DiskState)
     Type 0 where
   pub tried : IsTried (IsRanOn on end nodes old new) (IsStoppedOn on end old new) outcome same
       before after
-  pub kept : (v : World) → IsKeptCommand on end v old new before after outcome
+  pub kept : (v : World) → IsKeptAttempt on end v old new before after outcome
 
 -- An attempt that trusts node programs, at every exit: what it has printed, and that the records
 -- which were on the disk stay, whatever the programs report.

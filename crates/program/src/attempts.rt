@@ -12,26 +12,25 @@ ghost use Rattle.program.specs.Attempts.{GoesOnWith, IsAttempt, IsAttemptBy};
 ghost use Rattle.program.specs.Attempts.{IsFollowed, IsGoneOn, IsLastAttempt, IsWholeRun, KeepsAll};
 ghost use Rattle.program.specs.Attempts.{nodes_of, trusts_nodes};
 ghost use Rattle.program.specs.Command.{IsWithoutOutput};
-ghost use Rattle.sockets.specs.Socket.{state_of};
-ghost use Rattle.sockets.specs.declared.port.Held.TheVariants.{Fresh};
+ghost use Rattle.frames.specs.Socket.{state_of};
+ghost use Rattle.frames.specs.declared.port.Held.TheVariants.{Fresh};
 ghost use Rattle.views.specs.Reading.{BeginsWith};
 
-use crate::parts::{Archive, archived};
+use crate::parts::{Archive, Tried, archived};
 use crate::plainly::attempt_plainly;
 use crate::running::{judges_all, plan_of};
 use crate::watching::Watching;
 use cli::{RunArgs, most_sectors};
-use commands::{CommandFault, Ended, Simulated};
+use commands::{CommandFault, Simulated};
 use coordinator::SessionFault;
-use disk::{FileDisk, Room, SectorDisk};
+use disk::{FileDisk, Returned, Room, SectorDisk};
 use disk_commands::Fault;
-use frames::Hello;
+use frames::{Hello, SocketPort};
 use judging::{Differences, judged_ports};
 use model::{Continued, Model as Modelled, Origin};
 use node_programs::{Behind, Calls, NodeStream, NodesFault, clear, meet};
 use runs::Plan;
 use segments::archiving::Place;
-use sockets::SocketPort;
 use std::alloc::Global;
 use std::fs::File;
 use std::io::Write;
@@ -40,7 +39,7 @@ use std::process::Processes;
 use std::rt::Files;
 use std::time::Clock;
 use terminal::Progress;
-use upkeep::growing::{Grown, NotGrown, grow};
+use upkeep::growing::grow;
 use views::Begun;
 use wire::{PortFault, WireFault};
 
@@ -129,11 +128,11 @@ pub(crate) fn run_attempts<M, R, P, O>(
     rt: &R,
     nodes: NodePrograms<'_>,
     of: &Simulated<M>,
-    begun: Begun,
+    begun: Begun<FileDisk>,
     args: RunArgs<'_>,
     watch: &mut Watching<'_, R, P>,
     out: &mut O,
-) -> Result<Ended<FileDisk>, Fault>
+) -> Result<Tried, Fault>
 where
     M: Modelled,
     R: Files<File = File> + Net + Processes + Clock + AllocGlobal,
@@ -221,7 +220,7 @@ fn attempt_and_go_on<M, R, P, O>(
     going: &mut GoingOn<'_>,
     watch: &mut Watching<'_, R, P>,
     out: &mut O,
-) -> Result<Result<Next, Ended<FileDisk>>, Fault>
+) -> Result<Result<Next, Tried>, Fault>
 where
     M: Modelled,
     R: Files<File = File> + Net + Processes + Clock + AllocGlobal,
@@ -260,7 +259,7 @@ fn attempt_last<M, R, P, O>(
     args: RunArgs<'_>,
     watch: &mut Watching<'_, R, P>,
     out: &mut O,
-) -> Result<Ended<FileDisk>, Fault>
+) -> Result<Tried, Fault>
 where
     M: Modelled,
     R: Files<File = File> + Net + Processes + Clock + AllocGlobal,
@@ -294,7 +293,7 @@ fn attempt<M, R, P, O>(
     args: RunArgs<'_>,
     watch: &mut Watching<'_, R, P>,
     out: &mut O,
-) -> Result<Ended<FileDisk>, Fault>
+) -> Result<Tried, Fault>
 where
     M: Modelled,
     R: Files<File = File> + Net + Processes + Clock + AllocGlobal,
@@ -344,7 +343,7 @@ fn attempt_here<M, R, P, O>(
     plan: Plan,
     watch: &mut Watching<'_, R, P>,
     out: &mut O,
-) -> Ended<FileDisk>
+) -> Tried
 where
     M: Modelled,
     R: Files<File = File> + Clock,
@@ -404,7 +403,7 @@ fn attempt_behind<M, R, P, O>(
     judge: Judge<'_>,
     watch: &mut Watching<'_, R, P>,
     out: &mut O,
-) -> Result<Ended<FileDisk>, Fault>
+) -> Result<Tried, Fault>
 where
     M: Modelled,
     R: Files<File = File> + Net + Processes + Clock + AllocGlobal,
@@ -433,7 +432,7 @@ where
             watch,
             out,
         ),
-        Err(NodesFault::Lost(fault)) => Ok(Ended {
+        Err(NodesFault::Lost(fault)) => Ok(Returned {
             disk,
             outcome: Err(CommandFault::Session(SessionFault::Port(fault))),
         }),
@@ -454,7 +453,7 @@ fn attempt_over<M, R, P, O>(
     judge: Judge<'_>,
     watch: &mut Watching<'_, R, P>,
     out: &mut O,
-) -> Result<Ended<FileDisk>, Fault>
+) -> Result<Tried, Fault>
 where
     M: Modelled,
     R: Files<File = File> + Clock,
@@ -480,11 +479,11 @@ where
 fn next_disk<M, R, P>(
     rt: &R,
     of: &Simulated<M>,
-    ended: Ended<FileDisk>,
+    ended: Tried,
     going: &mut GoingOn<'_>,
     calls: &Calls,
     watch: &mut Watching<'_, R, P>,
-) -> Result<Next, Ended<FileDisk>>
+) -> Result<Next, Tried>
 where
     M: Modelled,
     R: Files<File = File> + Clock + AllocGlobal,
@@ -517,10 +516,10 @@ where
 fn full<M, R, P>(
     rt: &R,
     of: &Simulated<M>,
-    ended: Ended<FileDisk>,
+    ended: Tried,
     going: GoingOn<'_>,
     watch: &mut Watching<'_, R, P>,
-) -> Result<Next, Ended<FileDisk>>
+) -> Result<Next, Tried>
 where
     M: Modelled,
     R: Files<File = File> + Clock + AllocGlobal,
@@ -550,10 +549,10 @@ where
 fn lengthened<M, P>(
     alloc: Global,
     of: &Simulated<M>,
-    ended: Ended<FileDisk>,
+    ended: Tried,
     most: Option<u32>,
     progress: &mut P,
-) -> Result<FileDisk, Ended<FileDisk>>
+) -> Result<FileDisk, Tried>
 where
     M: Modelled,
     P: Progress,
@@ -566,27 +565,31 @@ where
     ensures kept_err { IfErr result (λ last. KeepsAll (M.meaning of.now.model)
         (disk_of_file ended.disk) (disk_of_file last.disk)) }
 {
-    let Ended { disk, outcome } = ended;
+    let Returned { disk, outcome } = ended;
     let before = disk.sectors();
     let sectors = match most {
         Some(most) => before.saturating_mul(2).min(most),
         None => before,
     };
     if sectors <= before {
-        return Err(Ended { disk, outcome });
+        return Err(Returned { disk, outcome });
     }
-    match grow(alloc, &of.model, disk, sectors, sectors) {
-        Ok(Grown { disk, .. }) => {
+    let Returned {
+        disk,
+        outcome: grown,
+    } = grow(alloc, &of.model, disk, sectors, sectors);
+    match grown {
+        Ok(_grown) => {
             if let Ok(line) = format!(in alloc; "grown {before} to {sectors} sectors") {
                 progress.goes_on(line.as_str());
             }
             Ok(disk)
         }
-        Err(NotGrown { fault, disk }) => {
+        Err(fault) => {
             if let Ok(line) = format!(in alloc; "not grown to {sectors} sectors ({fault})") {
                 progress.goes_on(line.as_str());
             }
-            Err(Ended { disk, outcome })
+            Err(Returned { disk, outcome })
         }
     }
 }
@@ -596,11 +599,11 @@ where
 fn retried<R, P>(
     alloc: Global,
     fault: PortFault,
-    ended: Ended<FileDisk>,
+    ended: Tried,
     going: &mut GoingOn<'_>,
     calls: &Calls,
     watch: &mut Watching<'_, R, P>,
-) -> Result<FileDisk, Ended<FileDisk>>
+) -> Result<FileDisk, Tried>
 where
     R: Files<File = File> + Clock,
     P: Progress,

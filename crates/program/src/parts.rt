@@ -10,8 +10,8 @@ ghost use Rattle.views.specs.Views.{Begins, Prints};
 use crate::making::new_on;
 use crate::watching::Watching;
 use cli::NewArgs;
-use commands::{Ended, Simulated};
-use disk::FileDisk;
+use commands::{CommandFault, Simulated};
+use disk::{FileDisk, Returned};
 use disk_commands::{Fault, SystemErrors, new_behind};
 use model::Model as Modelled;
 use segments::archiving::{Archived, NotArchived, Place, archive, remove_parts};
@@ -46,6 +46,9 @@ where
     }
 }
 
+/// An attempt of a run when it has ended: its disk, and the outcome of its command.
+pub(crate) type Tried = Returned<FileDisk, (), CommandFault>;
+
 /// How a full disk is archived, and how many of its parts are kept; none for all.
 #[derive(Clone, Copy)]
 pub(crate) struct Archive<'a> {
@@ -58,10 +61,10 @@ pub(crate) struct Archive<'a> {
 pub(crate) fn archived<M, R, P>(
     rt: &R,
     of: &Simulated<M>,
-    ended: Ended<FileDisk>,
+    ended: Tried,
     into: Archive<'_>,
     watch: &mut Watching<'_, R, P>,
-) -> Result<FileDisk, Ended<FileDisk>>
+) -> Result<FileDisk, Tried>
 where
     M: Modelled,
     R: Files<File = File> + Clock + AllocGlobal,
@@ -75,7 +78,7 @@ where
     ensures looks { IfErr result (λ last. OnlyLooks (disk_of_file ended.disk)
         (disk_of_file last.disk)) }
 {
-    let Ended { disk, outcome } = ended;
+    let Returned { disk, outcome } = ended;
     match archive(rt, rt.alloc(), &of.model, of.end, into.place, disk) {
         Ok(Archived { disk, time, events }) => {
             watch.before = events;
@@ -86,7 +89,7 @@ where
         Err(refused) => {
             say_refusal(rt.alloc(), &refused, watch.progress);
             watch.not_archived = Some((refused.fault, refused.system));
-            Err(Ended {
+            Err(Returned {
                 disk: refused.disk,
                 outcome,
             })

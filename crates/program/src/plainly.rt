@@ -5,9 +5,10 @@ ghost use Rattle.disk.specs.FileDisks.{disk_of_file};
 ghost use Rattle.program.specs.Attempts.{IsAttempt};
 ghost use Rattle.program.specs.Command.{plain_plan_of};
 
+use crate::parts::Tried;
 use crate::watching::Watching;
 use cli::RunArgs;
-use commands::{Ended, Simulated};
+use commands::Simulated;
 use disk::FileDisk;
 use model::Model as Modelled;
 use plain::Plan;
@@ -40,7 +41,7 @@ pub(crate) fn attempt_plainly<M, R, P, O>(
     args: &RunArgs<'_>,
     watch: &mut Watching<'_, R, P>,
     out: &mut O,
-) -> Ended<FileDisk>
+) -> Tried
 where
     M: Modelled,
     R: Files<File = File> + Clock,

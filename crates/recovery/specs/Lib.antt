@@ -9,10 +9,12 @@ pub mod Replay
 pub mod Represents
 pub mod Front
 pub mod Recovered
--- For callers: what a crash may leave, what stays of old records, and histories of calls on a disk
+-- For callers: what a crash may leave, what stays of old records, histories of calls on a disk, and
+-- runs
 pub mod Crashes
 pub mod OldRecords
 pub mod Histories
+pub mod Runs
 -- For callers: the laws of these, and the causes of refusals
 pub mod Laws
 pub mod Causes

@@ -253,7 +253,7 @@ abbrev mutual
   acts_height empty = 0
   acts_height (cons x rest) = max (act_height x) (acts_height rest)
 
--- so many statements
+-- `n` statements
 row_at : Reader Act → ℕ → Reader Acts
 row_at part zero bytes = Some (empty, bytes)
 row_at part (suc n) bytes = part bytes >>= λ x. row_at part n x.1 >>= λ xs. Some (cons x.0 xs.0, xs.1)

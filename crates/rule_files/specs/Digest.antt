@@ -147,7 +147,7 @@ meant words arrays seed tables start handle = record {
   handle = acts_of handle;
 }
 
--- the words of a state of so many words, where kinds of processes have names of their own
+-- the words of a state of `n` words, where kinds of processes have names of their own
 abbrev pub state_words : Bool → ℕ → List (List ℕ)
 state_words keyed zero = []
 state_words keyed (suc n) = (if keyed then codes "key" else []) ∷ replicate n []

@@ -320,7 +320,7 @@ abbrev pub each_array : List ℕ → List (List ℕ × Array) → List ℕ
 each_array text [] = text
 each_array text (a ∷ others) = each_array (with_array text a) others
 
--- the bits of a state with so many words
+-- the bits of a state with `n` words
 abbrev pub with_bits : List ℕ → ℕ → List ℕ
 with_bits text words =
     ((text ++ codes "bits of state: ") ++ decimal (min (words * 64) (2 ^ 64 - 1)))

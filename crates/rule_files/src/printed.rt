@@ -320,7 +320,7 @@ fn put_every_array(arrays: &[NamedArray], text: &mut String) -> Result<(), Alloc
     Ok(())
 }
 
-/// Appends the bits of a state with so many words.
+/// Appends the bits of a state with `words` words.
 fn put_bits(words: usize, text: &mut String) -> Result<(), AllocError>
     ensures { OnOk result (string_bytes text.new ≡ with_bits (string_bytes text.old) words) }
 {

@@ -6,7 +6,7 @@ ghost use Rattle.rules.specs.Elements.{cut, element, has_element as has_element_
 ghost use Rattle.rules.specs.Elements.{shift_of, with_bits as with_bits_of, with_element, word_of};
 ghost use Rattle.rules.specs.Elements.{words_of};
 
-/// An array of numbers of so many bits each, in the words of a state from a place on. A word has as
+/// An array of numbers of one width, in the words of a state from a place on. A word has as
 /// many whole elements as fit, the first one in its lowest bits; no element crosses a word.
 #[derive(Clone, Copy, Debug, PartialEq, Eq)]
 pub struct Array {

@@ -3,7 +3,6 @@
 use Rattle.std.specs.Prelude.{ℕ, suc, ◌-◌, ◌==◌, List, [], ◌∷◌, Bool, true, false, ◌&&◌, ◌||◌, eqb, not, if◌then◌else◌}
 use Rattle.rules_text.specs.declared.token.Mark.{Mark as MarkKind}
 use Rattle.rules_text.specs.declared.token.Mark.TheVariants as m
-use Rattle.rules_text.specs.declared.token.Sort.{Sort}
 use Rattle.rules_text.specs.declared.token.Token.{Token}
 use Rattle.rules_text.specs.declared.token.Token.TheVariants as t
 use Rattle.rules_text.specs.Grammar.{code}
@@ -24,7 +23,7 @@ is_sign _ = false
 
 -- 1. A place within a kind is no process: it names one by an index alone
 
--- before `after`, whether `self` is a place within a kind outside of all [ ], where so many [ are open
+-- whether `self` is a place within a kind, before `after` and outside of all [ ], if `n` [ are open at its beginning
 abbrev pub has_bare_self : (open_brackets : ℕ) → List Token → Bool
 has_bare_self n [] = false
 has_bare_self n (token ∷ ts) =
@@ -36,7 +35,7 @@ has_bare_self n (token ∷ ts) =
 
 -- 2. Where the model has sorts, the first word of content is the name of one, which says how many more there are
 
--- the words behind the first one, before a further `send`: so many commas outside of all ( ), where so many ( are open
+-- the number of words of content behind the sort, before a further `send`: the commas outside of all ( ), if `n` ( are open at the beginning
 abbrev pub words_from : (open_brackets : ℕ) → List Token → ℕ
 words_from n [] = 0
 words_from n (token ∷ ts) =

@@ -1,22 +1,55 @@
--- Why a run did not reach its end, by its fault.
-use Rattle.std.proofs.Common.{ℕ, List, Err, Ok, Result, refl}
+-- What a run is, by what its session was driven to.
+use Rattle.std.proofs.Common.{◌≡◌, ℕ, List, Err, Ok, Result, ap, arith, inr, length, refl, sym, ◌∙◌}
 use Rattle.std.specs.Result.{IsErrOf}
-use Rattle.std.specs.Prelude.{IfErr}
+use Rattle.std.specs.Prelude.{IfErr, IsErrAnd}
+use Rattle.coordinator.specs.Session.{Session}
 use Rattle.coordinator.specs.declared.SessionFault.{SessionFault}
 use Rattle.disk.specs.Disk.{DiskState}
 use Rattle.model.specs.Meaning.{Meaning}
-use Rattle.runs.specs.Driver.{IsShortOver, IsStoppedOver, RunHasCause, SessionRefused}
+use Rattle.recovery.specs.Replay.{IsReplayedTo}
+use Rattle.runs.specs.Driver.{AreRoundsOfRun, DrivingHasCause, HasMade, IsDrivenBy, IsDrivenToEnd, IsRunOver, Made, RunHasCause, trusts_by}
+use Rattle.runs.specs.declared.over.Finished.{Finished}
 use Rattle.runs.specs.declared.rounds.Plan.{Plan}
 use Rattle.runs.specs.declared.rounds.RunFault.{RunFault}
-use Rattle.runs.specs.declared.rounds.RunFault.TheVariants.{NoMemory, Rounds, Session, Stopped}
+use Rattle.runs.specs.declared.rounds.RunFault.TheVariants.{NoMemory, Rounds, Session as OfSession, Stopped}
 use Rattle.wire.specs.Port.{PortState}
 
-module _ {M P D : Type 0} (meaning : M → Meaning) (state : P → PortState) (disk : D → DiskState) (model : M) (end : ℕ) (plan : Plan) (ports : List PortState) (old new : D) where
-  pub cause_of : {T : Type 0} (r : Result T RunFault) → ((fault : SessionFault) → IsErrOf r (Session fault) → SessionRefused meaning state disk model end plan ports old new fault)
-      → (IsErrOf r Rounds → IsShortOver meaning state disk model end plan old new) → ((time events : ℕ) → IsErrOf r (Stopped time events) → IsStoppedOver meaning state disk model end plan old new time events)
-      → IfErr r (λ fault. RunHasCause meaning state disk model end plan ports old new fault)
-  cause_of (Ok x) refused short stopped = tt
-  cause_of (Err (Session fault)) refused short stopped = refused fault refl
-  cause_of (Err Rounds) refused short stopped = short refl
-  cause_of (Err (Stopped time events)) refused short stopped = stopped time events refl
-  cause_of (Err NoMemory) refused short stopped = tt
+-- a fault that is passed on, by a call with a result of another type
+pub passed_as : {T U : Type 0} (r : Result T RunFault) (e own : RunFault) → IsErrAnd r (λ x. x ≡ e) → IsErrOf r own → IsErrOf {T = U} (Err e) own
+passed_as (Ok x) e own and is = absurd and
+passed_as (Err x) e own and is = (let whole : x ≡ own = cc in ap Err (sym and ∙ whole))
+
+module _ {M P D : Type 0} (meaning : M → Meaning) (state : P → PortState) (disk : D → DiskState) (end : ℕ) (plan : Plan) (old new : Session M P D) where
+  -- why a session was not driven to the end, if it can only be that it refused a step
+  pub refused_only : {T : Type 0} (r : Result T RunFault) → ((fault : SessionFault) → IsErrOf r (OfSession fault) → DrivingHasCause meaning state disk end plan old new (OfSession fault))
+      → (IsErrOf r Rounds → ⊥) → ((time events : ℕ) → IsErrOf r (Stopped time events) → ⊥) → IfErr r (DrivingHasCause meaning state disk end plan old new)
+  refused_only (Ok x) refused short stopped = tt
+  refused_only (Err (OfSession fault)) refused short stopped = refused fault refl
+  refused_only (Err Rounds) refused short stopped = absurd (short refl)
+  refused_only (Err (Stopped time events)) refused short stopped = absurd (stopped time events refl)
+  refused_only (Err NoMemory) refused short stopped = tt
+
+-- a session was opened on a disk, and driven from there
+module _ {M P D : Type 0} (meaning : M → Meaning) (state : P → PortState) (disk : D → DiskState) (model : M) (end : ℕ) (plan : Plan) (ports : List PortState) (old new : D) (opened driven : Session M P D)
+    (model_is : opened.model ≡ model) (end_is : opened.end ≡ end) (replayed : IsReplayedTo (meaning model) end (disk old).reads opened.front) (left : new ≡ driven.log.disk) where
+  has_made : (Shape : List Made → Type 0) → IsDrivenBy meaning state disk (trusts_by plan) Shape opened driven → HasMade meaning state disk model end (trusts_by plan) Shape old new driven.front
+  has_made Shape by = record { first = opened; last = driven; same = (model_is, end_is); replayed = replayed; driven = by; front_is = refl; left = left }
+
+  pub over_of : (done : Finished) → IsDrivenToEnd meaning state disk end plan opened driven done.ran.items → done.time ≡ driven.front.time → done.events ≡ length driven.front.log → IsRunOver meaning state disk model end plan old new done
+  over_of done by time_is events_are = record {
+    rounds = by.rounds;
+    last = by.last;
+    front = driven.front;
+    some = by.some;
+    run = has_made _ by.in_rounds;
+    each = by.each;
+    reached = omega (arith, by.reached, time_is);
+    time_is = time_is;
+    events_are = events_are;
+  }
+
+  pub cause_of : (fault : RunFault) → DrivingHasCause meaning state disk end plan opened driven fault → RunHasCause meaning state disk model end plan ports old new fault
+  cause_of (OfSession fault) why = inr (record { first = opened; last = driven; same = (model_is, end_is); replayed = replayed; rounds = why.0; final = why.1; some = why.2; refused = why.3; left = left })
+  cause_of Rounds why = record { front = driven.front; run = has_made (AreRoundsOfRun plan end plan.rounds plan.rounds) why.1; early = why.0 }
+  cause_of (Stopped time events) why = record { last = why.3.0; fewer = why.3.1; front = driven.front; run = has_made (AreRoundsOfRun plan end why.3.0 why.3.0) why.3.2; early = why.0; time_is = why.1; events_are = why.2 }
+  cause_of NoMemory why = tt

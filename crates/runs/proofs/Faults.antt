@@ -1,6 +1,7 @@
 -- Which faults the ports of a run can have.
-use Rattle.std.proofs.Common.{◌≡◌, ℕ, List, inl, inr, map, subst}
+use Rattle.std.proofs.Common.{◌≡◌, ℕ, List, Err, Ok, Result, ap, inl, inr, map, subst}
 use Rattle.std.proofs.lemmas.Bool.{cases_Bool}
+use Rattle.std.specs.Prelude.{IfErr, IfOk}
 use Rattle.coordinator.proofs.PortFaults.{some-port, steps-faults}
 use Rattle.coordinator.specs.Opening.{AllFaithful, OpeningIsRefused}
 use Rattle.coordinator.specs.PortFaults.{IsFaultOfPorts}
@@ -14,8 +15,11 @@ use Rattle.disk.specs.Disk.{DiskState}
 use Rattle.model.specs.Meaning.{Meaning}
 use Rattle.runs.proofs.Drives.{goes_by}
 use Rattle.runs.specs.Driver.{IsRefusedIn, Made}
-use Rattle.runs.specs.Simulation.{PreparingIsRefused, ReadingIsRefused, of_run}
+use Rattle.runs.specs.Runs.{IsFaultOverFaithful}
+use Rattle.runs.specs.Simulation.{PreparingIsRefused, ReadingIsRefused, as_simulated, of_run}
 use Rattle.runs.specs.declared.fault.SimulationFault.{SimulationFault}
+use Rattle.runs.specs.declared.over.Finished.{Finished}
+use Rattle.runs.specs.declared.rounds.Plan.{Plan}
 use Rattle.runs.specs.declared.fault.SimulationFault.TheVariants.{Session as OfSession}
 use Rattle.runs.specs.declared.rounds.RunFault.{RunFault}
 use Rattle.runs.specs.declared.rounds.RunFault.TheVariants.{NoMemory, Rounds, Session as OfRun, Stopped}
@@ -65,8 +69,26 @@ run_fault Rounds cause is = absurd (cc)
 run_fault (Stopped time events) cause is = absurd (cc)
 run_fault NoMemory cause is = absurd (cc)
 
+-- the outcome of a run, by that of a simulation
+pub ran_over : (made : Result Finished RunFault) (done : Finished) → as_simulated made ≡ Ok done → made ≡ Ok done
+ran_over (Ok own) done is = cc
+ran_over (Err fault) done is = absurd (cc)
+
+pub ran_with : (P : Finished → Type 0) (made : Result Finished RunFault) (done : Finished) → as_simulated made ≡ Ok done → IfOk made P → P done
+ran_with P made done is h = subst (λ (r : Result Finished RunFault). IfOk r P) (ran_over made done is) h
+
+pub ran_refused : (made : Result Finished RunFault) (cause : SessionFault) → as_simulated made ≡ Err (OfSession cause) → made ≡ Err (OfRun cause)
+ran_refused (Ok done) cause is = absurd (cc)
+ran_refused (Err fault) cause is = (let own : of_run fault ≡ OfSession cause = cc in ap Err (run_fault fault cause own))
+
 pub not_of_preparing : (image : List (List ℕ)) (failed : Type 0) (fault : SimulationFault) (cause : SessionFault) → fault ≡ OfSession cause → PreparingIsRefused fault image failed → ⊥
 not_of_preparing image failed fault cause is refused = subst (λ (f : SimulationFault). PreparingIsRefused f image failed) is refused
 
 pub not_of_reading : (m : Meaning) (end : ℕ) (image : List (List ℕ)) (failed : Type 0) (fault : SimulationFault) (cause : SessionFault) → fault ≡ OfSession cause → ReadingIsRefused m end fault image failed → ⊥
 not_of_reading m end image failed fault cause is refused = subst (λ (f : SimulationFault). ReadingIsRefused m end f image failed) is refused
+
+-- the faults of a run over faithful ports, if each of them has fewer
+pub faults_so : {Wide Narrow : PortFault → Type 0} {T : Type 0} (m : Meaning) (end : ℕ) (plan : Plan) (image : List (List ℕ)) → ((fault : PortFault) → Wide fault → Narrow fault) → (r : Result T RunFault)
+    → IfErr r (IsFaultOverFaithful Wide m end plan image) → IfErr r (IsFaultOverFaithful Narrow m end plan image)
+faults_so m end plan image so (Ok done) h = tt
+faults_so m end plan image so (Err fault) h = record { port = λ own is. so own (h.port own is); reports = h.reports; rounds = h.rounds }

@@ -8,7 +8,7 @@ use Rattle.commitlog.specs.Records.{Holds, IsBlank, IsBlankOrEmptyLog, IsFormatt
 use Rattle.commitlog.specs.declared.fault.LogFault.{LogFault}
 use Rattle.commitlog.specs.declared.fault.LogFault.TheVariants.{Corrupt, Disk, Full, NoMemory as NoMemoryOfLog, NotBlank, NotFormatted, Spent, TooLong}
 use Rattle.disk.specs.declared.disk.DiskFault.TheVariants.{Device, NoSuchSector}
-use Rattle.recovery.proofs.Crashes.{back-under, kept-none, looked-keeps, looked-under, recovers-genuine, followed_by, are-readable, ours-of, represents-genuine}
+use Rattle.recovery.proofs.Crashes.{back-under, looked-keeps, looked-under, recovers-genuine, followed_by, are-readable, ours-of, represents-genuine}
 use Rattle.recovery.specs.Crashes.{KeepsRecovery, KeepsUnderItsEnd, RecoversUnderItsEnd, RepresentsUnderItsEnd}
 use Rattle.recovery.specs.Histories.{IsKept, IsKeptRun, last_acknowledged}
 use Rattle.recovery.specs.Histories.Ending.{Returned}
@@ -173,7 +173,3 @@ module _ (m : Meaning) (end : ℕ) (v : World) (old new : DiskState) where
 -- a call that acknowledges no front
 pub kept-call : (m : Meaning) (v : World) (old new : DiskState) → (RecoversUnderItsEnd m v.time old → KeepsUnderItsEnd m v.time v.time old new) → IsKept m v (record { begun = old; ended = new; front = None })
 kept-call m v old new keeps = record { crashes = keeps; front = λ recovers s is. absurd (cc) }
-
--- a run whose caller does not learn which front it acknowledged
-pub unacknowledged : (m : Meaning) (end : ℕ) (v : World) (old new : DiskState) (returned : Option (ℕ × ℕ)) → IsKeptRun m end v old new returned → IsKeptRun m end v old new None
-unacknowledged m end v old new returned run = kept-none m end v old new (run-keeps m end v old new returned run)

@@ -1,7 +1,7 @@
 -- What a driver does to a session: it makes steps of it, and nothing else.
 use Rattle.std.specs.Prelude.{Bool, true, false, ℕ, zero, suc, List, [], ◌∷◌, ◌++◌, ◌+◌, ◌%◌, ◌==◌}
 use Rattle.std.specs.Prelude.{◌-◌, ◌^◌, get_or, ◌&&◌, ◌||◌, nat_le, nat_lt, max, min, ◌<◌, ◌≤◌, if◌then◌else◌, ◌≡◌, length}
-use Rattle.std.specs.Prelude.{Err, map, None, not, Ok, Option, replicate, Result, set, Some, unwrap_or, ◌⊎◌, ⊤}
+use Rattle.std.specs.Prelude.{Err, map, None, not, Ok, Option, replicate, set, Some, unwrap_or, ◌⊎◌, ⊤}
 use Rattle.coordinator.specs.Crashes.{IsTrusted, KeepsRepresentation}
 use Rattle.coordinator.specs.Drives.{Goes, IsStep, any_trusts}
 use Rattle.coordinator.specs.Headline.{IsDriven as IsDrivenFrom}
@@ -367,6 +367,37 @@ module _ {M P D : Type 0} (meaning : M → Meaning) (state : P → PortState) wh
   IsFinished end old new =
       IsConsistentSession (running meaning state old) → IsUpto (meaning old.model) end end new.front
 
+  -- A session was driven to the end, by rounds of the plan and nothing else, over any ports. The run
+  -- was to end after `last` rounds. Each parcel has its own node's budget, and each count is what the
+  -- replies of its node said in these rounds.
+  pub record IsDrivenToEnd (disk : D → DiskState) (end : ℕ) (plan : Plan) (old new : Session M P D)
+      (handled : List ℕ) : Type 0 where
+    pub rounds : ℕ
+    pub last : ℕ
+    pub some : (rounds ≤ last) × (last ≤ plan.rounds)
+    pub in_rounds : IsDrivenBy disk (trusts_by plan)
+        (λ made. AreRoundsOfRun plan end last rounds made × AreCounts handled made) old new
+    pub each : length handled ≡ plan.nodes
+    pub reached : end ≤ new.front.time
+    pub driven : IsDriven disk (trusts_by plan) old new
+    pub finished : old.end ≡ end → IsFinished end old new
+
+  -- Why a session that is driven to the end does not come to it, over any ports: it refused a step
+  -- which the plan makes next; all rounds were made; some of them were made, and the last of these
+  -- ended like the last round of a plan, since a stop was asked for; or an allocation failed.
+  abbrev pub DrivingHasCause : (D → DiskState) → ℕ → Plan → Session M P D → Session M P D →
+      RunFault → Type 0
+  DrivingHasCause disk end plan old new (RefusedBySession fault) =
+      (rounds : ℕ) × (last : ℕ) × ((rounds ≤ last) × (last ≤ plan.rounds))
+      × IsRefusedIn disk (AreRounds plan end last rounds) old new fault
+  DrivingHasCause disk end plan old new Rounds = (new.front.time < end)
+      × IsDrivenBy disk (trusts_by plan) (AreRoundsOfRun plan end plan.rounds plan.rounds) old new
+  DrivingHasCause disk end plan old new (Stopped time events) = (new.front.time < end)
+      × (time ≡ new.front.time) × (events ≡ length new.front.log)
+      × ((last : ℕ) × (last < plan.rounds)
+      × IsDrivenBy disk (trusts_by plan) (AreRoundsOfRun plan end last last) old new)
+  DrivingHasCause disk end plan old new NoMemory = Unit {0}
+
   -- Over any ports: a session was opened on a disk, at the front to which its records are replayed;
   -- steps of this shape were made and led to this front; and this disk is left.
   pub record HasMade (disk : D → DiskState) (model : M) (end : ℕ) (trusted : Bool)
@@ -384,27 +415,22 @@ module _ {M P D : Type 0} (meaning : M → Meaning) (state : P → PortState) wh
   HasRun disk model end plan last rounds old new front =
       HasMade disk model end (trusts_by plan) (AreRoundsOfRun plan end last rounds) old new front
 
-  -- the result of a run that reached its end, over any ports
+  -- A run that reached its end, over any ports: it made these rounds of its plan and nothing else.
+  -- Its numbers are those of the front that it came to, and each count is what the replies of its
+  -- node said in these rounds.
   pub record IsRunOver (disk : D → DiskState) (model : M) (end : ℕ) (plan : Plan) (old new : D)
-      (time events : ℕ) : Type 0 where
-    pub rounds : ℕ
-    pub last : ℕ
-    pub front : World
-    pub some : (rounds ≤ last) × (last ≤ plan.rounds)
-    pub run : HasRun disk model end plan last rounds old new front
-    pub reached : end ≤ time
-    pub time_is : time ≡ front.time
-    pub events_are : events ≡ length front.log
-
-  -- the counts of a run: of all rounds that it made, over any ports
-  pub record HasCounted (disk : D → DiskState) (model : M) (end : ℕ) (plan : Plan) (old new : D)
-      (counts : List ℕ) : Type 0 where
+      (done : Finished) : Type 0 where
     pub rounds : ℕ
     pub last : ℕ
     pub front : World
     pub some : (rounds ≤ last) × (last ≤ plan.rounds)
     pub run : HasMade disk model end (trusts_by plan)
-        (λ made. AreRoundsOfRun plan end last rounds made × AreCounts counts made) old new front
+        (λ made. AreRoundsOfRun plan end last rounds made × AreCounts done.ran.items made)
+        old new front
+    pub each : length done.ran.items ≡ plan.nodes
+    pub reached : end ≤ done.time
+    pub time_is : done.time ≡ front.time
+    pub events_are : done.events ≡ length front.log
 
   -- all rounds of a run were made, and its front has not reached the end, over any ports
   pub record IsShortOver (disk : D → DiskState) (model : M) (end : ℕ) (plan : Plan)
@@ -464,12 +490,6 @@ module _ {M P D : Type 0} (meaning : M → Meaning) (state : P → PortState) wh
 -- are faithful and run its model.
 abbrev pub TrustsOnlyFaithful : Plan → Meaning → List PortState → Type 0
 TrustsOnlyFaithful plan m ports = (plan.judged ≡ true) ⊎ AllFaithful m ports
-
--- the time and the number of events that a run returned as committed
-abbrev pub acknowledged : Result Finished RunFault → Option (ℕ × ℕ)
-acknowledged (Ok done) = Some (done.time, done.events)
-acknowledged (Err (Stopped time events)) = Some (time, events)
-acknowledged (Err fault) = None
 
 -- the answers of moves made one after another
 abbrev pub answers_of : Meaning → ℕ → List Move → System → List (Option Answer)

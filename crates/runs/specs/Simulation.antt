@@ -69,7 +69,12 @@ of_run run.Rounds = Rounds
 of_run (run.Stopped time events) = Stopped
 of_run run.NoMemory = NoMemory
 
--- and that of a file that could not be opened as a disk
+-- the outcome of a run as that of `run`
+abbrev pub as_simulated : Result Finished RunFault → Result Finished SimulationFault
+as_simulated (Ok done) = Ok done
+as_simulated (Err fault) = Err (of_run fault)
+
+-- the fault of a file that could not be opened as a disk
 abbrev pub of_file : FileFault → SimulationFault
 of_file opening.File = File
 of_file opening.NoMemory = NoMemory
@@ -80,8 +85,3 @@ of_file opening.NoMemory = NoMemory
 abbrev pub simulated : ℕ → Result Outcome SimulationFault → Option Simulation
 simulated end (Ok outcome) = Some (in_force end (world_of outcome.front))
 simulated end (Err fault) = None
-
--- the time and the number of events that a run returned as committed
-abbrev pub reached : Result Finished SimulationFault → Option (ℕ × ℕ)
-reached (Ok done) = Some (done.time, done.events)
-reached (Err fault) = None

@@ -13,7 +13,7 @@ mod tally;
 
 pub use fault::SimulationFault;
 pub use local::{local_ports, run_local};
-pub use over::{Finished, Ran, run_over};
+pub use over::{Finished, run_over};
 pub use rounds::{Batch, Plan, RunFault, Schedule, Watch, run_session};
-pub use simulating::{Ended, Outcome, committed, prepare, run, sequential, simulate};
+pub use simulating::{Outcome, committed, prepare, run, sequential, simulate};
 pub use tally::Turn;

@@ -1,9 +1,9 @@
 // Rounds of steps.
 
-ghost use Rattle.std.specs.Prelude.{◌≡◌, ◌<◌, ◌≤◌, ◌+◌, ◌-◌, ◌^◌, [], ◌∷◌, ℕ, IfOk, OnOk};
+ghost use Rattle.std.specs.Prelude.{◌≡◌, ◌<◌, ◌≤◌, ◌+◌, ◌-◌, ◌^◌, [], ◌∷◌, ℕ, IfErr, IfOk, OnOk};
 ghost use Rattle.std.specs.Prelude.{IsErrOf, None, Option, false, get_or, length, if◌then◌else◌};
-ghost use Rattle.runs.specs.Driver.{AreAsked, AreCounts, AreFirst, AreNext, ArePosts, AreRounds};
-ghost use Rattle.runs.specs.Driver.{AreRoundsOfRun, AreTurns, IsDriven, IsDrivenBy, IsFinished, IsNext, IsPost};
+ghost use Rattle.runs.specs.Driver.{AreAsked, AreFirst, AreNext, ArePosts};
+ghost use Rattle.runs.specs.Driver.{AreTurns, DrivingHasCause, IsDrivenBy, IsDrivenToEnd, IsNext, IsPost};
 ghost use Rattle.runs.specs.Driver.{IsPostIf, IsRefusedIn, IsRound, IsTurn, closing_of, goes_on, is_kept};
 ghost use Rattle.runs.specs.Driver.{Keeps, checkpoint_by, commit_by, kept_after, moves_of, steps_of};
 ghost use Rattle.runs.specs.Driver.{takes_of, trusts_by};
@@ -166,40 +166,14 @@ pub fn run_session<M: Simulated, P: Port, D: SectorDisk, W: Watch>(
     watch: &mut W,
 ) -> Result<Vec<u64>, RunFault>
     requires { 0 < plan.nodes }
-    // Everything is committed, by steps of the session alone.
-    ensures ended { OnOk result (end ≤ session.new.front.time) }
-    ensures driven { OnOk result (IsDriven M.meaning P.state D.state (trusts_by plan)
-        session.old session.new) }
-    // The steps are rounds, each parcel has its own node's budget, and each count is what the
-    // replies of its node said in them. The run was to end after `last` rounds.
-    ensures in_rounds { IfOk result (λ handled_per_node. (rounds last : ℕ)
-        × ((rounds ≤ last) × (last ≤ plan.rounds))
-        × IsDrivenBy M.meaning P.state D.state (trusts_by plan)
-        (λ made. AreRoundsOfRun plan end last rounds made × AreCounts handled_per_node.items made)
-        session.old session.new) }
-    ensures finished { session.old.end ≡ end →
-        OnOk result (IsFinished M.meaning P.state end session.old session.new) }
+    // Everything is committed, by rounds of the plan and nothing else.
+    ensures ended { IfOk result (λ handled_per_node. IsDrivenToEnd M.meaning P.state D.state end plan
+        session.old session.new handled_per_node.items) }
+    // Or why it is not.
+    ensures cause { IfErr result (DrivingHasCause M.meaning P.state D.state end plan session.old
+        session.new) }
     // At every exit the records represent what was committed, whatever crashes.
     ensures keeps { Keeps M.meaning P.state D.state (trusts_by plan) session.old session.new }
-    ensures rounds { IsErrOf result RunFault.Rounds → session.new.front.time < end }
-    ensures all_rounds { IsErrOf result RunFault.Rounds →
-        IsDrivenBy M.meaning P.state D.state (trusts_by plan)
-        (AreRoundsOfRun plan end plan.rounds plan.rounds)
-        session.old session.new }
-    // After a stop some of the plan's rounds were made, and the last of them ended like the last
-    // round of a plan.
-    ensures stopped { (time events : ℕ) → IsErrOf result (RunFault.Stopped time events) →
-        (session.new.front.time < end) × (time ≡ session.new.front.time)
-        × (events ≡ length session.new.front.log)
-        × ((last : ℕ) × (last < plan.rounds)
-        × IsDrivenBy M.meaning P.state D.state (trusts_by plan) (AreRoundsOfRun plan end last last)
-        session.old session.new) }
-    // A fault of the session is that of a step which the plan makes next.
-    ensures refused { (fault : SessionFault) → IsErrOf result (RunFault.Session fault) →
-        (rounds last : ℕ) × ((rounds ≤ last) × (last ≤ plan.rounds))
-        × IsRefusedIn M.meaning P.state D.state (AreRounds plan end last rounds)
-        session.old session.new fault }
-    ensures count { IfOk result (λ handled_per_node. length handled_per_node.items ≡ plan.nodes) }
 {
     let mut tally = Tally::new(alloc, plan)?;
     begin(session, watch);

@@ -22,18 +22,16 @@ struct Alone {
 }
 
 impl std::marker::Model for Alone {
-    ghost use Rattle.std.specs.Prelude.{◌≡◌, ◌<◌, false};
+    ghost use Rattle.std.specs.Prelude.{◌<◌};
     ghost use Rattle.models.specs.Ring.{ring_meaning};
-    ghost use Rattle.process.specs.Consistent.{IsHistory};
-    ghost use Rattle.process.specs.View.{ProcessView};
+    ghost use Rattle.process.specs.View.{HasHistory, ProcessView};
 
     ghost Value = { ProcessView };
 
     ghost view = { λ a. a.process };
 
     ghost invariant = { λ a. (a.process.lp < a.ring.ring.lps)
-        × (a.process.spent ≡ false → IsHistory (ring_meaning a.ring.ring) a.process.lp
-        a.process.process) };
+        × HasHistory (ring_meaning a.ring.ring) a.process };
 }
 
 impl Alone {

@@ -3,9 +3,8 @@
 
 use crate::frames_of_ring::{BELOW_FLOOR, LATE, LOAD, PARCEL, REPLY};
 use crate::in_memory::{MANY, NEVER, Pieces, Refusal, Taking, bytes_of};
-use frames::{Ending, Hello, serve_greeted};
+use frames::{Ending, Heard, Hello, hear_hello, say_hello, serve_greeted};
 use models::TokenRing;
-use sockets::{Heard, hear_hello, say_hello};
 use std::alloc::{AllocError, Global};
 use std::io::ErrorKind;
 use std::test::Fail;

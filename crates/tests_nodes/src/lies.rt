@@ -7,8 +7,8 @@ ghost use Rattle.loopback.specs.Loop.{state_of};
 ghost use Rattle.loopback.specs.declared.port.Held.TheVariants.{Fresh};
 
 use commitlog::format;
-use coordinator::{FrontView, NotOpened, Session, SessionFault};
-use disk::MemDisk;
+use coordinator::{FrontView, Session, SessionFault};
+use disk::{MemDisk, NotOpened, Returned};
 use eventkey::{Listed, Message, Sign, Signed};
 use loopback::LoopPort;
 use model::{Model as Simulated, SavedState, Sent, Words};
@@ -17,8 +17,7 @@ use node::{Load, NodeFault, Parcel, Reply};
 use process::Done;
 use recovery::{RecoveryFault, header};
 use runs::{
-    Batch, Ended, Plan, RunFault, Schedule, SimulationFault, Watch, committed, run_session,
-    sequential,
+    Batch, Plan, RunFault, Schedule, SimulationFault, Watch, committed, run_session, sequential,
 };
 use std::alloc::{AllocError, AllocFailed, Global};
 use std::cell::Cell;
@@ -374,7 +373,7 @@ fn is_on_disk<M: Simulated>(
     time: u64,
     log: &[Message],
 ) -> Result<bool, Fail> {
-    let Ended {
+    let Returned {
         disk: _left,
         outcome,
     } = committed(alloc, model, END, disk);

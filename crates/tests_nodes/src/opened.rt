@@ -4,8 +4,8 @@ ghost use Rattle.std.specs.Prelude.{◌≡◌, length, map};
 ghost use Rattle.coordinator.specs.Opening.{AllFresh};
 
 use commitlog::format;
-use coordinator::{NotOpened, Session};
-use disk::MemDisk;
+use coordinator::Session;
+use disk::{MemDisk, NotOpened};
 use models::TokenRing;
 use recovery::header;
 use std::alloc::Global;

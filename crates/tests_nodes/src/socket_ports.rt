@@ -5,8 +5,8 @@ ghost use Rattle.wire.specs.Port.Stage.{Fresh, Idle};
 
 use crate::frames_of_ring::{BELOW_FLOOR, LOAD, PARCEL, REPLY};
 use crate::loads::{load, parcel, round};
+use frames::{ReadAhead, SocketPort};
 use node::{NodeFault, Reply};
-use sockets::{ReadAhead, SocketPort};
 use std::alloc::Global;
 use std::io::{self, Read, Write};
 use std::os::unix::net::UnixStream;

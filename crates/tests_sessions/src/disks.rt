@@ -3,8 +3,8 @@
 ghost use Rattle.std.specs.Prelude.{◌≡◌, ◌<◌, ◌≤◌};
 
 use commitlog::{Log, LogFault, format};
-use coordinator::{NotOpened, Session, SessionFault};
-use disk::{MemDisk, Plan as DiskPlan, Torn};
+use coordinator::{Session, SessionFault};
+use disk::{MemDisk, NotOpened, Plan as DiskPlan, Torn};
 use model::Model as Simulated;
 use models::{Phold, TokenRing};
 use recovery::{Front, header, recover};
@@ -123,7 +123,7 @@ pub(crate) fn front_of<M: Simulated>(
     let disk = disk_of(alloc, image, DiskPlan::default())?;
     let mut log = match Log::open(alloc, disk) {
         Ok(log) => log,
-        Err((fault, _disk)) => return Err(Fail::from(fault)),
+        Err(NotOpened { fault, disk: _ }) => return Err(Fail::from(fault)),
     };
     Ok(recover(alloc, model, &mut log, end)?)
 }
@@ -164,7 +164,7 @@ pub(crate) fn near<M: Simulated>(
     alloc: Global,
     model: &M,
     disk: MemDisk,
-) -> Result<Near<'_, M>, NotOpened<MemDisk>> {
+) -> Result<Near<'_, M>, NotOpened<MemDisk, SessionFault>> {
     match local_ports(alloc, model, 3) {
         Ok(ports) => Session::open(alloc, model, ports, disk, END),
         Err(_refused) => Err(NotOpened {

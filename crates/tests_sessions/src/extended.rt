@@ -2,8 +2,8 @@
 
 use crate::disks::{END, disk_of, left_by, phold, plan, reached, ring};
 use crate::histories::after;
-use coordinator::{NotOpened, SessionFault, extend};
-use disk::{MemDisk, Plan as DiskPlan, Torn};
+use coordinator::{SessionFault, extend};
+use disk::{MemDisk, Plan as DiskPlan, Returned, Torn};
 use std::alloc::Global;
 use std::test::Fail;
 
@@ -38,9 +38,10 @@ fn ended(alloc: Global) -> Result<MemDisk, Fail> {
 fn refusal(alloc: Global, end: u64) -> Result<Option<SessionFault>, Fail> {
     let image = ended(alloc)?.crash(alloc, Torn::Old)?;
     let disk = disk_of(alloc, image.clone()?, DiskPlan::default())?;
-    match extend(alloc, &ring(), disk, end) {
+    let Returned { disk, outcome } = extend(alloc, &ring(), disk, end);
+    match outcome {
         Ok(_extended) => Ok(None),
-        Err(NotOpened { fault, disk }) => {
+        Err(fault) => {
             if disk.crash(alloc, Torn::New)?.as_slice() != image.as_slice() {
                 return Err(Fail::from("the disk is changed"));
             }

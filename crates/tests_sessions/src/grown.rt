@@ -3,13 +3,15 @@
 use crate::disks::{END, Nobody, disk_of, front_of, front_on, left_by, plan, reached, ring};
 use commitlog::LogFault;
 use coordinator::SessionFault;
-use disk::{DiskFault, GrowthFault, MOST_SECTORS, MemDisk, Plan as DiskPlan, SectorDisk, Torn};
+use disk::{
+    DiskFault, GrowthFault, MOST_SECTORS, MemDisk, Plan as DiskPlan, Returned, SectorDisk, Torn,
+};
 use models::TokenRing;
 use recovery::{Front, RecoveryFault};
 use runs::{RunFault, run_local};
 use std::alloc::Global;
 use std::test::Fail;
-use upkeep::growing::{GrowingFault, Grown, NotGrown, grow};
+use upkeep::growing::{GrowingFault, Grown, grow};
 
 /// What a crash may leave in the sectors that were written since the last sync.
 const TORN: [Torn; 4] = [Torn::Old, Torn::New, Torn::Fill(1), Torn::Cut(7)];
@@ -25,18 +27,16 @@ fn grown(
     ring: &TokenRing,
     disk: MemDisk,
     sectors: u32,
-) -> Result<Grown<MemDisk>, NotGrown<MemDisk>> {
-    match grow(alloc, ring, disk, sectors, MOST_SECTORS) {
+) -> Returned<MemDisk, Grown, GrowingFault> {
+    let Returned { disk, outcome } = grow(alloc, ring, disk, sectors, MOST_SECTORS);
+    match outcome {
         // once more after an allocation failure
         Err(
-            NotGrown {
-                fault: GrowingFault::Growth(GrowthFault::NoMemory)
-                | GrowingFault::Recovery(RecoveryFault::NoMemory)
-                | GrowingFault::Recovery(RecoveryFault::Log(LogFault::NoMemory)),
-                disk,
-            },
+            GrowingFault::Growth(GrowthFault::NoMemory)
+            | GrowingFault::Recovery(RecoveryFault::NoMemory)
+            | GrowingFault::Recovery(RecoveryFault::Log(LogFault::NoMemory)),
         ) => grow(alloc, ring, disk, sectors, MOST_SECTORS),
-        done => done,
+        outcome => Returned { disk, outcome },
     }
 }
 
@@ -87,12 +87,13 @@ fn goes_on(
     before: &Front,
     whole: &Front,
 ) -> Result<bool, Fail> {
-    let Ok(done) = grown(alloc, &ring(), planned(alloc, image, None)?, sectors) else {
+    let Returned { disk, outcome } = grown(alloc, &ring(), planned(alloc, image, None)?, sectors);
+    let Ok(done) = outcome else {
         return Err(Fail::from("the disk has not grown"));
     };
-    let is_grown = (done.before, done.sectors, done.disk.sectors()) == (8, sectors, sectors)
-        && leaves(alloc, &done.disk, before)?;
-    let ran = run_local(alloc, &ring(), done.disk, END, plan(2, 16, 0), &mut Nobody);
+    let is_grown = (done.before, done.sectors, disk.sectors()) == (8, sectors, sectors)
+        && leaves(alloc, &disk, before)?;
+    let ran = run_local(alloc, &ring(), disk, END, plan(2, 16, 0), &mut Nobody);
     // the next record and its gate take the last two of nine sectors
     if sectors == 8 {
         return Ok(is_grown && ran.outcome.err() == Some(RunFault::Session(SessionFault::Full)));
@@ -119,16 +120,19 @@ fn a_run_goes_on_after_a_full_disk_grows(rt: HostRuntime) -> Result<(), Fail> {
 /// Whether a growth fails that meets this failing operation; then the fault must be of the device.
 /// The world must be kept.
 fn fails(alloc: Global, image: &[u8], number: u64, front: &Front) -> Result<bool, Fail> {
-    let (disk, is_failed) = match grown(alloc, &ring(), planned(alloc, image, Some(number))?, 64) {
-        Ok(done) => (done.disk, false),
+    let Returned { disk, outcome } = grown(
+        alloc,
+        &ring(),
+        planned(alloc, image, Some(number))?,
+        64,
+    );
+    let is_failed = match outcome {
+        Ok(_grown) => false,
         Err(
-            NotGrown {
-                fault: GrowingFault::Growth(GrowthFault::Device)
-                | GrowingFault::Recovery(RecoveryFault::Log(LogFault::Disk(DiskFault::Device))),
-                disk,
-            },
-        ) => (disk, true),
-        Err(NotGrown { fault, disk: _ }) => return Err(Fail::from(fault)),
+            GrowingFault::Growth(GrowthFault::Device)
+            | GrowingFault::Recovery(RecoveryFault::Log(LogFault::Disk(DiskFault::Device))),
+        ) => true,
+        Err(fault) => return Err(Fail::from(fault)),
     };
     if !leaves(alloc, &disk, front)? || is_failed && disk.sectors() != 8 {
         return Err(Fail::from("the world is not kept"));
@@ -154,14 +158,16 @@ fn each_failed_growth_keeps_the_world(rt: HostRuntime) -> Result<(), Fail> {
 /// Whether a disk, on which a run whose operation of this number fails may have left dirty sectors,
 /// grows again, keeps what was committed, and the run then ends. True where the first growth fails.
 fn keeps_what_is_committed(alloc: Global, image: &[u8], number: u64) -> Result<bool, Fail> {
-    let Ok(done) = grown(alloc, &ring(), planned(alloc, image, Some(number))?, 16) else {
+    let done = grown(alloc, &ring(), planned(alloc, image, Some(number))?, 16);
+    if done.outcome.is_err() {
         return Ok(true);
-    };
+    }
     let ran = run_local(alloc, &ring(), done.disk, END, plan(3, 16, 0), &mut Nobody);
     let outcome = front_on(alloc, &ring(), &ran.disk, END)?;
-    let Ok(again) = grown(alloc, &ring(), ran.disk, 32) else {
+    let again = grown(alloc, &ring(), ran.disk, 32);
+    if again.outcome.is_err() {
         return Err(Fail::from("the disk has not grown again"));
-    };
+    }
     let kept = front_of(alloc, &ring(), again.disk.crash(alloc, Torn::Fill(1))?, END)?;
     let is_kept = outcome.g <= kept.g && again.disk.sectors() == 32;
     let ran = run_local(alloc, &ring(), again.disk, END, plan(3, 16, 0), &mut Nobody);
@@ -187,9 +193,10 @@ fn refusal(
     image: &[u8],
     sectors: u32,
 ) -> Result<Option<GrowingFault>, Fail> {
-    match grown(alloc, ring, planned(alloc, image, None)?, sectors) {
-        Ok(_done) => Ok(None),
-        Err(NotGrown { fault, disk }) => {
+    let Returned { disk, outcome } = grown(alloc, ring, planned(alloc, image, None)?, sectors);
+    match outcome {
+        Ok(_grown) => Ok(None),
+        Err(fault) => {
             if disk.crash(alloc, Torn::New)?.as_slice() != image {
                 return Err(Fail::from("the disk is changed"));
             }

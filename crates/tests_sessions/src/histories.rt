@@ -3,9 +3,9 @@
 use crate::disks::{END, Nobody, disk_of, formatted, front_of, front_on, phold, plan, ring};
 use commitlog::LogFault;
 use coordinator::{Extended, extend};
-use disk::{MemDisk, Plan as DiskPlan, Torn};
+use disk::{MemDisk, Plan as DiskPlan, Returned, Torn};
 use model::Model as Simulated;
-use plain::{PlainFault, Plan, Ran, Watch, run_plain};
+use plain::{PlainFault, Plan, Reached, Watch, run_plain};
 use recovery::{Front, RecoveryFault, front_of as front_of_world};
 use runs::{Plan as RunPlan, RunFault, run_local};
 use std::alloc::Global;
@@ -115,8 +115,9 @@ fn with_end<M: Simulated>(
     end: u64,
     later: u64,
 ) -> Option<MemDisk> {
-    match extend(alloc, model, disk, later) {
-        Ok(Extended { before, disk, .. }) if before == end => Some(disk),
+    let Returned { disk, outcome } = extend(alloc, model, disk, later);
+    match outcome {
+        Ok(Extended { before, .. }) if before == end => Some(disk),
         _ => None,
     }
 }
@@ -200,7 +201,7 @@ pub(crate) fn ring_run<W: Watch>(
     disk: MemDisk,
     plan: Plan,
     watch: &mut W,
-) -> Ran<MemDisk> {
+) -> Returned<MemDisk, Reached, PlainFault> {
     run_plain(alloc, &ring(), disk, END, plan, watch)
 }
 

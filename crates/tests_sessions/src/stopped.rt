@@ -2,9 +2,9 @@
 
 use crate::disks::{END, TEARINGS, disk_of, formatted, front_of, front_on, phold, ring};
 use crate::histories::{Seen, fault_of, plain_plan, ring_run, sequential};
-use disk::{MemDisk, Plan as DiskPlan, Torn};
+use disk::{MemDisk, Plan as DiskPlan, Returned, Torn};
 use model::Model as Simulated;
-use plain::{PlainFault, Plan, Ran, run_plain};
+use plain::{PlainFault, Plan, Reached, run_plain};
 use recovery::Front;
 use std::alloc::Global;
 use std::test::Fail;
@@ -18,7 +18,7 @@ fn run_on<M: Simulated>(
     plan: Plan,
     failures: DiskPlan,
     seen: &mut Seen,
-) -> Result<Ran<MemDisk>, Fail> {
+) -> Result<Returned<MemDisk, Reached, PlainFault>, Fail> {
     let disk = disk_of(alloc, image, failures)?;
     Ok(run_plain(alloc, model, disk, end.clamp(1, 1000), plan, seen))
 }

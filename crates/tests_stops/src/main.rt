@@ -10,8 +10,8 @@ mod world;
 
 use commands::{CommandFault, log, show};
 use commitlog::{LogFault, format};
-use coordinator::{Extended, FrontView, NotOpened, Session, SessionFault, Step, extend};
-use disk::{MemDisk, Plan as DiskPlan, Torn};
+use coordinator::{Extended, FrontView, Session, SessionFault, Step, extend};
+use disk::{MemDisk, NotOpened, Plan as DiskPlan, Returned, Torn};
 use model::{World, WorldFault, WorldParts};
 use models::AnyModel;
 use recovery::{RecoveryFault, header};
@@ -280,15 +280,12 @@ fn carried_on(
     acknowledged: u64,
     disk: MemDisk,
 ) -> Result<(bool, MemDisk), Failure> {
-    match extend(alloc, &of.model, disk, of.end) {
-        Ok(
-            Extended {
-                front,
-                before,
-                disk,
-            },
-        ) if before == of.first && front.g >= acknowledged => Ok((true, disk)),
-        Err(NotOpened { fault, disk }) if is_of_disk(fault) => Ok((false, disk)),
+    let Returned { disk, outcome } = extend(alloc, &of.model, disk, of.end);
+    match outcome {
+        Ok(Extended { front, before }) if before == of.first && front.g >= acknowledged => Ok((
+            true, disk,
+        )),
+        Err(fault) if is_of_disk(fault) => Ok((false, disk)),
         _ => Err(Failure::Lost(Loss::Extending)),
     }
 }

@@ -4,7 +4,7 @@
 use crate::chains::{END, Nobody, TEARINGS, blank, disk_of, part, ring};
 use crate::shared::{on_file, removed};
 use commitlog::format;
-use disk::{FileDisk, MOST_SECTORS, MemDisk, Plan as DiskPlan, Room};
+use disk::{FileDisk, MOST_SECTORS, MemDisk, Plan as DiskPlan, Returned, Room};
 use model::Continued;
 use models::TokenRing;
 use plain::{Plan, run_plain};
@@ -105,22 +105,18 @@ impl<R: Files<File = File>> Files for Refusing<'_, R> {
 fn front_at(rt: &HostRuntime, path: &str) -> Result<Front, Fail> {
     let ring = ring();
     let disk = FileDisk::open_to_read(rt, rt.alloc(), path)?;
-    let (found, disk) = origin_on(rt.alloc(), &ring, disk);
-    let (origin, _time) = found?;
+    let Returned { disk, outcome } = origin_on(rt.alloc(), &ring, disk);
+    let (origin, _time) = outcome?;
     let model = Continued::new(&ring, origin.as_ref());
-    let found = match front_on(rt.alloc(), &model, END, disk) {
-        Ok((front, _disk)) => Ok(front),
-        Err((fault, _disk)) => Err(fault),
-    };
-    Ok(found?)
+    Ok(front_on(rt.alloc(), &model, END, disk).outcome?)
 }
 
 /// Goes on on the disk at a path until it is full.
 fn fill_up(rt: &HostRuntime, path: &str) -> Result<FileDisk, Fail> {
     let ring = ring();
     let disk = FileDisk::open(rt, rt.alloc(), path, None)?;
-    let (found, disk) = origin_on(rt.alloc(), &ring, disk);
-    let (origin, _time) = found?;
+    let Returned { disk, outcome } = origin_on(rt.alloc(), &ring, disk);
+    let (origin, _time) = outcome?;
     let model = Continued::new(&ring, origin.as_ref());
     let plan = Plan {
         commit_every: 1,
@@ -312,21 +308,19 @@ fn begun(alloc: Global, front: &Front, failures: DiskPlan) -> Result<(bool, [Lef
     }
     let image = MemDisk::blank(alloc, SECTORS)?.crash(alloc, TEARINGS[0])?;
     let blank = disk_of(alloc, image, failures)?;
-    let (disk, is_made) = match begin_on(alloc, &ring, END, front, blank) {
-        Ok(disk) => (disk, true),
-        Err((_fault, disk)) => (disk, false),
-    };
+    let Returned { disk, outcome } = begin_on(alloc, &ring, END, front, blank);
+    let is_made = outcome.is_ok();
     let mut found = [Left::Other; 4];
     for (left, torn) in found.iter_mut().zip(TEARINGS) {
         let image = disk.crash(alloc, torn)?;
-        let (outcome, _disk) = left_on(
+        let found = left_on(
             alloc,
             &ring,
             END,
             front,
             disk_of(alloc, image, DiskPlan::default())?,
         );
-        *left = outcome?;
+        *left = found.outcome?;
     }
     Ok((is_made, found))
 }

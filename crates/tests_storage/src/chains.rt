@@ -3,7 +3,7 @@
 ghost use Rattle.std.specs.Prelude.{◌≡◌, false, IfOk};
 
 use commitlog::{Log, LogFault, format};
-use disk::{MemDisk, Plan as DiskPlan, Torn};
+use disk::{MemDisk, NotOpened, Plan as DiskPlan, Torn};
 use eventkey::Message;
 use model::Continued;
 use models::TokenRing;
@@ -47,7 +47,7 @@ fn open(alloc: Global, disk: MemDisk) -> Result<Log<MemDisk>, LogFault>
 {
     match Log::open(alloc, disk) {
         Ok(log) => Ok(log),
-        Err((fault, _disk)) => Err(fault),
+        Err(NotOpened { fault, disk: _ }) => Err(fault),
     }
 }
 
@@ -64,7 +64,7 @@ fn segment(alloc: Global, front: &Front, failures: DiskPlan) -> Result<(MemDisk,
     let disk = disk_of(alloc, blank(alloc)?, failures)?;
     let mut log = match Log::open(alloc, disk) {
         Ok(log) => log,
-        Err((_fault, disk)) => return Ok((disk, false)),
+        Err(NotOpened { fault: _, disk }) => return Ok((disk, false)),
     };
     if log.len() > 0 || front.numbers.as_slice().len() != front.states.as_slice().len() {
         return Err(Fail::from("the log is not empty"));

@@ -14,9 +14,11 @@ mod bytes;
 mod device;
 mod ends;
 mod faults;
+mod grown;
 mod memory;
 mod mended;
 mod old_disks;
+mod parts;
 mod stops;
 
 fn ring() -> TokenRing {

@@ -1,6 +1,6 @@
 -- The count of a kind that is set.
 use Rattle.std.specs.Prelude.{IfOk}
-use Rattle.std.proofs.Common.{Global, Vec, Result, Ok, Err, ◌≡◌, ℕ, suc, zero, ◌+◌, List, ◌∷◌, true, false, codes, drop, map, set, subst, sym, arith}
+use Rattle.std.proofs.Common.{Global, Vec, Result, Ok, Err, ◌≡◌, ℕ, suc, ◌+◌, List, ◌∷◌, true, false, codes, drop, map, set, subst, sym, arith}
 use Rattle.toml.specs.Data.{Data, Items}
 use Rattle.toml.specs.View.{array_view, items_of, items_view, view}
 use Rattle.toml.specs.declared.value.Value.{Value}

@@ -13,6 +13,6 @@ bits_in word shift bits = word / 2 ^ shift % 2 ^ bits
 abbrev pub lacks : ℕ → ℕ → Bool
 lacks shift bits = eqb bits 0 || nat_lt 64 (shift + bits)
 
--- the number of so many bits, from a bit on, of the word at a place
+-- the number in `bits` bits of the word at a place, from bit `shift` on
 abbrev pub number_of : ℕ → ℕ → ℕ → List ℕ → ℕ
 number_of place shift bits state = if lacks shift bits then 0 else bits_in (word_at state place) shift bits

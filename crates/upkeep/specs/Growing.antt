@@ -1,10 +1,12 @@
 -- What a disk keeps that grows behind its log, and why it does not grow.
-use Rattle.std.specs.Prelude.{ℕ, List, [], None, ◌++◌, ◌≡◌, length, slice_index_or, Bool}
+use Rattle.std.specs.Prelude.{ℕ, List, [], None, ◌++◌, ◌≡◌, ◌≤◌, length, slice_index_or, Bool}
+use Rattle.std.specs.Prelude.{Err, Ok, Result, false}
 use Rattle.commitlog.specs.Faults.{OpenIsRefused}
 use Rattle.commitlog.specs.Records.{Holds, IsFormatted, records_of}
 use Rattle.commitlog.specs.declared.records.Entry.{Entry}
 use Rattle.recovery.specs.Crashes.{RepresentsUnderItsEnd}
-use Rattle.disk.specs.Growth.{GrowthIsRefused, is_of_device}
+use Rattle.disk.specs.Disk.{DiskState, IsSynced}
+use Rattle.disk.specs.Growth.{GrowthIsRefused, grown_to, is_of_device}
 use Rattle.model.specs.Meaning.{Meaning}
 use Rattle.model.specs.World.{World}
 use Rattle.recovery.specs.Ends.{HoldsLog, IsOfModel}
@@ -14,6 +16,7 @@ use Rattle.recovery.specs.Represents.{IsGenuine, Represents, RepresentsAtLeast}
 use Rattle.recovery.specs.declared.RecoveryFault.TheVariants.{Log, NoMemory, OtherModel}
 use Rattle.upkeep.specs.declared.growing.GrowingFault.{GrowingFault}
 use Rattle.upkeep.specs.declared.growing.GrowingFault.TheVariants.{Growth, Recovery}
+use Rattle.upkeep.specs.declared.growing.disks.Grown.{Grown}
 
 -- 1. Laws of an image with any sectors behind it
 
@@ -56,10 +59,31 @@ pub record HasLog (m : Meaning) (image : List (List ℕ)) : Type 0 where
   pub entries : List Entry
   pub log : HoldsLog m end entries image
 
+-- A disk of this model that was asked to have `sectors` sectors, at most `most`, has grown: sectors
+-- of zeros follow the old ones, and all are synced. A read gives the same log, which is genuine if
+-- it was.
+pub record HasGrown (m : Meaning) (old new : DiskState) (sectors most : ℕ)
+    (done : Grown) : Type 0 where
+  pub reads : new.reads ≡ grown_to sectors old.reads
+  pub in_sync : IsSynced new.dirty
+  pub before : done.before ≡ length old.reads
+  pub now : done.sectors ≡ sectors
+  pub not_fewer : done.before ≤ sectors
+  pub not_too_many : sectors ≤ most
+  pub ours : HasLog m old.reads
+  pub held : (header : List ℕ) (records : List Entry) → Holds header records old.reads →
+      Holds header records new.reads
+  pub genuine : (end : ℕ) → IsGenuine m end old.reads → IsGenuine m end new.reads
+
 -- the device failed
 abbrev pub is_of_disk : GrowingFault → Bool
 is_of_disk (Recovery fault) = recovery_is_of_disk fault
 is_of_disk (Growth fault) = is_of_device fault
+
+-- the device did not fail in the call, unless the outcome is a fault that says so
+abbrev pub NamesFailure : {T : Type 0} → DiskState → DiskState → Result T GrowingFault → Type 0
+NamesFailure old new (Ok done) = new.failures ≡ old.failures
+NamesFailure old new (Err fault) = is_of_disk fault ≡ false → new.failures ≡ old.failures
 
 -- Why a disk does not grow to `sectors` sectors, at most `most`: its log cannot be opened, its
 -- records can be read but are another model's, or an allocation failed meanwhile; or the log is

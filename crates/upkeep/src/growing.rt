@@ -6,7 +6,7 @@ mod disks;
 mod laws;
 
 use disk::GrowthFault;
-pub use disks::{Grown, NotGrown, grow};
+pub use disks::{Grown, grow};
 pub use laws::law_of_growth;
 use recovery::RecoveryFault;
 use thiserror::Error;

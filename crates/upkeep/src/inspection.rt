@@ -3,9 +3,13 @@
 mod checking;
 mod counting;
 mod fault;
+mod held;
 mod inspecting;
+mod part;
+mod reading;
 mod writing;
 
 pub use fault::InspectionFault;
 pub use inspecting::{Inspection, Pace, inspect};
+pub use part::{PartDisk, SectorSource};
 pub use writing::write_inspection;

@@ -90,21 +90,27 @@ since_origin (Some (time, events)) shown = record {
   };
 }
 
+-- The inspection of a disk by the simulation that is on it, and of its origin if it has one. The image
+-- is what was read of the file: sectors that no figure needs may be missing, and are zeros in it.
+pub record IsFoundOn (m : Meaning) (end : ℕ) (found : Inspection)
+    (lines : Option (ℕ × ℕ)) : Type 0 where
+  pub image : List (List ℕ)
+  pub origin : Option Origin
+  pub on : Meaning
+  pub is_on : IsOn m image origin on
+  pub inspected : IsInspected on end image found
+  pub lines_are : IsShownOrigin m.lps image origin lines
+
 -- The text of the inspection of a disk, and of its origin if it has one.
 pub record IsStatusText {M : Type 0} (meaning : M → Meaning) (says : Describes M)
     (text : List ℕ) : Type 0 where
   pub source : List ℕ
   pub model : M
   pub end : ℕ
-  pub image : List (List ℕ)
-  pub origin : Option Origin
-  pub on : Meaning
   pub found_there : Inspection
   pub lines : Option (ℕ × ℕ)
   pub file : IsModelFile says source model end
-  pub is_on : IsOn (meaning model) image origin on
-  pub inspected : IsInspected on end image found_there
-  pub lines_are : IsShownOrigin (meaning model).lps image origin lines
+  pub found : IsFoundOn (meaning model) end found_there lines
   pub is : text ≡ inspection_text (since_origin lines found_there) ++ lines_text lines
 
 -- what `status` prints in a format

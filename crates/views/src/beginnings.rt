@@ -4,7 +4,6 @@ ghost use Rattle.std.specs.Prelude.{◌≡◌, length, slice_set, IfOk, IfSome, 
 ghost use Rattle.segments.specs.Archiving.{events_before, IsBegunAt, IsTimeIn};
 ghost use Rattle.commitlog.specs.Records.{open_bytes};
 ghost use Rattle.disk.specs.Disk.{OnlyLooks};
-ghost use Rattle.disk.specs.FileDisks.{disk_of_file};
 ghost use Rattle.eventkey.specs.Writing.{Writes};
 ghost use Rattle.model.specs.Meaning.{CanBegin};
 ghost use Rattle.recovery.specs.Front.{world_of};
@@ -16,7 +15,7 @@ ghost use Rattle.views.specs.Reading.{since_origin, IsFrontOn};
 use crate::fault::ViewFault;
 use crate::files::open_disk;
 use commitlog::Entry;
-use disk::{FileDisk, SectorDisk};
+use disk::{Returned, SectorDisk};
 use model::{Continued, Model as Modelled, Origin};
 use recovery::{Front, RecoveryFault};
 use segments::archiving::{
@@ -32,22 +31,24 @@ use upkeep::{copy_opened, first_in_row};
 
 /// A disk, and where its simulation begins.
 #[derive(Drop)]
-pub struct Begun {
+pub struct Begun<D> {
     /// The disk.
-    pub disk: FileDisk,
+    pub disk: D,
     /// The origin; none if the simulation begins as its model does.
     pub origin: Option<Origin>,
     /// The virtual time from which the simulation goes on, in ticks; 0 without an origin.
     pub time: u64,
 }
 
-impl Begun {
+impl<D: SectorDisk> Begun<D> {
     /// Reads the origin of a disk. If it cannot be read, the command on the disk finds out why.
-    pub fn of<M: Modelled>(alloc: Global, model: &M, disk: FileDisk) -> Begun
+    pub fn of<M: Modelled>(alloc: Global, model: &M, disk: D) -> Begun<D>
         ensures sound { CanBegin (M.meaning model.now).lps result.origin }
-        ensures begins { BeginsWith (M.meaning model.now).lps result.disk.reads result.origin }
-        ensures at { IfSome result.origin (λ o. IsBegunAt result.disk.reads result.time) }
-        ensures looks { OnlyLooks (disk_of_file disk) (disk_of_file result.disk) }
+        ensures begins { BeginsWith (M.meaning model.now).lps (D.state result.disk).reads
+            result.origin }
+        ensures at { IfSome result.origin
+            (λ o. IsBegunAt (D.state result.disk).reads result.time) }
+        ensures looks { OnlyLooks (D.state disk) (D.state result.disk) }
     {
         let mut disk = disk;
         if !may_have_origin(&mut disk) {
@@ -57,8 +58,8 @@ impl Begun {
                 time: 0,
             };
         }
-        let (found, disk) = origin_on(alloc, model, disk);
-        match found {
+        let Returned { disk, outcome } = origin_on(alloc, model, disk);
+        match outcome {
             Ok((origin, time)) => Begun { disk, origin, time },
             Err(_) => Begun {
                 disk,
@@ -168,8 +169,11 @@ fn beginning_on<M: Modelled, D: SectorDisk + Drop>(alloc: Global, model: &M, dis
     ensures begins { BeginsWith (M.meaning model.now).lps (D.state disk).reads result.origin }
     ensures at { IfSome result.origin (λ o. IsBegunAt (D.state disk).reads result.time) }
 {
-    let (found, _disk) = origin_on(alloc, model, disk);
-    match found {
+    let Returned {
+        disk: _disk,
+        outcome,
+    } = origin_on(alloc, model, disk);
+    match outcome {
         Ok((origin, time)) => Beginning { origin, time },
         Err(_) => Beginning {
             origin: None,
@@ -253,10 +257,14 @@ where
     let disk = open_disk(rt, path, most)?;
     let Begun { disk, origin, .. } = Begun::of(rt.alloc(), model, disk);
     let on = Continued::new(model, origin.as_ref());
-    match front_on(rt.alloc(), &on, end, disk) {
-        Ok((front, _disk)) => Ok(front),
-        Err((RecoveryFault::Log(fault), _disk)) => Err(ViewFault::Log(fault)),
-        Err((fault, _disk)) => Err(ViewFault::Recovery(fault)),
+    let Returned {
+        disk: _disk,
+        outcome,
+    } = front_on(rt.alloc(), &on, end, disk);
+    match outcome {
+        Ok(front) => Ok(front),
+        Err(RecoveryFault::Log(fault)) => Err(ViewFault::Log(fault)),
+        Err(fault) => Err(ViewFault::Recovery(fault)),
     }
 }
 

@@ -1,6 +1,8 @@
 // The text of its model that a disk keeps, in a file beside it: all sectors of its own file are those
 // of its log.
 
+ghost use Rattle.std.specs.Prelude.{◌≡◌, ◌++◌, codes, string_bytes, IfOk};
+
 use crate::fault::ViewFault;
 use crate::files::read_bytes;
 use cli::ModelFile;
@@ -10,7 +12,9 @@ use std::rt::Files;
 
 /// Returns the path of the text that a disk of this path keeps: that of the disk with `.model`
 /// behind it.
-pub fn kept_name(alloc: Global, disk: &str) -> Result<String, AllocError> {
+pub fn kept_name(alloc: Global, disk: &str) -> Result<String, AllocError>
+    ensures { IfOk result (λ name. string_bytes name ≡ disk.now ++ codes ".model") }
+{
     format!(in alloc; "{disk}.model")
 }
 

@@ -10,6 +10,7 @@ mod fault;
 mod files;
 mod histograms;
 mod info;
+mod inspecting;
 mod kept;
 mod levels;
 mod looking;

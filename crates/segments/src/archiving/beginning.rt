@@ -1,20 +1,20 @@
 // The making of a segment on a disk without a log.
 
-ghost use Rattle.std.specs.Prelude.{◌≡◌, IfOk, length};
+ghost use Rattle.std.specs.Prelude.{◌≡◌, OnOk, length};
 ghost use Rattle.segments.specs.Archiving.{IsMade};
 ghost use Rattle.recovery.specs.Front.{world_of};
 
 use crate::begin;
 use commitlog::{Log, LogFault, format};
-use disk::SectorDisk;
+use disk::{Returned, SectorDisk};
 use model::Model as Simulated;
 use recovery::{Front, header};
 use std::alloc::Global;
 
 /// Makes the segment that goes on from a front, on a disk without a log, for a simulation up to the
-/// end `end`, in ticks. Returns the disk.
+/// end `end`, in ticks. It gives the disk back.
 ///
-/// Returns `NotBlank` if the disk has a log, `Full` if it has no room for the first two records,
+/// The outcome is `NotBlank` if the disk has a log, `Full` if it has no room for the first two records,
 /// `TooLong` if the first would have more than 2^24 bytes, `NoMemory` or `Disk(Device)`. Costs one
 /// pass over all states and pending messages.
 pub fn begin_on<M: Simulated, D: SectorDisk>(
@@ -23,23 +23,31 @@ pub fn begin_on<M: Simulated, D: SectorDisk>(
     end: u64,
     front: &Front,
     disk: D,
-) -> Result<D, (LogFault, D)>
+) -> Returned<D, (), LogFault>
     requires numbers { length front.now.numbers ≡ length front.now.states }
-    ensures made { IfOk result
-        (λ next. IsMade (M.meaning model.now) end (world_of front.now) (D.state next)) }
+    ensures made { OnOk result.outcome
+        (IsMade (M.meaning model.now) end (world_of front.now) (D.state result.disk)) }
 {
     let mut disk = disk;
     let sector = header(alloc, model, end);
-    match format(&mut disk, &sector) {
-        Ok(()) => {}
-        Err(fault) => return Err((fault, disk)),
+    if let Err(fault) = format(&mut disk, &sector) {
+        return Returned {
+            disk,
+            outcome: Err(fault),
+        };
     }
     let mut log = match Log::open(alloc, disk) {
         Ok(log) => log,
-        Err(refused) => return Err(refused),
+        Err(refused) => {
+            return Returned {
+                disk: refused.disk,
+                outcome: Err(refused.fault),
+            };
+        }
     };
-    match begin(alloc, &mut log, front) {
-        Ok(()) => Ok(log.into_disk()),
-        Err(fault) => Err((fault, log.into_disk())),
+    let outcome = begin(alloc, &mut log, front);
+    Returned {
+        disk: log.into_disk(),
+        outcome,
     }
 }

@@ -4,8 +4,8 @@ use crate::disks::{END, TEARINGS, ring};
 use crate::refusals::crashed;
 use crate::refusals::openings::{is_of_memory, look_at_crashes};
 use crate::refusals::running::ran;
-use coordinator::{Extended, NotOpened, SessionFault, extend};
-use disk::MemDisk;
+use coordinator::{Extended, SessionFault, extend};
+use disk::{MemDisk, Returned};
 use model::Model as Simulated;
 use std::alloc::Global;
 use std::process::Abort;
@@ -20,31 +20,27 @@ fn carried_on<M: Simulated>(
     alloc: Global,
     model: &M,
     disk: MemDisk,
-) -> Result<Extended<MemDisk>, Fail> {
-    let NotOpened { fault, disk } = match extend(alloc, model, disk, LATER) {
-        Ok(extended) => return Ok(extended),
-        Err(refused) => refused,
+) -> Result<(Extended, MemDisk), Fail> {
+    let Returned { disk, outcome } = extend(alloc, model, disk, LATER);
+    let fault = match outcome {
+        Ok(extended) => return Ok((extended, disk)),
+        Err(fault) => fault,
     };
     assert!(rt; is_of_memory(&fault), "{fault}");
     look_at_crashes(rt, alloc, model, &disk, END)?;
-    match extend(alloc, model, disk, LATER) {
-        Ok(extended) => Ok(extended),
+    let Returned { disk, outcome } = extend(alloc, model, disk, LATER);
+    match outcome {
+        Ok(extended) => Ok((extended, disk)),
         Err(_again) => Err(Fail::from("the disk that was handed back is not extended")),
     }
 }
 
 /// Why the later end is refused on a disk, if it is; asked again after an allocation failure.
 fn refusal<M: Simulated>(alloc: Global, model: &M, disk: MemDisk) -> Option<SessionFault> {
-    let NotOpened { fault, disk } = match extend(alloc, model, disk, LATER) {
-        Ok(_) => return None,
-        Err(refused) => refused,
-    };
-    if !is_of_memory(&fault) {
-        return Some(fault);
-    }
-    match extend(alloc, model, disk, LATER) {
-        Ok(_) => None,
-        Err(NotOpened { fault, disk: _ }) => Some(fault),
+    let Returned { disk, outcome } = extend(alloc, model, disk, LATER);
+    match outcome {
+        Err(fault) if is_of_memory(&fault) => extend(alloc, model, disk, LATER).outcome.err(),
+        outcome => outcome.err(),
     }
 }
 
@@ -53,11 +49,7 @@ fn a_disk_is_extended_after_a_refusal(rt: HostRuntime) -> Result<(), Fail> {
     for (sectors, every) in [(64, 0), (32, 3)] {
         let disk = ran(&rt, rt.alloc(), sectors, every)?;
         let model = ring();
-        let Extended {
-            front,
-            before,
-            disk,
-        } = carried_on(&rt, rt.alloc(), &model, disk)?;
+        let (Extended { front, before }, disk) = carried_on(&rt, rt.alloc(), &model, disk)?;
         assert!(rt; front.g == END && before == END);
         for torn in TEARINGS {
             // each crash leaves the later end in force, so that it is refused a second time

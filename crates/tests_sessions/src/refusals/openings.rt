@@ -5,8 +5,8 @@ use crate::refusals::crashed;
 use crate::refusals::plain_runner::is_plain;
 use crate::refusals::running::ran;
 use commitlog::LogFault;
-use coordinator::{NotOpened, Session, SessionFault};
-use disk::MemDisk;
+use coordinator::{Session, SessionFault};
+use disk::{MemDisk, NotOpened};
 use loopback::{LoopPort, loop_ports};
 use model::Model as Simulated;
 use node::NodeFault;
@@ -35,7 +35,7 @@ fn far<M: Simulated>(
     alloc: Global,
     model: &M,
     disk: MemDisk,
-) -> Result<Far<'_, M>, NotOpened<MemDisk>> {
+) -> Result<Far<'_, M>, NotOpened<MemDisk, SessionFault>> {
     match loop_ports(alloc, model, 3) {
         Ok(ports) => Session::open(alloc, model, ports, disk, END),
         Err(_refused) => Err(NotOpened {

@@ -5,9 +5,9 @@ ghost use Rattle.std.specs.Prelude.{◌≡◌};
 use crate::disks::{END, TEARINGS, formatted, plan, ring};
 use crate::refusals::crashed;
 use crate::refusals::openings::{is_of_memory, look_at_crashes};
-use commands::{CommandFault, Ended, Simulated, log, run, show};
+use commands::{CommandFault, Simulated, log, run, show};
 use commitlog::LogFault;
-use disk::MemDisk;
+use disk::{MemDisk, Returned};
 use models::TokenRing;
 use recovery::RecoveryFault;
 use runs::{Plan, Watch};
@@ -86,7 +86,7 @@ fn run_once(
     every: u32,
     last: &mut Last,
     out: &mut Vec<u8>,
-) -> Ended<MemDisk> {
+) -> Returned<MemDisk, (), CommandFault> {
     run(alloc, &one_token(), disk, plan(3, 16, every), last, out)
 }
 
@@ -96,7 +96,7 @@ pub fn ran(rt: &impl Abort, alloc: Global, sectors: u32, every: u32) -> Result<M
     let disk = formatted(alloc, &ring(), sectors, END)?;
     let mut out = room(alloc)?;
     let mut last = Last::default();
-    let Ended { disk, outcome } = run_once(alloc, disk, every, &mut last, &mut out);
+    let Returned { disk, outcome } = run_once(alloc, disk, every, &mut last, &mut out);
     let Err(fault) = outcome else {
         assert!(rt; last.time == END && out.as_slice() == RAN.as_bytes());
         return Ok(disk);
@@ -104,7 +104,7 @@ pub fn ran(rt: &impl Abort, alloc: Global, sectors: u32, every: u32) -> Result<M
     assert!(rt; is_allocation_failure(&fault), "{fault}");
     assert!(rt; out.is_empty());
     look_at_crashes(rt, alloc, &ring(), &disk, last.time)?;
-    let Ended { disk, outcome } = run_once(alloc, disk, every, &mut last, &mut out);
+    let Returned { disk, outcome } = run_once(alloc, disk, every, &mut last, &mut out);
     assert!(rt; outcome.is_ok() && out.as_slice().ends_with(COMMITTED.as_bytes()));
     Ok(disk)
 }
@@ -172,7 +172,12 @@ const ALL_COMMITTED: &str = "committed 10 events 576\n";
 
 /// Runs them over one node. A commit takes at least 100 events, which are sorted by keys of their
 /// own.
-fn run_many(alloc: Global, disk: MemDisk, last: &mut Last, out: &mut Vec<u8>) -> Ended<MemDisk> {
+fn run_many(
+    alloc: Global,
+    disk: MemDisk,
+    last: &mut Last,
+    out: &mut Vec<u8>,
+) -> Returned<MemDisk, (), CommandFault> {
     let plan = Plan {
         commit_every: 100,
         ..plan(1, 200, 0)
@@ -186,7 +191,7 @@ fn a_refused_commit_of_many_events_keeps_what_was_reported(rt: HostRuntime) -> R
     let disk = formatted(rt.alloc(), &model, 128, END)?;
     let mut out = room(rt.alloc())?;
     let mut last = Last::default();
-    let Ended { disk, outcome } = run_many(rt.alloc(), disk, &mut last, &mut out);
+    let Returned { disk, outcome } = run_many(rt.alloc(), disk, &mut last, &mut out);
     let Err(fault) = outcome else {
         assert!(rt; last.most > 64 && out.as_slice().ends_with(ALL_COMMITTED.as_bytes()));
         return Ok(());
@@ -194,7 +199,7 @@ fn a_refused_commit_of_many_events_keeps_what_was_reported(rt: HostRuntime) -> R
     assert!(rt; is_allocation_failure(&fault), "{fault}");
     assert!(rt; out.is_empty());
     look_at_crashes(&rt, rt.alloc(), &model, &disk, last.time)?;
-    let Ended { disk: _, outcome } = run_many(rt.alloc(), disk, &mut last, &mut out);
+    let Returned { disk: _, outcome } = run_many(rt.alloc(), disk, &mut last, &mut out);
     assert!(rt; outcome.is_ok() && out.as_slice().ends_with(ALL_COMMITTED.as_bytes()));
     Ok(())
 }

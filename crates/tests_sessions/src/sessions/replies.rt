@@ -1,7 +1,8 @@
 use super::*;
 use crate::steps::{step_of, stepped};
-use coordinator::{Answer, NotOpened, Session, SessionFault, Step};
-use sockets::SocketPort;
+use coordinator::{Answer, Session, SessionFault, Step};
+use disk::NotOpened;
+use frames::SocketPort;
 use std::io::Write;
 use std::os::unix::net::UnixStream;
 use std::test::Fail;

@@ -1,7 +1,7 @@
 // Segments that are repaired: the origin is found without the log's gates or header, and each goes
 // on to the world of the whole simulation.
 use super::*;
-use disk::SectorDisk;
+use disk::{Returned, SectorDisk};
 use segments::origin_in;
 use upkeep::{Verified, Watch as Verifying, copy_opened, cut, first_in_row, reopen, salvage};
 
@@ -68,8 +68,8 @@ fn was_cut(alloc: Global, disk: MemDisk) -> Result<(Verified, Vec<u8>), Fail> {
     let mut log = open(alloc, disk)?;
     let origin = origin_of(alloc, &ring, &mut log)?;
     let model = Continued::new(&ring, origin.as_ref());
-    let (made, disk) = cut(alloc, &model, log.into_disk(), &mut Unwatched);
-    let made = made?;
+    let Returned { disk, outcome } = cut(alloc, &model, log.into_disk(), &mut Unwatched);
+    let made = outcome?;
     Ok((made.seen, disk.crash(alloc, Torn::New)?))
 }
 
@@ -80,8 +80,15 @@ fn salvaged(alloc: Global, mut disk: MemDisk) -> Result<(Verified, Vec<u8>), Fai
     let origin = origin_in(alloc, &ring, first.as_slice())?;
     let model = Continued::new(&ring, origin.as_ref());
     let new = MemDisk::blank(alloc, SECTORS)?;
-    let (made, new) = salvage(alloc, &model, &mut disk, END, new, &mut Unwatched);
-    let made = made?;
+    let Returned { disk: new, outcome } = salvage(
+        alloc,
+        &model,
+        &mut disk,
+        END,
+        new,
+        &mut Unwatched,
+    );
+    let made = outcome?;
     Ok((made.seen, new.crash(alloc, Torn::New)?))
 }
 

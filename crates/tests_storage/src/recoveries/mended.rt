@@ -1,6 +1,6 @@
 // Logs that are cut before a record at fault, and disks whose good records are salvaged.
 use super::*;
-use disk::SectorDisk;
+use disk::{Returned, SectorDisk};
 use upkeep::{
     CutFault, CutLog, SalvageFault, Salvaged, VerifyFault, Watch, close_cut, cut, find_cut,
     salvage, verify_disk,
@@ -72,8 +72,8 @@ fn is_cut_so(alloc: Global, row: &str) -> Result<bool, Fail> {
         return Ok(false);
     };
     let disk = disk_of(alloc, commits, Plan::default())?;
-    let (made, _disk) = cut(alloc, &ring(), disk, &mut Unwatched);
-    Ok(cut_text(alloc, made)?.as_str() == text)
+    let done = cut(alloc, &ring(), disk, &mut Unwatched);
+    Ok(cut_text(alloc, done.outcome)?.as_str() == text)
 }
 
 fn are_cut_so(alloc: Global) -> Result<bool, Fail> {
@@ -115,8 +115,8 @@ fn is_either(alloc: Global, disk: &MemDisk, torn: Torn) -> Result<bool, Fail> {
 /// Whether each crash behind a cut on a disk with these failures leaves one of the two.
 fn leaves_either(alloc: Global, with: Plan) -> Result<bool, Fail> {
     let disk = disk_of(alloc, "1-0-0 7-0-3 12-3-5", with)?;
-    let (made, disk) = cut(alloc, &ring(), disk, &mut Unwatched);
-    cut_text(alloc, made)?;
+    let Returned { disk, outcome } = cut(alloc, &ring(), disk, &mut Unwatched);
+    cut_text(alloc, outcome)?;
     for torn in TEARINGS {
         if !is_either(alloc, &disk, torn)? {
             return Ok(false);
@@ -160,9 +160,9 @@ fn is_cut_later(alloc: Global) -> Result<bool, Fail> {
     let Ok(to) = find_cut(alloc, &ring(), found, &mut Unwatched) else {
         return Ok(false);
     };
-    let (closed, disk) = close_cut(to);
-    let is_cut = disk.crash(alloc, Torn::New)?.as_slice() != before.as_slice();
-    Ok(is_same && is_cut && closed.is_ok())
+    let closed = close_cut(to);
+    let is_cut = closed.disk.crash(alloc, Torn::New)?.as_slice() != before.as_slice();
+    Ok(is_same && is_cut && closed.outcome.is_ok())
 }
 
 #[test]
@@ -219,8 +219,8 @@ fn damaged(alloc: Global, sector: u32, byte: u8) -> Result<MemDisk, Fail> {
 /// What a salvage of this disk to a blank one of so many sectors prints.
 fn salvaged(alloc: Global, mut disk: MemDisk, sectors: u32) -> Result<String, Fail> {
     let new = MemDisk::blank(alloc, sectors)?;
-    let (made, _new) = salvage(alloc, &ring(), &mut disk, END, new, &mut Unwatched);
-    salvage_text(alloc, made)
+    let done = salvage(alloc, &ring(), &mut disk, END, new, &mut Unwatched);
+    salvage_text(alloc, done.outcome)
 }
 
 /// Whether a salvage of the disk in this row prints what stands in the row.
@@ -286,8 +286,8 @@ fn are_refused(alloc: Global) -> Result<bool, Fail> {
     let full = salvaged(alloc, damaged(alloc, 0, 0)?, 8)?;
     let mut disk = damaged(alloc, 0, 0)?;
     let taken = of_other_ring(alloc)?;
-    let (made, _new) = salvage(alloc, &ring(), &mut disk, END, taken, &mut Unwatched);
-    let used = salvage_text(alloc, made)?;
+    let done = salvage(alloc, &ring(), &mut disk, END, taken, &mut Unwatched);
+    let used = salvage_text(alloc, done.outcome)?;
     Ok(
         other.as_str() == "OtherModel"
             && full.as_str() == "New Full"
@@ -316,10 +316,10 @@ fn leaves_part(alloc: Global, with: Plan) -> Result<bool, Fail> {
     let blank = MemDisk::blank(alloc, 64)?.crash(alloc, Torn::New)?;
     let mut disk = damaged(alloc, 2, 0)?;
     let new = planned(alloc, blank, with)?;
-    let (made, new) = salvage(alloc, &ring(), &mut disk, END, new, &mut Unwatched);
-    salvage_text(alloc, made)?;
+    let done = salvage(alloc, &ring(), &mut disk, END, new, &mut Unwatched);
+    salvage_text(alloc, done.outcome)?;
     for torn in TEARINGS {
-        if !is_part(alloc, &new, torn)? {
+        if !is_part(alloc, &done.disk, torn)? {
             return Ok(false);
         }
     }

@@ -21,15 +21,15 @@ returns-clause-ok g c =
       image = c.in_ok-damaged.damaged.reads;
       origin = c.in_row-begins.result.origin;
       on = continued (g.M.Model.meaning c.new-on_row.result.model.now) (option_map (λ o. o.now) c.new-on_row.result.origin);
-      new = disk_of_file c.salvage-salvaged.result.1;
+      new = disk_of_file c.salvage-disk.result.disk;
       salvaged = c.in_ok-salvaged.salvaged;
       line = believed_line c.believed-time.result;
       file = c.in_ok-of.ensures.file.1;
       is_on = (c.in_row-begins.ensures.begins, search rules);
       of_world =
-          subst (λ (r : List (List ℕ)). IsSalvaged (continued (g.M.Model.meaning c.new-on_row.result.model.now) (option_map (λ o. o.now) c.new-on_row.result.origin)) c.in_ok-of.end r (disk_of_file c.salvage-salvaged.result.1) c.in_ok-salvaged.salvaged)
+          subst (λ (r : List (List ℕ)). IsSalvaged (continued (g.M.Model.meaning c.new-on_row.result.model.now) (option_map (λ o. o.now) c.new-on_row.result.origin)) c.in_ok-of.end r (disk_of_file c.salvage-disk.result.disk) c.in_ok-salvaged.salvaged)
           c.in_row-begins.ensures.looks.same
-          (if_ok (IsSalvaged (continued (g.M.Model.meaning c.new-on_row.result.model.now) (option_map (λ o. o.now) c.new-on_row.result.origin)) c.in_ok-of.end c.in_row-begins.new.disk.reads (disk_of_file c.salvage-salvaged.result.1)) c.in_ok-salvaged.was c.salvage-salvaged.ensures.salvaged);
+          (if_ok (IsSalvaged (continued (g.M.Model.meaning c.new-on_row.result.model.now) (option_map (λ o. o.now) c.new-on_row.result.origin)) c.in_ok-of.end c.in_row-begins.new.disk.reads (disk_of_file c.salvage-disk.result.disk)) c.in_ok-salvaged.was c.salvage-disk.ensures.salvaged);
       line_is = believed_is (IsTimeIn (row_of c.in_ok-damaged.damaged.reads)) c.in_row-begins.result.origin c.in_row-begins.result.time c.believed-time.result c.in_row-begins.ensures.at c.believed-time.ensures.none c.believed-time.ensures.some;
       is = refl;
     }) c.write_recovered.result c.write_recovered.ensures.written
@@ -44,15 +44,15 @@ returns-clause-err g c =
       image = c.in_ok-damaged.damaged.reads;
       origin = c.in_row-begins.result.origin;
       on = continued (g.M.Model.meaning c.new-on_row.result.model.now) (option_map (λ o. o.now) c.new-on_row.result.origin);
-      new = disk_of_file c.salvage-salvaged.result.1;
+      new = disk_of_file c.salvage-disk.result.disk;
       salvaged = c.in_ok-salvaged.salvaged;
       line = believed_line c.believed-time.result;
       file = c.in_ok-of.ensures.file.1;
       is_on = (c.in_row-begins.ensures.begins, search rules);
       of_world =
-          subst (λ (r : List (List ℕ)). IsSalvaged (continued (g.M.Model.meaning c.new-on_row.result.model.now) (option_map (λ o. o.now) c.new-on_row.result.origin)) c.in_ok-of.end r (disk_of_file c.salvage-salvaged.result.1) c.in_ok-salvaged.salvaged)
+          subst (λ (r : List (List ℕ)). IsSalvaged (continued (g.M.Model.meaning c.new-on_row.result.model.now) (option_map (λ o. o.now) c.new-on_row.result.origin)) c.in_ok-of.end r (disk_of_file c.salvage-disk.result.disk) c.in_ok-salvaged.salvaged)
           c.in_row-begins.ensures.looks.same
-          (if_ok (IsSalvaged (continued (g.M.Model.meaning c.new-on_row.result.model.now) (option_map (λ o. o.now) c.new-on_row.result.origin)) c.in_ok-of.end c.in_row-begins.new.disk.reads (disk_of_file c.salvage-salvaged.result.1)) c.in_ok-salvaged.was c.salvage-salvaged.ensures.salvaged);
+          (if_ok (IsSalvaged (continued (g.M.Model.meaning c.new-on_row.result.model.now) (option_map (λ o. o.now) c.new-on_row.result.origin)) c.in_ok-of.end c.in_row-begins.new.disk.reads (disk_of_file c.salvage-disk.result.disk)) c.in_ok-salvaged.was c.salvage-disk.ensures.salvaged);
       line_is = believed_is (IsTimeIn (row_of c.in_ok-damaged.damaged.reads)) c.in_row-begins.result.origin c.in_row-begins.result.time c.believed-time.result c.in_row-begins.ensures.at c.believed-time.ensures.none c.believed-time.ensures.some;
       is = refl;
     }) _ c.write_recovered.result c.write_recovered.ensures.written

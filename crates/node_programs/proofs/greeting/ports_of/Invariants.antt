@@ -1,8 +1,8 @@
 use Rattle.std.proofs.Common.{◌≡◌, ◌++◌, length, map}
 use Rattle.std.specs.Prelude.{replicate}
 use Rattle.std.specs.Vec.Iter.{into_iter_items, into_iter_len}
-use Rattle.sockets.specs.Socket.{state_of}
-use Rattle.sockets.specs.declared.port.Held.TheVariants.{Fresh}
+use Rattle.frames.specs.Socket.{state_of}
+use Rattle.frames.specs.declared.port.Held.TheVariants.{Fresh}
 use Rattle.node_programs.proofs.greeting.ports_of.Given as goal
 
 abbrev pub invariant-streams : goal.invariant-streams

@@ -1,7 +1,7 @@
 use Rattle.std.proofs.Common.{◌≡◌, ◌∙◌, IfOk, arith, length, map, subst}
 use Rattle.std.specs.Prelude.{replicate}
-use Rattle.sockets.specs.Socket.{state_of}
-use Rattle.sockets.specs.declared.port.Held.TheVariants.{Fresh}
+use Rattle.frames.specs.Socket.{state_of}
+use Rattle.frames.specs.declared.port.Held.TheVariants.{Fresh}
 use Rattle.node_programs.proofs.nodes.meet.Goals as goal
 
 pub returns : goal.returns

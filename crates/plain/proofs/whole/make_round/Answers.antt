@@ -8,10 +8,10 @@ returns-in-Err-save_if-clause-refused g c =
     let why = c.in-Err-save_if.ensures.refused in
     inr (c.in-Ok.run', c.in-Ok.ensures.committed, sym c.is_kept.ensures ∙ why.0, why.1)
 
-pub returns-in-Err-save_if-clause-crashes_err : goal.returns-in-Err-save_if-clause-crashes_err
-returns-in-Err-save_if-clause-crashes_err g c =
+pub returns-in-Err-save_if-clause-stays : goal.returns-in-Err-save_if-clause-stays
+returns-in-Err-save_if-clause-stays g c =
     stays-after g.M.Model.meaning g.D.SectorDisk.state c.args.run c.in-Ok.run' c.in-Err-save_if.stopped.disk
-    (by-commit g.M.Model.meaning g.D.SectorDisk.state c.args.plan.commit_every c.args.run c.in-Ok.run' c.in-Ok.ensures.committed) c.in-Err-save_if.ensures.crashes_err
+    (by-commit g.M.Model.meaning g.D.SectorDisk.state c.args.plan.commit_every c.args.run c.in-Ok.run' c.in-Ok.ensures.committed) c.in-Err-save_if.ensures.stays
 
 pub returns-clause-made : goal.returns-clause-made
 returns-clause-made g c = (

@@ -4,11 +4,11 @@ use Rattle.std.specs.Prelude.{false, not}
 use Rattle.judging.proofs.Alike.{judged_alike}
 use Rattle.judging.specs.Judged.{judged_state}
 use Rattle.runs.proofs.Ports.{all_fresh, so_many}
-use Rattle.sockets.specs.Socket.{state_of}
-use Rattle.sockets.specs.declared.port.Held.TheVariants.{Fresh}
+use Rattle.frames.specs.Socket.{state_of}
+use Rattle.frames.specs.declared.port.Held.TheVariants.{Fresh}
 use Rattle.disk.specs.FileDisks.{disk_of_file}
 use Rattle.program.specs.Attempts.{IsAttemptBy}
-use Rattle.program.proofs.Calls.{attempt_is, reported_is}
+use Rattle.program.proofs.Calls.{attempt_of, reported_is}
 use Rattle.program.proofs.Printed.{by_judged}
 use Rattle.program.proofs.attempts.attempt_over.Goals as goal
 
@@ -27,7 +27,7 @@ run_over-requires g c =
 pub returns-clause-tried : goal.returns-clause-tried
 returns-clause-tried g c =
     let of = c.args.of.now in
-    let run = c.run_over.ensures in
+    let it = c.run_over.ensures.run in
     let on = g.M.Model.meaning of.model in
     let plan = c.args.plan in
     let outcome = c.run_over.result.outcome in
@@ -37,5 +37,5 @@ returns-clause-tried g c =
     let before = g.O.Write.contents c.args.out.now in
     let after = g.O.Write.contents c.run_over.new.out in
     by_judged (λ (b : Bool). IsAttemptBy (not b) on of.end plan.nodes old new outcome same before after) plan.judged
-    (λ judged. attempt_is on of.end plan.nodes old new before after outcome same (run.printed (inl judged)) (run.output (inl judged)) run.unwritten (run.kept_stop (inl judged)) (λ genuine time events is. (run.stopped (inl judged) genuine time events is).0) (run.kept (inl judged)))
-    (λ trusting. record { tried = reported_is _ _ _ of.model of.end plan _ _ before after outcome same run.over run.over_err run.unwritten run.stopped_over; records = run.old_records })
+    (λ judged. attempt_of _ _ _ of.model of.end plan _ _ it.run outcome same before after it.made.over it.printed (it.made.simulation (inl judged)))
+    (λ trusting. record { tried = reported_is _ _ _ of.model of.end plan _ _ it.run outcome same before after it.made.over it.printed _ it.made.cause; records = c.run_over.ensures.old_records })

@@ -8,7 +8,10 @@ use Rattle.runs.specs.declared.budgets.NodeBudget.{NodeBudget}
 use Rattle.runs.specs.Tallies.{IsTallied, IsTallyOf}
 use Rattle.runs.proofs.Counts.{none_handled, round_more}
 use Rattle.runs.proofs.Drives.{all_made, driven_represents, driven_so, finished, shaped_by, stood-keeps, stood_by, then_after, then_represents}
-use Rattle.runs.proofs.Refused.{passed_on, refused_after}
+use Rattle.runs.proofs.Causes.{passed_as, refused_only}
+use Rattle.runs.proofs.Refused.{refused_after}
+use Rattle.runs.specs.declared.rounds.RunFault.TheVariants.{Rounds, Session as OfSession, Stopped}
+use Rattle.std.proofs.lemmas.Result.{err_from_is_err_and}
 use Rattle.runs.proofs.Shapes.{one_round_more, rounds_before}
 use Rattle.runs.proofs.rounds.run_session.Goals as goal
 
@@ -44,20 +47,21 @@ rounds-preserved g c =
       sized = c.make_round.ensures.sized;
     }
 
-pub returns-clause-finished : goal.returns-clause-finished
-returns-clause-finished g c = λ same. finished g.M.Model.meaning g.P.Port.state g.D.SectorDisk.state c.args.end c.args.session.now c.rounds.session same (driven_so g.M.Model.meaning g.P.Port.state g.D.SectorDisk.state _ c.args.session.now c.rounds.session c.rounds.invariant.driven) (let time = ap (λ (w : World). w.time) c.front.ensures in omega (arith, time, c.rounds-test.false))
-
-pub returns-clause-driven : goal.returns-clause-driven
-returns-clause-driven g c = driven_so g.M.Model.meaning g.P.Port.state g.D.SectorDisk.state _ c.args.session.now c.rounds.session c.rounds.invariant.driven
-
-pub returns-clause-in_rounds : goal.returns-clause-in_rounds
-returns-clause-in_rounds g c = (
-  c.rounds.made,
-  c.rounds.last,
-  c.rounds.invariant.made,
-  shaped_by g.M.Model.meaning g.P.Port.state g.D.SectorDisk.state _ (λ made. AreRoundsOfRun c.args.plan c.args.end c.rounds.last c.rounds.made made × AreCounts c.into_handled_per_node.result.items made) c.args.session.now c.rounds.session
-      (λ ks is. ((is.0, is.1.budgeted), subst (λ (counts : List ℕ). AreCounts counts ks) (sym c.into_handled_per_node.ensures) is.1.handled)) c.rounds.invariant.driven,
-)
+pub returns-clause-ended : goal.returns-clause-ended
+returns-clause-ended g c =
+    let time = ap (λ (w : World). w.time) c.front.ensures in
+    let driven = driven_so g.M.Model.meaning g.P.Port.state g.D.SectorDisk.state _ c.args.session.now c.rounds.session c.rounds.invariant.driven in
+    record {
+      rounds = c.rounds.made;
+      last = c.rounds.last;
+      some = c.rounds.invariant.made;
+      in_rounds = shaped_by g.M.Model.meaning g.P.Port.state g.D.SectorDisk.state _ (λ made. AreRoundsOfRun c.args.plan c.args.end c.rounds.last c.rounds.made made × AreCounts c.into_handled_per_node.result.items made) c.args.session.now c.rounds.session
+          (λ ks is. ((is.0, is.1.budgeted), subst (λ (counts : List ℕ). AreCounts counts ks) (sym c.into_handled_per_node.ensures) is.1.handled)) c.rounds.invariant.driven;
+      each = ap length c.into_handled_per_node.ensures ∙ c.rounds.invariant.sized.handled;
+      reached = omega (arith, time, c.rounds-test.false);
+      driven = driven;
+      finished = λ same. finished g.M.Model.meaning g.P.Port.state g.D.SectorDisk.state c.args.end c.args.session.now c.rounds.session same driven (omega (arith, time, c.rounds-test.false));
+    }
 
 pub returns-then-made-plan-clause-keeps : goal.returns-then-made-plan-clause-keeps
 returns-then-made-plan-clause-keeps g c = driven_represents g.M.Model.meaning g.P.Port.state g.D.SectorDisk.state c.args.session.now c.rounds.session (driven_so g.M.Model.meaning g.P.Port.state g.D.SectorDisk.state _ c.args.session.now c.rounds.session c.rounds.invariant.driven)
@@ -65,27 +69,28 @@ returns-then-made-plan-clause-keeps g c = driven_represents g.M.Model.meaning g.
 pub returns-clause-keeps : goal.returns-clause-keeps
 returns-clause-keeps g c = driven_represents g.M.Model.meaning g.P.Port.state g.D.SectorDisk.state c.args.session.now c.rounds.session (driven_so g.M.Model.meaning g.P.Port.state g.D.SectorDisk.state _ c.args.session.now c.rounds.session c.rounds.invariant.driven)
 
-pub returns-then-made-plan-clause-all_rounds : goal.returns-then-made-plan-clause-all_rounds
-returns-then-made-plan-clause-all_rounds g c = λ is.
+pub returns-then-made-plan-clause-cause : goal.returns-then-made-plan-clause-cause
+returns-then-made-plan-clause-cause g c =
+    let before : c.rounds.session.front.time ≡ c.front.result.time = ap (λ (w : World). w.time) c.front.ensures in
     let all : c.rounds.made ≡ c.args.plan.rounds = omega (arith, c.if-made-plan.true, c.rounds.invariant.made.0, c.rounds.invariant.made.1) in
     let last : c.rounds.last ≡ c.args.plan.rounds = omega (arith, c.if-made-plan.true, c.rounds.invariant.made.0, c.rounds.invariant.made.1) in
-    all_made g.M.Model.meaning g.P.Port.state g.D.SectorDisk.state c.args.plan c.args.end c.rounds.last c.rounds.made c.args.plan.rounds c.args.session.now c.rounds.session last all
-    (shaped_by g.M.Model.meaning g.P.Port.state g.D.SectorDisk.state _ (AreRoundsOfRun c.args.plan c.args.end c.rounds.last c.rounds.made) c.args.session.now c.rounds.session (λ ks h. (h.0, h.1.budgeted)) c.rounds.invariant.driven)
+    (
+      omega (arith, before, c.rounds-test.true),
+      all_made g.M.Model.meaning g.P.Port.state g.D.SectorDisk.state c.args.plan c.args.end c.rounds.last c.rounds.made c.args.plan.rounds c.args.session.now c.rounds.session last all
+          (shaped_by g.M.Model.meaning g.P.Port.state g.D.SectorDisk.state _ (AreRoundsOfRun c.args.plan c.args.end c.rounds.last c.rounds.made) c.args.session.now c.rounds.session (λ ks h. (h.0, h.1.budgeted)) c.rounds.invariant.driven),
+    )
 
 pub returns-then-made-last-clause-keeps : goal.returns-then-made-last-clause-keeps
 returns-then-made-last-clause-keeps g c = driven_represents g.M.Model.meaning g.P.Port.state g.D.SectorDisk.state c.args.session.now c.rounds.session (driven_so g.M.Model.meaning g.P.Port.state g.D.SectorDisk.state _ c.args.session.now c.rounds.session c.rounds.invariant.driven)
 
-pub returns-then-made-last-clause-stopped : goal.returns-then-made-last-clause-stopped
-returns-then-made-last-clause-stopped g c = λ time events is.
-    let front = c.front-front.ensures in
-    let time_is : time ≡ c.front-front.result.time = cc in
-    let events_are : events ≡ length c.front-front.result.log.now = cc in
-    let late : c.rounds.session.front.time ≡ c.front-front.result.time = ap (λ (w : World). w.time) front in
+pub returns-then-made-last-clause-cause : goal.returns-then-made-last-clause-cause
+returns-then-made-last-clause-cause g c =
+    let late : c.rounds.session.front.time ≡ c.front-front.result.time = ap (λ (w : World). w.time) c.front-front.ensures in
     let before : c.rounds.session.front.time ≡ c.front.result.time = ap (λ (w : World). w.time) c.front.ensures in
     let all : c.rounds.made ≡ c.rounds.last = omega (arith, c.if-made-last.true, c.rounds.invariant.made.0) in (
       omega (arith, before, c.rounds-test.true),
-      time_is ∙ sym late,
-      events_are ∙ sym (ap (λ (w : World). length w.log) front),
+      sym late,
+      sym (ap (λ (w : World). length w.log) c.front-front.ensures),
       (
         c.rounds.last,
         omega (arith, c.if-made-plan.false, c.if-made-last.true),
@@ -94,8 +99,10 @@ returns-then-made-last-clause-stopped g c = λ time events is.
       ),
     )
 
-pub returns-in_err-make_round-clause-refused : goal.returns-in_err-make_round-clause-refused
-returns-in_err-make_round-clause-refused g c = λ fault e.
+pub returns-in_err-make_round-clause-cause : goal.returns-in_err-make_round-clause-cause
+returns-in_err-make_round-clause-cause g c =
+    refused_only g.M.Model.meaning g.P.Port.state g.D.SectorDisk.state c.args.end c.args.plan c.args.session.now c.make_round.new.session c.from_residual-in_err-make_round.result
+    (λ fault e.
     let before = c.rounds.invariant.driven in
     let last = c.last_round-last.result in
     let now = rounds_before c.args.plan c.args.end c.rounds.last last c.rounds.made before.steps (omega (arith, c.if-made-last.false)) c.last_round-last.ensures.later before.shape.0 in (
@@ -105,11 +112,13 @@ returns-in_err-make_round-clause-refused g c = λ fault e.
       refused_after g.M.Model.meaning g.P.Port.state g.D.SectorDisk.state _ (IsRound (round_after c.args.plan c.args.end last c.rounds.made) (reported_since 0 before.steps) c.rounds.tally.commits c.rounds.tally.outstanding.items) (AreRounds c.args.plan c.args.end last (c.rounds.made + 1)) c.args.session.now c.rounds.session c.make_round.new.session fault before
           (λ ls round. one_round_more c.args.plan c.args.end last c.rounds.made before.steps ls now (subst (λ (o : List (Option ℕ)). IsRound (round_after c.args.plan c.args.end last c.rounds.made) (reported_since 0 before.steps) (commits_in before.steps) o ls) before.shape.1.outstanding
           (subst (λ (n : ℕ). IsRound (round_after c.args.plan c.args.end last c.rounds.made) (reported_since 0 before.steps) n c.rounds.tally.outstanding.items ls) before.shape.1.commits round)))
-          (c.in_err-make_round.ensures.refused (reported_since 0 before.steps) before.shape.1.events_until_commit fault (passed_on c.from_residual-in_err-make_round.result c.in_err-make_round.field-0.0 fault c.from_residual-in_err-make_round.ensures.1 e)),
-    )
+          (c.in_err-make_round.ensures.refused (reported_since 0 before.steps) before.shape.1.events_until_commit fault (passed_as c.from_residual-in_err-make_round.result c.in_err-make_round.field-0.0 (OfSession fault) c.from_residual-in_err-make_round.ensures.1 e)),
+    ))
+    (λ e. c.in_err-make_round.ensures.rounds (passed_as c.from_residual-in_err-make_round.result c.in_err-make_round.field-0.0 Rounds c.from_residual-in_err-make_round.ensures.1 e))
+    (λ time events e. c.in_err-make_round.ensures.stopped time events (passed_as c.from_residual-in_err-make_round.result c.in_err-make_round.field-0.0 (Stopped time events) c.from_residual-in_err-make_round.ensures.1 e))
 
-pub returns-clause-count : goal.returns-clause-count
-returns-clause-count g c = ap length c.into_handled_per_node.ensures ∙ c.rounds.invariant.sized.handled
+pub returns-in_err-tally-clause-cause : goal.returns-in_err-tally-clause-cause
+returns-in_err-tally-clause-cause g c = let p = err_from_is_err_and c.from_residual.result c.from_residual.ensures.1 in rw (p.1, p.2) tt
 
 pub returns-in_err-tally-clause-keeps : goal.returns-in_err-tally-clause-keeps
 returns-in_err-tally-clause-keeps g c = stood-keeps g.M.Model.meaning g.P.Port.state g.D.SectorDisk.state (trusts_by c.args.plan) c.args.session.now

@@ -3,7 +3,7 @@ use Rattle.runs.proofs.simulating.prepare.Goals as goal
 
 pub returns-in-Ok-clause-made : goal.returns-in-Ok-clause-made
 returns-in-Ok-clause-made g c = λ blank possible. empty_represents (g.M.Model.meaning c.args.model.now) c.args.end c.header-sector.result c.header-sector.ensures possible
-    (g.D.SectorDisk.state c.format.new.disk) c.in-Ok.ensures.empty
+    (g.D.SectorDisk.state c.format.new.disk) c.in-Ok.ensures.empty.durable
 
 pub returns-in-Ok-clause-crashes : goal.returns-in-Ok-clause-crashes
 returns-in-Ok-clause-crashes g c = λ m end a recovers.

@@ -1,11 +1,19 @@
-use Rattle.std.proofs.Common.{◌≡◌, ◌≤◌, ◌∙◌, Err, List, Some, ℕ, ap, arith, subst, sym}
+use Rattle.std.proofs.Common.{◌≡◌, ◌≤◌, ◌∙◌, Err, List, Result, Some, ℕ, ap, arith, refl, subst, sym}
+use Rattle.std.specs.Prelude.{IfErr}
+use Rattle.coordinator.specs.PortFaults.{IsFaultInProgram}
 use Rattle.coordinator.specs.declared.SessionFault.TheVariants.{Port}
 use Rattle.runs.specs.declared.fault.SimulationFault.TheVariants.{Session}
-use Rattle.runs.proofs.Faults.{not_of_preparing, not_of_reading}
+use Rattle.runs.proofs.Faults.{not_of_preparing, not_of_reading, ran_refused, ran_with}
+use Rattle.runs.proofs.Kept.{ran_to}
+use Rattle.runs.specs.Driver.{IsRunOver}
+use Rattle.runs.specs.Runs.{IsFaultOverFaithful}
+use Rattle.wire.specs.Local.{state_by}
+use Rattle.runs.specs.declared.over.Finished.{Finished}
+use Rattle.runs.specs.declared.rounds.RunFault.{RunFault}
 use Rattle.recovery.specs.Front.{world_of}
 use Rattle.recovery.proofs.Crashes.{recovers-genuine, looked-keeps}
 use Rattle.recovery.specs.Crashes.{KeepsUnderItsEnd, RecoversUnderItsEnd}
-use Rattle.recovery.specs.Histories.{IsKeptRun, IsRunOf}
+use Rattle.recovery.specs.Histories.{IsKeptRun}
 use Rattle.recovery.specs.Replay.{in_force}
 use Rattle.recovery.specs.Represents.{IsGenuine, Recovers, Represents}
 use Rattle.disk.specs.Laws.{reads_left}
@@ -24,7 +32,7 @@ returns-in-Err-clause-any_moment g c = λ in_sync blank.
 pub returns-in-Err-outcome-clause-crashes : goal.returns-in-Err-outcome-clause-crashes
 returns-in-Err-outcome-clause-crashes g c = λ a recovers.
     one_by_one (g.M.Model.meaning c.args.model.now) c.args.end a (g.D.SectorDisk.state c.args.disk) (g.D.SectorDisk.state c.prepare.new.disk) (g.D.SectorDisk.state c.run-disk.result.disk)
-    (c.prepare.ensures.crashes (g.M.Model.meaning c.args.model.now) c.args.end a recovers) (c.run-disk.ensures.crashes a)
+    (c.prepare.ensures.crashes (g.M.Model.meaning c.args.model.now) c.args.end a recovers) (c.run-disk.ensures.run.1.simulation.crashes a)
 
 pub returns-in-Err-outcome-clause-any_moment : goal.returns-in-Err-outcome-clause-any_moment
 returns-in-Err-outcome-clause-any_moment g c = λ in_sync blank.
@@ -32,7 +40,7 @@ returns-in-Err-outcome-clause-any_moment g c = λ in_sync blank.
     let made = g.D.SectorDisk.state c.prepare.new.disk in
     then_so m c.args.end (g.D.SectorDisk.state c.args.disk) made (g.D.SectorDisk.state c.run-disk.result.disk)
     (made_so m c.args.end (g.D.SectorDisk.state c.args.disk) made (c.prepare.ensures.any_moment in_sync blank (record { some = c.requires.begun; within = c.requires.short })))
-    (c.run-disk.ensures.crashes 0 (exactly_recovers m c.args.end made (c.in_default.ensures.made blank (record { some = c.requires.begun; within = c.requires.short }))))
+    (c.run-disk.ensures.run.1.simulation.crashes 0 (exactly_recovers m c.args.end made (c.in_default.ensures.made blank (record { some = c.requires.begun; within = c.requires.short }))))
 
 pub returns-in-Ok-outcome-clause-finished : goal.returns-in-Ok-outcome-clause-finished
 returns-in-Ok-outcome-clause-finished g c = λ genuine.
@@ -40,12 +48,16 @@ returns-in-Ok-outcome-clause-finished g c = λ genuine.
     let made = g.D.SectorDisk.state c.prepare.new.disk in
     let ran = g.D.SectorDisk.state c.run-disk.result.disk in
     let begun = prepared_genuine m c.args.end (g.D.SectorDisk.state c.args.disk) made (g.met.M.Model.lawful c.args.model.now) c.requires.short (g.met.D.SectorDisk.sound c.prepare.new.disk) (λ blank. c.in_default.ensures.made blank (record { some = c.requires.begun; within = c.requires.short })) c.prepare.ensures.looks genuine in
-    let ended = rw c.in-Ok.is at (c.run-disk.ensures.committed begun) in
+    let over = ran_to m c.args.end made ran c.run-disk.ensures.run.0 c.in-Ok.field-0 (sym c.run-disk.ensures.run.2 ∙ c.in-Ok.is) c.run-disk.ensures.run.1.simulation in
+    let ended = (over.genuine begun).1 in
     let left = recovers-genuine m c.args.end ran (g.met.D.SectorDisk.sound c.run-disk.result.disk) c.args.end ended in
     let outcome = c.in-Ok-outcome.front in
     let upto = rw c.in-Ok-outcome.is at (c.committed-disk.ensures.upto left) in
     let late : c.args.end ≤ outcome.g = rw c.in-Ok-outcome.is at (c.committed-disk.ensures.late c.args.end ended) in
     at_end m c.args.end outcome.g (world_of outcome) upto.0 upto.1 late
+
+pub returns-in-Ok-outcome-clause-count : goal.returns-in-Ok-outcome-clause-count
+returns-in-Ok-outcome-clause-count g c = (ran_with (IsRunOver g.M.Model.meaning (state_by g.M.Model.meaning) g.D.SectorDisk.state c.args.model.now c.args.end c.args.plan c.prepare.new.disk c.run-disk.result.disk) c.run-disk.ensures.run.0 c.in-Ok.field-0 (sym c.run-disk.ensures.run.2 ∙ c.in-Ok.is) c.run-disk.ensures.run.1.over).each
 
 pub returns-in-Ok-outcome-clause-represents : goal.returns-in-Ok-outcome-clause-represents
 returns-in-Ok-outcome-clause-represents g c = λ genuine.
@@ -53,7 +65,8 @@ returns-in-Ok-outcome-clause-represents g c = λ genuine.
     let made = g.D.SectorDisk.state c.prepare.new.disk in
     let ran = g.D.SectorDisk.state c.run-disk.result.disk in
     let begun = prepared_genuine m c.args.end (g.D.SectorDisk.state c.args.disk) made (g.met.M.Model.lawful c.args.model.now) c.requires.short (g.met.D.SectorDisk.sound c.prepare.new.disk) (λ blank. c.in_default.ensures.made blank (record { some = c.requires.begun; within = c.requires.short })) c.prepare.ensures.looks genuine in
-    let ended = rw c.in-Ok.is at (c.run-disk.ensures.committed begun) in
+    let over = ran_to m c.args.end made ran c.run-disk.ensures.run.0 c.in-Ok.field-0 (sym c.run-disk.ensures.run.2 ∙ c.in-Ok.is) c.run-disk.ensures.run.1.simulation in
+    let ended = (over.genuine begun).1 in
     let left = recovers-genuine m c.args.end ran (g.met.D.SectorDisk.sound c.run-disk.result.disk) c.args.end ended in
     let outcome = c.in-Ok-outcome.front in
     let represents : Represents m c.args.end ran.reads (world_of outcome) = rw c.in-Ok-outcome.is at (c.committed-disk.ensures.represents left) in
@@ -65,7 +78,8 @@ returns-in-Ok-outcome-clause-committed g c = λ genuine.
     let made = g.D.SectorDisk.state c.prepare.new.disk in
     let ran = g.D.SectorDisk.state c.run-disk.result.disk in
     let begun = prepared_genuine m c.args.end (g.D.SectorDisk.state c.args.disk) made (g.met.M.Model.lawful c.args.model.now) c.requires.short (g.met.D.SectorDisk.sound c.prepare.new.disk) (λ blank. c.in_default.ensures.made blank (record { some = c.requires.begun; within = c.requires.short })) c.prepare.ensures.looks genuine in
-    let ended = rw c.in-Ok.is at (c.run-disk.ensures.committed begun) in
+    let over = ran_to m c.args.end made ran c.run-disk.ensures.run.0 c.in-Ok.field-0 (sym c.run-disk.ensures.run.2 ∙ c.in-Ok.is) c.run-disk.ensures.run.1.simulation in
+    let ended = (over.genuine begun).1 in
     let left = recovers-genuine m c.args.end ran (g.met.D.SectorDisk.sound c.run-disk.result.disk) c.args.end ended in
     (looked-keeps m c.args.end c.args.end ran (g.D.SectorDisk.state c.committed-disk.result.disk) c.committed-disk.ensures.looks ended).now_on
 
@@ -77,7 +91,7 @@ returns-in-Ok-outcome-clause-crashes g c = λ a recovers.
     let ran = g.D.SectorDisk.state c.run-disk.result.disk in
     let new = g.D.SectorDisk.state c.committed-disk.result.disk in
     one_by_one m c.args.end a old ran new
-    (one_by_one m c.args.end a old made ran (c.prepare.ensures.crashes m c.args.end a recovers) (c.run-disk.ensures.crashes a))
+    (one_by_one m c.args.end a old made ran (c.prepare.ensures.crashes m c.args.end a recovers) (c.run-disk.ensures.run.1.simulation.crashes a))
     (looked-keeps m c.args.end a ran new c.committed-disk.ensures.looks)
 
 pub returns-in-Ok-outcome-clause-any_moment : goal.returns-in-Ok-outcome-clause-any_moment
@@ -87,7 +101,7 @@ returns-in-Ok-outcome-clause-any_moment g c = λ in_sync blank.
     let made = g.D.SectorDisk.state c.prepare.new.disk in
     let ran = g.D.SectorDisk.state c.run-disk.result.disk in
     let new = g.D.SectorDisk.state c.committed-disk.result.disk in
-    let runs = c.run-disk.ensures.crashes 0 (exactly_recovers m c.args.end made (c.in_default.ensures.made blank (record { some = c.requires.begun; within = c.requires.short }))) in
+    let runs = c.run-disk.ensures.run.1.simulation.crashes 0 (exactly_recovers m c.args.end made (c.in_default.ensures.made blank (record { some = c.requires.begun; within = c.requires.short }))) in
     then_so m c.args.end old ran new
     (then_so m c.args.end old made ran (made_so m c.args.end old made (c.prepare.ensures.any_moment in_sync blank (record { some = c.requires.begun; within = c.requires.short }))) runs)
     (looked-keeps m c.args.end 0 ran new c.committed-disk.ensures.looks runs.now_on)
@@ -100,7 +114,7 @@ returns-in-Err-outcome-2-clause-crashes g c = λ a recovers.
     let ran = g.D.SectorDisk.state c.run-disk.result.disk in
     let new = g.D.SectorDisk.state c.committed-disk.result.disk in
     one_by_one m c.args.end a old ran new
-    (one_by_one m c.args.end a old made ran (c.prepare.ensures.crashes m c.args.end a recovers) (c.run-disk.ensures.crashes a))
+    (one_by_one m c.args.end a old made ran (c.prepare.ensures.crashes m c.args.end a recovers) (c.run-disk.ensures.run.1.simulation.crashes a))
     (looked-keeps m c.args.end a ran new c.committed-disk.ensures.looks)
 
 pub returns-in-Err-outcome-2-clause-any_moment : goal.returns-in-Err-outcome-2-clause-any_moment
@@ -110,7 +124,7 @@ returns-in-Err-outcome-2-clause-any_moment g c = λ in_sync blank.
     let made = g.D.SectorDisk.state c.prepare.new.disk in
     let ran = g.D.SectorDisk.state c.run-disk.result.disk in
     let new = g.D.SectorDisk.state c.committed-disk.result.disk in
-    let runs = c.run-disk.ensures.crashes 0 (exactly_recovers m c.args.end made (c.in_default.ensures.made blank (record { some = c.requires.begun; within = c.requires.short }))) in
+    let runs = c.run-disk.ensures.run.1.simulation.crashes 0 (exactly_recovers m c.args.end made (c.in_default.ensures.made blank (record { some = c.requires.begun; within = c.requires.short }))) in
     then_so m c.args.end old ran new
     (then_so m c.args.end old made ran (made_so m c.args.end old made (c.prepare.ensures.any_moment in_sync blank (record { some = c.requires.begun; within = c.requires.short }))) runs)
     (looked-keeps m c.args.end 0 ran new c.committed-disk.ensures.looks runs.now_on)
@@ -124,7 +138,9 @@ returns-in-Err-outcome-clause-faults g c = λ genuine fault is.
     let made = g.D.SectorDisk.state c.prepare.new.disk in
     let begun = prepared_genuine m c.args.end (g.D.SectorDisk.state c.args.disk) made (g.met.M.Model.lawful c.args.model.now) c.requires.short (g.met.D.SectorDisk.sound c.prepare.new.disk) (λ blank. c.in_default.ensures.made blank (record { some = c.requires.begun; within = c.requires.short })) c.prepare.ensures.looks genuine in
     let cause : c.in-Err-outcome.fault ≡ Session (Port fault) = cc in
-    c.run-disk.ensures.faults begun fault (c.in-Err-outcome.is ∙ ap Err cause)
+    let run = c.run-disk.ensures.run in
+    let is_made = ran_refused run.0 (Port fault) (sym run.2 ∙ c.in-Err-outcome.is ∙ ap Err cause) in
+    (subst (λ (r : Result Finished RunFault). IfErr r (IsFaultOverFaithful IsFaultInProgram m c.args.end c.args.plan made.reads)) is_made (run.1.faults begun)).port fault refl
 
 pub returns-in-Err-outcome-2-clause-faults : goal.returns-in-Err-outcome-2-clause-faults
 returns-in-Err-outcome-2-clause-faults g c = λ genuine fault is. absurd (not_of_reading _ _ _ _ c.in-Err-outcome-2.fault (Port fault) (cc) (rw c.in-Err-outcome-2.is at c.committed-disk.ensures.refused))
@@ -145,7 +161,7 @@ returns-in-Err-outcome-clause-kept g c = λ v.
     kept-call m v old ran
     (λ recovers.
     let first = prepared-under m v.time old made (g.met.D.SectorDisk.sound c.args.disk) c.prepare.ensures.looks recovers in
-    then-under m v.time v.time old made ran first (run-keeps m c.args.end v made ran _ (c.run-disk.ensures.kept v) first.now_on))
+    then-under m v.time v.time old made ran first (run-keeps m c.args.end v made ran _ (c.run-disk.ensures.run.1.simulation.kept v) first.now_on))
 
 pub returns-in-Err-outcome-2-clause-kept : goal.returns-in-Err-outcome-2-clause-kept
 returns-in-Err-outcome-2-clause-kept g c = λ v.
@@ -157,7 +173,7 @@ returns-in-Err-outcome-2-clause-kept g c = λ v.
     kept-call m v old new
     (λ recovers.
     let first = prepared-under m v.time old made (g.met.D.SectorDisk.sound c.args.disk) c.prepare.ensures.looks recovers in
-    looked-after m v.time v.time old ran new (then-under m v.time v.time old made ran first (run-keeps m c.args.end v made ran _ (c.run-disk.ensures.kept v) first.now_on)) c.committed-disk.ensures.looks)
+    looked-after m v.time v.time old ran new (then-under m v.time v.time old made ran first (run-keeps m c.args.end v made ran _ (c.run-disk.ensures.run.1.simulation.kept v) first.now_on)) c.committed-disk.ensures.looks)
 
 pub returns-in-Ok-outcome-clause-kept : goal.returns-in-Ok-outcome-clause-kept
 returns-in-Ok-outcome-clause-kept g c = λ v.
@@ -169,12 +185,13 @@ returns-in-Ok-outcome-clause-kept g c = λ v.
     let new = g.D.SectorDisk.state c.committed-disk.result.disk in
     let outcome = c.in-Ok-outcome.front in
     let done = c.in-Ok.field-0 in
-    let kept : IsKeptRun m end v made ran (Some (done.time, done.events)) = rw c.in-Ok.is at (c.run-disk.ensures.kept v) in
+    let over = ran_to m end made ran c.run-disk.ensures.run.0 done (sym c.run-disk.ensures.run.2 ∙ c.in-Ok.is) c.run-disk.ensures.run.1.simulation in
+    let kept : IsKeptRun m end v made ran (Some (done.time, done.events)) = over.kept v in
     let sound = g.met.D.SectorDisk.sound c.prepare.new.disk in
     let prepared = prepared-under m v.time old made (g.met.D.SectorDisk.sound c.args.disk) c.prepare.ensures.looks in
     let begun : RecoversUnderItsEnd m v.time old → IsGenuine m end made.reads = λ recovers. genuine-under-its-end m end v.time made.reads ((prepared recovers).now_on made.reads (reads_left made.reads made.dirty sound)) in
-    let ended : RecoversUnderItsEnd m v.time old → Recovers m end end ran = λ recovers. (rw c.in-Ok.is at (c.run-disk.ensures.committed (begun recovers))) in
-    let reached : RecoversUnderItsEnd m v.time old → done.time ≡ end = λ recovers. (let run : IsRunOf m end done.time done.events = rw c.in-Ok.is at (c.run-disk.ensures.finished (begun recovers)) in run.time_is) in
+    let ended : RecoversUnderItsEnd m v.time old → Recovers m end end ran = λ recovers. (over.genuine (begun recovers)).1 in
+    let reached : RecoversUnderItsEnd m v.time old → done.time ≡ end = λ recovers. (over.genuine (begun recovers)).0.time_is in
     let upto : RecoversUnderItsEnd m v.time old → IsUpto m end outcome.g (world_of outcome) × (outcome.g ≤ end) =
     λ recovers. (rw c.in-Ok-outcome.is at (c.committed-disk.ensures.upto (recovers-genuine m end ran (g.met.D.SectorDisk.sound c.run-disk.result.disk) end (ended recovers)))) in
     let late : RecoversUnderItsEnd m v.time old → end ≤ outcome.g = λ recovers. (rw c.in-Ok-outcome.is at (c.committed-disk.ensures.late end (ended recovers))) in

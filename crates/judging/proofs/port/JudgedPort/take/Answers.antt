@@ -1,6 +1,12 @@
+use Rattle.std.proofs.Common.{rules}
 use Rattle.judging.proofs.Accepted.{all_judged}
 use Rattle.judging.proofs.port.JudgedPort.take.Goals as goal
 
-pub returns-in-Ok-clause-all : goal.returns-in-Ok-clause-all
-returns-in-Ok-clause-all g c =
-    rw (← c.self.view_is) (λ one. all_judged _ _ _ _ _ _ _ one c.as_slice-reports.ensures c.in-Ok.ensures.accepted)
+pub returns-in-Ok-clause-passed : goal.returns-in-Ok-clause-passed
+returns-in-Ok-clause-passed g c = record {
+  taken = search rules;
+  judged = search rules;
+  all = rw (← c.self.view_is) (λ one. all_judged _ _ _ _ _ _ _ one c.as_slice-reports.ensures c.in-Ok.ensures.accepted);
+  unchanged = search rules;
+  same_event = search rules;
+}

@@ -21,10 +21,10 @@ returns-in_err-deliver-clause-memory g c =
     let p = err_from_is_err_and c.from_residual.result c.from_residual.ensures.1 in
     rw (p.1, p.2)
     (memory_left c.in_err-deliver.field-0.0
-    (λ e. (c.in_err-deliver.ensures.not_mine.0 (ap Err e)).1 (sym at.lp_is))
-    (λ e. (let early = (c.in_err-deliver.ensures.below_floor.0 (ap Err e)).2 in let floor = at.seated.from_floor in let late = c.requires.late in omega arith))
-    (λ e. c.in_err-deliver.ensures.unlimited (ap Err e))
-    (λ e. both_ways c.index_mut-process.result.now.spent at.seated.unspent (c.in_err-deliver.ensures.spent.0 (ap Err e))))
+    (λ e. (c.in_err-deliver.ensures.causes.not_mine.0 (ap Err e)).1 (sym at.lp_is))
+    (λ e. (let early = (c.in_err-deliver.ensures.causes.below_floor.0 (ap Err e)).2 in let floor = at.seated.from_floor in let late = c.requires.late in omega arith))
+    (λ e. c.in_err-deliver.ensures.causes.unlimited (ap Err e))
+    (λ e. both_ways c.index_mut-process.result.now.spent at.seated.unspent (c.in_err-deliver.ensures.causes.spent.0 (ap Err e))))
 
 pub set-requires-clause-inside : goal.set-requires-clause-inside
 set-requires-clause-inside g c =
@@ -37,13 +37,13 @@ returns-clause-ready g c =
     let own = own_parts (node_of_roster false c.args.self.now) c.args.delivery.now.message.to c.requires.own in
     rw c.set.ensures
     (deliver_ready (place_of c.args.self.now) c.args.self.now.processes.items c.args.self.now.summaries c.args.delivery.now c.to.result c.index_mut-process.result.now c.deliver.new.self c.of-summary.result
-    (record { lp_is = c.to.ensures; staffed = c.requires.ready; node = own.0; there = own.1; read = c.index_mut-process.ensures.value }) c.in_ok-deliver.ensures.delivered c.of-summary.ensures.summary)
+    (record { lp_is = c.to.ensures; staffed = c.requires.ready; node = own.0; there = own.1; read = c.index_mut-process.ensures.value }) c.in_ok-deliver.ensures.delivered.process c.of-summary.ensures.summary)
 
 pub returns-clause-work : goal.returns-clause-work
 returns-clause-work g c ran =
     let own = own_parts (node_of_roster false c.args.self.now) c.args.delivery.now.message.to c.requires.own in
     deliver_work (place_of c.args.self.now) c.args.self.now.processes.items c.args.self.now.summaries c.args.delivery.now c.to.result c.index_mut-process.result.now c.deliver.new.self c.args.out.now.items c.deliver.new.out.items ran
-    (record { lp_is = c.to.ensures; staffed = c.requires.ready; node = own.0; there = own.1; read = c.index_mut-process.ensures.value }) c.in_ok-deliver.ensures.delivered c.in_ok-deliver.ensures.out
+    (record { lp_is = c.to.ensures; staffed = c.requires.ready; node = own.0; there = own.1; read = c.index_mut-process.ensures.value }) c.in_ok-deliver.ensures.delivered.process c.in_ok-deliver.ensures.delivered.out
 
 pub deliver-requires-clause-lp : goal.deliver-requires-clause-lp
 deliver-requires-clause-lp g c =
@@ -64,4 +64,4 @@ returns-clause-modelled g c =
     let at = at_of (place_of c.args.self.now) c.args.self.now.processes.items c.args.self.now.summaries c.args.delivery.now c.to.result c.index_mut-process.result.now (record { lp_is = c.to.ensures; staffed = c.requires.ready; node = own.0; there = own.1; read = c.index_mut-process.ensures.value }) in
     let inside = place_inside (place_of c.args.self.now) c.args.self.now.processes.items c.args.self.now.summaries c.args.delivery.now.message.to c.requires.ready own.0 own.1 in
     let was = modelled_at m c.args.self.now.processes.items c.requires.modelled (c.to.result / c.args.self.now.nodes) c.index_mut-process.result.now (rw c.to.ensures inside) c.index_mut-process.ensures.value in
-    modelled_again m c.args.self.now.processes.items c.requires.modelled (c.to.result / c.args.self.now.nodes) c.index_mut-process.result.now c.deliver.new.self was c.in_ok-deliver.ensures.lp (c.in_ok-deliver.ensures.history (ap (λ (v : ProcessView). v.spent) c.in_ok-deliver.ensures.delivered ∙ at.seated.unspent))
+    modelled_again m c.args.self.now.processes.items c.requires.modelled (c.to.result / c.args.self.now.nodes) c.index_mut-process.result.now c.deliver.new.self was c.in_ok-deliver.ensures.kept (ap (λ (v : ProcessView). v.spent) c.in_ok-deliver.ensures.delivered.process ∙ at.seated.unspent)

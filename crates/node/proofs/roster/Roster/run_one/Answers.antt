@@ -41,10 +41,10 @@ returns-in_err-run_one-clause-causes g c ran =
     let p = err_from_is_err_and c.from_residual.result c.from_residual.ensures.1 in
     rw (p.1, p.2)
     (run_fault _ c.in_err-run_one.field-0.0
-    (λ e. c.in_err-run_one.ensures.mine (ap Err e))
-    (λ e. c.in_err-run_one.ensures.from_floor (ap Err e))
-    (λ e. here ∙ lacks_room (g.M.Model.meaning c.args.model.now) c.args.self.now.end c.args.message.now c.index_mut-process.result.now.process t.next (c.in_err-run_one.ensures.limit.0 (ap Err e)).1)
-    (λ e. both_ways c.index_mut-process.result.now.spent t.at.seated.unspent (c.in_err-run_one.ensures.spent.0 (ap Err e))))
+    (λ e. c.in_err-run_one.ensures.causes.mine (ap Err e))
+    (λ e. c.in_err-run_one.ensures.causes.from_floor (ap Err e))
+    (λ e. here ∙ lacks_room (g.M.Model.meaning c.args.model.now) c.args.self.now.end c.args.message.now c.index_mut-process.result.now.process t.next (c.in_err-run_one.ensures.causes.limit.0 (ap Err e)).1)
+    (λ e. both_ways c.index_mut-process.result.now.spent t.at.seated.unspent (c.in_err-run_one.ensures.causes.spent.0 (ap Err e))))
 
 pub set-requires-clause-inside : goal.set-requires-clause-inside
 set-requires-clause-inside g c =
@@ -81,7 +81,7 @@ returns-clause-room g c ran =
     record { lp_is = c.to.ensures; staffed = c.requires.ready; least = c.requires.least; read = c.index_mut-process.ensures.value } in
     let t = on_turn (place_of c.args.self.now) c.args.self.now.processes.items c.args.self.now.summaries c.args.message.now c.to.result c.index_mut-process.result.now turn in
     room_here (g.M.Model.meaning c.args.model.now) (place_of c.args.self.now) c.args.self.now.processes.items c.args.self.now.summaries c.args.message.now c.to.result c.index_mut-process.result.now c.args.out.now.items ran turn
-    ∙ has_room_then (g.M.Model.meaning c.args.model.now) c.args.self.now.end c.args.message.now c.index_mut-process.result.now.process t.next (λ lacks. (let refused : Ok c.in_ok-run_one.field-0 ≡ Err NumberLimit = c.in_ok-run_one.ensures.limit.1 (t.at.seated.unspent, lacks) in cc))
+    ∙ has_room_then (g.M.Model.meaning c.args.model.now) c.args.self.now.end c.args.message.now c.index_mut-process.result.now.process t.next (λ lacks. (let refused : Ok c.in_ok-run_one.field-0 ≡ Err NumberLimit = c.in_ok-run_one.ensures.causes.limit.1 (t.at.seated.unspent, lacks) in cc))
 
 lacks : (m : Meaning) (p : Place) (seats : List ProcessView) (summaries : List Summary) (x : Message) (lp : ℕ) (q : ProcessView) (out : List Signed) (ran : ℕ) → IsTurn p seats summaries x lp q →
     has_room m x (here p.nodes (working (processes_of seats) out ran) x.to) ≡ false → LacksRoom m p.end q.process
@@ -96,7 +96,7 @@ returns-in_err-run_one-clause-limit g c ran none =
     let turn : IsTurn (place_of c.args.self.now) c.args.self.now.processes.items c.args.self.now.summaries c.args.message.now c.to.result c.index_mut-process.result.now =
     record { lp_is = c.to.ensures; staffed = c.requires.ready; least = c.requires.least; read = c.index_mut-process.ensures.value } in
     let t = on_turn (place_of c.args.self.now) c.args.self.now.processes.items c.args.self.now.summaries c.args.message.now c.to.result c.index_mut-process.result.now turn in
-    let limit = c.in_err-run_one.ensures.limit.1 (
+    let limit = c.in_err-run_one.ensures.causes.limit.1 (
       t.at.seated.unspent,
       lacks (g.M.Model.meaning c.args.model.now) (place_of c.args.self.now) c.args.self.now.processes.items c.args.self.now.summaries c.args.message.now c.to.result c.index_mut-process.result.now c.args.out.now.items ran turn none,
     ) in
@@ -108,7 +108,7 @@ returns-clause-limit g c ran none =
     let turn : IsTurn (place_of c.args.self.now) c.args.self.now.processes.items c.args.self.now.summaries c.args.message.now c.to.result c.index_mut-process.result.now =
     record { lp_is = c.to.ensures; staffed = c.requires.ready; least = c.requires.least; read = c.index_mut-process.ensures.value } in
     let t = on_turn (place_of c.args.self.now) c.args.self.now.processes.items c.args.self.now.summaries c.args.message.now c.to.result c.index_mut-process.result.now turn in
-    let refused : Ok c.in_ok-run_one.field-0 ≡ Err NumberLimit = c.in_ok-run_one.ensures.limit.1 (
+    let refused : Ok c.in_ok-run_one.field-0 ≡ Err NumberLimit = c.in_ok-run_one.ensures.causes.limit.1 (
       t.at.seated.unspent,
       lacks (g.M.Model.meaning c.args.model.now) (place_of c.args.self.now) c.args.self.now.processes.items c.args.self.now.summaries c.args.message.now c.to.result c.index_mut-process.result.now c.args.out.now.items ran turn none,
     ) in
@@ -123,5 +123,5 @@ returns-clause-modelled g c =
     let place = turn_place (place_of c.args.self.now) c.args.self.now.processes.items c.args.self.now.summaries c.args.message.now c.requires.ready c.requires.least in
     let inside = place_inside (place_of c.args.self.now) c.args.self.now.processes.items c.args.self.now.summaries c.args.message.now.to c.requires.ready place.0 place.1 in
     let was = modelled_at m c.args.self.now.processes.items c.requires.modelled (c.to.result / c.args.self.now.nodes) c.index_mut-process.result.now (rw c.to.ensures inside) c.index_mut-process.ensures.value in
-    modelled_again m c.args.self.now.processes.items c.requires.modelled (c.to.result / c.args.self.now.nodes) c.index_mut-process.result.now c.run_one.new.self was c.in_ok-run_one.ensures.lp
-    (c.in_ok-run_one.ensures.history (λ _. was.history) (ap (λ (v : ProcessView). v.spent) (handled g c turn).process ∙ t.at.seated.unspent))
+    modelled_again m c.args.self.now.processes.items c.requires.modelled (c.to.result / c.args.self.now.nodes) c.index_mut-process.result.now c.run_one.new.self was c.in_ok-run_one.ensures.kept
+    (ap (λ (v : ProcessView). v.spent) (handled g c turn).process ∙ t.at.seated.unspent)

@@ -1,22 +1,14 @@
-use Rattle.std.proofs.Common.{◌≡◌, ◌++◌, ◌∙◌, List, [], ap, subst, sym}
-use Rattle.std.specs.List.{AllByRecursion as Every}
-use Rattle.process.specs.Process.{number_after, state_after}
-use Rattle.process.specs.Consistent.{AreConsistent}
-use Rattle.process.specs.View.{HasDone, IsDoneInRange}
+use Rattle.std.proofs.Common.{◌++◌, ◌∙◌, List, ap}
 use Rattle.process.specs.declared.Done.{Done}
+use Rattle.process.specs.Process.{fossils_of}
 use Rattle.process.proofs.logical.Process.collect.Goals as goal
 
--- the reports appended to an empty list
-alone : (reported empty more : List Done) → reported ≡ empty ++ more → empty ≡ [] → reported ≡ more
-alone reported empty more e f = e ∙ ap (λ (ds : List Done). ds ++ more) f
-
-pub returns-clause-fossils : goal.returns-clause-fossils
-returns-clause-fossils g c = alone _ _ _ c.in_ok-collect_into.ensures.fossils c.new-fossils.ensures.items
-
-pub returns-clause-range : goal.returns-clause-range
-returns-clause-range g c = subst (Every IsDoneInRange) (sym (alone _ _ _ c.in_ok-collect_into.ensures.fossils c.new-fossils.ensures.items)) c.in_ok-collect_into.ensures.range
-
-pub returns-clause-done : goal.returns-clause-done
-returns-clause-done g c m state number h =
-    subst (λ (fs : List Done). AreConsistent m c.args.self.now.lp state number fs × HasDone m c.collect_into.new.self (state_after fs state) (number_after fs number)) (sym (alone _ _ _ c.in_ok-collect_into.ensures.fossils c.new-fossils.ensures.items))
-    (c.in_ok-collect_into.ensures.done m state number h)
+pub returns-clause-collected : goal.returns-clause-collected
+returns-clause-collected g c =
+    let there = c.in_ok-collect_into.ensures.collected in
+    record {
+      fossils = there.fossils ∙ ap (λ (ds : List Done). ds ++ fossils_of c.args.floor c.args.self.now.process) c.new-fossils.ensures.items;
+      process = there.process;
+      range = there.range;
+      done = there.done;
+    }

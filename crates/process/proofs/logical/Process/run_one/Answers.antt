@@ -4,7 +4,7 @@ use Rattle.eventkey.specs.Message.{Message}
 use Rattle.eventkey.specs.Signed.{plus}
 use Rattle.model.specs.Meaning.{IsWords, stamp}
 use Rattle.process.proofs.Calls.{handled_done, handled_is}
-use Rattle.process.proofs.Sound.{done_ran, handled_sound, has_history}
+use Rattle.process.proofs.Sound.{done_ran, handled_sound, has_history, kept_unspent}
 use Rattle.process.specs.Inside.{view_of}
 use Rattle.process.specs.Process.{Process, handle, handling_of}
 use Rattle.process.specs.View.{HasRun, IsSound, ProcessView}
@@ -80,13 +80,17 @@ returns-clause-ran g c = λ _.
     let out : c.append.new.out.items ≡ c.args.out.now.items ++ map plus (handling_of m v.lp c.in-Some.message v.process).sent =
     c.in_ok-append.ensures.out ∙ ap (λ (xs : List Message). c.args.out.now.items ++ map plus xs) (c.as_slice-3.ensures ∙ sent_is g c) in
     let ran : HasRun m c.args.end v (left_of g c) c.args.out.now.items c.append.new.out.items =
-    record { message = c.in-Some.message; next = first_is g c; process = now; out = out } in
+    record {
+      message = c.in-Some.message;
+      next = first_is g c;
+      process = now;
+      out = out;
+      done = done_ran m c.in-Some.message v (left_of g c) now (invariant_of-self-2 g c refl).1.number;
+    } in
     subst (λ (w : ProcessView). HasRun m c.args.end w (left_of g c) c.args.out.now.items c.append.new.out.items) c.self.view_is ran
 
-pub returns-clause-done : goal.returns-clause-done
-returns-clause-done g c state number h =
-    done_ran (g.M.Model.meaning c.args.model.now) c.args.end c.args.self.now (left_of g c) c.args.out.now.items c.append.new.out.items state number (returns-clause-ran g c refl) (invariant_of-self-2 g c refl).1.number h
-
-pub returns-clause-history : goal.returns-clause-history
-returns-clause-history g c h = λ _.
-    has_history (g.M.Model.meaning c.args.model.now) (left_of g c) _ _ (returns-clause-done g c _ _ (h (ap (λ (v : ProcessView). v.spent) (sym c.self.view_is) ∙ c.if-self.false)))
+pub returns-clause-kept : goal.returns-clause-kept
+returns-clause-kept g c =
+    let m = g.M.Model.meaning c.args.model.now in
+    kept_unspent m c.args.self.now (left_of g c) (ap (λ (v : ProcessView). v.spent) (sym c.self.view_is) ∙ c.if-self.false) (ap (λ (v : ProcessView). v.lp) c.self.view_is)
+    (λ before. has_history m (left_of g c) _ _ ((returns-clause-ran g c refl).done _ _ before))

@@ -6,8 +6,8 @@ use Rattle.frames.specs.declared.greeting.Hello.{Hello}
 use Rattle.wire.specs.declared.port.PortFault.{PortFault}
 use Rattle.wire.specs.declared.port.PortFault.TheVariants.{Closed, Wire}
 use Rattle.wire.specs.declared.port.WireFault.TheVariants as wire
-use Rattle.sockets.specs.declared.meeting.Heard.{Heard}
-use Rattle.sockets.specs.declared.meeting.Heard.TheVariants.{Other, Same}
+use Rattle.frames.specs.declared.meeting.Heard.{Heard}
+use Rattle.frames.specs.declared.meeting.Heard.TheVariants.{Other, Same}
 
 -- The result, with the bytes that the stream had and those left: the hello that is first in the
 -- stream decides, and all of it was read, and nothing behind it. A fault says what is there in its

@@ -4,11 +4,11 @@ ghost use Rattle.std.specs.Io.KnownBytes.{Appends};
 ghost use Rattle.std.specs.Prelude.{◌≡◌, ◌⊎◌, IfErr, OnOk};
 ghost use Rattle.frames.specs.Hellos.{hello_frame};
 ghost use Rattle.frames.specs.Streams.{OnBytes};
-ghost use Rattle.sockets.specs.Meeting.{IsHeardFrom};
+ghost use Rattle.frames.specs.Meeting.{IsHeardFrom};
 ghost use Rattle.wire.specs.declared.port.PortFault.TheVariants.{Wire as OnWire};
 ghost use Rattle.wire.specs.declared.port.WireFault.TheVariants.{Io, NoMemory};
 
-use frames::{Hello, encode_hello, read_hello_frame, write_all};
+use crate::{Hello, encode_hello, read_hello_frame, write_all};
 use std::alloc::Global;
 use std::io::{Read, Write};
 use wire::{PortFault, WireFault};

@@ -6,14 +6,14 @@ ghost use Rattle.frames.specs.Bodies.{frame_bytes, load_bytes, parcel_bytes};
 ghost use Rattle.frames.specs.Streams.{OnBytes};
 ghost use Rattle.frames.specs.declared.Frame.TheVariants as frame;
 ghost use Rattle.node.specs.declared.Parcel.{Parcel};
-ghost use Rattle.sockets.specs.Socket.{IsSendCause, IsTakenFrom, state_of};
-ghost use Rattle.sockets.specs.declared.port.Held.TheVariants.{Fresh};
+ghost use Rattle.frames.specs.Socket.{IsSendCause, IsTakenFrom, state_of};
+ghost use Rattle.frames.specs.declared.port.Held.TheVariants.{Fresh};
 ghost use Rattle.wire.specs.Port.{IsResourceFault, IsLoadFault, IsLoadInRange, IsLoaded, IsSamePort};
 ghost use Rattle.wire.specs.Port.{IsTakeFault, IsTaken};
 ghost use Rattle.wire.specs.Port.Stage.{Ended as AtEnd, Fresh as AtFirst};
 ghost use Rattle.wire.specs.Port.Stage.{Idle as AtRest, Posted as AtWork};
 
-use frames::{Frame, encode_load, encode_parcel, read_frame, write_all};
+use crate::{Frame, encode_load, encode_parcel, read_frame, write_all};
 use node::{Load, Parcel, Reply};
 use std::alloc::Global;
 use std::io::{Read, Write};
@@ -60,7 +60,7 @@ impl<S: Read + Write + Drop> Drop for SocketPort<S> {
 }
 
 impl<S: Read + Write> Model for SocketPort<S> {
-    ghost use Rattle.sockets.specs.Socket.{Socket};
+    ghost use Rattle.frames.specs.Socket.{Socket};
 
     ghost Value = { Socket S };
 
