@@ -165,11 +165,14 @@ fn agrees_at(alloc: Global, image: &[u8], place: usize) -> Result<bool, Fail> {
     Ok(part.is_none() || part == shown_by_whole(alloc, damaged.as_slice(), LATER)?)
 }
 
-/// Whether it does with any of some bytes of each sector changed.
+/// Sectors of the log that have something, and a few behind them.
+const WRITTEN: usize = 32;
+
+/// Whether it does with any of some bytes of each written sector changed.
 fn agree_everywhere(alloc: Global) -> Result<bool, Fail> {
     let image = image_of(alloc, "long checkpoint end late")?;
-    for sector in 0..image.len() / 512 {
-        for byte in [0, 1, 4, 20, 511] {
+    for sector in 0..WRITTEN {
+        for byte in [0, 20, 511] {
             if !agrees_at(alloc, image.as_slice(), sector * 512 + byte)? {
                 return Ok(false);
             }

@@ -73,8 +73,7 @@ pub returns-then-made-plan-clause-cause : goal.returns-then-made-plan-clause-cau
 returns-then-made-plan-clause-cause g c =
     let before : c.rounds.session.front.time ≡ c.front.result.time = ap (λ (w : World). w.time) c.front.ensures in
     let all : c.rounds.made ≡ c.args.plan.rounds = omega (arith, c.if-made-plan.true, c.rounds.invariant.made.0, c.rounds.invariant.made.1) in
-    let last : c.rounds.last ≡ c.args.plan.rounds = omega (arith, c.if-made-plan.true, c.rounds.invariant.made.0, c.rounds.invariant.made.1) in
-    (
+    let last : c.rounds.last ≡ c.args.plan.rounds = omega (arith, c.if-made-plan.true, c.rounds.invariant.made.0, c.rounds.invariant.made.1) in (
       omega (arith, before, c.rounds-test.true),
       all_made g.M.Model.meaning g.P.Port.state g.D.SectorDisk.state c.args.plan c.args.end c.rounds.last c.rounds.made c.args.plan.rounds c.args.session.now c.rounds.session last all
           (shaped_by g.M.Model.meaning g.P.Port.state g.D.SectorDisk.state _ (AreRoundsOfRun c.args.plan c.args.end c.rounds.last c.rounds.made) c.args.session.now c.rounds.session (λ ks h. (h.0, h.1.budgeted)) c.rounds.invariant.driven),
