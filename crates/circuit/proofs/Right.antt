@@ -21,7 +21,7 @@ use Rattle.toml.specs.declared.value.Value.{Value}
 
 -- 1. Item by item
 
--- the mistakes before an item, at it and behind it are all mistakes
+-- the mistakes before an item, at it and after it are all mistakes
 carried : (was now here behind from all : List Wrong) → now ≡ was ++ here → from ≡ here ++ behind → was ++ from ≡ all → now ++ behind ≡ all
 carried was now here behind from all more split so_far =
     ap (λ l. l ++ behind) more ∙ append_assoc was here behind ∙ ap (λ l. was ++ l) (sym split) ∙ so_far

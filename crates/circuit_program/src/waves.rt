@@ -23,7 +23,7 @@ use std::rt::Files;
 use texts::write_text;
 
 /// Runs the command `wave MODEL [DISK]`, and returns the exit status, as the other commands do.
-/// `words` are the words behind `wave`.
+/// `words` are the words after `wave`.
 pub(crate) fn wave<R, E>(rt: &R, words: &[String], err: &mut E) -> u8
 where
     R: Files<File = File> + Print + AllocGlobal,

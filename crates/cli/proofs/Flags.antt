@@ -11,7 +11,7 @@ neither : (a b : Bool) → (a || b) ≡ false → (a ≡ false) × (b ≡ false)
 neither false b e = (refl, e)
 neither true b e = absurd (cc)
 
--- the words behind the first one
+-- the words after the first one
 pub behind_first : {X : Type 0} (text : X → Text) (words : List X) → map text (take (length words - 1) (drop 1 words)) ≡ drop 1 (map text words)
 behind_first text [] = refl
 behind_first text (word ∷ rest) = ap (map text) (take_all (length (word ∷ rest) - 1) rest (omega (arith)))
@@ -27,7 +27,7 @@ pub flag_none : (flag : Text) → says_flag flag [] ≡ false
 unfolding says_flag
 flag_none flag = refl
 
--- `--` and the flag decide, and each other word leaves it to the words behind it
+-- `--` and the flag decide, and each other word leaves it to the words after it
 pub flag_met : (flag word : Text) (rest : List Text) → (bytes_eq word (codes "--") || bytes_eq word flag) ≡ true → says_flag flag (word ∷ rest) ≡ not (bytes_eq word (codes "--"))
 unfolding says_flag
 flag_met flag word rest met = elim (cases_Bool (bytes_eq word (codes "--"))) [

@@ -1,4 +1,4 @@
--- The command line of a program (this project's profile), in the terms of clap: its commands, and
+-- The command line of a program, in the terms of clap: its commands, and
 -- the meaning of a parsed command.
 use Rattle.std.specs.Prelude.{◌≡◌, ◌⊎◌, ◌≤◌, ◌==◌, ◌&&◌, ◌||◌, ℕ, List, [], ◌∷◌, Option, Some, None}
 use Rattle.std.specs.Prelude.{Bool, true, false, not, nat_le, nat_lt, is_some, codes, option_map}

@@ -9,7 +9,7 @@ use Rattle.disk.specs.Growth.{zero_sectors, grown_to}
 abbrev pub zero_sector : List ℕ
 zero_sector = replicate 512 0
 
--- all sectors: the kept ones, and zeros behind them
+-- all sectors: the kept ones, and zeros after them
 abbrev pub all_of : ℕ → List (List ℕ) → List (List ℕ)
 all_of count kept = kept ++ zero_sectors (count - length kept)
 
@@ -19,7 +19,7 @@ length-zeros n = length-replicate n zero_sector
 pub length-all : (count : ℕ) (kept : List (List ℕ)) → length kept ≤ count → length (all_of count kept) ≡ count
 length-all count kept within = omega (arith, within, length-append kept (zero_sectors (count - length kept)), length-zeros (count - length kept))
 
--- the sectors behind the kept ones are zeros
+-- the sectors after the kept ones are zeros
 pub behind : (count : ℕ) (kept : List (List ℕ)) (n : ℕ) → length kept ≤ n → n < count → get_or (all_of count kept) n [] ≡ zero_sector
 behind count kept n past within =
     get_or-append_right kept (zero_sectors (count - length kept)) (length kept) n [] refl past

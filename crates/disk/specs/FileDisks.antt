@@ -1,4 +1,4 @@
--- A disk over a file, modelled by the image that it keeps in memory. (This project's profile.)
+-- A disk over a file, modelled by the image that it keeps in memory.
 use Rattle.std.specs.Prelude.{◌≡◌, ◌<◌, ◌≤◌, ℕ, Bool, true, false, List, Option, Some, None}
 use Rattle.std.specs.Prelude.{slice_index_or}
 use Rattle.disk.specs.Disk.{IsDisk, PastState, DiskState}

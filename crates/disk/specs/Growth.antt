@@ -1,4 +1,4 @@
--- Growing a disk: sectors of zeros are appended to the old ones. (This project's profile.)
+-- Growing a disk: sectors of zeros are appended to the old ones.
 use Rattle.std.specs.Prelude.{◌≡◌, ◌-◌, ◌<◌, ◌≤◌, ℕ, zero, suc, Bool, true, false, List, []}
 use Rattle.std.specs.Prelude.{◌∷◌, ◌++◌, length, replicate}
 use Rattle.disk.specs.Disk.{MayLeave, PastState, past_state}

@@ -1,9 +1,9 @@
--- The sectors of an image; memory holds only the first ones. (This project's profile.)
+-- The sectors of an image; memory holds only the first ones.
 use Rattle.std.specs.Prelude.{◌-◌, ◌≤◌, ℕ, List, ◌++◌, length, vec_capacity}
 use Rattle.disk.specs.Growth.{zero_sectors}
 use Rattle.disk.specs.declared.kept.Sectors.TheInside.{Inside}
 
--- all sectors, and the number of first ones that are kept in memory; those behind them are zeros
+-- all sectors, and the number of first ones that are kept in memory; those after them are zeros
 pub record SectorList : Type 0 where
   pub items : List (List ℕ)
   pub kept : ℕ

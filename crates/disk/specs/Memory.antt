@@ -1,4 +1,4 @@
--- A disk in memory, and the image that its crash leaves. (This project's profile.)
+-- A disk in memory, and the image that its crash leaves.
 use Rattle.std.specs.Prelude.{◌≡◌, ◌<◌, ℕ, Bool, false, List, [], length, replicate, slice_index_or}
 use Rattle.std.specs.Prelude.{if◌then◌else◌, ◌++◌, take, drop}
 use Rattle.disk.specs.Disk.{IsDisk, PastState, DiskState}

@@ -1,4 +1,4 @@
--- The operations of a disk in memory that fail by its plan. (This project's profile.)
+-- The operations of a disk in memory that fail by its plan.
 use Rattle.std.specs.Prelude.{◌+◌, ◌||◌, ℕ, Bool, false, Option, Some, None, min, eqb}
 use Rattle.std.specs.Prelude.{if◌then◌else◌}
 use Rattle.disk.specs.declared.plan.Plan.{Plan}

@@ -21,8 +21,7 @@ pub enum DiskFault {
 /// A disk of sectors of 512 bytes, numbered from 0.
 ///
 /// A sector is dirty (`dirty`) if it was written since the last successful sync: a crash may leave
-/// any 512 bytes in it. In every other sector a crash leaves what a read gives. (This project's
-/// profile of a disk.)
+/// any 512 bytes in it. In every other sector a crash leaves what a read gives.
 pub trait SectorDisk {
     /// What a read of each sector gives, which sectors are dirty, both of these at each earlier
     /// moment, and how often the device has failed.

@@ -112,7 +112,7 @@ impl Image {
         self.sectors.put(n as usize, sector);
     }
 
-    /// Sets the content of sector `n`. If it is zeros and lies behind the kept sectors, it takes no
+    /// Sets the content of sector `n`. If it is zeros and lies after the kept sectors, it takes no
     /// memory.
     pub fn put_sparsely(&mut self, n: u32, sector: &[u8; 512])
         requires { n < length self.old.sectors.items }

@@ -6,7 +6,7 @@ ghost use Rattle.disk.specs.Growth.{grown_to, zero_sectors};
 use std::alloc::{AllocError, Global};
 use std::marker::Model;
 
-/// A list of sectors. The first ones are kept in memory, and those behind them are zeros.
+/// A list of sectors. The first ones are kept in memory, and those after them are zeros.
 ///
 /// It reserves room for all of them when it is made, and the system provides the pages as they are
 /// used. So no later call allocates, and sectors that were never put take no memory.
@@ -87,7 +87,7 @@ impl Sectors {
         Ok(Sectors { kept, count })
     }
 
-    /// Returns a copy of all sectors, including the zeros behind the kept ones.
+    /// Returns a copy of all sectors, including the zeros after the kept ones.
     pub fn copied(&self, alloc: Global) -> Result<Vec<[u8; 512]>, AllocError>
         ensures { IfOk result (λ all. all.items ≡ self.now.items) }
     {
@@ -142,7 +142,7 @@ impl Sectors {
         self.kept[n] = *sector;
     }
 
-    /// Sets the content of sector `n`. If it is zeros and lies behind the kept sectors, it is not
+    /// Sets the content of sector `n`. If it is zeros and lies after the kept sectors, it is not
     /// kept.
     pub fn put_sparsely(&mut self, n: usize, sector: &[u8; 512])
         requires { n < length self.old.items }

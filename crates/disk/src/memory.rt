@@ -22,7 +22,7 @@ pub enum Torn {
     New,
     /// This byte, 512 times.
     Fill(u8),
-    /// This number of first bytes of the last write, failed or not, and behind them the content at
+    /// This number of first bytes of the last write, failed or not, and after them the content at
     /// the last successful sync. 512 or more is the same as [`New`](Torn::New).
     Cut(u16),
 }

@@ -107,7 +107,7 @@ fn alike_up_to(dirty: &[bool], from: usize, end: usize, is: bool) -> usize
 }
 
 /// Returns the first run of adjacent dirty sectors in `from..end`: the index of its first sector,
-/// and the index behind its last one. Both are `end` if there is none.
+/// and the index after its last one. Both are `end` if there is none.
 fn next_run(dirty: &[bool], from: usize, end: usize) -> (usize, usize)
     requires order { from ≤ end }
     requires within { end ≤ length dirty.now }

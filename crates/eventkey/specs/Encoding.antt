@@ -1,4 +1,4 @@
--- The encoding of messages (this project's profile), and how it is read. It is canonical: each
+-- The encoding of messages, and how it is read. It is canonical: each
 -- message has one encoding.
 use Rattle.std.specs.Prelude.{ℕ, ◌^◌, nat_lt, nat_eq, if◌then◌else◌, List, ◌∷◌, ◌++◌, length, drop}
 use Rattle.std.specs.Prelude.{slice_index, Option, Some, None, Result, Ok, Err}

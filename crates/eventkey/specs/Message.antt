@@ -1,5 +1,4 @@
--- Messages and their order. A message is stamped with its receive time (Jefferson 1985); the order
--- is this project's profile.
+-- Messages and their order. A message is stamped with its receive time (Jefferson 1985).
 use Rattle.std.specs.Ordering.{nat_cmp, ordering_then, is_lt, is_eq}
 use Rattle.std.specs.Prelude.{ℕ, ◌^◌, ◌<◌, Bool, ◌≡◌, false}
 use Rattle.std.specs.declared.cmp.Ordering.{Ordering}

@@ -1,4 +1,4 @@
-// The encoding of messages (this project's profile). Numbers are big-endian.
+// The encoding of messages. Numbers are big-endian.
 
 ghost use Rattle.std.specs.Prelude.{◌≡◌, ◌<◌, ◌≤◌, ◌^◌, ◌↔◌, IfOk, length, List, ℕ, take, drop};
 ghost use Rattle.std.specs.Prelude.{slice_index, ◌++◌};

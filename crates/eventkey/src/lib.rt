@@ -31,7 +31,7 @@ use thiserror::Error;
 ///
 /// It has a receive time in ticks, below 2^41; the number of its sender; how many messages the
 /// sender sent before it; the number of its receiver; and four words of content. Messages are
-/// ordered by these, in this order (this project's profile).
+/// ordered by these, in this order.
 // Fields lie in memory in the declared order, and the two 32-bit fields side by side leave no
 // padding. A derived order would compare `to` before `number`, so `Ord` is written out.
 #[derive(Clone, Copy, Debug, Default, PartialEq, Eq)]
@@ -135,7 +135,7 @@ impl Model for Message {
     } };
 }
 
-/// The greatest end of a simulation, in ticks (this project's profile). An event is before the end,
+/// The greatest end of a simulation, in ticks. An event is before the end,
 /// and a delay is below 2^32, so the receive time of each message is below 2^41.
 pub const MOST_END: u64 = 1 << 40;
 

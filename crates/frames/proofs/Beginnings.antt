@@ -123,7 +123,7 @@ module _ (m : Meaning) (limit : ℕ) where
       let within = within_of x y (Ok (Some raw)) k in
       (lacks_first t.0 never, (subst (TakesBeginning old new) (sym is) w, within.front, inl within))) h)
 
-  -- the same bytes served, behind a frame that was read before them
+  -- the same bytes served, after a frame that was read before them
   from_front : (s : Served) (P Q : Type 0) (bytes mid rest : List ℕ) (old new : Option (List ℕ)) (result : Result ℕ WireFault) → IsFront bytes mid → (P → Q) → HasOutcome s P mid rest old new result →
       HasOutcome s Q bytes rest old new result
   from_front s P Q bytes mid rest old new (Ok k) f g h = h

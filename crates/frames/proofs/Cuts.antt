@@ -133,7 +133,7 @@ within_found None new found h = tt
 within_found (Some bytes) None found h = absurd h
 within_found (Some bytes) (Some rest) found h = within_of bytes rest (Ok found) h
 
--- 4. A reader that stops part of the way has read nothing behind the frame.
+-- 4. A reader that stops part of the way has read nothing after the frame.
 
 -- taking fewer bytes leaves more
 drop_fewer : (n : ℕ) (taken rest : List ℕ) → length taken ≤ n → IsFront rest (drop n (taken ++ rest))

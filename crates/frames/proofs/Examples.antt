@@ -27,7 +27,7 @@ bad_body : frame_cut (0 ∷ 0 ∷ 0 ∷ 1 ∷ 4 ∷ 7 ∷ []) ≡ fails BadBody 
 unfolding cut number_at fault_in
 bad_body = refl
 
--- the load of node 1 of three, whose only process has one state word, and a byte behind it
+-- the load of node 1 of three, whose only process has one state word, and a byte after it
 abbrev load_body : List ℕ
 load_body =
     big_bytes 4 1 ++ (big_bytes 4 3 ++ (big_bytes 8 10 ++ (big_bytes 8 0 ++ (big_bytes 4 1

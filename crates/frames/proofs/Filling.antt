@@ -19,14 +19,14 @@ slice_range-put_mid a k n xs ys within fits =
     let after = post_of a k xs in
     ap (take ((a + n) - a)) (drop_at (take a xs) (ys ++ after) a (length-take-le a xs within)) ∙ ap (λ m. take m (ys ++ after)) same ∙ take-append-le n ys after fits
 
--- more bytes arrived behind those in the buffer
+-- more bytes arrived after those in the buffer
 pub fill_more : (old mid new : Option (List ℕ)) (a k n : ℕ) (xs ys : List ℕ) → a ≤ length xs → n ≤ length ys → Consumes old mid (take a xs) → Consumes mid new (take n ys) →
     Consumes old new (take (a + n) (put_mid a k xs ys))
 fill_more old mid new a k n xs ys within fits h more =
     let joined = take_split a (a + n) xs (put_mid a k xs ys) (omega arith) (take-put_mid_below _ _ _ _ _ (le_refl _) within) in
     subst (Consumes old new) (ap (λ l. take a xs ++ l) (sym (slice_range-put_mid a k n xs ys within fits)) ∙ joined) (Consumes-trans old mid new _ _ h more)
 
--- no bytes arrived, and what is behind them in the buffer may have changed
+-- no bytes arrived, and what is after them in the buffer may have changed
 pub fill_kept : (old mid new : Option (List ℕ)) (a k : ℕ) (xs ys : List ℕ) → a ≤ length xs → Consumes old mid (take a xs) → Keeps mid new → Consumes old new (take a (put_mid a k xs ys))
 fill_kept old mid new a k xs ys within h kept = subst (Consumes old new) (sym (take-put_mid_below _ _ _ _ _ (le_refl _) within)) (Consumes-kept old mid new _ h kept)
 

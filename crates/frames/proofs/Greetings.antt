@@ -23,7 +23,7 @@ use Rattle.frames.proofs.Turns.{never}
 use Rattle.wire.specs.declared.port.WireFault.{WireFault}
 use Rattle.wire.specs.declared.port.WireFault.TheVariants as wire
 
--- 1. What was served without a hello, and behind one
+-- 1. What was served without a hello, and after one
 
 served_alone : (s : Served) (P : Type 0) (bytes rest : List ℕ) (old new : Option (List ℕ)) (r : Result ℕ WireFault) → HasOutcome s P bytes rest old new r → EndsAs (without_hello s) old new (ended r)
 served_alone s P bytes rest old new (Ok n) h = (ap ended h.0, h.1)

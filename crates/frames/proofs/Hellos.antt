@@ -138,7 +138,7 @@ short_none bytes few = elim (cases_lt (length bytes) 4) [
 
 -- 3. As bytes arrive
 
--- what holds of the bytes behind those that were taken
+-- what holds of the bytes after those that were taken
 consumed_on : (old mid new : Option (List ℕ)) (taken : List ℕ) (P Q : List ℕ → List ℕ → Type 0) → Consumes old mid taken → ((b rest : List ℕ) → P b rest → Q (taken ++ b) rest) → OnBytes mid new P → OnBytes old new Q
 consumed_on None mid new taken P Q h f p = tt
 consumed_on (Some bytes) None new taken P Q h f p = absurd h
@@ -224,7 +224,7 @@ opened_is : (o : Option Hello) (h : Hello) → opened_hello o ≡ Ok (Some h) �
 opened_is (Some g) h e = let is : g ≡ h = cc in ap (λ (x : Hello). Some x) is
 opened_is None h e = absurd (cc)
 
--- the bytes behind the kind
+-- the bytes after the kind
 record IsBodyOf (n : ℕ) (bytes : List ℕ) (h : Hello) (rest : List ℕ) : Type 0 where
   pub size : n ≡ length (hello_bytes h)
   pub parts : bytes ≡ hello_bytes h ++ rest
@@ -257,7 +257,7 @@ no_hello_some false false false h e = absurd (cc)
 none_found : (bytes rest : List ℕ) (h : Hello) → Finds (hello_at bytes None) (Ok (Some h)) rest → ⊥
 none_found bytes rest h e = no_hello_some (nat_eq (length bytes) 0) (nat_lt (length bytes) 5) (nat_lt (2 ^ 24) (big_number 4 bytes)) h (ap (λ (c : Cut Hello). c.found) e)
 
--- the bytes behind the length
+-- the bytes after the length
 kind_of_hello : (all : List ℕ) (n : ℕ) (bytes rest : List ℕ) (h : Hello) → IsBytes bytes → Finds (hello_at all (hello_kind n bytes)) (Ok (Some h)) rest → IsHelloOf (big_bytes 4 n ++ bytes) h rest
 unfolding hello_frame
 kind_of_hello all n [] rest h fits e = absurd (none_found all rest h e)

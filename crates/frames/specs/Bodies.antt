@@ -1,4 +1,4 @@
--- The bodies of frames (this project's profile): their encodings, and their readers. All numbers
+-- The bodies of frames: their encodings, and their readers. All numbers
 -- are big-endian.
 use Rattle.std.specs.Prelude.{ℕ, ◌^◌, Bool, nat_le, nat_lt, nat_eq, ◌&&◌, if◌then◌else◌}
 use Rattle.std.specs.Prelude.{List, [], ◌∷◌, ◌++◌, length, Option, Some, None}

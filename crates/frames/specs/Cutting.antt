@@ -1,5 +1,5 @@
--- A stream of bytes is cut from the left into frames (this project's profile): what is first in it,
--- and what is behind that.
+-- A stream of bytes is cut from the left into frames: what is first in it,
+-- and what is after that.
 use Rattle.std.specs.Prelude.{ℕ, ◌^◌, nat_lt, nat_le, nat_eq, ◌&&◌, if◌then◌else◌}
 use Rattle.std.specs.Prelude.{List, [], ◌∷◌, take, drop, length}
 use Rattle.std.specs.Prelude.{Option, Some, None, Result, Ok, Err}

@@ -71,7 +71,7 @@ abbrev pub IsGreeted : Meaning → ℕ → ℕ → Option (List ℕ) → Option 
 IsGreeted m end limit old new result bytes =
     (lacks : Lacks) × EndsAs (greeted (hello_of m end) m lacks limit bytes) old new result
 
--- the same behind a hello that was read
+-- the same after a hello that was read
 abbrev pub IsAnswered : Meaning → ℕ → ℕ → Hello → Option (List ℕ) → Option (List ℕ) →
     Result Ending WireFault → List ℕ → Type 0
 IsAnswered m end limit asked old new result rest = (lacks : Lacks)

@@ -58,7 +58,7 @@ hello_in bytes = do
 
 -- 3. What is first in a stream
 
--- whether it is a hello: then the stated length of its body, at most 2^24, and the bytes behind
+-- whether it is a hello: then the stated length of its body, at most 2^24, and the bytes after
 -- its kind
 abbrev pub hello_kind : ℕ → List ℕ → Option (ℕ × List ℕ)
 hello_kind n [] = None

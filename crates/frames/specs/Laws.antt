@@ -39,7 +39,7 @@ BodiesAreCanonical =
     (kind : Kind) (body : List ℕ) (f : Frame) → IsBytes body → frame_in kind body ≡ Some f →
     IsBodyOf kind body f
 
--- a body with further bytes behind it is refused
+-- a body with further bytes after it is refused
 abbrev pub NoByteIsLeftOver : Type 0
 NoByteIsLeftOver = (kind : Kind) (body : List ℕ) (f : Frame) (byte : ℕ) (more : List ℕ) →
     IsBytes body → frame_in kind body ≡ Some f → frame_in kind (body ++ byte ∷ more) ≡ None

@@ -10,7 +10,7 @@ use Rattle.frames.specs.declared.meeting.Heard.{Heard}
 use Rattle.frames.specs.declared.meeting.Heard.TheVariants.{Other, Same}
 
 -- The result, with the bytes that the stream had and those left: the hello that is first in the
--- stream decides, and all of it was read, and nothing behind it. A fault says what is there in its
+-- stream decides, and all of it was read, and nothing after it. A fault says what is there in its
 -- place.
 abbrev pub IsHeardFrom : Hello → Result Heard PortFault → List ℕ → List ℕ → Type 0
 IsHeardFrom own (Ok Same) bytes rest = Finds (hello_cut bytes) (Ok (Some own)) rest

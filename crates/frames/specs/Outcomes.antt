@@ -1,6 +1,6 @@
 -- What a node's loop returns, writes and reads, if contracts see the bytes of its reader and
 -- writer: the served text; or, if the reader, the writer or an allocation failed at a frame, a
--- prefix of that text, with nothing read behind that frame.
+-- prefix of that text, with nothing read after that frame.
 use Rattle.std.specs.Io.KnownBytes.{Appends}
 use Rattle.std.specs.Prelude.{ℕ, Bool, true, false, ◌≡◌, ◌<◌, ◌⊎◌, List, ◌++◌, Option, Some, None}
 use Rattle.std.specs.Prelude.{Result, Ok, Err}
@@ -20,7 +20,7 @@ abbrev pub Leaves : {X : Type 0} → X → X → List ℕ → List ℕ → List 
 Leaves result is text rest left old new = (is ≡ result) × Appends old new text × (left ≡ rest)
 
 -- The loop stopped at a parcel: it answered all parcels before it, wrote their replies whole, and
--- read nothing behind it.
+-- read nothing after it.
 pub record StopsFrom (m : Meaning) (lacks : Lacks) (limit : ℕ) (n : Node)
     (old new : Option (List ℕ)) (bytes rest : List ℕ) : Type 0 where
   pub count : ℕ
@@ -29,13 +29,13 @@ pub record StopsFrom (m : Meaning) (lacks : Lacks) (limit : ℕ) (n : Node)
   pub written : (more : List ℕ) × Appends old new ((served_from m lacks count n bytes).text ++ more)
   pub within : IsWithin (served_from m lacks count n bytes).rest rest
 
--- the same, behind a load that made a node
+-- the same, after a load that made a node
 abbrev pub StopsBehind : Meaning → Lacks → ℕ → Turn → Option (List ℕ) → Option (List ℕ) → List ℕ →
     Type 0
 StopsBehind m lacks limit load old new rest =
     (n : Node) × (load.result ≡ Ok (Some n)) × StopsFrom m lacks limit n old new load.rest rest
 
--- the loop stopped at the load, or at a parcel behind it
+-- the loop stopped at the load, or at a parcel after it
 abbrev pub Stops : Meaning → Lacks → ℕ → Option (List ℕ) → Option (List ℕ) → List ℕ → List ℕ →
     Type 0
 Stops m lacks limit old new bytes rest =

@@ -1,4 +1,4 @@
--- What a node's loop does with one frame whose body is not decoded yet (this project's profile).
+-- What a node's loop does with one frame whose body is not decoded yet.
 use Rattle.std.specs.Prelude.{ℕ, ◌^◌, Bool, true, false, nat_lt, if◌then◌else◌, ◌≡◌, ◌⊎◌, length}
 use Rattle.std.specs.Prelude.{List}
 use Rattle.std.specs.Prelude.{Option, Some, None, Result, Ok, Err, IfOk}

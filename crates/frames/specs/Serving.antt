@@ -1,4 +1,4 @@
--- The served text (this project's profile): what a node's loop writes and returns, as one function
+-- The served text: what a node's loop writes and returns, as one function
 -- of the model, the limit, the bytes, and the turns at which memory is refused.
 use Rattle.std.specs.Prelude.{ℕ, zero, suc, ◌+◌, Bool, if◌then◌else◌, List, [], ◌++◌}
 use Rattle.std.specs.Prelude.{Option, Some, None, Result, Ok, Err}
@@ -15,7 +15,7 @@ use Rattle.wire.specs.declared.port.WireFault.{WireFault}
 -- 1. One turn of the loop
 
 -- what is written; the node with which the loop goes on (none if it ends here), or the fault; and
--- the bytes behind the frame
+-- the bytes after the frame
 pub record Turn : Type 0 where
   pub text : List ℕ
   pub result : Result (Option Node) WireFault

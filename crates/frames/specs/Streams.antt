@@ -17,7 +17,7 @@ OnBytes (Some bytes) (Some rest) P = P bytes rest
 abbrev pub IsFront : List ℕ → List ℕ → Type 0
 IsFront bytes rest = (taken : List ℕ) × (bytes ≡ taken ++ rest)
 
--- A prefix of the bytes was taken, and nothing behind the first frame. If the stated length is too
+-- A prefix of the bytes was taken, and nothing after the first frame. If the stated length is too
 -- long, at most its four bytes were taken; if the kind is unknown, at most the length and the kind;
 -- if the input ends within the frame, any bytes.
 pub record IsWithin (bytes rest : List ℕ) : Type 0 where
@@ -29,7 +29,7 @@ abbrev pub Finds : {X : Type 0} → Cut X → Result (Option X) WireFault → Li
 Finds c found rest = c ≡ record { found = found; rest = rest }
 
 -- The result of a call, with the bytes that the reader had and those left: what the cut gives; or
--- the reader or an allocation failed part of the way, and nothing behind the frame was read.
+-- the reader or an allocation failed part of the way, and nothing after the frame was read.
 abbrev pub IsCutBy : {X : Type 0} → (List ℕ → Cut X) → Result (Option X) WireFault →
     List ℕ → List ℕ → Type 0
 IsCutBy first (Err Io) bytes rest = IsWithin bytes rest

@@ -12,7 +12,7 @@ pub fn law_of_frames()
     ensures encoded { FramesAreCanonical }
 {}
 
-/// Each body has one encoding, and a body with further bytes behind it is refused.
+/// Each body has one encoding, and a body with further bytes after it is refused.
 pub fn law_of_bodies()
     ensures encoded { BodiesAreCanonical }
     ensures whole { NoByteIsLeftOver }

@@ -1,4 +1,4 @@
-//! Frames of bytes between a session and its nodes (this project's profile): the length of a body,
+//! Frames of bytes between a session and its nodes: the length of a body,
 //! its kind, and the body. Also the two ends of a stream of frames: the loop that serves a node, and
 //! the port to a node in another program, with the hellos before it.
 #![tactic(auto)]

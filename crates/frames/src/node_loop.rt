@@ -71,7 +71,7 @@ fn serve_parcels<M: Simulated, R: Read, W: Write>(
 /// `Truncated`, `TooLong`, `BadKind` and `BadBody` are returned if the stream has such a fault
 /// before the loop ends, and `TooLong` also for a reply of more than 2^24 bytes; all replies before
 /// the fault are written. `Io` is returned if the reader or the writer fails, `NoMemory` if an
-/// allocation for a frame fails; a prefix of the text is then written, and nothing behind that
+/// allocation for a frame fails; a prefix of the text is then written, and nothing after that
 /// frame is read. One frame is held in memory at a time.
 pub fn serve<M: Simulated, R: Read, W: Write>(
     alloc: Global,

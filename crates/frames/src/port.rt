@@ -30,8 +30,7 @@ enum Held {
     Ended,
 }
 
-/// A port to a node behind a stream to another program, such as a `UnixStream` (this project's
-/// profile of ports). Nothing is known of that program, and it may send any frame, so the port is
+/// A port to a node behind a stream to another program, such as a `UnixStream`. Nothing is known of that program, and it may send any frame, so the port is
 /// not faithful, and a session over it promises safety alone.
 ///
 /// `load` and `post` write their whole frame before they return `Ok`, and do not flush the stream.

@@ -133,7 +133,7 @@ pub fn read_raw<R: Read>(alloc: Global, reader: &mut R) -> Result<Option<Raw>, W
 /// `TooLong` for a body of more than 2^24 bytes, before the kind is read; else `BadKind` for an
 /// unknown kind, before the body is read; else `Truncated` if the input ends within the frame; else
 /// `BadBody` if the body is not an encoding of its kind. `Io` if the reader fails, `NoMemory` if an
-/// allocation fails: some bytes of the frame may then have been read, and none behind it. The
+/// allocation fails: some bytes of the frame may then have been read, and none after it. The
 /// memory for a body grows with the bytes that arrive, not with the stated length.
 pub fn read_frame<R: Read>(alloc: Global, reader: &mut R) -> Result<Option<Frame>, WireFault>
     ensures { OnBytes (R.remaining reader.old) (R.remaining reader.new) (IsCutBy frame_cut result) }

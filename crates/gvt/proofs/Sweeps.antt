@@ -82,7 +82,7 @@ pub no_picks : (picks : List ℕ) (ss : List Signed) → length picks ≡ 0 → 
 no_picks [] ss e = sym (not_picked-none 0 ss)
 no_picks (p ∷ ps) ss e = absurd (omega arith)
 
--- Truncated behind the places that are kept
+-- Truncated after the places that are kept
 
 take_seam : {X : Type 0} (xs rest : List X) → take (length xs) (xs ++ rest) ≡ xs
 take_seam [] rest = refl

@@ -1,5 +1,4 @@
--- A judge of a node's reports: what it knows of each process, and which reports it accepts (this
--- project's profile).
+-- A judge of a node's reports: what it knows of each process, and which reports it accepts.
 use Rattle.std.specs.List.{slice_get}
 use Rattle.std.specs.Prelude.{Bool, List, Some, [], ◌++◌, ◌∷◌, filter, if◌then◌else◌, length, nat_eq, nat_le}
 use Rattle.std.specs.Prelude.{set, suc, true, zero, ℕ, ◌+◌, ◌/◌, ◌<◌, ◌≡◌, ◌≤◌, ◌^◌}

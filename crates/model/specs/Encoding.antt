@@ -1,4 +1,4 @@
--- The encoding of state words, and how it is read (this project's profile). Numbers are big-endian.
+-- The encoding of state words, and how it is read. Numbers are big-endian.
 use Rattle.std.specs.Prelude.{ℕ, nat_le, if◌then◌else◌, List, ◌++◌, length, None}
 use Rattle.std.specs.List.{flat_map}
 use Rattle.byteorder.specs.Endian.{big_bytes}

@@ -1,5 +1,4 @@
--- The meaning of a model: functions of their arguments alone, and the laws that they obey (this
--- project's profile).
+-- The meaning of a model: functions of their arguments alone, and the laws that they obey.
 use Rattle.std.specs.List.{AllByRecursion as Every}
 use Rattle.std.specs.Prelude.{ℕ, List, ◌+◌, [], ◌∷◌, ◌≤◌, ◌<◌, ◌≡◌, ◌^◌, length, Option, Some, None}
 use Rattle.eventkey.specs.Bag.{IsAscending}

@@ -1,4 +1,4 @@
--- What each call of the plain runner of a simulation does (this project's profile).
+-- What each call of the plain runner of a simulation does.
 use Rattle.std.specs.List.{AllByRecursion as Every}
 use Rattle.std.specs.Prelude.{◌≡◌, ℕ, List, [], ◌∷◌, ◌++◌, ◌+◌, ◌^◌, ◌<◌, ◌≤◌, length, max, Some}
 use Rattle.std.specs.Prelude.{Bool, false, nat_lt}

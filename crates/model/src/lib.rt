@@ -30,7 +30,7 @@ pub use state_bytes::{append_words, read_words};
 use std::alloc::Global;
 use thiserror::Error;
 
-/// The state words of a process: at most 16, of 64 bits (this project's profile).
+/// The state words of a process: at most 16, of 64 bits.
 pub type Words = SmallVec<u64, 16>;
 
 /// A message to send.

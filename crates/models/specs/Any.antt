@@ -1,4 +1,4 @@
--- The meaning of a model that a model file can name, and its laws (this project's profile).
+-- The meaning of a model that a model file can name, and its laws.
 use Rattle.model.specs.Meaning.{IsLawful, Meaning}
 use Rattle.models.specs.HoldLaws.{hold_lawful}
 use Rattle.models.specs.JobShop.{shop_meaning}

@@ -1,4 +1,4 @@
--- A job shop (this project's profile): machines in a ring. Each serves one job at a time, in the
+-- A job shop: machines in a ring. Each serves one job at a time, in the
 -- order of arrival, and sends it to the next machine.
 use Rattle.std.specs.Prelude.{None, ℕ, ◌+◌, ◌-◌, ◌*◌, ◌%◌, ◌^◌, ◌<◌, ◌≤◌, List, [], ◌∷◌, Bool, nat_lt}
 use Rattle.std.specs.Prelude.{map, max, min, slice_index, if◌then◌else◌}

@@ -1,4 +1,4 @@
--- PHOLD (Fujimoto 1990), in this project's profile: each handled message is sent on to a drawn
+-- PHOLD (Fujimoto 1990): each handled message is sent on to a drawn
 -- process, with a drawn delay.
 use Rattle.std.specs.Prelude.{None, ℕ, ◌+◌, ◌-◌, ◌*◌, ◌%◌, ◌^◌, ◌<◌, ◌≤◌, List, [], ◌∷◌, map, min}
 use Rattle.std.specs.Prelude.{slice_index}

@@ -1,4 +1,4 @@
--- Six processes that send each message on twice, soon and much later (this project's profile). The
+-- Six processes that send each message on twice, soon and much later. The
 -- receiver and the delay of the first depend on the state.
 use Rattle.std.specs.Prelude.{None, ℕ, ◌+◌, ◌*◌, ◌%◌, ◌^◌, ◌<◌, List, [], ◌∷◌, slice_index}
 use Rattle.std.proofs.Common.{arith, lit<, lit≤}

@@ -1,4 +1,4 @@
--- A ring of processes that hand tokens round (this project's profile). Each process counts the
+-- A ring of processes that hand tokens round. Each process counts the
 -- tokens that reach it.
 use Rattle.std.specs.List.{filter}
 use Rattle.std.specs.Prelude.{None, ℕ, ◌+◌, ◌-◌, ◌*◌, ◌%◌, ◌^◌, ◌<◌, ◌≤◌, ◌==◌, List, [], ◌∷◌, map, min}

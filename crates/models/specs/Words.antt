@@ -1,4 +1,4 @@
--- The words that a process draws (this project's profile). Each is the first word of a generator of
+-- The words that a process draws. Each is the first word of a generator of
 -- its own, PCG's XSH RR 64/32 (O'Neill 2014), so a handling is a function of its arguments.
 use Rattle.std.specs.Prelude.{ℕ, ◌+◌, ◌*◌, ◌^◌}
 use Rattle.rand_pcg.specs.Lcg.{increment_of, started}

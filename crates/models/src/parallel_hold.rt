@@ -12,7 +12,7 @@ use smallvec::SmallVec;
 use std::alloc::Global;
 use std::marker::Model;
 
-/// PHOLD (Fujimoto 1990), in this project's profile: a process sends each message on.
+/// PHOLD (Fujimoto 1990): a process sends each message on.
 ///
 /// The receiver and the delay are drawn. Each handling sends one message, so the number of pending
 /// messages never changes. Each process starts with `population` messages to itself, with drawn

@@ -189,7 +189,7 @@ fn make_round<'m, M: Simulated, D: SectorDisk, W: Watch>(
     Ok(run)
 }
 
-/// Makes a checkpoint if one is due, and with `seal` a seal behind it.
+/// Makes a checkpoint if one is due, and with `seal` a seal after it.
 fn save_if<'m, M: Simulated, D: SectorDisk>(
     run: PlainRun<'m, M, D>,
     due: bool,

@@ -306,7 +306,7 @@ none_early : (c : ℕ) (ds : List Done) → Every (λ (d : Done). c ≤ d.messag
 none_early c [] h = refl
 none_early c (d ∷ ds) h = cond-false (nat_lt d.message.time c) (d ∷ reported_before c ds) (reported_before c ds) (le-ltb d.message.time c h.0) ∙ none_early c ds h.1
 
--- in message order, what comes behind a report that is not before c is not before c either
+-- in message order, what comes after a report that is not before c is not before c either
 none_behind : (c : ℕ) (d : Done) (ds : List Done) → IsAscending (reported_messages (d ∷ ds)) → c ≤ d.message.time → reported_before c (d ∷ ds) ≡ []
 none_behind c d ds up h =
     none_early c (d ∷ ds) (

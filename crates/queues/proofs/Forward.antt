@@ -98,7 +98,7 @@ kept_before (k ∷ ks) (suc n) =
     let e : suc n - 1 ≡ n = omega arith in
     rw (e, take-map (λ (r : Record × Bool). r.0) n ks, take-map (λ (r : Record × Bool). r.1) n ks) refl
 
--- the words before the first record do not change if the list is cut behind
+-- the words before the first record do not change if the list is cut after
 pub words_stay : (ks : List (Record × Bool)) (n : ℕ) (words : List ℕ) → state_before (wholes ks) words ≡ words → state_before (wholes (take n ks)) words ≡ words
 words_stay ks zero words e = refl
 words_stay [] (suc n) words e = refl

@@ -151,7 +151,7 @@ as_known find f n x e = ap (λ o. o >>= f) e
 
 -- 3. Trees
 
--- behind the kind of a node
+-- after the kind of a node
 node_at : ℕ → Reader Tree → Reader Tree
 node_at kind part bytes =
     if eqb kind 1 then (number_at 8 bytes >>= λ n. Some (Number n.0, n.1)) else
@@ -261,7 +261,7 @@ row_at part (suc n) bytes = part bytes >>= λ x. row_at part n x.1 >>= λ xs. So
 block_at : Reader Act → Reader Acts
 block_at part bytes = number_at 8 bytes >>= λ n. row_at part n.0 n.1
 
--- behind the kind of a statement
+-- after the kind of a statement
 statement_at : ℕ → Reader Tree → Reader Act → Reader Act
 statement_at kind value part bytes =
     if eqb kind 10 then (number_at 8 bytes >>= λ i. value i.1 >>= λ x. Some (Let i.0 x.0, x.1)) else
@@ -416,7 +416,7 @@ no_items : {X : Type 0} (xs : List X) → length xs ≡ 0 → xs ≡ []
 no_items [] e = refl
 no_items (x ∷ xs) e = absurd (omega arith)
 
--- what stands behind the arrays
+-- what stands after the arrays
 abbrev tail_of : Meant → List ℕ
 tail_of m = number_bytes m.seed ++ (list_bytes table_bytes m.tables ++ (block_bytes m.start ++ block_bytes m.handle))
 

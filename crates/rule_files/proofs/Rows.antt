@@ -58,7 +58,7 @@ module _ (names : FileNames) (given : List (List ℕ)) where
       row-with _ rest (passed x k at) (named x k) (with_statement names given at k text x)
 
   module _ (at : Layout) (k : ℕ) (text : List ℕ) where
-    -- the text behind the first block of a choice
+    -- the text after the first block of a choice
     abbrev pub before_met : Expression → List ℕ
     before_met e = with_value names given at 9 (with_margin at text ++ codes "if ") e ++ codes " {\n"
 
@@ -142,7 +142,7 @@ module _ (s : Statement) (e : Expression) (met unmet : Vec Statement Global) (ch
       ∙ ap (λ zs. chosen names given at k text e met.items zs) (sym two)
       ∙ ap (λ zs. chosen names given at k text e zs ys) (sym one)
 
-  -- the texts behind each part that is printed
+  -- the texts after each part that is printed
   module _ (names : FileNames) (given : List (List ℕ)) (at inside behind : Layout) (k n : ℕ) (zs : List Statement) (three : zs ≡ unmet.items) (u : Otherwise) (kind : u ≡ otherwise_of zs) (mark t0 t1 t2 t3 t4 t5 t6 t7 t8 t9 : List ℕ) where
     pub choice-text : inside ≡ deeper at → n ≡ named_all xs k → mark ≡ opening u → behind ≡ otherwise_layout u at →
         t1 ≡ with_margin at t0 → t2 ≡ t1 ++ codes "if " → t3 ≡ with_value names given at 9 t2 e → t4 ≡ t3 ++ codes " {\n" →

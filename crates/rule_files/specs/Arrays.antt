@@ -24,7 +24,7 @@ declared_view name count bits = record { name = name; count = count; bits = bits
 abbrev pub is_digit : ℕ → Bool
 is_digit b = nat_le 48 b && nat_le b 57
 
--- the number that the digits at the beginning say, behind a number; a greater one than 65,536
+-- the number that the digits at the beginning say, after a number; a greater one than 65,536
 -- counts as that
 abbrev pub number_in : ℕ → List ℕ → ℕ
 number_in n [] = n
@@ -34,7 +34,7 @@ abbrev pub behind_digits : List ℕ → List ℕ
 behind_digits [] = []
 behind_digits (b ∷ bs) = if is_digit b then behind_digits bs else b ∷ bs
 
--- what stands behind a mark at the beginning
+-- what stands after a mark at the beginning
 abbrev pub after : List ℕ → List ℕ → Option (List ℕ)
 after mark text =
     if bytes_eq (take (min (length mark) (length text)) text) mark
@@ -79,7 +79,7 @@ array_word name a j =
     let last = min (first + per_word a) a.count - 1 in
     (((name ++ codes "[") ++ decimal first) ++ last_text first last) ++ codes "]"
 
--- behind these words, those of an array, j of them
+-- after these words, those of an array, j of them
 abbrev pub with_array_words : ℕ → List ℕ → Array → List (List ℕ) → List (List ℕ)
 with_array_words zero name a words = words
 with_array_words (suc j) name a words =

@@ -1,5 +1,5 @@
 -- The digest by which models by rules are told apart: the SHA-256 of the bytes of what their files
--- mean. Each part has a fixed length or stands behind its length, and each node of a tree behind
+-- mean. Each part has a fixed length or stands after its length, and each node of a tree after
 -- its kind.
 use Rattle.std.specs.Prelude.{◌≡◌, ◌≤◌, ◌<◌, ℕ, zero, suc, ◌^◌, List, [], ◌∷◌, ◌++◌, Bool, codes}
 use Rattle.std.specs.Prelude.{drop, if◌then◌else◌, length, map, replicate, take}
@@ -26,11 +26,11 @@ use Rattle.rules_text.specs.Statements.{acts_of, cons, empty}
 unfoldable pub number_bytes : ℕ → List ℕ
 number_bytes n = bytes_high_first 8 n
 
--- behind its length
+-- after its length
 abbrev pub text_bytes : List ℕ → List ℕ
 text_bytes text = number_bytes (length text) ++ text
 
--- the parts, behind their number
+-- the parts, after their number
 abbrev pub list_bytes : {X : Type 0} → (X → List ℕ) → List X → List ℕ
 list_bytes part xs = number_bytes (length xs) ++ flat_map part xs
 
@@ -99,7 +99,7 @@ abbrev pub count : Acts → ℕ
 count empty = 0
 count (cons x rest) = suc (count rest)
 
--- a statement, and statements one after the other; a block stands behind their number
+-- a statement, and statements one after the other; a block stands after their number
 abbrev mutual
   pub act_bytes : Act → List ℕ
   act_bytes (Let i x) = 10 ∷ (number_bytes i ++ tree_bytes x)

@@ -1,4 +1,4 @@
--- The meaning of a model that a model file describes, and its laws (this project's profile).
+-- The meaning of a model that a model file describes, and its laws.
 use Rattle.model.specs.Meaning.{IsLawful, Meaning}
 use Rattle.models.specs.Any.{any_lawful, any_meaning}
 use Rattle.rule_files.specs.declared.file_model.FileModel.{FileModel}

@@ -1,4 +1,4 @@
--- Model files of all models (this project's profile): which table describes a model, the mistakes
+-- Model files of all models: which table describes a model, the mistakes
 -- in other tables, and what `check` prints of a model.
 use Rattle.std.specs.Prelude.{◌≡◌, ℕ, ◌-◌, ◌^◌, ◌==◌, ◌&&◌, ◌||◌, List, [], ◌∷◌, ◌++◌}
 use Rattle.std.specs.Prelude.{Bool, true, false, Option, Some, None, codes, if◌then◌else◌, is_some}

@@ -56,7 +56,7 @@ count_of t = number_at (codes "count") 1 65536 t
 abbrev pub kind_of : List ℕ → ℕ → ℕ → Kind
 kind_of name first count = record { name = name; first = first; count = count }
 
--- a kind whose processes go on behind those of the kinds before it: at most 65,536 in all
+-- a kind whose processes go on after those of the kinds before it: at most 65,536 in all
 abbrev pub few_processes : ℕ → ℕ → Option ℕ
 few_processes first count = if nat_le (first + count) 65536 then Some count else None
 
@@ -116,7 +116,7 @@ abbrev pub IsRuleAt : List ℕ → Parts → Members → List Statement → Type
 IsRuleAt key parts rules rule =
     (text : List ℕ) × (text_in key rules ≡ Some text) × Spells parts text rule
 
--- the number behind its last process, the words of its state, and its rules
+-- the number after its last process, the words of its state, and its rules
 pub record KindRules : Type 0 where
   pub end : ℕ
   pub width : ℕ

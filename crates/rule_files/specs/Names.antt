@@ -1,4 +1,4 @@
--- The names that a model by rules can give (this project's profile).
+-- The names that a model by rules can give.
 use Rattle.std.specs.Prelude.{ℕ, List, [], ◌∷◌, ◌==◌, ◌&&◌, ◌||◌, Bool, true, codes, length}
 use Rattle.std.specs.Prelude.{nat_eq, nat_le, not, slice_index}
 use Rattle.std.specs.Cmp.Lexicographic.{pointwise}

@@ -1,5 +1,5 @@
--- What `check` prints of a model by rules (this project's profile): its names, its tables, and its
--- rules laid out. Each definition is a text with something behind it.
+-- What `check` prints of a model by rules: its names, its tables, and its
+-- rules laid out. Each definition is a text with something after it.
 use Rattle.std.specs.Prelude.{ℕ, zero, suc, ◌+◌, ◌-◌, ◌*◌, ◌^◌, ◌==◌, ◌||◌, List, [], ◌∷◌, ◌++◌, Bool}
 use Rattle.std.specs.Prelude.{true, false, codes, decimal, if◌then◌else◌, get_or, length, map, min}
 use Rattle.std.specs.Prelude.{nat_lt, not, slice_index, slice_set, string_bytes, take}
@@ -48,7 +48,7 @@ abbrev pub right_looseness : Operator → ℕ
 right_looseness o =
     if looseness o == 0 then 9 else if looseness o == 7 then 6 else looseness o - 1
 
--- what stands between the two values of an operator, and what before and behind them: parentheses
+-- what stands between the two values of an operator, and what before and after them: parentheses
 -- where only values that bind at most so loosely may stand
 abbrev pub sign : Operator → List ℕ
 sign Plus = codes " + "
@@ -118,12 +118,12 @@ abbrev pub with_local : ℕ → ℕ → Layout → Layout
 with_local place name at =
     record { depth = at.depth; inline = at.inline; scope = slice_set at.scope place name }
 
--- where the statements behind this one stand
+-- where the statements after this one stand
 abbrev pub passed : Statement → ℕ → Layout → Layout
 passed (Let i e) k at = with_local i k at
 passed s k at = at
 
--- the number of names that a rule has given, before and behind a statement
+-- the number of names that a rule has given, before and after a statement
 abbrev mutual
   pub named : Statement → ℕ → ℕ
   named (Let i e) k = next k
@@ -163,7 +163,7 @@ is_choice s = false
 abbrev pub either_choice : Bool → Otherwise
 either_choice choice = if choice then Choice else Block
 
--- what stands behind a block that is run if a value is not 0: nothing, one more choice, or a block
+-- what stands after a block that is run if a value is not 0: nothing, one more choice, or a block
 abbrev pub otherwise_row : {m : _} → Row_of-Statement m → Otherwise
 otherwise_row end_of-Statement = Nothing
 otherwise_row (more_of-Statement x end_of-Statement) = either_choice (is_choice x)
@@ -189,7 +189,7 @@ with_closing Nothing at text = text
 with_closing Choice at text = text
 with_closing Block at text = with_indent at.depth text ++ codes "}\n"
 
--- the mark, if something stands behind it
+-- the mark, if something stands after it
 abbrev pub mark_if : Bool → List ℕ → List ℕ
 mark_if stands mark = if stands then mark else []
 
@@ -241,7 +241,7 @@ module _ (names : FileNames) (given : List (List ℕ)) where
       with_value at 9
       ((text ++ array_name (map array_view names.arrays.items) a) ++ codes "[") i ++ codes "]"
 
-  -- a word of content behind its mark, or nothing
+  -- a word of content after its mark, or nothing
   abbrev pub with_word : Layout → List ℕ → List ℕ → Expression → List ℕ
   with_word at mark text e =
       if length mark == 0 then text else with_value at 9 (text ++ mark) e
@@ -398,7 +398,7 @@ with_model names d text =
 
 -- 5. A model with kinds of processes
 
--- the block of the first kind, and the rule for the kinds behind it
+-- the block of the first kind, and the rule for the kinds after it
 abbrev pub block_of : List Statement → List Statement
 block_of (If' e s met t unmet ∷ []) = items-the_row-Statement _ met
 block_of rule = []

@@ -1,4 +1,4 @@
--- Which text spells which rule (this project's profile), by the names that a model file gives.
+-- Which text spells which rule, by the names that a model file gives.
 use Rattle.std.specs.Prelude.{ℕ, ◌+◌, ◌*◌, List, [], ◌∷◌, ◌++◌, Option, Some, None, Bool, false}
 use Rattle.std.specs.Prelude.{◌&&◌, drop, if◌then◌else◌, length, map, max, nat_le}
 use Rattle.std.specs.List.{list_any}
@@ -48,7 +48,7 @@ number_names ns = map (λ n. (n.0, t.Number (value_of n.1))) ns
 abbrev pub array_names : List (List ℕ × Array) → List (List ℕ × Token)
 array_names arrays = map (λ a. (a.0, t.Array a.1)) arrays
 
--- the sorts of messages, by their numbers, and how many words each has behind its number
+-- the sorts of messages, by their numbers, and how many words each has after its number
 abbrev pub sorts_from : ℕ → List (List ℕ × List (List ℕ)) → List (List ℕ × Token)
 sorts_from i [] = []
 sorts_from i (sort ∷ sorts) = (sort.0, token_meant (w.Sort i (length sort.1))) ∷ sorts_from (i + 1) sorts

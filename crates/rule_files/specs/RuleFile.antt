@@ -1,4 +1,4 @@
--- What the file of a model by rules says (this project's profile): the values at its keys.
+-- What the file of a model by rules says: the values at its keys.
 use Rattle.std.specs.Prelude.{ℕ, ◌+◌, ◌-◌, ◌^◌, ◌==◌, List, [], ◌∷◌, ◌++◌, Bool, true, ◌&&◌, ◌||◌}
 use Rattle.std.specs.Prelude.{false, Option, Some, None, codes, drop, if◌then◌else◌, is_some}
 use Rattle.std.specs.Prelude.{length, min, nat_eq}
@@ -106,7 +106,7 @@ unfoldable pub tables_of : Members → Option (List (List ℕ × List ℕ))
 tables_of t =
     option_and_then few_numbers (named_or_none (numbers_in true) (get_member (codes "tables") t))
 
--- the names of a sort's fields, by their places behind the first word: at most 3
+-- the names of a sort's fields, by their places after the first word: at most 3
 unfoldable pub fields_in : Data → Option (List (List ℕ))
 fields_in d = option_and_then (at_most 3) (words_in d)
 

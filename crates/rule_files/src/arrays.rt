@@ -57,7 +57,7 @@ pub(crate) fn number_in(text: &[u8]) -> u64
     number
 }
 
-/// Returns what stands behind the digits at the beginning of a text.
+/// Returns what stands after the digits at the beginning of a text.
 fn behind_digits(text: &[u8]) -> &[u8]
     ensures { result.now ≡ behind_digits text.now }
 {
@@ -69,7 +69,7 @@ fn behind_digits(text: &[u8]) -> &[u8]
     &[]
 }
 
-/// Returns what stands behind a mark at the beginning of a text.
+/// Returns what stands after a mark at the beginning of a text.
 fn after<'a>(mark: &[u8], text: &'a [u8]) -> Option<&'a [u8]>
     ensures { option_map (λ rest. rest.now) result ≡ after mark.now text.now }
 {
@@ -106,7 +106,7 @@ pub(crate) fn declared_in(text: &str) -> Option<Declared<'_>>
     declared_behind(name, rest.as_bytes())
 }
 
-/// Returns the array of this name that the text behind its first bracket declares.
+/// Returns the array of this name that the text after its first bracket declares.
 fn declared_behind<'a>(name: &'a str, text: &[u8]) -> Option<Declared<'a>>
     ensures some { option_map (λ d. declared_view d.name.now d.count d.bits) result
         ≡ declared_behind name.now text.now }
@@ -220,7 +220,7 @@ pub(crate) fn put_item(
     }
 }
 
-/// Adds an array behind the words of a state, and returns whether it fits.
+/// Adds an array after the words of a state, and returns whether it fits.
 fn put_declared(
     alloc: Global,
     declared: Declared<'_>,
@@ -302,7 +302,7 @@ fn words_behind_key(alloc: Global, words: &[String]) -> Result<Vec<String>, Allo
     Ok(all)
 }
 
-/// Returns the arrays at their places behind the key, which was at this place.
+/// Returns the arrays at their places after the key, which was at this place.
 fn moved_arrays(
     alloc: Global,
     key: Option<u8>,
@@ -320,7 +320,7 @@ fn moved_arrays(
     Ok(all)
 }
 
-/// Returns the array at its place behind the key.
+/// Returns the array at its place after the key.
 fn moved(key: Option<u8>, array: Array) -> Array
     ensures { result ≡ moved key array }
 {

@@ -164,7 +164,7 @@ pub(crate) fn state_of(alloc: Global, table: &Table) -> Result<Option<StateNames
     }
 }
 
-/// Reads the words and the arrays of the state, behind the key if each state begins with it.
+/// Reads the words and the arrays of the state, after the key if each state begins with it.
 fn state_in(alloc: Global, table: &Table, keyed: bool) -> Result<Option<StateNames>, AllocError>
     ensures state { IfOk result (λ found. option_map state_view found
         ≡ option_and_then (state_in keyed) (state_of (table_view table.now))) }

@@ -50,7 +50,7 @@ const MOST_KIND_STEPS: u64 = 65_280;
 /// What was read of a kind.
 #[derive(Drop)]
 pub(crate) struct KindRead {
-    /// The number behind its last process.
+    /// The number after its last process.
     pub end: u64,
     /// The words of its state.
     pub width: u8,

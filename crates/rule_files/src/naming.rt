@@ -258,7 +258,7 @@ fn name_why(alloc: Global, name: &str) -> Result<String, AllocError> {
 }
 
 /// Returns why a text that begins with a name and a bracket declares no array. The rest is what
-/// stands behind the bracket.
+/// stands after the bracket.
 fn array_why(alloc: Global, text: &str, rest: &str) -> Result<String, AllocError> {
     match count_and_bits(rest) {
         Some((count, _)) if !is_within(count, 1024) => {
@@ -272,7 +272,7 @@ fn array_why(alloc: Global, text: &str, rest: &str) -> Result<String, AllocError
 }
 
 /// Returns the digits of the number of elements, and those of the bits of an element, if the text
-/// behind the first bracket of a declaration has them.
+/// after the first bracket of a declaration has them.
 fn count_and_bits(rest: &str) -> Option<(&str, &str)> {
     let (count, rest) = rest.split_once("]: ")?;
     let bits = match rest.strip_suffix(" bits") {
@@ -496,7 +496,7 @@ fn field_twice(
     Ok(None)
 }
 
-/// Returns what is wrong with the fields of a sort behind those of the sorts before it.
+/// Returns what is wrong with the fields of a sort after those of the sorts before it.
 fn sort_twice<'a>(
     alloc: Global,
     sort: &'a NamedSort,

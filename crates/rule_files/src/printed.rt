@@ -43,7 +43,7 @@ struct Layout {
     scope: [u64; 16],
 }
 
-/// What stands behind the block that is run if a value is not 0.
+/// What stands after the block that is run if a value is not 0.
 #[derive(Clone, Copy, Debug)]
 enum Otherwise {
     Nothing,
@@ -129,7 +129,7 @@ fn block_of(rule: &[Statement]) -> &[Statement]
     }
 }
 
-/// Returns the rule for the kinds behind the first one in a rule for all kinds.
+/// Returns the rule for the kinds after the first one in a rule for all kinds.
 fn rest_of(rule: &[Statement]) -> &[Statement]
     ensures { result.now ≡ rest_of rule.now }
 {
@@ -343,14 +343,14 @@ fn put_array(named: &NamedArray, text: &mut String) -> Result<(), AllocError>
     put(unit(named.array.bits), text)
 }
 
-/// Returns the word behind the bits of an element.
+/// Returns the word after the bits of an element.
 fn unit(bits: u8) -> &'static str
     ensures { result.now ≡ unit bits }
 {
     if bits == 1 { " bit\n" } else { " bits\n" }
 }
 
-/// Appends names, each behind a space.
+/// Appends names, each after a space.
 fn put_names(names: &[String], text: &mut String) -> Result<(), AllocError>
     ensures { OnOk result (string_bytes text.new
         ≡ with_names (string_bytes text.old) (map string_bytes names.now)) }
@@ -426,7 +426,7 @@ fn put_table(name: &str, numbers: &[u64], text: &mut String) -> Result<(), Alloc
     put("\n", text)
 }
 
-/// Appends numbers, each behind a space.
+/// Appends numbers, each after a space.
 fn put_figures(numbers: &[u64], text: &mut String) -> Result<(), AllocError>
     ensures { OnOk result (string_bytes text.new
         ≡ with_figures (string_bytes text.old) numbers.now) }
@@ -539,7 +539,7 @@ fn function_name(operator: Operator) -> &'static str
     }
 }
 
-/// Returns what stands behind the two values of an operator.
+/// Returns what stands after the two values of an operator.
 fn behind(most: u8, operator: Operator) -> &'static str
     ensures { result.now ≡ behind most operator }
 {
@@ -670,7 +670,7 @@ fn local_name(given: &[String], at: Layout, place: u8) -> &str
     name_at(given, number as usize)
 }
 
-/// Returns the number behind a number of names, or blocks.
+/// Returns the number after a number of names, or blocks.
 fn next(number: u64) -> u64
     ensures { result ≡ next_of number }
 {
@@ -717,7 +717,7 @@ fn with_local(place: u8, name: u64, at: Layout) -> Layout
     }
 }
 
-/// Returns where the statements behind this one stand.
+/// Returns where the statements after this one stand.
 fn passed(statement: &Statement, name: u64, at: Layout) -> Layout
     ensures { result ≡ passed statement.now name at }
 {
@@ -757,7 +757,7 @@ fn is_zero(e: &Expression) -> bool
     }
 }
 
-/// Appends a word of content, if it or one behind it is not 0.
+/// Appends a word of content, if it or one after it is not 0.
 fn put_word(
     names: &FileNames,
     given: &[String],
@@ -777,7 +777,7 @@ fn put_word(
     put_value(names, given, at, 9, e, text)
 }
 
-/// Returns a mark if something stands behind it, otherwise nothing.
+/// Returns a mark if something stands after it, otherwise nothing.
 fn mark_if(stands: bool, mark: &'static str) -> &'static str
     ensures { result.now ≡ mark_if stands mark.now }
 {
@@ -806,7 +806,7 @@ fn put_content(
     put_word(names, given, at, mark_if(fourth, ", "), &sending.d, text)
 }
 
-/// Appends a send, behind its margin.
+/// Appends a send, after its margin.
 fn put_sending(
     names: &FileNames,
     given: &[String],
@@ -836,7 +836,7 @@ fn is_choice(statement: &Statement) -> bool
     }
 }
 
-/// Returns what stands behind the block that is run if a value is not 0.
+/// Returns what stands after the block that is run if a value is not 0.
 fn otherwise_of(unmet: &[Statement]) -> Otherwise
     ensures { result ≡ otherwise_of unmet.now }
 {
@@ -852,7 +852,7 @@ fn otherwise_of(unmet: &[Statement]) -> Otherwise
     }
 }
 
-/// Returns the end of the block before, and the beginning of what stands behind it.
+/// Returns the end of the block before, and the beginning of what stands after it.
 fn opening(otherwise: Otherwise) -> &'static str
     ensures { result.now ≡ opening otherwise }
 {
@@ -863,7 +863,7 @@ fn opening(otherwise: Otherwise) -> &'static str
     }
 }
 
-/// Returns the layout of what stands behind the block.
+/// Returns the layout of what stands after the block.
 fn otherwise_layout(otherwise: Otherwise, at: Layout) -> Layout
     ensures { result ≡ otherwise_layout otherwise at }
 {
@@ -873,7 +873,7 @@ fn otherwise_layout(otherwise: Otherwise, at: Layout) -> Layout
     }
 }
 
-/// Appends the end of what stands behind the block.
+/// Appends the end of what stands after the block.
 fn put_closing(otherwise: Otherwise, at: Layout, text: &mut String) -> Result<(), AllocError>
     ensures { OnOk result (string_bytes text.new
         ≡ with_closing otherwise at (string_bytes text.old)) }
@@ -887,7 +887,7 @@ fn put_closing(otherwise: Otherwise, at: Layout, text: &mut String) -> Result<()
     }
 }
 
-/// Appends a statement. `number` is how many names the rule has given before it, and then behind it.
+/// Appends a statement. `number` is how many names the rule has given before it, and then after it.
 #[cycle(layout)]
 fn put_statement(
     names: &FileNames,

@@ -26,7 +26,7 @@ pub struct Named {
 pub struct NamedSort {
     /// The name.
     pub name: String,
-    /// The names of the words behind its number, by their places, at most 3. `_` is no name.
+    /// The names of the words after its number, by their places, at most 3. `_` is no name.
     pub fields: Vec<String>,
 }
 
@@ -47,7 +47,7 @@ pub struct Scope<'a, 't> {
     pub words: Vec<String>,
     /// The arrays of the state, by their places.
     pub arrays: Vec<NamedArray>,
-    /// The words of a message's content that have a name, by their places, at most 4. Those behind
+    /// The words of a message's content that have a name, by their places, at most 4. Those after
     /// them are called `a`, `b`, `c` and `d`, by their places.
     pub content: Vec<String>,
     /// The named numbers, each with one number, in the order of the bytes of their names.

@@ -49,7 +49,7 @@ abbrev InChoice : (names : List ℕ) (n d : ℕ) (act : Act) (ts rest : List Tok
 InChoice names zero d act ts rest = ⊥
 InChoice names (suc n) d act ts rest = BeginsPart names n d (Choice act) ts rest
 
--- what stands behind `on` and a sort, and that no further one follows
+-- what stands after `on` and a sort, and that no further one follows
 record Cased (names : List ℕ) (n d : ℕ) (sort : Sort) (act : Act) (ts rest : List Token) : Type 0 where
   case : BeginsPart names n d (Case sort act) ts rest
   ends : sort_at rest ≡ None
@@ -359,7 +359,7 @@ sort_only (t.Name name ∷ t.Sort n ∷ ts) p e = elim (cases_Bool (eqb name on_
       absurd cc
 ]
 
--- where no sort stands behind an `on`, none does at the front
+-- where no sort stands after an `on`, none does at the front
 no_sort : (us more : List Token) → sort_at (us ++ more) ≡ None → is_on us ≡ false
 no_sort [] more e = refl
 no_sort (t.Number n ∷ us) more e = refl

@@ -96,7 +96,7 @@ abbrev pub longest : Option Lexeme → Option Lexeme → Option (Lexeme × ℕ)
 longest (Some two) one = Some (two, 2)
 longest None one = one >>= λ x. Some (x, 1)
 
--- `.count`, behind its point: the letters go no further
+-- `.count`, after its point: the letters go no further
 abbrev pub is_counting : List ℕ → Bool
 is_counting rest = eqb (run Word rest) 5 && bytes_eq (take 5 rest) (codes "count")
 

@@ -84,12 +84,12 @@ abbrev pub count_at : List Token → Option (ℕ × List Token)
 count_at (t.Number n ∷ rest) = if nat_lt n (2 ^ 32) then Some (n, rest) else None
 count_at _ = None
 
--- the value that ends a repeat, behind `until`
+-- the value that ends a repeat, after `until`
 abbrev pub until_at : List Token → Option (List Token)
 until_at (t.Name name ∷ rest) = if eqb name until_name then Some rest else None
 until_at _ = None
 
--- what stands behind the count, with the name of the turn in scope
+-- what stands after the count, with the name of the turn in scope
 abbrev pub repeated : Option (List Token) → ℕ → Reads (Acts) → (place count : ℕ) → Reads Done
 repeated None d block place count names ts = block names ts >>= λ body. Some ((Repeat place count body.0, None), body.1)
 repeated (Some us) d block place count names ts =
@@ -99,7 +99,7 @@ abbrev pub repetition : ℕ → Reads (Acts) → Reads Done
 repetition d block names ts =
     new_name names ts >>= λ p. count_at p.1 >>= λ n. repeated (until_at n.1) d block (length names) n.0 (names ++ p.0 ∷ []) n.1
 
--- the sort behind `on`, where they come first
+-- the sort after `on`, where they come first
 abbrev pub sort_at : List Token → Option (Sort × List Token)
 sort_at (t.Name name ∷ t.Sort sort ∷ rest) = if eqb name on_name then Some (sort, rest) else None
 sort_at _ = None
@@ -109,7 +109,7 @@ abbrev pub further : Option (Sort × List Token) → (Sort → Reads Act) → Re
 further None next names ts = Some (empty, ts)
 further (Some p) next names ts = next p.0 names p.1 >>= λ q. Some (cons q.0 empty, q.1)
 
--- what stands behind `on` and a sort
+-- what stands after `on` and a sort
 abbrev pub case_with : Reads (Acts) → (Sort → Reads Act) → Sort → Reads Act
 case_with block next sort names ts =
     block names ts >>= λ met. further (sort_at met.1) next names met.1 >>= λ unmet. Some (If (is_of_sort sort) met.0 unmet.0, unmet.1)
@@ -173,7 +173,7 @@ abbrev mutual
   choice_at zero d names ts = None
   choice_at (suc n) d names ts = choice_with d (block_at n d) (choice_at n d) names ts
 
-  -- what stands behind a further `on` and its sort
+  -- what stands after a further `on` and its sort
   pub case_at : (n d : ℕ) (sort : Sort) → Reads Act
   case_at zero d sort names ts = None
   case_at (suc n) d sort names ts = case_with (block_at n d) (case_at n d) sort names ts

@@ -35,7 +35,7 @@ has_bare_self n (token ∷ ts) =
 
 -- 2. Where the model has sorts, the first word of content is the name of one, which says how many more there are
 
--- the number of words of content behind the sort, before a further `send`: the commas outside of all ( ), if `n` ( are open at the beginning
+-- the number of words of content after the sort, before a further `send`: the commas outside of all ( ), if `n` ( are open at the beginning
 abbrev pub words_from : (open_brackets : ℕ) → List Token → ℕ
 words_from n [] = 0
 words_from n (token ∷ ts) =
@@ -50,7 +50,7 @@ abbrev pub goes_on : List Token → Bool
 goes_on [] = false
 goes_on (token ∷ ts) = is_sign token
 
--- what stands behind `with`
+-- what stands after `with`
 abbrev pub is_of_sort : List Token → Bool
 is_of_sort [] = false
 is_of_sort (t.Sort sort ∷ ts) = not (goes_on ts) && (words_from 0 ts == sort.words)

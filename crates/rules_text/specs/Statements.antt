@@ -90,7 +90,7 @@ abbrev pub is_on : List Token → Bool
 is_on (t.Name name ∷ t.Sort sort ∷ rest) = eqb name on_name
 is_on _ = false
 
--- what is spelled: statements one after the other; what stands behind `if`; what stands behind its first block; what stands behind `on` and a
+-- what is spelled: statements one after the other; what stands after `if`; what stands after its first block; what stands after `on` and a
 -- sort
 pub data Part : Type 0 where
   Statements : (acts : Acts) → Part
@@ -99,7 +99,7 @@ pub data Part : Type 0 where
   Case : (sort : Sort) (act : Act) → Part
 
 -- With these names in scope the tokens spell the part, with at most d blocks around one another, and at most n blocks, `else if` and further `on`
--- around one another. A `let` names its value for the statements behind it, a `repeat` the number of the turn for its block and for the value
+-- around one another. A `let` names its value for the statements after it, a `repeat` the number of the turn for its block and for the value
 -- that ends it: with a name that the scope lacks, and at most 16 at once. Statements of `on` that follow each other are one chain, where each
 -- stands in place of an `else` of the one before.
 pub data SpellsPart : (names : List ℕ) (n d : ℕ) → Part → List Token → Type 0 where

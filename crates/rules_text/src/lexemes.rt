@@ -192,7 +192,7 @@ fn double(one: u8, two: u8) -> Option<Lexeme>
     }
 }
 
-/// `.count`, behind its point: the letters go no further.
+/// `.count`, after its point: the letters go no further.
 fn is_count(rest: &[u8]) -> bool
     ensures value { result ≡ is_counting rest.now }
     ensures within { result ≡ true → 5 ≤ length rest.now }

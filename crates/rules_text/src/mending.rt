@@ -1,4 +1,4 @@
-// Goes on behind what a rule is refused for, so that several mistakes of a text are found. Of what
+// Goes on after what a rule is refused for, so that several mistakes of a text are found. Of what
 // is found a clause says only that it is something: tests hold the rest.
 
 ghost use Rattle.std.specs.Prelude.{◌≤◌, ◌≡◌, IfOk, OnOk, length};
@@ -111,7 +111,7 @@ fn add_sends(
     Ok(())
 }
 
-/// Whether a text nests too much: behind that, each part of it would.
+/// Whether a text nests too much: after that, each part of it would.
 fn is_limit(wanted: Wanted) -> bool {
     wanted == Wanted::LessNesting || wanted == Wanted::FewerLinks
 }
@@ -391,7 +391,7 @@ fn put_in_place(
     open_blocks(next, opened - 1, place)
 }
 
-/// The name behind `let` or `repeat`, where the scope does not have it.
+/// The name after `let` or `repeat`, where the scope does not have it.
 fn given_name(refused: &[Token]) -> Option<Token> {
     let first = *refused.first()?;
     let second = *refused.get(1)?;

@@ -106,7 +106,7 @@ pub(crate) fn mistake_at(
     }
 }
 
-/// Whether `on` stands where a sort was wanted behind it.
+/// Whether `on` stands where a sort was wanted after it.
 fn is_on_without_sort(scope: &Scope, tokens: &[Token], index: usize) -> bool {
     let next_is_sign = matches!(
         tokens.get(index.saturating_add(1)),

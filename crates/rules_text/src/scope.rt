@@ -37,7 +37,7 @@ pub enum Meaning {
     Sort {
         /// Its number, the first word of a message.
         number: u64,
-        /// How many words stand behind its number.
+        /// How many words stand after its number.
         words: usize,
     },
 }

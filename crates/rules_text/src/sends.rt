@@ -57,7 +57,7 @@ fn bare_self(receiver: &[Token]) -> Option<Refusal>
     None
 }
 
-/// How many words of content stand behind the first one.
+/// How many words of content stand after the first one.
 fn words_behind(content: &[Token]) -> usize
     ensures { result ≡ words_from 0 content.now }
 {
@@ -88,7 +88,7 @@ fn goes_on(tokens: &[Token]) -> bool
     }
 }
 
-/// What is wrong with the content behind `with`, in a model with sorts.
+/// What is wrong with the content after `with`, in a model with sorts.
 fn wrong_content(content: &[Token]) -> Option<Refusal>
     ensures { is_some result ≡ not (is_of_sort content.now) }
 {
@@ -116,7 +116,7 @@ fn without_sort(sending: &[Token]) -> Refusal {
     }
 }
 
-/// What is wrong with the content of a send, behind `send`, in a model with sorts.
+/// What is wrong with the content of a send, after `send`, in a model with sorts.
 fn wrong_sort(sending: &[Token]) -> Option<Refusal>
     ensures { is_some result ≡ not (has_its_sort sending.now) }
 {
@@ -131,7 +131,7 @@ fn wrong_sort(sending: &[Token]) -> Option<Refusal>
     Some(without_sort(sending))
 }
 
-/// What is wrong with a send, behind `send`.
+/// What is wrong with a send, after `send`.
 pub(crate) fn wrong_send(sorted: bool, sending: &[Token]) -> Option<Refusal>
     ensures { is_some result ≡ not (is_right sorted sending.now) }
 {

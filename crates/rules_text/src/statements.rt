@@ -37,7 +37,7 @@ pub(crate) fn rule(alloc: Global, tokens: &[Token]) -> Result<Vec<Statement>, St
     }
 }
 
-/// The sort behind `on`, where they come first, and the tokens after it.
+/// The sort after `on`, where they come first, and the tokens after it.
 fn sort<'a>(tokens: &'a [Token]) -> Option<(Sort, &'a [Token])>
     ensures { MatchOption result (sort_at tokens.now ≡ None) (λ p. sort_at tokens.now ≡ Some (p.0, p.1.now)) }
 {
@@ -303,7 +303,7 @@ fn otherwise<'a>(
     Ok((statements, rest))
 }
 
-/// What stands behind `else if`, which takes one link.
+/// What stands after `else if`, which takes one link.
 #[cycle(statements)]
 fn nested_choice<'a>(
     alloc: Global,
@@ -350,7 +350,7 @@ fn is_of_sort(alloc: Global, sort: Sort) -> Result<Expression, AllocError>
     Ok(Expression::Two(Operator::Same, word, number))
 }
 
-/// What stands behind `on` and a sort.
+/// What stands after `on` and a sort.
 #[cycle(statements)]
 fn case<'a>(
     alloc: Global,
@@ -389,7 +389,7 @@ fn further<'a>(
     Ok((statements, rest))
 }
 
-/// What stands behind a further `on` and its sort, which takes one link.
+/// What stands after a further `on` and its sort, which takes one link.
 #[cycle(statements)]
 fn nested_case<'a>(
     alloc: Global,
@@ -438,7 +438,7 @@ fn repeated_until(place: u8, count: u32, x: Expression, body: Vec<Statement>) ->
     Statement::RepeatUntil(place, count, x, body)
 }
 
-/// The tokens behind `until`, where it comes first.
+/// The tokens after `until`, where it comes first.
 fn until<'a>(tokens: &'a [Token]) -> Option<&'a [Token]>
     ensures { MatchOption result (until_at tokens.now ≡ None) (λ rest. until_at tokens.now ≡ Some rest.now) }
 {
@@ -468,7 +468,7 @@ fn repetition<'a>(
     turns(alloc, &inner, links, depth, names.len() as u8, count, rest)
 }
 
-/// What stands behind the count of `repeat`, with the name of the turn in scope.
+/// What stands after the count of `repeat`, with the name of the turn in scope.
 #[cycle(statements)]
 fn turns<'a>(
     alloc: Global,

@@ -19,9 +19,9 @@ pub enum Wanted {
     Statement,
     /// A table.
     Table,
-    /// An index or `.count`, behind a kind of processes.
+    /// An index or `.count`, after a kind of processes.
     Member,
-    /// A sort of messages, behind `on`.
+    /// A sort of messages, after `on`.
     Sort,
     /// This sign or word.
     Mark(Mark),
@@ -41,7 +41,7 @@ pub enum Wanted {
     Process,
     /// The name of a sort, as the first word of content.
     FirstSort,
-    /// As many words behind a sort as it has; how many there are.
+    /// As many words after a sort as it has; how many there are.
     Words(usize, usize),
 }
 

@@ -36,7 +36,7 @@ pub enum Token {
 pub struct Sort {
     /// Its number, the first word of a message.
     pub number: u64,
-    /// How many words stand behind its number.
+    /// How many words stand after its number.
     pub words: usize,
 }
 

@@ -1,5 +1,4 @@
--- Which other way to run a model would be faster, by what a run measured of itself (this project's
--- profile).
+-- Which other way to run a model would be faster, by what a run measured of itself.
 use Rattle.std.specs.Prelude.{Bool, None, Option, Some, ℕ, ◌&&◌, ◌/◌, ◌==◌, if◌then◌else◌}
 use Rattle.std.specs.Prelude.{nat_le, nat_lt}
 use Rattle.terminal.specs.declared.hints.Hint.{Hint}

@@ -1,4 +1,4 @@
--- The trace of a run (this project's profile): how a row gets what was committed before its turn.
+-- The trace of a run: how a row gets what was committed before its turn.
 use Rattle.std.specs.Prelude.{min, ℕ, ◌+◌, ◌-◌, ◌^◌}
 use Rattle.pictures.specs.declared.turns.Row.{Row}
 

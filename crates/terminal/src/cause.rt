@@ -20,7 +20,7 @@ use thiserror::Error;
 #[derive(Clone, Copy, Debug, PartialEq, Eq)]
 pub struct Cause<'a> {
     path: &'a str,
-    /// What the name of the file has behind that path.
+    /// What the name of the file has after that path.
     behind: &'static str,
     reason: Reason,
 }
@@ -159,7 +159,7 @@ pub enum Refusal {
 /// What a file holds that is not made a disk.
 #[derive(Clone, Copy, Debug, PartialEq, Eq)]
 pub enum Held {
-    /// The header of a disk, whose gate is closed, and other bytes than zeros behind it.
+    /// The header of a disk, whose gate is closed, and other bytes than zeros after it.
     Header {
         /// The format.
         format: u32,
@@ -168,7 +168,7 @@ pub enum Held {
         /// The end in the header, in ticks.
         end: u64,
     },
-    /// No header, and a record behind an open gate.
+    /// No header, and a record after an open gate.
     Records,
     /// Other bytes.
     Bytes,
@@ -264,7 +264,7 @@ pub fn cause_of_refusal<'a>(command: Command<'a>, refusal: Refusal) -> Option<Ca
     })
 }
 
-/// What the name of the model that a disk keeps has behind that of the disk.
+/// What the name of the model that a disk keeps has after that of the disk.
 const KEPT: &str = ".model";
 
 /// What the name has under which it is written.

@@ -16,7 +16,7 @@ use std::os::unix::fs::FileTypeExt;
 use std::rt::Files;
 use std::{mem, str};
 
-/// Passes all calls on to another `Progress`, and writes a row for each turn of a node, behind the
+/// Passes all calls on to another `Progress`, and writes a row for each turn of a node, after the
 /// rows of earlier runs of the same disk. A trace of other runs stays as it is until the new one is
 /// whole.
 #[derive(Drop)]
@@ -79,7 +79,7 @@ struct Anew {
 }
 
 /// The last row of a trace, and the number of bytes up to its end. A run that was killed may have
-/// left a part of a row behind it.
+/// left a part of a row after it.
 #[derive(Clone, Copy)]
 struct Earlier {
     row: Row,
@@ -143,7 +143,7 @@ impl TraceFile {
         anew.is_used = true;
     }
 
-    /// Begins behind this number of bytes of the file, and cuts off what follows them. What is no
+    /// Begins after this number of bytes of the file, and cuts off what follows them. What is no
     /// file of bytes, such as a pipe, has nothing to cut off. Returns whether that is done.
     fn begin_behind(&mut self, bytes: u64) -> bool {
         let file = self.rows.get_mut();
@@ -336,7 +336,7 @@ impl<'p, P: Progress> Traced<'p, P> {
         }
     }
 
-    /// Begins the trace, or goes on behind that of earlier runs of the same disk.
+    /// Begins the trace, or goes on after that of earlier runs of the same disk.
     fn begin_trace(&mut self, time: u64, events: usize) {
         self.file.choose(time, events);
         match self.file.earlier {

@@ -150,7 +150,7 @@ fn load(
     Tried::load(alloc, ring, node, nodes, 10, number, waiting.as_slice())
 }
 
-/// The text before the first `>`, and the text behind it.
+/// The text before the first `>`, and the text after it.
 fn halves(text: &str) -> (&str, &str) {
     text.split_once(" > ").unwrap_or((text, ""))
 }

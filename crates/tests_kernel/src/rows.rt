@@ -50,7 +50,7 @@ pub fn numbers(text: &str) -> Result<Row, Fail> {
     Ok(numbers)
 }
 
-/// A message, or behind `-` an antimessage.
+/// A message, or after `-` an antimessage.
 pub fn signed(text: &str) -> Result<Signed, Fail> {
     let (sign, text) = match text.strip_prefix('-') {
         Some(text) => (Sign::Minus, text),

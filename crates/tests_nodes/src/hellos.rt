@@ -19,7 +19,7 @@ fn ring() -> TokenRing {
 }
 
 /// The bytes that the rows name, in hexadecimal. A body is that of the frame without the length and
-/// the kind. The later format has other frames behind the same hello.
+/// the kind. The later format has other frames after the same hello.
 const HELLOS: [(&str, &str); 11] = [
     (
         "hello",

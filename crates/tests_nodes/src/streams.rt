@@ -128,7 +128,7 @@ fn state_words_are_encoded(rt: HostRuntime) -> Result<(), Fail> {
     Ok(())
 }
 
-/// The number of words that are read, the first and the last of them, and the number of bytes behind
+/// The number of words that are read, the first and the last of them, and the number of bytes after
 /// them.
 fn words_in(alloc: Global, bytes: &[u8]) -> Result<Option<(usize, [u64; 2], usize)>, AllocError> {
     let Some((state, rest)) = read_words(alloc, bytes)? else {

@@ -28,7 +28,7 @@ fn number(text: Option<&str>) -> u64 {
     text.unwrap_or("").parse::<u32>().map_or(0, u64::from)
 }
 
-/// Shows nine commits of a run to its end, each behind a turn in which this many messages are
+/// Shows nine commits of a run to its end, each after a turn in which this many messages are
 /// handled and reported.
 fn show<P: Progress>(shown: &mut P, handled: u64) {
     for commit in 1..10 {

@@ -35,7 +35,7 @@ fn seq_refused(
     Ok((calls, printed))
 }
 
-/// Whether a call that is refused is reported behind a part of the text, and otherwise all of the
+/// Whether a call that is refused is reported after a part of the text, and otherwise all of the
 /// text is there.
 fn is_reported(rt: &HostRuntime, path: Option<&str>, fail: usize) -> Result<bool, AllocError> {
     let (calls, printed) = seq_refused(rt, path, fail)?;

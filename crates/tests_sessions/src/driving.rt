@@ -209,7 +209,7 @@ impl Watch for Order {
 
 /// The steps of the ring's run with overlap. The token is at node 0 at times 1 and 7, at node 1 at 3
 /// and 9, and at node 2 at 5. A floor is that of the time at which its parcel was posted: right after
-/// the take before it, and behind the takes of the nodes before. A node that has answered the end,
+/// the take before it, and after the takes of the nodes before. A node that has answered the end,
 /// 10, has no more turns.
 const OVERLAPPED: [(u32, u64); 30] = [
     (0, 1),

@@ -107,7 +107,7 @@ fn run_over_nodes<M: Simulated>(
     }
 }
 
-/// The disk on which a later end is put in force behind this one.
+/// The disk on which a later end is put in force after this one.
 fn with_end<M: Simulated>(
     alloc: Global,
     model: &M,
@@ -147,7 +147,7 @@ fn called<M: Simulated>(
 
 /// The front for the last end after these calls on a disk that is made for the first one. Each call
 /// opens the disk, after a crash: `run` over this number of nodes, with this batch, this number of
-/// rounds between checkpoints (0 for none), this limit of rounds, and 1 for a seal behind each
+/// rounds between checkpoints (0 for none), this limit of rounds, and 1 for a seal after each
 /// checkpoint; `plain` with this number of events between commits, this number of commits between
 /// checkpoints, and this limit of commits, and with seals; `extend` puts this end in force.
 pub(crate) fn after<M: Simulated>(

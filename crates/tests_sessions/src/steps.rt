@@ -1,5 +1,5 @@
 // Thirteen steps of a ring of two tokens over three nodes, with a straggler, its rollback and an
-// antimessage; and a checkpoint and a commit behind them.
+// antimessage; and a checkpoint and a commit after them.
 
 use coordinator::{Answer, Session, SessionFault, Step};
 use disk::SectorDisk;

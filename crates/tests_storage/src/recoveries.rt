@@ -75,7 +75,7 @@ fn commit(alloc: Global, log: &mut Log<MemDisk>, g: u64, numbers: &[[u64; 8]]) -
     Ok(log.append(1, body.as_slice())?)
 }
 
-/// A commit: its time, and the places in `EVENTS` of its first event and of the one behind its last.
+/// A commit: its time, and the places in `EVENTS` of its first event and of the one after its last.
 type Commit = (u64, usize, usize);
 
 /// All events before the end.

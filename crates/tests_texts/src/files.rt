@@ -247,7 +247,7 @@ fn kinds_are_read_or_their_mistakes_are_found(rt: HostRuntime) -> Result<(), Fai
     Ok(())
 }
 
-/// A file with two kinds, the second one with an array of 20 bits behind the key.
+/// A file with two kinds, the second one with an array of 20 bits after the key.
 const NAMED: &str = "
 model = 'rules'
 end = 9

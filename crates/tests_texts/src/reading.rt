@@ -109,7 +109,7 @@ fn text_of(alloc: Global, command: Command<'_>) -> Result<String, AllocError> {
     }
 }
 
-/// The name of a command with these arguments behind it.
+/// The name of a command with these arguments after it.
 fn text_with<A: Debug>(alloc: Global, name: &str, args: &A) -> Result<String, AllocError> {
     format!(in alloc; "{name}({args:?})")
 }
@@ -132,7 +132,7 @@ fn shortened(alloc: Global, text: &str) -> Result<String, AllocError> {
     Ok(out)
 }
 
-/// A part without the ends of structs behind it.
+/// A part without the ends of structs after it.
 fn bare(part: &str) -> &str {
     part.strip_suffix(" })")
         .or(part.strip_suffix(" }"))
@@ -576,7 +576,7 @@ fn words_set_values(rt: HostRuntime) -> Result<(), Fail> {
     Ok(())
 }
 
-/// Words behind `help`, and the first line that is printed, or the kind of the mistake.
+/// Words after `help`, and the first line that is printed, or the kind of the mistake.
 const HELPED: &str = r#"
 timewarp help => Simulates logical processes that send one another messages stamped with virtual times
 timewarp help run => Runs a model on its disk, from the last commit to its end

@@ -16,7 +16,7 @@ pub fn is_well_formed(alloc: Global, text: &str) -> Result<bool, AllocError> {
     Ok(good && open.is_empty())
 }
 
-/// Whether a piece behind `<` may stand below the open tags, which are those behind it then.
+/// Whether a piece after `<` may stand below the open tags, which are those after it then.
 fn goes_on<'a>(open: &mut Vec<&'a str>, piece: &'a str) -> Result<bool, AllocError> {
     let Some((tag, content)) = piece.split_once('>') else {
         return Ok(false);

@@ -1,4 +1,4 @@
--- Model files of this project's models (this project's profile): which table describes a model, with
+-- Model files of this project's models: which table describes a model, with
 -- exactly its keys; the mistakes in other tables; and what `check` prints of a model.
 use Rattle.std.specs.Prelude.{◌≡◌, ℕ, ◌*◌, ◌-◌, ◌^◌, List, [], ◌∷◌, ◌++◌, Option, Some, None, codes}
 use Rattle.std.specs.Prelude.{decimal}

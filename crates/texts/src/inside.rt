@@ -121,7 +121,7 @@ fn begin_of(string: &str, spot: Spot, text: &str) -> Option<Spot> {
     for quotes in ["'''", "\"\"\""] {
         if let Some(content) = string.strip_prefix(quotes) {
             return match behind_line_end(content) {
-                // a line end right behind the quotes does not belong to the text
+                // a line end right after the quotes does not belong to the text
                 Some(content) => begins_with(content, text, line.saturating_add(1), 1),
                 None => begins_with(content, text, line, column.saturating_add(3)),
             };
@@ -131,7 +131,7 @@ fn begin_of(string: &str, spot: Spot, text: &str) -> Option<Spot> {
     begins_with(content, text, line, column.saturating_add(1))
 }
 
-/// The text behind a line end, if it begins with one.
+/// The text after a line end, if it begins with one.
 fn behind_line_end(text: &str) -> Option<&str> {
     match text.strip_prefix("\r\n") {
         Some(rest) => Some(rest),

@@ -104,7 +104,7 @@ fn is_header(line: &str, list: &str) -> bool {
     }
 }
 
-/// The value behind the list's key, or the name behind the key and a dot.
+/// The value after the list's key, or the name after the key and a dot.
 fn behind_list<'a>(line: &'a str, list: &str) -> Option<&'a str> {
     let rest = line.trim_start_matches(['"', '\'']).strip_prefix(list)?;
     let rest = rest.trim_start_matches(['"', '\'', ' ', '\t']);
@@ -179,7 +179,7 @@ fn is_name_between(passed: &str, behind: &str) -> bool {
     is_quoted || is_apart && value_behind(behind).is_some()
 }
 
-/// The value of a key behind which this text stands.
+/// The value of a key after which this text stands.
 fn value_behind(behind: &str) -> Option<&str> {
     let rest = behind.trim_start_matches(['"', '\'']).trim_start();
     Some(rest.strip_prefix('=')?.trim_start())

@@ -11,7 +11,7 @@ use std::fmt;
 ///
 /// Its text has, for each mistake, a line with the file, the place and what is wrong there, indented
 /// by two blanks; then the line of the file, and a mark below the place. The place is a line and a
-/// column, both counted from 1. A missing key has none. The mistakes behind the first 100 have no
+/// column, both counted from 1. A missing key has none. The mistakes after the first 100 have no
 /// place either, since finding one costs a pass over the file.
 ///
 /// A mistake inside the text at a key has its place in the file if the file has the text as it is.
@@ -185,7 +185,7 @@ fn is_near(one: &str, other: &str) -> bool {
     begin.saturating_add(end) > 0 && differ <= 2
 }
 
-/// The bytes behind the first `count`.
+/// The bytes after the first `count`.
 fn behind(bytes: &[u8], count: usize) -> &[u8] {
     bytes.split_at(count.min(bytes.len())).1
 }
@@ -227,7 +227,7 @@ pub(crate) fn line_at(text: &[u8], number: usize) -> Option<&str> {
 }
 
 /// The first line of a text that gives a key a value. For an item of a list, whose key has an
-/// index behind it, that of the list.
+/// index after it, that of the list.
 fn pair_of<'a>(text: &'a [u8], key: &str) -> Option<Pair<'a>> {
     let key = match key.split_once('[') {
         Some((list, _)) => list,
@@ -264,7 +264,7 @@ fn pair_in<'a>(line: usize, content: &'a str, key: &str) -> Option<Pair<'a>> {
     })
 }
 
-/// The text behind a key, which is bare or quoted, at the beginning of a text.
+/// The text after a key, which is bare or quoted, at the beginning of a text.
 fn behind_key<'a>(text: &'a str, key: &str) -> Option<&'a str> {
     if let Some(rest) = text.strip_prefix(key) {
         return Some(rest);

@@ -1,4 +1,4 @@
--- What stays the same with sectors behind an image.
+-- What stays the same with sectors after an image.
 use Rattle.std.proofs.lemmas.Option.{none-some}
 use Rattle.std.proofs.Common.{◌≡◌, ◌<◌, ℕ, List, ◌++◌, length, sym, subst, arith, None}
 use Rattle.commitlog.specs.Laws.{one_log}
@@ -72,7 +72,7 @@ genuine_stays m end header records image behind holds genuine entries log =
 
 module _ (m : Meaning) (old mid : DiskState) (looks : OnlyLooks old mid) where
   module _ (new : DiskState) (most : ℕ) (grows : LeavesOnly mid new (MayLeaveGrown mid.reads mid.dirty most)) where
-    -- what holds of each image that a crash may leave at first, also with sectors behind it
+    -- what holds of each image that a crash may leave at first, also with sectors after it
     stays : (P : List (List ℕ) → Type 0) → ((image behind : List (List ℕ)) → P image → P (image ++ behind)) → ((image : List (List ℕ)) → MayLeave old.reads old.dirty image → P image) → LeavesOnly old new P
     stays P kept at_first = followed old mid new P (weaker old mid (MayLeave old.reads old.dirty) P looks.since at_first)
         (weaker mid new (MayLeaveGrown mid.reads mid.dirty most) P grows

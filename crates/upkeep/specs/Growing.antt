@@ -1,4 +1,4 @@
--- What a disk keeps that grows behind its log, and why it does not grow.
+-- What a disk keeps that grows after its log, and why it does not grow.
 use Rattle.std.specs.Prelude.{ℕ, List, [], None, ◌++◌, ◌≡◌, ◌≤◌, length, slice_index_or, Bool}
 use Rattle.std.specs.Prelude.{Err, Ok, Result, false}
 use Rattle.commitlog.specs.Faults.{OpenIsRefused}
@@ -18,7 +18,7 @@ use Rattle.upkeep.specs.declared.growing.GrowingFault.{GrowingFault}
 use Rattle.upkeep.specs.declared.growing.GrowingFault.TheVariants.{Growth, Recovery}
 use Rattle.upkeep.specs.declared.growing.disks.Grown.{Grown}
 
--- 1. Laws of an image with any sectors behind it
+-- 1. Laws of an image with any sectors after it
 
 -- it represents the same world
 abbrev pub RepresentationStays : Type 0

@@ -1,4 +1,4 @@
--- The text of an inspection (this project's profile): one fact per line, numbers in decimal.
+-- The text of an inspection: one fact per line, numbers in decimal.
 use Rattle.std.specs.Prelude.{ℕ, ◌+◌, ◌-◌, ◌*◌, ◌/◌, ◌^◌, ◌==◌, ◌||◌, nat_le, min, if◌then◌else◌}
 use Rattle.std.specs.Prelude.{List, [], ◌∷◌, ◌++◌, codes, decimal, Option, Some, None}
 use Rattle.upkeep.specs.declared.inspection.inspecting.Inspection.{Inspection}
@@ -24,7 +24,7 @@ full_at i = i.time + (i.sectors - i.used) * (i.time - i.pace.from) / i.pace.sect
 
 -- 2. Lines
 
--- each number behind its text, and then the end of the line
+-- each number after its text, and then the end of the line
 abbrev pub line : List (List ℕ × ℕ) → List ℕ → List ℕ
 line [] last = last
 line (fact ∷ rest) last = fact.0 ++ decimal fact.1 ++ line rest last

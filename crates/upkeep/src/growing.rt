@@ -1,4 +1,4 @@
-// Growth: the disk of a model gets more sectors behind its log, which stays the same.
+// Growth: the disk of a model gets more sectors after its log, which stays the same.
 
 ghost use Rattle.std.specs.Prelude.{◌≡◌};
 

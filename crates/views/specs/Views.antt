@@ -265,7 +265,7 @@ abbrev pub needed_to : Option ℕ → Option ℕ → ℕ
 needed_to from None = 2 ^ 64 - 1
 needed_to from (Some to) = max to (unwrap_or from 0)
 
--- The picture of a run, of which what comes behind the picture's end is not simulated.
+-- The picture of a run, of which what comes after the picture's end is not simulated.
 pub record IsDrawn {M S : Type 0} (meaning : M → Meaning) (says : Describes M) (disk : Option S)
     (load : Bool) (from to : Option ℕ) (processes : Option (ℕ × ℕ)) (text : List ℕ) : Type 0 where
   pub run : PastRun

@@ -11,7 +11,7 @@ use std::fs;
 use std::rt::Files;
 
 /// Returns the path of the text that a disk of this path keeps: that of the disk with `.model`
-/// behind it.
+/// after it.
 pub fn kept_name(alloc: Global, disk: &str) -> Result<String, AllocError>
     ensures { IfOk result (λ name. string_bytes name ≡ disk.now ++ codes ".model") }
 {
@@ -35,7 +35,7 @@ where
     }
 }
 
-/// The number of digits behind the name of a disk in that of its part.
+/// The number of digits after the name of a disk in that of its part.
 const DIGITS: usize = 13;
 
 /// Returns the path of the disk of whose archive this is a part by its name: what comes before a

@@ -19,7 +19,7 @@ pub(crate) fn real_path(
     }
 }
 
-/// The path of the disk that is made behind the one at `path`.
+/// The path of the disk that is made after the one at `path`.
 pub(crate) fn next_path(alloc: Global, path: &str) -> Result<String, AllocError> {
     format!(in alloc; "{path}.next")
 }

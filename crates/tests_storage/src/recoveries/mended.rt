@@ -12,7 +12,7 @@ struct Unwatched;
 
 impl Watch for Unwatched {}
 
-/// Commits, each by its time and the places of its first event and of the one behind its last, and
+/// Commits, each by its time and the places of its first event and of the one after its last, and
 /// what a cut of their log prints.
 const CUTS: &str = "\
 7-0-3 6-0-0 | left 1 taken 1 to 1 end 10 committed 7 events 3: GoesBack
@@ -112,7 +112,7 @@ fn is_either(alloc: Global, disk: &MemDisk, torn: Torn) -> Result<bool, Fail> {
     }
 }
 
-/// Whether each crash behind a cut on a disk with these failures leaves one of the two.
+/// Whether each crash after a cut on a disk with these failures leaves one of the two.
 fn leaves_either(alloc: Global, with: Plan) -> Result<bool, Fail> {
     let disk = disk_of(alloc, "1-0-0 7-0-3 12-3-5", with)?;
     let Returned { disk, outcome } = cut(alloc, &ring(), disk, &mut Unwatched);
@@ -311,7 +311,7 @@ fn is_part(alloc: Global, new: &MemDisk, torn: Torn) -> Result<bool, Fail> {
     }
 }
 
-/// Whether each crash behind a salvage to a disk with these failures leaves such a one.
+/// Whether each crash after a salvage to a disk with these failures leaves such a one.
 fn leaves_part(alloc: Global, with: Plan) -> Result<bool, Fail> {
     let blank = MemDisk::blank(alloc, 64)?.crash(alloc, Torn::New)?;
     let mut disk = damaged(alloc, 2, 0)?;

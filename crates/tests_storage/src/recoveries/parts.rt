@@ -107,7 +107,7 @@ fn shown_by_whole(alloc: Global, image: &[u8], end: u64) -> Result<Option<Inspec
     Ok(inspect(alloc, &ring(), disk, end).ok())
 }
 
-/// Records behind the first commits, the end in force then, and whether a part of the disk serves.
+/// Records after the first commits, the end in force then, and whether a part of the disk serves.
 const DISKS: &str = "\
 checkpoint | 10 | part
 long checkpoint | 10 | part
@@ -165,7 +165,7 @@ fn agrees_at(alloc: Global, image: &[u8], place: usize) -> Result<bool, Fail> {
     Ok(part.is_none() || part == shown_by_whole(alloc, damaged.as_slice(), LATER)?)
 }
 
-/// Sectors of the log that have something, and a few behind them.
+/// Sectors of the log that have something, and a few after them.
 const WRITTEN: usize = 32;
 
 /// Whether it does with any of some bytes of each written sector changed.
@@ -187,7 +187,7 @@ fn a_part_of_a_damaged_disk_shows_nothing_else(rt: HostRuntime) -> Result<(), Fa
     Ok(())
 }
 
-/// A sector of the long record, whose data lie in sectors 9 to 19 behind its gate.
+/// A sector of the long record, whose data lie in sectors 9 to 19 after its gate.
 const WITHIN_THE_LONG: u32 = 17;
 
 /// Whether a sector that was not read is refused, and no other.

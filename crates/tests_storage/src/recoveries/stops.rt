@@ -44,7 +44,7 @@ fn a_replay_stops_at_the_record_at_fault(rt: HostRuntime) -> Result<(), Fail> {
     Ok(())
 }
 
-/// Whether the place behind the last checkpoint is this one once another checkpoint is appended.
+/// Whether the place after the last checkpoint is this one once another checkpoint is appended.
 fn is_behind(log: &mut Log<MemDisk>, place: usize) -> Result<bool, LogFault> {
     log.append(2, &[])?;
     Ok(!log.is_spent() && behind_checkpoints(log) == place)

@@ -3,7 +3,7 @@
 ghost use Rattle.upkeep.specs.Growing.{GenuineStays, HeldLogStays, ReplayStays, RepresentationStays};
 ghost use Rattle.upkeep.specs.Growing.{RepresentationAtLeastStays, RepresentationUnderItsEndStays};
 
-/// With any sectors behind it, an image represents the same world, at least at the same time, also
+/// With any sectors after it, an image represents the same world, at least at the same time, also
 /// under its own end; it holds the same log of a model, which is replayed to the same world; and
 /// its log is genuine if it was.
 ///

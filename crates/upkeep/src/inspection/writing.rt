@@ -159,7 +159,7 @@ fn write_pace<W: Write>(shown: &Inspection, out: &mut W) -> Result<()>
     }
 }
 
-/// Writes each number behind its text, and then the end of the line.
+/// Writes each number after its text, and then the end of the line.
 fn write_line<W: Write>(facts: &[(&str, u64)], last: &str, out: &mut W) -> Result<()>
     ensures { Writes (W.contents out.old) (W.contents out.new) result
         (line (map (λ fact. (fact.0.now, fact.1)) facts.now) last.now) }
