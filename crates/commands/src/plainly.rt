@@ -10,7 +10,7 @@ use crate::commands::Simulated;
 use crate::printing::write_ran;
 use disk::{Returned, SectorDisk};
 use model::Model as Modelled;
-use plain::{Plan, Watch};
+use plain::{PlainPlan, PlainWatch};
 use std::alloc::Global;
 use std::io::Write;
 
@@ -23,11 +23,11 @@ use std::io::Write;
 /// of the plan were made, `Stopped` if `watch` asked for a stop, and `Output` if the writer refuses.
 /// At every fault but `Output` nothing is written. What was committed stays on the disk at every
 /// exit.
-pub fn run_plain<M: Modelled, D: SectorDisk + Drop, O: Write, W: Watch>(
+pub fn run_plain<M: Modelled, D: SectorDisk + Drop, O: Write, W: PlainWatch>(
     alloc: Global,
     of: &Simulated<M>,
     disk: D,
-    plan: Plan,
+    plan: PlainPlan,
     watch: &mut W,
     out: &mut O,
 ) -> Returned<D, (), CommandFault>

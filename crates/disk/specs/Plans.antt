@@ -1,19 +1,19 @@
 -- The operations of a disk in memory that fail by its plan.
 use Rattle.std.specs.Prelude.{◌+◌, ◌||◌, ℕ, Bool, false, Option, Some, None, min, eqb}
 use Rattle.std.specs.Prelude.{if◌then◌else◌}
-use Rattle.disk.specs.declared.plan.Plan.{Plan}
+use Rattle.disk.specs.declared.plan.DiskPlan.{DiskPlan}
 
 -- a plan, the numbers of operations and of writes so far, whether the write at which the disk stops
 -- was among them, and the number of failed operations
 pub record Counts : Type 0 where
-  pub plan : Plan
+  pub plan : DiskPlan
   pub operations : ℕ
   pub writes : ℕ
   pub stopped : Bool
   pub failures : ℕ
 
 -- before the first operation
-abbrev pub started : Plan → Counts
+abbrev pub started : DiskPlan → Counts
 started plan = record { plan = plan; operations = 0; writes = 0; stopped = false; failures = 0 }
 
 -- the next count, which saturates at 2^64 - 1

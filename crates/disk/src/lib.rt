@@ -19,6 +19,6 @@ pub use disk::{DiskFault, SectorDisk, write_through};
 pub use file::{FileDisk, FileError, FileFault, Room};
 pub use growing::{GrowingDisk, GrowthFault, MOST_SECTORS, MOST_SECTORS_OF_LARGE};
 pub use memory::{MemDisk, Torn};
-pub use plan::Plan;
+pub use plan::DiskPlan;
 pub use returned::{NotOpened, Returned};
 pub use system::SystemError;

@@ -9,7 +9,7 @@ use crate::history::History;
 use crate::image::Image;
 use crate::plan::Schedule;
 use crate::storing::copy_dirty;
-use crate::{DiskFault, GrowingDisk, GrowthFault, Plan, SectorDisk};
+use crate::{DiskFault, DiskPlan, GrowingDisk, GrowthFault, SectorDisk};
 use std::alloc::{AllocError, Global};
 use std::marker::Model;
 
@@ -27,7 +27,7 @@ pub enum Torn {
     Cut(u16),
 }
 
-/// A disk in memory. Its calls fail by a [`Plan`], and [`crash`](MemDisk::crash) returns what a
+/// A disk in memory. Its calls fail by a [`DiskPlan`], and [`crash`](MemDisk::crash) returns what a
 /// power cut would leave. Only its constructors, [`crash`](MemDisk::crash) and `grow` allocate.
 pub struct MemDisk {
     image: Image,
@@ -245,12 +245,12 @@ impl MemDisk {
         ensures counts { IfOk result
             (λ disk. disk.counts ≡ started (record { fail = None; stop = None })) }
     {
-        MemDisk::on(alloc, Image::blank(alloc, sectors)?, Plan::default())
+        MemDisk::on(alloc, Image::blank(alloc, sectors)?, DiskPlan::default())
     }
 
     /// Makes a disk of the whole sectors of these bytes, fewer than 2^32, all of them synced.
     /// Returns `AllocError` if an allocation fails.
-    pub fn of(alloc: Global, image: Vec<u8>, plan: Plan) -> Result<MemDisk, AllocError>
+    pub fn of(alloc: Global, image: Vec<u8>, plan: DiskPlan) -> Result<MemDisk, AllocError>
         requires { length image.items / 512 < 2 ^ 32 }
         ensures reads { IfOk result (λ disk. disk.reads ≡ image_of image.items) }
         ensures synced { IfOk result (λ disk. disk.synced ≡ disk.reads) }
@@ -263,7 +263,7 @@ impl MemDisk {
         MemDisk::on(alloc, sectors, plan)
     }
 
-    fn on(alloc: Global, image: Image, plan: Plan) -> Result<MemDisk, AllocError>
+    fn on(alloc: Global, image: Image, plan: DiskPlan) -> Result<MemDisk, AllocError>
         ensures reads { IfOk result (λ disk. disk.reads ≡ image.sectors.items) }
         ensures synced { IfOk result (λ disk. disk.synced ≡ image.sectors.items) }
         ensures attempted { IfOk result (λ disk. disk.attempted ≡ image.sectors.items) }

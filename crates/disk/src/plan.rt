@@ -10,7 +10,7 @@ use std::marker::Model;
 /// cause: `NoSuchSector`, `Fewer`, `TooMany` or `NoMemory`. A failure does not change what reads
 /// give.
 #[derive(Clone, Copy, Debug, Default, PartialEq, Eq)]
-pub struct Plan {
+pub struct DiskPlan {
     /// The number of an operation that fails, counted from 0.
     pub fail: Option<u64>,
     /// The number of a write, counted from 0, that fails together with every operation after it.
@@ -20,7 +20,7 @@ pub struct Plan {
 /// A plan, and the numbers of operations and writes so far. The counts saturate at 2^64 - 1.
 #[derive(Drop)]
 pub struct Schedule {
-    plan: Plan,
+    plan: DiskPlan,
     operations: u64,
     writes: u64,
     stopped: bool,
@@ -54,7 +54,7 @@ impl Schedule {
         }
     }
 
-    pub fn new(plan: Plan) -> Schedule
+    pub fn new(plan: DiskPlan) -> Schedule
         ensures { result ≡ started plan }
     {
         Schedule {

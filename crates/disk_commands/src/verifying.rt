@@ -1,7 +1,7 @@
 // The course of a verification.
 
 use terminal::Progress;
-use upkeep::{Verified, Watch as VerifyWatch};
+use upkeep::{Verified, VerifyWatch};
 use views::Shows;
 
 /// Passes what is verified on to a `Progress`.

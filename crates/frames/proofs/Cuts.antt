@@ -11,7 +11,7 @@ use Rattle.eventkey.specs.Reading.{number_at}
 use Rattle.frames.specs.Bodies.{kind_of}
 use Rattle.frames.specs.Cutting.{Cut, cut, cut_body, cut_kind, cut_length, fails}
 use Rattle.frames.specs.Streams.{Finds, GivesUpTo, IsCutBy, IsFront, IsWithin, OnBytes}
-use Rattle.frames.specs.declared.Kind.{Kind}
+use Rattle.frames.specs.declared.FrameKind.{FrameKind}
 use Rattle.frames.specs.declared.stream.Raw.{Raw}
 use Rattle.wire.specs.declared.port.WireFault.{WireFault}
 use Rattle.wire.specs.declared.port.WireFault.TheVariants.{BadKind, TooLong, Truncated}
@@ -66,12 +66,12 @@ cut_no_kind head four fits = ap cut (sym (append-nil head)) ∙ cut_fits head []
 pub cut_bad_kind : (head : List ℕ) (k : ℕ) (rest : List ℕ) → length head ≡ 4 → big_number 4 head ≤ 2 ^ 24 → kind_of k ≡ None → cut (head ++ k ∷ rest) ≡ fails BadKind rest
 cut_bad_kind head k rest four fits e = cut_fits head (k ∷ rest) four fits ∙ ap (cut_body (big_number 4 head) rest) e
 
-pub cut_no_body : (head : List ℕ) (k : ℕ) (kind : Kind) (body : List ℕ) → length head ≡ 4 → big_number 4 head ≤ 2 ^ 24 → kind_of k ≡ Some kind → length body < big_number 4 head →
+pub cut_no_body : (head : List ℕ) (k : ℕ) (kind : FrameKind) (body : List ℕ) → length head ≡ 4 → big_number 4 head ≤ 2 ^ 24 → kind_of k ≡ Some kind → length body < big_number 4 head →
     cut (head ++ k ∷ body) ≡ fails Truncated []
 cut_no_body head k kind body four fits e few =
     cut_fits head (k ∷ body) four fits ∙ ap (cut_body (big_number 4 head) body) e ∙ rw (lt-ltb (length body) (big_number 4 head) few) refl
 
-pub cut_whole : (head : List ℕ) (k : ℕ) (kind : Kind) (body rest : List ℕ) → length head ≡ 4 → big_number 4 head ≤ 2 ^ 24 → kind_of k ≡ Some kind → length body ≡ big_number 4 head →
+pub cut_whole : (head : List ℕ) (k : ℕ) (kind : FrameKind) (body rest : List ℕ) → length head ≡ 4 → big_number 4 head ≤ 2 ^ 24 → kind_of k ≡ Some kind → length body ≡ big_number 4 head →
     cut (head ++ k ∷ (body ++ rest)) ≡ record { found = Ok (Some (record { kind = kind; body = body })); rest = rest }
 cut_whole head k kind body rest four fits e whole =
     let long : big_number 4 head ≤ length (body ++ rest) = omega (arith, length-append body rest) in
@@ -89,7 +89,7 @@ IsFront-drop n bytes = (take n bytes, sym (take-append-drop n bytes))
 pub IsFront-trans : (a b c : List ℕ) → IsFront a b → IsFront b c → IsFront a c
 IsFront-trans a b c (x, p) (y, q) = (x ++ y, p ∙ ap (λ t. x ++ t) q ∙ sym (append_assoc x y c))
 
-front_body : (n : ℕ) (bytes : List ℕ) (kind : Option Kind) → IsFront bytes (cut_body n bytes kind).rest
+front_body : (n : ℕ) (bytes : List ℕ) (kind : Option FrameKind) → IsFront bytes (cut_body n bytes kind).rest
 front_body n bytes None = ([], refl)
 front_body n bytes (Some kind) = elim (cases_lt (length bytes) n) [
   | inl lt ↦ rw (lt-ltb (length bytes) n lt) (IsFront-all bytes)
@@ -162,13 +162,13 @@ within_kind head taken rest four fits few =
       behind = subst (IsFront rest) (sym (ap (λ (c : Cut Raw). c.rest) is)) (behind_kind (big_number 4 head) taken rest few);
     }
 
-behind_body : (n : ℕ) (kind : Kind) (taken rest : List ℕ) → length taken ≤ n → IsFront rest (cut_body n (taken ++ rest) (Some kind)).rest
+behind_body : (n : ℕ) (kind : FrameKind) (taken rest : List ℕ) → length taken ≤ n → IsFront rest (cut_body n (taken ++ rest) (Some kind)).rest
 behind_body n kind taken rest few = elim (cases_lt (length (taken ++ rest)) n) [
   | inl lt ↦ rw (lt-ltb (length (taken ++ rest)) n lt) (IsFront-all rest)
   | inr le ↦ rw (le-ltb (length (taken ++ rest)) n le) (drop_fewer n taken rest few)
 ]
 
-within_body : (head : List ℕ) (k : ℕ) (kind : Kind) (taken rest : List ℕ) → length head ≡ 4 → big_number 4 head ≤ 2 ^ 24 → kind_of k ≡ Some kind → length taken ≤ big_number 4 head →
+within_body : (head : List ℕ) (k : ℕ) (kind : FrameKind) (taken rest : List ℕ) → length head ≡ 4 → big_number 4 head ≤ 2 ^ 24 → kind_of k ≡ Some kind → length taken ≤ big_number 4 head →
     IsWithin (((head ++ k ∷ []) ++ taken) ++ rest) rest
 within_body head k kind taken rest four fits e few =
     let n = big_number 4 head in
@@ -189,7 +189,7 @@ module _ (old mid new : Option (List ℕ)) (head : List ℕ) where
   stops_at_kind four fits h (taken, few, more) =
       on_bytes old new (head ++ taken) IsWithin (Consumes-trans old mid new head taken h more) (λ rest. within_kind head taken rest four fits few)
 
-  pub stops_in_body : (k : ℕ) (kind : Kind) → length head ≡ 4 → big_number 4 head ≤ 2 ^ 24 → kind_of k ≡ Some kind → Consumes old mid (head ++ k ∷ []) → GivesUpTo (big_number 4 head) mid new →
+  pub stops_in_body : (k : ℕ) (kind : FrameKind) → length head ≡ 4 → big_number 4 head ≤ 2 ^ 24 → kind_of k ≡ Some kind → Consumes old mid (head ++ k ∷ []) → GivesUpTo (big_number 4 head) mid new →
       OnBytes old new IsWithin
   stops_in_body k kind four fits e h (taken, few, more) =
       on_bytes old new ((head ++ k ∷ []) ++ taken) IsWithin (Consumes-trans old mid new (head ++ k ∷ []) taken h more) (λ rest. within_body head k kind taken rest four fits e few)

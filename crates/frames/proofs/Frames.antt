@@ -16,8 +16,8 @@ use Rattle.frames.specs.Ranges.{IsInRange}
 use Rattle.frames.specs.Streams.{Finds}
 use Rattle.frames.specs.declared.Frame.{Frame}
 use Rattle.frames.specs.declared.Frame.TheVariants as frame
-use Rattle.frames.specs.declared.Kind.{Kind}
-use Rattle.frames.specs.declared.Kind.TheVariants as kind
+use Rattle.frames.specs.declared.FrameKind.{FrameKind}
+use Rattle.frames.specs.declared.FrameKind.TheVariants as kind
 use Rattle.frames.specs.declared.stream.Raw.{Raw}
 use Rattle.wire.specs.declared.port.WireFault.{WireFault}
 use Rattle.wire.specs.declared.port.WireFault.TheVariants.{BadBody, BadKind, TooLong, Truncated}
@@ -73,13 +73,13 @@ no_byte_is_left_over kind body f byte more fits e =
 
 -- 2. Frames
 
-kind_again : (k : Kind) → kind_of (kind_number k) ≡ Some k
+kind_again : (k : FrameKind) → kind_of (kind_number k) ≡ Some k
 kind_again kind.Load = refl
 kind_again kind.Parcel = refl
 kind_again kind.Reply = refl
 kind_again kind.Fault = refl
 
-number_of_kind : (b : ℕ) (k : Kind) → kind_of b ≡ Some k → b ≡ kind_number k
+number_of_kind : (b : ℕ) (k : FrameKind) → kind_of b ≡ Some k → b ≡ kind_number k
 number_of_kind b k e = elim (pick b 1 kind.Load k _ e) [
   | inl h ↦ h.0 ∙ ap kind_number h.1
   | inr e ↦ elim (pick b 2 kind.Parcel k _ e) [
@@ -94,7 +94,7 @@ number_of_kind b k e = elim (pick b 1 kind.Load k _ e) [
   ]
 ]
 
-cut_again : (k : Kind) (body rest : List ℕ) → length body ≤ 2 ^ 24 → Finds (cut (framed k body ++ rest)) (Ok (Some (record { kind = k; body = body }))) rest
+cut_again : (k : FrameKind) (body rest : List ℕ) → length body ≤ 2 ^ 24 → Finds (cut (framed k body ++ rest)) (Ok (Some (record { kind = k; body = body }))) rest
 unfolding framed
 cut_again k body rest few =
     let is : big_number 4 (big_bytes 4 (length body)) ≡ length body = ap (big_number 4) (sym (append-nil (big_bytes 4 (length body)))) ∙ big_number-reads_back 4 (length body) [] (omega arith) in
@@ -102,7 +102,7 @@ cut_again k body rest few =
     ap cut (append_assoc head (kind_number k ∷ body) rest)
     ∙ cut_whole head (kind_number k) k body rest (length-bytes_high_first 4 (length body)) (subst (λ n. n ≤ 2 ^ 24) (sym is) few) (kind_again k) (sym is)
 
-open_found : (c : Cut Raw) (k : Kind) (body rest : List ℕ) (f : Frame) → Finds c (Ok (Some (record { kind = k; body = body }))) rest → frame_in k body ≡ Some f → Finds (opened_cut c) (Ok (Some f)) rest
+open_found : (c : Cut Raw) (k : FrameKind) (body rest : List ℕ) (f : Frame) → Finds c (Ok (Some (record { kind = k; body = body }))) rest → frame_in k body ≡ Some f → Finds (opened_cut c) (Ok (Some f)) rest
 open_found c k body rest f e is =
     ap opened_cut e ∙ ap (λ (o : Option Frame). record { found = elim o as (λ _. Result (Option Frame) WireFault) [ Some g ↦ Ok (Some g) | None ↦ Err BadBody ]; rest = rest }) is
 
@@ -112,7 +112,7 @@ frames_are_read_back f rest is few =
     (ap (frame_in (kind_in f)) (sym (append-nil (body_bytes f))) ∙ body_again f [] is)
 
 -- the kind and the body are read back from the bytes of one frame
-taken_alone : (k : Kind) (body : List ℕ) → length body ≤ 2 ^ 24 → raw_in (framed k body) ≡ Some (record { kind = k; body = body })
+taken_alone : (k : FrameKind) (body : List ℕ) → length body ≤ 2 ^ 24 → raw_in (framed k body) ≡ Some (record { kind = k; body = body })
 unfolding raw_in framed
 taken_alone k body few =
     rw (format4.again (length body) (kind_number k ∷ body) (omega (arith, few)), first_number (kind_number k) body, kind_again k, le-leb (length body) (2 ^ 24) few, eq-eqb (length body) (length body) refl) refl
@@ -132,7 +132,7 @@ record IsCutOff (bytes : List ℕ) (raw : Raw) (rest : List ℕ) : Type 0 where
 no_frame : {X : Type 0} (fault : WireFault) (after rest : List ℕ) (x : X) → fails fault after ≡ record { found = Ok (Some x); rest = rest } → ⊥
 no_frame {X} fault after rest x e = let found : Err fault ≡ Ok (Some x) = ap (λ (c : Cut X). c.found) e in cc
 
-whole_body : (head : List ℕ) (n k : ℕ) (bytes : List ℕ) (kind : Kind) (raw : Raw) (rest : List ℕ) → head ≡ big_bytes 4 n → n ≤ 2 ^ 24 → kind_of k ≡ Some kind → n ≤ length bytes → IsBytes bytes →
+whole_body : (head : List ℕ) (n k : ℕ) (bytes : List ℕ) (kind : FrameKind) (raw : Raw) (rest : List ℕ) → head ≡ big_bytes 4 n → n ≤ 2 ^ 24 → kind_of k ≡ Some kind → n ≤ length bytes → IsBytes bytes →
     Finds (record { found = Ok (Some (record { kind = kind; body = take n bytes })); rest = drop n bytes }) (Ok (Some raw)) rest → IsCutOff (head ++ k ∷ bytes) raw rest
 unfolding framed
 whole_body head n k bytes kind raw rest h few e enough fits f =
@@ -149,7 +149,7 @@ whole_body head n k bytes kind raw rest h few e enough fits f =
     subst (λ r. IsCutOff (head ++ k ∷ bytes) raw r) left (subst (λ b. IsCutOff (head ++ k ∷ bytes) b (drop n bytes)) is
     (record { encoded = parts; fits = omega (arith, long); are_bytes = IsBytes-take n bytes fits }))
 
-cut_off_body : (head : List ℕ) (n k : ℕ) (bytes : List ℕ) (kind : Option Kind) (raw : Raw) (rest : List ℕ) → head ≡ big_bytes 4 n → n ≤ 2 ^ 24 → kind_of k ≡ kind → IsBytes bytes →
+cut_off_body : (head : List ℕ) (n k : ℕ) (bytes : List ℕ) (kind : Option FrameKind) (raw : Raw) (rest : List ℕ) → head ≡ big_bytes 4 n → n ≤ 2 ^ 24 → kind_of k ≡ kind → IsBytes bytes →
     Finds (cut_body n bytes kind) (Ok (Some raw)) rest → IsCutOff (head ++ k ∷ bytes) raw rest
 cut_off_body head n k bytes None raw rest h few e fits f = absurd (no_frame BadKind bytes rest raw f)
 cut_off_body head n k bytes (Some kind) raw rest h few e fits f = elim (cases_lt (length bytes) n) [

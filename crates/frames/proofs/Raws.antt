@@ -9,7 +9,7 @@ use Rattle.byteorder.specs.Endian.{big_number}
 use Rattle.frames.specs.Bodies.{kind_of}
 use Rattle.frames.specs.Cutting.{Cut, cut}
 use Rattle.frames.specs.Streams.{Comes, GivesFewer, GivesUpTo, IsCutBy, IsHalfway, IsWithin, OnBytes}
-use Rattle.frames.specs.declared.Kind.{Kind}
+use Rattle.frames.specs.declared.FrameKind.{FrameKind}
 use Rattle.wire.specs.declared.port.WireFault.{WireFault}
 use Rattle.wire.specs.declared.port.WireFault.TheVariants.{BadKind, TooLong, Truncated}
 use Rattle.frames.proofs.Cuts.{cut_bad_kind, cut_long, cut_no_body, cut_no_kind, cut_none, cut_short, cut_whole, on_bytes, on_end, stops_in_body}
@@ -65,7 +65,7 @@ raw_bad_kind old new head (k ∷ []) h e =
     on_bytes old new (head ++ k ∷ []) (IsCutBy cut (Err BadKind)) h.bytes (λ rest. ap cut (append_assoc head (k ∷ []) rest) ∙ cut_bad_kind head k rest h.size h.fits e)
 raw_bad_kind old new head (k ∷ (j ∷ more)) h e = absurd (let one = h.one in omega arith)
 
-pub raw_no_body : (old mid new : Option (List ℕ)) (head number : List ℕ) (kind : Kind) → HasKind old mid head number → kind_of (slice_index number 0) ≡ Some kind → GivesFewer (big_number 4 head) mid new →
+pub raw_no_body : (old mid new : Option (List ℕ)) (head number : List ℕ) (kind : FrameKind) → HasKind old mid head number → kind_of (slice_index number 0) ≡ Some kind → GivesFewer (big_number 4 head) mid new →
     OnBytes old new (IsCutBy cut (Err Truncated))
 raw_no_body old mid new head [] kind h e f = absurd (let one = h.one in omega arith)
 raw_no_body old mid new head (k ∷ []) kind h e (taken, few, given, ended) =
@@ -73,7 +73,7 @@ raw_no_body old mid new head (k ∷ []) kind h e (taken, few, given, ended) =
     (ap cut (append_assoc head (k ∷ []) taken) ∙ cut_no_body head k kind taken h.size h.fits e few)
 raw_no_body old mid new head (k ∷ (j ∷ more)) kind h e f = absurd (let one = h.one in omega arith)
 
-pub raw_whole : (old mid new : Option (List ℕ)) (head number body : List ℕ) (kind : Kind) → HasKind old mid head number → kind_of (slice_index number 0) ≡ Some kind → length body ≡ big_number 4 head →
+pub raw_whole : (old mid new : Option (List ℕ)) (head number body : List ℕ) (kind : FrameKind) → HasKind old mid head number → kind_of (slice_index number 0) ≡ Some kind → length body ≡ big_number 4 head →
     Consumes mid new body → OnBytes old new (IsCutBy cut (Ok (Some (record { kind = kind; body = body }))))
 raw_whole old mid new head [] body kind h e whole given = absurd (let one = h.one in omega arith)
 raw_whole old mid new head (k ∷ []) body kind h e whole given =
@@ -82,7 +82,7 @@ raw_whole old mid new head (k ∷ []) body kind h e whole given =
 raw_whole old mid new head (k ∷ (j ∷ more)) body kind h e whole given = absurd (let one = h.one in omega arith)
 
 -- reading the body stopped part of the way
-pub raw_part : (old mid new : Option (List ℕ)) (head number : List ℕ) (kind : Kind) → HasKind old mid head number → kind_of (slice_index number 0) ≡ Some kind → GivesUpTo (big_number 4 head) mid new →
+pub raw_part : (old mid new : Option (List ℕ)) (head number : List ℕ) (kind : FrameKind) → HasKind old mid head number → kind_of (slice_index number 0) ≡ Some kind → GivesUpTo (big_number 4 head) mid new →
     OnBytes old new IsWithin
 raw_part old mid new head [] kind h e some = absurd (let one = h.one in omega arith)
 raw_part old mid new head (k ∷ []) kind h e some = stops_in_body old mid new head k kind h.size h.fits e h.bytes some

@@ -16,8 +16,8 @@ use Rattle.node.specs.declared.Reply.{Reply}
 use Rattle.frames.proofs.Whole.{length-fault}
 use Rattle.frames.specs.Bodies.{fault_bytes, load_in, parcel_in}
 use Rattle.frames.specs.Ranges.{IsLoad, IsPart, IsReply}
-use Rattle.frames.specs.declared.Kind.{Kind}
-use Rattle.frames.specs.declared.Kind.TheVariants as kind
+use Rattle.frames.specs.declared.FrameKind.{FrameKind}
+use Rattle.frames.specs.declared.FrameKind.TheVariants as kind
 use Rattle.frames.specs.declared.stream.Raw.{Raw}
 use Rattle.frames.specs.Reactions.{Begins, Reaction, Reacts, RepliesInRange, answer_at, answer_lacking, begun, begun_by, begun_with, lacking, load_at, on_load, on_parcel, reaction, reaction_to, response_to}
 use Rattle.frames.specs.declared.reaction.Begun.{Begun}
@@ -47,7 +47,7 @@ load_lacks lps l r (inl e) = (false, e)
 load_lacks lps l r (inr e) = (true, e.1 ∙ sym (ap lacking e.0))
 
 module _ (lps : ℕ) (raw : Raw) where
-  other_kind : (lacks : Bool) (k : Kind) (body : List ℕ) → (k ≡ kind.Load → ⊥) → begun_with lacks lps k body ≡ Err BadKind
+  other_kind : (lacks : Bool) (k : FrameKind) (body : List ℕ) → (k ≡ kind.Load → ⊥) → begun_with lacks lps k body ≡ Err BadKind
   other_kind lacks kind.Load body ne = absurd (ne refl)
   other_kind lacks kind.Parcel body ne = refl
   other_kind lacks kind.Reply body ne = refl
@@ -59,7 +59,7 @@ module _ (lps : ℕ) (raw : Raw) where
 
   begun_at : (lacks : Bool) (o : Option Load) → raw.kind ≡ kind.Load → load_in raw.body ≡ o → begun lacks lps raw ≡ on_load lacks lps o
   unfolding begun
-  begun_at lacks o e f = ap (λ (k : Kind). begun_with lacks lps k raw.body) e ∙ ap (on_load lacks lps) f
+  begun_at lacks o e f = ap (λ (k : FrameKind). begun_with lacks lps k raw.body) e ∙ ap (on_load lacks lps) f
 
   pub begin_bad_body : raw.kind ≡ kind.Load → load_in raw.body ≡ None → Begins lps raw (Err BadBody)
   begin_bad_body e f = (false, inl (sym (begun_at false None e f)))
@@ -95,7 +95,7 @@ same_going : (r : Result Response WireFault) (x y : Response) → r ≡ Ok x →
 same_going r x y e f = let is : x ≡ y = cc in ap (λ (r : Response). r.goes_on) is
 
 module _ (m : Meaning) (old new : Node) (raw : Raw) where
-  other_parcel : (lacks : Bool) (k : Kind) (body : List ℕ) → (k ≡ kind.Parcel → ⊥) → reaction_to lacks m old k body ≡ record { response = Err BadKind; node = old }
+  other_parcel : (lacks : Bool) (k : FrameKind) (body : List ℕ) → (k ≡ kind.Parcel → ⊥) → reaction_to lacks m old k body ≡ record { response = Err BadKind; node = old }
   other_parcel lacks kind.Load body ne = refl
   other_parcel lacks kind.Parcel body ne = absurd (ne refl)
   other_parcel lacks kind.Reply body ne = refl
@@ -109,7 +109,7 @@ module _ (m : Meaning) (old new : Node) (raw : Raw) where
 
   reaction_at : (lacks : Bool) (o : Option Parcel) → raw.kind ≡ kind.Parcel → parcel_in raw.body ≡ o → reaction lacks m old raw ≡ on_parcel lacks m old o
   unfolding reaction
-  reaction_at lacks o e f = ap (λ (k : Kind). reaction_to lacks m old k raw.body) e ∙ ap (on_parcel lacks m old) f
+  reaction_at lacks o e f = ap (λ (k : FrameKind). reaction_to lacks m old k raw.body) e ∙ ap (on_parcel lacks m old) f
 
   pub react_bad_body : raw.kind ≡ kind.Parcel → parcel_in raw.body ≡ None → Reacts m old old raw (Err BadBody)
   react_bad_body e f =

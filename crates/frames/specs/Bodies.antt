@@ -16,8 +16,8 @@ use Rattle.node.specs.declared.Reply.{Reply}
 use Rattle.process.specs.declared.Done.{Done}
 use Rattle.frames.specs.declared.Frame.{Frame}
 use Rattle.frames.specs.declared.Frame.TheVariants as frame
-use Rattle.frames.specs.declared.Kind.{Kind}
-use Rattle.frames.specs.declared.Kind.TheVariants as kind
+use Rattle.frames.specs.declared.FrameKind.{FrameKind}
+use Rattle.frames.specs.declared.FrameKind.TheVariants as kind
 
 -- 1. Encodings
 
@@ -173,13 +173,13 @@ fault_in bytes = do
 
 -- 4. Frames
 
-abbrev pub kind_number : Kind → ℕ
+abbrev pub kind_number : FrameKind → ℕ
 kind_number kind.Load = 1
 kind_number kind.Parcel = 2
 kind_number kind.Reply = 3
 kind_number kind.Fault = 4
 
-abbrev pub kind_of : ℕ → Option Kind
+abbrev pub kind_of : ℕ → Option FrameKind
 kind_of number =
     if nat_eq number 1 then Some kind.Load
     else if nat_eq number 2 then Some kind.Parcel
@@ -187,7 +187,7 @@ kind_of number =
     else if nat_eq number 4 then Some kind.Fault
     else None
 
-abbrev pub kind_in : Frame → Kind
+abbrev pub kind_in : Frame → FrameKind
 kind_in (frame.Load l) = kind.Load
 kind_in (frame.Parcel p) = kind.Parcel
 kind_in (frame.Reply r) = kind.Reply
@@ -200,7 +200,7 @@ body_bytes (frame.Reply r) = reply_bytes r
 body_bytes (frame.Fault f) = fault_bytes f
 
 -- the length of the body, the kind, and the body
-unfoldable pub framed : Kind → List ℕ → List ℕ
+unfoldable pub framed : FrameKind → List ℕ → List ℕ
 framed k body = big_bytes 4 (length body) ++ (kind_number k ∷ body)
 
 abbrev pub frame_bytes : Frame → List ℕ
@@ -212,7 +212,7 @@ seen_as f (Some x) = Some (f x)
 seen_as f None = None
 
 -- the frame of this kind that all of the bytes encode
-abbrev pub frame_in : Kind → List ℕ → Option Frame
+abbrev pub frame_in : FrameKind → List ℕ → Option Frame
 frame_in kind.Load body = seen_as (λ l. frame.Load l) (load_in body)
 frame_in kind.Parcel body = seen_as (λ p. frame.Parcel p) (parcel_in body)
 frame_in kind.Reply body = seen_as (λ r. frame.Reply r) (reply_in body)

@@ -6,7 +6,7 @@ use Rattle.std.specs.Prelude.{Option, Some, None, Result, Ok, Err}
 use Rattle.eventkey.specs.Reading.{◌>>=◌, number_at}
 use Rattle.frames.specs.Bodies.{frame_in, kind_of}
 use Rattle.frames.specs.declared.Frame.{Frame}
-use Rattle.frames.specs.declared.Kind.{Kind}
+use Rattle.frames.specs.declared.FrameKind.{FrameKind}
 use Rattle.frames.specs.declared.stream.Raw.{Raw}
 use Rattle.wire.specs.declared.port.WireFault.{WireFault}
 use Rattle.wire.specs.declared.port.WireFault.TheVariants.{BadBody, BadKind, TooLong, Truncated}
@@ -20,7 +20,7 @@ abbrev pub fails : {X : Type 0} → WireFault → List ℕ → Cut X
 fails fault rest = record { found = Err fault; rest = rest }
 
 -- The faults are found in this order: a length above 2^24, an unknown kind, too few bytes.
-abbrev pub cut_body : ℕ → List ℕ → Option Kind → Cut Raw
+abbrev pub cut_body : ℕ → List ℕ → Option FrameKind → Cut Raw
 cut_body n bytes None = fails BadKind bytes
 cut_body n bytes (Some kind) =
     if nat_lt (length bytes) n then fails Truncated []

@@ -6,7 +6,7 @@ use Rattle.frames.specs.Cutting.{frame_cut, whole_in}
 use Rattle.frames.specs.Ranges.{IsInRange}
 use Rattle.frames.specs.Streams.{Finds}
 use Rattle.frames.specs.declared.Frame.{Frame}
-use Rattle.frames.specs.declared.Kind.{Kind}
+use Rattle.frames.specs.declared.FrameKind.{FrameKind}
 
 -- what is written is read back, whatever follows
 abbrev pub FramesAreReadBack : Type 0
@@ -29,17 +29,17 @@ FramesAreCanonical = (bytes rest : List ℕ) (f : Frame) → IsBytes bytes →
     Finds (frame_cut bytes) (Ok (Some f)) rest → IsEncoded bytes f rest
 
 -- the same for a body alone
-pub record IsBodyOf (kind : Kind) (body : List ℕ) (f : Frame) : Type 0 where
+pub record IsBodyOf (kind : FrameKind) (body : List ℕ) (f : Frame) : Type 0 where
   pub kind_is : kind ≡ kind_in f
   pub encoded : body ≡ body_bytes f
   pub in_range : IsInRange f
 
 abbrev pub BodiesAreCanonical : Type 0
 BodiesAreCanonical =
-    (kind : Kind) (body : List ℕ) (f : Frame) → IsBytes body → frame_in kind body ≡ Some f →
+    (kind : FrameKind) (body : List ℕ) (f : Frame) → IsBytes body → frame_in kind body ≡ Some f →
     IsBodyOf kind body f
 
 -- a body with further bytes after it is refused
 abbrev pub NoByteIsLeftOver : Type 0
-NoByteIsLeftOver = (kind : Kind) (body : List ℕ) (f : Frame) (byte : ℕ) (more : List ℕ) →
+NoByteIsLeftOver = (kind : FrameKind) (body : List ℕ) (f : Frame) (byte : ℕ) (more : List ℕ) →
     IsBytes body → frame_in kind body ≡ Some f → frame_in kind (body ++ byte ∷ more) ≡ None

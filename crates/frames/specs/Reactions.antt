@@ -13,8 +13,8 @@ use Rattle.node.specs.declared.Reply.{Reply}
 use Rattle.frames.specs.Bodies.{frame_bytes, load_in, parcel_in, reply_bytes}
 use Rattle.frames.specs.Ranges.{IsReply}
 use Rattle.frames.specs.declared.Frame.TheVariants as frame
-use Rattle.frames.specs.declared.Kind.{Kind}
-use Rattle.frames.specs.declared.Kind.TheVariants as kind
+use Rattle.frames.specs.declared.FrameKind.{FrameKind}
+use Rattle.frames.specs.declared.FrameKind.TheVariants as kind
 use Rattle.frames.specs.declared.stream.Raw.{Raw}
 use Rattle.frames.specs.declared.reaction.Begun.{Begun}
 use Rattle.frames.specs.declared.reaction.Begun.TheVariants.{Loaded, Refused}
@@ -63,7 +63,7 @@ on_parcel lacks m n (Some parcel) = record {
 }
 
 -- a parcel is allowed everywhere but first
-abbrev pub reaction_to : Bool → Meaning → Node → Kind → List ℕ → Reaction
+abbrev pub reaction_to : Bool → Meaning → Node → FrameKind → List ℕ → Reaction
 reaction_to lacks m n kind.Parcel body = on_parcel lacks m n (parcel_in body)
 reaction_to lacks m n kind.Load body = record { response = Err BadKind; node = n }
 reaction_to lacks m n kind.Reply body = record { response = Err BadKind; node = n }
@@ -81,7 +81,7 @@ on_load lacks lps None = Err BadBody
 on_load lacks lps (Some load) = Ok (begun_by (load_at lacks lps load))
 
 -- a load is allowed first
-abbrev pub begun_with : Bool → ℕ → Kind → List ℕ → Result Begun WireFault
+abbrev pub begun_with : Bool → ℕ → FrameKind → List ℕ → Result Begun WireFault
 begun_with lacks lps kind.Load body = on_load lacks lps (load_in body)
 begun_with lacks lps kind.Parcel body = Err BadKind
 begun_with lacks lps kind.Reply body = Err BadKind

@@ -52,7 +52,7 @@ pub enum Frame {
 
 /// The kind of a frame.
 #[derive(Clone, Copy, Debug, PartialEq, Eq)]
-pub enum Kind {
+pub enum FrameKind {
     /// What a node is made from.
     Load,
     /// What a node is posted.

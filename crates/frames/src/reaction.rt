@@ -8,7 +8,7 @@ ghost use Rattle.frames.specs.Reactions.{Begins, FollowsModel, HasProcesses, Rea
 ghost use Rattle.frames.specs.Reactions.{RepliesInRange, response_to};
 ghost use Rattle.wire.specs.declared.port.WireFault.TheVariants.{NoMemory};
 
-use crate::{Kind, Raw, encode_fault, encode_reply, read_load, read_parcel};
+use crate::{FrameKind, Raw, encode_fault, encode_reply, read_load, read_parcel};
 use eventkey::Listed;
 use model::Model as Simulated;
 use node::{Node, NodeFault, Reply};
@@ -42,7 +42,7 @@ pub fn begin<M: Simulated>(alloc: Global, model: &M, raw: &Raw) -> Result<Begun,
     ensures lps { IfOk result (λ begun. HasProcesses (M.meaning model.now).lps begun) }
     ensures histories { IfOk result (λ begun. FollowsModel (M.meaning model.now) begun) }
 {
-    let Kind::Load = raw.kind else {
+    let FrameKind::Load = raw.kind else {
         return Err(WireFault::BadKind);
     };
     let Some(load) = read_load(alloc, raw.body.as_slice())? else {
@@ -76,7 +76,7 @@ pub fn react<M: Simulated>(
     ensures lps { node.new.spent ≡ false → (M.meaning model.now).lps ≡ node.new.lps }
     ensures histories { HasHistories (M.meaning model.now) node.new }
 {
-    let Kind::Parcel = raw.kind else {
+    let FrameKind::Parcel = raw.kind else {
         return Err(WireFault::BadKind);
     };
     let Some(parcel) = read_parcel(alloc, raw.body.as_slice())? else {

@@ -8,7 +8,7 @@ ghost use Rattle.frames.specs.Cutting.{cut, frame_cut};
 ghost use Rattle.frames.specs.Streams.{Comes, GivesUpTo, IsCutBy, OnBytes};
 
 use crate::reading::read_body;
-use crate::{Frame, Kind};
+use crate::{Frame, FrameKind};
 use byteorder::{BigEndian, ByteOrder};
 use eventkey::Listed;
 use std::alloc::Global;
@@ -24,7 +24,7 @@ const PIECE: usize = 4096;
 /// A frame whose body is not decoded yet.
 #[derive(Drop)]
 pub struct Raw {
-    pub kind: Kind,
+    pub kind: FrameKind,
     pub body: Listed<u8>,
 }
 
@@ -78,14 +78,14 @@ pub(crate) fn read_bytes<R: Read>(
 }
 
 /// The kind with this number.
-pub(crate) fn kind_of(number: u8) -> Option<Kind>
+pub(crate) fn kind_of(number: u8) -> Option<FrameKind>
     ensures { result ≡ kind_of number }
 {
     match number {
-        1 => Some(Kind::Load),
-        2 => Some(Kind::Parcel),
-        3 => Some(Kind::Reply),
-        4 => Some(Kind::Fault),
+        1 => Some(FrameKind::Load),
+        2 => Some(FrameKind::Parcel),
+        3 => Some(FrameKind::Reply),
+        4 => Some(FrameKind::Fault),
         _ => None,
     }
 }

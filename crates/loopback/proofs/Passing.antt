@@ -15,7 +15,7 @@ use Rattle.frames.specs.Laws.{IsEncoded}
 use Rattle.frames.specs.Ranges.{IsReply}
 use Rattle.frames.specs.declared.Frame.{Frame}
 use Rattle.frames.specs.declared.Frame.TheVariants as frame
-use Rattle.frames.specs.declared.Kind.{Kind}
+use Rattle.frames.specs.declared.FrameKind.{FrameKind}
 use Rattle.frames.specs.declared.stream.Raw.{Raw}
 use Rattle.frames.specs.Reactions.{Begins, Reaction, Reacts, RepliesInRange, answer_at, answer_lacking, begun, begun_by, begun_with, lacking, load_at, on_load, on_parcel, reaction, reaction_to, response_to}
 use Rattle.frames.specs.declared.reaction.Begun.{Begun}
@@ -66,7 +66,7 @@ module _ (lps : ℕ) (raw : Raw) (l : Load) where
   unfolding begun
   begun_of lacks is =
       let within = load_within raw.kind raw.body l is in
-      ap (λ (k : Kind). begun_with lacks lps k raw.body) within.0 ∙ ap (on_load lacks lps) within.1
+      ap (λ (k : FrameKind). begun_with lacks lps k raw.body) within.0 ∙ ap (on_load lacks lps) within.1
 
   made_by : (b : Begun) → frame_in raw.kind raw.body ≡ Some (frame.Load l) → Begins lps raw (Ok b) → (lacks : Bool) × (b ≡ begun_by (load_at lacks lps l))
   made_by b is (lacks, inl e) = (let same = e ∙ begun_of lacks is in (lacks, cc))
@@ -134,7 +134,7 @@ module _ (m : Meaning) (old new : Node) (raw : Raw) (p : Parcel) where
   unfolding reaction
   reaction_of lacks is =
       let within = parcel_within raw.kind raw.body p is in
-      ap (λ (k : Kind). reaction_to lacks m old k raw.body) within.0 ∙ ap (on_parcel lacks m old) within.1
+      ap (λ (k : FrameKind). reaction_to lacks m old k raw.body) within.0 ∙ ap (on_parcel lacks m old) within.1
 
   not_lacking : (o : Option NodeFault) (reply : Reply) → (answer_lacking old o).result ≡ Ok reply → ⊥
   not_lacking (Some fault) reply e = absurd (cc)

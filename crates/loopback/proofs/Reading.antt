@@ -12,8 +12,8 @@ use Rattle.frames.specs.Laws.{IsEncoded}
 use Rattle.frames.specs.Ranges.{IsInRange}
 use Rattle.frames.specs.declared.Frame.{Frame}
 use Rattle.frames.specs.declared.Frame.TheVariants as frame
-use Rattle.frames.specs.declared.Kind.{Kind}
-use Rattle.frames.specs.declared.Kind.TheVariants as kind
+use Rattle.frames.specs.declared.FrameKind.{FrameKind}
+use Rattle.frames.specs.declared.FrameKind.TheVariants as kind
 use Rattle.frames.specs.declared.stream.Raw.{Raw}
 use Rattle.loopback.specs.Loop.{parcel_of, posted_in}
 
@@ -71,13 +71,13 @@ parcel_seen : (p : Parcel) (o : Option Parcel) → seen_as (λ q. frame.Parcel q
 parcel_seen p (Some x) e = cc
 parcel_seen p None e = absurd (cc)
 
-pub load_within : (k : Kind) (body : List ℕ) (l : Load) → frame_in k body ≡ Some (frame.Load l) → (k ≡ kind.Load) × (load_in body ≡ Some l)
+pub load_within : (k : FrameKind) (body : List ℕ) (l : Load) → frame_in k body ≡ Some (frame.Load l) → (k ≡ kind.Load) × (load_in body ≡ Some l)
 load_within kind.Load body l e = (refl, load_seen l (load_in body) e)
 load_within kind.Parcel body l e = absurd (not_seen (λ p. frame.Parcel p) (frame.Load l) (λ x d. cc) (parcel_in body) e)
 load_within kind.Reply body l e = absurd (not_seen (λ r. frame.Reply r) (frame.Load l) (λ x d. cc) (reply_in body) e)
 load_within kind.Fault body l e = absurd (not_seen (λ n. frame.Fault n) (frame.Load l) (λ x d. cc) (fault_in body) e)
 
-pub parcel_within : (k : Kind) (body : List ℕ) (p : Parcel) → frame_in k body ≡ Some (frame.Parcel p) → (k ≡ kind.Parcel) × (parcel_in body ≡ Some p)
+pub parcel_within : (k : FrameKind) (body : List ℕ) (p : Parcel) → frame_in k body ≡ Some (frame.Parcel p) → (k ≡ kind.Parcel) × (parcel_in body ≡ Some p)
 parcel_within kind.Parcel body p e = (refl, parcel_seen p (parcel_in body) e)
 parcel_within kind.Load body p e = absurd (not_seen (λ l. frame.Load l) (frame.Parcel p) (λ x d. cc) (load_in body) e)
 parcel_within kind.Reply body p e = absurd (not_seen (λ r. frame.Reply r) (frame.Parcel p) (λ x d. cc) (reply_in body) e)

@@ -14,7 +14,7 @@ use std::alloc::Global;
 
 /// How a plain run commits.
 #[derive(Clone, Copy, Debug, PartialEq, Eq)]
-pub struct Plan {
+pub struct PlainPlan {
     /// The number of events after which a commit follows, at the end of their virtual time; 0
     /// counts as 1. A record holds at most 299,592 events.
     pub commit_every: u32,
@@ -37,7 +37,7 @@ pub struct Reached {
 }
 
 /// Observes the progress of a plain run, and may end it.
-pub trait Watch {
+pub trait PlainWatch {
     /// Called at the beginning of a run: everything before this virtual time, in ticks, is committed
     /// on the disk, `events` events in all.
     fn opened(&mut self, _time: u64, _events: usize) {}
@@ -67,12 +67,12 @@ pub trait Watch {
 /// the end was reached. If `watch` asks for a stop, the run ends after the next commit (`Stopped`),
 /// unless that reaches the end or is the plan's last one. What was committed stays on the disk in
 /// every case.
-pub fn run_plain<M: Simulated, D: SectorDisk + Drop, W: Watch>(
+pub fn run_plain<M: Simulated, D: SectorDisk + Drop, W: PlainWatch>(
     alloc: Global,
     model: &M,
     disk: D,
     end: u64,
-    plan: Plan,
+    plan: PlainPlan,
     watch: &mut W,
 ) -> Returned<D, Reached, PlainFault>
     requires begun { 1 ≤ end }
@@ -111,9 +111,9 @@ pub fn run_plain<M: Simulated, D: SectorDisk + Drop, W: Watch>(
 }
 
 /// Commits until the end is reached, or a stop is asked for.
-fn make_rounds<'m, M: Simulated, D: SectorDisk, W: Watch>(
+fn make_rounds<'m, M: Simulated, D: SectorDisk, W: PlainWatch>(
     run: PlainRun<'m, M, D>,
-    plan: Plan,
+    plan: PlainPlan,
     watch: &mut W,
 ) -> Result<PlainRun<'m, M, D>, Stopped<D>>
     ensures made { IfOk result (λ last. (number : ℕ) × (number ≤ plan.commits)
@@ -164,9 +164,9 @@ fn stop<'m, M: Simulated, D: SectorDisk>(run: PlainRun<'m, M, D>) -> Stopped<D>
 }
 
 /// Makes the commit of this number, and a checkpoint if one is due.
-fn make_round<'m, M: Simulated, D: SectorDisk, W: Watch>(
+fn make_round<'m, M: Simulated, D: SectorDisk, W: PlainWatch>(
     run: PlainRun<'m, M, D>,
-    plan: Plan,
+    plan: PlainPlan,
     number: u32,
     watch: &mut W,
 ) -> Result<PlainRun<'m, M, D>, Stopped<D>>

@@ -20,7 +20,7 @@ use Rattle.recovery.proofs.OldRecords.{keeps_none, keeps_on, looks_at_old}
 use Rattle.plain.specs.Runs.{IsRun as IsPlainRun, IsRunOver as IsPlainRunOver, ended as plainly_ended}
 use Rattle.plain.specs.declared.PlainFault.{PlainFault}
 use Rattle.plain.specs.declared.PlainFault.TheVariants as plain
-use Rattle.plain.specs.declared.whole.Plan.{Plan as PlainPlan}
+use Rattle.plain.specs.declared.whole.PlainPlan.{PlainPlan}
 use Rattle.plain.specs.declared.whole.Reached.{Reached}
 use Rattle.recovery.specs.Histories.{Call, Event, IsHistoryOfCalls, IsKept, IsKeptRun, last_acknowledged}
 use Rattle.recovery.specs.Histories.Ending.{Returned}

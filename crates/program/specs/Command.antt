@@ -10,7 +10,7 @@ use Rattle.commands.specs.declared.fault.CommandFault.{CommandFault}
 use Rattle.commands.specs.declared.fault.CommandFault.TheVariants as on_disk
 use Rattle.commitlog.specs.Records.{Holds}
 use Rattle.commitlog.specs.declared.records.Entry.{Entry}
-use Rattle.plain.specs.declared.whole.Plan.{Plan as PlainPlan}
+use Rattle.plain.specs.declared.whole.PlainPlan.{PlainPlan}
 use Rattle.runs.specs.declared.rounds.Batch.{Batch as DriverBatch}
 use Rattle.runs.specs.declared.rounds.Batch.TheVariants as driver
 use Rattle.runs.specs.declared.rounds.Plan.{Plan}

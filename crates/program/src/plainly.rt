@@ -11,7 +11,7 @@ use cli::RunArgs;
 use commands::Simulated;
 use disk::FileDisk;
 use model::Model as Modelled;
-use plain::Plan;
+use plain::PlainPlan;
 use std::alloc::Global;
 use std::fs::File;
 use std::io::Write;
@@ -22,10 +22,10 @@ use terminal::Progress;
 /// Returns the plan of a run without nodes by the options of its command. A commit has room for
 /// 299,592 events, and takes all those of a virtual time at once, so one is due at 250,000 at the
 /// latest.
-fn plain_plan_of(args: &RunArgs<'_>) -> Plan
+fn plain_plan_of(args: &RunArgs<'_>) -> PlainPlan
     ensures { result ≡ plain_plan_of args.now }
 {
-    Plan {
+    PlainPlan {
         commit_every: args.commit_every.unwrap_or(4096).min(250_000),
         checkpoint_every: args.checkpoint.unwrap_or(0),
         seals: args.seal,

@@ -7,7 +7,7 @@ ghost use Rattle.program.specs.Turns.{row_of, row_of_commit};
 use cli::RunArgs;
 use disk::SystemError;
 use pictures::Row;
-use plain::Watch as PlainWatch;
+use plain::PlainWatch;
 use runs::{Turn, Watch};
 use segments::archiving::ArchiveFault;
 use std::fs;

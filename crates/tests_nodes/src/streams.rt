@@ -5,7 +5,7 @@ use crate::in_memory::{NEVER, Pieces, Refusal, bytes_of};
 use crate::loads::{load_of, parcel, tokens};
 use eventkey::{KeyFault, Listed, Message, Sign, Signed};
 use frames::{
-    Frame, Kind, encode_fault, encode_load, encode_parcel, encode_reply, read_frame, read_raw,
+    Frame, FrameKind, encode_fault, encode_load, encode_parcel, encode_reply, read_frame, read_raw,
     read_whole_frame, read_whole_raw,
 };
 use model::{SavedState, Sent, append_words, read_words};
@@ -29,14 +29,14 @@ const LADEN: [u8; 213] = [
     0, 1, 0, 0, 0, 0, 0, 0, 0, 1, 0, 0, 0, 0, 0, 0, 0, 2, 0, 0, 0, 3,
 ];
 
-const FRAMES: [(&[u8], Kind); 7] = [
-    (LOAD_1, Kind::Load),
-    (LOAD, Kind::Load),
-    (PARCEL, Kind::Parcel),
-    (LATE, Kind::Parcel),
-    (REPLY, Kind::Reply),
-    (&LADEN, Kind::Reply),
-    (BELOW_FLOOR, Kind::Fault),
+const FRAMES: [(&[u8], FrameKind); 7] = [
+    (LOAD_1, FrameKind::Load),
+    (LOAD, FrameKind::Load),
+    (PARCEL, FrameKind::Parcel),
+    (LATE, FrameKind::Parcel),
+    (REPLY, FrameKind::Reply),
+    (&LADEN, FrameKind::Reply),
+    (BELOW_FLOOR, FrameKind::Fault),
 ];
 
 /// The message that node 0 handles, with words that no model makes.
@@ -218,7 +218,7 @@ fn frames_are_read_to_their_last_byte(rt: HostRuntime) -> Result<(), Fail> {
 }
 
 /// Whether these bytes are one whole frame of this kind, and read as such.
-fn is_whole(alloc: Global, frame: &[u8], kind: Kind) -> Result<bool, Fail> {
+fn is_whole(alloc: Global, frame: &[u8], kind: FrameKind) -> Result<bool, Fail> {
     let is_raw = match read_whole_raw(alloc, frame)? {
         Some(raw) => raw.kind == kind && Some(raw.body.as_slice()) == frame.get(5..),
         None => false,
@@ -236,7 +236,7 @@ fn is_no_whole(alloc: Global, bytes: &[u8]) -> Result<bool, Fail> {
 
 /// Whether these bytes are one whole frame of this kind, and none without their last byte or with one
 /// more.
-fn is_just_whole(alloc: Global, frame: &[u8], kind: Kind) -> Result<bool, Fail> {
+fn is_just_whole(alloc: Global, frame: &[u8], kind: FrameKind) -> Result<bool, Fail> {
     let longer = [frame, &[0]].concat(alloc)?;
     let shorter = frame.split_at(frame.len().saturating_sub(1)).0;
     Ok(

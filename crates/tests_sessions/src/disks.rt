@@ -4,7 +4,7 @@ ghost use Rattle.std.specs.Prelude.{◌≡◌, ◌<◌, ◌≤◌};
 
 use commitlog::{Log, LogFault, format};
 use coordinator::{Session, SessionFault};
-use disk::{MemDisk, NotOpened, Plan as DiskPlan, Torn};
+use disk::{DiskPlan, MemDisk, NotOpened, Torn};
 use model::Model as Simulated;
 use models::{Phold, TokenRing};
 use recovery::{Front, header, recover};

@@ -3,7 +3,7 @@
 use crate::disks::{END, disk_of, left_by, phold, plan, reached, ring};
 use crate::histories::after;
 use coordinator::{SessionFault, extend};
-use disk::{MemDisk, Plan as DiskPlan, Returned, Torn};
+use disk::{DiskPlan, MemDisk, Returned, Torn};
 use std::alloc::Global;
 use std::test::Fail;
 

@@ -3,9 +3,7 @@
 use crate::disks::{END, Nobody, disk_of, front_of, front_on, left_by, plan, reached, ring};
 use commitlog::LogFault;
 use coordinator::SessionFault;
-use disk::{
-    DiskFault, GrowthFault, MOST_SECTORS, MemDisk, Plan as DiskPlan, Returned, SectorDisk, Torn,
-};
+use disk::{DiskFault, DiskPlan, GrowthFault, MOST_SECTORS, MemDisk, Returned, SectorDisk, Torn};
 use models::TokenRing;
 use recovery::{Front, RecoveryFault};
 use runs::{RunFault, run_local};

@@ -3,9 +3,9 @@
 use crate::disks::{END, Nobody, disk_of, formatted, front_of, front_on, phold, plan, ring};
 use commitlog::LogFault;
 use coordinator::{Extended, extend};
-use disk::{MemDisk, Plan as DiskPlan, Returned, Torn};
+use disk::{DiskPlan, MemDisk, Returned, Torn};
 use model::Model as Simulated;
-use plain::{PlainFault, Plan, Reached, Watch, run_plain};
+use plain::{PlainFault, PlainPlan, Reached, PlainWatch, run_plain};
 use recovery::{Front, RecoveryFault, front_of as front_of_world};
 use runs::{Plan as RunPlan, RunFault, run_local};
 use std::alloc::Global;
@@ -21,7 +21,7 @@ pub(crate) struct Seen {
     pub(crate) used: u32,
 }
 
-impl Watch for Seen {
+impl PlainWatch for Seen {
     fn committed(&mut self, time: u64, events: usize) {
         self.time = time;
         self.events = events;
@@ -34,8 +34,8 @@ impl Watch for Seen {
 }
 
 /// A plan of a plain run without seals, of at most this number of commits.
-pub(crate) fn plain_plan(commit_every: u32, checkpoint_every: u32, commits: u32) -> Plan {
-    Plan {
+pub(crate) fn plain_plan(commit_every: u32, checkpoint_every: u32, commits: u32) -> PlainPlan {
+    PlainPlan {
         commit_every,
         checkpoint_every,
         seals: false,
@@ -70,10 +70,10 @@ fn run_plainly<M: Simulated>(
     model: &M,
     disk: MemDisk,
     end: u64,
-    plan: Plan,
+    plan: PlainPlan,
 ) -> Option<MemDisk> {
     let mut seen = Seen::default();
-    let sealing = Plan {
+    let sealing = PlainPlan {
         seals: true,
         ..plan
     };
@@ -196,10 +196,10 @@ fn each_history_is_the_plain_loop(rt: HostRuntime) -> Result<(), Fail> {
 }
 
 /// Runs the ring plainly to time 10, on a disk for this end.
-pub(crate) fn ring_run<W: Watch>(
+pub(crate) fn ring_run<W: PlainWatch>(
     alloc: Global,
     disk: MemDisk,
-    plan: Plan,
+    plan: PlainPlan,
     watch: &mut W,
 ) -> Returned<MemDisk, Reached, PlainFault> {
     run_plain(alloc, &ring(), disk, END, plan, watch)
@@ -245,7 +245,7 @@ const ROWS: &str = "\
 /// What such a run shows. The front of its disk must be that of its last commit.
 fn ran(alloc: Global, words: &str) -> Result<String, Fail> {
     let [commit_every, checkpoint_every, seals, commits, sectors] = numbers(words);
-    let plan = Plan {
+    let plan = PlainPlan {
         seals: seals == 1,
         ..plain_plan(commit_every, checkpoint_every, commits)
     };
@@ -303,7 +303,7 @@ struct Asking {
     commits: u32,
 }
 
-impl Watch for Asking {
+impl PlainWatch for Asking {
     fn opened(&mut self, time: u64, events: usize) {
         self.opened = (time, events);
     }

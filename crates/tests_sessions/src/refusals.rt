@@ -7,11 +7,11 @@ mod running;
 mod stepping;
 
 use crate::disks::disk_of;
-use disk::{MemDisk, Plan, Torn};
+use disk::{DiskPlan, MemDisk, Torn};
 use std::alloc::{AllocError, Global};
 
 fn torn_disk(alloc: Global, disk: &MemDisk, torn: Torn) -> Result<MemDisk, AllocError> {
-    disk_of(alloc, disk.crash(alloc, torn)?, Plan::default())
+    disk_of(alloc, disk.crash(alloc, torn)?, DiskPlan::default())
 }
 
 /// What a crash leaves of a disk.

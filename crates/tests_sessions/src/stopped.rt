@@ -2,9 +2,9 @@
 
 use crate::disks::{END, TEARINGS, disk_of, formatted, front_of, front_on, phold, ring};
 use crate::histories::{Seen, fault_of, plain_plan, ring_run, sequential};
-use disk::{MemDisk, Plan as DiskPlan, Returned, Torn};
+use disk::{DiskPlan, MemDisk, Returned, Torn};
 use model::Model as Simulated;
-use plain::{PlainFault, Plan, Reached, run_plain};
+use plain::{PlainFault, PlainPlan, Reached, run_plain};
 use recovery::Front;
 use std::alloc::Global;
 use std::test::Fail;
@@ -15,7 +15,7 @@ fn run_on<M: Simulated>(
     model: &M,
     image: Vec<u8>,
     end: u64,
-    plan: Plan,
+    plan: PlainPlan,
     failures: DiskPlan,
     seen: &mut Seen,
 ) -> Result<Returned<MemDisk, Reached, PlainFault>, Fail> {
@@ -29,7 +29,7 @@ fn is_carried_on<M: Simulated>(
     model: &M,
     image: Vec<u8>,
     end: u64,
-    plan: Plan,
+    plan: PlainPlan,
     acknowledged: u64,
     last: &Front,
 ) -> Result<bool, Fail> {
@@ -59,7 +59,7 @@ fn survives<M: Simulated>(
     alloc: Global,
     model: &M,
     end: u64,
-    plan: Plan,
+    plan: PlainPlan,
     failures: DiskPlan,
     last: &Front,
 ) -> Result<bool, Fail> {
@@ -80,7 +80,7 @@ fn stops<M: Simulated>(
     alloc: Global,
     model: &M,
     end: u64,
-    plan: Plan,
+    plan: PlainPlan,
     is_failing: bool,
 ) -> Result<u64, Fail> {
     let last = sequential(alloc, model, end)?;

@@ -11,7 +11,7 @@ mod world;
 use commands::{CommandFault, log, show};
 use commitlog::{LogFault, format};
 use coordinator::{Extended, FrontView, Session, SessionFault, Step, extend};
-use disk::{MemDisk, NotOpened, Plan as DiskPlan, Returned, Torn};
+use disk::{DiskPlan, MemDisk, NotOpened, Returned, Torn};
 use model::{World, WorldFault, WorldParts};
 use models::AnyModel;
 use recovery::{RecoveryFault, header};

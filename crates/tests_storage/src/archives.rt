@@ -4,10 +4,10 @@
 use crate::chains::{END, Nobody, TEARINGS, blank, disk_of, part, ring};
 use crate::shared::{on_file, removed};
 use commitlog::format;
-use disk::{FileDisk, MOST_SECTORS, MemDisk, Plan as DiskPlan, Returned, Room};
+use disk::{DiskPlan, FileDisk, MOST_SECTORS, MemDisk, Returned, Room};
 use model::Continued;
 use models::TokenRing;
-use plain::{Plan, run_plain};
+use plain::{PlainPlan, run_plain};
 use recovery::{Front, header};
 use segments::archiving::{
     Left, Place, archive, begin_on, front_on, left_on, origin_on, remove_parts,
@@ -118,7 +118,7 @@ fn fill_up(rt: &HostRuntime, path: &str) -> Result<FileDisk, Fail> {
     let Returned { disk, outcome } = origin_on(rt.alloc(), &ring, disk);
     let (origin, _time) = outcome?;
     let model = Continued::new(&ring, origin.as_ref());
-    let plan = Plan {
+    let plan = PlainPlan {
         commit_every: 1,
         checkpoint_every: 0,
         seals: false,

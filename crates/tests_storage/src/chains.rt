@@ -3,11 +3,11 @@
 ghost use Rattle.std.specs.Prelude.{◌≡◌, false, IfOk};
 
 use commitlog::{Log, LogFault, format};
-use disk::{MemDisk, NotOpened, Plan as DiskPlan, Torn};
+use disk::{DiskPlan, MemDisk, NotOpened, Torn};
 use eventkey::Message;
 use model::Continued;
 use models::TokenRing;
-use plain::{Plan, Watch, run_plain};
+use plain::{PlainPlan, PlainWatch, run_plain};
 use recovery::{Front, RecoveryFault, header, recover};
 use segments::{begin, goes_on, origin_of};
 use std::alloc::Global;
@@ -29,7 +29,7 @@ pub(crate) fn ring() -> TokenRing {
 #[derive(Clone, Copy)]
 pub(crate) struct Nobody;
 
-impl Watch for Nobody {
+impl PlainWatch for Nobody {
     fn committed(&mut self, _time: u64, _events: usize) {}
 }
 
@@ -95,7 +95,7 @@ pub(crate) fn part(
     let mut log = open(alloc, disk_of(alloc, image, DiskPlan::default())?)?;
     let origin = origin_of(alloc, &ring, &mut log)?;
     let model = Continued::new(&ring, origin.as_ref());
-    let plan = Plan {
+    let plan = PlainPlan {
         commit_every: 1,
         checkpoint_every: 2,
         seals: true,

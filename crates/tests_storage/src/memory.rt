@@ -4,7 +4,7 @@ ghost use Rattle.std.specs.Prelude.{◌≡◌, length, IfOk};
 
 use crate::shared::{NO_SECTOR, are_filled, byte_of, fill, store};
 use disk::{
-    DiskFault, GrowingDisk, GrowthFault, MOST_SECTORS, MemDisk, Plan, SectorDisk, Torn,
+    DiskFault, DiskPlan, GrowingDisk, GrowthFault, MOST_SECTORS, MemDisk, SectorDisk, Torn,
     write_through,
 };
 use std::alloc::{AllocError, Global};
@@ -121,7 +121,7 @@ fn has_cuts(image: &[u8]) -> bool {
 
 /// Whether a crash leaves two dirty sectors each cut after 100 bytes.
 fn are_cut(alloc: Global) -> Result<bool, Fail> {
-    let plan = Plan {
+    let plan = DiskPlan {
         fail: None,
         stop: Some(1),
     };
@@ -155,9 +155,9 @@ fn bytes(alloc: Global) -> Result<Vec<u8>, AllocError>
 }
 
 fn of_bytes(alloc: Global) -> Result<MemDisk, AllocError> {
-    match MemDisk::of(alloc, bytes(alloc)?, Plan::default()) {
+    match MemDisk::of(alloc, bytes(alloc)?, DiskPlan::default()) {
         Ok(disk) => Ok(disk),
-        Err(AllocError) => MemDisk::of(alloc, bytes(alloc)?, Plan::default()),
+        Err(AllocError) => MemDisk::of(alloc, bytes(alloc)?, DiskPlan::default()),
     }
 }
 
@@ -228,7 +228,7 @@ fn a_disk_grows_after_an_allocation_failure(rt: HostRuntime) -> Result<(), Fail>
 
 /// A disk of four sectors of fours, with one dirty sector; its next operation fails.
 fn planned(alloc: Global) -> Result<MemDisk, Fail> {
-    let plan = Plan {
+    let plan = DiskPlan {
         fail: Some(1),
         stop: None,
     };

@@ -2,7 +2,7 @@
 
 use crate::logs::{add, open};
 use commitlog::{Log, LogFault, format};
-use disk::{DiskFault, MemDisk, Plan, Torn};
+use disk::{DiskFault, DiskPlan, MemDisk, Torn};
 use eventkey::{Listed, Message};
 use model::{SavedState, WorldFault};
 use models::TokenRing;

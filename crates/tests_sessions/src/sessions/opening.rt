@@ -3,7 +3,7 @@ use crate::disks::{disk_of, near};
 use crate::steps::steps;
 use commitlog::LogFault;
 use coordinator::{Resumed, SessionFault, resume};
-use disk::{DiskFault, MemDisk, NotOpened, Plan, Torn};
+use disk::{DiskFault, DiskPlan, MemDisk, NotOpened, Torn};
 use recovery::RecoveryFault;
 use runs::local_ports;
 use std::alloc::Global;
@@ -13,7 +13,7 @@ use std::test::Fail;
 
 /// A disk with this image, whose operation number `fail` fails, counted from 0.
 pub(super) fn failing(alloc: Global, image: Vec<u8>, fail: Option<u64>) -> Result<MemDisk, Fail> {
-    Ok(disk_of(alloc, image, Plan { fail, stop: None })?)
+    Ok(disk_of(alloc, image, DiskPlan { fail, stop: None })?)
 }
 
 /// Opens a disk whose first sync fails, which must be refused for that. Returns the disk.

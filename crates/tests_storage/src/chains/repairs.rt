@@ -3,7 +3,7 @@
 use super::*;
 use disk::{Returned, SectorDisk};
 use segments::origin_in;
-use upkeep::{Verified, Watch as Verifying, copy_opened, cut, first_in_row, reopen, salvage};
+use upkeep::{Verified, VerifyWatch as Verifying, copy_opened, cut, first_in_row, reopen, salvage};
 
 /// Follows nothing.
 #[derive(Drop)]
@@ -28,7 +28,7 @@ fn segment_with_commits(alloc: Global) -> Result<Vec<u8>, Fail> {
     let mut log = open(alloc, disk_of(alloc, image, DiskPlan::default())?)?;
     let origin = origin_of(alloc, &ring, &mut log)?;
     let model = Continued::new(&ring, origin.as_ref());
-    let plan = Plan {
+    let plan = PlainPlan {
         commit_every: 1,
         checkpoint_every: 2,
         seals: false,

@@ -13,7 +13,7 @@ fn failing_log(alloc: Global, image: &[u8], fail: u64) -> Result<Log<MemDisk>, R
     if image.len() > 1 << 20 {
         return Err(RecoveryFault::Log(LogFault::TooLong));
     }
-    let plan = Plan {
+    let plan = DiskPlan {
         fail: Some(fail),
         stop: None,
     };

@@ -2,7 +2,7 @@
 use super::*;
 use disk::{Returned, SectorDisk};
 use upkeep::{
-    CutFault, CutLog, SalvageFault, Salvaged, VerifyFault, Watch, close_cut, cut, find_cut,
+    CutFault, CutLog, SalvageFault, Salvaged, VerifyFault, VerifyWatch, close_cut, cut, find_cut,
     salvage, verify_disk,
 };
 
@@ -10,7 +10,7 @@ use upkeep::{
 #[derive(Drop)]
 struct Unwatched;
 
-impl Watch for Unwatched {}
+impl VerifyWatch for Unwatched {}
 
 /// Commits, each by its time and the places of its first event and of the one after its last, and
 /// what a cut of their log prints.
@@ -32,7 +32,7 @@ fn commit_of(word: &str) -> Result<Commit, Fail> {
 }
 
 /// The disk of a log of these commits, with these failures.
-fn disk_of(alloc: Global, words: &str, with: Plan) -> Result<MemDisk, Fail> {
+fn disk_of(alloc: Global, words: &str, with: DiskPlan) -> Result<MemDisk, Fail> {
     let mut commits = Vec::new(alloc);
     for word in words.split(' ') {
         commits.push(commit_of(word)?)?;
@@ -46,7 +46,7 @@ fn image_of(alloc: Global, commits: &[Commit]) -> Result<Vec<u8>, Fail> {
 }
 
 /// A disk with this image and these failures.
-fn planned(alloc: Global, image: Vec<u8>, with: Plan) -> Result<MemDisk, Fail> {
+fn planned(alloc: Global, image: Vec<u8>, with: DiskPlan) -> Result<MemDisk, Fail> {
     if image.len() > 1 << 24 {
         return Err(Fail::new("the image is too long"));
     }
@@ -71,7 +71,7 @@ fn is_cut_so(alloc: Global, row: &str) -> Result<bool, Fail> {
     let Some((commits, text)) = row.split_once(" | ") else {
         return Ok(false);
     };
-    let disk = disk_of(alloc, commits, Plan::default())?;
+    let disk = disk_of(alloc, commits, DiskPlan::default())?;
     let done = cut(alloc, &ring(), disk, &mut Unwatched);
     Ok(cut_text(alloc, done.outcome)?.as_str() == text)
 }
@@ -102,7 +102,7 @@ const TEARINGS: [Torn; 5] = [
 /// Whether what a crash leaves of a disk is the log with the record at fault, or the one that was
 /// cut.
 fn is_either(alloc: Global, disk: &MemDisk, torn: Torn) -> Result<bool, Fail> {
-    let left = planned(alloc, disk.crash(alloc, torn)?, Plan::default())?;
+    let left = planned(alloc, disk.crash(alloc, torn)?, DiskPlan::default())?;
     match verify_disk(alloc, &ring(), left, END, &mut Unwatched) {
         Ok(seen) => Ok(seen.time == 7 && seen.events == 3),
         Err(VerifyFault::Record { number, fault }) => {
@@ -113,7 +113,7 @@ fn is_either(alloc: Global, disk: &MemDisk, torn: Torn) -> Result<bool, Fail> {
 }
 
 /// Whether each crash after a cut on a disk with these failures leaves one of the two.
-fn leaves_either(alloc: Global, with: Plan) -> Result<bool, Fail> {
+fn leaves_either(alloc: Global, with: DiskPlan) -> Result<bool, Fail> {
     let disk = disk_of(alloc, "1-0-0 7-0-3 12-3-5", with)?;
     let Returned { disk, outcome } = cut(alloc, &ring(), disk, &mut Unwatched);
     cut_text(alloc, outcome)?;
@@ -127,11 +127,11 @@ fn leaves_either(alloc: Global, with: Plan) -> Result<bool, Fail> {
 
 fn all_leave_either(alloc: Global) -> Result<bool, Fail> {
     for number in 0..24 {
-        let fail = Plan {
+        let fail = DiskPlan {
             fail: Some(number),
             stop: None,
         };
-        let stop = Plan {
+        let stop = DiskPlan {
             fail: None,
             stop: Some(number),
         };
@@ -150,7 +150,7 @@ fn a_stop_leaves_a_log_as_it_was_or_cut(rt: HostRuntime) -> Result<(), Fail> {
 
 /// Whether a cut that was found and not made leaves the disk as it was, and the made one does not.
 fn is_cut_later(alloc: Global) -> Result<bool, Fail> {
-    let disk = disk_of(alloc, "1-0-0 7-0-3 12-3-5", Plan::default())?;
+    let disk = disk_of(alloc, "1-0-0 7-0-3 12-3-5", DiskPlan::default())?;
     let before = disk.crash(alloc, Torn::New)?;
     let Ok(to) = find_cut(alloc, &ring(), disk, &mut Unwatched) else {
         return Ok(false);
@@ -211,7 +211,7 @@ fn salvage_text(alloc: Global, made: Result<Salvaged, SalvageFault>) -> Result<S
 
 /// The disk of all commits, of which a sector is filled with a byte.
 fn damaged(alloc: Global, sector: u32, byte: u8) -> Result<MemDisk, Fail> {
-    let mut disk = planned(alloc, image_of(alloc, &ALL)?, Plan::default())?;
+    let mut disk = planned(alloc, image_of(alloc, &ALL)?, DiskPlan::default())?;
     disk.write(sector, &[byte; 512])?;
     Ok(disk)
 }
@@ -255,7 +255,7 @@ fn is_log_salvaged_so(alloc: Global, row: &str) -> Result<bool, Fail> {
     let Some((commits, text)) = row.split_once(" | ") else {
         return Ok(false);
     };
-    let disk = disk_of(alloc, commits, Plan::default())?;
+    let disk = disk_of(alloc, commits, DiskPlan::default())?;
     Ok(salvaged(alloc, disk, 64)?.as_str() == text)
 }
 
@@ -303,7 +303,7 @@ fn salvages_are_refused_by_name(rt: HostRuntime) -> Result<(), Fail> {
 
 /// Whether what a crash leaves of a new disk is no log, or one that represents a world.
 fn is_part(alloc: Global, new: &MemDisk, torn: Torn) -> Result<bool, Fail> {
-    let left = planned(alloc, new.crash(alloc, torn)?, Plan::default())?;
+    let left = planned(alloc, new.crash(alloc, torn)?, DiskPlan::default())?;
     match verify_disk(alloc, &ring(), left, END, &mut Unwatched) {
         Ok(seen) => Ok(seen.time <= END),
         Err(VerifyFault::Log(LogFault::NotFormatted)) => Ok(true),
@@ -312,7 +312,7 @@ fn is_part(alloc: Global, new: &MemDisk, torn: Torn) -> Result<bool, Fail> {
 }
 
 /// Whether each crash after a salvage to a disk with these failures leaves such a one.
-fn leaves_part(alloc: Global, with: Plan) -> Result<bool, Fail> {
+fn leaves_part(alloc: Global, with: DiskPlan) -> Result<bool, Fail> {
     let blank = MemDisk::blank(alloc, 64)?.crash(alloc, Torn::New)?;
     let mut disk = damaged(alloc, 2, 0)?;
     let new = planned(alloc, blank, with)?;
@@ -328,11 +328,11 @@ fn leaves_part(alloc: Global, with: Plan) -> Result<bool, Fail> {
 
 fn all_leave_part(alloc: Global) -> Result<bool, Fail> {
     for number in 0..48 {
-        let fail = Plan {
+        let fail = DiskPlan {
             fail: Some(number),
             stop: None,
         };
-        let stop = Plan {
+        let stop = DiskPlan {
             fail: None,
             stop: Some(number),
         };

@@ -103,7 +103,7 @@ fn shown_by_whole(alloc: Global, image: &[u8], end: u64) -> Result<Option<Inspec
     if image.len() > 1 << 24 {
         return Err(Fail::new("the image is too long"));
     }
-    let disk = MemDisk::of(alloc, image.to_vec(alloc)?, Plan::default())?;
+    let disk = MemDisk::of(alloc, image.to_vec(alloc)?, DiskPlan::default())?;
     Ok(inspect(alloc, &ring(), disk, end).ok())
 }
 

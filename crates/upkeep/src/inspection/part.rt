@@ -6,7 +6,7 @@ ghost use Rattle.upkeep.specs.Part.{disk_of_part};
 
 use crate::inspection::held::Held;
 use crate::inspection::reading::hold_part;
-use disk::{DiskFault, MemDisk, Plan, SectorDisk};
+use disk::{DiskFault, DiskPlan, MemDisk, SectorDisk};
 use std::alloc::Global;
 use std::marker::Model;
 
@@ -128,7 +128,7 @@ fn failing_disk(alloc: Global) -> Option<MemDisk>
     ensures stopped { IfSome result (λ disk. disk.counts.stopped ≡ true) }
 {
     let bytes = vec![in alloc; 0; 512].ok()?;
-    let plan = Plan {
+    let plan = DiskPlan {
         fail: None,
         stop: Some(0),
     };
