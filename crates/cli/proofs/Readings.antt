@@ -16,7 +16,7 @@ use Rattle.clap.specs.declared.error.Error.{Error}
 use Rattle.clap.specs.declared.builder.value_parser.ValueParser.{ValueParser}
 use Rattle.clap.specs.declared.builder.value_parser.ValueParser.TheVariants.{Unsigned}
 use Rattle.cli.specs.Command.{is_number, written_number, range_between, refusing, table_named}
-use Rattle.cli.specs.declared.command.Table.{Table}
+use Rattle.cli.specs.declared.command.StatsTable.{StatsTable}
 
 -- the command with this option alone is simple, and the text is refused
 pub refusing_is_free : (option : Text) (parser : ValueParser) (text : Text) → is_simple_and_free (refusing option parser text) ≡ true
@@ -95,7 +95,7 @@ first_kind [] b e h = elim h [ inl none ↦ inl none | inr never ↦ absurd neve
 first_kind (k ∷ ks) b e h = h
 
 -- a text that names no table has the name of none
-pub not_named : (text name : Text) (found : Table) → table_named name ≡ Some found → table_named text ≡ None → bytes_eq name text ≡ false
+pub not_named : (text name : Text) (found : StatsTable) → table_named name ≡ Some found → table_named text ≡ None → bytes_eq name text ≡ false
 not_named text name found known none = elim (cases_Bool (bytes_eq name text)) [
   | inl e ↦
       let same : name ≡ text = (bytes_eq-Decides name text).0 e in

@@ -47,8 +47,8 @@ use Rattle.cli.specs.declared.command.ShowArgs.{ShowArgs}
 use Rattle.cli.specs.declared.command.SourceArgs.{SourceArgs}
 use Rattle.cli.specs.declared.command.StatsArgs.{StatsArgs}
 use Rattle.cli.specs.declared.command.StatusArgs.{StatusArgs}
-use Rattle.cli.specs.declared.command.Table.{Table}
-use Rattle.cli.specs.declared.command.Table.TheVariants as table
+use Rattle.cli.specs.declared.command.StatsTable.{StatsTable}
+use Rattle.cli.specs.declared.command.StatsTable.TheVariants as table
 use Rattle.cli.specs.declared.command.VerifyArgs.{VerifyArgs}
 
 -- ---- the arguments
@@ -525,7 +525,7 @@ format_in rows = if is_text (first_of (codes "format") rows) (codes "csv") then 
     else format.Text
 
 -- the table of this name
-abbrev pub table_named : Text → Option Table
+abbrev pub table_named : Text → Option StatsTable
 table_named name = if bytes_eq name (codes "summary") then Some table.Summary
     else if bytes_eq name (codes "spreads") then Some table.Spreads
     else if bytes_eq name (codes "busiest") then Some table.Busiest

@@ -360,14 +360,14 @@ pub struct StatsArgs<'a> {
     /// Whether the figures of the state words that the model has names for are printed too.
     pub names: bool,
     /// The only table that is printed; none for those of the run.
-    pub table: Option<Table>,
+    pub table: Option<StatsTable>,
     /// The tick from which on a table over virtual time counts, at most 2^40; none for all.
     pub warm_up: Option<u64>,
 }
 
 /// A table of the figures of a run.
 #[derive(Clone, Copy, Debug, PartialEq, Eq)]
-pub enum Table {
+pub enum StatsTable {
     /// The run as a whole.
     Summary,
     /// How the events and sends of the processes, and the delays of the messages, spread.

@@ -7,7 +7,7 @@ use thiserror::Error;
 
 /// What to write in place of a refused word.
 #[derive(Clone, Copy, Debug, PartialEq, Eq, Error)]
-pub enum Hint {
+pub enum UsageHint {
     /// The batch is neither a number nor `auto`.
     #[error("'--batch' takes a number from 1 to 4294967295, or 'auto'")]
     Batch,
@@ -52,7 +52,7 @@ const NUMBERS: &[&str] = &[
 /// What to write in place of the first word for which there is a hint. The first word is the
 /// program's own name. The words are those of a command that was refused: a hint for others may be
 /// wrong.
-pub fn hint_of<S: AsStr>(words: &[S]) -> Option<Hint> {
+pub fn hint_of<S: AsStr>(words: &[S]) -> Option<UsageHint> {
     let large = says_large(words);
     let makes = is_new(words);
     let mut before = "";
@@ -89,25 +89,25 @@ fn is_new<S: AsStr>(words: &[S]) -> bool {
 }
 
 /// The hint for the value of an option, of `new` or another command, if there is one.
-fn hint_at(option: &str, value: &str, large: bool, makes: bool) -> Option<Hint> {
+fn hint_at(option: &str, value: &str, large: bool, makes: bool) -> Option<UsageHint> {
     let name = option.strip_prefix("--")?;
     match name {
         "from" if makes => None,
-        "batch" if !is_count(value, "auto", 1) => Some(Hint::Batch),
-        "rounds" if !is_count(value, "unlimited", 1) => Some(Hint::Rounds),
-        "judge" if !is_count(value, "all", 0) => Some(Hint::Judge),
-        "processes" if range_of(value).is_none() => Some(Hint::Processes),
-        "sectors" if !large && is_of_large(value) => Some(Hint::Large),
+        "batch" if !is_count(value, "auto", 1) => Some(UsageHint::Batch),
+        "rounds" if !is_count(value, "unlimited", 1) => Some(UsageHint::Rounds),
+        "judge" if !is_count(value, "all", 0) => Some(UsageHint::Judge),
+        "processes" if range_of(value).is_none() => Some(UsageHint::Processes),
+        "sectors" if !large && is_of_large(value) => Some(UsageHint::Large),
         _ if is_negative(value) => negative(name),
         _ => None,
     }
 }
 
 /// The hint for a negative number of this option, if it takes a number.
-fn negative(name: &str) -> Option<Hint> {
+fn negative(name: &str) -> Option<UsageHint> {
     for known in NUMBERS {
         if *known == name {
-            return Some(Hint::Negative(known));
+            return Some(UsageHint::Negative(known));
         }
     }
     None

@@ -16,11 +16,11 @@ mod words;
 pub use command::{
     BatchOption, Command, DiskArgs, DrawArgs, Format, GrowArgs, InfoArgs, LogArgs, MigrateArgs,
     ModelArgs, ModelFile, NewArgs, NodeArgs, RecoverArgs, RunArgs, SeqArgs, Settings, ShowArgs,
-    SourceArgs, StatsArgs, StatusArgs, Table, VerifyArgs,
+    SourceArgs, StatsArgs, StatsTable, StatusArgs, VerifyArgs,
 };
 pub use grammar::{Texts, most_sectors, program_help, seq_help};
 pub use helping::help_text;
-pub use hint::{Hint, hint_of};
+pub use hint::{UsageHint, hint_of};
 pub use reading::read_command;
 pub use settings::settings_of;
 pub use topics::{TOPICS, Topic, asks_help, topic_of};

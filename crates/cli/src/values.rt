@@ -17,7 +17,7 @@ ghost use Rattle.cli.specs.Command.{range_of, text_in};
 ghost use Rattle.cli.specs.Command.{text_fault, unread_fault, written_number};
 ghost use Rattle.cli.specs.Command.{IsBatchRanged, IsFlagIn, IsWithin};
 
-use crate::command::{BatchOption, Format, Table};
+use crate::command::{BatchOption, Format, StatsTable};
 use crate::company::refused_company;
 use crate::grammar::{most_sectors, refusing};
 use clap::builder::ValueParser;
@@ -187,7 +187,7 @@ pub fn format(values: &ArgMatches<'_>) -> Format
 }
 
 /// The only table that is printed, if one is named.
-pub fn table(values: &ArgMatches<'_>) -> Option<Table>
+pub fn table(values: &ArgMatches<'_>) -> Option<StatsTable>
     ensures { result ≡ option_and_then table_named
         (first_of (codes "table") (rows_of (found_of values.now))) }
 {
@@ -198,18 +198,18 @@ pub fn table(values: &ArgMatches<'_>) -> Option<Table>
 }
 
 /// The table of this name.
-fn table_named(name: &str) -> Option<Table>
+fn table_named(name: &str) -> Option<StatsTable>
     ensures { result ≡ table_named name.now }
 {
     match name {
-        "summary" => Some(Table::Summary),
-        "spreads" => Some(Table::Spreads),
-        "busiest" => Some(Table::Busiest),
-        "totals" => Some(Table::Totals),
-        "processes" => Some(Table::Processes),
-        "kinds" => Some(Table::Kinds),
-        "overall" => Some(Table::Overall),
-        "words" => Some(Table::Words),
+        "summary" => Some(StatsTable::Summary),
+        "spreads" => Some(StatsTable::Spreads),
+        "busiest" => Some(StatsTable::Busiest),
+        "totals" => Some(StatsTable::Totals),
+        "processes" => Some(StatsTable::Processes),
+        "kinds" => Some(StatsTable::Kinds),
+        "overall" => Some(StatsTable::Overall),
+        "words" => Some(StatsTable::Words),
         _ => None,
     }
 }

@@ -5,7 +5,7 @@ use cli::{Command, ModelFile, RunArgs, most_sectors};
 use commitlog::LogFault;
 use coordinator::SessionFault;
 use disk::{GrowthFault, SystemError};
-use judging::Difference;
+use judging::ReportDifference;
 use node_programs::{Apart, Call, CallEnd};
 use recovery::RecoveryFault;
 use std::fs;
@@ -13,7 +13,7 @@ use std::fs::File;
 use std::io::Write;
 use std::rt::Files;
 use terminal::{
-    Cause, Progress, Refusal, Unmet, cause_of, cause_of_device, cause_of_kept, cause_of_refusal,
+    Cause, FileRefusal, Progress, Unmet, cause_of, cause_of_device, cause_of_kept, cause_of_refusal,
 };
 use texts::{Described, Printable, Report, SettingFault};
 use upkeep::migration::MigrateFault;
@@ -26,7 +26,7 @@ pub struct Noted {
     /// The last call on the connection of one.
     pub last: Option<Call>,
     /// The event of the first report that is not what the model does.
-    pub refused: Option<Difference>,
+    pub refused: Option<ReportDifference>,
     /// The system's error of the last failed call on the disk.
     pub system: Option<SystemError>,
     /// The system's error of the call that failed as node programs or a run were met.
@@ -34,7 +34,7 @@ pub struct Noted {
     /// In which simulations a node program and a run take part, if these differ.
     pub apart: Option<Apart>,
     /// Why the command refused a file, or lost its disk.
-    pub refusal: Option<Refusal>,
+    pub refusal: Option<FileRefusal>,
 }
 
 /// What the words of a command ask to follow its fault.
@@ -203,7 +203,7 @@ fn print_node<E: Write>(command: Command<'_>, fault: Fault, noted: Noted, err: &
     let (node, folder) = (call.node, Printable(folder));
     let how = how_it_failed(fault, call.end);
     let _ = match (args.silence, call.end, noted.refused) {
-        (_, _, Some(Difference { process, time })) => writeln!(
+        (_, _, Some(ReportDifference { process, time })) => writeln!(
             err,
             "node {node} ({folder}/node{node}) reports what the model does not do: \
              process {process} at {time} ticks"

@@ -29,11 +29,11 @@ use std::io::{Result as IoResult, Write};
 use std::rt::Files;
 use std::thread;
 use std::time::{Clock, Duration};
-use terminal::{Held, Place, Progress, Refusal, is_elsewhere, is_locked, place_of};
+use terminal::{FileId, FileRefusal, Held, Progress, is_elsewhere, is_locked, place_of};
 use texts::{Described, write_number, write_text};
 use upkeep::growing::{Grown, grow};
 use upkeep::{Verified, has_records, reopen};
-use views::{Beginning, Begun, read_model_file, simulation_in, write_believed_line};
+use views::{Beginning, BegunDisk, read_model_file, simulation_in, write_believed_line};
 
 /// The file of a disk that is made.
 #[derive(Clone, Copy)]
@@ -127,7 +127,7 @@ where
 }
 
 /// Whether a path led to this file and does not any more.
-fn is_left<R: Files>(rt: &R, path: &str, place: Option<Place>) -> bool {
+fn is_left<R: Files>(rt: &R, path: &str, place: Option<FileId>) -> bool {
     match place {
         Some(place) => is_elsewhere(rt, path, place),
         None => false,
@@ -190,7 +190,7 @@ fn refuse_bytes(disk: &mut FileDisk, said: &SystemErrors) -> Result<(), Fault>
         Ok(false) => match refuse_data(disk) {
             Err(Fault::Shut) => {
                 let held = held_on(disk);
-                Err(said.refuse(Refusal::Holds(held)))
+                Err(said.refuse(FileRefusal::Holds(held)))
             }
             outcome => outcome,
         },
@@ -459,7 +459,7 @@ where
     let (model, _end): (M, u64) = read_model_file(rt, on.model)?;
     let most = most_sectors(on.large);
     let disk = open_old(rt, on, said)?;
-    let Begun { disk, origin, .. } = Begun::of(rt.alloc(), &model, disk);
+    let BegunDisk { disk, origin, .. } = BegunDisk::of(rt.alloc(), &model, disk);
     let model = Continued::new(&model, origin.as_ref());
     let Returned { disk, outcome } = grow(rt.alloc(), &model, disk, sectors, most);
     match outcome {

@@ -14,7 +14,7 @@ use std::fs::{self, File, OpenOptions};
 use std::io::{Error as IoError, ErrorKind, Read, Result as IoResult, Write};
 use std::path::Path;
 use std::rt::Files;
-use terminal::Refusal;
+use terminal::FileRefusal;
 use views::{kept_name, unreadable};
 
 /// What a new disk keeps of its model.
@@ -108,7 +108,7 @@ where
     let path = kept_name(rt.alloc(), disk)?;
     match bytes_at(rt, path.as_str(), text.len()) {
         Ok(Some(bytes)) if bytes.as_slice() == text => Ok(true),
-        Ok(_) => Err(said.refuse(Refusal::KeptOther)),
+        Ok(_) => Err(said.refuse(FileRefusal::KeptOther)),
         Err(error) if error.kind() == ErrorKind::NotFound => Ok(false),
         Err(error) => Err(not_kept(error, said)),
     }
@@ -122,7 +122,7 @@ where
 {
     let left = match bytes_at(rt, path, text.len()) {
         Ok(Some(bytes)) if text.starts_with(bytes.as_slice()) => fs::remove_file(rt, path),
-        Ok(_) => return Err(said.refuse(Refusal::KeptUnfinished)),
+        Ok(_) => return Err(said.refuse(FileRefusal::KeptUnfinished)),
         Err(error) => Err(error),
     };
     match left {
@@ -190,7 +190,7 @@ fn sync_folder<R: Files<File = File>>(rt: &R, path: &str) -> IoResult<()> {
 fn not_kept(error: IoError, said: &SystemErrors) -> Fault {
     match SystemError::of(&error) {
         Some(system) if error.kind() != ErrorKind::OutOfMemory => {
-            said.refuse(Refusal::NotKept(system))
+            said.refuse(FileRefusal::NotKept(system))
         }
         _ => Fault::from(unreadable(error)),
     }

@@ -29,7 +29,7 @@ use std::time::Clock;
 use terminal::{Progress, are_one_file};
 use texts::{Described, write_number, write_text};
 use upkeep::{CutLog, Salvaged, ToCut, close_cut, find_cut, salvage};
-use views::{Beginning, Begun, read_model_file, write_believed_line};
+use views::{Beginning, BegunDisk, read_model_file, write_believed_line};
 
 /// Takes the good records of a damaged disk of the model of a file over to a new disk, and writes
 /// how many they are, what they represent, and why the next one is not taken. The origin of a segment
@@ -222,9 +222,9 @@ where
 {
     let (model, end): (M, u64) = read_model_file(rt, args.model)?;
     let disk = open_old(rt, args, said)?;
-    let begun = Begun::of(rt.alloc(), &model, disk);
+    let begun = BegunDisk::of(rt.alloc(), &model, disk);
     let time = begun.believed();
-    let Begun { disk, origin, .. } = begun;
+    let BegunDisk { disk, origin, .. } = begun;
     let on = Continued::new(&model, origin.as_ref());
     progress.begin(end);
     let mut watch = Verifying { progress };

@@ -3,7 +3,7 @@
 use crate::fault::Fault;
 use disk::SystemError;
 use std::cell::Cell;
-use terminal::Refusal;
+use terminal::FileRefusal;
 
 /// Keeps the system's error behind the fault of a command, if a system call on the disk that it
 /// writes has failed, and why the command refused a file. Cells, so that the contracts of the commands
@@ -11,7 +11,7 @@ use terminal::Refusal;
 #[derive(Drop)]
 pub struct SystemErrors {
     last: Cell<Option<SystemError>>,
-    refusal: Cell<Option<Refusal>>,
+    refusal: Cell<Option<FileRefusal>>,
 }
 
 impl SystemErrors {
@@ -36,12 +36,12 @@ impl SystemErrors {
     }
 
     /// Why a file was refused, if one was.
-    pub fn refusal(&self) -> Option<Refusal> {
+    pub fn refusal(&self) -> Option<FileRefusal> {
         self.refusal.get()
     }
 
     /// Notes why a file is refused, and returns the fault.
-    pub fn refuse(&self, refusal: Refusal) -> Fault {
+    pub fn refuse(&self, refusal: FileRefusal) -> Fault {
         self.refusal.set(Some(refusal));
         Fault::File
     }

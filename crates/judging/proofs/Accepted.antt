@@ -10,7 +10,7 @@ use Rattle.model.specs.Meaning.{Meaning}
 use Rattle.process.specs.Consistent.{AreConsistent}
 use Rattle.process.specs.declared.Done.{Done}
 use Rattle.judging.specs.Judging.{AreAccepted, AreOfModel, IsAccepted, IsFirstRefused, IsOneAccepted, Known, event_of, moved, reports_of}
-use Rattle.judging.specs.declared.differences.Difference.{Difference}
+use Rattle.judging.specs.declared.differences.ReportDifference.{ReportDifference}
 
 -- 1. What is known at one place
 
@@ -62,7 +62,7 @@ module _ (m : Meaning) (every nodes : ℕ) (ks : List Known) (ds : List Done) wh
       subst (λ (xs : List Done). AreAccepted m every nodes ks xs new) (sym more)
       (accepted_more m every nodes (take i ds) d ks now new so_far one (to one.0 one.1))
 
-  pub judged_refused : (i : ℕ) (d : Done) (now : List Known) (event : Difference) → i < length ds → d ≡ get_or ds i d →
+  pub judged_refused : (i : ℕ) (d : Done) (now : List Known) (event : ReportDifference) → i < length ds → d ≡ get_or ds i d →
       (IsTrue false ↔ IsOneAccepted m every nodes now d) → event ≡ event_of d →
       IsJudgedSoFar m every nodes ks ds i now → IsFirstRefused m every nodes ks ds event
   judged_refused i d now event l is decided event_is so_far = record {
@@ -76,7 +76,7 @@ module _ (m : Meaning) (every nodes : ℕ) (ks : List Known) (ds : List Done) wh
     event_is = event_is;
   }
 
-  pub none_accepted : (event : Difference) → IsFirstRefused m every nodes ks ds event → (ks' : List Known) → AreAccepted m every nodes ks ds ks' → ⊥
+  pub none_accepted : (event : ReportDifference) → IsFirstRefused m every nodes ks ds event → (ks' : List Known) → AreAccepted m every nodes ks ds ks' → ⊥
   none_accepted event first ks' all =
       first.differs (accepted_there m every nodes first.before first.after first.report ks first.known ks' first.accepted
       (subst (λ (xs : List Done). AreAccepted m every nodes ks xs ks') first.split all))

@@ -5,7 +5,7 @@ use Rattle.node.specs.declared.Load.{Load}
 use Rattle.node.specs.declared.Parcel.{Parcel}
 use Rattle.node.specs.declared.Reply.{Reply}
 use Rattle.judging.specs.Judging.{AreJudged, AreOfModel, IsFirstRefused, Known, loaded_known}
-use Rattle.judging.specs.declared.differences.Difference.{Difference}
+use Rattle.judging.specs.declared.differences.ReportDifference.{ReportDifference}
 use Rattle.wire.specs.Port.{IsLoaded, IsTakeFault, IsTaken, PortState}
 use Rattle.wire.specs.Port.Stage.{Ended, Idle, Posted}
 use Rattle.wire.specs.declared.port.PortFault.{PortFault}
@@ -22,7 +22,7 @@ pub record Judged (M P : Type 0) : Type 0 where
   pub nodes : ℕ
   pub known : List Known
   pub ended : Bool
-  pub refused : Option Difference
+  pub refused : Option ReportDifference
 
 -- a port that judges by this model one report in `every`, and through which nothing is loaded yet
 abbrev pub new_judge : {M P : Type 0} → M → ℕ → P → Judged M P
@@ -91,7 +91,7 @@ pub record IsRefused {M P : Type 0} (meaning : M → Meaning) (state : P → Por
   pub taken : IsTakenBelow (state old.port) (state new.port) reply
   pub differs : (ks : List Known) →
       AreJudged (meaning old.model) old.every old.nodes old.known reply.fossils ks → ⊥
-  pub event : Difference
+  pub event : ReportDifference
   pub first : IsFirstRefused (meaning old.model) old.every old.nodes old.known reply.fossils event
   pub kept : new.refused ≡ Some event
 

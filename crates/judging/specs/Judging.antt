@@ -4,7 +4,7 @@ use Rattle.std.specs.Prelude.{Bool, List, Some, [], ◌++◌, ◌∷◌, filter,
 use Rattle.std.specs.Prelude.{set, suc, true, zero, ℕ, ◌+◌, ◌/◌, ◌<◌, ◌≡◌, ◌≤◌, ◌^◌}
 use Rattle.model.specs.Meaning.{Meaning}
 use Rattle.node.specs.declared.Part.{Part}
-use Rattle.judging.specs.declared.differences.Difference.{Difference}
+use Rattle.judging.specs.declared.differences.ReportDifference.{ReportDifference}
 use Rattle.process.specs.Consistent.{AreConsistent}
 use Rattle.process.specs.declared.Done.{Done}
 
@@ -65,13 +65,13 @@ AreAccepted m every nodes ks (d ∷ ds) ks' =
     × AreAccepted m every nodes (set ks (d.message.to / nodes) (moved every d k)) ds ks'
 
 -- the event of a report
-abbrev pub event_of : Done → Difference
+abbrev pub event_of : Done → ReportDifference
 event_of d = record { process = d.message.to; time = d.message.time }
 
 -- The first of these reports that is not accepted is one of this event: those before it are accepted,
 -- and it is not accepted by what is then known.
 pub record IsFirstRefused (m : Meaning) (every nodes : ℕ) (ks : List Known) (ds : List Done)
-    (event : Difference) : Type 0 where
+    (event : ReportDifference) : Type 0 where
   pub before : List Done
   pub report : Done
   pub after : List Done

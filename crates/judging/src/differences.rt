@@ -8,19 +8,19 @@ use std::cell::Cell;
 
 /// The event of a report that a port refused.
 #[derive(Clone, Copy, Debug, PartialEq, Eq)]
-pub struct Difference {
+pub struct ReportDifference {
     /// The process that handled the event, by the report.
     pub process: u32,
     /// The event's virtual time, in ticks.
     pub time: u64,
 }
 
-impl Difference {
+impl ReportDifference {
     /// The event of this report.
-    pub(crate) fn of_report(report: &Done) -> Difference
+    pub(crate) fn of_report(report: &Done) -> ReportDifference
         ensures { result ≡ event_of report.now }
     {
-        Difference {
+        ReportDifference {
             process: report.message.to(),
             time: report.message.time(),
         }
@@ -33,7 +33,7 @@ impl Difference {
 /// A port that refuses a report knows its event too: `Judged::refused`.
 #[derive(Drop)]
 pub struct Differences {
-    first: Cell<Option<Difference>>,
+    first: Cell<Option<ReportDifference>>,
 }
 
 impl Differences {
@@ -45,19 +45,19 @@ impl Differences {
     }
 
     /// The event of the report that was refused first, if one was.
-    pub fn first(&self) -> Option<Difference> {
+    pub fn first(&self) -> Option<ReportDifference> {
         self.first.get()
     }
 
     /// Keeps the event of a refused report, if none was refused before. No clause sees what a cell
     /// holds, so `first_of` decides what it holds next.
-    pub(crate) fn note(&self, event: Difference) {
+    pub(crate) fn note(&self, event: ReportDifference) {
         self.first.set(first_of(self.first.get(), event));
     }
 }
 
 /// The event that was refused first, once this one is refused after those that were noted.
-fn first_of(noted: Option<Difference>, event: Difference) -> Option<Difference>
+fn first_of(noted: Option<ReportDifference>, event: ReportDifference) -> Option<ReportDifference>
     ensures empty { noted ≡ None → result ≡ Some event }
     ensures stays { IsSome noted → result ≡ noted }
 {

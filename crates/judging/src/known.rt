@@ -10,7 +10,7 @@ ghost use Rattle.judging.specs.Judging.{AreAccepted, IsAccepted, IsFirstRefused,
 ghost use Rattle.judging.specs.Judging.{IsOneAccepted};
 ghost use Rattle.judging.specs.Judging.{Known as KnownProcess, loaded_known, moved};
 
-use crate::differences::Difference;
+use crate::differences::ReportDifference;
 use crate::sends::are_sent;
 use model::{Model as Simulated, Outgoing, Sends, Words};
 use node::Part;
@@ -178,7 +178,7 @@ pub(crate) fn judge_all<M: Simulated>(
     nodes: u32,
     known: &mut Vec<Known>,
     reports: &[Done],
-) -> Result<(), Difference>
+) -> Result<(), ReportDifference>
     requires nodes { 0 < nodes }
     ensures accepted { OnOk result (AreAccepted (M.meaning model.now) every nodes
         known.old.items reports.now known.new.items) }
@@ -189,7 +189,7 @@ pub(crate) fn judge_all<M: Simulated>(
 {
     'reports: for done in reports {
         if !judge_one(model, every, nodes, known, done) {
-            return Err(Difference::of_report(done));
+            return Err(ReportDifference::of_report(done));
         }
     }
     Ok(())

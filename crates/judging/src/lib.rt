@@ -7,6 +7,6 @@ mod port;
 mod ports;
 mod sends;
 
-pub use differences::{Difference, Differences};
+pub use differences::{Differences, ReportDifference};
 pub use port::Judged;
 pub use ports::judged_ports;

@@ -8,7 +8,7 @@ ghost use Rattle.wire.specs.Port.{IsLoadFault, IsLoadInRange, IsLoaded, IsResour
 ghost use Rattle.wire.specs.Port.{IsTakeFault, IsTaken};
 ghost use Rattle.wire.specs.Port.Stage.{Ended, Fresh, Idle, Posted};
 
-use crate::differences::{Difference, Differences};
+use crate::differences::{Differences, ReportDifference};
 use crate::known::{Known, judge_all, known_of};
 use model::Model as Simulated;
 use node::{Load, Parcel, Reply};
@@ -39,7 +39,7 @@ pub struct Judged<'m, M: Simulated, P: Port> {
     nodes: u32,
     known: Vec<Known>,
     ended: bool,
-    refused: Option<Difference>,
+    refused: Option<ReportDifference>,
     differences: Option<&'m Differences>,
 }
 
@@ -109,7 +109,7 @@ impl<'m, M: Simulated, P: Port> Judged<'m, M, P> {
     }
 
     /// The event of the report that this port refused, if it refused one.
-    pub fn refused(&self) -> Option<Difference>
+    pub fn refused(&self) -> Option<ReportDifference>
         ensures { result ≡ self.now.refused }
     {
         self.refused
@@ -117,7 +117,7 @@ impl<'m, M: Simulated, P: Port> Judged<'m, M, P> {
 
     /// Ends this port, which refuses the report of this event, and notes the event where the ports
     /// of a run share a note.
-    fn refuse(&mut self, event: Difference)
+    fn refuse(&mut self, event: ReportDifference)
         ensures { self.new ≡ record self.old { ended = true; refused = Some event } }
     {
         self.ended = true;

@@ -18,7 +18,7 @@ use recovery::RecoveryFault;
 pub use running::PlainRun;
 use std::alloc::{AllocError, AllocFailed};
 use thiserror::Error;
-pub use whole::{PlainPlan, Reached, PlainWatch, run_plain};
+pub use whole::{PlainPlan, PlainWatch, Reached, run_plain};
 
 /// Why a plain run stopped.
 #[derive(Clone, Copy, Debug, PartialEq, Eq, Error)]

@@ -30,7 +30,7 @@ use judging::{Differences, judged_ports};
 use model::{Continued, Model as Modelled, Origin};
 use node_programs::{Behind, Calls, NodeStream, NodesFault, clear, meet};
 use runs::Plan;
-use segments::archiving::Place;
+use segments::archiving::ArchivePlace;
 use std::alloc::Global;
 use std::fs::File;
 use std::io::Write;
@@ -40,7 +40,7 @@ use std::rt::Files;
 use std::time::Clock;
 use terminal::Progress;
 use upkeep::growing::grow;
-use views::Begun;
+use views::BegunDisk;
 use wire::{PortFault, WireFault};
 
 /// The program that a run starts for each node, the text of the run's model file once it is read,
@@ -90,7 +90,7 @@ fn archive_of<'a>(args: &RunArgs<'a>) -> Option<Archive<'a>> {
         return None;
     }
     Some(Archive {
-        place: Place {
+        place: ArchivePlace {
             path: args.on.disk,
             room: if args.reserve {
                 Room::Reserved
@@ -128,7 +128,7 @@ pub(crate) fn run_attempts<M, R, P, O>(
     rt: &R,
     nodes: NodePrograms<'_>,
     of: &Simulated<M>,
-    begun: Begun<FileDisk>,
+    begun: BegunDisk<FileDisk>,
     args: RunArgs<'_>,
     watch: &mut Watching<'_, R, P>,
     out: &mut O,
@@ -154,7 +154,7 @@ where
     ensures unmet { OnErr result (out.new ≡ out.old) }
 {
     let mut going = GoingOn::of(&args);
-    let Begun {
+    let BegunDisk {
         disk,
         origin,
         time: _,
@@ -198,11 +198,11 @@ fn gone_on<M: Modelled>(
     match next {
         Next::Same(disk) => (disk, origin),
         Next::Other(disk) => {
-            let Begun {
+            let BegunDisk {
                 disk,
                 origin,
                 time: _,
-            } = Begun::of(alloc, model, disk);
+            } = BegunDisk::of(alloc, model, disk);
             (disk, origin)
         }
     }

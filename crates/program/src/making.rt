@@ -28,7 +28,7 @@ use std::rt::Files;
 use std::time::Clock;
 use terminal::are_one_file;
 use texts::Described;
-use views::{Begun, open_disk};
+use views::{BegunDisk, open_disk};
 
 /// Makes an empty log for the model of a file, on a disk, which keeps the model if it is asked to.
 /// Refuses the model file itself as a disk, and a file that holds other bytes than one on which an
@@ -159,7 +159,7 @@ where
 {
     let of: Simulated<M> = simulated(rt, args.model)?;
     let disk = open_old(rt, args, said)?;
-    let Begun { disk, origin, .. } = Begun::of(rt.alloc(), &of.model, disk);
+    let BegunDisk { disk, origin, .. } = BegunDisk::of(rt.alloc(), &of.model, disk);
     let on = Simulated {
         model: Continued::new(&of.model, origin.as_ref()),
         end: of.end,

@@ -14,7 +14,7 @@ use commands::{CommandFault, Simulated};
 use disk::{FileDisk, Returned};
 use disk_commands::{Fault, SystemErrors, new_behind};
 use model::Model as Modelled;
-use segments::archiving::{Archived, NotArchived, Place, archive, remove_parts};
+use segments::archiving::{ArchivePlace, Archived, NotArchived, archive, remove_parts};
 use std::alloc::Global;
 use std::fs::File;
 use std::io::Write;
@@ -52,7 +52,7 @@ pub(crate) type Tried = Returned<FileDisk, (), CommandFault>;
 /// How a full disk is archived, and how many of its parts are kept; none for all.
 #[derive(Clone, Copy)]
 pub(crate) struct Archive<'a> {
-    pub place: Place<'a>,
+    pub place: ArchivePlace<'a>,
     pub keep: Option<u32>,
 }
 

@@ -24,9 +24,9 @@ use std::net::Net;
 use std::process::Processes;
 use std::rt::Files;
 use std::time::Clock;
-use terminal::{NoTrace, Progress, Refusal, TraceFile, Traced, Way, are_one_file};
+use terminal::{FileRefusal, NoTrace, Progress, TraceFile, Traced, Way, are_one_file};
 use texts::Described;
-use views::{Begun, unreadable};
+use views::{BegunDisk, unreadable};
 
 /// Whether a round costs little: the nodes are in this process, and at 128 messages each they
 /// report no more in a round than a commit waits for. Rounds of more messages would save no sync
@@ -115,7 +115,7 @@ fn refuse_stop_file<R: Files>(
     said: &SystemErrors,
 ) -> Result<(), Fault> {
     match stop {
-        Some(path) if fs::exists(rt, path).unwrap_or(false) => Err(said.refuse(Refusal::Stop)),
+        Some(path) if fs::exists(rt, path).unwrap_or(false) => Err(said.refuse(FileRefusal::Stop)),
         _ => Ok(()),
     }
 }
@@ -230,7 +230,7 @@ where
     };
     let text = text_to_keep(args.keep_model, read.text.as_slice());
     let disk = disk_of(rt, of, args.on, create_of(&args), text, said)?;
-    let begun = Begun::of(rt.alloc(), &of.model, disk);
+    let begun = BegunDisk::of(rt.alloc(), &of.model, disk);
     progress.begin(of.end);
     progress.takes(way_of(rt, &args, of.model.lps()));
     warn_of_folder(rt, args.sockets, progress);
@@ -253,7 +253,7 @@ where
 /// committed: `File`, if the run did not fail for another reason.
 fn renamed(outcome: Result<(), CommandFault>, time: u64, said: &SystemErrors) -> Fault {
     match outcome {
-        Ok(()) | Err(CommandFault::Stopped { .. }) => said.refuse(Refusal::Renamed { time }),
+        Ok(()) | Err(CommandFault::Stopped { .. }) => said.refuse(FileRefusal::Renamed { time }),
         Err(fault) => of_command(fault),
     }
 }
@@ -301,7 +301,7 @@ where
     if is_whole {
         Ok(())
     } else {
-        Err(said.refuse(Refusal::CutTrace))
+        Err(said.refuse(FileRefusal::CutTrace))
     }
 }
 
@@ -323,8 +323,8 @@ where
 /// Returns why a trace is not made: `NoMemory` if an allocation failed, otherwise `File`.
 fn untraced(refused: NoTrace, said: &SystemErrors) -> Fault {
     match refused {
-        NoTrace::Other => said.refuse(Refusal::Trace),
-        NoTrace::OtherUnfinished => said.refuse(Refusal::UnfinishedTrace),
+        NoTrace::Other => said.refuse(FileRefusal::Trace),
+        NoTrace::OtherUnfinished => said.refuse(FileRefusal::UnfinishedTrace),
         NoTrace::System(error) => Fault::from(unreadable(error)),
     }
 }

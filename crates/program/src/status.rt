@@ -18,8 +18,8 @@ use crate::running::{run_as, serve_on};
 use crate::version::{VERSION, print_version};
 use clap::error::{Error as LineError, ErrorKind as LineFault};
 use cli::{
-    Command, Hint, Texts, hint_of, program_help, read_command, says_advice, says_quiet, seq_help,
-    settings_of,
+    Command, Texts, UsageHint, hint_of, program_help, read_command, says_advice, says_quiet,
+    seq_help, settings_of,
 };
 use disk_commands::{
     Asked, Fault, Noted, SystemErrors, Verifying, advise, cut_on, grow_on, recover_on, reopen_on,
@@ -268,7 +268,7 @@ where
 fn answer_line<O: Write, E: Write>(
     name: &str,
     error: LineError,
-    hint: Option<Hint>,
+    hint: Option<UsageHint>,
     out: &mut O,
     err: &mut E,
 ) -> u8
@@ -295,7 +295,7 @@ fn answer_line<O: Write, E: Write>(
 /// Prints on `err` why the words are no command, and for a mistake in a value what to write instead,
 /// if there is a hint. Returns the exit status: 1 if an allocation failed, and 2 for a mistake in the
 /// words or a request for help.
-fn refuse_line<E: Write>(name: &str, error: LineError, hint: Option<Hint>, err: &mut E) -> u8
+fn refuse_line<E: Write>(name: &str, error: LineError, hint: Option<UsageHint>, err: &mut E) -> u8
     ensures usage { kind_of error ≢ LineFault.OutOfMemory → result ≡ 2 }
     ensures memory { kind_of error ≡ LineFault.OutOfMemory → result ≡ 1 }
 {

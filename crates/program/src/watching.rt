@@ -13,7 +13,7 @@ use segments::archiving::ArchiveFault;
 use std::fs;
 use std::rt::Files;
 use std::time::{Clock, Duration};
-use terminal::{Place, Progress, is_elsewhere, place_of};
+use terminal::{FileId, Progress, is_elsewhere, place_of};
 
 /// Passes all that a run reports on to a `Progress`, and ends the run once a file is there, or once the
 /// name of its disk leads to another file or to none.
@@ -34,7 +34,7 @@ pub(crate) struct Watching<'p, R, P> {
     events: usize,
     // The path of the disk, the file to which it leads, and whether that changes with an attempt.
     disk: &'p str,
-    place: Option<Place>,
+    place: Option<FileId>,
     is_archived: bool,
     is_begun: bool,
     // The path of the file that ends the run, if there is one, and when both were last looked for.

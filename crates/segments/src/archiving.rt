@@ -10,7 +10,7 @@ mod parts;
 mod reading;
 
 pub use beginning::begin_on;
-pub use changing::{Archived, NotArchived, Place, archive};
+pub use changing::{ArchivePlace, Archived, NotArchived, archive};
 pub use fault::ArchiveFault;
 pub use left::{Left, is_begun, left_on};
 pub use parts::remove_parts;

@@ -131,7 +131,7 @@ enum Reason {
 /// Why a command refused a file by what it found there, or a run lost its disk. The files may not
 /// show it after the command.
 #[derive(Clone, Copy, Debug, PartialEq, Eq)]
-pub enum Refusal {
+pub enum FileRefusal {
     /// The file of a trace is no trace.
     Trace,
     /// The file under whose name a trace is made anew is no trace.
@@ -244,18 +244,18 @@ where
 }
 
 /// The cause of the fault `File` with which a command refused a file, or lost its disk.
-pub fn cause_of_refusal<'a>(command: Command<'a>, refusal: Refusal) -> Option<Cause<'a>> {
+pub fn cause_of_refusal<'a>(command: Command<'a>, refusal: FileRefusal) -> Option<Cause<'a>> {
     let disk = written_disk(command);
     let (path, behind, reason) = match refusal {
-        Refusal::Trace => (trace_of(command), "", Reason::NotTrace),
-        Refusal::UnfinishedTrace => (trace_of(command), "", Reason::NotUnfinishedTrace),
-        Refusal::CutTrace => (trace_of(command), "", Reason::NotWhole),
-        Refusal::Stop => (stop_file_of(command), "", Reason::StopThere),
-        Refusal::Holds(held) => (disk, "", reason_of_held(held)),
-        Refusal::KeptOther => (disk, KEPT, Reason::KeepsOther),
-        Refusal::KeptUnfinished => (disk, UNFINISHED, Reason::KeepsOtherUnfinished),
-        Refusal::NotKept(error) => (disk, KEPT, Reason::System(error)),
-        Refusal::Renamed { time } => (disk, "", Reason::Renamed { time }),
+        FileRefusal::Trace => (trace_of(command), "", Reason::NotTrace),
+        FileRefusal::UnfinishedTrace => (trace_of(command), "", Reason::NotUnfinishedTrace),
+        FileRefusal::CutTrace => (trace_of(command), "", Reason::NotWhole),
+        FileRefusal::Stop => (stop_file_of(command), "", Reason::StopThere),
+        FileRefusal::Holds(held) => (disk, "", reason_of_held(held)),
+        FileRefusal::KeptOther => (disk, KEPT, Reason::KeepsOther),
+        FileRefusal::KeptUnfinished => (disk, UNFINISHED, Reason::KeepsOtherUnfinished),
+        FileRefusal::NotKept(error) => (disk, KEPT, Reason::System(error)),
+        FileRefusal::Renamed { time } => (disk, "", Reason::Renamed { time }),
     };
     Some(Cause {
         path: path?,

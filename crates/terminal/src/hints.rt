@@ -34,7 +34,7 @@ pub struct Work {
 /// A way that would be faster than that of a run. It has the processor time of the run for each
 /// handling, in nanoseconds.
 #[derive(Clone, Copy, Debug, PartialEq, Eq)]
-pub enum Hint {
+pub enum RunHint {
     /// Without nodes.
     Plain { each: u64 },
     /// Over node programs, on this many processors.
@@ -54,7 +54,7 @@ fn is_dear(each: u64, work: Work) -> bool
 ///
 /// Over nodes in one process each event is handled at least once, on one processor, and the nodes
 /// have to be coordinated. So a run without nodes is always faster.
-pub fn hint_of(way: Way, work: Work) -> Option<Hint>
+pub fn hint_of(way: Way, work: Work) -> Option<RunHint>
     ensures { result ≡ hint_of way work }
 {
     if work.handled == 0 {
@@ -62,10 +62,10 @@ pub fn hint_of(way: Way, work: Work) -> Option<Hint>
     }
     let each = work.nanoseconds / work.handled;
     match way {
-        Way::OneProcess => Some(Hint::Plain { each }),
+        Way::OneProcess => Some(RunHint::Plain { each }),
         Way::Plain { processors } => {
             if processors > 1 && is_dear(each, work) {
-                Some(Hint::NodePrograms { each, processors })
+                Some(RunHint::NodePrograms { each, processors })
             } else {
                 None
             }
@@ -89,17 +89,17 @@ impl fmt::Display for Microseconds {
     }
 }
 
-impl fmt::Display for Hint {
+impl fmt::Display for RunHint {
     fn fmt<W: fmt::Write>(&self, f: &mut fmt::Formatter<W>) -> fmt::Result {
         match *self {
-            Hint::Plain { each } => {
+            RunHint::Plain { each } => {
                 let each = Microseconds(each);
                 write!(
                     f,
                     "run --plain would be faster here: one process, {each} a handling"
                 )
             }
-            Hint::NodePrograms { each, processors } => {
+            RunHint::NodePrograms { each, processors } => {
                 let each = Microseconds(each);
                 write!(
                     f,

@@ -9,10 +9,10 @@ mod progress;
 mod tracing;
 
 pub use cause::{
-    Cause, Held, Refusal, Unmet, cause_of, cause_of_device, cause_of_kept, cause_of_refusal,
+    Cause, FileRefusal, Held, Unmet, cause_of, cause_of_device, cause_of_kept, cause_of_refusal,
     is_locked,
 };
-pub use hints::{Hint, Way, Work, hint_of};
-pub use paths::{Place, are_one_file, is_elsewhere, place_of};
+pub use hints::{RunHint, Way, Work, hint_of};
+pub use paths::{FileId, are_one_file, is_elsewhere, place_of};
 pub use progress::{Progress, TerminalProgress};
 pub use tracing::{NoTrace, TraceFile, Traced};

@@ -7,15 +7,15 @@ use std::rt::Files;
 
 /// A file, whatever its name: the number of its device, and its number there.
 #[derive(Clone, Copy, Debug, PartialEq, Eq)]
-pub struct Place {
+pub struct FileId {
     device: u64,
     number: u64,
 }
 
 /// Returns the file to which a path leads.
-pub fn place_of<R: Files>(rt: &R, path: &str) -> IoResult<Place> {
+pub fn place_of<R: Files>(rt: &R, path: &str) -> IoResult<FileId> {
     let found = fs::metadata(rt, path)?;
-    Ok(Place {
+    Ok(FileId {
         device: found.dev(),
         number: found.ino(),
     })
@@ -31,7 +31,7 @@ pub fn are_one_file<R: Files>(rt: &R, one: &str, other: &str) -> bool {
 
 /// Whether a path does not lead to this file any more, but to another one or to none. If the system
 /// does not say, it still does.
-pub fn is_elsewhere<R: Files>(rt: &R, path: &str, place: Place) -> bool {
+pub fn is_elsewhere<R: Files>(rt: &R, path: &str, place: FileId) -> bool {
     match place_of(rt, path) {
         Ok(found) => found != place,
         Err(error) => matches!(error.kind(), ErrorKind::NotFound | ErrorKind::NotADirectory),

@@ -1,7 +1,7 @@
 // The progress of a run, as a terminal shows it.
 
 use crate::cause::Cause;
-use crate::hints::{Hint, Way, Work, hint_of};
+use crate::hints::{RunHint, Way, Work, hint_of};
 use pictures::Row;
 use std::fmt;
 use std::io::{Result as IoResult, Write};
@@ -320,7 +320,7 @@ impl<'c, C: Clock + CpuClock, T: Write> TerminalProgress<'c, C, T> {
         }
     }
 
-    fn write_hint(&mut self, hint: Hint) {
+    fn write_hint(&mut self, hint: RunHint) {
         self.clear();
         let name = self.name;
         if let Some(terminal) = &mut self.terminal {

@@ -11,7 +11,7 @@ use commitlog::LogFault;
 use coordinator::{Answer, Session, SessionFault, Step};
 use disk::{MemDisk, NotOpened};
 use eventkey::Listed;
-use judging::{Difference, Differences, Judged, judged_ports};
+use judging::{Differences, Judged, ReportDifference, judged_ports};
 use loopback::{LoopPort, loop_ports};
 use models::TokenRing;
 use node::{Load, NodeFault, Parcel, Reply};
@@ -151,7 +151,7 @@ impl Watch for Nobody {
     fn committed(&mut self, _time: u64, _events: usize) {}
 }
 
-type Outcome = (Option<RunFault>, usize, Option<Difference>);
+type Outcome = (Option<RunFault>, usize, Option<ReportDifference>);
 
 const PLAN: Plan = Plan {
     nodes: 3,
@@ -185,7 +185,7 @@ fn run_over(alloc: Global, hold: u32, every: u32) -> Result<Outcome, Fail>
 fn nodes_of_another_model_are_found_out_before_a_commit(rt: HostRuntime) -> Result<(), Fail> {
     let found = Some(RunFault::Session(SessionFault::Port(PortFault::BadReply)));
     // The first event that `seq` prints is the first that a node handles otherwise.
-    let first = Some(Difference {
+    let first = Some(ReportDifference {
         process: 0,
         time: 1,
     });
@@ -265,7 +265,7 @@ fn reported(
     every: u32,
     swapped: Swapped,
     place: usize,
-) -> Result<(Option<PortFault>, Option<Difference>), Fail> {
+) -> Result<(Option<PortFault>, Option<ReportDifference>), Fail> {
     let ring = TokenRing::new(3, 2, 1);
     let port = LoopPort::new(alloc, &ring);
     let node = Faulty {
@@ -303,12 +303,12 @@ const REPORTED: [(u32, Swapped, usize, u64); 11] = [
 ];
 
 /// What is found of a report of process 0 that is refused, or that none is if this time is 0.
-fn found_at(time: u64) -> (Option<PortFault>, Option<Difference>) {
+fn found_at(time: u64) -> (Option<PortFault>, Option<ReportDifference>) {
     match time {
         0 => (None, None),
         _ => (
             Some(PortFault::BadReply),
-            Some(Difference { process: 0, time }),
+            Some(ReportDifference { process: 0, time }),
         ),
     }
 }

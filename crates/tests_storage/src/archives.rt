@@ -10,7 +10,7 @@ use models::TokenRing;
 use plain::{PlainPlan, run_plain};
 use recovery::{Front, header};
 use segments::archiving::{
-    Left, Place, archive, begin_on, front_on, left_on, origin_on, remove_parts,
+    ArchivePlace, Left, archive, begin_on, front_on, left_on, origin_on, remove_parts,
 };
 use std::alloc::{Allocator, Global};
 use std::cell::Cell;
@@ -143,7 +143,7 @@ fn archived(rt: &HostRuntime, path: &str, disk: FileDisk, at: u64) -> (bool, boo
         calls: Cell::new(0),
         at,
     };
-    let place = Place {
+    let place = ArchivePlace {
         path,
         room: Room::Sparse,
         most: MOST_SECTORS,

@@ -31,7 +31,7 @@ use upkeep::{copy_opened, first_in_row};
 
 /// A disk, and where its simulation begins.
 #[derive(Drop)]
-pub struct Begun<D> {
+pub struct BegunDisk<D> {
     /// The disk.
     pub disk: D,
     /// The origin; none if the simulation begins as its model does.
@@ -40,9 +40,9 @@ pub struct Begun<D> {
     pub time: u64,
 }
 
-impl<D: SectorDisk> Begun<D> {
+impl<D: SectorDisk> BegunDisk<D> {
     /// Reads the origin of a disk. If it cannot be read, the command on the disk finds out why.
-    pub fn of<M: Modelled>(alloc: Global, model: &M, disk: D) -> Begun<D>
+    pub fn of<M: Modelled>(alloc: Global, model: &M, disk: D) -> BegunDisk<D>
         ensures sound { CanBegin (M.meaning model.now).lps result.origin }
         ensures begins { BeginsWith (M.meaning model.now).lps (D.state result.disk).reads
             result.origin }
@@ -52,7 +52,7 @@ impl<D: SectorDisk> Begun<D> {
     {
         let mut disk = disk;
         if !may_have_origin(&mut disk) {
-            return Begun {
+            return BegunDisk {
                 disk,
                 origin: None,
                 time: 0,
@@ -60,8 +60,8 @@ impl<D: SectorDisk> Begun<D> {
         }
         let Returned { disk, outcome } = origin_on(alloc, model, disk);
         match outcome {
-            Ok((origin, time)) => Begun { disk, origin, time },
-            Err(_) => Begun {
+            Ok((origin, time)) => BegunDisk { disk, origin, time },
+            Err(_) => BegunDisk {
                 disk,
                 origin: None,
                 time: 0,
@@ -255,7 +255,7 @@ where
     ensures each { IfOk result (λ front. length front.numbers ≡ length front.states) }
 {
     let disk = open_disk(rt, path, most)?;
-    let Begun { disk, origin, .. } = Begun::of(rt.alloc(), model, disk);
+    let BegunDisk { disk, origin, .. } = BegunDisk::of(rt.alloc(), model, disk);
     let on = Continued::new(model, origin.as_ref());
     let Returned {
         disk: _disk,

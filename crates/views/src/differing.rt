@@ -13,16 +13,16 @@ use upkeep::inspection::inspect;
 
 /// What a disk was made for, and what a model file describes, where they differ.
 #[derive(Clone, Copy, Debug, PartialEq, Eq)]
-pub struct Difference {
+pub struct ModelDifference {
     /// What the disk was made for.
-    pub disk: Simulation,
+    pub disk: DiskSimulation,
     /// What the model file describes.
-    pub file: Simulation,
+    pub file: DiskSimulation,
 }
 
 /// A model and the end of its run, as the header of a disk has them. Its text says what they are.
 #[derive(Clone, Copy, Debug, PartialEq, Eq)]
-pub struct Simulation {
+pub struct DiskSimulation {
     /// The format of the disk; for a model file that of the disks that the command takes.
     pub format: u32,
     /// The number of processes.
@@ -53,14 +53,14 @@ pub fn difference_of<M, R>(
     disk: &str,
     most: u32,
     format: u32,
-) -> Option<Difference>
+) -> Option<ModelDifference>
 where
     M: Described,
     R: Files<File = File> + AllocGlobal,
 {
     let (model, end): (M, u64) = read_model_file(rt, model).ok()?;
     let mut log = Log::open(rt.alloc(), open_disk(rt, disk, most).ok()?).ok()?;
-    let file = Simulation {
+    let file = DiskSimulation {
         format,
         lps: model.lps(),
         end,
@@ -74,7 +74,7 @@ where
     if found == file {
         return None;
     }
-    Some(Difference { disk: found, file })
+    Some(ModelDifference { disk: found, file })
 }
 
 /// How far the run on a disk has come: the time in ticks up to which everything is committed, if the
@@ -92,7 +92,7 @@ where
 
 /// Returns the simulation in the header of a disk, sector 1; none if it does not begin as a header
 /// does.
-pub fn simulation_in(header: &[u8; 512]) -> Option<Simulation> {
+pub fn simulation_in(header: &[u8; 512]) -> Option<DiskSimulation> {
     let (mark, fields) = header.split_at(8);
     if mark != b"TIMEWARP".as_slice() {
         return None;
@@ -116,7 +116,7 @@ pub fn simulation_in(header: &[u8; 512]) -> Option<Simulation> {
             *to = number_of(word);
         }
     }
-    Some(Simulation {
+    Some(DiskSimulation {
         format: u32::try_from(number_of(format)).ok()?,
         lps: u32::try_from(number_of(lps)).ok()?,
         end: number_of(end),
@@ -145,7 +145,7 @@ fn identity_of(from: &[u64]) -> Identity {
     identity
 }
 
-impl Difference {
+impl ModelDifference {
     /// What to do so that the disk and the model file belong together, if the difference shows it.
     pub fn advice(&self) -> Option<&'static str> {
         let (disk, file) = (self.disk, self.file);
@@ -163,7 +163,7 @@ impl Difference {
     }
 }
 
-impl fmt::Display for Simulation {
+impl fmt::Display for DiskSimulation {
     fn fmt<W: fmt::Write>(&self, f: &mut fmt::Formatter<W>) -> fmt::Result {
         f.write_str("of ")?;
         if self.format != FORMAT {

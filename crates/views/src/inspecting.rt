@@ -5,7 +5,7 @@ ghost use Rattle.model.specs.Meaning.{CanBegin};
 ghost use Rattle.segments.specs.Archiving.{events_before, IsBegunAt};
 ghost use Rattle.views.specs.Reading.{BeginsWith, IsFoundOn};
 
-use crate::beginnings::{Begun, events_before_origin};
+use crate::beginnings::{BegunDisk, events_before_origin};
 use crate::fault::ViewFault;
 use crate::files::open_disk;
 use disk::{DiskFault, SectorDisk};
@@ -55,7 +55,7 @@ where
         return Ok(found);
     }
     let disk = open_disk(rt, path, most)?;
-    let begun = Begun::of(rt.alloc(), model, disk);
+    let begun = BegunDisk::of(rt.alloc(), model, disk);
     Ok(inspect_begun(rt.alloc(), model, end, begun)?)
 }
 
@@ -75,7 +75,7 @@ where
 {
     let mut disk = part_of(rt, path, most)?;
     let is_segment = may_have_origin(&mut disk);
-    let begun = Begun::of(rt.alloc(), model, disk);
+    let begun = BegunDisk::of(rt.alloc(), model, disk);
     // without its origin a segment would be taken for another disk
     if is_segment && begun.origin.is_none() {
         return None;
@@ -116,7 +116,7 @@ fn inspect_begun<M: Modelled, D: SectorDisk + Drop>(
     alloc: Global,
     model: &M,
     end: u64,
-    begun: Begun<D>,
+    begun: BegunDisk<D>,
 ) -> Result<(Inspection, Option<(u64, u64)>), InspectionFault>
     requires sound { CanBegin (M.meaning model.now).lps begun.origin }
     requires begins { BeginsWith (M.meaning model.now).lps (D.state begun.disk).reads begun.origin }
@@ -124,14 +124,14 @@ fn inspect_begun<M: Modelled, D: SectorDisk + Drop>(
     ensures { IfOk result (λ found. IsFoundOn (M.meaning model.now) end found.0 found.1) }
 {
     let lines = lines_of(&begun);
-    let Begun { disk, origin, .. } = begun;
+    let BegunDisk { disk, origin, .. } = begun;
     let on = Continued::new(model, origin.as_ref());
     let found = inspect(alloc, &on, disk, end)?;
     Ok((found, lines))
 }
 
 /// Returns the time from which a segment goes on, and the number of events before it.
-fn lines_of<D>(begun: &Begun<D>) -> Option<(u64, u64)>
+fn lines_of<D>(begun: &BegunDisk<D>) -> Option<(u64, u64)>
     ensures none { begun.now.origin ≡ None → result ≡ None }
     ensures some { IfSome begun.now.origin (λ o. result ≡ Some (
       begun.now.time,

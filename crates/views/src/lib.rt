@@ -24,8 +24,10 @@ mod tables;
 mod totals;
 
 pub use apart::{apart_of, difference_in};
-pub use beginnings::{Beginning, Begun, events_before_origin, front_of, write_believed_line};
-pub use differing::{Difference, Identity, Simulation, committed_on, difference_of, simulation_in};
+pub use beginnings::{Beginning, BegunDisk, events_before_origin, front_of, write_believed_line};
+pub use differing::{
+    DiskSimulation, Identity, ModelDifference, committed_on, difference_of, simulation_in,
+};
 pub use fault::{SegmentFault, ViewFault, unreadable};
 pub use files::{
     ModelText, Wrong, check, mistakes_of, open_disk, read_model_file, read_model_text, seq,

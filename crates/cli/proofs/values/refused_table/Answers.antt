@@ -1,6 +1,6 @@
 use Rattle.std.proofs.Common.{codes, refl, None, sym, ◌∙◌, ◌≡◌}
 use Rattle.cli.specs.Command.{table_named}
-use Rattle.cli.specs.declared.command.Table.TheVariants as table
+use Rattle.cli.specs.declared.command.StatsTable.TheVariants as table
 use Rattle.cli.proofs.Readings.{none_there, not_named}
 use Rattle.cli.proofs.values.refused_table.Goals as goal
 

@@ -3,7 +3,7 @@ use Rattle.std.proofs.lemmas.Result.{IfOk-at_ok}
 use Rattle.std.specs.Prelude.{IfSome}
 use Rattle.disk.specs.Laws.{looks_on}
 use Rattle.segments.specs.Archiving.{IsBegunAt}
-use Rattle.views.proofs.beginnings.Begun.of.Goals as goal
+use Rattle.views.proofs.beginnings.BegunDisk.of.Goals as goal
 
 pub returns-in-Ok-clause-at : goal.returns-in-Ok-clause-at
 returns-in-Ok-clause-at g c =
