@@ -1,33 +1,27 @@
 -- What a run is, by what its session was driven to.
-use Rattle.std.proofs.Common.{◌≡◌, ℕ, List, Err, Ok, Result, ap, arith, inr, length, refl, sym, ◌∙◌}
-use Rattle.std.specs.Result.{IsErrOf}
+use Rattle.std.proofs.Common.{◌≡◌, ℕ, List, Err, Ok, Result, ap, arith, inr, length, refl, subst, sym, ◌∙◌}
 use Rattle.std.specs.Prelude.{IfErr, IsErrAnd}
 use Rattle.coordinator.specs.Session.{Session}
 use Rattle.coordinator.specs.declared.SessionFault.{SessionFault}
 use Rattle.disk.specs.Disk.{DiskState}
 use Rattle.model.specs.Meaning.{Meaning}
 use Rattle.recovery.specs.Replay.{IsReplayedTo}
-use Rattle.runs.specs.Driver.{AreRoundsOfRun, DrivingHasCause, HasMade, IsDrivenBy, IsDrivenToEnd, IsRunOver, Made, RunHasCause, trusts_by}
+use Rattle.runs.specs.Driver.{AreRoundsOfRun, DrivingHasCause, HasMade, IsDrivenBy, IsDrivenToEnd, IsRunOver, Made, RunHasCause, of_round, trusts_by}
 use Rattle.runs.specs.declared.over.Finished.{Finished}
 use Rattle.runs.specs.declared.rounds.Plan.{Plan}
+use Rattle.runs.specs.declared.rounds.RoundFault.{RoundFault}
+use Rattle.runs.specs.declared.rounds.RoundFault.TheVariants as round_fault
 use Rattle.runs.specs.declared.rounds.RunFault.{RunFault}
 use Rattle.runs.specs.declared.rounds.RunFault.TheVariants.{NoMemory, Rounds, Session as OfSession, Stopped}
 use Rattle.wire.specs.Port.{PortState}
 
--- a fault that is passed on, by a call with a result of another type
-pub passed_as : {T U : Type 0} (r : Result T RunFault) (e own : RunFault) → IsErrAnd r (λ x. x ≡ e) → IsErrOf r own → IsErrOf {T = U} (Err e) own
-passed_as (Ok x) e own and is = absurd and
-passed_as (Err x) e own and is = (let whole : x ≡ own = cc in ap Err (sym and ∙ whole))
-
 module _ {M P D : Type 0} (meaning : M → Meaning) (state : P → PortState) (disk : D → DiskState) (end : ℕ) (plan : Plan) (old new : Session M P D) where
-  -- why a session was not driven to the end, if it can only be that it refused a step
-  pub refused_only : {T : Type 0} (r : Result T RunFault) → ((fault : SessionFault) → IsErrOf r (OfSession fault) → DrivingHasCause meaning state disk end plan old new (OfSession fault))
-      → (IsErrOf r Rounds → ⊥) → ((time events : ℕ) → IsErrOf r (Stopped time events) → ⊥) → IfErr r (DrivingHasCause meaning state disk end plan old new)
-  refused_only (Ok x) refused short stopped = tt
-  refused_only (Err (OfSession fault)) refused short stopped = refused fault refl
-  refused_only (Err Rounds) refused short stopped = absurd (short refl)
-  refused_only (Err (Stopped time events)) refused short stopped = absurd (stopped time events refl)
-  refused_only (Err NoMemory) refused short stopped = tt
+  -- why a session was not driven to the end, if a round was not made to its end
+  pub refused_only : {T : Type 0} (r : Result T RunFault) (e : RoundFault) → IsErrAnd r (λ x. x ≡ of_round e) → ((fault : SessionFault) → e ≡ round_fault.Session fault → DrivingHasCause meaning state disk end plan old new (OfSession fault))
+      → IfErr r (DrivingHasCause meaning state disk end plan old new)
+  refused_only (Ok x) e and refused = tt
+  refused_only (Err x) (round_fault.Session fault) and refused = subst (λ (f : RunFault). DrivingHasCause meaning state disk end plan old new f) (sym and) (refused fault refl)
+  refused_only (Err x) round_fault.NoMemory and refused = subst (λ (f : RunFault). DrivingHasCause meaning state disk end plan old new f) (sym and) tt
 
 -- a session was opened on a disk, and driven from there
 module _ {M P D : Type 0} (meaning : M → Meaning) (state : P → PortState) (disk : D → DiskState) (model : M) (end : ℕ) (plan : Plan) (ports : List PortState) (old new : D) (opened driven : Session M P D)

@@ -24,8 +24,8 @@ use Rattle.runs.specs.declared.rounds.Batch.TheVariants.{Adjusting, Fixed}
 use Rattle.runs.specs.declared.rounds.Plan.{Plan}
 use Rattle.runs.specs.declared.rounds.Round.{Round}
 use Rattle.runs.specs.declared.rounds.Schedule.TheVariants.{Overlapped, Together}
-use Rattle.runs.specs.declared.rounds.RunFault.{RunFault}
-use Rattle.runs.specs.declared.rounds.RunFault.TheVariants.{Session as of_session}
+use Rattle.runs.specs.declared.rounds.RoundFault.{RoundFault}
+use Rattle.runs.specs.declared.rounds.RoundFault.TheVariants.{Session as of_session}
 use Rattle.runs.specs.declared.tally.Tally.{Tally}
 use Rattle.runs.specs.Tallies.{Tallied}
 
@@ -127,16 +127,16 @@ after_asked round reported commits outstanding ks is =
 
 -- 2. A fault that is passed on
 
-pub same_fault : {T : Type 0} (r : Result T RunFault) (e : RunFault) (fault : SessionFault) → IsErrAnd r (λ x. x ≡ e) → IsErrOf r (of_session fault) → e ≡ of_session fault
+pub same_fault : {T : Type 0} (r : Result T RoundFault) (e : RoundFault) (fault : SessionFault) → IsErrAnd r (λ x. x ≡ e) → IsErrOf r (of_session fault) → e ≡ of_session fault
 same_fault (Ok x) e fault and is = absurd and
 same_fault (Err x) e fault and is = (let whole : x ≡ of_session fault = cc in sym and ∙ whole)
 
 -- of a call with a result of another type
-pub passed_on : {T U : Type 0} (r : Result T RunFault) (e : RunFault) (fault : SessionFault) → IsErrAnd r (λ x. x ≡ e) → IsErrOf r (of_session fault) → IsErrOf {T = U} (Err e) (of_session fault)
+pub passed_on : {T U : Type 0} (r : Result T RoundFault) (e : RoundFault) (fault : SessionFault) → IsErrAnd r (λ x. x ≡ e) → IsErrOf r (of_session fault) → IsErrOf {T = U} (Err e) (of_session fault)
 passed_on r e fault and is = ap Err (same_fault r e fault and is)
 
 -- of a session's step
-pub of_step : {T : Type 0} (r : Result T RunFault) (own fault : SessionFault) → IsErrAnd r (λ x. x ≡ of_session own) → IsErrOf r (of_session fault) → own ≡ fault
+pub of_step : {T : Type 0} (r : Result T RoundFault) (own fault : SessionFault) → IsErrAnd r (λ x. x ≡ of_session own) → IsErrOf r (of_session fault) → own ≡ fault
 of_step r own fault and is = (let same = same_fault r (of_session own) fault and is in cc)
 
 -- 3. Refused steps

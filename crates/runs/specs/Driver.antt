@@ -15,6 +15,8 @@ use Rattle.disk.specs.Disk.{DiskState}
 use Rattle.runs.specs.Budgets.{budget_answered, first_budget, messages_for}
 use Rattle.runs.specs.declared.budgets.NodeBudget.{NodeBudget}
 use Rattle.runs.specs.declared.over.Finished.{Finished}
+use Rattle.runs.specs.declared.rounds.RoundFault.{RoundFault}
+use Rattle.runs.specs.declared.rounds.RoundFault.TheVariants as round_fault
 use Rattle.runs.specs.declared.rounds.RunFault.{RunFault}
 use Rattle.runs.specs.declared.rounds.RunFault.TheVariants.{NoMemory, Rounds, Stopped}
 use Rattle.runs.specs.declared.rounds.RunFault.TheVariants.{Session as RefusedBySession}
@@ -316,6 +318,11 @@ AreRounds plan end last (suc rounds) made = (before : List Made) × (round : Lis
 abbrev pub AreRoundsOfRun : Plan → ℕ → ℕ → ℕ → List Made → Type 0
 AreRoundsOfRun plan end last rounds made = AreRounds plan end last rounds made
     × AreBudgeted plan.batch (replicate plan.nodes first_budget) made
+
+-- the fault of a run of which a round was not made to its end
+abbrev pub of_round : RoundFault → RunFault
+of_round (round_fault.Session fault) = RefusedBySession fault
+of_round round_fault.NoMemory = NoMemory
 
 -- 3. The session after the steps
 

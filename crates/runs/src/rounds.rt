@@ -119,6 +119,15 @@ pub enum RunFault {
     NoMemory,
 }
 
+/// Why a round was not made to its end.
+#[derive(Clone, Copy)]
+pub(crate) enum RoundFault {
+    /// The session refused a step.
+    Session(SessionFault),
+    /// An allocation failed.
+    NoMemory,
+}
+
 /// Observes the progress of a run, and may end it.
 pub trait Watch {
     /// Called at the beginning of a run: everything before this virtual time, in ticks, is committed
@@ -239,7 +248,7 @@ fn make_round<M: Simulated, P: Port, D: SectorDisk, W: Watch>(
     round: Round,
     tally: &mut Tally,
     watch: &mut W,
-) -> Result<(), RunFault>
+) -> Result<(), RoundFault>
     requires sized { IsSized round.plan.nodes tally.old }
     requires commits { tally.old.commits < 2 ^ 32 - 1 }
     ensures driven { (reported : ℕ) → tally.old.events_until_commit ≡ round.plan.commit_every - reported →
@@ -250,12 +259,10 @@ fn make_round<M: Simulated, P: Port, D: SectorDisk, W: Watch>(
     ensures sized { IsSized round.plan.nodes tally.new }
     ensures keeps { Keeps M.meaning P.state D.state (trusts_by round.plan) session.old session.new }
     ensures refused { (reported : ℕ) → tally.old.events_until_commit ≡ round.plan.commit_every - reported →
-        (fault : SessionFault) → IsErrOf result (RunFault.Session fault) →
+        (fault : SessionFault) → IsErrOf result (RoundFault.Session fault) →
         IsRefusedIn M.meaning P.state D.state
         (λ made. IsRound round reported tally.old.commits tally.old.outstanding.items made)
         session.old session.new fault }
-    ensures rounds { IsErrOf result RunFault.Rounds → ⊥ }
-    ensures stopped { (time events : ℕ) → IsErrOf result (RunFault.Stopped time events) → ⊥ }
 {
     tally.begin_round(round.end);
     ask(alloc, session, round, tally, watch)?;
@@ -269,7 +276,7 @@ fn close<M: Simulated, P: Port, D: SectorDisk, W: Watch>(
     round: Round,
     tally: &mut Tally,
     watch: &mut W,
-) -> Result<(), RunFault>
+) -> Result<(), RoundFault>
     requires sized { IsSized round.plan.nodes tally.old }
     requires commits { tally.old.commits < 2 ^ 32 - 1 }
     ensures driven { (reported : ℕ) → tally.old.events_until_commit ≡ round.plan.commit_every - reported →
@@ -280,11 +287,9 @@ fn close<M: Simulated, P: Port, D: SectorDisk, W: Watch>(
     ensures sized { IsSized round.plan.nodes tally.new }
     ensures keeps { Keeps M.meaning P.state D.state (trusts_by round.plan) session.old session.new }
     ensures refused { (reported : ℕ) → tally.old.events_until_commit ≡ round.plan.commit_every - reported →
-        (fault : SessionFault) → IsErrOf result (RunFault.Session fault) →
+        (fault : SessionFault) → IsErrOf result (RoundFault.Session fault) →
         IsRefusedIn M.meaning P.state D.state (λ made. steps_of made ≡ closing_of round reported tally.old.floor tally.old.commits)
         session.old session.new fault }
-    ensures rounds { IsErrOf result RunFault.Rounds → ⊥ }
-    ensures stopped { (time events : ℕ) → IsErrOf result (RunFault.Stopped time events) → ⊥ }
 {
     let missing = missing_events(round.plan.commit_every, round.last);
     if tally.is_due(round.end, missing) {
@@ -312,7 +317,7 @@ fn commit<M: Simulated, P: Port, D: SectorDisk, W: Watch>(
     plan: Plan,
     tally: &mut Tally,
     watch: &mut W,
-) -> Result<(), RunFault>
+) -> Result<(), RoundFault>
     requires sized { IsSized plan.nodes tally.old }
     requires commits { tally.old.commits < 2 ^ 32 - 1 }
     ensures driven { OnOk result (IsDrivenBy M.meaning P.state D.state (trusts_by plan)
@@ -321,12 +326,10 @@ fn commit<M: Simulated, P: Port, D: SectorDisk, W: Watch>(
     ensures commits { OnOk result (tally.new.commits ≤ tally.old.commits + 1) }
     ensures sized { IsSized plan.nodes tally.new }
     ensures keeps { Keeps M.meaning P.state D.state (trusts_by plan) session.old session.new }
-    ensures refused { (fault : SessionFault) → IsErrOf result (RunFault.Session fault) →
+    ensures refused { (fault : SessionFault) → IsErrOf result (RoundFault.Session fault) →
         IsRefusedIn M.meaning P.state D.state (λ made. steps_of made
         ≡ commit_by plan ∷ kept_after plan (tally.old.commits + 1))
         session.old session.new fault }
-    ensures rounds { IsErrOf result RunFault.Rounds → ⊥ }
-    ensures stopped { (time events : ℕ) → IsErrOf result (RunFault.Stopped time events) → ⊥ }
 {
     session.step(&commit_step(plan))?;
     tally.committed(plan.commit_every);
@@ -353,16 +356,14 @@ fn keep<M: Simulated, P: Port, D: SectorDisk>(
     session: &mut Session<'_, M, P, D>,
     plan: Plan,
     number: u32,
-) -> Result<(), RunFault>
+) -> Result<(), RoundFault>
     ensures driven { OnOk result (IsDrivenBy M.meaning P.state D.state (trusts_by plan)
         (λ made. (steps_of made ≡ kept_after plan number) × CountsNothing made)
         session.old session.new) }
     ensures keeps { Keeps M.meaning P.state D.state (trusts_by plan) session.old session.new }
-    ensures refused { (fault : SessionFault) → IsErrOf result (RunFault.Session fault) →
+    ensures refused { (fault : SessionFault) → IsErrOf result (RoundFault.Session fault) →
         IsRefusedIn M.meaning P.state D.state (λ made. steps_of made ≡ kept_after plan number)
         session.old session.new fault }
-    ensures rounds { IsErrOf result RunFault.Rounds → ⊥ }
-    ensures stopped { (time events : ℕ) → IsErrOf result (RunFault.Stopped time events) → ⊥ }
 {
     if is_kept(plan.checkpoint_every, number) {
         session.step(&checkpoint_step(plan.seals))?;
@@ -397,7 +398,7 @@ fn ask<M: Simulated, P: Port, D: SectorDisk, W: Watch>(
     round: Round,
     tally: &mut Tally,
     watch: &mut W,
-) -> Result<(), RunFault>
+) -> Result<(), RoundFault>
     requires sized { IsSized round.plan.nodes tally.old }
     ensures driven { OnOk result (IsDrivenBy M.meaning P.state D.state (trusts_by round.plan)
         (Tallied round.plan (AreAsked round.plan.schedule round tally.old.outstanding.items) tally.old tally.new)
@@ -405,11 +406,9 @@ fn ask<M: Simulated, P: Port, D: SectorDisk, W: Watch>(
     ensures commits { tally.new.commits ≡ tally.old.commits }
     ensures sized { IsSized round.plan.nodes tally.new }
     ensures keeps { Keeps M.meaning P.state D.state (trusts_by round.plan) session.old session.new }
-    ensures refused { (fault : SessionFault) → IsErrOf result (RunFault.Session fault) →
+    ensures refused { (fault : SessionFault) → IsErrOf result (RoundFault.Session fault) →
         IsRefusedIn M.meaning P.state D.state (AreAsked round.plan.schedule round tally.old.outstanding.items)
         session.old session.new fault }
-    ensures rounds { IsErrOf result RunFault.Rounds → ⊥ }
-    ensures stopped { (time events : ℕ) → IsErrOf result (RunFault.Stopped time events) → ⊥ }
 {
     match round.plan.schedule {
         Schedule::InTurn => turns(alloc, session, round, tally, watch),
@@ -425,7 +424,7 @@ fn turns<M: Simulated, P: Port, D: SectorDisk, W: Watch>(
     round: Round,
     tally: &mut Tally,
     watch: &mut W,
-) -> Result<(), RunFault>
+) -> Result<(), RoundFault>
     requires sized { IsSized round.plan.nodes tally.old }
     ensures driven { OnOk result (IsDrivenBy M.meaning P.state D.state (trusts_by round.plan)
         (Tallied round.plan (AreTurns round.plan round.plan.nodes) tally.old tally.new)
@@ -433,11 +432,9 @@ fn turns<M: Simulated, P: Port, D: SectorDisk, W: Watch>(
     ensures commits { tally.new.commits ≡ tally.old.commits }
     ensures sized { IsSized round.plan.nodes tally.new }
     ensures keeps { Keeps M.meaning P.state D.state (trusts_by round.plan) session.old session.new }
-    ensures refused { (fault : SessionFault) → IsErrOf result (RunFault.Session fault) →
+    ensures refused { (fault : SessionFault) → IsErrOf result (RoundFault.Session fault) →
         IsRefusedIn M.meaning P.state D.state (AreTurns round.plan round.plan.nodes)
         session.old session.new fault }
-    ensures rounds { IsErrOf result RunFault.Rounds → ⊥ }
-    ensures stopped { (time events : ℕ) → IsErrOf result (RunFault.Stopped time events) → ⊥ }
 {
     'nodes: for node in 0..round.plan.nodes {
         turn(alloc, session, node, round, tally, watch)?;
@@ -452,7 +449,7 @@ fn together<M: Simulated, P: Port, D: SectorDisk, W: Watch>(
     round: Round,
     tally: &mut Tally,
     watch: &mut W,
-) -> Result<(), RunFault>
+) -> Result<(), RoundFault>
     requires sized { IsSized round.plan.nodes tally.old }
     ensures driven { OnOk result (IsDrivenBy M.meaning P.state D.state (trusts_by round.plan)
         (Tallied round.plan (AreAsked Schedule.Together round tally.old.outstanding.items) tally.old tally.new)
@@ -460,11 +457,9 @@ fn together<M: Simulated, P: Port, D: SectorDisk, W: Watch>(
     ensures commits { tally.new.commits ≡ tally.old.commits }
     ensures sized { IsSized round.plan.nodes tally.new }
     ensures keeps { Keeps M.meaning P.state D.state (trusts_by round.plan) session.old session.new }
-    ensures refused { (fault : SessionFault) → IsErrOf result (RunFault.Session fault) →
+    ensures refused { (fault : SessionFault) → IsErrOf result (RoundFault.Session fault) →
         IsRefusedIn M.meaning P.state D.state (AreAsked Schedule.Together round tally.old.outstanding.items)
         session.old session.new fault }
-    ensures rounds { IsErrOf result RunFault.Rounds → ⊥ }
-    ensures stopped { (time events : ℕ) → IsErrOf result (RunFault.Stopped time events) → ⊥ }
 {
     post_all(alloc, session, round, tally)?;
     take_all(session, round, tally, watch)
@@ -477,7 +472,7 @@ fn overlapped<M: Simulated, P: Port, D: SectorDisk, W: Watch>(
     round: Round,
     tally: &mut Tally,
     watch: &mut W,
-) -> Result<(), RunFault>
+) -> Result<(), RoundFault>
     requires sized { IsSized round.plan.nodes tally.old }
     ensures driven { OnOk result (IsDrivenBy M.meaning P.state D.state (trusts_by round.plan)
         (Tallied round.plan (AreAsked Schedule.Overlapped round tally.old.outstanding.items) tally.old tally.new)
@@ -485,11 +480,9 @@ fn overlapped<M: Simulated, P: Port, D: SectorDisk, W: Watch>(
     ensures commits { tally.new.commits ≡ tally.old.commits }
     ensures sized { IsSized round.plan.nodes tally.new }
     ensures keeps { Keeps M.meaning P.state D.state (trusts_by round.plan) session.old session.new }
-    ensures refused { (fault : SessionFault) → IsErrOf result (RunFault.Session fault) →
+    ensures refused { (fault : SessionFault) → IsErrOf result (RoundFault.Session fault) →
         IsRefusedIn M.meaning P.state D.state (AreAsked Schedule.Overlapped round tally.old.outstanding.items)
         session.old session.new fault }
-    ensures rounds { IsErrOf result RunFault.Rounds → ⊥ }
-    ensures stopped { (time events : ℕ) → IsErrOf result (RunFault.Stopped time events) → ⊥ }
 {
     post_first(alloc, session, round, tally)?;
     next_turns(alloc, session, round, tally, watch)
@@ -501,7 +494,7 @@ fn post_first<M: Simulated, P: Port, D: SectorDisk>(
     session: &mut Session<'_, M, P, D>,
     round: Round,
     tally: &mut Tally,
-) -> Result<(), RunFault>
+) -> Result<(), RoundFault>
     requires sized { IsSized round.plan.nodes tally.old }
     ensures driven { OnOk result (IsDrivenBy M.meaning P.state D.state (trusts_by round.plan)
         (Tallied round.plan (AreFirst round.first round.plan) tally.old tally.new)
@@ -509,11 +502,9 @@ fn post_first<M: Simulated, P: Port, D: SectorDisk>(
     ensures commits { tally.new.commits ≡ tally.old.commits }
     ensures sized { IsSized round.plan.nodes tally.new }
     ensures keeps { Keeps M.meaning P.state D.state (trusts_by round.plan) session.old session.new }
-    ensures refused { (fault : SessionFault) → IsErrOf result (RunFault.Session fault) →
+    ensures refused { (fault : SessionFault) → IsErrOf result (RoundFault.Session fault) →
         IsRefusedIn M.meaning P.state D.state (AreFirst round.first round.plan)
         session.old session.new fault }
-    ensures rounds { IsErrOf result RunFault.Rounds → ⊥ }
-    ensures stopped { (time events : ℕ) → IsErrOf result (RunFault.Stopped time events) → ⊥ }
 {
     if round.first {
         post_all(alloc, session, round, tally)?;
@@ -528,7 +519,7 @@ fn next_turns<M: Simulated, P: Port, D: SectorDisk, W: Watch>(
     round: Round,
     tally: &mut Tally,
     watch: &mut W,
-) -> Result<(), RunFault>
+) -> Result<(), RoundFault>
     requires sized { IsSized round.plan.nodes tally.old }
     ensures driven { OnOk result (IsDrivenBy M.meaning P.state D.state (trusts_by round.plan)
         (Tallied round.plan (AreNext round tally.old.outstanding.items round.plan.nodes) tally.old tally.new)
@@ -536,11 +527,9 @@ fn next_turns<M: Simulated, P: Port, D: SectorDisk, W: Watch>(
     ensures commits { tally.new.commits ≡ tally.old.commits }
     ensures sized { IsSized round.plan.nodes tally.new }
     ensures keeps { Keeps M.meaning P.state D.state (trusts_by round.plan) session.old session.new }
-    ensures refused { (fault : SessionFault) → IsErrOf result (RunFault.Session fault) →
+    ensures refused { (fault : SessionFault) → IsErrOf result (RoundFault.Session fault) →
         IsRefusedIn M.meaning P.state D.state (AreNext round tally.old.outstanding.items round.plan.nodes)
         session.old session.new fault }
-    ensures rounds { IsErrOf result RunFault.Rounds → ⊥ }
-    ensures stopped { (time events : ℕ) → IsErrOf result (RunFault.Stopped time events) → ⊥ }
 {
     'nodes: for node in 0..round.plan.nodes {
         next_turn(alloc, session, node, round, tally, watch)?;
@@ -557,7 +546,7 @@ fn next_turn<M: Simulated, P: Port, D: SectorDisk, W: Watch>(
     round: Round,
     tally: &mut Tally,
     watch: &mut W,
-) -> Result<(), RunFault>
+) -> Result<(), RoundFault>
     requires node { node < round.plan.nodes }
     requires sized { IsSized round.plan.nodes tally.old }
     ensures driven { OnOk result (IsDrivenBy M.meaning P.state D.state (trusts_by round.plan)
@@ -566,11 +555,9 @@ fn next_turn<M: Simulated, P: Port, D: SectorDisk, W: Watch>(
     ensures commits { tally.new.commits ≡ tally.old.commits }
     ensures sized { IsSized round.plan.nodes tally.new }
     ensures keeps { Keeps M.meaning P.state D.state (trusts_by round.plan) session.old session.new }
-    ensures refused { (fault : SessionFault) → IsErrOf result (RunFault.Session fault) →
+    ensures refused { (fault : SessionFault) → IsErrOf result (RoundFault.Session fault) →
         IsRefusedIn M.meaning P.state D.state (IsNext round node (get_or tally.old.outstanding.items node Option.None))
         session.old session.new fault }
-    ensures rounds { IsErrOf result RunFault.Rounds → ⊥ }
-    ensures stopped { (time events : ℕ) → IsErrOf result (RunFault.Stopped time events) → ⊥ }
 {
     let Some(floor) = tally.outstanding(node) else {
         return Ok(());
@@ -587,7 +574,7 @@ fn post_again<M: Simulated, P: Port, D: SectorDisk>(
     floor: u64,
     round: Round,
     tally: &mut Tally,
-) -> Result<(), RunFault>
+) -> Result<(), RoundFault>
     requires node { node < round.plan.nodes }
     requires sized { IsSized round.plan.nodes tally.old }
     ensures driven { OnOk result (IsDrivenBy M.meaning P.state D.state (trusts_by round.plan)
@@ -596,11 +583,9 @@ fn post_again<M: Simulated, P: Port, D: SectorDisk>(
     ensures commits { tally.new.commits ≡ tally.old.commits }
     ensures sized { IsSized round.plan.nodes tally.new }
     ensures keeps { Keeps M.meaning P.state D.state (trusts_by round.plan) session.old session.new }
-    ensures refused { (fault : SessionFault) → IsErrOf result (RunFault.Session fault) →
+    ensures refused { (fault : SessionFault) → IsErrOf result (RoundFault.Session fault) →
         IsRefusedIn M.meaning P.state D.state (IsPostIf (goes_on round floor) round.plan node)
         session.old session.new fault }
-    ensures rounds { IsErrOf result RunFault.Rounds → ⊥ }
-    ensures stopped { (time events : ℕ) → IsErrOf result (RunFault.Stopped time events) → ⊥ }
 {
     if round.goes_on(floor) {
         post(alloc, session, node, round, tally)?;
@@ -614,7 +599,7 @@ fn post_all<M: Simulated, P: Port, D: SectorDisk>(
     session: &mut Session<'_, M, P, D>,
     round: Round,
     tally: &mut Tally,
-) -> Result<(), RunFault>
+) -> Result<(), RoundFault>
     requires sized { IsSized round.plan.nodes tally.old }
     ensures driven { OnOk result (IsDrivenBy M.meaning P.state D.state (trusts_by round.plan)
         (Tallied round.plan (ArePosts round.plan round.plan.nodes) tally.old tally.new)
@@ -622,11 +607,9 @@ fn post_all<M: Simulated, P: Port, D: SectorDisk>(
     ensures commits { tally.new.commits ≡ tally.old.commits }
     ensures sized { IsSized round.plan.nodes tally.new }
     ensures keeps { Keeps M.meaning P.state D.state (trusts_by round.plan) session.old session.new }
-    ensures refused { (fault : SessionFault) → IsErrOf result (RunFault.Session fault) →
+    ensures refused { (fault : SessionFault) → IsErrOf result (RoundFault.Session fault) →
         IsRefusedIn M.meaning P.state D.state (ArePosts round.plan round.plan.nodes)
         session.old session.new fault }
-    ensures rounds { IsErrOf result RunFault.Rounds → ⊥ }
-    ensures stopped { (time events : ℕ) → IsErrOf result (RunFault.Stopped time events) → ⊥ }
 {
     'nodes: for node in 0..round.plan.nodes {
         post(alloc, session, node, round, tally)?;
@@ -640,7 +623,7 @@ fn take_all<M: Simulated, P: Port, D: SectorDisk, W: Watch>(
     round: Round,
     tally: &mut Tally,
     watch: &mut W,
-) -> Result<(), RunFault>
+) -> Result<(), RoundFault>
     requires sized { IsSized round.plan.nodes tally.old }
     ensures driven { OnOk result (IsDrivenBy M.meaning P.state D.state (trusts_by round.plan)
         (Tallied round.plan (λ taken. moves_of taken ≡ takes_of round.plan.nodes) tally.old tally.new)
@@ -648,11 +631,9 @@ fn take_all<M: Simulated, P: Port, D: SectorDisk, W: Watch>(
     ensures commits { tally.new.commits ≡ tally.old.commits }
     ensures sized { IsSized round.plan.nodes tally.new }
     ensures keeps { Keeps M.meaning P.state D.state (trusts_by round.plan) session.old session.new }
-    ensures refused { (fault : SessionFault) → IsErrOf result (RunFault.Session fault) →
+    ensures refused { (fault : SessionFault) → IsErrOf result (RoundFault.Session fault) →
         IsRefusedIn M.meaning P.state D.state (λ taken. moves_of taken ≡ takes_of round.plan.nodes)
         session.old session.new fault }
-    ensures rounds { IsErrOf result RunFault.Rounds → ⊥ }
-    ensures stopped { (time events : ℕ) → IsErrOf result (RunFault.Stopped time events) → ⊥ }
 {
     'nodes: for node in 0..round.plan.nodes {
         take(session, node, round, tally, watch)?;
@@ -668,7 +649,7 @@ fn turn<M: Simulated, P: Port, D: SectorDisk, W: Watch>(
     round: Round,
     tally: &mut Tally,
     watch: &mut W,
-) -> Result<(), RunFault>
+) -> Result<(), RoundFault>
     requires node { node < round.plan.nodes }
     requires sized { IsSized round.plan.nodes tally.old }
     ensures driven { OnOk result (IsDrivenBy M.meaning P.state D.state (trusts_by round.plan)
@@ -677,11 +658,9 @@ fn turn<M: Simulated, P: Port, D: SectorDisk, W: Watch>(
     ensures commits { tally.new.commits ≡ tally.old.commits }
     ensures sized { IsSized round.plan.nodes tally.new }
     ensures keeps { Keeps M.meaning P.state D.state (trusts_by round.plan) session.old session.new }
-    ensures refused { (fault : SessionFault) → IsErrOf result (RunFault.Session fault) →
+    ensures refused { (fault : SessionFault) → IsErrOf result (RoundFault.Session fault) →
         IsRefusedIn M.meaning P.state D.state (IsTurn round.plan node)
         session.old session.new fault }
-    ensures rounds { IsErrOf result RunFault.Rounds → ⊥ }
-    ensures stopped { (time events : ℕ) → IsErrOf result (RunFault.Stopped time events) → ⊥ }
 {
     post(alloc, session, node, round, tally)?;
     take(session, node, round, tally, watch)
@@ -694,7 +673,7 @@ fn post<M: Simulated, P: Port, D: SectorDisk>(
     node: u32,
     round: Round,
     tally: &mut Tally,
-) -> Result<(), RunFault>
+) -> Result<(), RoundFault>
     requires node { node < round.plan.nodes }
     requires sized { IsSized round.plan.nodes tally.old }
     ensures driven { OnOk result (IsDrivenBy M.meaning P.state D.state (trusts_by round.plan)
@@ -703,11 +682,9 @@ fn post<M: Simulated, P: Port, D: SectorDisk>(
     ensures commits { tally.new.commits ≡ tally.old.commits }
     ensures sized { IsSized round.plan.nodes tally.new }
     ensures keeps { Keeps M.meaning P.state D.state (trusts_by round.plan) session.old session.new }
-    ensures refused { (fault : SessionFault) → IsErrOf result (RunFault.Session fault) →
+    ensures refused { (fault : SessionFault) → IsErrOf result (RoundFault.Session fault) →
         IsRefusedIn M.meaning P.state D.state (IsPost round.plan node)
         session.old session.new fault }
-    ensures rounds { IsErrOf result RunFault.Rounds → ⊥ }
-    ensures stopped { (time events : ℕ) → IsErrOf result (RunFault.Stopped time events) → ⊥ }
 {
     let picks = places(alloc, session.transit(), node, round.plan.nodes)?;
     let undone = antimessages(session.transit(), picks.as_slice());
@@ -730,7 +707,7 @@ fn take<M: Simulated, P: Port, D: SectorDisk, W: Watch>(
     round: Round,
     tally: &mut Tally,
     watch: &mut W,
-) -> Result<(), RunFault>
+) -> Result<(), RoundFault>
     requires node { node < round.plan.nodes }
     requires sized { IsSized round.plan.nodes tally.old }
     ensures driven { OnOk result (IsDrivenBy M.meaning P.state D.state (trusts_by round.plan)
@@ -739,11 +716,9 @@ fn take<M: Simulated, P: Port, D: SectorDisk, W: Watch>(
     ensures commits { tally.new.commits ≡ tally.old.commits }
     ensures sized { IsSized round.plan.nodes tally.new }
     ensures keeps { Keeps M.meaning P.state D.state (trusts_by round.plan) session.old session.new }
-    ensures refused { (fault : SessionFault) → IsErrOf result (RunFault.Session fault) →
+    ensures refused { (fault : SessionFault) → IsErrOf result (RoundFault.Session fault) →
         IsRefusedIn M.meaning P.state D.state (λ taken. moves_of taken ≡ TakeMove node ∷ [])
         session.old session.new fault }
-    ensures rounds { IsErrOf result RunFault.Rounds → ⊥ }
-    ensures stopped { (time events : ℕ) → IsErrOf result (RunFault.Stopped time events) → ⊥ }
 {
     let answer = session.step(&Step::Take { node })?;
     tally.taken(node, &answer);
@@ -751,13 +726,36 @@ fn take<M: Simulated, P: Port, D: SectorDisk, W: Watch>(
     Ok(())
 }
 
-impl From<SessionFault> for RunFault {
-    ghost use Rattle.runs.specs.declared.rounds.RunFault.TheVariants.{Session};
+impl From<SessionFault> for RoundFault {
+    ghost use Rattle.runs.specs.declared.rounds.RoundFault.TheVariants.{Session};
 
     ghost from_gives = { λ fault e. e ≡ Session fault };
 
-    fn from(fault: SessionFault) -> RunFault {
-        RunFault::Session(fault)
+    fn from(fault: SessionFault) -> RoundFault {
+        RoundFault::Session(fault)
+    }
+}
+
+impl From<AllocError> for RoundFault {
+    ghost use Rattle.runs.specs.declared.rounds.RoundFault.TheVariants.{NoMemory};
+
+    ghost from_gives = { λ _ e. e ≡ NoMemory };
+
+    fn from(_refused: AllocError) -> RoundFault {
+        RoundFault::NoMemory
+    }
+}
+
+impl From<RoundFault> for RunFault {
+    ghost use Rattle.runs.specs.Driver.{of_round};
+
+    ghost from_gives = { λ fault e. e ≡ of_round fault };
+
+    fn from(fault: RoundFault) -> RunFault {
+        match fault {
+            RoundFault::Session(fault) => RunFault::Session(fault),
+            RoundFault::NoMemory => RunFault::NoMemory,
+        }
     }
 }
 

@@ -1,4 +1,4 @@
-use Rattle.std.proofs.Common.{◌≡◌, ◌+◌, ℕ, List, refl, ap, arith, subst, sym, length, ◌∙◌}
+use Rattle.std.proofs.Common.{◌≡◌, ◌+◌, ℕ, Err, List, refl, ap, arith, subst, sym, length, ◌∙◌}
 use Rattle.std.proofs.lemmas.List.{length-replicate}
 use Rattle.model.specs.World.{World}
 use Rattle.std.specs.Prelude.{None, Option}
@@ -8,9 +8,8 @@ use Rattle.runs.specs.declared.budgets.NodeBudget.{NodeBudget}
 use Rattle.runs.specs.Tallies.{IsTallied, IsTallyOf}
 use Rattle.runs.proofs.Counts.{none_handled, round_more}
 use Rattle.runs.proofs.Drives.{all_made, driven_represents, driven_so, finished, shaped_by, stood-keeps, stood_by, then_after, then_represents}
-use Rattle.runs.proofs.Causes.{passed_as, refused_only}
+use Rattle.runs.proofs.Causes.{refused_only}
 use Rattle.runs.proofs.Refused.{refused_after}
-use Rattle.runs.specs.declared.rounds.RunFault.TheVariants.{Rounds, Session as OfSession, Stopped}
 use Rattle.std.proofs.lemmas.Result.{err_from_is_err_and}
 use Rattle.runs.proofs.Shapes.{one_round_more, rounds_before}
 use Rattle.runs.proofs.rounds.run_session.Goals as goal
@@ -100,7 +99,7 @@ returns-then-made-last-clause-cause g c =
 
 pub returns-in_err-make_round-clause-cause : goal.returns-in_err-make_round-clause-cause
 returns-in_err-make_round-clause-cause g c =
-    refused_only g.M.Model.meaning g.P.Port.state g.D.SectorDisk.state c.args.end c.args.plan c.args.session.now c.make_round.new.session c.from_residual-in_err-make_round.result
+    refused_only g.M.Model.meaning g.P.Port.state g.D.SectorDisk.state c.args.end c.args.plan c.args.session.now c.make_round.new.session c.from_residual-in_err-make_round.result c.in_err-make_round.field-0.0 c.from_residual-in_err-make_round.ensures.1
     (λ fault e.
     let before = c.rounds.invariant.driven in
     let last = c.last_round-last.result in
@@ -111,10 +110,8 @@ returns-in_err-make_round-clause-cause g c =
       refused_after g.M.Model.meaning g.P.Port.state g.D.SectorDisk.state _ (IsRound (round_after c.args.plan c.args.end last c.rounds.made) (reported_since 0 before.steps) c.rounds.tally.commits c.rounds.tally.outstanding.items) (AreRounds c.args.plan c.args.end last (c.rounds.made + 1)) c.args.session.now c.rounds.session c.make_round.new.session fault before
           (λ ls round. one_round_more c.args.plan c.args.end last c.rounds.made before.steps ls now (subst (λ (o : List (Option ℕ)). IsRound (round_after c.args.plan c.args.end last c.rounds.made) (reported_since 0 before.steps) (commits_in before.steps) o ls) before.shape.1.outstanding
           (subst (λ (n : ℕ). IsRound (round_after c.args.plan c.args.end last c.rounds.made) (reported_since 0 before.steps) n c.rounds.tally.outstanding.items ls) before.shape.1.commits round)))
-          (c.in_err-make_round.ensures.refused (reported_since 0 before.steps) before.shape.1.events_until_commit fault (passed_as c.from_residual-in_err-make_round.result c.in_err-make_round.field-0.0 (OfSession fault) c.from_residual-in_err-make_round.ensures.1 e)),
+          (c.in_err-make_round.ensures.refused (reported_since 0 before.steps) before.shape.1.events_until_commit fault (ap Err e)),
     ))
-    (λ e. c.in_err-make_round.ensures.rounds (passed_as c.from_residual-in_err-make_round.result c.in_err-make_round.field-0.0 Rounds c.from_residual-in_err-make_round.ensures.1 e))
-    (λ time events e. c.in_err-make_round.ensures.stopped time events (passed_as c.from_residual-in_err-make_round.result c.in_err-make_round.field-0.0 (Stopped time events) c.from_residual-in_err-make_round.ensures.1 e))
 
 pub returns-in_err-tally-clause-cause : goal.returns-in_err-tally-clause-cause
 returns-in_err-tally-clause-cause g c = let p = err_from_is_err_and c.from_residual.result c.from_residual.ensures.1 in rw (p.1, p.2) tt
