@@ -5,7 +5,7 @@ use commitlog::LogFault;
 use coordinator::{Extended, extend};
 use disk::{DiskPlan, MemDisk, Returned, Torn};
 use model::Model as Simulated;
-use plain::{PlainFault, PlainPlan, Reached, PlainWatch, run_plain};
+use plain::{PlainFault, PlainPlan, PlainWatch, Reached, run_plain};
 use recovery::{Front, RecoveryFault, front_of as front_of_world};
 use runs::{Plan as RunPlan, RunFault, run_local};
 use std::alloc::Global;
