@@ -17,7 +17,10 @@ struct Image {
 impl SectorSource for Image {
     fn read_at(&mut self, first: u32, bytes: &mut [u8]) -> Result<(), DiskFault> {
         let from = first as usize * 512;
-        let Some(there) = self.bytes.get(from..from.saturating_add(bytes.len())) else {
+        let Some(rest) = self.bytes.get(from..) else {
+            return Err(DiskFault::Device);
+        };
+        let Some(there) = rest.get(..bytes.len()) else {
             return Err(DiskFault::Device);
         };
         bytes.copy_from_slice(there);
@@ -173,7 +176,7 @@ fn agree_everywhere(alloc: Global) -> Result<bool, Fail> {
     let image = image_of(alloc, "long checkpoint end late")?;
     for sector in 0..WRITTEN {
         for byte in [0, 20, 511] {
-            if !agrees_at(alloc, image.as_slice(), sector * 512 + byte)? {
+            if !agrees_at(alloc, image.as_slice(), (512 * sector).saturating_add(byte))? {
                 return Ok(false);
             }
         }
@@ -201,7 +204,7 @@ fn is_refused(alloc: Global) -> Result<bool, Fail> {
         part.sectors() == 256
             && read < 40
             && part.read(1, &mut sector).is_ok()
-            && sector.as_slice() == &image[512..1024]
+            && image.get(512..1024) == Some(sector.as_slice())
             && part.read(WITHIN_THE_LONG, &mut sector) == Err(DiskFault::Device)
             && part.read(200, &mut sector) == Err(DiskFault::Device)
             && part.read(256, &mut sector) == Err(DiskFault::NoSuchSector)
@@ -228,7 +231,7 @@ fn is_not_written(alloc: Global) -> Result<bool, Fail> {
             && part.write(1, &sector) == Err(DiskFault::Device)
             && part.sync() == Err(DiskFault::Device)
             && part.read(1, &mut sector).is_ok()
-            && sector.as_slice() == &image[512..1024],
+            && image.get(512..1024) == Some(sector.as_slice()),
     )
 }
 
