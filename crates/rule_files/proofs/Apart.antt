@@ -13,8 +13,8 @@ use Rattle.rules.specs.declared.tree.Law.{Law}
 use Rattle.rules.specs.declared.tree.Law.TheVariants as l
 use Rattle.rules.specs.declared.tree.Operator.{Operator}
 use Rattle.rules.specs.declared.tree.Operator.TheVariants as o
-use Rattle.rules_text.specs.Grammar.{Tree, Number, Word, Content, Local, Read, Not, Two, Entry, Draw, Normal, Triangular, Choose, Element, height}
-use Rattle.rules_text.specs.Statements.{Act, Acts, Four, Let, Set, Send, If, Repeat, RepeatUntil, Put, empty, cons}
+use Rattle.rule_files.specs.Grammar.{Tree, Number, Word, Content, Local, Read, Not, Two, Entry, Draw, Normal, Triangular, Choose, Element, height}
+use Rattle.rule_files.specs.Statements.{Act, Acts, Four, Let, Set, Send, If, Repeat, RepeatUntil, Put, empty, cons}
 use Rattle.rule_files.specs.Digest.{table_bytes, kept_bytes, Meant, IsRanged, IsLimited, TellsApart, meaning_bytes, text_bytes, list_bytes, ActFits, ActsFit, FourFits, act_bytes, acts_bytes, block_bytes, count, four_bytes, number_bytes, array_bytes, known_number, law_number, operator_number, tree_bytes, IsWord, ArrayFits, TreeFits}
 
 -- 1. Readers

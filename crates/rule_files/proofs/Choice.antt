@@ -5,6 +5,7 @@ use Rattle.std.proofs.lemmas.Bool.Decides.{nat_tests}
 use Rattle.std.proofs.lemmas.List.{length-map}
 use Rattle.rules.proofs.Rows.{after-If, cost-If}
 use Rattle.rule_files.proofs.Seam.{tree_cost_is}
+use Rattle.rule_files.specs.Grammar.{Number, Read, tree_of}
 use Rattle.rule_files.specs.Kinds.{AreKinds, AreWithin, IsBelow, IsByKind, IsPair, KindRules, RunsItsKind, count_of, few_processes, kind_in, kind_keys, kind_of, kind_tables, kinds_from, kinds_of, name_of, some_kinds, tables_among}
 use Rattle.rule_files.specs.Reading.{MOST_STEPS, tree_cost}
 use Rattle.rule_files.specs.RuleFile.{Kind}
@@ -22,7 +23,6 @@ use Rattle.rules.specs.declared.tree.Expression.TheVariants as e
 use Rattle.rules.specs.declared.tree.Known.TheVariants.{Process}
 use Rattle.rules.specs.declared.tree.Operator.TheVariants.{Below}
 use Rattle.rules.specs.declared.tree.Statement.{Statement, If}
-use Rattle.rules_text.specs.Grammar.{Number, Read, tree_of}
 use Rattle.texts.specs.ModelFile.{unknown_wrong}
 use Rattle.toml.specs.Data.{Members, as_array, get_member}
 

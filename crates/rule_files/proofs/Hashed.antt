@@ -2,11 +2,11 @@
 use Rattle.std.proofs.Common.{◌≡◌, ◌∙◌, ◌++◌, List, ℕ, [], ◌∷◌, Vec, Global, append_assoc, append-nil, ap, length, suc, refl, subst, sym}
 use Rattle.rules.specs.declared.tree.Expression.{Expression}
 use Rattle.rules.specs.declared.tree.Statement.{Statement, If, Repeat, RepeatUntil}
-use Rattle.rules_text.specs.Grammar.{tree_of}
-use Rattle.rules_text.specs.Statements as a
-use Rattle.rules_text.specs.Statements.{act_of, acts_of}
+use Rattle.rule_files.specs.Grammar.{tree_of}
+use Rattle.rule_files.specs.Statements as a
+use Rattle.rule_files.specs.Statements.{act_of, acts_of}
 use Rattle.rule_files.specs.Digest.{act_bytes, acts_bytes, block_bytes, count, number_bytes, tree_bytes}
-use Rattle.rules_text.proofs.Rows.{act_of_choice, act_of_repetition, act_of_repetition_until}
+use Rattle.rule_files.proofs.ActsOfRows.{act_of_choice, act_of_repetition, act_of_repetition_until}
 use Rattle.sha2.specs.Hashers.{Holds256}
 use Rattle.sha2.specs.declared.Sha256.{Sha256}
 

@@ -11,3 +11,14 @@ pub mod Columns
 mod Apart
 mod Hashed
 mod Limited
+pub mod Complete
+pub mod Marks
+pub mod Sound
+pub mod Steps
+pub mod ActsOfRows
+pub mod Turns
+pub mod StatementsComplete
+pub mod StatementsSound
+pub mod Pieces
+pub mod Whole
+pub mod Lexes

@@ -15,7 +15,7 @@ use Rattle.rules.specs.declared.arrays.Array.{Array}
 use Rattle.rules.specs.declared.limits.Limit.TheVariants.{Steps}
 use Rattle.rules.specs.declared.tree.Statement.{Statement}
 use Rattle.rules.specs.declared.tree.Statement.TheVariants as s
-use Rattle.rules_text.specs.Statements.{acts_of}
+use Rattle.rule_files.specs.Statements.{acts_of}
 use Rattle.rule_files.specs.Arrays.{Declaration, State, after, is_bracket, array_at, bits_behind, declared_behind, declared_in, declared_view, fits, is_unit, behind_digits, no_state, number_in, with_array, with_declared, with_item, with_word}
 use Rattle.rule_files.specs.Digest.{count}
 use Rattle.rule_files.specs.FileTable.{FilesKeepLimits, KindsKeepLimits}

@@ -1,8 +1,8 @@
 -- The names of words of content, one after the other.
 use Rattle.std.proofs.Common.{◌≡◌, ◌+◌, ℕ, List, [], ◌∷◌, ◌++◌, append_assoc, ap, sym, ◌∙◌}
 use Rattle.rule_files.specs.Reading.{content_from}
-use Rattle.rules_text.specs.declared.token.Token.{Token}
-use Rattle.rules_text.specs.declared.token.Token.TheVariants as t
+use Rattle.rule_files.specs.declared.grammar.token.Token.{Token}
+use Rattle.rule_files.specs.declared.grammar.token.Token.TheVariants as t
 
 pub one_more : (i : ℕ) (name : List ℕ) (names rest : List (List ℕ)) (before after all : List (List ℕ × Token)) → names ≡ name ∷ rest
     → after ≡ before ++ (name, t.Content i) ∷ [] → before ++ content_from i names ≡ all → after ++ content_from (i + 1) rest ≡ all

@@ -1,10 +1,18 @@
 -- What is spelled is a rule.
 use Rattle.std.proofs.Common.{◌≡◌, ◌≤◌, ◌<◌, ℕ, ◌+◌, ◌*◌, ◌&&◌, List, [], ◌∷◌, Bool, true, false, Option, Some, None, ap, refl, sym, ◌∙◌, subst, arith, max, nat_le}
 use Rattle.std.proofs.lemmas.Bool.Decides.{nat_tests}
+use Rattle.rule_files.specs.Grammar.{tree_of}
 use Rattle.rule_files.specs.Reading.{Spells, MOST_STEPS, act_cost, acts_cost, are_short, are_within, dictionary, is_rule, is_short_rule, tree_cost}
 use Rattle.rule_files.specs.FileTable.{rule_fits, text_fits}
 use Rattle.rule_files.specs.Kinds.{IsRuleAt, short_rule_fits, text_in, text_is_short}
 use Rattle.rule_files.specs.RuleFile.{Parts}
+use Rattle.rule_files.specs.Scopes.{Dictionary}
+use Rattle.rule_files.specs.Statements.{Acts, act_of, acts_of, acts_of_row}
+use Rattle.rule_files.specs.Texts.{IsForMemory, IsRule, read_at}
+use Rattle.rule_files.specs.declared.grammar.mistakes.Mistake.{Mistake}
+use Rattle.rule_files.specs.declared.grammar.read.ReadError.{ReadError}
+use Rattle.rule_files.specs.declared.grammar.read.ReadError.TheVariants.{Mistaken}
+use Rattle.rule_files.proofs.Whole.{read_is, read_only}
 use Rattle.toml.specs.Data.{Members}
 use Rattle.rules.specs.Costs.{cost, cost_of, cost_of_all, cost_of_row, draw_cost, send_cost, step_cost}
 use Rattle.rules.specs.Limits.{Exceeds, IsWithin}
@@ -15,14 +23,6 @@ use Rattle.rules.specs.declared.tree.Expression.{Expression}
 use Rattle.rules.specs.declared.tree.Expression.TheVariants as e
 use Rattle.rules.specs.declared.tree.Statement.{Statement, Row_of-Statement, end_of-Statement, more_of-Statement}
 use Rattle.rules.specs.declared.tree.Statement.TheVariants as s
-use Rattle.rules_text.specs.Grammar.{tree_of}
-use Rattle.rules_text.specs.Scopes.{Dictionary}
-use Rattle.rules_text.specs.Statements.{Acts, act_of, acts_of, acts_of_row}
-use Rattle.rules_text.specs.Texts.{IsForMemory, IsRule, read_at}
-use Rattle.rules_text.specs.declared.mistakes.Mistake.{Mistake}
-use Rattle.rules_text.specs.declared.read.ReadError.{ReadError}
-use Rattle.rules_text.specs.declared.read.ReadError.TheVariants.{Mistaken}
-use Rattle.rules_text.proofs.Whole.{read_is, read_only}
 
 -- 1. A tree costs what the text spells
 

@@ -6,7 +6,11 @@ use Rattle.std.specs.Prelude.{drop, if◌then◌else◌, length, map, replicate,
 use Rattle.std.specs.Int.{bytes_high_first, from_be_bytes, w64}
 use Rattle.std.specs.List.{flat_map, AllByRecursion as Every}
 use Rattle.sha2.specs.Sha256.{sha256}
+use Rattle.rule_files.specs.Grammar.{Tree, Number, Word, Content, Local, Read, Not, Two, Entry, Draw}
+use Rattle.rule_files.specs.Grammar.{Normal, Triangular, Choose, Element}
 use Rattle.rule_files.specs.Names.{is_word}
+use Rattle.rule_files.specs.Statements.{Act, Acts, Four, Let, Set, Send, If, Repeat, RepeatUntil, Put}
+use Rattle.rule_files.specs.Statements.{acts_of, cons, empty}
 use Rattle.rules.specs.declared.arrays.Array.{Array}
 use Rattle.rules.specs.declared.tree.Known.{Known as Knowledge}
 use Rattle.rules.specs.declared.tree.Known.TheVariants as k
@@ -15,10 +19,6 @@ use Rattle.rules.specs.declared.tree.Law.TheVariants as l
 use Rattle.rules.specs.declared.tree.Operator.{Operator}
 use Rattle.rules.specs.declared.tree.Operator.TheVariants as o
 use Rattle.rules.specs.declared.tree.Statement.{Statement}
-use Rattle.rules_text.specs.Grammar.{Tree, Number, Word, Content, Local, Read, Not, Two, Entry, Draw}
-use Rattle.rules_text.specs.Grammar.{Normal, Triangular, Choose, Element}
-use Rattle.rules_text.specs.Statements.{Act, Acts, Four, Let, Set, Send, If, Repeat, RepeatUntil, Put}
-use Rattle.rules_text.specs.Statements.{acts_of, cons, empty}
 
 -- 1. Numbers and lists
 

@@ -7,6 +7,7 @@ use Rattle.std.specs.Global.{Global}
 use Rattle.std.specs.List.{list_any}
 use Rattle.std.specs.declared.vec.Vec.{Vec}
 use Rattle.rule_files.specs.Arrays.{State}
+use Rattle.rule_files.specs.Grammar.{Number, Read, Two, tree_of}
 use Rattle.rule_files.specs.Names.{is_key}
 use Rattle.rule_files.specs.Reading.{MOST_STEPS, Spells, is_short_rule}
 use Rattle.rule_files.specs.RuleFile.{Kind, Parts, Setting, parts_in, state_of, word_in}
@@ -18,7 +19,6 @@ use Rattle.rules.specs.declared.tree.Expression.{Expression}
 use Rattle.rules.specs.declared.tree.Known.TheVariants.{Process}
 use Rattle.rules.specs.declared.tree.Operator.TheVariants.{Below}
 use Rattle.rules.specs.declared.tree.Statement.{Statement, If}
-use Rattle.rules_text.specs.Grammar.{Number, Read, Two, tree_of}
 use Rattle.texts.specs.ModelFile.{number_at, unknown_wrong}
 use Rattle.toml.specs.Data.{Items, Members, as_array, as_str, as_table, get_member, item}
 use Rattle.toml.specs.Data.{no_items}

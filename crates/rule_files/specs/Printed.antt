@@ -4,6 +4,7 @@ use Rattle.std.specs.Prelude.{ℕ, zero, suc, ◌+◌, ◌-◌, ◌*◌, ◌^◌
 use Rattle.std.specs.Prelude.{true, false, codes, decimal, if◌then◌else◌, get_or, length, map, min}
 use Rattle.std.specs.Prelude.{nat_lt, not, slice_index, slice_set, string_bytes, take}
 use Rattle.rule_files.specs.Arrays.{array_view}
+use Rattle.rule_files.specs.Grammar.{looseness}
 use Rattle.rule_files.specs.Reading.{value_of}
 use Rattle.rules.specs.declared.arrays.Array.{Array}
 use Rattle.rule_files.specs.RuleFile.{other_names}
@@ -35,7 +36,6 @@ use Rattle.rules.specs.declared.tree.Statement.{Statement, Row_of-Statement, end
 use Rattle.rules.specs.declared.tree.Statement.{items-the_row-Statement, more_of-Statement}
 use Rattle.rules.specs.declared.tree.Statement.TheVariants.{Let, Set, Send, If', Repeat', RepeatUntil'}
 use Rattle.rules.specs.declared.tree.Statement.TheVariants.{Put}
-use Rattle.rules_text.specs.Grammar.{looseness}
 
 -- 1. Signs
 

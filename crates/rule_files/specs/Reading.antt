@@ -2,23 +2,23 @@
 use Rattle.std.specs.Prelude.{ℕ, ◌+◌, ◌*◌, List, [], ◌∷◌, ◌++◌, Option, Some, None, Bool, false}
 use Rattle.std.specs.Prelude.{◌&&◌, drop, if◌then◌else◌, length, map, max, nat_le}
 use Rattle.std.specs.List.{list_any}
+use Rattle.rule_files.specs.Grammar.{Tree, Number, Word, Content, Local, Read, Not, Two, Entry, Draw}
+use Rattle.rule_files.specs.Grammar.{Normal, Triangular, Choose, Element}
 use Rattle.rule_files.specs.Names.{is_key, is_name}
 use Rattle.rule_files.specs.RuleFile.{Kind, Parts, other_names}
+use Rattle.rule_files.specs.Scopes.{Dictionary, token_meant}
+use Rattle.rule_files.specs.Statements.{Act, Acts, Let, Set, Send, If, Repeat, RepeatUntil, Put, empty, cons}
+use Rattle.rule_files.specs.Statements.{acts_of}
+use Rattle.rule_files.specs.Texts.{IsRule, read_at}
+use Rattle.rule_files.specs.declared.grammar.scope.Meaning.TheVariants as w
+use Rattle.rule_files.specs.declared.grammar.token.Token.{Token}
+use Rattle.rule_files.specs.declared.grammar.token.Token.TheVariants as t
 use Rattle.rules.specs.declared.arrays.Array.{Array}
 use Rattle.rules.specs.Costs.{draw_cost, send_cost, step_cost}
 use Rattle.rules.specs.declared.limits.Limit.{Limit}
 use Rattle.rules.specs.declared.limits.Limit.TheVariants.{Draws, Sends, Steps}
 use Rattle.rules.specs.declared.limits.TheConstants.{MAX_DRAWS, MAX_SENDS, MAX_STEPS}
 use Rattle.rules.specs.declared.tree.Statement.{Statement}
-use Rattle.rules_text.specs.Grammar.{Tree, Number, Word, Content, Local, Read, Not, Two, Entry, Draw}
-use Rattle.rules_text.specs.Grammar.{Normal, Triangular, Choose, Element}
-use Rattle.rules_text.specs.Scopes.{Dictionary, token_meant}
-use Rattle.rules_text.specs.Statements.{Act, Acts, Let, Set, Send, If, Repeat, RepeatUntil, Put, empty, cons}
-use Rattle.rules_text.specs.Statements.{acts_of}
-use Rattle.rules_text.specs.Texts.{IsRule, read_at}
-use Rattle.rules_text.specs.declared.scope.Meaning.TheVariants as w
-use Rattle.rules_text.specs.declared.token.Token.{Token}
-use Rattle.rules_text.specs.declared.token.Token.TheVariants as t
 
 -- 1. What the names of a file mean
 

@@ -30,6 +30,7 @@ use crate::entries::{
 };
 use crate::file_model::{FileModel, FileNames, Form, KindNames, ModelNames};
 use crate::given::given_names;
+use crate::grammar::Mistake as Place;
 use crate::kind_mistakes::kinds_mistakes_of;
 use crate::kind_rules::kinds_model_of;
 use crate::kinds::has_kinds;
@@ -42,7 +43,6 @@ use eventkey::MOST_END;
 use model::Model as Simulated;
 use models::AnyModel;
 use rules::{MAX_LPS, Rules, RulesParts, Statement, Table as Numbers};
-use rules_text::Mistake as Place;
 use std::alloc::{AllocError, Global};
 use texts::{
     Described, Findings, Inside, Mistake, ModelFault, Names, TextMistake, mistakes_among,
@@ -719,7 +719,7 @@ fn mistakes_of(
     first: &Place,
 ) -> Result<String, AllocError> {
     let names = dictionary_of(alloc, scope)?;
-    let all = rules_text::find_mistakes(alloc, &names, text)?;
+    let all = crate::grammar::find_mistakes(alloc, &names, text)?;
     let kind = &first.kind;
     let mut why = format!(in alloc; "{kind}")?;
     for (place, other) in all.iter().enumerate() {

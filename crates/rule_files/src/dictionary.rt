@@ -9,12 +9,12 @@ ghost use Rattle.rule_files.specs.Reading.{field_names, kind_names, sorts_from};
 ghost use Rattle.rule_files.specs.Reading.{value_of, words_from};
 ghost use Rattle.rule_files.specs.RuleFile.{field_view, kind_view, named_view, other_names};
 ghost use Rattle.rule_files.specs.RuleFile.{parts_view, sort_view};
-ghost use Rattle.rules_text.specs.Scopes.{token_meant, with_entry};
+ghost use Rattle.rule_files.specs.Scopes.{token_meant, with_entry};
 
 use crate::arrays::NamedArray;
+use crate::grammar::{Meaning, Scope as Dictionary};
 use crate::kinds::KindTable;
 use crate::scope::{Field, Named, NamedSort, OTHERS, Scope, is_key, is_name};
-use rules_text::{Meaning, Scope as Dictionary};
 use std::alloc::{AllocError, Global};
 
 /// Returns what the names of a model file mean in its rules.

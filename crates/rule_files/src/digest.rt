@@ -13,8 +13,8 @@ ghost use Rattle.rule_files.specs.Digest.{operator_number as number_of_operator}
 ghost use Rattle.rule_files.specs.Digest.{number_bytes, own_name, table_bytes, text_bytes, tree_bytes};
 ghost use Rattle.rule_files.specs.Digest.{words_of_digest};
 ghost use Rattle.rule_files.specs.FileTable.{FilesKeepLimits, KindsKeepLimits};
-ghost use Rattle.rules_text.specs.Grammar.{tree_of};
-ghost use Rattle.rules_text.specs.Statements.{act_of, acts_of, content_of};
+ghost use Rattle.rule_files.specs.Grammar.{tree_of};
+ghost use Rattle.rule_files.specs.Statements.{act_of, acts_of, content_of};
 ghost use Rattle.sha2.specs.Hashers.{Holds256};
 
 use crate::arrays::NamedArray;

@@ -1,6 +1,6 @@
 // The names that a rule gives.
 
-use rules_text::{Lexeme, tokens};
+use crate::grammar::{Lexeme, tokens};
 use std::alloc::{AllocError, Global};
 
 /// Returns the names that `let` and `repeat` give in the text of a rule, in the order of the text.

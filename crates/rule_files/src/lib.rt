@@ -9,6 +9,8 @@ mod digest;
 mod entries;
 mod file_model;
 mod given;
+/// The grammar of rules: which text is which rule, and the mistakes in a text that is none.
+pub mod grammar;
 mod kind_mistakes;
 mod kind_rules;
 mod kinds;

@@ -2,6 +2,7 @@
 
 ghost use Rattle.std.specs.Prelude.{◌≡◌, ◌++◌, OnOk, decimal, map, string_bytes};
 ghost use Rattle.rule_files.specs.Arrays.{array_view};
+ghost use Rattle.rule_files.specs.Grammar.{looseness as looseness_of};
 ghost use Rattle.rule_files.specs.Printed.{array_name, unit, with_array, with_arrays, with_bits};
 ghost use Rattle.rule_files.specs.Printed.{block_of, each_array, rest_of, with_both, with_common};
 ghost use Rattle.rule_files.specs.Printed.{with_each, with_head, with_kind, with_kinds_model};
@@ -20,7 +21,6 @@ ghost use Rattle.rule_files.specs.Printed.{with_numbers, with_sending, with_stat
 ghost use Rattle.rule_files.specs.Printed.{with_table, with_tables, with_value, with_word};
 ghost use Rattle.rule_files.specs.Printed.{with_words};
 ghost use Rattle.rule_files.specs.RuleFile.{other_names};
-ghost use Rattle.rules_text.specs.Grammar.{looseness as looseness_of};
 
 use crate::arrays::NamedArray;
 use crate::dictionary::value_of;

@@ -6,9 +6,9 @@ ghost use Rattle.rule_files.specs.RuleFile.{parts_view};
 ghost use Rattle.rules.specs.Limits.{IsWithin};
 
 use crate::dictionary::dictionary_of;
+use crate::grammar::{Mistake, ReadError};
 use crate::scope::Scope;
 use rules::{Limit, Statement, exceeded};
-use rules_text::{Mistake, ReadError};
 use std::alloc::{AllocError, Global};
 use thiserror::Error;
 
@@ -46,7 +46,7 @@ pub(crate) fn read_rule(
         is_rule (parts_view scope.now) text.now ≡ false)) }
 {
     let names = dictionary_of(alloc, scope)?;
-    match rules_text::read_rule(alloc, &names, text) {
+    match crate::grammar::read_rule(alloc, &names, text) {
         Ok(rule) => match exceeded(rule.as_slice()) {
             None => Ok(Ok(rule)),
             Some(limit) => Ok(Err(RuleMistake::Exceeds(limit))),

@@ -3,8 +3,10 @@
 
 use eventkey::Message;
 use model::Model;
+use rule_files::grammar::{
+    Kind, Meaning, Mistake, ReadError, Scope, ScopeError, find_mistakes, read_rule,
+};
 use rules::{Array, Rules, RulesParts, Statement};
-use rules_text::{Kind, Meaning, Mistake, ReadError, Scope, ScopeError, find_mistakes, read_rule};
 use smallvec::SmallVec;
 use std::alloc::Global;
 use std::test::Fail;

@@ -1,7 +1,7 @@
 use Rattle.std.proofs.Common.{◌≡◌, [], ap, arith, drop, subst, sym}
 use Rattle.std.proofs.lemmas.List.{drop_all}
 use Rattle.rule_files.specs.Digest.{ActFits, ActsFit, acts_bytes}
-use Rattle.rules_text.specs.Statements.{acts_of}
+use Rattle.rule_files.specs.Statements.{acts_of}
 use Rattle.rule_files.proofs.Hashed.{acts_count, ahead_ends, block_held, choice_act, choice_held, repetition_act, repetition_held, test_act, test_held}
 use Rattle.rule_files.proofs.digest.+put_statements.Goals as goal
 

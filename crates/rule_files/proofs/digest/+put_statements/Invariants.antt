@@ -1,7 +1,7 @@
 use Rattle.std.proofs.Common.{drop}
 use Rattle.rule_files.specs.Digest.{ActsFit, acts_bytes}
 use Rattle.rule_files.proofs.Hashed.{IsAhead}
-use Rattle.rules_text.specs.Statements.{acts_of}
+use Rattle.rule_files.specs.Statements.{acts_of}
 use Rattle.rule_files.proofs.digest.+put_statements.Given as goal
 
 abbrev pub invariant-put_block-statements : goal.invariant-put_block-statements

@@ -1,6 +1,6 @@
 use Rattle.std.proofs.Common.{[], ap, flat_map, map, string_bytes, ◌∙◌}
 use Rattle.sha2.specs.Sha256.{sha256}
-use Rattle.rules_text.specs.Statements.{acts_of}
+use Rattle.rule_files.specs.Statements.{acts_of}
 use Rattle.rule_files.specs.Arrays.{array_view}
 use Rattle.rule_files.specs.Digest.{block_bytes, digest_words, kept_bytes, list_bytes, meaning_bytes, number_bytes, own_name, table_bytes, text_bytes, words_of_digest}
 use Rattle.rule_files.proofs.Hashed.{joined6}

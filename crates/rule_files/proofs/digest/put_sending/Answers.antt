@@ -1,7 +1,7 @@
 use Rattle.std.proofs.Common.{subst}
 use Rattle.sha2.specs.Hashers.{Holds256}
 use Rattle.rule_files.specs.Digest.{tree_bytes}
-use Rattle.rules_text.specs.Grammar.{tree_of}
+use Rattle.rule_files.specs.Grammar.{tree_of}
 use Rattle.rule_files.proofs.Hashed.{joined6}
 use Rattle.rule_files.proofs.digest.put_sending.Goals as goal
 

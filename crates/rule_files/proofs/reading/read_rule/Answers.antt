@@ -1,7 +1,7 @@
 use Rattle.std.proofs.Common.{◌≡◌, rules}
 use Rattle.rule_files.specs.RuleFile.{parts_view}
 use Rattle.rules.specs.Limits.{Exceeds, IsWithin}
-use Rattle.rules_text.specs.declared.read.ReadError.TheVariants.{Mistaken}
+use Rattle.rule_files.specs.declared.grammar.read.ReadError.TheVariants.{Mistaken}
 use Rattle.rule_files.proofs.Seam.{no_rule, rule_exceeds, rule_is}
 use Rattle.rule_files.proofs.reading.read_rule.Goals as goal
 

@@ -1,0 +1,20 @@
+// Which text is which rule: names, numbers and signs, their meaning in a scope, and the grammar.
+
+mod lexemes;
+mod mending;
+mod mistakes;
+mod read;
+mod scope;
+mod sends;
+mod statements;
+mod stop;
+mod token;
+mod values;
+mod words;
+
+pub use lexemes::{Lexeme, Placed, tokens};
+pub use mistakes::{Kind, Mistake};
+pub use read::{ReadError, find_mistakes, read_rule};
+pub use scope::{Meaning, Scope, ScopeError};
+pub use stop::{Refusal, Stop, Wanted};
+pub use token::{Mark, Token};

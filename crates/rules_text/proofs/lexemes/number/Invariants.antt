@@ -1,6 +1,0 @@
-use Rattle.std.proofs.Common.{◌≡◌, drop, false}
-use Rattle.rules_text.specs.Lexical.{digits}
-use Rattle.rules_text.proofs.lexemes.number.Given as goal
-
-abbrev pub invariant-digits : goal.invariant-digits
-invariant-digits l = digits l.after_digit l.value (drop l.byte-index l.bytes) ≡ digits false 0 l.bytes

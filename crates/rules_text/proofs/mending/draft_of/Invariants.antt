@@ -1,5 +1,0 @@
-use Rattle.std.proofs.Common.{◌≤◌, length}
-use Rattle.rules_text.proofs.mending.draft_of.Given as goal
-
-abbrev pub invariant-turns : goal.invariant-turns
-invariant-turns l = length l.initial.found.items ≤ length l.found.items

@@ -1,6 +1,0 @@
-use Rattle.std.proofs.Common.{◌≡◌, drop}
-use Rattle.rules_text.specs.Scopes.{entries_of, lookup}
-use Rattle.rules_text.proofs.scope.find.Given as goal
-
-abbrev pub invariant-entries : goal.invariant-entries
-invariant-entries l = lookup l.name (entries_of (drop l.entry-index l.entries)) ≡ lookup l.name (entries_of l.entries)

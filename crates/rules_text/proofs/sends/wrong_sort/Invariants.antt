@@ -1,6 +1,0 @@
-use Rattle.std.proofs.Common.{◌≡◌, drop}
-use Rattle.rules_text.specs.Sends.{has_its_sort}
-use Rattle.rules_text.proofs.sends.wrong_sort.Given as goal
-
-abbrev pub invariant-tokens : goal.invariant-tokens
-invariant-tokens l = has_its_sort (drop l.i l.sending) ≡ has_its_sort l.sending

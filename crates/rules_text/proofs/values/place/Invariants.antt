@@ -1,9 +1,0 @@
-use Rattle.std.proofs.Common.{◌≡◌, drop}
-use Rattle.rules_text.specs.Grammar.{place_from}
-use Rattle.rules_text.proofs.values.place.Given as goal
-
-abbrev pub invariant-names : goal.invariant-names
-invariant-names l = record {
-  counted : l.place ≡ l.other-index;
-  rest : place_from l.place l.name (drop l.other-index l.names) ≡ place_from 0 l.name l.names;
-}
