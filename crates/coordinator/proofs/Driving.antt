@@ -6,12 +6,12 @@ use Rattle.std.proofs.lemmas.List.{map-append}
 use Rattle.commitlog.specs.declared.records.Entry.{Entry}
 use Rattle.disk.specs.Disk.{DiskState}
 use Rattle.model.specs.Meaning.{Meaning}
-use Rattle.protocol.proofs.Runs.{moves_are_sound, moves_made_are_sound, moves_made_join}
-use Rattle.protocol.specs.Moves.{Move, moves_made}
-use Rattle.protocol.specs.Moves.Move.{Checkpoint as CheckpointMove, Commit as CommitMove, Take as TakeMove}
-use Rattle.protocol.specs.Sound.{GoesOnFrom}
-use Rattle.protocol.specs.declared.Answer.{Answer}
-use Rattle.protocol.specs.declared.Answer.TheVariants.{AlreadyAt}
+use Rattle.gvt.proofs.Runs.{moves_are_sound, moves_made_are_sound, moves_made_join}
+use Rattle.gvt.specs.Moves.{Move, moves_made}
+use Rattle.gvt.specs.Moves.Move.{Checkpoint as CheckpointMove, Commit as CommitMove, Take as TakeMove}
+use Rattle.gvt.specs.Sound.{GoesOnFrom}
+use Rattle.gvt.specs.declared.Answer.{Answer}
+use Rattle.gvt.specs.declared.Answer.TheVariants.{AlreadyAt}
 use Rattle.recovery.proofs.Crashes.{followed_by}
 use Rattle.recovery.specs.Represents.{Recovers}
 use Rattle.wire.specs.Port.{PortState}

@@ -17,9 +17,9 @@ use Rattle.model.specs.World.{World}
 use Rattle.model.specs.declared.Outgoing.{Outgoing}
 use Rattle.process.specs.declared.Done.{Done}
 use Rattle.process.specs.Consistent.{AreConsistent}
-use Rattle.protocol.specs.Judged.{AreOfFront, early}
-use Rattle.protocol.specs.Moves.{merged, reported_before}
-use Rattle.protocol.specs.System.{reported_by, reported_messages, reported_sends}
+use Rattle.gvt.specs.Judged.{AreOfFront, early}
+use Rattle.gvt.specs.Moves.{merged, reported_before}
+use Rattle.gvt.specs.System.{reported_by, reported_messages, reported_sends}
 use Rattle.coordinator.specs.Judging.{Follow, IsAccepted, IsNext, Reports, Standing, after_report, last_of, standing}
 
 abbrev pub all_equal : Message → Message → Bool

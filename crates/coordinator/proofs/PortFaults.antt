@@ -4,8 +4,8 @@ use Rattle.std.proofs.lemmas.Bool.{cases_Bool}
 use Rattle.disk.specs.Disk.{DiskState}
 use Rattle.model.specs.Meaning.{Meaning}
 use Rattle.node.specs.declared.NodeFault.TheVariants as node
-use Rattle.protocol.specs.Moves.{Move}
-use Rattle.protocol.specs.Moves.Move.{Checkpoint, Commit, Post, Take}
+use Rattle.gvt.specs.Moves.{Move}
+use Rattle.gvt.specs.Moves.Move.{Checkpoint, Commit, Post, Take}
 use Rattle.wire.specs.Local.{Local, state_by}
 use Rattle.wire.specs.Port.{IsResourceFault, PortState}
 use Rattle.wire.specs.declared.port.PortFault.{PortFault}

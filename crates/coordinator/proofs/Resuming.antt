@@ -6,10 +6,10 @@ use Rattle.disk.specs.Disk.{DiskState, OnlyLooks}
 use Rattle.model.specs.Meaning.{Meaning}
 use Rattle.model.specs.Runner.{Simulation}
 use Rattle.model.specs.World.{IsUpto, World}
-use Rattle.protocol.proofs.Runs.{fronts_open, moves_made_are_sound}
-use Rattle.protocol.specs.Moves.{Move, moves_made}
-use Rattle.protocol.specs.System.{System, opened}
-use Rattle.protocol.specs.Sound.{IsSystem}
+use Rattle.gvt.proofs.Runs.{fronts_open, moves_made_are_sound}
+use Rattle.gvt.specs.Moves.{Move, moves_made}
+use Rattle.gvt.specs.System.{System, opened}
+use Rattle.gvt.specs.Sound.{IsSystem}
 use Rattle.recovery.specs.Replay.{IsReplayedTo, in_force}
 use Rattle.recovery.proofs.Crashes.{goes-under, looked-under}
 use Rattle.commitlog.specs.Log.{Opened}

@@ -3,8 +3,8 @@ use Rattle.std.specs.Prelude.{Bool, ◌||◌, Err, IfErr, IfOk, IsErrOf, List, O
 use Rattle.std.specs.Prelude.{false, length, map, take, true, ℕ, ◌<◌, ◌∷◌, ◌≡◌, ◌≤◌, ◌↔◌}
 use Rattle.disk.specs.Disk.{DiskState}
 use Rattle.model.specs.Meaning.{Meaning}
-use Rattle.protocol.specs.Moves.{Move, moves_made}
-use Rattle.protocol.specs.Sound.{GoesOnFrom}
+use Rattle.gvt.specs.Moves.{Move, moves_made}
+use Rattle.gvt.specs.Sound.{GoesOnFrom}
 use Rattle.wire.specs.Port.{PortState}
 use Rattle.coordinator.specs.Appending.{AppendsOnly, LeavesOldRecords, StaysDurable}
 use Rattle.coordinator.specs.Crashes.{IsTrusted, KeepsRepresentation, StaysWritten}
@@ -20,9 +20,9 @@ use Rattle.coordinator.specs.declared.SessionFault.{SessionFault}
 use Rattle.coordinator.specs.declared.SessionFault.TheVariants.{Disk, Spent}
 use Rattle.coordinator.specs.declared.Step.{Step}
 use Rattle.coordinator.specs.declared.Step.TheVariants.{JudgedCommit}
-use Rattle.protocol.specs.Moves.Move.{Commit as CommitMove, Take as TakeMove}
-use Rattle.protocol.specs.declared.Answer.{Answer}
-use Rattle.protocol.specs.declared.Answer.TheVariants.{AlreadyAt}
+use Rattle.gvt.specs.Moves.Move.{Commit as CommitMove, Take as TakeMove}
+use Rattle.gvt.specs.declared.Answer.{Answer}
+use Rattle.gvt.specs.declared.Answer.TheVariants.{AlreadyAt}
 
 -- These moves of the system state were made, one after another, and the session is consistent.
 pub record StepsAreMade (moves : List Move) (old new : Running) : Type 0 where

@@ -12,8 +12,8 @@ use Rattle.model.specs.World.{World, number_of, state_of}
 use Rattle.process.specs.declared.Done.{Done}
 use Rattle.coordinator.specs.declared.session.FrontView.{FrontView}
 use Rattle.process.specs.Consistent.{AreConsistent}
-use Rattle.protocol.specs.Moves.{reported_before}
-use Rattle.protocol.specs.System.{reported_by, reported_messages}
+use Rattle.gvt.specs.Moves.{reported_before}
+use Rattle.gvt.specs.System.{reported_by, reported_messages}
 
 -- the front that a view shows
 abbrev pub shown : FrontView → World

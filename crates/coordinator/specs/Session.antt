@@ -10,11 +10,11 @@ use Rattle.model.specs.Meaning.{Meaning}
 use Rattle.model.specs.World.{World}
 use Rattle.node.specs.declared.Parcel.{Parcel}
 use Rattle.process.specs.declared.Done.{Done}
-use Rattle.protocol.specs.System.{System, lows_of}
+use Rattle.gvt.specs.System.{System, lows_of}
 use Rattle.wire.specs.Port.{PortState, Stage, no_faults, nobody}
 use Rattle.wire.specs.Port.Stage.{Fresh, Idle, Posted}
-use Rattle.protocol.specs.Sound.{IsSystem}
-use Rattle.protocol.specs.Views.{node_view}
+use Rattle.gvt.specs.Sound.{IsSystem}
+use Rattle.gvt.specs.Views.{node_view}
 
 -- A session as contracts see it. The meaning of its model, the states of its ports and what a crash
 -- may leave of its disk are ghost values of those fields.

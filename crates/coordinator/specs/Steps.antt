@@ -12,17 +12,17 @@ use Rattle.eventkey.specs.Message.{IsRanged}
 use Rattle.model.specs.Meaning.{IsWords, Meaning}
 use Rattle.model.specs.World.{IsUpto}
 use Rattle.process.specs.declared.Done.{Done}
-use Rattle.protocol.specs.Judged.{AreOfFront}
+use Rattle.gvt.specs.Judged.{AreOfFront}
 use Rattle.gvt.specs.Picks.{are_distinct, can_pick}
 use Rattle.node.specs.declared.NodeFault.TheVariants as node
 use Rattle.node.specs.declared.Reply.{Reply}
-use Rattle.protocol.specs.Moves.{Move, answer_of, is_busy, merged, move, refusal, reported_before}
-use Rattle.protocol.specs.Moves.{reported_front}
-use Rattle.protocol.specs.Moves.Move.{Checkpoint as CheckpointMove, Commit as CommitMove}
-use Rattle.protocol.specs.Moves.Move.{Post as PostMove, Take as TakeMove}
-use Rattle.protocol.specs.Moves.Refusal.{NumberLimit as NumberLimitRefusal}
-use Rattle.protocol.specs.System.{System, nodes_of}
-use Rattle.protocol.specs.Replies.{names_there}
+use Rattle.gvt.specs.Moves.{Move, answer_of, is_busy, merged, move, refusal, reported_before}
+use Rattle.gvt.specs.Moves.{reported_front}
+use Rattle.gvt.specs.Moves.Move.{Checkpoint as CheckpointMove, Commit as CommitMove}
+use Rattle.gvt.specs.Moves.Move.{Post as PostMove, Take as TakeMove}
+use Rattle.gvt.specs.Moves.Refusal.{NumberLimit as NumberLimitRefusal}
+use Rattle.gvt.specs.System.{System, nodes_of}
+use Rattle.gvt.specs.Replies.{names_there}
 use Rattle.recovery.specs.Bodies.{events_body}
 use Rattle.recovery.specs.Checkpoints.{AreKept, checkpoint_body, checkpoint_of}
 use Rattle.wire.specs.Port.{IsResourceFault, PortState}
@@ -30,8 +30,8 @@ use Rattle.wire.specs.declared.port.PortFault.{PortFault}
 use Rattle.wire.specs.declared.port.PortFault.TheVariants.{Peer}
 use Rattle.coordinator.specs.Session.{IsConsistentSession, Running, Session, no_port, port_at}
 use Rattle.coordinator.specs.Session.{running, system_of}
-use Rattle.protocol.specs.declared.Answer.{Answer}
-use Rattle.protocol.specs.declared.Answer.TheVariants.{Taken}
+use Rattle.gvt.specs.declared.Answer.{Answer}
+use Rattle.gvt.specs.declared.Answer.TheVariants.{Taken}
 use Rattle.coordinator.specs.declared.SessionFault.{SessionFault}
 use Rattle.coordinator.specs.declared.SessionFault.TheVariants.{Busy, Disk, Full, Idle, NoMemory}
 use Rattle.coordinator.specs.declared.SessionFault.TheVariants.{NoSuchNode, NoSuchPick, NumberLimit}

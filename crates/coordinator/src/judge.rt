@@ -7,9 +7,9 @@ ghost use Rattle.eventkey.specs.Bag.{IsAscending, add_all};
 ghost use Rattle.eventkey.specs.Message.{IsAtMost, IsRanged, Message};
 ghost use Rattle.model.specs.Meaning.{IsWords};
 ghost use Rattle.process.specs.Consistent.{AreConsistent};
-ghost use Rattle.protocol.specs.Judged.{AreOfFront, early};
-ghost use Rattle.protocol.specs.Moves.{merged, reported_before};
-ghost use Rattle.protocol.specs.System.{reported_sends};
+ghost use Rattle.gvt.specs.Judged.{AreOfFront, early};
+ghost use Rattle.gvt.specs.Moves.{merged, reported_before};
+ghost use Rattle.gvt.specs.System.{reported_sends};
 ghost use Rattle.coordinator.specs.Judging.{Follow, IsAccepted, IsNextInWords, Reports};
 ghost use Rattle.coordinator.specs.Judging.{after_report, last_of, shown, standing};
 

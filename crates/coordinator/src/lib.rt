@@ -13,7 +13,7 @@ mod sessions;
 
 use eventkey::Listed;
 pub use extending::{Extended, extend};
-pub use protocol::Answer;
+pub use gvt::Answer;
 use recovery::RecoveryFault;
 pub use session::{FrontView, Session};
 pub use sessions::{

@@ -4,7 +4,7 @@ ghost use Rattle.std.specs.Prelude.{◌≡◌, ◌<◌, ◌≤◌, ◌^◌, map,
 ghost use Rattle.std.specs.List.{list_all};
 ghost use Rattle.node.specs.declared.Parcel.{Parcel};
 ghost use Rattle.wire.specs.Port.Stage.{Idle, Posted};
-ghost use Rattle.protocol.specs.Replies.{is_reported_there, names_there};
+ghost use Rattle.gvt.specs.Replies.{is_reported_there, names_there};
 ghost use Rattle.eventkey.specs.Message.{Message};
 ghost use Rattle.eventkey.specs.declared.Signed.{Signed};
 ghost use Rattle.coordinator.specs.Ports.{IsPost, IsTake, PortChanges};

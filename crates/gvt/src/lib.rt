@@ -1,5 +1,6 @@
 //! The ledger of a running simulation: what travels between its nodes, and the floor below which
-//! nothing rolls back (global virtual time: Jefferson 1985, Fujimoto 1990).
+//! nothing rolls back (global virtual time: Jefferson 1985, Fujimoto 1990); and the laws of the
+//! whole running system, over every list of its moves.
 #![tactic(auto)]
 
 ghost use Rattle.std.specs.Prelude.{◌≡◌, ◌<◌, ◌≤◌, ◌↔◌, ℕ, true, false, length, IfOk, OnOk, OnErr};
@@ -11,12 +12,17 @@ ghost use Rattle.gvt.specs.declared.LedgerFault.TheVariants.{NoMemory};
 
 mod account;
 mod accounts;
+mod laws;
 mod times;
 mod transit;
 
 use account::Account;
 use accounts::{note_answered, note_posted, opened};
 use eventkey::{Listed, Signed};
+pub use laws::{
+    law_of_commits, law_of_judged_commits, law_of_ledgers, law_of_moves, law_of_nodes,
+    law_of_openings, law_of_parcels, law_of_runs, optimistic_equals_sequential,
+};
 use node::{Parcel, Reply};
 use std::alloc::{AllocError, AllocFailed, Global};
 use std::marker::Model;
@@ -58,6 +64,35 @@ impl<T: Drop> From<AllocFailed<T>> for LedgerFault {
     fn from(_error: AllocFailed<T>) -> LedgerFault {
         LedgerFault::NoMemory
     }
+}
+
+/// The answer of a move.
+#[derive(Clone, Copy, Debug, PartialEq, Eq)]
+pub enum Answer {
+    /// A parcel with this floor, in ticks, was posted.
+    Posted {
+        floor: u64,
+    },
+    /// The node handled `ran` messages, sent `out` messages and antimessages, and reported
+    /// `fossils` handlings.
+    Taken {
+        ran: u32,
+        out: usize,
+        fossils: usize,
+    },
+    /// The front moved to the virtual time `g`, in ticks, by `events` events.
+    Committed {
+        g: u64,
+        events: usize,
+    },
+    /// There is nothing to commit: the front stays at the virtual time `g`, in ticks.
+    AlreadyAt {
+        g: u64,
+    },
+    /// The whole front, at the virtual time `g`, in ticks, is written as a checkpoint.
+    Checkpointed {
+        g: u64,
+    },
 }
 
 /// What travels between the nodes, what each node reported last, and the floor that follows from

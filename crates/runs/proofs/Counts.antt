@@ -16,9 +16,9 @@ use Rattle.runs.specs.Tallies.{AreCounted, CountsNothing, IsSized, IsTallied, Is
 use Rattle.runs.specs.declared.rounds.Plan.{Plan}
 use Rattle.runs.specs.declared.rounds.Round.{Round}
 use Rattle.runs.specs.declared.tally.Tally.{Tally}
-use Rattle.protocol.specs.Moves.Move.{Checkpoint, Commit, Take}
-use Rattle.protocol.specs.declared.Answer.{Answer}
-use Rattle.protocol.specs.declared.Answer.TheVariants.{AlreadyAt, Checkpointed, Committed, Posted, Taken}
+use Rattle.gvt.specs.Moves.Move.{Checkpoint, Commit, Take}
+use Rattle.gvt.specs.declared.Answer.{Answer}
+use Rattle.gvt.specs.declared.Answer.TheVariants.{AlreadyAt, Checkpointed, Committed, Posted, Taken}
 
 pub reported_more : (reported : ℕ) (ks ls : List Made) → reported_since reported (ks ++ ls) ≡ reported_since (reported_since reported ks) ls
 reported_more reported [] ls = refl

@@ -9,7 +9,7 @@ use Rattle.coordinator.specs.Drives.{Goes, IsStep, any_trusts}
 use Rattle.coordinator.specs.Opening.{AllFaithful}
 use Rattle.coordinator.specs.Session.{IsConsistentSession, Running, Session, system_of, running}
 use Rattle.coordinator.specs.Steps.{move_of, trusts}
-use Rattle.protocol.specs.Moves.{Move}
+use Rattle.gvt.specs.Moves.{Move}
 use Rattle.coordinator.specs.declared.SessionFault.{SessionFault}
 use Rattle.coordinator.specs.declared.Step.{Step}
 use Rattle.disk.specs.Disk.{DiskState}
@@ -19,10 +19,10 @@ use Rattle.runs.specs.declared.rounds.Plan.{Plan}
 use Rattle.eventkey.specs.declared.Signed.{Signed}
 use Rattle.model.specs.Meaning.{Meaning}
 use Rattle.model.specs.World.{IsUpto, World}
-use Rattle.protocol.proofs.Runs.{fronts_open}
-use Rattle.protocol.specs.Moves.{move}
-use Rattle.protocol.specs.System.{System}
-use Rattle.protocol.specs.declared.Answer.{Answer}
+use Rattle.gvt.proofs.Runs.{fronts_open}
+use Rattle.gvt.specs.Moves.{move}
+use Rattle.gvt.specs.System.{System}
+use Rattle.gvt.specs.declared.Answer.{Answer}
 use Rattle.wire.specs.Port.{PortState}
 
 pub on_ok : {T E A B : Type 0} (r : Result T E) → (A → B) → OnOk r A → OnOk r B

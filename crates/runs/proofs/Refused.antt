@@ -10,10 +10,10 @@ use Rattle.coordinator.specs.declared.Step.{Step}
 use Rattle.coordinator.specs.declared.Step.TheVariants as step
 use Rattle.disk.specs.Disk.{DiskState}
 use Rattle.model.specs.Meaning.{Meaning}
-use Rattle.protocol.specs.Moves.{Move}
-use Rattle.protocol.specs.Moves.Move.{Checkpoint, Commit, Post, Take}
-use Rattle.protocol.specs.declared.Answer.{Answer}
-use Rattle.protocol.specs.declared.Answer.TheVariants.{AlreadyAt}
+use Rattle.gvt.specs.Moves.{Move}
+use Rattle.gvt.specs.Moves.Move.{Checkpoint, Commit, Post, Take}
+use Rattle.gvt.specs.declared.Answer.{Answer}
+use Rattle.gvt.specs.declared.Answer.TheVariants.{AlreadyAt}
 use Rattle.wire.specs.Port.{PortState}
 use Rattle.runs.proofs.Drives.{steps_join}
 use Rattle.std.specs.Prelude.{None, Option, Some, get_or}

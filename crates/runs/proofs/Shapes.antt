@@ -4,8 +4,8 @@ use Rattle.std.proofs.lemmas.Bool.{cases_Bool, eqb-true}
 use Rattle.std.proofs.lemmas.List.{map-append}
 use Rattle.coordinator.specs.Steps.{move_of}
 use Rattle.eventkey.specs.declared.Signed.{Signed}
-use Rattle.protocol.specs.Moves.{Move}
-use Rattle.protocol.specs.Moves.Move.{Post, Take}
+use Rattle.gvt.specs.Moves.{Move}
+use Rattle.gvt.specs.Moves.Move.{Post, Take}
 use Rattle.std.specs.Prelude.{None, Option, Some, get_or, replicate}
 use Rattle.runs.specs.Driver.{AreAsked, AreFirst, AreNext, ArePosts, AreRounds, AreTurns, IsBudget, IsNext, IsPost, IsPostIf, IsRound, IsTurn, Made, commits_in, goes_on, moves_of, outstanding_after, places_for, reported_since, round_after, takes_of}
 use Rattle.runs.specs.declared.rounds.Plan.{Plan}

@@ -6,8 +6,8 @@ use Rattle.runs.specs.Driver.{AreRoundsOfRun, IsUnfinished, Made, answers_of, mo
 use Rattle.runs.specs.declared.rounds.Plan.{Plan}
 use Rattle.model.specs.Meaning.{Meaning}
 use Rattle.model.specs.World.{World}
-use Rattle.protocol.specs.Moves.{moves_made}
-use Rattle.protocol.specs.System.{System, opened}
+use Rattle.gvt.specs.Moves.{moves_made}
+use Rattle.gvt.specs.System.{System, opened}
 use Rattle.recovery.specs.Replay.{IsReplayedTo}
 
 pub unfinished : (m : Meaning) (end : ℕ) (plan : Plan) (image : List (List ℕ)) (first : World) (begun made : Running) (steps : List Made) → IsReplayedTo m end image first → begun.meaning ≡ m → begun.end ≡ end

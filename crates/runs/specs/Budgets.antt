@@ -4,8 +4,8 @@ use Rattle.std.specs.Prelude.{Bool, ℕ, if◌then◌else◌, max, min, nat_le, 
 use Rattle.runs.specs.declared.budgets.NodeBudget.{NodeBudget}
 use Rattle.runs.specs.declared.rounds.Batch.{Batch}
 use Rattle.runs.specs.declared.rounds.Batch.TheVariants.{Adjusting, Fixed}
-use Rattle.protocol.specs.declared.Answer.{Answer}
-use Rattle.protocol.specs.declared.Answer.TheVariants.{Taken}
+use Rattle.gvt.specs.declared.Answer.{Answer}
+use Rattle.gvt.specs.declared.Answer.TheVariants.{Taken}
 
 -- a sum over takes, each of which subtracts an eighth before it adds its own number; it stops at
 -- the largest number of 64 bits

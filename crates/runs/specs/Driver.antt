@@ -30,11 +30,11 @@ use Rattle.eventkey.specs.declared.Signed.{Signed}
 use Rattle.model.specs.Meaning.{Meaning}
 use Rattle.model.specs.World.{IsUpto, World}
 use Rattle.node.specs.Node.{sits_on}
-use Rattle.protocol.specs.Moves.{Move, answer_of, move}
-use Rattle.protocol.specs.Moves.Move.{Commit, Post, Take}
-use Rattle.protocol.specs.System.{System, opened}
-use Rattle.protocol.specs.declared.Answer.{Answer}
-use Rattle.protocol.specs.declared.Answer.TheVariants.{Posted, Taken}
+use Rattle.gvt.specs.Moves.{Move, answer_of, move}
+use Rattle.gvt.specs.Moves.Move.{Commit, Post, Take}
+use Rattle.gvt.specs.System.{System, opened}
+use Rattle.gvt.specs.declared.Answer.{Answer}
+use Rattle.gvt.specs.declared.Answer.TheVariants.{Posted, Taken}
 use Rattle.recovery.specs.Replay.{IsReplayedTo}
 use Rattle.wire.specs.Port.{PortState}
 

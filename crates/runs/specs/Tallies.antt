@@ -8,8 +8,8 @@ use Rattle.runs.specs.declared.rounds.Batch.{Batch}
 use Rattle.runs.specs.declared.rounds.Plan.{Plan}
 use Rattle.runs.specs.declared.tally.Tally.{Tally}
 use Rattle.runs.specs.declared.tally.Turn.{Turn}
-use Rattle.protocol.specs.declared.Answer.{Answer}
-use Rattle.protocol.specs.declared.Answer.TheVariants.{Taken}
+use Rattle.gvt.specs.declared.Answer.{Answer}
+use Rattle.gvt.specs.declared.Answer.TheVariants.{Taken}
 
 -- the count of a node after the answer to its take
 abbrev pub handled_after : ℕ → Answer → ℕ

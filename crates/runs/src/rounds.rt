@@ -8,8 +8,8 @@ ghost use Rattle.runs.specs.Driver.{IsPostIf, IsRefusedIn, IsRound, IsTurn, clos
 ghost use Rattle.runs.specs.Driver.{Keeps, checkpoint_by, commit_by, kept_after, moves_of, steps_of};
 ghost use Rattle.runs.specs.Driver.{takes_of, trusts_by};
 ghost use Rattle.runs.specs.Tallies.{CountsNothing, IsSized, IsTallied, Tallied};
-ghost use Rattle.protocol.specs.Moves.Move.{Checkpoint as CheckpointMove, Commit as CommitMove};
-ghost use Rattle.protocol.specs.Moves.Move.{Take as TakeMove};
+ghost use Rattle.gvt.specs.Moves.Move.{Checkpoint as CheckpointMove, Commit as CommitMove};
+ghost use Rattle.gvt.specs.Moves.Move.{Take as TakeMove};
 ghost use Rattle.coordinator.specs.Steps.{move_of, trusts};
 ghost use Rattle.coordinator.specs.declared.SessionFault.{SessionFault};
 

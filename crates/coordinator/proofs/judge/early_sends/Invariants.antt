@@ -1,7 +1,7 @@
 use Rattle.std.proofs.Common.{◌≡◌, ◌++◌, drop}
-use Rattle.protocol.specs.Judged.{early}
-use Rattle.protocol.specs.Moves.{reported_before}
-use Rattle.protocol.specs.System.{reported_sends}
+use Rattle.gvt.specs.Judged.{early}
+use Rattle.gvt.specs.Moves.{reported_before}
+use Rattle.gvt.specs.System.{reported_sends}
 use Rattle.coordinator.proofs.judge.early_sends.Given as goal
 
 abbrev pub invariant-loop-done : goal.invariant-loop-done

@@ -2,9 +2,9 @@ use Rattle.std.proofs.Common.{List, [], ap, sym, ◌++◌, ◌∙◌}
 use Rattle.std.proofs.lemmas.Slice.Eq.{slice_eq-Decides}
 use Rattle.eventkey.specs.Bag.{add_all}
 use Rattle.eventkey.specs.Message.{Message}
-use Rattle.protocol.specs.Judged.{early}
-use Rattle.protocol.specs.Moves.{reported_before}
-use Rattle.protocol.specs.System.{reported_sends}
+use Rattle.gvt.specs.Judged.{early}
+use Rattle.gvt.specs.Moves.{reported_before}
+use Rattle.gvt.specs.System.{reported_sends}
 use Rattle.coordinator.proofs.Judges.{both-early, same_message}
 use Rattle.coordinator.proofs.judge.is_whole.Goals as goal
 

@@ -1,5 +1,5 @@
 use Rattle.std.proofs.Common.{drop, ◌++◌, ◌≡◌}
-use Rattle.protocol.specs.Judged.{early}
+use Rattle.gvt.specs.Judged.{early}
 use Rattle.coordinator.proofs.judge.push_early.Given as goal
 
 abbrev pub invariant-loop-message : goal.invariant-loop-message

@@ -8,7 +8,7 @@ use Rattle.coordinator.specs.Crashes.{IsTrusted}
 use Rattle.coordinator.specs.Opening.{LeavesExactly}
 use Rattle.coordinator.specs.declared.SessionFault.TheVariants.{Port, Reports}
 use Rattle.model.specs.World.{World}
-use Rattle.protocol.specs.System.{opened as opened_system}
+use Rattle.gvt.specs.System.{opened as opened_system}
 use Rattle.runs.proofs.Causes.{cause_of, over_of}
 use Rattle.runs.proofs.Drives.{answered, front_upto, goes_by, in_transit, may_trust}
 use Rattle.runs.proofs.Faults.{opening_faults, opening_reports, step_faults, step_reports}

@@ -5,7 +5,7 @@ use Rattle.runs.proofs.Counts.{commit_kept, commit_tallied}
 use Rattle.runs.proofs.Drives.{driven_so, on_ok, one_step_by, step-keeps, then_by, then_represents}
 use Rattle.runs.proofs.Refused.{made_by, refused_after, of_step, refused_at_once, same_steps}
 use Rattle.coordinator.specs.declared.Step.{Step}
-use Rattle.protocol.specs.declared.Answer.TheVariants.{AlreadyAt}
+use Rattle.gvt.specs.declared.Answer.TheVariants.{AlreadyAt}
 use Rattle.runs.proofs.Counts.{steps_more}
 use Rattle.std.proofs.Common.{◌++◌, ap, ap₂}
 use Rattle.runs.proofs.rounds.commit.Goals as goal

@@ -5,7 +5,7 @@ use Rattle.runs.specs.Tallies.{CountsNothing}
 use Rattle.runs.proofs.Counts.{checkpoint_counts}
 use Rattle.runs.proofs.Drives.{one_step_by, step-keeps, stood-keeps}
 use Rattle.runs.proofs.Refused.{of_step, refused_at_once}
-use Rattle.protocol.specs.declared.Answer.TheVariants.{AlreadyAt}
+use Rattle.gvt.specs.declared.Answer.TheVariants.{AlreadyAt}
 use Rattle.runs.proofs.rounds.keep.Goals as goal
 
 pub returns-in_ok-step-clause-driven : goal.returns-in_ok-step-clause-driven

@@ -1,6 +1,6 @@
 use Rattle.std.proofs.Common.{◌≡◌, [], ◌∷◌, ℕ, Option, OnOk, subst}
 use Rattle.std.specs.Prelude.{Some}
-use Rattle.protocol.specs.Moves.Move.{Take}
+use Rattle.gvt.specs.Moves.Move.{Take}
 use Rattle.runs.specs.Driver.{IsDrivenBy, IsNext, IsPostIf, IsRefusedIn, goes_on, moves_of, trusts_by}
 use Rattle.runs.specs.Tallies.{Tallied}
 use Rattle.runs.proofs.Counts.{both_tallied}

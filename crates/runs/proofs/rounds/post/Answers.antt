@@ -6,7 +6,7 @@ use Rattle.runs.proofs.Counts.{not_counted}
 use Rattle.runs.proofs.Drives.{one_step_by, step-keeps, stood-keeps}
 use Rattle.runs.proofs.Shapes.{all_picked, is_post}
 use Rattle.runs.proofs.Refused.{of_step, refused_at_once}
-use Rattle.protocol.specs.declared.Answer.TheVariants.{AlreadyAt}
+use Rattle.gvt.specs.declared.Answer.TheVariants.{AlreadyAt}
 use Rattle.runs.proofs.rounds.post.Goals as goal
 
 pub returns-clause-driven : goal.returns-clause-driven

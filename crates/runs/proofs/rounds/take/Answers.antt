@@ -1,11 +1,11 @@
 use Rattle.std.proofs.Common.{◌≡◌, [], ◌∷◌, arith, refl}
-use Rattle.protocol.specs.Moves.Move.{Take}
+use Rattle.gvt.specs.Moves.Move.{Take}
 use Rattle.runs.specs.Driver.{moves_of, trusts_by}
 use Rattle.runs.specs.Tallies.{Tallied}
 use Rattle.runs.proofs.Counts.{take_counted}
 use Rattle.runs.proofs.Drives.{one_step_by, step-keeps}
 use Rattle.runs.proofs.Refused.{of_step, refused_at_once}
-use Rattle.protocol.specs.declared.Answer.TheVariants.{AlreadyAt}
+use Rattle.gvt.specs.declared.Answer.TheVariants.{AlreadyAt}
 use Rattle.runs.proofs.rounds.take.Goals as goal
 
 pub returns-clause-driven : goal.returns-clause-driven

@@ -1,5 +1,5 @@
 use Rattle.std.proofs.Common.{◌≡◌, ◌+◌, [], ◌∷◌, arith, refl, subst}
-use Rattle.protocol.specs.Moves.Move.{Take}
+use Rattle.gvt.specs.Moves.Move.{Take}
 use Rattle.runs.specs.Driver.{IsDrivenBy, moves_of, takes_of, trusts_by}
 use Rattle.runs.specs.Tallies.{Tallied}
 use Rattle.runs.proofs.Counts.{both_tallied, no_move}

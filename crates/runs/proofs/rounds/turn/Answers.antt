@@ -1,5 +1,5 @@
 use Rattle.std.proofs.Common.{◌≡◌, [], ◌∷◌}
-use Rattle.protocol.specs.Moves.Move.{Take}
+use Rattle.gvt.specs.Moves.Move.{Take}
 use Rattle.runs.specs.Driver.{IsPost, IsTurn, moves_of}
 use Rattle.runs.proofs.Counts.{both_tallied}
 use Rattle.runs.proofs.Drives.{driven_so, on_ok, then_by, then_represents}
