@@ -196,7 +196,8 @@ const WITHIN_THE_LONG: u32 = 17;
 /// Whether a sector that was not read is refused, and no other.
 fn is_refused(alloc: Global) -> Result<bool, Fail> {
     let image = image_of(alloc, "long checkpoint")?;
-    let (Some(mut part), read) = part_of(alloc, image.as_slice())? else {
+    let (part, read) = part_of(alloc, image.as_slice())?;
+    let Some(mut part) = part else {
         return Ok(false);
     };
     let mut sector = [0; 512];
