@@ -1,3 +1,4 @@
+mod Continuing
 mod Items
 mod Right
 mod Texts

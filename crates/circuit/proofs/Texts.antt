@@ -1,14 +1,20 @@
 -- One text appended to another, and events one after another.
-use Rattle.std.specs.Prelude.{◌≡◌, ◌+◌, ◌<◌, ◌≤◌, ℕ, zero, suc, List, [], ◌∷◌, ◌++◌, Result, Ok, Err, OnOk}
+use Rattle.std.specs.Prelude.{◌≡◌, ◌+◌, ◌<◌, ◌≤◌, ℕ, List, [], ◌++◌, Option, Result, Ok, Err, OnOk}
 use Rattle.std.specs.Prelude.{drop, get_or, length, map, nat_lt, set}
 use Rattle.std.specs.List.{AllByRecursion as Every}
 use Rattle.std.proofs.Common.{ap, ap₂, append_assoc, arith, lit≤, subst, sym, ◌∙◌}
 use Rattle.std.proofs.lemmas.Bool.{cond-true, lt-ltb}
-use Rattle.std.proofs.lemmas.List.{drop_all, drop_more, length-append, length-map, length-set, map-set, get_or-map}
-use Rattle.eventkey.proofs.Lists.{Every-append, Every-get_or, Every-set}
+use Rattle.std.proofs.lemmas.List.{drop_all, drop_more, length-map, length-set, map-set, get_or-map}
+use Rattle.eventkey.proofs.Lists.{Every-get_or, Every-set, Every-weaker}
 use Rattle.eventkey.specs.Message.{Message}
-use Rattle.circuit.specs.Circuit.{Netlist, circuit_meaning}
-use Rattle.circuit.specs.Wave.{changes_text, event_text, events_text, starts, state_after, states_after, time_text}
+use Rattle.model.proofs.Worlds.{opening_IsWorld}
+use Rattle.model.specs.Lawful.{continued_lawful}
+use Rattle.model.specs.Meaning.{CanBegin, IsWords}
+use Rattle.model.specs.Origins.{continued}
+use Rattle.model.specs.declared.origin.Origin.{Origin}
+use Rattle.circuit.specs.Circuit.{IsNetlist, Netlist, circuit_meaning}
+use Rattle.circuit.specs.CircuitLaws.{circuit_lawful}
+use Rattle.circuit.specs.Wave.{changes_text, event_text, events_text, first_states, state_after, state_text, states_after, states_text, time_text}
 
 pub more : (old a b : List ℕ) {mid new : List ℕ} → mid ≡ old ++ a → new ≡ mid ++ b → new ≡ old ++ (a ++ b)
 more old a b h k = k ∙ ap (λ s. s ++ b) h ∙ append_assoc old a b
@@ -22,20 +28,28 @@ then_more old a b new (Err e) h k = tt
 abbrev pub IsShort : List ℕ → Type 0
 IsShort state = length state ≤ 16
 
-pub length-starts : (n : Netlist) (k : ℕ) → length (starts n k) ≡ k
-length-starts n zero = omega arith
-length-starts n (suc k) = omega (arith, length-append (starts n k) ((circuit_meaning n).start_state k ∷ []), length-starts n k)
-
-pub short-starts : (n : Netlist) (k : ℕ) → Every IsShort (starts n k)
-short-starts n zero = tt
-short-starts n (suc k) = Every-append IsShort (starts n k) ((circuit_meaning n).start_state k ∷ []) (short-starts n k) (lit≤ tt, tt)
-
 module _ {X : Type 0} (f : X → List ℕ) where
   pub short_at : (xs : List X) (i : ℕ) (d : X) → i < length xs → Every IsShort (map f xs) → IsShort (f (get_or xs i d))
   short_at xs i d l h = subst IsShort (get_or-map f xs i d [] l) (Every-get_or IsShort (map f xs) i [] (rw length-map l) h)
 
-  pub begun_so : (n : Netlist) (k : ℕ) (xs : List X) → map f xs ≡ starts n k → (length xs ≡ k) × Every IsShort (map f xs)
-  begun_so n k xs is = (sym (length-map xs f) ∙ ap length is ∙ length-starts n k, subst (Every IsShort) (sym is) (short-starts n k))
+  -- each simulation begins with a state for each process, of at most 16 words
+  pub begun_so : (n : Netlist) (o : Option Origin) → IsNetlist n → CanBegin (length n.gates) o → (xs : List X) → map f xs ≡ first_states n o → (length xs ≡ length n.gates) × Every IsShort (map f xs)
+  begun_so n o good can xs is =
+      let m = continued (circuit_meaning n) o in
+      let begun = opening_IsWorld m (continued_lawful (circuit_meaning n) o (circuit_lawful n good) can) in
+      (sym (length-map xs f) ∙ ap length is ∙ begun.states, subst (Every IsShort) (sym is) (Every-weaker IsWords IsShort (λ s h. h.0) (first_states n o) begun.words))
+
+  -- one more state
+  pub put_values : (xs : List X) (i : ℕ) (x : X) → i < length xs → x ≡ get_or xs i x → (before now all : List ℕ) → now ≡ before ++ state_text i (f x)
+      → before ++ states_text i (drop i (map f xs)) ≡ all → now ++ states_text (i + 1) (drop (i + 1) (map f xs)) ≡ all
+  put_values xs i x inside is before now all put so_far =
+      let there : i < length (map f xs) = rw length-map inside in
+      let next : states_text i (drop i (map f xs)) ≡ state_text i (f x) ++ states_text (i + 1) (drop (i + 1) (map f xs)) =
+      ap (states_text i) (drop_more (map f xs) i [] there)
+      ∙ ap (λ s. state_text i s ++ states_text (i + 1) (drop (i + 1) (map f xs))) (get_or-map f xs i x [] inside ∙ ap f (sym is)) in
+      ap (λ s. s ++ states_text (i + 1) (drop (i + 1) (map f xs))) put
+      ∙ append_assoc before (state_text i (f x)) (states_text (i + 1) (drop (i + 1) (map f xs)))
+      ∙ ap (λ s. before ++ s) (sym next) ∙ so_far
 
   module _ (n : Netlist) (states : List X) (x : Message) where
     pub kept_so : (k : ℕ) (new : List X) → map f new ≡ states_after n (map f states) x → length states ≡ k → Every IsShort (map f states) → (length new ≡ k) × Every IsShort (map f new)

@@ -1,12 +1,16 @@
 -- The wave of a circuit: a value change dump (VCD: IEEE 1364-2005, clause 18) of the pins and the
 -- output of each gate. These are words 0 to 3 of the state of its process, as the model's meaning
 -- computes them from the events of a log.
-use Rattle.std.specs.Prelude.{ℕ, zero, suc, List, [], ◌∷◌, ◌++◌, ◌==◌, ◌&&◌, ◌||◌, Bool, false}
+use Rattle.std.specs.Prelude.{ℕ, zero, suc, List, [], ◌∷◌, ◌++◌, ◌+◌, ◌==◌, ◌&&◌, ◌||◌, Bool}
+use Rattle.std.specs.Prelude.{◌≡◌, ◌<◌, ◌≤◌, ◌^◌, Option, None}
 use Rattle.std.specs.Prelude.{codes, decimal, get_or, if◌then◌else◌, length, nat_le, nat_lt, set}
 use Rattle.std.specs.Prelude.{slice_index}
-use Rattle.std.specs.List.{list_all}
+use Rattle.std.specs.List.{list_all, AllByRecursion as Every}
 use Rattle.eventkey.specs.Message.{Message}
-use Rattle.circuit.specs.Circuit.{Netlist, circuit_meaning}
+use Rattle.model.specs.Origins.{continued, from_world}
+use Rattle.model.specs.World.{IsUpto, World, origin_of}
+use Rattle.model.specs.declared.origin.Origin.{Origin}
+use Rattle.circuit.specs.Circuit.{IsNetlist, Netlist, circuit_meaning}
 
 -- 1. Names
 
@@ -69,14 +73,10 @@ state_text lp state =
     ++ value_text (codes "q") lp (slice_index state 1) ++ value_text (codes "r") lp
     (slice_index state 2)
 
--- the start states of the first `lp` processes
-abbrev pub starts : Netlist → ℕ → List (List ℕ)
-starts n zero = []
-starts n (suc lp) = starts n lp ++ (circuit_meaning n).start_state lp ∷ []
-
-abbrev pub starts_text : Netlist → ℕ → List ℕ
-starts_text n zero = []
-starts_text n (suc lp) = starts_text n lp ++ state_text lp ((circuit_meaning n).start_state lp)
+-- the values of all signals of gates with these states, the first of which is gate `lp`
+abbrev pub states_text : ℕ → List (List ℕ) → List ℕ
+states_text lp [] = []
+states_text lp (state ∷ states) = state_text lp state ++ states_text (lp + 1) states
 
 -- the value of a signal, if it changes
 abbrev pub change_text : List ℕ → ℕ → ℕ → ℕ → List ℕ
@@ -102,28 +102,66 @@ abbrev pub event_text : Netlist → List (List ℕ) → Message → List ℕ
 event_text n states x = if nat_lt x.to (length states)
     then changes_text x.to (get_or states x.to []) (state_after n states x) else []
 
+-- an event in a wave: its time, and the values of the signals that change
+pub record Change : Type 0 where
+  pub time : ℕ
+  pub lines : List ℕ
+
+-- the changes at the events of a log, in order, from these states of the processes
+abbrev pub changes_of : Netlist → List (List ℕ) → List Message → List Change
+changes_of n states [] = []
+changes_of n states (x ∷ xs) =
+    record { time = x.time; lines = event_text n states x }
+    ∷ changes_of n (states_after n states x) xs
+
 -- a time that differs from the last one
 abbrev pub time_text : ℕ → ℕ → List ℕ
 time_text last time = if last == time then [] else codes "#" ++ decimal time ++ codes "\n"
 
--- the changes at the events, in order, and the time of the end
+-- changes, each behind its time, and the time of the end
+abbrev pub dated_text : ℕ → ℕ → List Change → List ℕ
+dated_text last end [] = time_text last end
+dated_text last end (c ∷ cs) = time_text last c.time ++ c.lines ++ dated_text c.time end cs
+
 abbrev pub events_text : Netlist → List (List ℕ) → ℕ → ℕ → List Message → List ℕ
-events_text n states last end [] = time_text last end
-events_text n states last end (x ∷ xs) =
-    time_text last x.time ++ event_text n states x
-    ++ events_text n (states_after n states x) x.time end xs
+events_text n states last end log = dated_text last end (changes_of n states log)
 
 -- 5. The whole
 
 abbrev pub head_text : List ℕ
 head_text = codes "$timescale 1 ns $end\n$scope module circuit $end\n"
 
-abbrev pub between_text : List ℕ
-between_text = codes "$upscope $end\n$enddefinitions $end\n#0\n$dumpvars\n"
+-- the end of the declarations, and the time of the first values
+abbrev pub between_text : ℕ → List ℕ
+between_text from =
+    codes "$upscope $end\n$enddefinitions $end\n#" ++ decimal from ++ codes "\n$dumpvars\n"
 
--- the wave up to a time, from the events before it
-abbrev pub wave_text : Netlist → List (List ℕ) → ℕ → List Message → List ℕ
-wave_text n names time log =
-    head_text ++ declared_gates names (length n.gates) ++ between_text
-    ++ starts_text n (length n.gates) ++ codes "$end\n"
-    ++ events_text n (starts n (length n.gates)) 0 time log
+-- The wave that begins at time `from` with the values of these states, up to a time, from the
+-- events in between.
+abbrev pub wave_text : Netlist → List (List ℕ) → List (List ℕ) → ℕ → ℕ → List Message → List ℕ
+wave_text n names states from time log =
+    head_text ++ declared_gates names (length n.gates) ++ between_text from
+    ++ states_text 0 states ++ codes "$end\n" ++ events_text n states from time log
+
+-- The states with which a simulation begins: those of the origin, if it goes on from another one,
+-- and otherwise those in which the gates start.
+abbrev pub first_states : Netlist → Option Origin → List (List ℕ)
+first_states n o = (origin_of (continued (circuit_meaning n) o)).states
+
+-- 6. The wave of a part
+
+-- The changes of the whole simulation are, before g0, those of its part v, and from g0 on those of
+-- the part w that goes on from v.
+pub record ShowsPart (n : Netlist) (g0 : ℕ) (v w : World) : Type 0 where
+  pub joined : changes_of n (first_states n None) (v.log ++ w.log)
+      ≡ changes_of n (first_states n None) v.log ++ changes_of n v.states w.log
+  pub before : Every (λ (c : Change). c.time < g0) (changes_of n (first_states n None) v.log)
+  pub behind : Every (λ (c : Change). g0 ≤ c.time) (changes_of n v.states w.log)
+
+-- Let v be the simulation of a circuit up to g0, and w the one that goes on from v, up to g. The
+-- wave of w, which begins at g0 with the values of the states of v, has exactly the changes that
+-- the wave of the whole simulation has from g0 on.
+abbrev pub WaveOfPart : Type 0
+WaveOfPart = (n : Netlist) (end g0 g : ℕ) (v w : World) → IsNetlist n → end ≤ 2 ^ 40 →
+    IsUpto (circuit_meaning n) end g0 v → IsUpto (from_world (circuit_meaning n) v) end g w →
+    ShowsPart n g0 v w

@@ -9,4 +9,4 @@ mod waves;
 pub use circuit::Circuit;
 pub use circuit_file::CIRCUIT_KEYS;
 pub use parts::{Gate, Wire};
-pub use waves::wave;
+pub use waves::{law_of_waves, wave};

@@ -1,24 +1,33 @@
 // The wave of a circuit, as a value change dump.
 
-ghost use Rattle.std.specs.Prelude.{◌≡◌, ◌≤◌, ◌<◌, ◌++◌, List, ℕ, codes, decimal, length, map};
+ghost use Rattle.std.specs.Prelude.{◌≡◌, ◌≤◌, ◌<◌, ◌^◌, ◌++◌, List, ℕ, codes, decimal, length, map};
 ghost use Rattle.std.specs.Prelude.{IfOk, OnOk, slice_index, string_bytes};
 ghost use Rattle.std.specs.List.{list_all, AllByRecursion as Every};
-ghost use Rattle.circuit.specs.Circuit.{netlist_of};
-ghost use Rattle.circuit.specs.Wave.{begun_gate, change_text, changes_text, declared_gate};
-ghost use Rattle.circuit.specs.Wave.{declared_gates, declared_signal, declared_signals, named};
-ghost use Rattle.circuit.specs.Wave.{event_text, events_text, is_letter, is_simple};
-ghost use Rattle.circuit.specs.Wave.{is_word, name_text, starts, starts_text, state_text};
-ghost use Rattle.circuit.specs.Wave.{states_after, time_text, value_text, wave_text};
+ghost use Rattle.std.specs.Option.{option_map};
+ghost use Rattle.model.specs.Meaning.{CanBegin};
+ghost use Rattle.model.specs.World.{below};
+ghost use Rattle.circuit.specs.Circuit.{circuit_meaning, netlist_of};
+ghost use Rattle.circuit.specs.Wave.{begun_gate, between_text, change_text, changes_text};
+ghost use Rattle.circuit.specs.Wave.{declared_gate, declared_gates, declared_signal};
+ghost use Rattle.circuit.specs.Wave.{declared_signals, event_text, events_text, first_states};
+ghost use Rattle.circuit.specs.Wave.{is_letter, is_simple, is_word, name_text, named};
+ghost use Rattle.circuit.specs.Wave.{state_text, states_after, states_text, time_text};
+ghost use Rattle.circuit.specs.Wave.{value_text, wave_text, WaveOfPart};
 
 use crate::circuit::Circuit;
 use eventkey::Message;
 use itoa::Buffer;
-use model::{Model as Simulated, Words};
+use model::{Model as Simulated, Origin, SavedState, Words};
 use std::alloc::{AllocError, Global};
 
 /// Returns the wave of a circuit up to a time, in ticks, as a text that programs such as GTKWave
 /// show: a value change dump (VCD, IEEE 1364-2005, clause 18). `log` has the events before that
 /// time.
+///
+/// A wave from the start has no `origin`, and `from` is 0. That of a simulation which goes on from
+/// another one begins with the values that the states of its origin give, at `from`, the tick from
+/// which it goes on; then it has the changes at and after that tick, and `log` only their events
+/// ([`law_of_waves`](crate::law_of_waves)).
 ///
 /// A gate is a scope with its name, or `gateN` if it has none, and four signals: `output`, which
 /// follows its pins at once, and `pin0` to `pin2`, which follow the outputs wired to them after the
@@ -27,27 +36,77 @@ use std::alloc::{AllocError, Global};
 pub fn wave(
     alloc: Global,
     circuit: &Circuit,
+    origin: Option<&Origin>,
+    from: u64,
     time: u64,
     log: &[Message],
 ) -> Result<String, AllocError>
+    requires { CanBegin (length circuit.now.gates.items) (option_map (λ o. o.now) origin) }
     ensures { IfOk result (λ text. string_bytes text
         ≡ wave_text (netlist_of circuit.now.gates.items circuit.now.wires.items circuit.now.digest)
-        (map string_bytes circuit.now.names.items) time log.now) }
+        (map string_bytes circuit.now.names.items)
+        (first_states (netlist_of circuit.now.gates.items circuit.now.wires.items
+        circuit.now.digest) (option_map (λ o. o.now) origin.entry)) from time log.now) }
 {
+    let mut states = first_states(alloc, circuit, origin)?;
     let mut text = String::new(alloc);
     put(
         "$timescale 1 ns $end\n$scope module circuit $end\n",
         &mut text,
     )?;
     put_declarations(circuit, &mut text)?;
-    put(
-        "$upscope $end\n$enddefinitions $end\n#0\n$dumpvars\n",
-        &mut text,
-    )?;
-    let mut states = put_starts(alloc, circuit, &mut text)?;
+    put_between(from, &mut text)?;
+    put_states(states.as_slice(), &mut text)?;
     put("$end\n", &mut text)?;
-    put_events(alloc, circuit, &mut states, time, log, &mut text)?;
+    put_events(alloc, circuit, &mut states, from, time, log, &mut text)?;
     Ok(text)
+}
+
+/// States that the wave of a simulation which goes on from another one has exactly the changes that
+/// the wave of the whole simulation has from there on.
+pub fn law_of_waves()
+    ensures { WaveOfPart }
+{}
+
+/// Returns the states with which a simulation begins.
+fn first_states(
+    alloc: Global,
+    circuit: &Circuit,
+    origin: Option<&Origin>,
+) -> Result<Vec<Words>, AllocError>
+    ensures { IfOk result (λ states. map (λ s. s.items) states.items
+        ≡ first_states (netlist_of circuit.now.gates.items circuit.now.wires.items
+        circuit.now.digest) (option_map (λ o. o.now) origin.entry)) }
+{
+    match origin {
+        Some(origin) => words_of(alloc, origin.states.as_slice()),
+        None => start_states(alloc, circuit),
+    }
+}
+
+/// Returns the words of these states.
+fn words_of(alloc: Global, states: &[SavedState]) -> Result<Vec<Words>, AllocError>
+    ensures { IfOk result (λ words. map (λ s. s.items) words.items ≡ states.now) }
+{
+    let mut words = Vec::with_capacity(alloc, states.len())?;
+    for state in states {
+        words.push(Words::from_slice(alloc, state.as_slice())?)?;
+    }
+    Ok(words)
+}
+
+/// Returns the states in which the gates start.
+fn start_states(alloc: Global, circuit: &Circuit) -> Result<Vec<Words>, AllocError>
+    ensures { IfOk result (λ states. map (λ s. s.items) states.items
+        ≡ map (circuit_meaning (netlist_of circuit.now.gates.items circuit.now.wires.items
+        circuit.now.digest)).start_state (below (length circuit.now.gates.items))) }
+{
+    let mut states = Vec::new(alloc);
+    for lp in 0..circuit.lps() {
+        let (state, _sends) = circuit.start(alloc, lp);
+        states.push(state)?;
+    }
+    Ok(states)
 }
 
 /// Appends a text.
@@ -179,22 +238,25 @@ fn put_named(name: &str, text: &mut String) -> Result<(), AllocError>
     put(" $end\n", text)
 }
 
-/// Appends the value of each signal at the start, and returns the states of all processes.
-fn put_starts(alloc: Global, circuit: &Circuit, text: &mut String) -> Result<Vec<Words>, AllocError>
-    ensures text { OnOk result (string_bytes text.new ≡ string_bytes text.old
-        ++ starts_text (netlist_of circuit.now.gates.items circuit.now.wires.items
-        circuit.now.digest) (length circuit.now.gates.items)) }
-    ensures states { IfOk result (λ states. map (λ s. s.items) states.items
-        ≡ starts (netlist_of circuit.now.gates.items circuit.now.wires.items circuit.now.digest)
-        (length circuit.now.gates.items)) }
+/// Appends the end of the declarations, and the time of the first values.
+fn put_between(from: u64, text: &mut String) -> Result<(), AllocError>
+    ensures { OnOk result (string_bytes text.new ≡ string_bytes text.old ++ between_text from) }
 {
-    let mut states = Vec::new(alloc);
-    for lp in 0..circuit.lps() {
-        let (state, _sends) = circuit.start(alloc, lp);
-        put_state(lp, state.as_slice(), text)?;
-        states.push(state)?;
+    put("$upscope $end\n$enddefinitions $end\n#", text)?;
+    put_number(from, text)?;
+    put("\n$dumpvars\n", text)
+}
+
+/// Appends the values of all signals.
+fn put_states(states: &[Words], text: &mut String) -> Result<(), AllocError>
+    requires { length states.now ≤ 2 ^ 16 }
+    ensures { OnOk result (string_bytes text.new ≡ string_bytes text.old
+        ++ states_text 0 (map (λ s. s.items) states.now)) }
+{
+    for lp in 0..states.len() as u32 {
+        put_state(lp, states[lp as usize].as_slice(), text)?;
     }
-    Ok(states)
+    Ok(())
 }
 
 /// Appends the values of all signals of a gate.
@@ -231,17 +293,18 @@ fn put_events(
     alloc: Global,
     circuit: &Circuit,
     states: &mut Vec<Words>,
+    from: u64,
     end: u64,
     log: &[Message],
     text: &mut String,
 ) -> Result<(), AllocError>
-    requires { map (λ s. s.items) states.old.items ≡ starts (netlist_of circuit.now.gates.items
-        circuit.now.wires.items circuit.now.digest) (length circuit.now.gates.items) }
+    requires each { length states.old.items ≡ length circuit.now.gates.items }
+    requires few { Every (λ state. length state ≤ 16) (map (λ s. s.items) states.old.items) }
     ensures { OnOk result (string_bytes text.new ≡ string_bytes text.old
         ++ events_text (netlist_of circuit.now.gates.items circuit.now.wires.items
-        circuit.now.digest) (map (λ s. s.items) states.old.items) 0 end log.now) }
+        circuit.now.digest) (map (λ s. s.items) states.old.items) from end log.now) }
 {
-    let mut last = 0;
+    let mut last = from;
     for event in log {
         put_time(last, event.time(), text)?;
         last = event.time();

@@ -1,10 +1,13 @@
 // The command `wave`.
 
-ghost use Rattle.std.specs.Prelude.{◌≡◌, ◌≤◌, ◌⊎◌, ◌^◌, ℕ, IfOk, IsOkUnless, None, Ok, OnErr, OnOk};
+ghost use Rattle.std.specs.Prelude.{◌≡◌, ◌≤◌, ◌⊎◌, ◌^◌, IfOk, IsOkUnless, OnErr, OnOk};
 ghost use Rattle.std.specs.Prelude.{string_bytes};
-ghost use Rattle.circuit_program.specs.Waves.{meaning_of, IsWave, IsWaveOf};
+ghost use Rattle.std.specs.Option.{option_map};
+ghost use Rattle.circuit_program.specs.Waves.{meaning_of, IsBegunFrom, IsWave, IsWaveOf};
 ghost use Rattle.eventkey.specs.Writing.{Writes};
+ghost use Rattle.model.specs.Meaning.{CanBegin};
 ghost use Rattle.model.specs.World.{IsUpto};
+ghost use Rattle.segments.specs.Archiving.{IsOriginOn};
 ghost use Rattle.disk_commands.specs.declared.fault.Fault.TheVariants.{Output};
 ghost use Rattle.views.specs.Views.{Begins, Prints};
 
@@ -12,8 +15,8 @@ use circuit::Circuit;
 use cli::ModelFile;
 use commands::{Simulated, committed};
 use disk::{FileDisk, Returned};
-use model::{Origin, World};
-use program::{Fault, SegmentFault, of_command, print_fault, simulated};
+use model::{Continued, Origin, World};
+use program::{Fault, of_command, print_fault, simulated};
 use recovery::RecoveryFault;
 use segments::archiving::origin_on;
 use std::alloc::Global;
@@ -52,7 +55,8 @@ where
 
 const USAGE: &str = "\
 Prints the wave of a circuit, as a value change dump (VCD): of its run by the plain runner to
-its end, or, with a disk, of what is committed there.
+its end, or, with a disk, of what is committed there. That of a disk that continues from another
+one begins at the time from which it continues.
 
 Usage: circuits wave MODEL [DISK]
 ";
@@ -61,8 +65,7 @@ Usage: circuits wave MODEL [DISK]
 /// whole simulation.
 ///
 /// Returns, in this order, the faults of the model file (`File`, `BadModel`), those of the disk
-/// (`File`, `Log`, `Recovery`, `Segment Begins`) or the plain runner (`World`), and `Output` if the
-/// writer refuses.
+/// (`File`, `Log`, `Recovery`) or the plain runner (`World`), and `Output` if the writer refuses.
 /// Returns `NoMemory` if an allocation fails. At every fault but `Output` nothing is written.
 fn print_wave<R, O>(rt: &R, model: &str, disk: Option<&str>, out: &mut O) -> Result<(), Fault>
 where
@@ -80,8 +83,8 @@ where
     print(text.as_str(), out)
 }
 
-/// Returns the wave up to the time committed on a disk. Returns `Segment Begins` for one that begins
-/// with an origin: which values its pins had before is not on it.
+/// Returns the wave up to the time committed on a disk. That of a disk which continues from another
+/// one begins with the values that its origin gives, at the time from which it continues.
 fn committed_wave<R>(rt: &R, of: &Simulated<Circuit>, disk: &str) -> Result<String, Fault>
 where
     R: Files<File = File> + AllocGlobal,
@@ -91,23 +94,57 @@ where
 {
     let disk = FileDisk::open_to_read(rt, rt.alloc(), disk)?;
     let Returned { disk, outcome } = origin_on(rt.alloc(), &of.model, disk);
-    let front = match committed(rt.alloc(), of, disk) {
+    let (origin, from) = match outcome {
+        Ok(found) => found,
+        Err(fault) => return Err(unread(rt.alloc(), of, disk, fault)),
+    };
+    match origin {
+        None => wave_on(rt.alloc(), of, None, 0, disk),
+        Some(origin) => wave_on(rt.alloc(), of, Some(&origin), from, disk),
+    }
+}
+
+/// Returns the wave up to the time committed on a disk whose simulation begins with this origin,
+/// and goes on from this time, in ticks.
+fn wave_on(
+    alloc: Global,
+    of: &Simulated<Circuit>,
+    origin: Option<&Origin>,
+    from: u64,
+    disk: FileDisk,
+) -> Result<String, Fault>
+    requires some { 1 ≤ of.now.end }
+    requires short { of.now.end ≤ 2 ^ 40 }
+    requires sound { CanBegin (meaning_of of.now.model).lps (option_map (λ o. o.now) origin) }
+    requires begins { IsOriginOn (meaning_of of.now.model).lps disk.reads
+        (option_map (λ o. o.now) origin) }
+    requires goes_on { IsBegunFrom disk.reads (option_map (λ o. o.now) origin) from }
+    ensures { IfOk result (λ text. IsWaveOf of.now.model of.now.end (string_bytes text)) }
+{
+    let on = Simulated {
+        model: Continued::new(&of.model, origin),
+        end: of.end,
+    };
+    let front = match committed(alloc, &on, disk) {
         Ok(front) => front,
         Err(fault) => return Err(of_command(fault)),
     };
-    refuse_origin(outcome)?;
-    Ok(circuit::wave(rt.alloc(), &of.model, front.g, front.log.as_slice())?)
+    let log = front.log.as_slice();
+    Ok(circuit::wave(alloc, &of.model, origin, from, front.g, log)?)
 }
 
-/// Refuses a disk that begins with an origin. Returns the fault if that was not read.
-fn refuse_origin(found: Result<(Option<Origin>, u64), RecoveryFault>) -> Result<(), Fault>
-    ensures { OnOk result ((time : ℕ) × (found ≡ Ok (None, time))) }
+/// Returns the fault of a disk whose origin was not read for this cause: what is wrong with the
+/// disk itself comes first.
+fn unread(alloc: Global, of: &Simulated<Circuit>, disk: FileDisk, fault: RecoveryFault) -> Fault
+    requires some { 1 ≤ of.now.end }
+    requires short { of.now.end ≤ 2 ^ 40 }
 {
-    match found {
-        Ok((None, _)) => Ok(()),
-        Ok((Some(_), _)) => Err(Fault::Segment(SegmentFault::Begins)),
-        Err(RecoveryFault::Log(fault)) => Err(Fault::Log(fault)),
-        Err(fault) => Err(Fault::Recovery(fault)),
+    if let Err(first) = committed(alloc, of, disk) {
+        return of_command(first);
+    }
+    match fault {
+        RecoveryFault::Log(fault) => Fault::Log(fault),
+        fault => Fault::Recovery(fault),
     }
 }
 
@@ -120,7 +157,8 @@ where
     ensures { IfOk result (λ text. IsWaveOf of.now.model of.now.end (string_bytes text)) }
 {
     let parts = whole_world(rt.alloc(), of)?.into_parts();
-    Ok(circuit::wave(rt.alloc(), &of.model, parts.time, parts.log.as_slice())?)
+    let log = parts.log.as_slice();
+    Ok(circuit::wave(rt.alloc(), &of.model, None, 0, parts.time, log)?)
 }
 
 /// Returns the world at the end of a circuit's simulation, by the plain runner.

@@ -2,7 +2,11 @@
 
 use crate::model_files::wrong_file;
 use circuit::{Circuit, wave};
-use model::World;
+use disk::{MemDisk, Returned};
+use model::{Continued, World};
+use recovery::front_of;
+use segments::archiving::{begin_on, origin_on};
+use std::alloc::Global;
 use std::test::Fail;
 use texts::{Mistake, ModelFault, read_model};
 
@@ -97,8 +101,79 @@ fn the_wave_of_inverters_in_a_ring_matches_a_manual_calculation(
     };
     let mut world = World::open(rt.alloc(), &circuit, end)?;
     world.run_to(&circuit, end)?;
-    let text = wave(rt.alloc(), &circuit, world.time(), world.log())?;
+    let text = wave(rt.alloc(), &circuit, None, 0, world.time(), world.log())?;
     assert_eq!(rt; text.as_str(), WAVE);
+    Ok(())
+}
+
+/// Times from which segments go on: at events, between them, and at the end. For each the values
+/// before the events of that tick, and the last lines of the whole wave that come before them.
+const PARTS: [(u64, &str, &str); 3] = [
+    (
+        4,
+        "1o0\n0p0\n0q0\n0r0\n0o1\n1p1\n0q1\n0r1\n0o2\n1p2\n0q2\n0r2\n",
+        "\n#4\n",
+    ),
+    (
+        8,
+        "1o0\n0p0\n0q0\n0r0\n1o1\n0p1\n0q1\n0r1\n1o2\n0p2\n0q2\n0r2\n",
+        "\n#7\n1o0\n0p0\n",
+    ),
+    (
+        12,
+        "0o0\n1p0\n0q0\n0r0\n1o1\n0p1\n0q1\n0r1\n0o2\n1p2\n0q2\n0r2\n",
+        "\n#12\n",
+    ),
+];
+
+/// Returns the wave of the segment that goes on from the ring's simulation up to a time, made on a
+/// disk in memory.
+fn wave_from(alloc: Global, time: u64) -> Result<String, Fail> {
+    let Ok((circuit, end)) = read_model::<Circuit>(alloc, RING) else {
+        return Err("a circuit".into());
+    };
+    let mut world = World::open(alloc, &circuit, end)?;
+    world.run_to(&circuit, time)?;
+    let front = front_of(alloc, world, time)?;
+    if front.numbers.as_slice().len() != front.states.as_slice().len() {
+        return Err(Fail::from("the front has other numbers"));
+    }
+    let blank = MemDisk::blank(alloc, 32)?;
+    let Returned { disk, outcome } = begin_on(alloc, &circuit, end, &front, blank);
+    outcome?;
+    let Returned {
+        disk: _disk,
+        outcome,
+    } = origin_on(alloc, &circuit, disk);
+    let (origin, from) = outcome?;
+    let Some(origin) = origin else {
+        return Err(Fail::from("no origin"));
+    };
+    let on = Continued::new(&circuit, Some(&origin));
+    let mut world = World::open(alloc, &on, end)?;
+    world.run_to(&on, end)?;
+    let text = wave(
+        alloc,
+        &circuit,
+        Some(&origin),
+        from,
+        world.time(),
+        world.log(),
+    )?;
+    Ok(text)
+}
+
+#[test]
+fn the_wave_of_a_segment_is_that_of_the_whole_run_from_its_time_on(
+    rt: HostRuntime,
+) -> Result<(), Fail> {
+    let (head, _) = WAVE.split_once("#0\n").unwrap_or(("", ""));
+    for (time, values, before) in PARTS {
+        let (_, rest) = WAVE.split_once(before).unwrap_or(("", ""));
+        let text = wave_from(rt.alloc(), time)?;
+        let expected = format!(in rt.alloc(); "{head}#{time}\n$dumpvars\n{values}$end\n{rest}")?;
+        assert_eq!(rt; text.as_str(), expected.as_str());
+    }
     Ok(())
 }
 

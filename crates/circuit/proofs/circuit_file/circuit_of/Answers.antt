@@ -1,4 +1,4 @@
-use Rattle.std.proofs.Common.{ap, refl, sym, ◌∙◌}
+use Rattle.std.proofs.Common.{refl, sym}
 use Rattle.toml.specs.View.{table_view}
 use Rattle.circuit.proofs.Right.{circuit_right, end_is, gates_are, names_are, netlist_is, no_others, wires_are}
 use Rattle.circuit.proofs.circuit_file.circuit_of.Goals as goal

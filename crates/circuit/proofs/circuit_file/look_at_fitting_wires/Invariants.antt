@@ -1,4 +1,4 @@
-use Rattle.std.proofs.Common.{◌≡◌, ◌++◌, codes, drop, length}
+use Rattle.std.proofs.Common.{◌≡◌, ◌++◌, codes, drop}
 use Rattle.circuit.specs.Circuit.{is_wire}
 use Rattle.circuit.specs.CircuitFile.{unfit}
 use Rattle.circuit.proofs.circuit_file.look_at_fitting_wires.Given as goal

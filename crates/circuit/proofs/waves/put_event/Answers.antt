@@ -1,7 +1,7 @@
-use Rattle.std.proofs.Common.{◌<◌, ap, arith, length, refl, subst, sym, ◌++◌, ◌∙◌}
+use Rattle.std.proofs.Common.{◌<◌, ap, arith, length, ◌++◌, ◌∙◌}
 use Rattle.std.specs.Prelude.{string_bytes}
 use Rattle.circuit.specs.Circuit.{netlist_of}
-use Rattle.circuit.proofs.Texts.{IsShort, made_event, short_at, found_event}
+use Rattle.circuit.proofs.Texts.{made_event, short_at, found_event}
 use Rattle.circuit.proofs.waves.put_event.Goals as goal
 
 pub handle-now-requires-clause-few : goal.handle-now-requires-clause-few

@@ -1,15 +1,9 @@
-use Rattle.std.proofs.Common.{arith, length, map, refl}
+use Rattle.std.proofs.Common.{arith, length, map}
 use Rattle.std.specs.Prelude.{string_bytes}
 use Rattle.circuit.specs.Circuit.{netlist_of}
 use Rattle.circuit.specs.Wave.{events_text}
-use Rattle.circuit.proofs.Texts.{all_put, begun_so, kept_so, put_so_far}
+use Rattle.circuit.proofs.Texts.{all_put, kept_so, put_so_far}
 use Rattle.circuit.proofs.waves.put_events.Goals as goal
-
-pub loop-event-init : goal.loop-event-init
-loop-event-init c =
-    let n = netlist_of c.args.circuit.now.gates.items c.args.circuit.now.wires.items c.args.circuit.now.digest in
-    let begun = begun_so (λ s. s.items) n (length c.args.circuit.now.gates.items) c.args.states.now.items c.requires in
-    record { each = begun.0; few = begun.1; text = refl }
 
 pub loop-event-preserved : goal.loop-event-preserved
 loop-event-preserved c =
@@ -22,7 +16,7 @@ loop-event-preserved c =
       text = rw (c.in_ok-put_event.ensures.states, c.time-last.ensures)
           (put_so_far n states c.loop-event.last c.args.end c.args.log.now c.loop-event.event-index c.event-item.result c.loop-event-test.true c.event-item.is
           (string_bytes c.args.text.now) (string_bytes c.loop-event.text) (string_bytes c.put_time.new.text) (string_bytes c.put_event.new.text)
-          (events_text n (map (λ s. s.items) c.args.states.now.items) 0 c.args.end c.args.log.now)
+          (events_text n (map (λ s. s.items) c.args.states.now.items) c.args.from c.args.end c.args.log.now)
           c.loop-event.invariant.text (rw c.time.ensures at c.in_ok-put_time.ensures) c.in_ok-put_event.ensures.text);
     }
 
@@ -30,4 +24,4 @@ pub returns : goal.returns
 returns c =
     let n = netlist_of c.args.circuit.now.gates.items c.args.circuit.now.wires.items c.args.circuit.now.digest in
     all_put c.put_time-2.result n (map (λ s. s.items) c.loop-event.states.items) c.loop-event.last c.args.end c.args.log.now c.loop-event.event-index (string_bytes c.args.text.now) (string_bytes c.loop-event.text) (string_bytes c.put_time-2.new.text)
-    (events_text n (map (λ s. s.items) c.args.states.now.items) 0 c.args.end c.args.log.now) (omega arith) c.loop-event.invariant.text c.put_time-2.ensures
+    (events_text n (map (λ s. s.items) c.args.states.now.items) c.args.from c.args.end c.args.log.now) (omega arith) c.loop-event.invariant.text c.put_time-2.ensures

@@ -12,5 +12,5 @@ invariant-loop-event l =
       each : length l.states.items ≡ length l.circuit.gates.items;
       few : Every (λ state. length state ≤ 16) (map (λ s. s.items) l.states.items);
       text : string_bytes l.text ++ events_text n (map (λ s. s.items) l.states.items) l.last l.end (drop l.event-index l.log)
-          ≡ string_bytes l.initial.text ++ events_text n (map (λ s. s.items) l.initial.states.items) 0 l.end l.log;
+          ≡ string_bytes l.initial.text ++ events_text n (map (λ s. s.items) l.initial.states.items) l.from l.end l.log;
     }
