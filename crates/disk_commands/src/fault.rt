@@ -159,10 +159,6 @@ impl Fault {
                 "the states and the pending messages have more than the 16777216 bytes of a record: \
                  `grow` makes the disk longer instead, and --large lets it grow further",
             ),
-            Fault::Segment(SegmentFault::Begins) => Some(
-                "the disk goes on from the world of another one, and what its simulation did before \
-                 is not on it: without a disk the command shows the whole simulation",
-            ),
             Fault::Shut => Some(
                 "the disk has records, but the gate of its header is closed: `reopen` looks at \
                  all of them and opens it again; nothing is written",

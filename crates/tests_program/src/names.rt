@@ -361,7 +361,6 @@ fn put_command_and_program_faults(names: &mut Names) {
     put_names!(names; SegmentFault {
         NotTheNext => "NotTheNext",
         TooLong => "TooLong",
-        Begins => "Begins",
     });
 }
 

@@ -28,9 +28,6 @@ pub enum SegmentFault {
     /// Its origin would have more than 2^24 bytes.
     #[error("TooLong")]
     TooLong,
-    /// It begins with an origin, and what was before is not on it.
-    #[error("Begins")]
-    Begins,
 }
 
 /// Why a read-only command failed. Printed as its name, followed by a space and the fault that it
