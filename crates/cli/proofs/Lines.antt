@@ -23,7 +23,7 @@ use Rattle.clap.specs.declared.error.Error.{Error}
 use Rattle.clap.specs.declared.builder.value_parser.ValueParser.TheVariants.{Unsigned}
 use Rattle.clap.specs.declared.parser.matches.ArgMatches.{ArgMatches}
 use Rattle.clap.specs.declared.parser.matches.ArgMatches.TheViews.{out-ArgMatches, out-SubCommand}
-use Rattle.cli.specs.Command.{AddsCommand, AddsRule, AddsRules, IsApp, IsNamed, number_of, program_of, refusal_of, unread_fault, value_fault, with_rules}
+use Rattle.cli.specs.Command.{AddsCommand, AddsCommands, AddsRule, AddsRules, IsApp, IsNamed, number_of, program_of, refusal_of, unread_fault, value_fault, with_commands, with_rules}
 
 pub program_is_simple : (called : Text) → is_simple (program_of called) ≡ true
 unfolding program_of clap_on_literals
@@ -107,12 +107,6 @@ module _ {E : Type 0} where
   rule_added (Ok new) old argument rule adds says local =
       (adds.shape local ∙ ap (with_rule (app_of old)) says, adds.globals ∙ ap (λ (y : Bool). (out-Command old).has_globals || y) local ∙ or_false ((out-Command old).has_globals))
 
-  -- a command with one more option
-  pub option_added : (command result : Result ClapCommand E) (app : App) (given rule : Rule) → IfOk result (AddsRule command given) → IfOk command (IsApp app) → given ≡ rule → IfOk result (IsApp (with_rule app rule))
-  option_added command (Err e) app given rule adds is says = tt
-  option_added (Err e) (Ok new) app given rule adds is says = absurd adds
-  option_added (Ok old) (Ok new) app given rule adds is says = (adds.0 ∙ ap₂ with_rule is.0 says, adds.1 ∙ is.1)
-
   -- a command with more arguments
   pub rules_added : (command result : Result ClapCommand E) (app : App) (given rules : List Rule) → IfOk result (AddsRules command given) → IfOk command (IsApp app) → given ≡ rules
       → IfOk result (IsApp (with_rules app rules))
@@ -138,14 +132,29 @@ module _ {E : Type 0} where
   begun (Err e) all = tt
   begun (Ok c) all = (refl, refl)
 
-  -- a program with one more command
-  pub command_added : (above command result : Result ClapCommand E) (app added : App) → IfOk result (AddsCommand above command) → IfOk above (IsApp app) → IfOk command (IsApp added)
-      → IfOk result (IsApp (with_subcommand app added.top))
-  command_added above command (Err e) app added adds is has = tt
-  command_added (Err e) command (Ok new) app added adds is has = absurd adds
-  command_added (Ok old) (Err e) (Ok new) app added adds is has = absurd adds
-  command_added (Ok old) (Ok sub) (Ok new) app added adds is has =
-      (adds.shape has.1 ∙ ap₂ (λ (a : App) (b : App). with_subcommand a b.top) is.0 has.0, adds.globals ∙ ap₂ (λ (x : Bool) (y : Bool). x || y) is.1 has.1)
+  -- what is left to be added to the program now makes of it what all made of the first one
+  abbrev pub Grows : Result ClapCommand E → Result ClapCommand E → List App → List App → Type 0
+  Grows first now left all = IfOk now (λ n. IsOkAnd first (λ f. (with_commands (app_of n) left ≡ with_commands (app_of f) all) × ((out-Command n).has_globals ≡ (out-Command f).has_globals)))
+
+  pub grown : (first now command next : Result ClapCommand E) (app : App) (left all : List App) → Grows first now (app ∷ left) all → IfOk next (AddsCommand now command) → IfOk command (IsApp app) → Grows first next left all
+  grown first now command (Err e) app left all h adds has = tt
+  grown first (Err e) command (Ok new) app left all h adds has = absurd adds
+  grown first (Ok old) (Err e) (Ok new) app left all h adds has = absurd adds
+  grown (Err e) (Ok old) (Ok sub) (Ok new) app left all h adds has = absurd h
+  grown (Ok c) (Ok old) (Ok sub) (Ok new) app left all h adds has = (
+    ap (λ (a : App). with_commands a left) (adds.shape has.1 ∙ ap (λ (b : App). with_subcommand (app_of old) b.top) has.0) ∙ h.0,
+    adds.globals ∙ ap (λ (y : Bool). (out-Command old).has_globals || y) has.1 ∙ or_false ((out-Command old).has_globals) ∙ h.1,
+  )
+
+  pub ungrown : (first : Result ClapCommand E) (all : List App) → Grows first first all all
+  ungrown (Err e) all = tt
+  ungrown (Ok c) all = (refl, refl)
+
+  -- a program with its commands
+  pub commands_added : (program : ClapCommand) (result : Result ClapCommand E) (app : App) (commands : List App) → IfOk result (AddsCommands {E = E} (Ok program) commands) → IsApp app program
+      → IfOk result (IsApp (with_commands app commands))
+  commands_added program (Err e) app commands adds is = tt
+  commands_added program (Ok new) app commands adds is = (adds.0 ∙ ap (λ (a : App). with_commands a commands) is.0, adds.1 ∙ is.1)
 
 -- the number that is chosen, by the one that was parsed
 abbrev pub chosen : ℕ → ℕ → Option ℕ → ℕ

@@ -54,6 +54,8 @@ use Rattle.cli.specs.declared.command.VerifyArgs.{VerifyArgs}
 use Rattle.cli.specs.declared.grammar.Argument.{Argument}
 use Rattle.cli.specs.declared.grammar.Kind.{Kind}
 use Rattle.cli.specs.declared.grammar.Kind.TheVariants as kind
+use Rattle.cli.specs.declared.grammar.Verb.{Verb}
+use Rattle.cli.specs.declared.grammar.Verb.TheVariants as verb
 
 -- ---- the arguments
 
@@ -388,6 +390,33 @@ program_of called = with_subcommand (with_subcommand (with_subcommand (with_subc
     stats_command.top) draw_command.top) seq_command.top)
     (on_model (codes "check")).top) node_command.top
 
+-- the command of this name
+abbrev pub app_by : Verb → App
+app_by verb.New = new_command
+app_by verb.Run = run_command
+app_by verb.Extend = on_any_disk (codes "extend")
+app_by verb.Grow = grow_command
+app_by verb.Migrate = migrate_command
+app_by verb.Reopen = on_any_disk (codes "reopen")
+app_by verb.Cut = on_any_disk (codes "cut")
+app_by verb.Recover = recover_command
+app_by verb.Status = status_command
+app_by verb.Info = info_command
+app_by verb.Verify = verify_command
+app_by verb.Log = log_command
+app_by verb.Show = show_command
+app_by verb.Stats = stats_command
+app_by verb.Draw = draw_command
+app_by verb.Seq = seq_command
+app_by verb.Check = on_model (codes "check")
+app_by verb.Node = node_command
+
+-- the program with these commands added, in this order
+abbrev pub with_commands : App → List App → App
+with_commands program [] = program
+with_commands program (command ∷ commands) =
+    with_commands (with_subcommand program command.top) commands
+
 -- a program with a single option, whose value passes this parser, and whose default is this text
 abbrev pub refusing : Text → ValueParser → Text → App
 refusing option parser text = with_rule (new_app option) (choice_option option parser text)
@@ -493,6 +522,12 @@ AddsRule command rule new = IsOkAnd command (λ old. (app_of new ≡ with_rule (
 abbrev pub AddsRules : {E : Type 0} → Result ClapCommand E → List Rule → ClapCommand → Type 0
 AddsRules command rules new = IsOkAnd command (λ old.
     (app_of new ≡ with_rules (app_of old) rules)
+    × ((out-Command new).has_globals ≡ (out-Command old).has_globals))
+
+-- the program, if it is there, with these commands added
+abbrev pub AddsCommands : {E : Type 0} → Result ClapCommand E → List App → ClapCommand → Type 0
+AddsCommands program commands new = IsOkAnd program (λ old.
+    (app_of new ≡ with_commands (app_of old) commands)
     × ((out-Command new).has_globals ≡ (out-Command old).has_globals))
 
 -- the program, if it is there, with this command added, which is there too

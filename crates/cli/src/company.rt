@@ -2,6 +2,7 @@
 // that it then takes.
 
 ghost use Rattle.std.specs.Prelude.{◌≡◌, ◌∷◌, ◌||◌, [], is_some, IsSomeAnd, MatchOption};
+ghost use Rattle.std.specs.Prelude.{MatchResult};
 ghost use Rattle.clap.specs.Words.{found_of, rows_of, HasKind};
 ghost use Rattle.cli.specs.Command.{company_fault};
 ghost use Rattle.cli.specs.Command.{excludes_histogram, is_drawn_twice};
@@ -16,7 +17,7 @@ ghost use Rattle.cli.specs.Command.{together_fault};
 use crate::values::{is_text, is_used, optional_number, optional_text};
 use clap::error::ErrorKind;
 use clap::{ArgMatches, Command as ClapCommand, Error};
-use std::alloc::Global;
+use std::alloc::{AllocError, Global};
 
 /// The maximum virtual time, in ticks.
 pub const LAST_TIME: u64 = 1_099_511_627_776;
@@ -329,7 +330,14 @@ fn error_with(alloc: Global, usage: &str, kind: ErrorKind, message: &str) -> Err
     ensures { HasKind (kind ∷ []) result }
 {
     let mut command = ClapCommand::new(alloc, "").override_usage(usage);
-    match command.error(kind, message) {
+    whole(command.error(kind, message))
+}
+
+/// The error, or that there was no memory for it.
+fn whole(made: Result<Error, AllocError>) -> Error
+    ensures { MatchResult made (λ error. result ≡ error) (λ _. HasKind [] result) }
+{
+    match made {
         Ok(error) => error,
         Err(error) => Error::from(error),
     }

@@ -1,7 +1,7 @@
 // The commands, their arguments and their help, as `clap` takes them.
 
 ghost use Rattle.std.specs.Prelude.{◌≡◌, ◌≤◌, false, map, true, IfOk, Some};
-ghost use Rattle.clap.specs.Words.{app_of, new_app, rule_of};
+ghost use Rattle.clap.specs.Words.{new_app, rule_of};
 ghost use Rattle.clap.specs.declared.builder.command.Command.TheViews.{out-Command as fields_of};
 ghost use Rattle.clap.specs.declared.builder.value_parser.ValueParser.TheVariants.{NonEmptyString};
 ghost use Rattle.cli.specs.Command.{advice_option, any_text, choice_option, created_option};
@@ -16,7 +16,7 @@ ghost use Rattle.cli.specs.Command.{run_apart, run_command, run_kept, run_made, 
 ghost use Rattle.cli.specs.Command.{seed_option, seq_command, set_option, show_command};
 ghost use Rattle.cli.specs.Command.{stats_command, status_command, text_option, time_option};
 ghost use Rattle.cli.specs.Command.{verify_command, with_rules, without_commands};
-ghost use Rattle.cli.specs.Command.{AddsCommand, AddsRule, AddsRules, IsApp};
+ghost use Rattle.cli.specs.Command.{app_by, AddsCommand, AddsCommands, AddsRule, AddsRules, IsApp};
 
 use crate::company::LAST_TIME;
 use clap::builder::ValueParser;
@@ -47,33 +47,97 @@ pub fn program<'a>(alloc: Global, texts: Texts<'a>) -> Result<ClapCommand<'a>, A
         help,
         seq_help,
     } = texts;
-    let program = with_command(Ok(without_commands(alloc, name, version, help)), new(alloc));
-    let program = with_command(program, run(alloc));
-    let program = with_command(
-        program,
-        on_any_disk(alloc, "extend", EXTEND_ABOUT, EXTEND_HELP),
-    );
-    let program = with_command(program, grow(alloc));
-    let program = with_command(program, migrate(alloc));
-    let program = with_command(
-        program,
-        on_any_disk(alloc, "reopen", REOPEN_ABOUT, REOPEN_HELP),
-    );
-    let program = with_command(program, on_any_disk(alloc, "cut", CUT_ABOUT, CUT_DISK_HELP));
-    let program = with_command(program, recover(alloc));
-    let program = with_command(program, status(alloc));
-    let program = with_command(program, info(alloc));
-    let program = with_command(program, verify(alloc));
-    let program = with_command(program, log(alloc));
-    let program = with_command(program, show(alloc));
-    let program = with_command(program, stats(alloc));
-    let program = with_command(program, draw(alloc));
-    let program = with_command(program, seq(alloc, seq_help));
-    let program = with_command(
-        program,
-        on_model(alloc, "check", CHECK_ABOUT, CHECK_HELP, &[]),
-    );
-    with_command(program, node(alloc))
+    let verbs = [
+        Verb::New,
+        Verb::Run,
+        Verb::Extend,
+        Verb::Grow,
+        Verb::Migrate,
+        Verb::Reopen,
+        Verb::Cut,
+        Verb::Recover,
+        Verb::Status,
+        Verb::Info,
+        Verb::Verify,
+        Verb::Log,
+        Verb::Show,
+        Verb::Stats,
+        Verb::Draw,
+        Verb::Seq,
+        Verb::Check,
+        Verb::Node,
+    ];
+    let program = Ok(without_commands(alloc, name, version, help));
+    with_commands(alloc, program, &verbs, seq_help)
+}
+
+/// A command of the program, by its name.
+#[derive(Clone, Copy)]
+enum Verb {
+    New,
+    Run,
+    Extend,
+    Grow,
+    Migrate,
+    Reopen,
+    Cut,
+    Recover,
+    Status,
+    Info,
+    Verify,
+    Log,
+    Show,
+    Stats,
+    Draw,
+    Seq,
+    Check,
+    Node,
+}
+
+/// Adds these commands to a program, in this order, if the program is there. `seq` gets this help.
+fn with_commands<'a>(
+    alloc: Global,
+    program: Result<ClapCommand<'a>, AllocError>,
+    verbs: &[Verb],
+    seq_help: &'a str,
+) -> Result<ClapCommand<'a>, AllocError>
+    ensures { IfOk result (AddsCommands program.entry (map app_by verbs.now)) }
+{
+    let mut made = program;
+    for verb in verbs {
+        made = with_command(made, command_by(alloc, *verb, seq_help));
+    }
+    made
+}
+
+/// The command of this name; `seq` with this help.
+fn command_by<'a>(
+    alloc: Global,
+    verb: Verb,
+    seq_help: &'a str,
+) -> Result<ClapCommand<'a>, AllocError>
+    ensures { IfOk result (IsApp (app_by verb)) }
+{
+    match verb {
+        Verb::New => new(alloc),
+        Verb::Run => run(alloc),
+        Verb::Extend => on_any_disk(alloc, "extend", EXTEND_ABOUT, EXTEND_HELP),
+        Verb::Grow => grow(alloc),
+        Verb::Migrate => migrate(alloc),
+        Verb::Reopen => on_any_disk(alloc, "reopen", REOPEN_ABOUT, REOPEN_HELP),
+        Verb::Cut => on_any_disk(alloc, "cut", CUT_ABOUT, CUT_DISK_HELP),
+        Verb::Recover => recover(alloc),
+        Verb::Status => status(alloc),
+        Verb::Info => info(alloc),
+        Verb::Verify => verify(alloc),
+        Verb::Log => log(alloc),
+        Verb::Show => show(alloc),
+        Verb::Stats => stats(alloc),
+        Verb::Draw => draw(alloc),
+        Verb::Seq => seq(alloc, seq_help),
+        Verb::Check => on_model(alloc, "check", CHECK_ABOUT, CHECK_HELP, &[]),
+        Verb::Node => node(alloc),
+    }
 }
 
 /// The program without its commands.
@@ -978,7 +1042,7 @@ fn with_argument<'a>(
     command?.arg(argument_of(alloc, argument))
 }
 
-/// What `clap` is told of an argument. It owns nothing, so what lists arguments has nothing to drop.
+/// What `clap` is told of an argument. It owns nothing, so a list of them has nothing to drop.
 #[derive(Clone, Copy)]
 struct Argument<'a> {
     /// The name by which its value is read.

@@ -285,8 +285,8 @@ fn company_refusal(alloc: Global, name: &str, values: &ArgMatches<'_>) -> Option
     }
 }
 
-/// A text that `clap` takes for an option, but that is no value of it. It is no error of `clap` yet,
-/// so that what looks for one owns nothing.
+/// A text that `clap` takes for an option, but that is no value of it. It is no error of `clap`
+/// yet, so that what looks for one owns nothing.
 #[derive(Clone, Copy)]
 struct NoValue<'a> {
     option: &'static str,
