@@ -2,20 +2,19 @@
 use Rattle.std.specs.List.{AllByRecursion as Every}
 use Rattle.std.specs.Prelude.{None, Ok, Result, nat_le, nat_lt, ◌↔◌}
 use Rattle.std.specs.List.Sorted.{IsPermutation}
-use Rattle.std.proofs.Common.{◌≡◌, ◌≢◌, ◌==◌, ◌+◌, ◌-◌, ◌<◌, ◌≤◌, ◌^◌, ◌++◌, ◌∷◌, [], ℕ, List, Option, Some, ap, append-nil, append_assoc, arith, drop, eq-eqb, eqb-true, false, filter, get_or, if◌then◌else◌, inl, inr, length, map, max, min, refl, replicate, set, subst, suc, sym, true, zero, ◌∙◌}
+use Rattle.std.proofs.Common.{◌≡◌, ◌≢◌, ◌==◌, ◌+◌, ◌-◌, ◌<◌, ◌≤◌, ◌^◌, ◌++◌, ◌∷◌, [], ℕ, List, Option, Some, ap, append-nil, append_assoc, arith, drop, eq-eqb, eqb-true, false, filter, get_or, if◌then◌else◌, inl, inr, length, map, min, refl, replicate, set, subst, suc, sym, true, ◌∙◌}
 use Rattle.std.proofs.Math.ListN.{get_or-append}
 use Rattle.std.proofs.lemmas.Bool.{and_parts, cases_Bool, cases_eq, leb-true, lt-ltb, ltb-true}
 use Rattle.std.proofs.lemmas.List.{get_or-set_other, get_or-set_same, get_or_default, length-append, length-replicate, length-set, map-append}
 use Rattle.std.proofs.lemmas.List.Elements.{filter-append}
-use Rattle.std.proofs.lemmas.List.Sorted.{IsPermutation-append_left, IsPermutation-append_right, IsPermutation-refl, IsPermutation-to_front, IsPermutation-trans}
-use Rattle.eventkey.proofs.Lists.{Every-add_all, Every-all, Every-append, Every-weaker}
-use Rattle.eventkey.specs.Bag.{add_all}
+use Rattle.std.proofs.lemmas.List.Sorted.{IsPermutation-append_left, IsPermutation-append_right, IsPermutation-to_front, IsPermutation-trans}
+use Rattle.eventkey.proofs.Lists.{Every-add_all, Every-all, Every-weaker}
 use Rattle.eventkey.specs.Message.{Message}
 use Rattle.model.proofs.Runs.{run_more, step_below, went}
 use Rattle.model.proofs.Steps.{Reaches-sooner, Reaches_logged, Reaches_time, step_made}
 use Rattle.model.proofs.Worlds.{Reaches_IsWorld, opening_IsWorld, step_is}
 use Rattle.model.specs.Meaning.{IsAddressed, IsLawful, Meaning, stamp}
-use Rattle.model.specs.Runner.{Handles, IsIdle, Simulation, is_due}
+use Rattle.model.specs.Runner.{Handles, IsIdle, IsRun, Simulation, is_due}
 use Rattle.model.specs.World.{IsUpto, IsWorld, Reaches, World, at_time, can_handle, handled, number_of, opening, state_of, step}
 use Rattle.model.specs.declared.Outgoing.{Outgoing}
 use Rattle.model.specs.declared.WorldFault.{WorldFault}
@@ -105,6 +104,15 @@ length-run m bound r w h = ap length h.sends ∙ go (opening m).states r.events
     go states [] = refl
     go states (x ∷ xs) = ap suc (go (set states x.to (m.next_state x.to (get_or states x.to []) x)) xs)
 
+pub passed_event : (m : Meaning) (bound : ℕ) (events : List Message) (w v : World) (x : Message) (rest : List Message) → IsRun m bound (opening m) (with_log events w) → w.pending ≡ x ∷ rest → step m bound w ≡ Some v
+    → IsRun m bound (opening m) (with_log (events ++ x ∷ []) v)
+passed_event m bound events w v x rest h first e =
+    let s = stepped m bound w v x rest first e in
+    let log : List Message = events ++ x ∷ [] in
+    let goes : step m bound (with_log events w) ≡ Some (with_log log v) =
+    step_made m bound (with_log events w) x rest first s.1 s.2 ∙ ap (λ (u : World). Some (with_log log u)) (sym s.0) in
+    run_more m bound (opening m) (with_log events w) (with_log log v) h goes
+
 pub run_stepped : (m : Meaning) (bound : ℕ) (r : Run) (w v : World) (x : Message) (rest : List Message) → IsLawful m → bound ≤ 2 ^ 40 → HasRun m bound r w → w.pending ≡ x ∷ rest → step m bound w ≡ Some v
     → HasRun m bound (with_event r x (sends_at m w x) v.pending) v
 run_stepped m bound r w v x rest law short h first e =
@@ -114,12 +122,9 @@ run_stepped m bound r w v x rest law short h first e =
     let at : IsAddressed m.lps x = let all : Every (IsAddressed m.lps) (x ∷ rest) = rw first at is.addressed in all.0 in
     let same = length-run m bound r w h in
     let next : Run = with_event r x n v.pending in
-    let log : List Message = r.events ++ x ∷ [] in
-    let goes : step m bound (with_log r.events w) ≡ Some (with_log log v) =
-    step_made m bound (with_log r.events w) x rest first s.1 s.2 ∙ ap (λ (u : World). Some (with_log log u)) (sym s.0) in
     let state : length (m.sends x.to (get_or (states_after m (opening m).states r.events) x.to []) x) ≡ n = ap (λ (ss : List (List ℕ)). length (m.sends x.to (get_or ss x.to []) x)) h.states in
     record {
-      passed = run_more m bound (opening m) (with_log r.events w) (with_log log v) h.passed goes;
+      passed = passed_event m bound r.events w v x rest h.passed first e;
       first = h.first;
       sends = ap (λ ns. ns ++ n ∷ []) h.sends ∙ ap (λ k. sends_of m (opening m).states r.events ++ k ∷ []) (sym state) ∙ sym (sends_push m (opening m).states r.events x);
       pending = refl;
@@ -338,27 +343,37 @@ event_fits m bound w v c k x rest numbers law short is first e numbers_are =
     ap length (numbers_are ∙ ap (λ (u : World). u.numbers) s.0) ∙ length-set w.numbers x.to (number_of w x.to + sends_at m w x) ∙ (run_world m bound is.run w law short is.has).numbers in
     (omega (arith, long), omega (arith, lps.0), omega (arith, lps.1))
 
+-- steps up to a time, when no event before it is left, are the simulation up to there
+pub passed_all : (m : Meaning) (end bound : ℕ) (events : List Message) (w : World) → bound ≤ end → IsRun m bound (opening m) (with_log events w) → IsIdle bound w → IsUpto m end bound (at_time bound (with_log events w))
+passed_all m end bound events w le h idle =
+    let there : World = with_log events w in
+    let zero_time : w.time ≡ 0 = Reaches_time m bound h.steps (opening m) there h.reached in
+    let reached = subst (λ (t : ℕ). Reaches m bound h.steps (opening m) (at_time t there)) zero_time h.reached in
+    record {
+      steps = h.steps;
+      reached = Reaches-sooner m bound end h.steps (opening m) (at_time 0 there) le reached;
+      time = refl;
+      logged = Reaches_logged m bound bound h.steps (opening m) (at_time 0 there) (omega arith) tt reached;
+      left = idle;
+    }
+
+-- the run of these events
+pub run_of_events : (m : Meaning) (end to : ℕ) (events : List Message) (w : World) → IsRun m (min to end) (opening m) (with_log events w) → IsIdle (min to end) w → (r : Run) × IsRunOf m end to r × (r.events ≡ events)
+run_of_events m end to events w h idle =
+    let bound : ℕ = min to end in
+    let r : Run = record { time = bound; first = (opening m).numbers; events = events; sends = sends_of m (opening m).states events; pending = w.pending } in
+    (r, record { world = at_time bound (with_log events w); upto = passed_all m end bound events w (omega arith) h idle; time = refl; events = refl; pending = refl; first = refl; sends = refl }, refl)
+
 -- the run that was counted, when no event is left
 pub counted_run : (m : Meaning) (end to : ℕ) (w : World) (c : Counts) (k : ℕ) → IsCounted m (min to end) w c k → IsIdle (min to end) w
     → (r : Run) × IsRunOf m end to r × (r.time ≡ min to end) × (k ≡ length r.events) × (r.pending ≡ w.pending) × HasCounted r c × Every (HaveTime r c.senders.items) w.pending
     × ((lp : ℕ) → get_or w.numbers lp 0 ≡ length (sending_times r lp))
 counted_run m end to w c k is idle =
-    let b : ℕ = min to end in
+    let bound : ℕ = min to end in
     let was : Run = is.run in
-    let r : Run = record { time = b; first = was.first; events = was.events; sends = was.sends; pending = w.pending } in
-    let there : World = with_log was.events w in
-    let zero_time : w.time ≡ 0 = Reaches_time m b is.has.passed.steps (opening m) there is.has.passed.reached in
-    let world : World = at_time b there in
-    let reached = subst (λ (t : ℕ). Reaches m b is.has.passed.steps (opening m) (at_time t there)) zero_time is.has.passed.reached in
-    let upto : IsUpto m end b world = record {
-      steps = is.has.passed.steps;
-      reached = Reaches-sooner m b end is.has.passed.steps (opening m) (at_time 0 there) (omega arith) reached;
-      time = refl;
-      logged = Reaches_logged m b b is.has.passed.steps (opening m) (at_time 0 there) (omega arith) tt reached;
-      left = idle;
-    } in (
+    let r : Run = record { time = bound; first = was.first; events = was.events; sends = was.sends; pending = w.pending } in (
       r,
-      record { world = world; upto = upto; time = refl; events = refl; pending = refl; first = is.has.first; sends = is.has.sends },
+      record { world = at_time bound (with_log was.events w); upto = passed_all m end bound was.events w (omega arith) is.has.passed idle; time = refl; events = refl; pending = refl; first = is.has.first; sends = is.has.sends },
       refl,
       is.events,
       refl,

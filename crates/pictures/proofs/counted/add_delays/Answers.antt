@@ -1,10 +1,9 @@
-use Rattle.std.proofs.Common.{◌≡◌, ◌+◌, ◌-◌, ◌++◌, ◌∷◌, [], ◌∙◌, List, ℕ, ap, append_assoc, arith, get_or, map, subst, sym, take}
+use Rattle.std.proofs.Common.{◌≡◌, ◌+◌, ◌-◌, ◌++◌, ◌∷◌, [], ◌∙◌, List, ℕ, ap, append_assoc, arith, map, subst, sym, take}
 use Rattle.std.proofs.lemmas.List.{map-append, take_all, take_more}
 use Rattle.eventkey.proofs.Lists.{Every-get_or}
 use Rattle.eventkey.specs.Message.{Message}
 use Rattle.pictures.specs.Delays.{AreCounted}
 use Rattle.pictures.specs.Figures.{delay_of}
-use Rattle.pictures.specs.Run.{sent_at}
 use Rattle.pictures.specs.Senders.{HaveTime}
 use Rattle.pictures.proofs.counted.add_delays.Goals as goal
 

@@ -1,4 +1,4 @@
-use Rattle.std.proofs.Common.{◌≡◌, ◌+◌, ◌∙◌, ap, arith, drop, length, min}
+use Rattle.std.proofs.Common.{◌+◌, ◌∙◌, ap, arith, drop, length, min}
 use Rattle.pictures.proofs.Running.{counted_forgotten, counted_open, counted_step, event_fits, went_below}
 use Rattle.pictures.proofs.counted.count_events.Goals.{then-log-room+in_ok-short, else-log-room}
 use Rattle.pictures.proofs.counted.count_events.Goals as goal

@@ -1,5 +1,5 @@
 use Rattle.std.specs.List.{AllByRecursion as Every}
-use Rattle.std.proofs.Common.{◌≡◌, ◌∙◌, ap, arith, get_or, length, min, subst, sym}
+use Rattle.std.proofs.Common.{◌∙◌, ap, arith, get_or, length, min, subst, sym}
 use Rattle.pictures.specs.Senders.{HaveTime}
 use Rattle.pictures.proofs.Running.{counted_lps, counted_run, run_world}
 use Rattle.pictures.proofs.counted.figures_of.Goals as goal

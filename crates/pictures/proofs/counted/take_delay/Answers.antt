@@ -1,6 +1,4 @@
-use Rattle.std.proofs.Common.{◌-◌, ◌∙◌, ap, arith, subst, sym}
-use Rattle.eventkey.specs.Message.{Message}
-use Rattle.pictures.specs.Counting.{HasDelays}
+use Rattle.std.proofs.Common.{◌-◌, ◌∙◌, ap}
 use Rattle.pictures.proofs.Running.{delay_left, delay_taken}
 use Rattle.pictures.proofs.counted.take_delay.Goals as goal
 

@@ -1,8 +1,7 @@
 use Rattle.std.specs.List.{AllByRecursion as Every}
-use Rattle.std.proofs.Common.{◌≡◌, ◌++◌, ◌∷◌, [], ap, arith, get_or, subst, sym, take}
+use Rattle.std.proofs.Common.{◌∷◌, [], arith, get_or, subst, sym, take}
 use Rattle.std.proofs.lemmas.List.{take_all, take_more}
 use Rattle.eventkey.proofs.Lists.{Every-append, Every-get_or, Every-weaker}
-use Rattle.eventkey.specs.Message.{Message}
 use Rattle.pictures.specs.Senders.{HaveTime}
 use Rattle.pictures.proofs.senders.keep_times.Goals as goal
 

@@ -1,4 +1,4 @@
-use Rattle.std.proofs.Common.{◌≡◌, ◌<◌, ◌∷◌, [], ℕ, ap, arith, get_or, length, replicate, subst, sym, ◌∙◌}
+use Rattle.std.proofs.Common.{◌∷◌, [], ℕ, ap, arith, get_or, length, replicate, subst, sym, ◌∙◌}
 use Rattle.std.proofs.lemmas.List.{get_or_past, length-append, length-replicate}
 use Rattle.pictures.specs.Senders.{IsFound, IsSender}
 use Rattle.pictures.specs.declared.senders.Sender.{Sender}

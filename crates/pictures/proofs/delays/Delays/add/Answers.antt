@@ -1,4 +1,4 @@
-use Rattle.std.proofs.Common.{◌+◌, ◌∙◌, ap, arith, unwrap_or}
+use Rattle.std.proofs.Common.{◌+◌, ◌∙◌, ap, unwrap_or}
 use Rattle.pictures.proofs.Spreads.{counted_more}
 use Rattle.pictures.proofs.delays.Delays.add.Goals as goal
 

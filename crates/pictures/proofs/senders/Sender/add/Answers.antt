@@ -1,4 +1,4 @@
-use Rattle.std.proofs.Common.{◌≡◌, ◌+◌, ◌-◌, ◌++◌, ap, arith, length, refl, replicate, ◌∙◌}
+use Rattle.std.proofs.Common.{◌≡◌, ◌-◌, ◌++◌, ap, arith, length, refl, replicate, ◌∙◌}
 use Rattle.std.proofs.lemmas.List.{length-append, length-replicate}
 use Rattle.pictures.specs.declared.senders.Sender.{Sender}
 use Rattle.pictures.proofs.OnTheWay.{found_more, sender_more}

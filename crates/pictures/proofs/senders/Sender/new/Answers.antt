@@ -1,4 +1,3 @@
-use Rattle.std.proofs.Common.{sym}
 use Rattle.pictures.proofs.OnTheWay.{sender_none}
 use Rattle.pictures.proofs.senders.Sender.new.Goals as goal
 
