@@ -11,3 +11,7 @@ pub mod Buckets
 pub mod Columns
 pub mod Passed  -- laws of a simulation that forgets
 pub mod Binned  -- the values of a word, and bins
+pub mod Spreads  -- values in ascending order, from how often each came
+pub mod OnTheWay  -- when the messages that are on their way were sent
+pub mod Running  -- a simulation that counts its events
+pub mod Cells  -- how many events each cell of a heat map has

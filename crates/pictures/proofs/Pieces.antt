@@ -1,5 +1,5 @@
 -- The text of the items of a list that pass a test, one after another.
-use Rattle.std.proofs.Common.{arith, suc, ◌-◌, ◌∷◌, replicate, ℕ, ◌+◌, ◌<◌, ◌≤◌, List, ◌++◌, length, drop, filter, flat_map, get_or, Bool, true, false, refl, sym, [], ◌≡◌, ◌∙◌, Option, Result, Ok, Err}
+use Rattle.std.proofs.Common.{arith, suc, ◌-◌, ◌∷◌, replicate, ℕ, ◌+◌, ◌<◌, List, ◌++◌, length, drop, filter, flat_map, get_or, Bool, true, false, refl, sym, [], ◌≡◌, ◌∙◌, Option, Result, Ok, Err}
 use Rattle.std.proofs.lemmas.List.{append-nil}
 use Rattle.eventkey.proofs.Lists.{drop_here}
 use Rattle.eventkey.proofs.Writers.{HasWritten, writes_broken, writes_end, written_next}

@@ -1,5 +1,5 @@
 -- The number of messages that each handling of a log sends, and when each process sent.
-use Rattle.std.proofs.Common.{◌≡◌, ◌≢◌, ℕ, ◌+◌, ◌<◌, ◌≤◌, ◌==◌, List, [], ◌∷◌, ◌++◌, length, get_or, set, drop, replicate, refl, ap, ◌∙◌, sym, append_assoc, append-nil, eqb-true, inl, inr, if◌then◌else◌}
+use Rattle.std.proofs.Common.{◌≡◌, ◌≢◌, ℕ, ◌+◌, ◌<◌, ◌≤◌, ◌==◌, List, [], ◌∷◌, ◌++◌, length, get_or, set, drop, replicate, ap, ◌∙◌, sym, append_assoc, append-nil, eqb-true, inl, inr, if◌then◌else◌}
 use Rattle.std.proofs.lemmas.Bool.{cases_Bool, eqb-false}
 use Rattle.std.proofs.lemmas.List.{drop_all, drop_more, get_or-set_other, get_or-set_same, replicate-append-replicate}
 use Rattle.eventkey.proofs.Lists.{drop_here}

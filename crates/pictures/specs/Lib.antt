@@ -14,5 +14,8 @@ pub mod Course  -- the course of a run, round by round
 pub mod Stepping  -- a simulation that forgets the events that it has handled
 -- Inside
 pub mod Filled  -- texts with placeholders for numbers
+pub mod Senders  -- when the messages that are on their way were sent
+pub mod Delays  -- how often each value came
+pub mod Counting  -- what was counted of a run so far
 pub mod Inside  -- the value of a trace that contracts see
 pub mod Watching  -- a look at a process after an event

@@ -1,8 +1,8 @@
 -- The load of a run: how many events each process handled in each slice of virtual time, as a heat
 -- map.
 use Rattle.std.specs.List.{filter}
-use Rattle.std.specs.Prelude.{ℕ, ◌+◌, ◌-◌, ◌*◌, ◌/◌, ◌%◌, ◌^◌, ◌&&◌, ◌==◌, Bool, List, [], ◌∷◌}
-use Rattle.std.specs.Prelude.{◌++◌, flat_map, length, max, min, nat_le, nat_lt, suc, zero}
+use Rattle.std.specs.Prelude.{ℕ, ◌≡◌, ◌≤◌, ◌<◌, ◌+◌, ◌-◌, ◌*◌, ◌/◌, ◌%◌, ◌^◌, ◌&&◌, ◌==◌, Bool, List}
+use Rattle.std.specs.Prelude.{[], ◌∷◌, ◌++◌, flat_map, get_or, length, max, min, nat_le, nat_lt, suc, zero}
 use Rattle.eventkey.specs.Message.{Message}
 use Rattle.model.specs.World.{below}
 use Rattle.pictures.specs.Drawing.{bottom_of, frame_of, grid_text, span_of}
@@ -11,6 +11,7 @@ use Rattle.pictures.specs.Run.{Run}
 use Rattle.pictures.specs.declared.drawn.Frame.{Frame}
 use Rattle.pictures.specs.declared.drawn.View.{View}
 use Rattle.pictures.specs.declared.drawn.TheConstants.{STYLE, TAIL}
+use Rattle.pictures.specs.declared.loads.Load.{Load}
 use Rattle.pictures.specs.declared.loads.TheConstants.{CELL, LOAD_HEAD}
 
 -- the number of slices of time, at most 64
@@ -34,15 +35,16 @@ abbrev pub cell_count : Run → Frame → ℕ → ℕ → ℕ
 cell_count r f row slice =
     length (filter (λ (x : Message). is_in_row f row x && (slice_at f x.time == slice)) r.events)
 
--- the most events of a cell in the first slices of a row
-abbrev pub most_in_row : Run → Frame → ℕ → ℕ → ℕ
-most_in_row r f row zero = 0
-most_in_row r f row (suc slice) = max (most_in_row r f row slice) (cell_count r f row slice)
+-- the greatest of the first numbers
+abbrev pub most_in_row : (ℕ → ℕ) → ℕ → ℕ
+most_in_row count zero = 0
+most_in_row count (suc slice) = max (most_in_row count slice) (count slice)
 
--- the most events of a cell in the first rows
-abbrev pub most_in_rows : Run → Frame → ℕ → ℕ
-most_in_rows r f zero = 0
-most_in_rows r f (suc row) = max (most_in_rows r f row) (most_in_row r f row (slices_of f))
+-- the greatest of the first slices of the first rows, where each cell has a number
+abbrev pub most_in_rows : (ℕ → ℕ → ℕ) → ℕ → ℕ → ℕ
+most_in_rows count slices zero = 0
+most_in_rows count slices (suc row) =
+    max (most_in_rows count slices row) (most_in_row (count row) slices)
 
 -- the depth of colour of a cell in tenths: ten for the most events, and none for no event; counts
 -- above 2^56 count as 2^56
@@ -57,24 +59,52 @@ cell_text f most row slice count = filled CELL.now
     ∷ (level_of most count / 10) ∷ (level_of most count % 10)
     ∷ (f.first + row) ∷ slice_start f slice ∷ slice_start f (slice + 1) ∷ count ∷ [])
 
-abbrev pub cells_text : Run → Frame → ℕ → ℕ → List ℕ
-cells_text r f most row =
-    flat_map (λ slice. cell_text f most row slice (cell_count r f row slice)) (below (slices_of f))
+abbrev pub cells_text : (ℕ → ℕ → ℕ) → Frame → ℕ → ℕ → List ℕ
+cells_text count f most row =
+    flat_map (λ slice. cell_text f most row slice (count row slice)) (below (slices_of f))
 
 -- the first and the last tick, the most events of a cell, the number of slices, and how many of the
 -- processes are shown, from which on
-abbrev pub head_text : Run → Frame → ℕ → List ℕ
-head_text r f most = filled LOAD_HEAD.now
+abbrev pub head_text : ℕ → Frame → ℕ → List ℕ
+head_text processes f most = filled LOAD_HEAD.now
     ((bottom_of f + 40) ∷ (bottom_of f + 40) ∷ f.from ∷ (f.to - 1) ∷ most ∷ slices_of f
-    ∷ f.rows ∷ length r.first ∷ f.first ∷ [])
+    ∷ f.rows ∷ processes ∷ f.first ∷ [])
 
-abbrev pub map_text : Run → Frame → ℕ → List ℕ
-map_text r f most =
-    head_text r f most
+-- the map of a frame, where each cell has a number of events
+abbrev pub map_text : ℕ → (ℕ → ℕ → ℕ) → Frame → ℕ → List ℕ
+map_text processes count f most =
+    head_text processes f most
     ++ STYLE.now ++ grid_text f
-    ++ flat_map (cells_text r f most) (below f.rows) ++ TAIL.now
+    ++ flat_map (cells_text count f most) (below f.rows) ++ TAIL.now
 
 abbrev pub load_text : Run → View → List ℕ
 load_text r v =
     let f = frame_of r v in
-    map_text r f (most_in_rows r f f.rows)
+    let count = cell_count r f in
+    map_text (length r.first) count f (most_in_rows count (slices_of f) f.rows)
+
+-- the number that is kept of a cell
+abbrev pub cell_at : List ℕ → ℕ → ℕ → ℕ
+cell_at cells row slice = get_or cells (64 * row + slice) 0
+
+-- how many of these events each cell of a frame has
+pub record AreCells (f : Frame) (events : List Message) (cells : List ℕ) : Type 0 where
+  pub long : length cells ≡ 64 * f.rows
+  pub each : (row slice : ℕ) → row < f.rows → slice < 64 → cell_at cells row slice
+      ≡ length (filter (λ (x : Message). is_in_row f row x && (slice_at f x.time == slice)) events)
+
+-- the frame has this event in the cell of this place
+pub record IsInCell (f : Frame) (x : Message) (place : ℕ) : Type 0 where
+  pub from : f.from ≤ x.time
+  pub to : x.time < f.to
+  pub first : f.first ≤ x.to
+  pub row : x.to - f.first < f.rows
+  pub slice : slice_at f x.time < 64
+  pub is : place ≡ 64 * (x.to - f.first) + slice_at f x.time
+
+-- the load of a run in a view
+pub record IsLoad (r : Run) (v : View) (l : Load) : Type 0 where
+  pub time : l.time ≡ r.time
+  pub processes : l.processes ≡ length r.first
+  pub view : l.view ≡ v
+  pub cells : AreCells (frame_of r v) r.events l.cells.items

@@ -69,3 +69,13 @@ sending_times r lp = replicate (get_or r.first lp 0) 0 ++ sent_in lp r.events r.
 -- the virtual time at which a message was sent
 abbrev pub sent_at : Run → Message → ℕ
 sent_at r x = get_or (sending_times r x.from) x.number 0
+
+-- the run after one more event, whose handling sent n messages, and with these pending messages
+abbrev pub with_event : Run → Message → ℕ → List Message → Run
+with_event r x n pending = record {
+  time = r.time;
+  first = r.first;
+  events = r.events ++ x ∷ [];
+  sends = r.sends ++ n ∷ [];
+  pending = pending;
+}

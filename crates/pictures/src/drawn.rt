@@ -13,6 +13,7 @@ ghost use Rattle.pictures.specs.Drawing.{row_text, rows_text, rule_text, shown_c
 ghost use Rattle.pictures.specs.Drawing.{step_from};
 ghost use Rattle.pictures.specs.Drawing.{step_of, tick_count, tick_text, ticks_text, x_of, y_of};
 ghost use Rattle.pictures.specs.Filled.{filled as filled_with};
+ghost use Rattle.pictures.specs.Run.{Run};
 
 use crate::Trace;
 use crate::filled::write_filled;
@@ -163,7 +164,7 @@ pub fn write_drawing<W: Write>(trace: &Trace, view: &View, out: &mut W) -> Resul
     ensures { Writes (W.contents out.old) (W.contents out.new) result
         (drawing_text trace.now view.now) }
 {
-    let frame = framed(trace, view);
+    let frame = framed(trace.time(), trace.first().len() as u64, view);
     let count = count_shown(trace, &frame);
     let drawn = Frame {
         to: drawn_end(trace, &frame, view.to),
@@ -172,14 +173,18 @@ pub fn write_drawing<W: Write>(trace: &Trace, view: &View, out: &mut W) -> Resul
     write_picture(trace, &drawn, count, out)
 }
 
-/// Returns the frame of a view.
-pub(crate) fn framed(trace: &Trace, view: &View) -> Frame
-    ensures { result ≡ frame_of trace.now view.now }
+/// Returns the frame of a view in a run up to `time` ticks of a model with this number of processes.
+pub(crate) fn framed(time: u64, processes: u64, view: &View) -> Frame
+    ensures frame { (r : Run) → time ≡ r.time → processes ≡ length r.first →
+        result ≡ frame_of r view.now }
+    ensures order { result.from ≤ result.to }
+    ensures to { result.to ≤ 2 ^ 41 }
+    ensures rows { result.rows ≤ 64 }
+    ensures first { result.first < 2 ^ 32 }
 {
     let from = view.from.min(1 << 41);
-    let lps = trace.first().len() as u64;
-    let behind = (u64::from(view.last) + 1).min(lps);
-    let to = view.to.unwrap_or(trace.time() + 1);
+    let behind = (u64::from(view.last) + 1).min(processes);
+    let to = view.to.unwrap_or(time.saturating_add(1));
     Frame {
         from,
         to: to.min(1 << 41).max(from),

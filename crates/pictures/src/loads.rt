@@ -1,19 +1,26 @@
 // The load of a run, as a heat map.
 
-ghost use Rattle.std.specs.Prelude.{◌≡◌, ◌≤◌, ◌<◌, ◌+◌, ◌-◌, ◌*◌, ◌/◌, ◌%◌, ◌^◌, ◌++◌, ℕ, flat_map};
-ghost use Rattle.std.specs.Prelude.{slice_index};
+ghost use Rattle.std.specs.Prelude.{◌≡◌, ◌≤◌, ◌<◌, ◌+◌, ◌-◌, ◌*◌, ◌/◌, ◌%◌, ◌^◌, ◌++◌, ◌∷◌, []};
+ghost use Rattle.std.specs.Prelude.{Err, IfOk, IfSome, List, None, OnOk, false, flat_map, min, ℕ};
+ghost use Rattle.eventkey.specs.Message.{Message};
 ghost use Rattle.eventkey.specs.Writing.{Writes};
 ghost use Rattle.model.specs.World.{below};
-ghost use Rattle.pictures.specs.Load.{cell_count, cell_text, cells_text, head_text, is_in_row};
-ghost use Rattle.pictures.specs.Load.{level_of};
-ghost use Rattle.pictures.specs.Load.{load_text, map_text, most_in_row, most_in_rows, slice_at};
-ghost use Rattle.pictures.specs.Load.{slice_start, slices_of};
+ghost use Rattle.model.specs.declared.WorldFault.TheVariants.{NumberLimit};
+ghost use Rattle.pictures.specs.Load.{AreCells, IsInCell, IsLoad, cell_at, cell_text, cells_text};
+ghost use Rattle.pictures.specs.Load.{head_text, is_in_row, level_of, load_text, map_text};
+ghost use Rattle.pictures.specs.Load.{most_in_row, most_in_rows, slice_at, slice_start, slices_of};
+ghost use Rattle.pictures.specs.Run.{IsOverLimit, IsPartBefore, IsRunOf, Run};
+ghost use Rattle.pictures.specs.declared.drawn.View.{View};
 
-use crate::Trace;
+use crate::counted::due;
+use crate::delays::one_more;
 use crate::drawn::{Frame, STYLE, TAIL, View, bottom, framed, span, write_grid};
 use crate::filled::write_filled;
+use crate::stepping::{EVENTS_KEPT, without_log};
 use eventkey::Message;
-use std::io::{Result, Write};
+use model::{Model, World, WorldFault};
+use std::alloc::{AllocError, Global};
+use std::io::{Result as IoResult, Write};
 use texts::write_text;
 
 /// The cap of counts: greater ones count as this, so that no product overflows.
@@ -31,45 +38,174 @@ const CELL: &str = "\
 <title>process $, $ to $: $ events</title></rect>
 ";
 
+/// The load of a run in a view: how many events each process handled in each slice of time.
+#[derive(Drop)]
+pub struct Load {
+    /// The virtual time in ticks up to which the run went.
+    pub(crate) time: u64,
+    /// The number of processes of the model.
+    pub(crate) processes: u32,
+    pub(crate) view: View,
+    /// The number of events of each cell, 64 for each row.
+    pub(crate) cells: Vec<u64>,
+}
+
+impl Load {
+    /// Returns the number of processes of the model.
+    pub fn processes(&self) -> u32 {
+        self.processes
+    }
+}
+
+/// Runs a model from its opening up to `to` ticks, and returns the load of its part before the tick
+/// `before`, which is as far as it simulates. The simulation ends at `end` ticks, 1 to 2^40.
+///
+/// There is a cell for each of up to 64 slices of each of the first 64 processes of the view. Times
+/// above 2^41 count as 2^41.
+///
+/// `NumberLimit` comes if the send number of a process would pass 2^63 before that, and `NoMemory`
+/// if an allocation failed, or at 2^64 events. The costs are the simulation, a constant time for
+/// each event, and memory for the world and 2^16 events.
+pub fn load_of<M: Model>(
+    alloc: Global,
+    model: &M,
+    end: u64,
+    to: u64,
+    before: u64,
+    view: &View,
+) -> Result<Load, WorldFault>
+    requires some { 1 ≤ end }
+    requires end { end ≤ 2 ^ 40 }
+    ensures load { IfOk result (λ l. (r : Run) × IsPartBefore (M.meaning model.now) end to before r
+        × IsLoad r view.now l) }
+    ensures limit { result ≡ Err WorldFault.NumberLimit →
+        IsOverLimit (M.meaning model.now) end (min to before) }
+{
+    let time = to.min(end);
+    let processes = model.lps();
+    let frame = framed(time, u64::from(processes), view);
+    let cells = count_cells(alloc, model, end, to.min(before), &frame)?;
+    Ok(Load {
+        time,
+        processes,
+        view: *view,
+        cells,
+    })
+}
+
+/// Returns how many events of the run of a model up to `to` ticks each cell of a frame has.
+fn count_cells<M: Model>(
+    alloc: Global,
+    model: &M,
+    end: u64,
+    to: u64,
+    frame: &Frame,
+) -> Result<Vec<u64>, WorldFault>
+    requires some { 1 ≤ end }
+    requires end { end ≤ 2 ^ 40 }
+    requires early { frame.now.to ≤ 2 ^ 41 }
+    ensures cells { IfOk result (λ v. (r : Run) × IsRunOf (M.meaning model.now) end to r
+        × AreCells frame.now r.events v.items) }
+    ensures limit { result ≡ Err WorldFault.NumberLimit →
+        IsOverLimit (M.meaning model.now) end to }
+{
+    let bound = to.min(end);
+    let mut world = World::open(alloc, model, end)?;
+    let mut cells = Vec::new(alloc);
+    cells.resize(64 * frame.rows as usize, 0)?;
+    for _ in 0..u64::MAX {
+        let Some(event) = due(&world, bound) else {
+            return Ok(cells);
+        };
+        world.step(model)?;
+        add_event(frame, &event, &mut cells)?;
+        if world.log().len() >= EVENTS_KEPT {
+            world = without_log(alloc, world, end)?;
+        }
+    }
+    Err(WorldFault::NoMemory)
+}
+
+/// Counts an event in its cell, if the frame has it.
+fn add_event(frame: &Frame, event: &Message, cells: &mut Vec<u64>) -> Result<(), AllocError>
+    requires { frame.now.to ≤ 2 ^ 41 }
+    ensures { OnOk result ((events : List Message) → AreCells frame.now events cells.old.items →
+        AreCells frame.now (events ++ event.now ∷ []) cells.new.items) }
+{
+    let Some(place) = place_in(frame, event) else {
+        return Ok(());
+    };
+    if place >= cells.len() {
+        return Ok(());
+    }
+    cells[place] = one_more(cells[place])?;
+    Ok(())
+}
+
+/// Returns the place of the cell of an event, if the frame has it.
+fn place_in(frame: &Frame, event: &Message) -> Option<usize>
+    requires { frame.now.to ≤ 2 ^ 41 }
+    ensures inside { IfSome result (λ place. IsInCell frame.now event.now place) }
+    ensures outside { result ≡ None → (row : ℕ) → row < frame.now.rows →
+        is_in_row frame.now row event.now ≡ false }
+{
+    let time = event.time();
+    if time < frame.from || time >= frame.to {
+        return None;
+    }
+    let row = event.to().checked_sub(frame.first)?;
+    if row >= frame.rows {
+        return None;
+    }
+    Some(64 * row as usize + slice_of(frame, time))
+}
+
 /// Writes the load of a run as a heat map in a stand-alone SVG: how many events each process
 /// handled in each slice of virtual time.
 ///
-/// There is a rectangle for each of up to 64 slices of each of the first 64 processes of the view,
-/// in ten depths of colour; the deepest is that of the most events. A view without an end goes up to
-/// the tick that the run reached. Times above 2^41 count as 2^41. The axes have titles.
-/// The title has the first and the last tick, and a line says how many of the processes are shown.
+/// There is a rectangle for each cell, in ten depths of colour; the deepest is that of the most
+/// events. A view without an end goes up to the tick that the run reached. The axes have titles. The
+/// title has the first and the last tick, and a line says how many of the processes are shown.
 ///
-/// If the writer fails, its error is returned, and it has taken a beginning of the text. The events
-/// are read twice for each process shown, and nothing is allocated.
-pub fn write_load<W: Write>(trace: &Trace, view: &View, out: &mut W) -> Result<()>
-    ensures { Writes (W.contents out.old) (W.contents out.new) result
-        (load_text trace.now view.now) }
+/// If the writer fails, its error is returned, and it has taken a beginning of the text. The time
+/// does not depend on the number of events, and nothing is allocated.
+pub fn write_load<W: Write>(load: &Load, out: &mut W) -> IoResult<()>
+    ensures { (r : Run) (v : View) → IsLoad r v load.now →
+        Writes (W.contents out.old) (W.contents out.new) result (load_text r v) }
 {
-    let frame = framed(trace, view);
-    let most = most_in_rows(trace, &frame);
-    write_map(trace, &frame, most, out)
+    let processes = u64::from(load.processes);
+    let frame = framed(load.time, processes, &load.view);
+    let cells = load.cells.as_slice();
+    let most = most_in_rows(cells, &frame);
+    write_map(processes, cells, &frame, most, out)
 }
 
-fn write_map<W: Write>(trace: &Trace, frame: &Frame, most: u64, out: &mut W) -> Result<()>
+fn write_map<W: Write>(
+    processes: u64,
+    cells: &[u64],
+    frame: &Frame,
+    most: u64,
+    out: &mut W,
+) -> IoResult<()>
     requires order { frame.now.from ≤ frame.now.to }
     requires to { frame.now.to ≤ 2 ^ 41 }
     requires rows { frame.now.rows ≤ 64 }
     requires first { frame.now.first < 2 ^ 32 }
     ensures { Writes (W.contents out.old) (W.contents out.new) result
-        (map_text trace.now frame.now most) }
+        (map_text processes (cell_at cells.now) frame.now most) }
 {
-    write_head(trace, frame, most, out)?;
+    write_head(processes, frame, most, out)?;
     write_text(STYLE, out)?;
     write_grid(frame, out)?;
-    write_all_cells(trace, frame, most, out)?;
+    write_all_cells(cells, frame, most, out)?;
     write_text(TAIL, out)
 }
 
 /// Writes the title, and how much is shown.
-fn write_head<W: Write>(trace: &Trace, frame: &Frame, most: u64, out: &mut W) -> Result<()>
+fn write_head<W: Write>(processes: u64, frame: &Frame, most: u64, out: &mut W) -> IoResult<()>
     requires rows { frame.now.rows ≤ 64 }
     ensures { Writes (W.contents out.old) (W.contents out.new) result
-        (head_text trace.now frame.now most) }
+        (head_text processes frame.now most) }
 {
     let height = bottom(frame) + 40;
     let numbers = [
@@ -80,46 +216,54 @@ fn write_head<W: Write>(trace: &Trace, frame: &Frame, most: u64, out: &mut W) ->
         most,
         slices(frame),
         u64::from(frame.rows),
-        trace.first().len() as u64,
+        processes,
         u64::from(frame.first),
     ];
     write_filled(LOAD_HEAD, &numbers, out)
 }
 
-fn write_all_cells<W: Write>(trace: &Trace, frame: &Frame, most: u64, out: &mut W) -> Result<()>
+fn write_all_cells<W: Write>(cells: &[u64], frame: &Frame, most: u64, out: &mut W) -> IoResult<()>
     requires order { frame.now.from ≤ frame.now.to }
     requires to { frame.now.to ≤ 2 ^ 41 }
     requires rows { frame.now.rows ≤ 64 }
     requires first { frame.now.first < 2 ^ 32 }
     ensures { Writes (W.contents out.old) (W.contents out.new) result
-        (flat_map (cells_text trace.now frame.now most) (below frame.now.rows)) }
+        (flat_map (cells_text (cell_at cells.now) frame.now most) (below frame.now.rows)) }
 {
     for row in 0..frame.rows {
-        write_cells(trace, frame, most, row, out)?;
+        write_cells(cells, frame, most, row, out)?;
     }
     Ok(())
 }
 
 /// Writes the cells of one row.
 fn write_cells<W: Write>(
-    trace: &Trace,
+    cells: &[u64],
     frame: &Frame,
     most: u64,
     row: u32,
     out: &mut W,
-) -> Result<()>
+) -> IoResult<()>
     requires order { frame.now.from ≤ frame.now.to }
     requires to { frame.now.to ≤ 2 ^ 41 }
     requires row { row < 64 }
     requires first { frame.now.first < 2 ^ 32 }
     ensures { Writes (W.contents out.old) (W.contents out.new) result
-        (cells_text trace.now frame.now most row) }
+        (cells_text (cell_at cells.now) frame.now most row) }
 {
-    let counts = counts_of(trace, frame, row);
     for slice in 0..slices(frame) {
-        write_cell(frame, most, row, slice, counts[slice as usize], out)?;
+        write_cell(frame, most, row, slice, cell(cells, row, slice), out)?;
     }
     Ok(())
+}
+
+/// Returns the number of events of a cell.
+fn cell(cells: &[u64], row: u32, slice: u64) -> u64
+    requires { slice < 64 }
+    ensures { result ≡ cell_at cells.now row slice }
+{
+    let place = 64 * row as usize + slice as usize;
+    cells.get(place).copied().unwrap_or(0)
 }
 
 fn write_cell<W: Write>(
@@ -129,7 +273,7 @@ fn write_cell<W: Write>(
     slice: u64,
     count: u64,
     out: &mut W,
-) -> Result<()>
+) -> IoResult<()>
     requires order { frame.now.from ≤ frame.now.to }
     requires to { frame.now.to ≤ 2 ^ 41 }
     requires row { row < 64 }
@@ -163,26 +307,23 @@ fn level(count: u64, most: u64) -> u64
     (10 * count.min(MOST) + most).saturating_sub(1) / most.max(1)
 }
 
-/// Returns the most events of a process in a slice.
-fn most_in_rows(trace: &Trace, frame: &Frame) -> u64
-    requires to { frame.now.to ≤ 2 ^ 41 }
-    ensures { result ≡ most_in_rows trace.now frame.now frame.now.rows }
+/// Returns the most events of a cell.
+fn most_in_rows(cells: &[u64], frame: &Frame) -> u64
+    ensures { result ≡ most_in_rows (cell_at cells.now) (slices_of frame.now) frame.now.rows }
 {
     let mut most = 0u64;
     for row in 0..frame.rows {
-        most = most.max(most_in_row(trace, frame, row));
+        most = most.max(most_in_row(cells, frame, row));
     }
     most
 }
 
-fn most_in_row(trace: &Trace, frame: &Frame, row: u32) -> u64
-    requires to { frame.now.to ≤ 2 ^ 41 }
-    ensures { result ≡ most_in_row trace.now frame.now row (slices_of frame.now) }
+fn most_in_row(cells: &[u64], frame: &Frame, row: u32) -> u64
+    ensures { result ≡ most_in_row (cell_at cells.now row) (slices_of frame.now) }
 {
-    let counts = counts_of(trace, frame, row);
     let mut most = 0u64;
     for slice in 0..slices(frame) {
-        most = most.max(counts[slice as usize]);
+        most = most.max(cell(cells, row, slice));
     }
     most
 }
@@ -204,31 +345,6 @@ fn start(frame: &Frame, slice: u64) -> u64
 {
     let slices = slices(frame);
     frame.from + (slice * span(frame) + slices - 1) / slices
-}
-
-/// Returns how many events the process of a row handled in each slice.
-fn counts_of(trace: &Trace, frame: &Frame, row: u32) -> [u64; 64]
-    requires to { frame.now.to ≤ 2 ^ 41 }
-    ensures { (slice : ℕ) → slice < 64 →
-        slice_index result slice ≡ cell_count trace.now frame.now row slice }
-{
-    let mut counts = [0u64; 64];
-    for event in trace.events() {
-        if is_here(frame, row, event) {
-            counts[slice_of(frame, event.time())] += 1;
-        }
-    }
-    counts
-}
-
-fn is_here(frame: &Frame, row: u32, event: &Message) -> bool
-    ensures { result ≡ is_in_row frame.now row event.now }
-{
-    let time = event.time();
-    if time < frame.from || time >= frame.to {
-        return false;
-    }
-    u64::from(event.to()) == u64::from(frame.first) + u64::from(row)
 }
 
 /// Returns the slice that a time of the frame is in.

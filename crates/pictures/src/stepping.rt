@@ -1,9 +1,11 @@
 // A simulation in steps that forgets the events that it has handled, so that it needs memory for
 // its world, and not for its log.
 
-ghost use Rattle.std.specs.Prelude.{◌≡◌, ◌≤◌, ◌*◌, ◌++◌, ◌^◌, Ok, IfOk, List, false, length, min};
+ghost use Rattle.std.specs.Prelude.{◌≡◌, ◌≤◌, ◌*◌, ◌++◌, ◌^◌, Ok, IfOk, IsOkUnless, List, false};
+ghost use Rattle.std.specs.Prelude.{length, min};
 ghost use Rattle.eventkey.specs.Message.{Message};
 ghost use Rattle.model.specs.Runner.{IsIdle, IsRun};
+ghost use Rattle.model.specs.declared.WorldFault.TheVariants.{NoMemory};
 ghost use Rattle.pictures.specs.Stepping.{comes_before, with_log, without_log};
 
 use eventkey::Message;
@@ -80,7 +82,9 @@ pub fn forget(alloc: Global, world: World, end: u64) -> Result<World, WorldFault
 pub(crate) fn without_log(alloc: Global, world: World, end: u64) -> Result<World, WorldFault>
     requires some { 1 ≤ end }
     requires end { end ≤ 2 ^ 40 }
-    ensures { IfOk result (λ w. w ≡ record { end = end; world = without_log world.world }) }
+    ensures world { IfOk result
+        (λ w. w ≡ record { end = end; world = without_log world.world }) }
+    ensures refused { IsOkUnless result WorldFault.NoMemory }
 {
     let WorldParts {
         time,

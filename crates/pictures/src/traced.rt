@@ -1,7 +1,7 @@
 // A run in detail: its events and what they sent.
 
 ghost use Rattle.std.specs.List.{AllByRecursion as Every, filter};
-ghost use Rattle.std.specs.Prelude.{◌≡◌, ◌≤◌, ◌<◌, ◌^◌, ◌++◌, ℕ, Err, IfOk, OnOk, List, [], get_or};
+ghost use Rattle.std.specs.Prelude.{◌≡◌, ◌≤◌, ◌<◌, ◌^◌, ◌++◌, ℕ, Err, IfOk, List, [], get_or};
 ghost use Rattle.std.specs.Prelude.{length, map, min, replicate, set};
 ghost use Rattle.model.specs.Meaning.{IsAddressed, IsWords};
 ghost use Rattle.model.specs.declared.WorldFault.TheVariants.{NumberLimit};
@@ -9,6 +9,7 @@ ghost use Rattle.pictures.specs.Inside.{IsWholeRun, lists};
 ghost use Rattle.pictures.specs.Run.{IsOverLimit, IsPartBefore, IsRunOf, is_from, left_at};
 ghost use Rattle.pictures.specs.Run.{sending_times, sends_of as sends_from, sent_at, sent_in};
 
+use crate::senders::add_times;
 use eventkey::Message;
 use model::{Model, Words, World, WorldFault, WorldParts};
 use std::alloc::{AllocError, Global};
@@ -280,14 +281,4 @@ fn opening_rows(alloc: Global, first: &[u64]) -> Result<Vec<Vec<u64>>, AllocErro
         rows.push(row)?;
     }
     Ok(rows)
-}
-
-/// Appends a time `count` times, once for each message.
-fn add_times(row: &mut Vec<u64>, count: u64, time: u64) -> Result<(), AllocError>
-    ensures { OnOk result (row.new.items ≡ row.old.items ++ replicate count time) }
-{
-    for _ in 0..count {
-        row.push(time)?;
-    }
-    Ok(())
 }

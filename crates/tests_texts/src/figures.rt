@@ -3,14 +3,13 @@
 
 use eventkey::Message;
 use models::{Phold, TokenRing};
-use pictures::{Busy, Choice, Trace, figures_of, trace_of, write_chosen};
+use pictures::{Busy, Choice, Spread, Trace, figures_of, trace_of, write_chosen};
 use std::alloc::Global;
 use std::test::Fail;
 
 #[test]
 fn the_figures_at_time_zero_have_no_events(rt: HostRuntime) -> Result<(), Fail> {
-    let trace = trace_of(rt.alloc(), &TokenRing::new(3, 2, 1), 10, 0)?;
-    let figures = figures_of(rt.alloc(), &trace)?;
+    let figures = figures_of(rt.alloc(), &TokenRing::new(3, 2, 1), 10, 0)?;
     assert!(rt; figures.events == 0 && figures.pending == 1 && figures.time == 0);
     assert!(rt; figures.rate.whole == 0 && figures.rate.thousandths == 0);
     assert!(rt; figures.handled.most == 0 && figures.sent.most == 1 && figures.delay.least == 1);
@@ -39,14 +38,49 @@ fn is_counted(trace: &Trace, busy: &Busy) -> bool {
 
 #[test]
 fn the_figures_of_phold_match_its_log(rt: HostRuntime) -> Result<(), Fail> {
-    let trace = trace_of(rt.alloc(), &Phold::new(16, 4, 10, 7), 1000, 600)?;
-    let figures = figures_of(rt.alloc(), &trace)?;
+    let phold = Phold::new(16, 4, 10, 7);
+    let trace = trace_of(rt.alloc(), &phold, 1000, 600)?;
+    let figures = figures_of(rt.alloc(), &phold, 1000, 600)?;
     assert!(rt; figures.events == trace.events().len() as u64 && figures.pending == 64);
     for busy in figures.busiest.as_slice() {
         assert!(rt; is_counted(&trace, busy));
     }
     for event in trace.events() {
         assert!(rt; trace.sent_at(event) < event.time());
+    }
+    Ok(())
+}
+
+/// The least, the lower median and the greatest of the delays of a run's messages, by a sort.
+fn delays_by_sort(alloc: Global, trace: &Trace) -> Result<Spread, Fail> {
+    let mut delays = Vec::new(alloc);
+    for message in trace.events().iter().chain(trace.pending()) {
+        delays.push(message.time().saturating_sub(trace.sent_at(message)))?;
+    }
+    delays.sort_unstable();
+    let last = delays.len().saturating_sub(1);
+    Ok(Spread {
+        least: number_at(delays.as_slice(), 0),
+        median: number_at(delays.as_slice(), last / 2),
+        most: number_at(delays.as_slice(), last),
+    })
+}
+
+fn number_at(numbers: &[u64], place: usize) -> u64 {
+    numbers.get(place).copied().unwrap_or(0)
+}
+
+#[test]
+fn the_delays_of_a_long_run_match_its_log(rt: HostRuntime) -> Result<(), Fail> {
+    let phold = Phold::new(16, 4, 10, 7);
+    let trace = trace_of(rt.alloc(), &phold, 1 << 20, 30_000)?;
+    let figures = figures_of(rt.alloc(), &phold, 1 << 20, 30_000)?;
+    // so many that the simulation forgets events
+    assert!(rt; trace.events().len() > 1 << 17);
+    assert!(rt; figures.events == trace.events().len() as u64);
+    assert!(rt; figures.delay == delays_by_sort(rt.alloc(), &trace)?);
+    for busy in figures.busiest.as_slice() {
+        assert!(rt; is_counted(&trace, busy));
     }
     Ok(())
 }

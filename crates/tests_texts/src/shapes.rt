@@ -1,7 +1,7 @@
 // Each drawing is well formed. What drawings show is in the scripts `pictures` and `course`.
 
 use models::{Phold, TokenRing};
-use pictures::{Trace, View, trace_of, write_drawing, write_load};
+use pictures::{Trace, View, load_of, trace_of, write_drawing, write_load};
 use std::alloc::{AllocError, Global};
 use std::test::Fail;
 
@@ -59,27 +59,28 @@ const VIEWS: [(u64, u64, u32, u32); 11] = [
     (7, 0, 5, 80),
 ];
 
-/// Whether the drawing of a view, or its heat map, is well formed.
-fn is_drawn(alloc: Global, trace: &Trace, view: &View, load: bool) -> Result<bool, Fail> {
+/// Whether the drawing of a view is well formed.
+fn is_drawn(alloc: Global, trace: &Trace, view: &View) -> Result<bool, Fail> {
     let mut bytes = Vec::new(alloc);
-    if load {
-        write_load(trace, view, &mut bytes)?;
-    } else {
-        write_drawing(trace, view, &mut bytes)?;
-    }
+    write_drawing(trace, view, &mut bytes)?;
     Ok(is_well_formed(alloc, String::from_utf8(bytes)?.as_str())?)
 }
 
+/// The view at a place.
+fn view_at(place: usize) -> View {
+    let (from, to, first, last) = VIEWS[place % VIEWS.len()];
+    View {
+        from,
+        to: if to == 0 { None } else { Some(to) },
+        first,
+        last,
+    }
+}
+
 /// The place of the first view that is not drawn well.
-fn wrong_view(alloc: Global, trace: &Trace, load: bool) -> Result<Option<usize>, Fail> {
-    for (place, (from, to, first, last)) in VIEWS.iter().enumerate() {
-        let view = View {
-            from: *from,
-            to: if *to == 0 { None } else { Some(*to) },
-            first: *first,
-            last: *last,
-        };
-        if !is_drawn(alloc, trace, &view, load)? {
+fn wrong_view(alloc: Global, trace: &Trace) -> Result<Option<usize>, Fail> {
+    for place in 0..VIEWS.len() {
+        if !is_drawn(alloc, trace, &view_at(place))? {
             return Ok(Some(place));
         }
     }
@@ -89,17 +90,27 @@ fn wrong_view(alloc: Global, trace: &Trace, load: bool) -> Result<Option<usize>,
 #[test]
 fn each_picture_is_well_formed(rt: HostRuntime) -> Result<(), Fail> {
     let trace = trace_of(rt.alloc(), &Phold::new(100, 3, 9, 5), 200, 150)?;
-    assert_eq!(rt; wrong_view(rt.alloc(), &trace, false)?, None);
+    assert_eq!(rt; wrong_view(rt.alloc(), &trace)?, None);
     let empty = trace_of(rt.alloc(), &Phold::new(1, 1, 9, 5), 200, 0)?;
-    assert_eq!(rt; wrong_view(rt.alloc(), &empty, false)?, None);
+    assert_eq!(rt; wrong_view(rt.alloc(), &empty)?, None);
     let ring = trace_of(rt.alloc(), &TokenRing::new(3, 2, 1), 10, 10)?;
-    assert_eq!(rt; wrong_view(rt.alloc(), &ring, false)?, None);
+    assert_eq!(rt; wrong_view(rt.alloc(), &ring)?, None);
     Ok(())
+}
+
+/// Whether the heat map of a view is well formed.
+fn is_mapped(alloc: Global, model: &Phold, view: &View) -> Result<bool, Fail> {
+    let mut bytes = Vec::new(alloc);
+    let load = load_of(alloc, model, 200, 150, u64::MAX, view)?;
+    write_load(&load, &mut bytes)?;
+    Ok(is_well_formed(alloc, String::from_utf8(bytes)?.as_str())?)
 }
 
 #[test]
 fn each_heat_map_is_well_formed(rt: HostRuntime) -> Result<(), Fail> {
-    let trace = trace_of(rt.alloc(), &Phold::new(100, 3, 9, 5), 200, 150)?;
-    assert_eq!(rt; wrong_view(rt.alloc(), &trace, true)?, None);
+    let phold = Phold::new(100, 3, 9, 5);
+    for place in 0..VIEWS.len() {
+        assert!(rt; is_mapped(rt.alloc(), &phold, &view_at(place))?, "{place}");
+    }
     Ok(())
 }

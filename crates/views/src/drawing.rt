@@ -1,10 +1,15 @@
 // The pictures of a run, and of the course in a trace.
 
 ghost use Rattle.std.specs.Prelude.{◌≡◌, ◌≤◌, ◌^◌, ◌⊎◌, List, ℕ, IfOk, IsOkUnless, OnErr, OnOk};
+ghost use Rattle.std.specs.Prelude.{false, true};
 ghost use Rattle.eventkey.specs.Writing.{Writes};
 ghost use Rattle.pictures.specs.Course.{course_text};
 ghost use Rattle.views.specs.Reading.{IsDrawnBy, IsPicture, IsPictureOf};
-ghost use Rattle.views.specs.Views.{needed_to, picture_text, view_of, Begins, IsCourse, IsDrawn};
+ghost use Rattle.pictures.specs.Drawing.{drawing_text};
+ghost use Rattle.pictures.specs.Load.{IsLoad, load_text};
+ghost use Rattle.pictures.specs.Run.{Run};
+ghost use Rattle.pictures.specs.declared.drawn.View.{View};
+ghost use Rattle.views.specs.Views.{needed_to, view_of, Begins, IsCourse, IsDrawn};
 ghost use Rattle.views.specs.Views.{IsTracedBefore, Prints};
 ghost use Rattle.views.specs.declared.fault.ViewFault.TheVariants.{Output};
 
@@ -15,10 +20,11 @@ use crate::levels::dump_on;
 use crate::looking::{first_of, found_among, time_of};
 use cli::{DrawArgs, ModelFile, most_sectors};
 use pictures::{
-    Row, Trace, View, read_rows, trace_before, write_course, write_drawing, write_load,
+    Load, Row, Trace, View, load_of, read_rows, trace_before, write_course, write_drawing,
+    write_load,
 };
 use std::fs::{self, File};
-use std::io::{Result as IoResult, Write};
+use std::io::Write;
 use std::rt::Files;
 use texts::Described;
 
@@ -106,25 +112,6 @@ struct Seen {
     load: bool,
 }
 
-/// Runs the model of a file up to the time committed on a disk, of at most `most` sectors, or
-/// without a disk to its end, but only the part of that run before the tick `before`, and no further.
-fn traced_before<M, R>(
-    rt: &R,
-    model_file: ModelFile<'_>,
-    disk: Option<&str>,
-    most: u32,
-    before: u64,
-) -> Result<Trace, ViewFault>
-where
-    M: Described,
-    R: Files<File = File> + AllocGlobal,
-    ensures { IfOk result (IsTracedBefore M.meaning M.says disk.entry before) }
-{
-    let (model, end): (M, u64) = read_model_file(rt, model_file)?;
-    let to = time_of(rt, &model, end, disk, most)?;
-    Ok(trace_before(rt.alloc(), &model, end, to, before)?)
-}
-
 /// Writes the picture of a run, which is simulated only up to the picture's end. A disk has at most
 /// `most` sectors. Returns `NoSuchProcess` if the model has none of the processes to draw.
 fn draw_of<M, R, O>(
@@ -146,11 +133,114 @@ where
         ⊎ Begins (IsDrawn M.meaning M.says disk.entry seen.load seen.from seen.to seen.processes)
         (O.contents out.old) (O.contents out.new)) }
 {
+    if seen.load {
+        return draw_load::<M, R, O>(rt, model_file, disk, most, seen, out);
+    }
+    draw_events::<M, R, O>(rt, model_file, disk, most, seen, out)
+}
+
+/// Writes the load of a run.
+fn draw_load<M, R, O>(
+    rt: &R,
+    model_file: ModelFile<'_>,
+    disk: Option<&str>,
+    most: u32,
+    seen: Seen,
+    out: &mut O,
+) -> Result<(), ViewFault>
+where
+    M: Described,
+    R: Files<File = File> + AllocGlobal,
+    O: Write,
+    ensures ok { OnOk result
+        (Prints (IsDrawn M.meaning M.says disk.entry true seen.from seen.to seen.processes)
+        (O.contents out.old) (O.contents out.new)) }
+    ensures err { OnErr result ((out.new ≡ out.old)
+        ⊎ Begins (IsDrawn M.meaning M.says disk.entry true seen.from seen.to seen.processes)
+        (O.contents out.old) (O.contents out.new)) }
+{
+    let before = needed_to(seen);
+    let view = view_of(seen);
+    let load = load_before::<M, R>(rt, model_file, disk, most, before, &view)?;
+    found_among(first_of(seen.processes), load.processes())?;
+    write_heat_map(&load, out)
+}
+
+/// Runs the model of a file up to the time committed on a disk, of at most `most` sectors, or
+/// without a disk to its end, but only the part of that run before the tick `before`, and no
+/// further. Returns the load of that part.
+fn load_before<M, R>(
+    rt: &R,
+    model_file: ModelFile<'_>,
+    disk: Option<&str>,
+    most: u32,
+    before: u64,
+    view: &View,
+) -> Result<Load, ViewFault>
+where
+    M: Described,
+    R: Files<File = File> + AllocGlobal,
+    ensures { IfOk result (λ load. (run : Run)
+        × IsTracedBefore M.meaning M.says disk.entry before run × IsLoad run view.now load) }
+{
+    let (model, end): (M, u64) = read_model_file(rt, model_file)?;
+    let to = time_of(rt, &model, end, disk, most)?;
+    Ok(load_of(rt.alloc(), &model, end, to, before, view)?)
+}
+
+/// Writes a heat map, and flushes the writer.
+fn write_heat_map<O: Write>(load: &Load, out: &mut O) -> Result<(), ViewFault>
+    ensures written { (run : Run) (view : View) → IsLoad run view load.now →
+        Writes (O.contents out.old) (O.contents out.new) result (load_text run view) }
+    ensures fault { IsOkUnless result Output }
+{
+    flushed(write_load(load, out), out)
+}
+
+/// Writes the space-time diagram of a run.
+fn draw_events<M, R, O>(
+    rt: &R,
+    model_file: ModelFile<'_>,
+    disk: Option<&str>,
+    most: u32,
+    seen: Seen,
+    out: &mut O,
+) -> Result<(), ViewFault>
+where
+    M: Described,
+    R: Files<File = File> + AllocGlobal,
+    O: Write,
+    ensures ok { OnOk result
+        (Prints (IsDrawn M.meaning M.says disk.entry false seen.from seen.to seen.processes)
+        (O.contents out.old) (O.contents out.new)) }
+    ensures err { OnErr result ((out.new ≡ out.old)
+        ⊎ Begins (IsDrawn M.meaning M.says disk.entry false seen.from seen.to seen.processes)
+        (O.contents out.old) (O.contents out.new)) }
+{
     let before = needed_to(seen);
     let trace = traced_before::<M, R>(rt, model_file, disk, most, before)?;
     found_among(first_of(seen.processes), trace.first().len() as u32)?;
     let view = view_of(seen);
-    write_view(&trace, &view, seen.load, out)
+    write_view(&trace, &view, out)
+}
+
+/// Runs the model of a file up to the time committed on a disk, of at most `most` sectors, or
+/// without a disk to its end, but only the part of that run before the tick `before`, and no further.
+fn traced_before<M, R>(
+    rt: &R,
+    model_file: ModelFile<'_>,
+    disk: Option<&str>,
+    most: u32,
+    before: u64,
+) -> Result<Trace, ViewFault>
+where
+    M: Described,
+    R: Files<File = File> + AllocGlobal,
+    ensures { IfOk result (IsTracedBefore M.meaning M.says disk.entry before) }
+{
+    let (model, end): (M, u64) = read_model_file(rt, model_file)?;
+    let to = time_of(rt, &model, end, disk, most)?;
+    Ok(trace_before(rt.alloc(), &model, end, to, before)?)
 }
 
 /// Returns the tick before which the picture needs to know the run.
@@ -176,30 +266,13 @@ fn view_of(seen: Seen) -> View
     }
 }
 
-/// Writes a picture, and flushes the writer.
-fn write_view<O: Write>(
-    trace: &Trace,
-    view: &View,
-    load: bool,
-    out: &mut O,
-) -> Result<(), ViewFault>
+/// Writes a space-time diagram, and flushes the writer.
+fn write_view<O: Write>(trace: &Trace, view: &View, out: &mut O) -> Result<(), ViewFault>
     ensures written { Writes (O.contents out.old) (O.contents out.new) result
-        (picture_text load trace.now view.now) }
+        (drawing_text trace.now view.now) }
     ensures fault { IsOkUnless result Output }
 {
-    flushed(write_picture(trace, view, load, out), out)
-}
-
-/// Writes a picture: the load, or the space-time diagram.
-fn write_picture<O: Write>(trace: &Trace, view: &View, load: bool, out: &mut O) -> IoResult<()>
-    ensures { Writes (O.contents out.old) (O.contents out.new) result
-        (picture_text load trace.now view.now) }
-{
-    if load {
-        write_load(trace, view, out)
-    } else {
-        write_drawing(trace, view, out)
-    }
+    flushed(write_drawing(trace, view, out), out)
 }
 
 /// Writes the picture of the course of a run from the file of its trace.

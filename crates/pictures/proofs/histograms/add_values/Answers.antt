@@ -1,6 +1,6 @@
-use Rattle.std.proofs.Common.{◌+◌, ◌∙◌, ◌++◌, List, ℕ, ap, arith, false, subst, sym, take, true}
+use Rattle.std.proofs.Common.{◌+◌, ◌∙◌, ◌++◌, List, ℕ, ap, arith, subst, sym, take}
 use Rattle.std.proofs.lemmas.List.{take_all}
-use Rattle.pictures.specs.Histograms.{is_of_sort, values_of}
+use Rattle.pictures.specs.Histograms.{values_of}
 use Rattle.pictures.specs.Tallies.{IsTally}
 use Rattle.pictures.proofs.Binned.{value_passed, value_taken}
 use Rattle.pictures.proofs.histograms.add_values.Goals.{then-is_of_sort+in_ok-add, else-is_of_sort}
