@@ -2,6 +2,3 @@ pub mod Printed
 mod Runs
 mod Streams
 mod Segments
-mod Letters
-pub mod Tabled
-mod Members
