@@ -1,7 +1,7 @@
 -- What clap finds in a command line of the program.
 use Rattle.std.specs.Borrow.{Bor}
 use Rattle.std.specs.Prelude.{◌≡◌, ◌⊎◌, ◌≤◌, ◌<◌, ◌^◌, ◌&&◌, ◌||◌, ℕ, Bool, true, false, List, [], ◌∷◌, Option, Some, None, Result, Ok, Err}
-use Rattle.std.specs.Prelude.{IfOk, IsErrAnd, IsOkAnd, option_map, unwrap_or, find, map, nat_le, if◌then◌else◌}
+use Rattle.std.specs.Prelude.{IfOk, IsErrAnd, option_map, unwrap_or, find, map, nat_le, if◌then◌else◌}
 use Rattle.std.specs.Str.Parse.{ParsesUnsigned, digits_value, without_leading_plus}
 use Rattle.std.proofs.Common.{◌∙◌, refl, ap, ap₂, subst, inl, inr, arith}
 use Rattle.std.proofs.lemmas.Bool.{cases_Bool, le-leb, leb-true}
@@ -14,16 +14,16 @@ use Rattle.clap.specs.Kinds.{FailsBy, HasKind, Kinds, or_else}
 use Rattle.clap.specs.Matches.{ReadsOne}
 use Rattle.clap.specs.Simple.{argument_words, built, entered, is_simple, label_of, names_of, rows_at}
 use Rattle.clap.specs.ValueTests.{accepts}
-use Rattle.clap.specs.Words.{AddsArg, App, Row, Rule, Text, app_of, fault_of, found_of, rows_of, rule_of, subcommand_name_of, subcommand_of, subcommand_rows_of, with_rule, with_subcommand}
+use Rattle.clap.specs.Words.{App, Row, Rule, Text, app_of, fault_of, found_of, rows_of, rule_of, subcommand_name_of, subcommand_of, subcommand_rows_of, with_rule, with_subcommand}
 use Rattle.clap.specs.Walk.{answers_to, stop_after}
-use Rattle.clap.specs.declared.builder.arg.Arg.{Arg}
 use Rattle.clap.specs.declared.builder.command.Command.{Command as ClapCommand}
 use Rattle.clap.specs.declared.builder.command.Command.TheViews.{out-Command}
+use Rattle.clap.specs.declared.builder.arg.Arg.{Arg}
 use Rattle.clap.specs.declared.error.Error.{Error}
 use Rattle.clap.specs.declared.builder.value_parser.ValueParser.TheVariants.{Unsigned}
 use Rattle.clap.specs.declared.parser.matches.ArgMatches.{ArgMatches}
 use Rattle.clap.specs.declared.parser.matches.ArgMatches.TheViews.{out-ArgMatches, out-SubCommand}
-use Rattle.cli.specs.Command.{AddsCommand, AddsCommands, AddsRule, AddsRules, IsApp, IsNamed, number_of, program_of, refusal_of, unread_fault, value_fault, with_commands, with_rules}
+use Rattle.cli.specs.Command.{AddsArgument, AddsCommand, AddsRule, IsApp, IsNamed, number_of, program_of, refusal_of, unread_fault, value_fault}
 
 pub program_is_simple : (called : Text) → is_simple (program_of called) ≡ true
 unfolding program_of clap_on_literals
@@ -95,66 +95,37 @@ or_false : (b : Bool) → (b || false) ≡ b
 or_false false = refl
 or_false true = refl
 
--- a list by its first element and the others
-pub and_then : {X : Type 0} → {x y : X} → {xs ys : List X} → x ≡ y → xs ≡ ys → (x ∷ xs) ≡ (y ∷ ys)
-and_then e f = ap₂ (λ a list. a ∷ list) e f
-
 module _ {E : Type 0} where
-  -- an argument that is not global adds its rule
-  pub rule_added : (result : Result ClapCommand E) (old : ClapCommand) (argument : Arg) (rule : Rule) → IfOk result (λ new. AddsArg old argument new) → rule_of argument ≡ rule → argument.global ≡ false
-      → IfOk result (AddsRule {E = E} (Ok old) rule)
-  rule_added (Err e) old argument rule adds says local = tt
-  rule_added (Ok new) old argument rule adds says local =
+  -- a command with one more argument, which is not global
+  pub argument_added : (command result : Result ClapCommand E) (argument : Arg) (app : App) (rule : Rule) → IfOk result (AddsArgument command argument) → IfOk command (IsApp app)
+      → rule_of argument ≡ rule → argument.global ≡ false → IfOk result (IsApp (with_rule app rule))
+  argument_added command (Err e) argument app rule adds is says local = tt
+  argument_added (Err e) (Ok new) argument app rule adds is says local = absurd adds
+  argument_added (Ok old) (Ok new) argument app rule adds is says local =
+      (adds.shape local ∙ ap₂ with_rule is.0 says, adds.globals ∙ ap₂ (λ (x : Bool) (y : Bool). x || y) is.1 local)
+
+  -- what an argument that is not global adds
+  pub rule_added : (command result : Result ClapCommand E) (argument : Arg) (rule : Rule) → IfOk result (AddsArgument command argument) → rule_of argument ≡ rule → argument.global ≡ false
+      → IfOk result (AddsRule command rule)
+  rule_added command (Err e) argument rule adds says local = tt
+  rule_added (Err e) (Ok new) argument rule adds says local = absurd adds
+  rule_added (Ok old) (Ok new) argument rule adds says local =
       (adds.shape local ∙ ap (with_rule (app_of old)) says, adds.globals ∙ ap (λ (y : Bool). (out-Command old).has_globals || y) local ∙ or_false ((out-Command old).has_globals))
 
-  -- a command with more arguments
-  pub rules_added : (command result : Result ClapCommand E) (app : App) (given rules : List Rule) → IfOk result (AddsRules command given) → IfOk command (IsApp app) → given ≡ rules
-      → IfOk result (IsApp (with_rules app rules))
-  rules_added command (Err e) app given rules adds is says = tt
-  rules_added (Err e) (Ok new) app given rules adds is says = absurd adds
-  rules_added (Ok old) (Ok new) app given rules adds is says = (adds.0 ∙ ap₂ with_rules is.0 says, adds.1 ∙ is.1)
+  -- a command with one more option
+  pub option_added : (command result : Result ClapCommand E) (app : App) (given rule : Rule) → IfOk result (AddsRule command given) → IfOk command (IsApp app) → given ≡ rule → IfOk result (IsApp (with_rule app rule))
+  option_added command (Err e) app given rule adds is says = tt
+  option_added (Err e) (Ok new) app given rule adds is says = absurd adds
+  option_added (Ok old) (Ok new) app given rule adds is says = (adds.0 ∙ ap₂ with_rule is.0 says, adds.1 ∙ is.1)
 
-  -- the same arguments, by other names
-  pub rules_said : (result : Result ClapCommand E) (app : App) (given rules : List Rule) → IfOk result (IsApp (with_rules app given)) → given ≡ rules → IfOk result (IsApp (with_rules app rules))
-  rules_said result app given rules is says = subst (λ (rs : List Rule). IfOk result (IsApp (with_rules app rs))) says is
-
-  -- what is left to be added to the command now makes of it what all made of the first one
-  abbrev pub GoesOn : Result ClapCommand E → Result ClapCommand E → List Rule → List Rule → Type 0
-  GoesOn first now left all = IfOk now (λ n. IsOkAnd first (λ f. (with_rules (app_of n) left ≡ with_rules (app_of f) all) × ((out-Command n).has_globals ≡ (out-Command f).has_globals)))
-
-  pub goes_on : (first now next : Result ClapCommand E) (rule : Rule) (left all : List Rule) → GoesOn first now (rule ∷ left) all → IfOk next (AddsRule now rule) → GoesOn first next left all
-  goes_on first now (Err e) rule left all h adds = tt
-  goes_on first (Err e) (Ok new) rule left all h adds = absurd adds
-  goes_on (Err e) (Ok old) (Ok new) rule left all h adds = absurd h
-  goes_on (Ok c) (Ok old) (Ok new) rule left all h adds = (ap (λ (a : App). with_rules a left) adds.0 ∙ h.0, adds.1 ∙ h.1)
-
-  pub begun : (first : Result ClapCommand E) (all : List Rule) → GoesOn first first all all
-  begun (Err e) all = tt
-  begun (Ok c) all = (refl, refl)
-
-  -- what is left to be added to the program now makes of it what all made of the first one
-  abbrev pub Grows : Result ClapCommand E → Result ClapCommand E → List App → List App → Type 0
-  Grows first now left all = IfOk now (λ n. IsOkAnd first (λ f. (with_commands (app_of n) left ≡ with_commands (app_of f) all) × ((out-Command n).has_globals ≡ (out-Command f).has_globals)))
-
-  pub grown : (first now command next : Result ClapCommand E) (app : App) (left all : List App) → Grows first now (app ∷ left) all → IfOk next (AddsCommand now command) → IfOk command (IsApp app) → Grows first next left all
-  grown first now command (Err e) app left all h adds has = tt
-  grown first (Err e) command (Ok new) app left all h adds has = absurd adds
-  grown first (Ok old) (Err e) (Ok new) app left all h adds has = absurd adds
-  grown (Err e) (Ok old) (Ok sub) (Ok new) app left all h adds has = absurd h
-  grown (Ok c) (Ok old) (Ok sub) (Ok new) app left all h adds has = (
-    ap (λ (a : App). with_commands a left) (adds.shape has.1 ∙ ap (λ (b : App). with_subcommand (app_of old) b.top) has.0) ∙ h.0,
-    adds.globals ∙ ap (λ (y : Bool). (out-Command old).has_globals || y) has.1 ∙ or_false ((out-Command old).has_globals) ∙ h.1,
-  )
-
-  pub ungrown : (first : Result ClapCommand E) (all : List App) → Grows first first all all
-  ungrown (Err e) all = tt
-  ungrown (Ok c) all = (refl, refl)
-
-  -- a program with its commands
-  pub commands_added : (program : ClapCommand) (result : Result ClapCommand E) (app : App) (commands : List App) → IfOk result (AddsCommands {E = E} (Ok program) commands) → IsApp app program
-      → IfOk result (IsApp (with_commands app commands))
-  commands_added program (Err e) app commands adds is = tt
-  commands_added program (Ok new) app commands adds is = (adds.0 ∙ ap (λ (a : App). with_commands a commands) is.0, adds.1 ∙ is.1)
+  -- a program with one more command
+  pub command_added : (above command result : Result ClapCommand E) (app added : App) → IfOk result (AddsCommand above command) → IfOk above (IsApp app) → IfOk command (IsApp added)
+      → IfOk result (IsApp (with_subcommand app added.top))
+  command_added above command (Err e) app added adds is has = tt
+  command_added (Err e) command (Ok new) app added adds is has = absurd adds
+  command_added (Ok old) (Err e) (Ok new) app added adds is has = absurd adds
+  command_added (Ok old) (Ok sub) (Ok new) app added adds is has =
+      (adds.shape has.1 ∙ ap₂ (λ (a : App) (b : App). with_subcommand a b.top) is.0 has.0, adds.globals ∙ ap₂ (λ (x : Bool) (y : Bool). x || y) is.1 has.1)
 
 -- the number that is chosen, by the one that was parsed
 abbrev pub chosen : ℕ → ℕ → Option ℕ → ℕ

@@ -8,9 +8,11 @@ use Rattle.std.proofs.lemmas.Bool.{cases_Bool, eqb-true, le-leb, leb-true}
 use Rattle.clap.proofs.OnLiterals.{clap_on_literals}
 use Rattle.clap.proofs.ValueTestLemmas.{Accepts-accepts, accepts-Accepts}
 use Rattle.clap.proofs.WalkLemmas.{both}
+use Rattle.clap.specs.Kinds.{HasKind, Kinds, or_else}
 use Rattle.clap.specs.Values.{refused_kind}
 use Rattle.clap.specs.ValueTests.{accepts}
 use Rattle.clap.specs.Words.{Text, fault_of, is_simple_and_free}
+use Rattle.clap.specs.declared.error.Error.{Error}
 use Rattle.clap.specs.declared.builder.value_parser.ValueParser.{ValueParser}
 use Rattle.clap.specs.declared.builder.value_parser.ValueParser.TheVariants.{Unsigned}
 use Rattle.cli.specs.Command.{is_number, written_number, range_between, refusing, table_named}
@@ -86,6 +88,11 @@ no_range first (next ∷ last) h = elim (cases_Bool (next == 46)) [
   | inl e ↦ absurd (h last (ap (λ (n : ℕ). n ∷ last) (eqb-true next 46 e)))
   | inr e ↦ rw e refl
 ]
+
+-- an error of the first errors is one of them all
+pub first_kind : (a b : Kinds) (e : Error) → HasKind a e → HasKind (or_else a b) e
+first_kind [] b e h = elim h [ inl none ↦ inl none | inr never ↦ absurd never ]
+first_kind (k ∷ ks) b e h = h
 
 -- a text that names no table has the name of none
 pub not_named : (text name : Text) (found : StatsTable) → table_named name ≡ Some found → table_named text ≡ None → bytes_eq name text ≡ false

@@ -7,18 +7,17 @@ use Rattle.std.specs.List.{after_first, before_first, list_any}
 use Rattle.std.specs.Str.{bytes_eq}
 use Rattle.std.specs.Str.Parse.{digits_value, without_leading_plus}
 use Rattle.clap.specs.Kinds.{or_else}
+use Rattle.clap.specs.declared.builder.arg.Arg.{Arg}
 use Rattle.clap.specs.declared.builder.command.Command.{Command as ClapCommand}
 use Rattle.clap.specs.declared.builder.command.Command.TheViews.{out-Command}
-use Rattle.clap.specs.Words.{AddsSubcommand, App, Kinds, Row, Rule, Text, app_of}
+use Rattle.clap.specs.Words.{AddsArg, AddsSubcommand, App, Kinds, Row, Rule, Text, app_of}
 use Rattle.clap.specs.Words.{fault_of, first_of, new_app, new_rule, one_of, subcommand_of}
 use Rattle.clap.specs.Words.{with_rule, with_subcommand}
-use Rattle.clap.specs.Values.{refused_kind}
 use Rattle.clap.specs.ValueTests.{accepts}
 use Rattle.clap.specs.declared.builder.action.ArgAction.TheVariants.{Append, SetTrue}
 use Rattle.clap.specs.declared.builder.value_parser.ValueParser.{ValueParser}
 use Rattle.clap.specs.declared.builder.value_parser.ValueParser.TheVariants.{NonEmptyString}
 use Rattle.clap.specs.declared.builder.value_parser.ValueParser.TheVariants.{Unsigned}
-use Rattle.clap.specs.declared.error.kind.ErrorKind.{ErrorKind}
 use Rattle.clap.specs.declared.error.kind.ErrorKind.TheVariants.{ArgumentConflict, InvalidValue}
 use Rattle.clap.specs.declared.error.kind.ErrorKind.TheVariants.{MissingRequiredArgument}
 use Rattle.clap.specs.declared.error.kind.ErrorKind.TheVariants.{ValueValidation}
@@ -51,11 +50,6 @@ use Rattle.cli.specs.declared.command.StatusArgs.{StatusArgs}
 use Rattle.cli.specs.declared.command.StatsTable.{StatsTable}
 use Rattle.cli.specs.declared.command.StatsTable.TheVariants as table
 use Rattle.cli.specs.declared.command.VerifyArgs.{VerifyArgs}
-use Rattle.cli.specs.declared.grammar.Argument.{Argument}
-use Rattle.cli.specs.declared.grammar.Kind.{Kind}
-use Rattle.cli.specs.declared.grammar.Kind.TheVariants as kind
-use Rattle.cli.specs.declared.grammar.Verb.{Verb}
-use Rattle.cli.specs.declared.grammar.Verb.TheVariants as verb
 
 -- ---- the arguments
 
@@ -390,33 +384,6 @@ program_of called = with_subcommand (with_subcommand (with_subcommand (with_subc
     stats_command.top) draw_command.top) seq_command.top)
     (on_model (codes "check")).top) node_command.top
 
--- the command of this name
-abbrev pub app_by : Verb → App
-app_by verb.New = new_command
-app_by verb.Run = run_command
-app_by verb.Extend = on_any_disk (codes "extend")
-app_by verb.Grow = grow_command
-app_by verb.Migrate = migrate_command
-app_by verb.Reopen = on_any_disk (codes "reopen")
-app_by verb.Cut = on_any_disk (codes "cut")
-app_by verb.Recover = recover_command
-app_by verb.Status = status_command
-app_by verb.Info = info_command
-app_by verb.Verify = verify_command
-app_by verb.Log = log_command
-app_by verb.Show = show_command
-app_by verb.Stats = stats_command
-app_by verb.Draw = draw_command
-app_by verb.Seq = seq_command
-app_by verb.Check = on_model (codes "check")
-app_by verb.Node = node_command
-
--- the program with these commands added, in this order
-abbrev pub with_commands : App → List App → App
-with_commands program [] = program
-with_commands program (command ∷ commands) =
-    with_commands (with_subcommand program command.top) commands
-
 -- a program with a single option, whose value passes this parser, and whose default is this text
 abbrev pub refusing : Text → ValueParser → Text → App
 refusing option parser text = with_rule (new_app option) (choice_option option parser text)
@@ -486,48 +453,17 @@ settings_of = settings_after []
 
 -- ---- building them
 
--- the rule of an argument of this kind
-abbrev pub rule_by : Kind → Text → Text → Rule
-rule_by kind.Path id long = path_argument id
-rule_by kind.MaybePath id long = optional_argument id
-rule_by kind.Flag id long = record (flag id) { long = Some long }
-rule_by kind.Text id long = record (any_text id) { long = Some long }
-rule_by (kind.TextOr default) id long = record (text_option id default.now) { long = Some long }
-rule_by kind.Word id long = record (optional_text id) { long = Some long }
-rule_by kind.Words id long = record (optional_text id) { long = Some long; action = Some Append }
-rule_by (kind.Number least most) id long =
-    record (optional_number id least most) { long = Some long }
-rule_by (kind.NumberOr least most default) id long =
-    record (number_option id least most default.now) { long = Some long }
-
--- the rule of an argument of which this is said
-abbrev pub rule_in : Argument → Rule
-rule_in said = rule_by said.kind said.id.now said.long.now
-
--- the command with these arguments added, in this order
-abbrev pub with_rules : App → List Rule → App
-with_rules app [] = app
-with_rules app (rule ∷ rules) = with_rules (with_rule app rule) rules
-
 -- the command reads words as `app` does, and has no global arguments
 abbrev pub IsApp : App → ClapCommand → Type 0
 IsApp app command = (app_of command ≡ app) × ((out-Command command).has_globals ≡ false)
 
+-- the command, if it is there, with this argument added
+abbrev pub AddsArgument : {E : Type 0} → Result ClapCommand E → Arg → ClapCommand → Type 0
+AddsArgument command argument new = IsOkAnd command (λ old. AddsArg old argument new)
+
 -- the command, if it is there, with an argument by this rule added, which is not global
 abbrev pub AddsRule : {E : Type 0} → Result ClapCommand E → Rule → ClapCommand → Type 0
 AddsRule command rule new = IsOkAnd command (λ old. (app_of new ≡ with_rule (app_of old) rule)
-    × ((out-Command new).has_globals ≡ (out-Command old).has_globals))
-
--- the command, if it is there, with arguments by these rules added, which are not global
-abbrev pub AddsRules : {E : Type 0} → Result ClapCommand E → List Rule → ClapCommand → Type 0
-AddsRules command rules new = IsOkAnd command (λ old.
-    (app_of new ≡ with_rules (app_of old) rules)
-    × ((out-Command new).has_globals ≡ (out-Command old).has_globals))
-
--- the program, if it is there, with these commands added
-abbrev pub AddsCommands : {E : Type 0} → Result ClapCommand E → List App → ClapCommand → Type 0
-AddsCommands program commands new = IsOkAnd program (λ old.
-    (app_of new ≡ with_commands (app_of old) commands)
     × ((out-Command new).has_globals ≡ (out-Command old).has_globals))
 
 -- the program, if it is there, with this command added, which is there too
@@ -627,14 +563,6 @@ range_of text = range_between (before_first (λ b. b == 46) text) (after_first (
 -- the text is a number from `least` to `most`
 abbrev pub is_number : ℕ → ℕ → Text → Bool
 is_number least most text = accepts true (Unsigned least most) text
-
--- the text is no value that passes this parser
-abbrev pub IsNoValue : ValueParser → Text → Type 0
-IsNoValue parser text = accepts false parser text ≡ false
-
--- the same, and the error for it has this kind
-abbrev pub Refuses : ErrorKind → ValueParser → Text → Type 0
-Refuses kind parser text = IsNoValue parser text × (refused_kind parser ≡ kind)
 
 -- a text that is neither this word nor a number from `least` to 2^32 - 1
 abbrev pub is_no_count : Text → ℕ → Option Text → Bool

@@ -1,73 +1,68 @@
 // Options that do not go together. `clap` could refuse them itself, but says nothing of the words
 // that it then takes.
 
-ghost use Rattle.std.specs.Prelude.{◌≡◌, ◌∷◌, ◌||◌, [], is_some, IsSomeAnd, MatchOption};
-ghost use Rattle.std.specs.Prelude.{MatchResult};
+ghost use Rattle.std.specs.Prelude.{◌≡◌, ◌∷◌, ◌||◌, [], is_some, MatchOption};
 ghost use Rattle.clap.specs.Words.{found_of, rows_of, HasKind};
-ghost use Rattle.cli.specs.Command.{company_fault};
+ghost use Rattle.cli.specs.Command.{company_fault, drawn_fault, excluded_fault};
 ghost use Rattle.cli.specs.Command.{excludes_histogram, is_drawn_twice};
 ghost use Rattle.cli.specs.Command.{is_excluded, is_excluded_anywhere, is_excluded_over_nodes};
 ghost use Rattle.cli.specs.Command.{is_lonely, is_no_span, is_over_nodes, is_there, is_used};
 ghost use Rattle.cli.specs.Command.{is_without_another, is_without_archive};
 ghost use Rattle.cli.specs.Command.{is_without_checkpoint, is_without_create, is_without_record};
-ghost use Rattle.cli.specs.Command.{is_without_sockets, is_without_table};
+ghost use Rattle.cli.specs.Command.{is_without_sockets, is_without_table, lonely_fault};
 ghost use Rattle.cli.specs.Command.{looking_fault, span_fault};
 ghost use Rattle.cli.specs.Command.{together_fault};
 
 use crate::values::{is_text, is_used, optional_number, optional_text};
 use clap::error::ErrorKind;
 use clap::{ArgMatches, Command as ClapCommand, Error};
-use std::alloc::{AllocError, Global};
+use std::alloc::Global;
 
 /// The maximum virtual time, in ticks.
 pub const LAST_TIME: u64 = 1_099_511_627_776;
 
-/// Options that do not go together, by the kind of the error and what it says. It is no error of
-/// `clap` yet, so that what looks for one owns nothing.
-#[derive(Clone, Copy)]
-pub struct Refusal {
-    pub kind: ErrorKind,
-    pub message: &'static str,
+/// The error for options that do not go together, in a program of this name.
+pub fn refused_company(alloc: Global, name: &str, values: &ArgMatches<'_>) -> Option<Error>
+    ensures { MatchOption result (company_fault (rows_of (found_of values.now)) ≡ [])
+        (λ e. HasKind (company_fault (rows_of (found_of values.now))) e) }
+{
+    match refused_lonely(alloc, name, values) {
+        Some(error) => Some(error),
+        None => refused_together(alloc, name, values),
+    }
 }
 
-/// What is wrong with options that do not go together.
-pub fn refused_company(values: &ArgMatches<'_>) -> Option<Refusal>
-    ensures { MatchOption result (company_fault (rows_of (found_of values.now)) ≡ [])
-        (λ r. company_fault (rows_of (found_of values.now)) ≡ r.kind ∷ []) }
+/// The error for options that exclude one another, in a program of this name.
+fn refused_together(alloc: Global, name: &str, values: &ArgMatches<'_>) -> Option<Error>
+    ensures { MatchOption result (together_fault (rows_of (found_of values.now)) ≡ [])
+        (λ e. HasKind (together_fault (rows_of (found_of values.now))) e) }
+{
+    match refused_excluded(alloc, name, values) {
+        Some(error) => Some(error),
+        None => refused_looking(alloc, name, values),
+    }
+}
+
+/// The error for options that do not go together in a command that looks at a run.
+fn refused_looking(alloc: Global, name: &str, values: &ArgMatches<'_>) -> Option<Error>
+    ensures { MatchOption result (looking_fault (rows_of (found_of values.now)) ≡ [])
+        (λ e. HasKind (looking_fault (rows_of (found_of values.now))) e) }
+{
+    match refused_drawn(alloc, name, values) {
+        Some(error) => Some(error),
+        None => refused_span(alloc, name, values),
+    }
+}
+
+/// The error for an option that says nothing without another one.
+fn refused_lonely(alloc: Global, name: &str, values: &ArgMatches<'_>) -> Option<Error>
+    ensures { MatchOption result (lonely_fault (rows_of (found_of values.now)) ≡ [])
+        (λ e. HasKind (lonely_fault (rows_of (found_of values.now))) e) }
 {
     match lonely(values) {
-        Some(message) => refused(ErrorKind::MissingRequiredArgument, message),
-        None => refused_together(values),
+        Some(message) => Some(error_of(alloc, name, ErrorKind::MissingRequiredArgument, message)),
+        None => None,
     }
-}
-
-/// What is wrong with options that exclude one another.
-fn refused_together(values: &ArgMatches<'_>) -> Option<Refusal>
-    ensures { MatchOption result (together_fault (rows_of (found_of values.now)) ≡ [])
-        (λ r. together_fault (rows_of (found_of values.now)) ≡ r.kind ∷ []) }
-{
-    match excluded(values) {
-        Some(message) => refused(ErrorKind::ArgumentConflict, message),
-        None => refused_looking(values),
-    }
-}
-
-/// What is wrong with options that do not go together in a command that looks at a run.
-fn refused_looking(values: &ArgMatches<'_>) -> Option<Refusal>
-    ensures { MatchOption result (looking_fault (rows_of (found_of values.now)) ≡ [])
-        (λ r. looking_fault (rows_of (found_of values.now)) ≡ r.kind ∷ []) }
-{
-    match drawn_twice(values) {
-        Some(message) => refused(ErrorKind::ArgumentConflict, message),
-        None => refused_span(values),
-    }
-}
-
-/// A refusal of this kind.
-fn refused(kind: ErrorKind, message: &'static str) -> Option<Refusal>
-    ensures { IsSomeAnd result (λ r. r.kind ≡ kind) }
-{
-    Some(Refusal { kind, message })
 }
 
 /// What is wrong with an option that says nothing without another one.
@@ -193,6 +188,17 @@ fn without_table(values: &ArgMatches<'_>) -> Option<&'static str>
     }
 }
 
+/// The error for options that exclude one another.
+fn refused_excluded(alloc: Global, name: &str, values: &ArgMatches<'_>) -> Option<Error>
+    ensures { MatchOption result (excluded_fault (rows_of (found_of values.now)) ≡ [])
+        (λ e. HasKind (excluded_fault (rows_of (found_of values.now))) e) }
+{
+    match excluded(values) {
+        Some(message) => Some(error_of(alloc, name, ErrorKind::ArgumentConflict, message)),
+        None => None,
+    }
+}
+
 /// What is wrong with options that exclude one another.
 fn excluded(values: &ArgMatches<'_>) -> Option<&'static str>
     ensures { is_some result ≡ is_excluded (rows_of (found_of values.now)) }
@@ -248,6 +254,17 @@ fn is_over_nodes(values: &ArgMatches<'_>) -> bool
         || is_used(values, "overlap")
 }
 
+/// The error if two pictures are to be drawn.
+fn refused_drawn(alloc: Global, name: &str, values: &ArgMatches<'_>) -> Option<Error>
+    ensures { MatchOption result (drawn_fault (rows_of (found_of values.now)) ≡ [])
+        (λ e. HasKind (drawn_fault (rows_of (found_of values.now))) e) }
+{
+    match drawn_twice(values) {
+        Some(message) => Some(error_of(alloc, name, ErrorKind::ArgumentConflict, message)),
+        None => None,
+    }
+}
+
 /// What is wrong if both the load and the course in a trace are to be drawn, or either of them as a
 /// value change dump, or a histogram of some events or beside another picture.
 fn drawn_twice(values: &ArgMatches<'_>) -> Option<&'static str>
@@ -281,18 +298,20 @@ fn excludes_histogram(values: &ArgMatches<'_>) -> bool
         || is_there(values, "processes")
 }
 
-/// What is wrong if the time of `--to` is before that of `--from`.
-fn refused_span(values: &ArgMatches<'_>) -> Option<Refusal>
+/// The error if the time of `--to` is before that of `--from`.
+fn refused_span(alloc: Global, name: &str, values: &ArgMatches<'_>) -> Option<Error>
     ensures { MatchOption result (span_fault (rows_of (found_of values.now)) ≡ [])
-        (λ r. span_fault (rows_of (found_of values.now)) ≡ r.kind ∷ []) }
+        (λ e. HasKind (span_fault (rows_of (found_of values.now))) e) }
 {
     let from = optional_number(values, "from", 0, LAST_TIME);
     let to = optional_number(values, "to", 0, LAST_TIME);
     if is_no_span(from, to) {
-        refused(
+        Some(error_of(
+            alloc,
+            name,
             ErrorKind::ValueValidation,
             "the time of '--to <T>' is before that of '--from <T>', so no event can be meant",
-        )
+        ))
     } else {
         None
     }
@@ -319,25 +338,12 @@ fn is_there(values: &ArgMatches<'_>, id: &str) -> bool
 pub fn error_of(alloc: Global, name: &str, kind: ErrorKind, message: &str) -> Error
     ensures { HasKind (kind ∷ []) result }
 {
-    match format!(in alloc; "{name} <COMMAND>") {
-        Ok(usage) => error_with(alloc, usage.as_str(), kind, message),
-        Err(error) => Error::from(error),
-    }
-}
-
-/// An error of this kind in `clap`'s form, with this usage.
-fn error_with(alloc: Global, usage: &str, kind: ErrorKind, message: &str) -> Error
-    ensures { HasKind (kind ∷ []) result }
-{
-    let mut command = ClapCommand::new(alloc, "").override_usage(usage);
-    whole(command.error(kind, message))
-}
-
-/// The error, or that there was no memory for it.
-fn whole(made: Result<Error, AllocError>) -> Error
-    ensures { MatchResult made (λ error. result ≡ error) (λ _. HasKind [] result) }
-{
-    match made {
+    let usage = match format!(in alloc; "{name} <COMMAND>") {
+        Ok(usage) => usage,
+        Err(error) => return Error::from(error),
+    };
+    let mut command = ClapCommand::new(alloc, "").override_usage(usage.as_str());
+    match command.error(kind, message) {
         Ok(error) => error,
         Err(error) => Error::from(error),
     }

@@ -1,22 +1,24 @@
 // The commands, their arguments and their help, as `clap` takes them.
 
-ghost use Rattle.std.specs.Prelude.{◌≡◌, ◌≤◌, false, map, true, IfOk, Some};
-ghost use Rattle.clap.specs.Words.{new_app, rule_of};
+ghost use Rattle.std.specs.Prelude.{◌≡◌, ◌≤◌, false, true, IfOk};
+ghost use Rattle.clap.specs.Words.{app_of, rule_of};
 ghost use Rattle.clap.specs.declared.builder.command.Command.TheViews.{out-Command as fields_of};
-ghost use Rattle.clap.specs.declared.builder.value_parser.ValueParser.TheVariants.{NonEmptyString};
-ghost use Rattle.cli.specs.Command.{advice_option, any_text, choice_option, created_option};
-ghost use Rattle.cli.specs.Command.{draw_command, flag, format_option, grow_command, info_command};
-ghost use Rattle.cli.specs.Command.{kept_option, large_option, log_command, migrate_command};
-ghost use Rattle.cli.specs.Command.{most_sectors, new_command, node_command, number_option};
-ghost use Rattle.cli.specs.Command.{on_any_disk, on_disk, on_model, optional_argument};
-ghost use Rattle.cli.specs.Command.{optional_number, optional_text, origin_option, path_argument};
-ghost use Rattle.cli.specs.Command.{picture_option, program_of, quiet_option, recover_command};
-ghost use Rattle.cli.specs.Command.{refusing, reserve_option, reserved_option, rule_by, rule_in};
-ghost use Rattle.cli.specs.Command.{run_apart, run_command, run_kept, run_made, run_stored};
-ghost use Rattle.cli.specs.Command.{seed_option, seq_command, set_option, show_command};
-ghost use Rattle.cli.specs.Command.{stats_command, status_command, text_option, time_option};
-ghost use Rattle.cli.specs.Command.{verify_command, with_rules, without_commands};
-ghost use Rattle.cli.specs.Command.{app_by, AddsCommand, AddsCommands, AddsRule, AddsRules, IsApp};
+ghost use Rattle.cli.specs.Command.{advice_option, any_text, choice_option};
+ghost use Rattle.cli.specs.Command.{created_option, draw_command, flag, format_option};
+ghost use Rattle.cli.specs.Command.{info_command, kept_option, log_command, picture_option};
+ghost use Rattle.cli.specs.Command.{grow_command, large_option, migrate_command, refusing};
+ghost use Rattle.cli.specs.Command.{most_sectors, on_any_disk, origin_option};
+ghost use Rattle.cli.specs.Command.{new_command, node_command, number_option, on_disk, on_model};
+ghost use Rattle.cli.specs.Command.{optional_argument, optional_number, optional_text};
+ghost use Rattle.cli.specs.Command.{quiet_option, recover_command, reserve_option, seed_option};
+ghost use Rattle.cli.specs.Command.{set_option};
+ghost use Rattle.cli.specs.Command.{reserved_option, run_apart, run_command, run_kept, run_made};
+ghost use Rattle.cli.specs.Command.{run_stored, path_argument, program_of};
+ghost use Rattle.cli.specs.Command.{seq_command, show_command, stats_command, status_command};
+ghost use Rattle.cli.specs.Command.{text_option};
+ghost use Rattle.cli.specs.Command.{time_option};
+ghost use Rattle.cli.specs.Command.{verify_command, without_commands};
+ghost use Rattle.cli.specs.Command.{AddsArgument, AddsCommand, AddsRule, IsApp};
 
 use crate::company::LAST_TIME;
 use clap::builder::ValueParser;
@@ -47,97 +49,30 @@ pub fn program<'a>(alloc: Global, texts: Texts<'a>) -> Result<ClapCommand<'a>, A
         help,
         seq_help,
     } = texts;
-    let verbs = [
-        Verb::New,
-        Verb::Run,
-        Verb::Extend,
-        Verb::Grow,
-        Verb::Migrate,
-        Verb::Reopen,
-        Verb::Cut,
-        Verb::Recover,
-        Verb::Status,
-        Verb::Info,
-        Verb::Verify,
-        Verb::Log,
-        Verb::Show,
-        Verb::Stats,
-        Verb::Draw,
-        Verb::Seq,
-        Verb::Check,
-        Verb::Node,
-    ];
-    let program = Ok(without_commands(alloc, name, version, help));
-    with_commands(alloc, program, &verbs, seq_help)
-}
-
-/// A command of the program, by its name.
-#[derive(Clone, Copy)]
-enum Verb {
-    New,
-    Run,
-    Extend,
-    Grow,
-    Migrate,
-    Reopen,
-    Cut,
-    Recover,
-    Status,
-    Info,
-    Verify,
-    Log,
-    Show,
-    Stats,
-    Draw,
-    Seq,
-    Check,
-    Node,
-}
-
-/// Adds these commands to a program, in this order, if the program is there. `seq` gets this help.
-fn with_commands<'a>(
-    alloc: Global,
-    program: Result<ClapCommand<'a>, AllocError>,
-    verbs: &[Verb],
-    seq_help: &'a str,
-) -> Result<ClapCommand<'a>, AllocError>
-    ensures { IfOk result (AddsCommands program.entry (map app_by verbs.now)) }
-{
-    let mut made = program;
-    for verb in verbs {
-        made = with_command(made, command_by(alloc, *verb, seq_help));
-    }
-    made
-}
-
-/// The command of this name; `seq` with this help.
-fn command_by<'a>(
-    alloc: Global,
-    verb: Verb,
-    seq_help: &'a str,
-) -> Result<ClapCommand<'a>, AllocError>
-    ensures { IfOk result (IsApp (app_by verb)) }
-{
-    match verb {
-        Verb::New => new(alloc),
-        Verb::Run => run(alloc),
-        Verb::Extend => on_any_disk(alloc, "extend", EXTEND_ABOUT, EXTEND_HELP),
-        Verb::Grow => grow(alloc),
-        Verb::Migrate => migrate(alloc),
-        Verb::Reopen => on_any_disk(alloc, "reopen", REOPEN_ABOUT, REOPEN_HELP),
-        Verb::Cut => on_any_disk(alloc, "cut", CUT_ABOUT, CUT_DISK_HELP),
-        Verb::Recover => recover(alloc),
-        Verb::Status => status(alloc),
-        Verb::Info => info(alloc),
-        Verb::Verify => verify(alloc),
-        Verb::Log => log(alloc),
-        Verb::Show => show(alloc),
-        Verb::Stats => stats(alloc),
-        Verb::Draw => draw(alloc),
-        Verb::Seq => seq(alloc, seq_help),
-        Verb::Check => on_model(alloc, "check", CHECK_ABOUT, CHECK_HELP, &[]),
-        Verb::Node => node(alloc),
-    }
+    let program = with_command(Ok(without_commands(alloc, name, version, help)), new(alloc));
+    let program = with_command(program, run(alloc));
+    let program = with_command(
+        program,
+        on_any_disk(alloc, "extend", EXTEND_ABOUT, EXTEND_HELP),
+    );
+    let program = with_command(program, grow(alloc));
+    let program = with_command(program, migrate(alloc));
+    let program = with_command(
+        program,
+        on_any_disk(alloc, "reopen", REOPEN_ABOUT, REOPEN_HELP),
+    );
+    let program = with_command(program, on_any_disk(alloc, "cut", CUT_ABOUT, CUT_DISK_HELP));
+    let program = with_command(program, recover(alloc));
+    let program = with_command(program, status(alloc));
+    let program = with_command(program, info(alloc));
+    let program = with_command(program, verify(alloc));
+    let program = with_command(program, log(alloc));
+    let program = with_command(program, show(alloc));
+    let program = with_command(program, stats(alloc));
+    let program = with_command(program, draw(alloc));
+    let program = with_command(program, seq(alloc, seq_help));
+    let program = with_command(program, on_model(alloc, "check", CHECK_ABOUT, CHECK_HELP));
+    with_command(program, node(alloc))
 }
 
 /// The program without its commands.
@@ -231,23 +166,23 @@ command, and '{name} help TOPIC' what there is to say on a topic:
 fn new<'a>(alloc: Global) -> Result<ClapCommand<'a>, AllocError>
     ensures { IfOk result (IsApp new_command) }
 {
-    let arguments = [
-        text_option("sectors", "N", "4096", SECTORS_HELP),
-        reserve_option(),
-        flag("over", OVER_HELP),
-        origin_option(),
-        flag("keep-model", KEEP_MODEL_HELP),
-        large_option(),
-    ];
-    on_disk(alloc, "new", NEW_ABOUT, NEW_HELP, &arguments)
+    let command = on_disk(alloc, "new", NEW_ABOUT, NEW_HELP);
+    let sectors = text_option(alloc, "sectors", "N", "4096", SECTORS_HELP);
+    let command = with_argument(command, sectors);
+    let command = with_argument(command, reserve_option(alloc));
+    let command = with_argument(command, flag(alloc, "over", OVER_HELP));
+    let command = with_argument(command, origin_option(alloc));
+    let command = with_argument(command, flag(alloc, "keep-model", KEEP_MODEL_HELP));
+    with_argument(command, large_option(alloc))
 }
 
 /// The option for the disk that a new one goes on from. It is `--from`, but has a name of its own
 /// for the other commands' option, which is a time.
-fn origin_option<'a>() -> Argument<'a>
-    ensures { rule_in result ≡ origin_option }
+fn origin_option<'a>(alloc: Global) -> Arg<'a>
+    ensures rule { rule_of result ≡ origin_option }
+    ensures local { result.global ≡ false }
 {
-    option_of("origin", "from", "DISK", ORIGIN_HELP, Kind::Word)
+    optional_text(alloc, "origin", "DISK", ORIGIN_HELP).long("from")
 }
 
 const NEW_ABOUT: &str = "Makes a disk with an empty log for a model";
@@ -286,78 +221,70 @@ Output:
 fn run<'a>(alloc: Global) -> Result<ClapCommand<'a>, AllocError>
     ensures { IfOk result (IsApp run_command) }
 {
-    let unattended = [
-        text_option("rounds", "N", "1000000", ROUNDS_HELP),
-        optional_number("retries", "N", 0, 1_000_000, RETRIES_HELP),
-        optional_text("stop-file", "FILE", STOP_HELP),
-    ];
-    let progress = optional_number("progress", "SECONDS", 1, 86_400, PROGRESS_HELP);
-    let trace = optional_text("trace", "FILE", TRACE_HELP);
-    let others = [
-        shown_by(Shown::Under(LOOKING), progress),
-        shown_by(Shown::Under(LOOKING), trace),
-        large_option(),
-    ];
-    let command = with_options(alloc, run_stored(alloc), UNATTENDED, &unattended);
-    with_arguments(alloc, command, &others)
+    let rounds = text_option(alloc, "rounds", "N", "1000000", ROUNDS_HELP);
+    let retries = optional_number(alloc, "retries", "N", 0, 1_000_000, RETRIES_HELP);
+    let stop = optional_text(alloc, "stop-file", "FILE", STOP_HELP);
+    let command = with_option(run_stored(alloc), UNATTENDED, rounds);
+    let command = with_option(with_option(command, UNATTENDED, retries), UNATTENDED, stop);
+    let progress = optional_number(alloc, "progress", "SECONDS", 1, 86_400, PROGRESS_HELP);
+    let trace = optional_text(alloc, "trace", "FILE", TRACE_HELP);
+    let command = with_option(with_option(command, LOOKING, progress), LOOKING, trace);
+    with_argument(command, large_option(alloc))
 }
 
 /// The command `run` with the options for nodes, for what it writes and on which disk.
 fn run_stored<'a>(alloc: Global) -> Result<ClapCommand<'a>, AllocError>
     ensures { IfOk result (IsApp run_stored) }
 {
-    let options = [
-        flag("create", CREATE_HELP),
-        created_option(),
-        reserved_option(),
-        kept_option(),
-        flag("archive-when-full", ARCHIVE_HELP),
-        optional_number("keep", "K", 0, 4_294_967_295, KEEP_HELP),
-        flag("grow-when-full", GROW_WHEN_FULL_HELP),
-    ];
-    with_options(alloc, run_kept(alloc), UNATTENDED, &options)
+    let create = flag(alloc, "create", CREATE_HELP);
+    let command = with_option(run_kept(alloc), UNATTENDED, create);
+    let command = with_option(command, UNATTENDED, created_option(alloc));
+    let command = with_option(command, UNATTENDED, reserved_option(alloc));
+    let command = with_option(command, UNATTENDED, kept_option(alloc));
+    let archive = flag(alloc, "archive-when-full", ARCHIVE_HELP);
+    let keep = optional_number(alloc, "keep", "K", 0, 4_294_967_295, KEEP_HELP);
+    let grow = flag(alloc, "grow-when-full", GROW_WHEN_FULL_HELP);
+    let command = with_option(with_option(command, UNATTENDED, archive), UNATTENDED, keep);
+    with_option(command, UNATTENDED, grow)
 }
 
 /// The command `run` with the options for nodes, and for what it writes to its disk.
 fn run_kept<'a>(alloc: Global) -> Result<ClapCommand<'a>, AllocError>
     ensures { IfOk result (IsApp run_kept) }
 {
-    let options = [
-        optional_number("commit-every", "E", 1, 400_000, COMMIT_HELP),
-        optional_number("checkpoint", "E", 1, 1_000_000, CHECKPOINT_HELP),
-        flag("seal", SEAL_HELP),
-    ];
-    with_options(alloc, run_apart(alloc), COMMITS, &options)
+    let commit = optional_number(alloc, "commit-every", "E", 1, 400_000, COMMIT_HELP);
+    let checkpoint = optional_number(alloc, "checkpoint", "E", 1, 1_000_000, CHECKPOINT_HELP);
+    let seal = flag(alloc, "seal", SEAL_HELP);
+    let command = with_option(run_apart(alloc), COMMITS, commit);
+    with_option(with_option(command, COMMITS, checkpoint), COMMITS, seal)
 }
 
 /// The command `run` with the options for how it is made and over which node programs.
 fn run_apart<'a>(alloc: Global) -> Result<ClapCommand<'a>, AllocError>
     ensures { IfOk result (IsApp run_apart) }
 {
-    let options = [
-        optional_text("sockets", "DIR", SOCKETS_HELP),
-        flag("attach", ATTACH_HELP),
-        flag("bind", BIND_HELP),
-        any_text("judge", "N", JUDGE_HELP),
-        optional_number("silence", "SECONDS", 1, 86_400, SILENCE_HELP),
-        optional_number("cut", "I", 0, 4_294_967_295, CUT_HELP),
-    ];
-    with_options(alloc, run_made(alloc), PROGRAMS, &options)
+    let sockets = optional_text(alloc, "sockets", "DIR", SOCKETS_HELP);
+    let command = with_option(run_made(alloc), PROGRAMS, sockets);
+    let command = with_option(command, PROGRAMS, flag(alloc, "attach", ATTACH_HELP));
+    let command = with_option(command, PROGRAMS, flag(alloc, "bind", BIND_HELP));
+    let judge = any_text(alloc, "judge", "N", JUDGE_HELP);
+    let silence = optional_number(alloc, "silence", "SECONDS", 1, 86_400, SILENCE_HELP);
+    let cut = optional_number(alloc, "cut", "I", 0, 4_294_967_295, CUT_HELP);
+    let command = with_option(with_option(command, PROGRAMS, judge), PROGRAMS, silence);
+    with_option(command, PROGRAMS, cut)
 }
 
 /// The command `run` with the options for how it is made.
 fn run_made<'a>(alloc: Global) -> Result<ClapCommand<'a>, AllocError>
     ensures { IfOk result (IsApp run_made) }
 {
-    let options = [
-        optional_number("nodes", "N", 1, 64, NODES_HELP),
-        any_text("batch", "N", BATCH_HELP),
-        flag("together", TOGETHER_HELP),
-        flag("overlap", OVERLAP_HELP),
-        flag("plain", PLAIN_HELP),
-    ];
-    let command = on_disk(alloc, "run", RUN_ABOUT, RUN_HELP, &[]);
-    with_options(alloc, command, NODES, &options)
+    let nodes = optional_number(alloc, "nodes", "N", 1, 64, NODES_HELP);
+    let batch = any_text(alloc, "batch", "N", BATCH_HELP);
+    let command = with_option(on_disk(alloc, "run", RUN_ABOUT, RUN_HELP), NODES, nodes);
+    let command = with_option(command, NODES, batch);
+    let command = with_option(command, NODES, flag(alloc, "together", TOGETHER_HELP));
+    let command = with_option(command, NODES, flag(alloc, "overlap", OVERLAP_HELP));
+    with_option(command, NODES, flag(alloc, "plain", PLAIN_HELP))
 }
 
 // The purposes of options, under which the help of `run` has them, in this order.
@@ -374,26 +301,29 @@ const LOOKING: &str = "Looking";
 
 /// The option for the number of sectors of a disk that a run makes. It is `--sectors`, but has
 /// a name of its own for the other commands' option, which has a default.
-fn created_option<'a>() -> Argument<'a>
-    ensures { rule_in result ≡ created_option }
+fn created_option<'a>(alloc: Global) -> Arg<'a>
+    ensures rule { rule_of result ≡ created_option }
+    ensures local { result.global ≡ false }
 {
-    option_of("created", "sectors", "N", CREATED_HELP, Kind::Text)
+    any_text(alloc, "created", "N", CREATED_HELP).long("sectors")
 }
 
 /// The flag for the room of a disk that a run makes. It is `--reserve`, but has a name of its own
 /// for the other commands' flag, which needs no other option.
-fn reserved_option<'a>() -> Argument<'a>
-    ensures { rule_in result ≡ reserved_option }
+fn reserved_option<'a>(alloc: Global) -> Arg<'a>
+    ensures rule { rule_of result ≡ reserved_option }
+    ensures local { result.global ≡ false }
 {
-    option_of("reserved", "reserve", "", RESERVED_HELP, Kind::Flag)
+    flag(alloc, "reserved", RESERVED_HELP).long("reserve")
 }
 
 /// The flag for keeping the model's text beside a disk that a run makes. It is `--keep-model`, but
 /// has a name of its own for the other commands' flag, which needs no other option.
-fn kept_option<'a>() -> Argument<'a>
-    ensures { rule_in result ≡ kept_option }
+fn kept_option<'a>(alloc: Global) -> Arg<'a>
+    ensures rule { rule_of result ≡ kept_option }
+    ensures local { result.global ≡ false }
 {
-    option_of("kept", "keep-model", "", KEPT_HELP, Kind::Flag)
+    flag(alloc, "kept", KEPT_HELP).long("keep-model")
 }
 
 const RUN_ABOUT: &str = "Runs a model on its disk, from the last commit to its end";
@@ -487,14 +417,9 @@ Output:
 fn grow<'a>(alloc: Global) -> Result<ClapCommand<'a>, AllocError>
     ensures { IfOk result (IsApp grow_command) }
 {
-    let sectors = any_text("sectors", "N", GROWN_HELP);
-    on_disk(
-        alloc,
-        "grow",
-        GROW_ABOUT,
-        GROW_HELP,
-        &[sectors, large_option()],
-    )
+    let command = on_disk(alloc, "grow", GROW_ABOUT, GROW_HELP);
+    let command = with_argument(command, any_text(alloc, "sectors", "N", GROWN_HELP));
+    with_argument(command, large_option(alloc))
 }
 
 const GROW_ABOUT: &str = "Makes a disk longer, so that its run has room again";
@@ -513,14 +438,19 @@ Output:
 fn migrate<'a>(alloc: Global) -> Result<ClapCommand<'a>, AllocError>
     ensures { IfOk result (IsApp migrate_command) }
 {
-    let arguments = [
-        path("OLD", "The file of the disk of format 1"),
-        path("NEW", "The file of the disk of format 2"),
-        text_option("sectors", "N", "4096", SECTORS_HELP),
-        reserve_option(),
-        large_option(),
-    ];
-    on_model(alloc, "migrate", MIGRATE_ABOUT, MIGRATE_HELP, &arguments)
+    let command = on_model(alloc, "migrate", MIGRATE_ABOUT, MIGRATE_HELP);
+    let command = with_argument(
+        command,
+        path(alloc, "OLD", "The file of the disk of format 1"),
+    );
+    let command = with_argument(
+        command,
+        path(alloc, "NEW", "The file of the disk of format 2"),
+    );
+    let sectors = text_option(alloc, "sectors", "N", "4096", SECTORS_HELP);
+    let command = with_argument(command, sectors);
+    let command = with_argument(command, reserve_option(alloc));
+    with_argument(command, large_option(alloc))
 }
 
 const MIGRATE_ABOUT: &str = "Copies a disk of format 1 to a new disk of format 2";
@@ -538,13 +468,12 @@ Output:
 fn recover<'a>(alloc: Global) -> Result<ClapCommand<'a>, AllocError>
     ensures { IfOk result (IsApp recover_command) }
 {
-    let arguments = [
-        path("NEW", "The file of the new disk"),
-        text_option("sectors", "N", "4096", SECTORS_HELP),
-        reserve_option(),
-        large_option(),
-    ];
-    on_disk(alloc, "recover", RECOVER_ABOUT, RECOVER_HELP, &arguments)
+    let command = on_disk(alloc, "recover", RECOVER_ABOUT, RECOVER_HELP);
+    let command = with_argument(command, path(alloc, "NEW", "The file of the new disk"));
+    let sectors = text_option(alloc, "sectors", "N", "4096", SECTORS_HELP);
+    let command = with_argument(command, sectors);
+    let command = with_argument(command, reserve_option(alloc));
+    with_argument(command, large_option(alloc))
 }
 
 const RECOVER_ABOUT: &str = "Copies the good records of a damaged disk to a new disk";
@@ -586,8 +515,9 @@ Output: 'reopened: committed G events N', as 'run' prints what is committed.";
 fn status<'a>(alloc: Global) -> Result<ClapCommand<'a>, AllocError>
     ensures { IfOk result (IsApp status_command) }
 {
-    let arguments = [format_option(), large_option()];
-    on_disk(alloc, "status", STATUS_ABOUT, STATUS_HELP, &arguments)
+    let command = on_disk(alloc, "status", STATUS_ABOUT, STATUS_HELP);
+    let command = with_argument(command, format_option(alloc));
+    with_argument(command, large_option(alloc))
 }
 
 const STATUS_ABOUT: &str = "Prints how far a disk's run has come and how much room is left";
@@ -618,16 +548,15 @@ that is full sooner ends the run, unless 'new --reserve' has reserved the whole 
 fn info<'a>(alloc: Global) -> Result<ClapCommand<'a>, AllocError>
     ensures { IfOk result (IsApp info_command) }
 {
-    let arguments = [
-        path("DISK", "The file of the disk"),
-        advice_option(),
-        quiet_option(),
-        flag("model", KEPT_MODEL_HELP),
-        format_option(),
-        large_option(),
-    ];
-    let command = Ok(described(alloc, "info", INFO_ABOUT, INFO_HELP));
-    with_arguments(alloc, command, &arguments)
+    let command = ClapCommand::new(alloc, "info")
+        .about(INFO_ABOUT)
+        .after_help(INFO_HELP);
+    let command = with_argument(Ok(command), path(alloc, "DISK", "The file of the disk"));
+    let command = with_argument(command, advice_option(alloc));
+    let command = with_argument(command, quiet_option(alloc));
+    let command = with_argument(command, flag(alloc, "model", KEPT_MODEL_HELP));
+    let command = with_argument(command, format_option(alloc));
+    with_argument(command, large_option(alloc))
 }
 
 const KEPT_MODEL_HELP: &str = "Prints only the model file that the disk keeps (DISK.model)";
@@ -657,15 +586,14 @@ Output, a line for each name with its value:
 fn log<'a>(alloc: Global) -> Result<ClapCommand<'a>, AllocError>
     ensures { IfOk result (IsApp log_command) }
 {
-    let arguments = [
-        time_option("from", FROM_HELP),
-        time_option("to", TO_HELP),
-        optional_number("process", "L", 0, 4_294_967_295, PROCESS_HELP),
-        flag("names", LOG_NAMES_HELP),
-        format_option(),
-        large_option(),
-    ];
-    on_disk(alloc, "log", LOG_ABOUT, LOG_HELP, &arguments)
+    let command = on_disk(alloc, "log", LOG_ABOUT, LOG_HELP);
+    let command = with_argument(command, time_option(alloc, "from", FROM_HELP));
+    let command = with_argument(command, time_option(alloc, "to", TO_HELP));
+    let process = optional_number(alloc, "process", "L", 0, 4_294_967_295, PROCESS_HELP);
+    let command = with_argument(command, process);
+    let command = with_argument(command, flag(alloc, "names", LOG_NAMES_HELP));
+    let command = with_argument(command, format_option(alloc));
+    with_argument(command, large_option(alloc))
 }
 
 const LOG_NAMES_HELP: &str =
@@ -681,14 +609,9 @@ const PROCESS_HELP: &str = "Only events that process L handled, 0 to 4294967295"
 fn verify<'a>(alloc: Global) -> Result<ClapCommand<'a>, AllocError>
     ensures { IfOk result (IsApp verify_command) }
 {
-    let after = optional_text("after", "DISK", AFTER_HELP);
-    on_disk(
-        alloc,
-        "verify",
-        VERIFY_ABOUT,
-        VERIFY_HELP,
-        &[after, large_option()],
-    )
+    let command = on_disk(alloc, "verify", VERIFY_ABOUT, VERIFY_HELP);
+    let command = with_argument(command, optional_text(alloc, "after", "DISK", AFTER_HELP));
+    with_argument(command, large_option(alloc))
 }
 
 const AFTER_HELP: &str = "Compares where the disk begins with what is committed on this one";
@@ -746,13 +669,11 @@ else 'word0' and so on. With --pending the rows are those of the messages that a
 fn show<'a>(alloc: Global) -> Result<ClapCommand<'a>, AllocError>
     ensures { IfOk result (IsApp show_command) }
 {
-    let arguments = [
-        flag("names", SHOW_NAMES_HELP),
-        flag("pending", PENDING_HELP),
-        format_option(),
-        large_option(),
-    ];
-    on_disk(alloc, "show", SHOW_ABOUT, SHOW_HELP, &arguments)
+    let command = on_disk(alloc, "show", SHOW_ABOUT, SHOW_HELP);
+    let command = with_argument(command, flag(alloc, "names", SHOW_NAMES_HELP));
+    let command = with_argument(command, flag(alloc, "pending", PENDING_HELP));
+    let command = with_argument(command, format_option(alloc));
+    with_argument(command, large_option(alloc))
 }
 
 const PENDING_HELP: &str = "Prints only the messages that are not handled, as 'log' prints events";
@@ -764,15 +685,14 @@ const SHOW_NAMES_HELP: &str =
 fn stats<'a>(alloc: Global) -> Result<ClapCommand<'a>, AllocError>
     ensures { IfOk result (IsApp stats_command) }
 {
-    let arguments = [
-        optional_argument("DISK", MAYBE_DISK_HELP),
-        format_option(),
-        flag("names", STATS_NAMES_HELP),
-        optional_text("table", "NAME", TABLE_HELP),
-        time_option("warm-up", WARM_UP_HELP),
-        large_option(),
-    ];
-    on_model(alloc, "stats", STATS_ABOUT, STATS_HELP, &arguments)
+    let command = on_model(alloc, "stats", STATS_ABOUT, STATS_HELP);
+    let command = with_argument(command, optional_argument(alloc, "DISK", MAYBE_DISK_HELP));
+    let command = with_argument(command, format_option(alloc));
+    let command = with_argument(command, flag(alloc, "names", STATS_NAMES_HELP));
+    let table = optional_text(alloc, "table", "NAME", TABLE_HELP);
+    let command = with_argument(command, table);
+    let command = with_argument(command, time_option(alloc, "warm-up", WARM_UP_HELP));
+    with_argument(command, large_option(alloc))
 }
 
 const STATS_ABOUT: &str = "Prints how many events, sends and delays a run had";
@@ -810,26 +730,28 @@ Tables for --table:
 fn draw<'a>(alloc: Global) -> Result<ClapCommand<'a>, AllocError>
     ensures { IfOk result (IsApp draw_command) }
 {
-    let arguments = [
-        optional_argument("DISK", MAYBE_DISK_HELP),
-        time_option("from", FROM_HELP),
-        time_option("to", TO_HELP),
-        optional_text("processes", "A..B", PROCESSES_HELP),
-        flag("load", LOAD_HELP),
-        optional_text("trace", "FILE", COURSE_HELP),
-        optional_text("histogram", "NAME", HISTOGRAM_HELP),
-        picture_option(),
-        large_option(),
-    ];
-    on_model(alloc, "draw", DRAW_ABOUT, DRAW_HELP, &arguments)
+    let command = on_model(alloc, "draw", DRAW_ABOUT, DRAW_HELP);
+    let command = with_argument(command, optional_argument(alloc, "DISK", MAYBE_DISK_HELP));
+    let command = with_argument(command, time_option(alloc, "from", FROM_HELP));
+    let command = with_argument(command, time_option(alloc, "to", TO_HELP));
+    let processes = optional_text(alloc, "processes", "A..B", PROCESSES_HELP);
+    let command = with_argument(command, processes);
+    let command = with_argument(command, flag(alloc, "load", LOAD_HELP));
+    let trace = optional_text(alloc, "trace", "FILE", COURSE_HELP);
+    let command = with_argument(command, trace);
+    let histogram = optional_text(alloc, "histogram", "NAME", HISTOGRAM_HELP);
+    let command = with_argument(command, histogram);
+    let command = with_argument(command, picture_option(alloc));
+    with_argument(command, large_option(alloc))
 }
 
 /// The option for the format of a picture. It is `--format`, but has a name of its own for the
 /// other commands' option, which takes the formats of tables.
-fn picture_option<'a>() -> Argument<'a>
-    ensures { rule_in result ≡ picture_option }
+fn picture_option<'a>(alloc: Global) -> Arg<'a>
+    ensures rule { rule_of result ≡ picture_option }
+    ensures local { result.global ≡ false }
 {
-    option_of("picture", "format", "F", PICTURE_HELP, Kind::TextOr("svg"))
+    text_option(alloc, "picture", "F", "svg", PICTURE_HELP).long("format")
 }
 
 const PICTURE_HELP: &str = "The format: svg, or vcd for the named numbers over time";
@@ -859,7 +781,8 @@ Output:
 fn seq<'a>(alloc: Global, help: &'a str) -> Result<ClapCommand<'a>, AllocError>
     ensures { IfOk result (IsApp seq_command) }
 {
-    on_model(alloc, "seq", SEQ_ABOUT, help, &[format_option()])
+    let command = on_model(alloc, "seq", SEQ_ABOUT, help);
+    with_argument(command, format_option(alloc))
 }
 
 const SEQ_ABOUT: &str =
@@ -892,12 +815,13 @@ Output:
 fn node<'a>(alloc: Global) -> Result<ClapCommand<'a>, AllocError>
     ensures { IfOk result (IsApp node_command) }
 {
+    let command = on_model(alloc, "node", NODE_ABOUT, NODE_HELP);
+    let command = with_argument(command, path(alloc, "SOCKET", SOCKET_HELP));
     let most = "4294967295";
-    let arguments = [
-        path("SOCKET", SOCKET_HELP),
-        number_option("parcels", most, 1, 4_294_967_295, PARCELS_HELP),
-    ];
-    on_model(alloc, "node", NODE_ABOUT, NODE_HELP, &arguments)
+    with_argument(
+        command,
+        number_option(alloc, "parcels", most, 1, 4_294_967_295, PARCELS_HELP),
+    )
 }
 
 const NODE_ABOUT: &str = "Serves one node of a run, behind a Unix socket";
@@ -921,53 +845,40 @@ fn on_any_disk<'a>(
 ) -> Result<ClapCommand<'a>, AllocError>
     ensures { IfOk result (IsApp (on_any_disk name.entry.now)) }
 {
-    on_disk(alloc, name, about, help, &[large_option()])
+    let command = on_disk(alloc, name, about, help);
+    with_argument(command, large_option(alloc))
 }
 
-/// A command on a model file and a disk, with these arguments.
+/// A command on a model file and a disk.
 fn on_disk<'a>(
     alloc: Global,
     name: &'a str,
     about: &'a str,
     help: &'a str,
-    arguments: &[Argument<'a>],
 ) -> Result<ClapCommand<'a>, AllocError>
-    ensures { IfOk result
-        (IsApp (with_rules (on_disk name.entry.now) (map rule_in arguments.now))) }
+    ensures { IfOk result (IsApp (on_disk name.entry.now)) }
 {
-    let disk = path("DISK", "The file of the disk");
-    let command = on_model(alloc, name, about, help, &[disk]);
-    with_arguments(alloc, command, arguments)
+    with_argument(
+        on_model(alloc, name, about, help),
+        path(alloc, "DISK", "The file of the disk"),
+    )
 }
 
-/// A command on a model file, with these arguments.
+/// A command on a model file.
 fn on_model<'a>(
     alloc: Global,
     name: &'a str,
     about: &'a str,
     help: &'a str,
-    arguments: &[Argument<'a>],
 ) -> Result<ClapCommand<'a>, AllocError>
-    ensures { IfOk result
-        (IsApp (with_rules (on_model name.entry.now) (map rule_in arguments.now))) }
+    ensures { IfOk result (IsApp (on_model name.entry.now)) }
 {
-    let every = [
-        path("MODEL", MODEL_HELP),
-        set_option(),
-        seed_option(),
-        advice_option(),
-        quiet_option(),
-    ];
-    let command = Ok(described(alloc, name, about, help));
-    let command = with_arguments(alloc, command, &every);
-    with_arguments(alloc, command, arguments)
-}
-
-/// A command with its help, without arguments.
-fn described<'a>(alloc: Global, name: &'a str, about: &'a str, help: &'a str) -> ClapCommand<'a>
-    ensures { IsApp (new_app name.entry.now) result }
-{
-    ClapCommand::new(alloc, name).about(about).after_help(help)
+    let command = ClapCommand::new(alloc, name).about(about).after_help(help);
+    let command = with_argument(Ok(command), path(alloc, "MODEL", MODEL_HELP));
+    let command = with_argument(command, set_option(alloc));
+    let command = with_argument(command, seed_option(alloc));
+    let command = with_argument(command, advice_option(alloc));
+    with_argument(command, quiet_option(alloc))
 }
 
 const MODEL_HELP: &str =
@@ -984,7 +895,8 @@ pub fn refusing<'a>(
     ensures { IfOk result (IsApp (refusing option.entry.now parser.entry text.entry.now)) }
 {
     let program = ClapCommand::new(alloc, option);
-    program.arg(choice_of(alloc, option, option, value, parser, text))
+    let argument = choice_option(alloc, option, value, parser, text);
+    with_argument(Ok(program), argument)
 }
 
 /// Adds a command to a program, if both are there.
@@ -999,143 +911,81 @@ fn with_command<'a>(
     program?.subcommand(command?)
 }
 
-/// Adds arguments to a command, in this order, if the command is there.
-fn with_arguments<'a>(
-    alloc: Global,
-    command: Result<ClapCommand<'a>, AllocError>,
-    arguments: &[Argument<'a>],
-) -> Result<ClapCommand<'a>, AllocError>
-    ensures { IfOk result (AddsRules command.entry (map rule_in arguments.now)) }
-{
-    let mut made = command;
-    for argument in arguments {
-        made = with_argument(alloc, made, *argument);
-    }
-    made
-}
-
-/// Adds options to a command, in this order and under this heading of the help, if the command is
-/// there.
-fn with_options<'a>(
-    alloc: Global,
-    command: Result<ClapCommand<'a>, AllocError>,
-    heading: &'a str,
-    options: &[Argument<'a>],
-) -> Result<ClapCommand<'a>, AllocError>
-    ensures { IfOk result (AddsRules command.entry (map rule_in options.now)) }
-{
-    let mut made = command;
-    for option in options {
-        made = with_argument(alloc, made, shown_by(Shown::Under(heading), *option));
-    }
-    made
-}
-
 /// Adds an argument to a command, if the command is there.
 fn with_argument<'a>(
-    alloc: Global,
     command: Result<ClapCommand<'a>, AllocError>,
-    argument: Argument<'a>,
+    argument: Arg<'a>,
 ) -> Result<ClapCommand<'a>, AllocError>
-    ensures { IfOk result (AddsRule command.entry (rule_in argument.entry)) }
+    ensures { IfOk result (AddsArgument command.entry argument.entry) }
 {
-    command?.arg(argument_of(alloc, argument))
+    command?.arg(argument)
 }
 
-/// What `clap` is told of an argument. It owns nothing, so a list of them has nothing to drop.
-#[derive(Clone, Copy)]
-struct Argument<'a> {
-    /// The name by which its value is read.
-    id: &'a str,
-    /// The word after `--`; not used of a path.
-    long: &'a str,
-    /// What the help calls its value; not used of a path or a flag.
-    value: &'a str,
-    help: &'a str,
-    kind: Kind<'a>,
-    shown: Shown<'a>,
+/// Adds an option, which the help shows under this heading, to a command, if the command is there.
+fn with_option<'a>(
+    command: Result<ClapCommand<'a>, AllocError>,
+    heading: &'a str,
+    option: Arg<'a>,
+) -> Result<ClapCommand<'a>, AllocError>
+    requires { option.global ≡ false }
+    ensures { IfOk result (AddsRule command.entry (rule_of option.entry)) }
+{
+    with_argument(command, option.help_heading(heading))
 }
 
-/// What an argument takes.
-#[derive(Clone, Copy)]
-enum Kind<'a> {
-    /// A path at the argument's place, which is required, and not empty.
-    Path,
-    /// The same, but not required.
-    MaybePath,
-    /// No value.
-    Flag,
-    /// Any text.
-    Text,
-    /// Any text, by default this one.
-    TextOr(&'a str),
-    /// Any text but the empty one.
-    Word,
-    /// The same, as often as it is said.
-    Words,
-    /// A number from the first one to the second one.
-    Number(u64, u64),
-    /// The same, by default the one that this text is.
-    NumberOr(u64, u64, &'a str),
-}
-
-/// Where the help shows an argument.
-#[derive(Clone, Copy)]
-enum Shown<'a> {
-    /// After those before it in the list of its command.
-    InTurn,
-    /// At this place.
-    At(usize),
-    /// Under this heading.
-    Under(&'a str),
-}
-
-/// The argument as `clap` takes it.
-fn argument_of<'a>(alloc: Global, argument: Argument<'a>) -> Arg<'a>
-    ensures rule { rule_of result ≡ rule_in argument.entry }
+/// The option for values of the model file, which each command has, as often as it is said.
+fn set_option<'a>(alloc: Global) -> Arg<'a>
+    ensures rule { rule_of result ≡ set_option }
     ensures local { result.global ≡ false }
 {
-    let made = taken(alloc, argument);
-    match argument.shown {
-        Shown::InTurn => made,
-        Shown::At(order) => made.display_order(order),
-        Shown::Under(heading) => made.help_heading(heading),
-    }
+    optional_text(alloc, "set", "K=V", SET_HELP)
+        .action(ArgAction::Append)
+        .display_order(997)
 }
 
-/// The same, wherever the help shows it.
-fn taken<'a>(alloc: Global, argument: Argument<'a>) -> Arg<'a>
-    ensures rule { rule_of result ≡ rule_in argument.entry }
+/// The option for the key of the numbers that a model draws, which each command has.
+fn seed_option<'a>(alloc: Global) -> Arg<'a>
+    ensures rule { rule_of result ≡ seed_option }
     ensures local { result.global ≡ false }
 {
-    let Argument {
-        id,
-        long,
-        value,
-        help,
-        ..
-    } = argument;
-    match argument.kind {
-        Kind::Path => path_of(alloc, id, help).required(true),
-        Kind::MaybePath => path_of(alloc, id, help),
-        Kind::Flag => flag_of(alloc, id, long, help),
-        Kind::Text => text_of(alloc, id, long, value, help),
-        Kind::TextOr(default) => text_of(alloc, id, long, value, help).default_value(default),
-        Kind::Word => word_of(alloc, id, long, value, help),
-        Kind::Words => word_of(alloc, id, long, value, help).action(ArgAction::Append),
-        Kind::Number(least, most) => {
-            let numbers = ValueParser::Unsigned(least, most);
-            text_of(alloc, id, long, value, help).value_parser(numbers)
-        }
-        Kind::NumberOr(least, most, default) => {
-            let numbers = ValueParser::Unsigned(least, most);
-            choice_of(alloc, id, long, value, numbers, default).help(help)
-        }
-    }
+    optional_number(alloc, "seed", "N", 0, 9_223_372_036_854_775_807, SEED_HELP).display_order(997)
 }
 
-/// `clap`'s argument for a path.
-fn path_of<'a>(alloc: Global, id: &'a str, help: &'a str) -> Arg<'a>
+const SET_HELP: &str = "Sets key K of MODEL or its [numbers], or KIND.count, to V; may be repeated";
+
+const SEED_HELP: &str = "Sets the key seed of MODEL to N, 0 to 9223372036854775807";
+
+/// The flag for advice after a fault, which each command has. In the help it comes before `--help`.
+fn advice_option<'a>(alloc: Global) -> Arg<'a>
+    ensures rule { rule_of result ≡ advice_option }
+    ensures local { result.global ≡ false }
+{
+    flag(alloc, "advice", ADVICE_HELP).display_order(998)
+}
+
+/// The flag for faults without a line of their cause, which each command has. In the help it comes
+/// before `--help` too.
+fn quiet_option<'a>(alloc: Global) -> Arg<'a>
+    ensures rule { rule_of result ≡ quiet_option }
+    ensures local { result.global ≡ false }
+{
+    flag(alloc, "quiet", QUIET_HELP).display_order(998)
+}
+
+const QUIET_HELP: &str = "Prints a fault's name alone, without the file and its cause";
+
+const ADVICE_HELP: &str = "Says after a fault what to do about it, as a terminal always does";
+
+/// A required argument that is a path, and not empty.
+fn path<'a>(alloc: Global, id: &'a str, help: &'a str) -> Arg<'a>
+    ensures rule { rule_of result ≡ path_argument id.entry.now }
+    ensures local { result.global ≡ false }
+{
+    optional_argument(alloc, id, help).required(true)
+}
+
+/// An optional argument that is a path, and not empty.
+fn optional_argument<'a>(alloc: Global, id: &'a str, help: &'a str) -> Arg<'a>
     ensures rule { rule_of result ≡ optional_argument id.entry.now }
     ensures local { result.global ≡ false }
 {
@@ -1144,137 +994,30 @@ fn path_of<'a>(alloc: Global, id: &'a str, help: &'a str) -> Arg<'a>
         .help(help)
 }
 
-/// `clap`'s argument for a flag.
-fn flag_of<'a>(alloc: Global, id: &'a str, long: &'a str, help: &'a str) -> Arg<'a>
-    ensures rule { rule_of result ≡ record (flag id.entry.now) { long = Some long.entry.now } }
-    ensures local { result.global ≡ false }
-{
-    Arg::new(alloc, id)
-        .long(long)
-        .action(ArgAction::SetTrue)
-        .help(help)
-}
-
-/// `clap`'s argument for any text.
-fn text_of<'a>(alloc: Global, id: &'a str, long: &'a str, value: &'a str, help: &'a str) -> Arg<'a>
-    ensures rule { rule_of result ≡ record (any_text id.entry.now) { long = Some long.entry.now } }
-    ensures local { result.global ≡ false }
-{
-    Arg::new(alloc, id).long(long).value_name(value).help(help)
-}
-
-/// `clap`'s argument for any text but the empty one.
-fn word_of<'a>(alloc: Global, id: &'a str, long: &'a str, value: &'a str, help: &'a str) -> Arg<'a>
-    ensures rule { rule_of result ≡ record (any_text id.entry.now) {
-      long = Some long.entry.now;
-      parser = Some NonEmptyString;
-    } }
-    ensures local { result.global ≡ false }
-{
-    text_of(alloc, id, long, value, help).value_parser(ValueParser::NonEmptyString)
-}
-
-/// `clap`'s argument for a text that passes this parser, with a default and without a help.
-fn choice_of<'a>(
-    alloc: Global,
-    id: &'a str,
-    long: &'a str,
-    value: &'a str,
-    parser: ValueParser<'a>,
-    default: &'a str,
-) -> Arg<'a>
-    ensures rule { rule_of result ≡ record
-        (choice_option id.entry.now parser.entry default.entry.now) { long = Some long.entry.now } }
-    ensures local { result.global ≡ false }
-{
-    Arg::new(alloc, id)
-        .long(long)
-        .value_name(value)
-        .value_parser(parser)
-        .default_value(default)
-}
-
-/// The argument where the help shows it so.
-fn shown_by<'a>(shown: Shown<'a>, argument: Argument<'a>) -> Argument<'a>
-    ensures { rule_in result ≡ rule_in argument.entry }
-{
-    Argument { shown, ..argument }
-}
-
-/// The option for values of the model file, which each command has, as often as it is said.
-fn set_option<'a>() -> Argument<'a>
-    ensures { rule_in result ≡ set_option }
-{
-    let option = option_of("set", "set", "K=V", SET_HELP, Kind::Words);
-    shown_by(Shown::At(997), option)
-}
-
-/// The option for the key of the numbers that a model draws, which each command has.
-fn seed_option<'a>() -> Argument<'a>
-    ensures { rule_in result ≡ seed_option }
-{
-    let option = optional_number("seed", "N", 0, 9_223_372_036_854_775_807, SEED_HELP);
-    shown_by(Shown::At(997), option)
-}
-
-const SET_HELP: &str = "Sets key K of MODEL or its [numbers], or KIND.count, to V; may be repeated";
-
-const SEED_HELP: &str = "Sets the key seed of MODEL to N, 0 to 9223372036854775807";
-
-/// The flag for advice after a fault, which each command has. In the help it comes before `--help`.
-fn advice_option<'a>() -> Argument<'a>
-    ensures { rule_in result ≡ advice_option }
-{
-    shown_by(Shown::At(998), flag("advice", ADVICE_HELP))
-}
-
-/// The flag for faults without a line of their cause, which each command has. In the help it comes
-/// before `--help` too.
-fn quiet_option<'a>() -> Argument<'a>
-    ensures { rule_in result ≡ quiet_option }
-{
-    shown_by(Shown::At(998), flag("quiet", QUIET_HELP))
-}
-
-const QUIET_HELP: &str = "Prints a fault's name alone, without the file and its cause";
-
-const ADVICE_HELP: &str = "Says after a fault what to do about it, as a terminal always does";
-
-/// A required argument that is a path, and not empty.
-fn path<'a>(id: &'a str, help: &'a str) -> Argument<'a>
-    ensures { rule_in result ≡ path_argument id.entry.now }
-{
-    option_of(id, "", "", help, Kind::Path)
-}
-
-/// An optional argument that is a path, and not empty.
-fn optional_argument<'a>(id: &'a str, help: &'a str) -> Argument<'a>
-    ensures { rule_in result ≡ optional_argument id.entry.now }
-{
-    option_of(id, "", "", help, Kind::MaybePath)
-}
-
 /// The option for the format of what is printed.
-fn format_option<'a>() -> Argument<'a>
-    ensures { rule_in result ≡ format_option }
+fn format_option<'a>(alloc: Global) -> Arg<'a>
+    ensures rule { rule_of result ≡ format_option }
+    ensures local { result.global ≡ false }
 {
-    text_option("format", "F", "text", FORMAT_HELP)
+    text_option(alloc, "format", "F", "text", FORMAT_HELP)
 }
 
 const FORMAT_HELP: &str = "The format of what is printed: text, csv or json";
 
 /// The flag for a disk whose file gets its whole room on the device at once.
-fn reserve_option<'a>() -> Argument<'a>
-    ensures { rule_in result ≡ reserve_option }
+fn reserve_option<'a>(alloc: Global) -> Arg<'a>
+    ensures rule { rule_of result ≡ reserve_option }
+    ensures local { result.global ≡ false }
 {
-    flag("reserve", RESERVE_HELP)
+    flag(alloc, "reserve", RESERVE_HELP)
 }
 
 /// The flag that allows large disks.
-fn large_option<'a>() -> Argument<'a>
-    ensures { rule_in result ≡ large_option }
+fn large_option<'a>(alloc: Global) -> Arg<'a>
+    ensures rule { rule_of result ≡ large_option }
+    ensures local { result.global ≡ false }
 {
-    flag("large", LARGE_HELP)
+    flag(alloc, "large", LARGE_HELP)
 }
 
 /// The maximum number of sectors of a disk, large or not.
@@ -1287,82 +1030,104 @@ pub fn most_sectors(large: bool) -> u32
 
 /// An option whose value is a number from `least` to `most`, with a default.
 fn number_option<'a>(
+    alloc: Global,
     name: &'a str,
     default: &'a str,
     least: u64,
     most: u64,
     help: &'a str,
-) -> Argument<'a>
-    ensures { rule_in result ≡ number_option name.entry.now least most default.entry.now }
+) -> Arg<'a>
+    ensures rule { rule_of result ≡ number_option name.entry.now least most default.entry.now }
+    ensures local { result.global ≡ false }
 {
-    let kind = Kind::NumberOr(least, most, default);
-    option_of(name, name, "N", help, kind)
+    optional_number(alloc, name, "N", least, most, help).default_value(default)
 }
 
 /// An option without a default, whose value is a number from `least` to `most`.
 fn optional_number<'a>(
+    alloc: Global,
     name: &'a str,
     value: &'a str,
     least: u64,
     most: u64,
     help: &'a str,
-) -> Argument<'a>
-    ensures { rule_in result ≡ optional_number name.entry.now least most }
+) -> Arg<'a>
+    ensures rule { rule_of result ≡ optional_number name.entry.now least most }
+    ensures local { result.global ≡ false }
 {
-    option_of(name, name, value, help, Kind::Number(least, most))
+    any_text(alloc, name, value, help).value_parser(ValueParser::unsigned(least, most))
 }
 
 /// An option without a default, whose value is a virtual time in ticks.
-fn time_option<'a>(name: &'a str, help: &'a str) -> Argument<'a>
-    ensures { rule_in result ≡ time_option name.entry.now }
+fn time_option<'a>(alloc: Global, name: &'a str, help: &'a str) -> Arg<'a>
+    ensures rule { rule_of result ≡ time_option name.entry.now }
+    ensures local { result.global ≡ false }
 {
-    optional_number(name, "T", 0, LAST_TIME, help)
+    optional_number(alloc, name, "T", 0, LAST_TIME, help)
 }
 
 /// An option whose value is any text, with a default.
-fn text_option<'a>(name: &'a str, value: &'a str, default: &'a str, help: &'a str) -> Argument<'a>
-    ensures { rule_in result ≡ text_option name.entry.now default.entry.now }
+fn text_option<'a>(
+    alloc: Global,
+    name: &'a str,
+    value: &'a str,
+    default: &'a str,
+    help: &'a str,
+) -> Arg<'a>
+    ensures rule { rule_of result ≡ text_option name.entry.now default.entry.now }
+    ensures local { result.global ≡ false }
 {
-    option_of(name, name, value, help, Kind::TextOr(default))
+    any_text(alloc, name, value, help).default_value(default)
 }
 
 /// An option whose value is any text, without a default.
-fn any_text<'a>(name: &'a str, value: &'a str, help: &'a str) -> Argument<'a>
-    ensures { rule_in result ≡ any_text name.entry.now }
+fn any_text<'a>(alloc: Global, name: &'a str, value: &'a str, help: &'a str) -> Arg<'a>
+    ensures rule { rule_of result ≡ any_text name.entry.now }
+    ensures local { result.global ≡ false }
 {
-    option_of(name, name, value, help, Kind::Text)
+    without_help(alloc, name, value).help(help)
+}
+
+/// The same without a help. The other options with values are made from it: each call of `clap`'s
+/// that sets something is another step over all that an argument has.
+fn without_help<'a>(alloc: Global, name: &'a str, value: &'a str) -> Arg<'a>
+    ensures rule { rule_of result ≡ any_text name.entry.now }
+    ensures local { result.global ≡ false }
+{
+    Arg::new(alloc, name).long(name).value_name(value)
+}
+
+/// An option whose value passes this parser, with a default.
+fn choice_option<'a>(
+    alloc: Global,
+    name: &'a str,
+    value: &'a str,
+    parser: ValueParser<'a>,
+    default: &'a str,
+) -> Arg<'a>
+    ensures rule { rule_of result ≡ choice_option name.entry.now parser.entry default.entry.now }
+    ensures local { result.global ≡ false }
+{
+    without_help(alloc, name, value)
+        .value_parser(parser)
+        .default_value(default)
 }
 
 /// An option without a default, whose value is any text but the empty one.
-fn optional_text<'a>(name: &'a str, value: &'a str, help: &'a str) -> Argument<'a>
-    ensures { rule_in result ≡ optional_text name.entry.now }
+fn optional_text<'a>(alloc: Global, name: &'a str, value: &'a str, help: &'a str) -> Arg<'a>
+    ensures rule { rule_of result ≡ optional_text name.entry.now }
+    ensures local { result.global ≡ false }
 {
-    option_of(name, name, value, help, Kind::Word)
+    any_text(alloc, name, value, help).value_parser(ValueParser::NonEmptyString)
 }
 
 /// An option without a value.
-fn flag<'a>(name: &'a str, help: &'a str) -> Argument<'a>
-    ensures { rule_in result ≡ flag name.entry.now }
+fn flag<'a>(alloc: Global, name: &'a str, help: &'a str) -> Arg<'a>
+    ensures rule { rule_of result ≡ flag name.entry.now }
+    ensures local { result.global ≡ false }
 {
-    option_of(name, name, "", help, Kind::Flag)
-}
-
-/// An argument of this kind, which the help shows in its turn.
-fn option_of<'a>(
-    id: &'a str,
-    long: &'a str,
-    value: &'a str,
-    help: &'a str,
-    kind: Kind<'a>,
-) -> Argument<'a>
-    ensures { rule_in result ≡ rule_by kind.entry id.entry.now long.entry.now }
-{
-    Argument {
-        id,
-        long,
-        value,
-        help,
-        kind,
-        shown: Shown::InTurn,
-    }
+    Arg::new(alloc, name)
+        .long(name)
+        .action(ArgAction::SetTrue)
+        .help(help)
 }

@@ -3,22 +3,22 @@
 ghost use Rattle.std.specs.Prelude.{◌≡◌, ◌≤◌, ◌∷◌, [], option_and_then, option_map};
 ghost use Rattle.std.specs.Prelude.{codes, false, true, IfSome, MatchOption};
 ghost use Rattle.clap.specs.Values.{refused_kind};
+ghost use Rattle.clap.specs.ValueTests.{accepts};
 ghost use Rattle.clap.specs.Words.{first_of, found_of, rows_of, HasKind};
 ghost use Rattle.clap.specs.declared.error.kind.ErrorKind.TheVariants.{InvalidValue};
 ghost use Rattle.clap.specs.declared.error.kind.ErrorKind.TheVariants.{ValueValidation};
-ghost use Rattle.cli.specs.Command.{batch_in, company_fault, form_fault, format_in, has_no_count};
-ghost use Rattle.cli.specs.Command.{has_no_count_of_run, has_no_form, has_no_name, has_no_size};
-ghost use Rattle.cli.specs.Command.{is_no_count};
+ghost use Rattle.cli.specs.Command.{batch_in, form_fault, format_in, has_no_count, has_no_size};
+ghost use Rattle.cli.specs.Command.{has_no_count_of_run, has_no_form, has_no_name, is_no_count};
 ghost use Rattle.cli.specs.Command.{is_no_format, is_no_picture, is_no_range, is_no_size};
 ghost use Rattle.cli.specs.Command.{is_no_table, table_named};
 ghost use Rattle.cli.specs.Command.{is_number, is_text, is_used, judge_in, rounds_in};
 ghost use Rattle.cli.specs.Command.{number_fault, number_in, number_or, optional_number_in};
 ghost use Rattle.cli.specs.Command.{range_of, text_in};
 ghost use Rattle.cli.specs.Command.{text_fault, unread_fault, written_number};
-ghost use Rattle.cli.specs.Command.{IsBatchRanged, IsFlagIn, IsNoValue, IsWithin, Refuses};
+ghost use Rattle.cli.specs.Command.{IsBatchRanged, IsFlagIn, IsWithin};
 
 use crate::command::{BatchOption, Format, StatsTable};
-use crate::company::{error_of, refused_company};
+use crate::company::refused_company;
 use crate::grammar::{most_sectors, refusing};
 use clap::builder::ValueParser;
 use clap::{ArgMatches, Error};
@@ -268,258 +268,209 @@ pub fn refusal(alloc: Global, name: &str, values: &ArgMatches<'_>) -> Option<Err
     ensures { MatchOption result (unread_fault (rows_of (found_of values.now)) ≡ [])
         (λ e. HasKind (unread_fault (rows_of (found_of values.now))) e) }
 {
-    match refused_text(values) {
-        Some(found) => Some(no_value(alloc, found)),
-        None => company_refusal(alloc, name, values),
+    match refused_text(alloc, values) {
+        Some(error) => Some(error),
+        None => refused_company(alloc, name, values),
     }
 }
 
-/// The error for options that do not go together, in a program of this name.
-fn company_refusal(alloc: Global, name: &str, values: &ArgMatches<'_>) -> Option<Error>
-    ensures { MatchOption result (company_fault (rows_of (found_of values.now)) ≡ [])
-        (λ e. HasKind (company_fault (rows_of (found_of values.now))) e) }
-{
-    match refused_company(values) {
-        Some(refusal) => Some(error_of(alloc, name, refusal.kind, refusal.message)),
-        None => None,
-    }
-}
-
-/// A text that `clap` takes for an option, but that is no value of it. It is no error of `clap`
-/// yet, so that what looks for one owns nothing.
-#[derive(Clone, Copy)]
-struct NoValue<'a> {
-    option: &'static str,
-    /// What the help calls a value of the option.
-    value: &'static str,
-    /// What the values of the option pass, and the text does not.
-    parser: ValueParser<'static>,
-    text: &'a str,
-}
-
-/// This text, which does not pass this parser of this option.
-fn invalid<'a>(
-    option: &'static str,
-    value: &'static str,
-    parser: ValueParser<'static>,
-    text: &'a str,
-) -> NoValue<'a>
-    requires { IsNoValue parser text.now }
-    ensures parser { result.parser ≡ parser.entry }
-    ensures invalid { IsNoValue result.parser result.text.now }
-{
-    NoValue {
-        option,
-        value,
-        parser,
-        text,
-    }
-}
-
-/// An invalid value among those that `clap` takes as any text.
-fn refused_text<'a>(values: &ArgMatches<'a>) -> Option<NoValue<'a>>
+/// The error for invalid values among those that `clap` takes as any text.
+fn refused_text(alloc: Global, values: &ArgMatches<'_>) -> Option<Error>
     ensures { MatchOption result (text_fault (rows_of (found_of values.now)) ≡ [])
-        (λ no. IsNoValue no.parser no.text.now
-        × (text_fault (rows_of (found_of values.now)) ≡ refused_kind no.parser ∷ [])) }
+        (λ e. HasKind (text_fault (rows_of (found_of values.now))) e) }
 {
-    match refused_number(values) {
-        Some(no) => Some(no),
-        None => refused_form(values),
+    match refused_number(alloc, values) {
+        Some(error) => Some(error),
+        None => refused_form(alloc, values),
     }
 }
 
-/// An invalid number of sectors, or a value that is neither a number nor the word that its option
-/// takes.
-fn refused_number<'a>(values: &ArgMatches<'a>) -> Option<NoValue<'a>>
+/// The error for an invalid number of sectors, or a value that is neither a number nor the word
+/// that its option takes.
+fn refused_number(alloc: Global, values: &ArgMatches<'_>) -> Option<Error>
     ensures { MatchOption result (number_fault (rows_of (found_of values.now)) ≡ [])
-        (λ no. IsNoValue no.parser no.text.now
-        × (number_fault (rows_of (found_of values.now)) ≡ refused_kind no.parser ∷ [])) }
+        (λ e. HasKind (number_fault (rows_of (found_of values.now))) e) }
 {
-    match refused_counts(values) {
-        Some(no) => Some(no),
-        None => refused_sizes(values),
+    match refused_counts(alloc, values) {
+        Some(error) => Some(error),
+        None => refused_sizes(alloc, values),
     }
 }
 
-/// An invalid batch, or an invalid number of rounds, or of events that are judged.
-fn refused_counts<'a>(values: &ArgMatches<'a>) -> Option<NoValue<'a>>
+/// The error for an invalid batch, or an invalid number of rounds, or of events that are judged.
+fn refused_counts(alloc: Global, values: &ArgMatches<'_>) -> Option<Error>
     ensures { MatchOption result (has_no_count (rows_of (found_of values.now)) ≡ false)
-        (λ no. (has_no_count (rows_of (found_of values.now)) ≡ true)
-        × Refuses ValueValidation no.parser no.text.now) }
+        (λ e. (has_no_count (rows_of (found_of values.now)) ≡ true)
+        × HasKind (ValueValidation ∷ []) e) }
 {
-    match refused_count("batch", "auto", 1, optional_text(values, "batch")) {
-        Some(no) => Some(no),
-        None => refused_of_run(values),
+    match refused_count(alloc, "batch", "auto", 1, optional_text(values, "batch")) {
+        Some(error) => Some(error),
+        None => refused_of_run(alloc, values),
     }
 }
 
-/// An invalid number of rounds, or of events that are judged.
-fn refused_of_run<'a>(values: &ArgMatches<'a>) -> Option<NoValue<'a>>
+/// The error for an invalid number of rounds, or of events that are judged.
+fn refused_of_run(alloc: Global, values: &ArgMatches<'_>) -> Option<Error>
     ensures { MatchOption result (has_no_count_of_run (rows_of (found_of values.now)) ≡ false)
-        (λ no. (has_no_count_of_run (rows_of (found_of values.now)) ≡ true)
-        × Refuses ValueValidation no.parser no.text.now) }
+        (λ e. (has_no_count_of_run (rows_of (found_of values.now)) ≡ true)
+        × HasKind (ValueValidation ∷ []) e) }
 {
-    match refused_count("rounds", "unlimited", 1, optional_text(values, "rounds")) {
-        Some(no) => Some(no),
-        None => refused_count("judge", "all", 0, optional_text(values, "judge")),
+    match refused_count(
+        alloc,
+        "rounds",
+        "unlimited",
+        1,
+        optional_text(values, "rounds"),
+    ) {
+        Some(error) => Some(error),
+        None => refused_count(alloc, "judge", "all", 0, optional_text(values, "judge")),
     }
 }
 
-/// An invalid number of sectors, of a disk that is made, or made longer, or that a run makes.
-fn refused_sizes<'a>(values: &ArgMatches<'a>) -> Option<NoValue<'a>>
+/// The error for an invalid number of sectors, of a disk that is made, or made longer, or that a
+/// run makes.
+fn refused_sizes(alloc: Global, values: &ArgMatches<'_>) -> Option<Error>
     ensures { MatchOption result (has_no_size (rows_of (found_of values.now)) ≡ false)
-        (λ no. (has_no_size (rows_of (found_of values.now)) ≡ true)
-        × Refuses ValueValidation no.parser no.text.now) }
+        (λ e. (has_no_size (rows_of (found_of values.now)) ≡ true)
+        × HasKind (ValueValidation ∷ []) e) }
 {
     let large = is_used(values, "large");
-    match refused_size(large, optional_text(values, "sectors")) {
-        Some(no) => Some(no),
-        None => refused_size(large, optional_text(values, "created")),
+    match refused_size(alloc, large, optional_text(values, "sectors")) {
+        Some(error) => Some(error),
+        None => refused_size(alloc, large, optional_text(values, "created")),
     }
 }
 
-/// An invalid range, format or table.
-fn refused_form<'a>(values: &ArgMatches<'a>) -> Option<NoValue<'a>>
+/// The error for an invalid range, format or table.
+fn refused_form(alloc: Global, values: &ArgMatches<'_>) -> Option<Error>
     ensures { MatchOption result (form_fault (rows_of (found_of values.now)) ≡ [])
-        (λ no. IsNoValue no.parser no.text.now
-        × (form_fault (rows_of (found_of values.now)) ≡ refused_kind no.parser ∷ [])) }
+        (λ e. HasKind (form_fault (rows_of (found_of values.now))) e) }
 {
-    match refused_range(optional_text(values, "processes")) {
-        Some(no) => Some(no),
-        None => refused_shape(values),
+    match refused_range(alloc, optional_text(values, "processes")) {
+        Some(error) => Some(error),
+        None => refused_shape(alloc, values),
     }
 }
 
-/// An unknown format or table.
-fn refused_shape<'a>(values: &ArgMatches<'a>) -> Option<NoValue<'a>>
+/// The error for an unknown format or table.
+fn refused_shape(alloc: Global, values: &ArgMatches<'_>) -> Option<Error>
     ensures { MatchOption result (has_no_form (rows_of (found_of values.now)) ≡ false)
-        (λ no. (has_no_form (rows_of (found_of values.now)) ≡ true)
-        × Refuses InvalidValue no.parser no.text.now) }
+        (λ e. (has_no_form (rows_of (found_of values.now)) ≡ true)
+        × HasKind (InvalidValue ∷ []) e) }
 {
-    match refused_format(optional_text(values, "format")) {
-        Some(no) => Some(no),
-        None => refused_name(values),
+    match refused_format(alloc, optional_text(values, "format")) {
+        Some(error) => Some(error),
+        None => refused_name(alloc, values),
     }
 }
 
-/// An unknown format of a picture, or an unknown table.
-fn refused_name<'a>(values: &ArgMatches<'a>) -> Option<NoValue<'a>>
+/// The error for an unknown format of a picture, or an unknown table.
+fn refused_name(alloc: Global, values: &ArgMatches<'_>) -> Option<Error>
     ensures { MatchOption result (has_no_name (rows_of (found_of values.now)) ≡ false)
-        (λ no. (has_no_name (rows_of (found_of values.now)) ≡ true)
-        × Refuses InvalidValue no.parser no.text.now) }
+        (λ e. (has_no_name (rows_of (found_of values.now)) ≡ true)
+        × HasKind (InvalidValue ∷ []) e) }
 {
-    match refused_picture(optional_text(values, "picture")) {
-        Some(no) => Some(no),
-        None => refused_table(optional_text(values, "table")),
+    match refused_picture(alloc, optional_text(values, "picture")) {
+        Some(error) => Some(error),
+        None => refused_table(alloc, optional_text(values, "table")),
     }
 }
 
-/// A value of this option that is neither this word nor a number from `least` on.
-fn refused_count<'a>(
-    option: &'static str,
+/// The error for a value of this option that is neither this word nor a number from `least` on.
+fn refused_count(
+    alloc: Global,
+    option: &str,
     word: &str,
     least: u64,
-    text: Option<&'a str>,
-) -> Option<NoValue<'a>>
+    text: Option<&str>,
+) -> Option<Error>
     ensures { MatchOption result
         (is_no_count word.now least (option_map (λ text. text.now) text.entry) ≡ false)
-        (λ no. (is_no_count word.now least (option_map (λ text. text.now) text.entry) ≡ true)
-        × Refuses ValueValidation no.parser no.text.now) }
+        (λ e. (is_no_count word.now least (option_map (λ text. text.now) text.entry) ≡ true)
+        × HasKind (ValueValidation ∷ []) e) }
 {
     match text {
-        Some(text) if text != word && !is_number(text, least, 4_294_967_295) => Some(invalid(
-            option,
-            "N",
-            ValueParser::Unsigned(least, 4_294_967_295),
-            text,
-        )),
+        Some(text) if text != word && !is_number(text, least, 4_294_967_295) => {
+            let numbers = ValueParser::unsigned(least, 4_294_967_295);
+            Some(no_value(alloc, option, "N", numbers, text))
+        }
         _ => None,
     }
 }
 
-/// An invalid number of sectors of a disk, large or not.
-fn refused_size(large: bool, text: Option<&str>) -> Option<NoValue<'_>>
+/// The error for an invalid number of sectors of a disk, large or not.
+fn refused_size(alloc: Global, large: bool, text: Option<&str>) -> Option<Error>
     ensures { MatchOption result
         (is_no_size large (option_map (λ text. text.now) text.entry) ≡ false)
-        (λ no. (is_no_size large (option_map (λ text. text.now) text.entry) ≡ true)
-        × Refuses ValueValidation no.parser no.text.now) }
+        (λ e. (is_no_size large (option_map (λ text. text.now) text.entry) ≡ true)
+        × HasKind (ValueValidation ∷ []) e) }
 {
     let most = u64::from(most_sectors(large));
     match text {
-        Some(text) if !is_number(text, 8, most) => Some(invalid(
-            "sectors",
-            "N",
-            ValueParser::Unsigned(8, most),
-            text,
-        )),
+        Some(text) if !is_number(text, 8, most) => {
+            let numbers = ValueParser::unsigned(8, most);
+            Some(no_value(alloc, "sectors", "N", numbers, text))
+        }
         _ => None,
     }
 }
 
-/// An invalid range of processes.
-fn refused_range(text: Option<&str>) -> Option<NoValue<'_>>
+/// The error for an invalid range of processes.
+fn refused_range(alloc: Global, text: Option<&str>) -> Option<Error>
     ensures { MatchOption result (is_no_range (option_map (λ text. text.now) text.entry) ≡ false)
-        (λ no. (is_no_range (option_map (λ text. text.now) text.entry) ≡ true)
-        × Refuses InvalidValue no.parser no.text.now) }
+        (λ e. (is_no_range (option_map (λ text. text.now) text.entry) ≡ true)
+        × HasKind (InvalidValue ∷ []) e) }
 {
     match text {
-        Some(text) if range_of(text).is_none() => Some(invalid(
-            "processes",
-            "A..B",
-            ValueParser::Names(NO_NAMES),
-            text,
-        )),
+        Some(text) if range_of(text).is_none() => {
+            let names = ValueParser::Names(NO_NAMES);
+            Some(no_value(alloc, "processes", "A..B", names, text))
+        }
         _ => None,
     }
 }
 
-/// An unknown format.
-fn refused_format(text: Option<&str>) -> Option<NoValue<'_>>
+/// The error for an unknown format.
+fn refused_format(alloc: Global, text: Option<&str>) -> Option<Error>
     ensures { MatchOption result (is_no_format (option_map (λ text. text.now) text.entry) ≡ false)
-        (λ no. (is_no_format (option_map (λ text. text.now) text.entry) ≡ true)
-        × Refuses InvalidValue no.parser no.text.now) }
+        (λ e. (is_no_format (option_map (λ text. text.now) text.entry) ≡ true)
+        × HasKind (InvalidValue ∷ []) e) }
 {
     match text {
-        Some(text) if text != "text" && text != "csv" && text != "json" => Some(invalid(
-            "format",
-            "F",
-            ValueParser::Names(FORMATS),
-            text,
-        )),
+        Some(text) if text != "text" && text != "csv" && text != "json" => {
+            let names = ValueParser::Names(FORMATS);
+            Some(no_value(alloc, "format", "F", names, text))
+        }
         _ => None,
     }
 }
 
-/// An unknown format of a picture.
-fn refused_picture(text: Option<&str>) -> Option<NoValue<'_>>
+/// The error for an unknown format of a picture.
+fn refused_picture(alloc: Global, text: Option<&str>) -> Option<Error>
     ensures { MatchOption result (is_no_picture (option_map (λ text. text.now) text.entry) ≡ false)
-        (λ no. (is_no_picture (option_map (λ text. text.now) text.entry) ≡ true)
-        × Refuses InvalidValue no.parser no.text.now) }
+        (λ e. (is_no_picture (option_map (λ text. text.now) text.entry) ≡ true)
+        × HasKind (InvalidValue ∷ []) e) }
 {
     match text {
-        Some(text) if text != "svg" && text != "vcd" => Some(invalid(
-            "format",
-            "F",
-            ValueParser::Names(PICTURES),
-            text,
-        )),
+        Some(text) if text != "svg" && text != "vcd" => {
+            let names = ValueParser::Names(PICTURES);
+            Some(no_value(alloc, "format", "F", names, text))
+        }
         _ => None,
     }
 }
 
-/// An unknown table.
-fn refused_table(text: Option<&str>) -> Option<NoValue<'_>>
+/// The error for an unknown table.
+fn refused_table(alloc: Global, text: Option<&str>) -> Option<Error>
     ensures { MatchOption result (is_no_table (option_map (λ text. text.now) text.entry) ≡ false)
-        (λ no. (is_no_table (option_map (λ text. text.now) text.entry) ≡ true)
-        × Refuses InvalidValue no.parser no.text.now) }
+        (λ e. (is_no_table (option_map (λ text. text.now) text.entry) ≡ true)
+        × HasKind (InvalidValue ∷ []) e) }
 {
     match text {
-        Some(text) if table_named(text).is_none() => Some(invalid(
-            "table",
-            "NAME",
-            ValueParser::Names(TABLES),
-            text,
-        )),
+        Some(text) if table_named(text).is_none() => {
+            let names = ValueParser::Names(TABLES);
+            Some(no_value(alloc, "table", "NAME", names, text))
+        }
         _ => None,
     }
 }
@@ -541,12 +492,18 @@ const TABLES: &[&str] = &[
     "words",
 ];
 
-/// `clap`'s error for a text that is no value of its option.
-fn no_value(alloc: Global, no: NoValue<'_>) -> Error
-    requires { IsNoValue no.parser no.text.now }
-    ensures { HasKind (refused_kind no.entry.parser ∷ []) result }
+/// `clap`'s error for a text of an option whose values pass this parser, which refuses the text.
+fn no_value<'a>(
+    alloc: Global,
+    option: &'a str,
+    value: &'a str,
+    parser: ValueParser<'a>,
+    text: &'a str,
+) -> Error
+    requires { accepts false parser text.now ≡ false }
+    ensures { HasKind (refused_kind parser.entry ∷ []) result }
 {
-    let command = match refusing(alloc, no.option, no.value, no.parser, no.text) {
+    let command = match refusing(alloc, option, value, parser, text) {
         Ok(command) => command,
         Err(error) => return Error::from(error),
     };

@@ -1,12 +1,8 @@
-use Rattle.std.proofs.Common.{codes, refl, [], ◌∷◌}
-use Rattle.cli.specs.Command.{any_text, large_option, on_disk, rule_in}
-use Rattle.cli.proofs.Lines.{and_then, rules_said}
+use Rattle.cli.proofs.Lines.{argument_added}
 use Rattle.cli.proofs.grammar.grow.Goals as goal
 
 pub returns : goal.returns
 returns c =
-    rules_said c.on_disk.result (on_disk (codes "grow"))
-    (rule_in c.any_text-sectors.result ∷ rule_in c.large_option.result ∷ [])
-    (any_text (codes "sectors") ∷ large_option ∷ [])
-    c.on_disk.ensures
-    (and_then c.any_text-sectors.ensures (and_then c.large_option.ensures refl))
+    argument_added _ _ _ _ _ c.with_argument.ensures
+    (argument_added _ _ _ _ _ c.with_argument-command.ensures c.on_disk-command.ensures c.any_text.ensures.rule c.any_text.ensures.local)
+    c.large_option.ensures.rule c.large_option.ensures.local

@@ -1,12 +1,14 @@
-use Rattle.std.proofs.Common.{codes, refl, [], ◌∷◌}
-use Rattle.cli.specs.Command.{large_option, on_model, path_argument, reserve_option, rule_in, text_option}
-use Rattle.cli.proofs.Lines.{and_then, rules_said}
+use Rattle.cli.proofs.Lines.{argument_added}
 use Rattle.cli.proofs.grammar.migrate.Goals as goal
 
 pub returns : goal.returns
 returns c =
-    rules_said c.on_model.result (on_model (codes "migrate"))
-    (rule_in c.path.result ∷ rule_in c.path-2.result ∷ rule_in c.text_option.result ∷ rule_in c.reserve_option.result ∷ rule_in c.large_option.result ∷ [])
-    (path_argument (codes "OLD") ∷ path_argument (codes "NEW") ∷ text_option (codes "sectors") (codes "4096") ∷ reserve_option ∷ large_option ∷ [])
-    c.on_model.ensures
-    (and_then c.path.ensures (and_then c.path-2.ensures (and_then c.text_option.ensures (and_then c.reserve_option.ensures (and_then c.large_option.ensures refl)))))
+    argument_added _ _ _ _ _ c.with_argument.ensures
+    (argument_added _ _ _ _ _ c.with_argument-command-4.ensures
+    (argument_added _ _ _ _ _ c.with_argument-command-3.ensures
+    (argument_added _ _ _ _ _ c.with_argument-command-2.ensures
+    (argument_added _ _ _ _ _ c.with_argument-command.ensures c.on_model-command.ensures c.path.ensures.rule c.path.ensures.local)
+    c.path-2.ensures.rule c.path-2.ensures.local)
+    c.text_option-sectors.ensures.rule c.text_option-sectors.ensures.local)
+    c.reserve_option.ensures.rule c.reserve_option.ensures.local)
+    c.large_option.ensures.rule c.large_option.ensures.local

@@ -4,8 +4,8 @@ use Rattle.cli.specs.declared.command.StatsTable.TheVariants as table
 use Rattle.cli.proofs.Readings.{none_there, not_named}
 use Rattle.cli.proofs.values.refused_table.Goals as goal
 
-pub invalid-requires : goal.invalid-requires
-invalid-requires c =
+pub no_value-requires : goal.no_value-requires
+no_value-requires c =
     let text = c.in-Some.text.now in
     let none : table_named text ≡ None = sym c.table_named.ensures ∙ none_there c.table_named.result c.if-is_none.ensures in
     rw (

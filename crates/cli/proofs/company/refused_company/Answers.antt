@@ -1,0 +1,5 @@
+use Rattle.cli.proofs.Readings.{first_kind}
+use Rattle.cli.proofs.company.refused_company.Goals as goal
+
+pub returns-in-Some : goal.returns-in-Some
+returns-in-Some c = first_kind _ _ c.in-Some.error c.in-Some.ensures
