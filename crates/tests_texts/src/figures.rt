@@ -75,7 +75,7 @@ fn the_delays_of_a_long_run_match_its_log(rt: HostRuntime) -> Result<(), Fail> {
     let phold = Phold::new(16, 4, 10, 7);
     let trace = trace_of(rt.alloc(), &phold, 1 << 20, 30_000)?;
     let figures = figures_of(rt.alloc(), &phold, 1 << 20, 30_000)?;
-    // so many that the simulation forgets events
+    // more events than a simulation keeps at once
     assert!(rt; trace.events().len() > 1 << 17);
     assert!(rt; figures.events == trace.events().len() as u64);
     assert!(rt; figures.delay == delays_by_sort(rt.alloc(), &trace)?);
