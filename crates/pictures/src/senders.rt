@@ -114,7 +114,7 @@ pub(crate) fn sent_at(senders: &[Sender], message: &Message) -> u64
     senders[place].sent_at(message.number())
 }
 
-/// Returns whether the sender of a message has sent so many messages.
+/// Returns whether the sender of a message has sent it already.
 pub(crate) fn is_sent(senders: &[Sender], message: &Message) -> bool
     ensures { (r : Run) → AreSenders r senders.now → result ≡ true →
         message.now.number < length (sending_times r message.now.from) }
